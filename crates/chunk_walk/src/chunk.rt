@@ -1,0 +1,45 @@
+//! What a chunk is, what can be wrong with one, and the chunk at a place.
+
+ghost use Rattle.std.specs.Prelude.{◌≡◌, ◌+◌, ◌++◌, ◌^◌, ◌<◌, ◌≤◌, length};
+
+use thiserror::Error;
+
+/// The bytes that each chunk begins with: a kind, the header's size, the chunk's size.
+pub(crate) const HEADER_SIZE: usize = 8;
+
+/// What is wrong with a chunk, and its place. Of several faults the first of this list is named.
+#[derive(Clone, Copy, Debug, PartialEq, Eq, Error)]
+pub enum ChunkFault {
+    /// Fewer than eight bytes are left.
+    #[error("Truncated {0}")]
+    Truncated(usize),
+    /// The header is shorter than it has to be.
+    #[error("HeaderShort {0}")]
+    HeaderShort(usize),
+    /// The header is longer than the chunk.
+    #[error("HeaderLong {0}")]
+    HeaderLong(usize),
+    /// The header's or the chunk's size is no multiple of four.
+    #[error("Misaligned {0}")]
+    Misaligned(usize),
+    /// The chunk passes the end of what it stands in.
+    #[error("Oversize {0}")]
+    Oversize(usize),
+}
+
+/// A chunk (AOSP: `ResChunk_header` and what follows it), lent from the bytes of its file.
+#[derive(Clone, Copy, Debug)]
+pub struct Chunk<'a> {
+    pub kind: u16,
+    /// Where the chunk begins, from the file's first byte.
+    pub place: usize,
+    /// The header, the eight bytes that each chunk begins with included.
+    pub header: &'a [u8],
+    /// What follows the header.
+    pub body: &'a [u8],
+    /// Header and body.
+    pub whole: &'a [u8],
+    ghost in_range: { place + length whole.now < 2 ^ 63 },
+    ghost parts: { whole.now ≡ header.now ++ body.now },
+    ghost has_header: { 8 ≤ length header.now },
+}

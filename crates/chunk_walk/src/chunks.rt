@@ -1,0 +1,86 @@
+//! Chunks one after the other.
+
+ghost use Rattle.std.specs.Prelude.{◌≡◌, drop};
+ghost use Rattle.chunk_walk.specs.Chunk.{part};
+ghost use Rattle.chunk_walk.specs.Chunks.{chunks_of, children_of};
+
+use crate::chunk::{Chunk, ChunkFault, HEADER_SIZE};
+use crate::finding::first_chunk;
+use std::marker::Model;
+
+/// The chunks that stand one after the other, each with its fault where it has one. They end where
+/// fewer than eight bytes are left, or after a fault.
+#[derive(Drop)]
+pub struct Chunks<'a> {
+    place: usize,
+    left: &'a [u8],
+}
+
+impl<'a> Model for Chunks<'a> {
+    ghost use Rattle.std.specs.Prelude.{List, Result, ◌+◌, ◌^◌, ◌<◌, length};
+    ghost use Rattle.chunk_walk.specs.Chunk.{Part};
+    ghost use Rattle.chunk_walk.specs.declared.chunk.ChunkFault.{ChunkFault};
+
+    ghost Value = { List (Result Part ChunkFault) };
+
+    ghost use Rattle.chunk_walk.specs.Chunks.{chunks_of};
+
+    ghost view = { λ s. chunks_of s.place s.left.now };
+
+    ghost invariant = { λ s. s.place + length s.left.now < 2 ^ 63 };
+}
+
+impl<'a> Chunks<'a> {
+    /// The chunks from a place to the end of the bytes.
+    #[tactic(auto, using(crate::proofs::ChunksSteps::chunks_steps))]
+    pub fn new(bytes: &'a [u8], from: usize) -> Self
+        ensures { result ≡ chunks_of from (drop from bytes.now) }
+    {
+        match bytes.get(from..) {
+            Some(left) => Chunks { place: from, left },
+            None => Chunks { place: 0, left: &bytes[..0] },
+        }
+    }
+}
+
+impl<'a> Chunk<'a> {
+    /// The chunks within this chunk, behind its header.
+    pub fn children(&self) -> Chunks<'a>
+        ensures { result ≡ children_of (part self.now) }
+    {
+        Chunks {
+            place: self.place + self.header.len(),
+            left: self.body,
+        }
+    }
+}
+
+impl<'a> Iterator for Chunks<'a> {
+    ghost use Rattle.std.specs.Iterator.{YieldsFirstBy, item_count};
+    ghost use Rattle.chunk_walk.specs.Chunk.{seen};
+
+    type Item = Result<Chunk<'a>, ChunkFault>;
+
+    ghost next_gives = { YieldsFirstBy seen (λ s. s) };
+
+    ghost remaining = { item_count (λ s. s) };
+
+    #[tactic(auto, using(crate::proofs::ChunksSteps::chunks_steps))]
+    fn next(&mut self) -> Option<Result<Chunk<'a>, ChunkFault>> {
+        if self.left.len() < HEADER_SIZE {
+            return None;
+        }
+        match first_chunk(self.place, self.left, HEADER_SIZE) {
+            Ok(chunk) => {
+                let (_, behind) = self.left.split_at(chunk.whole.len());
+                self.place += chunk.whole.len();
+                self.left = behind;
+                Some(Ok(chunk))
+            }
+            Err(fault) => {
+                self.left = &self.left[..0];
+                Some(Err(fault))
+            }
+        }
+    }
+}

@@ -1,0 +1,48 @@
+//! Numbers at a place, the least significant byte first.
+
+ghost use Rattle.std.specs.Prelude.{◌≡◌, ◌+◌, ◌≤◌, length};
+ghost use Rattle.chunk_walk.specs.Number.{number, number_at};
+
+use byteorder::{ByteOrder, LittleEndian};
+
+/// The number of two bytes at a place, where they fit.
+#[tactic(auto, unfolding(crate::specs::Number::number))]
+pub fn u16_at(bytes: &[u8], at: usize) -> Option<u16>
+    ensures { result ≡ number_at 2 bytes.now at }
+{
+    let left = bytes.get(at..)?;
+    if left.len() < 2 {
+        return None;
+    }
+    Some(LittleEndian::read_u16(left))
+}
+
+/// The number of four bytes at a place, where they fit.
+#[tactic(auto, unfolding(crate::specs::Number::number))]
+pub fn u32_at(bytes: &[u8], at: usize) -> Option<u32>
+    ensures { result ≡ number_at 4 bytes.now at }
+{
+    let left = bytes.get(at..)?;
+    if left.len() < 4 {
+        return None;
+    }
+    Some(LittleEndian::read_u32(left))
+}
+
+/// The number of two bytes at a place where they are known to fit.
+#[tactic(auto, unfolding(crate::specs::Number::number))]
+pub fn u16_within(bytes: &[u8], at: usize) -> u16
+    requires { at + 2 ≤ length bytes.now }
+    ensures { result ≡ number 2 bytes.now at }
+{
+    LittleEndian::read_u16(&bytes[at..])
+}
+
+/// The number of four bytes at a place where they are known to fit.
+#[tactic(auto, unfolding(crate::specs::Number::number))]
+pub fn u32_within(bytes: &[u8], at: usize) -> u32
+    requires { at + 4 ≤ length bytes.now }
+    ensures { result ≡ number 4 bytes.now at }
+{
+    LittleEndian::read_u32(&bytes[at..])
+}

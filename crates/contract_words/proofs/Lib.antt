@@ -1,0 +1,2 @@
+pub mod SequenceSteps
+pub mod TextSteps

@@ -1,0 +1,96 @@
+-- How a loop goes through a list that is read piece by piece.
+use Rattle.std.proofs.Common.{◌≡◌, ◌≢◌, ℕ, suc, ◌+◌, ◌-◌, ◌<◌, ◌≤◌, List, [], ◌∷◌, ◌++◌, map, Result, Ok, Err, refl, sym, ap, ◌∙◌, append_assoc, arith}
+use Rattle.std.proofs.lemmas.List.{append-nil}
+use Rattle.std.specs.List.{range_with_len}
+use Rattle.contract_words.specs.Sequences.{with_front, joined, joined_each, joined_from, with_before}
+
+with_front-twice : {X E : Type 0} (a b : List X) (r : Result (List X) E) → with_front a (with_front b r) ≡ with_front (a ++ b) r
+with_front-twice {X} {E} a b (Ok xs) = let wrapped : List X → Result (List X) E = λ t. Ok t in ap wrapped (sym (append_assoc a b xs))
+with_front-twice a b (Err e) = refl
+
+pub with_front_nil : {X E : Type 0} (r : Result (List X) E) → with_front [] r ≡ r
+with_front_nil (Ok xs) = refl
+with_front_nil (Err e) = refl
+
+-- what was read stands in front of what is read next
+joined-next : {X E : Type 0} (a b : List X) (r : Result (List X) E) (others : List (Result (List X) E)) → with_front a r ≡ Ok b
+    → with_front a (joined (r ∷ others)) ≡ with_front b (joined others)
+unfolding joined
+joined-next {X} {E} a b (Ok xs) others e =
+    let same : a ++ xs ≡ b = cc in
+    with_front-twice a xs (joined others) ∙ ap (λ (t : List X). with_front t (joined others)) same
+joined-next a b (Err d) others e = absurd cc
+
+joined-stops : {X E : Type 0} (a : List X) (d : E) (r : Result (List X) E) (others : List (Result (List X) E)) → with_front a r ≡ Err d
+    → with_front a (joined (r ∷ others)) ≡ Err d
+unfolding joined
+joined-stops a d (Ok xs) others e = absurd cc
+joined-stops a d (Err f) others e = e
+
+joined-end : {X E : Type 0} (a : List X) → with_front {E = E} a (joined []) ≡ Ok a
+unfolding joined
+joined-end {X} {E} a = let wrapped : List X → Result (List X) E = λ t. Ok t in ap wrapped (append-nil a)
+
+-- ---- a loop over items
+
+-- what f reads of all items is a and what it reads of those that are left
+pub record ReadsAllBut {A X E : Type 0} (f : A → Result (List X) E) (a : List X) (left : List A) (total : Result (List X) E) : Type 0 where
+  pub others : with_front a (joined_each f left) ≡ total
+
+pub ReadsAllBut-none : {A X E : Type 0} (f : A → Result (List X) E) (a : List X) (all : List A) → ReadsAllBut f a all (with_front a (joined_each f all))
+ReadsAllBut-none f a all = record { others = refl }
+
+pub ReadsAllBut-next : {A X E : Type 0} (f : A → Result (List X) E) (a b : List X) (left others : List A) (x : A) (total : Result (List X) E)
+    → ReadsAllBut f a left total → left ≡ x ∷ others → with_front a (f x) ≡ Ok b → ReadsAllBut f b others total
+unfolding joined_each
+ReadsAllBut-next {A} {X} {E} f a b left others x total before split read =
+    let here : with_front a (joined (map f left)) ≡ with_front b (joined (map f others)) =
+        ap (λ (t : List A). with_front a (joined (map f t))) split ∙ joined-next a b (f x) (map f others) read in
+    record { others = sym here ∙ before.others }
+
+pub ReadsAllBut-stops : {A X E : Type 0} (f : A → Result (List X) E) (a : List X) (left others : List A) (x : A) (d : E) (total : Result (List X) E)
+    → ReadsAllBut f a left total → left ≡ x ∷ others → with_front a (f x) ≡ Err d → total ≡ Err d
+unfolding joined_each
+ReadsAllBut-stops {A} f a left others x d total before split read =
+    sym before.others ∙ ap (λ (t : List A). with_front a (joined (map f t))) split ∙ joined-stops a d (f x) (map f others) read
+
+pub ReadsAllBut-end : {A X E : Type 0} (f : A → Result (List X) E) (a : List X) (left : List A) (total : Result (List X) E)
+    → ReadsAllBut f a left total → left ≡ [] → total ≡ Ok a
+unfolding joined_each
+ReadsAllBut-end {A} f a left total before nothing =
+    sym before.others ∙ ap (λ (t : List A). with_front a (joined (map f t))) nothing ∙ joined-end a
+
+pub ruleset reads = (ReadsAllBut-none, ReadsAllBut-next, ReadsAllBut-stops, ReadsAllBut-end)
+
+-- ---- a loop over the numbers from i on and below n
+
+pub joined_from-next : {X E : Type 0} (f : ℕ → Result (List X) E) (a b : List X) (i n : ℕ) → i < n → with_front a (f i) ≡ Ok b
+    → with_front a (joined_from f i n) ≡ with_front b (joined_from f (i + 1) n)
+unfolding joined_from joined_each
+joined_from-next f a b i n lt e =
+    let k : n - i ≡ suc (n - (i + 1)) = omega arith in
+    rw k (joined-next a b (f i) (map f (range_with_len (i + 1) (n - (i + 1)))) e)
+
+pub joined_from-stops : {X E : Type 0} (f : ℕ → Result (List X) E) (a : List X) (d : E) (i n : ℕ) → i < n → with_front a (f i) ≡ Err d
+    → with_front a (joined_from f i n) ≡ Err d
+unfolding joined_from joined_each
+joined_from-stops f a d i n lt e =
+    let k : n - i ≡ suc (n - (i + 1)) = omega arith in
+    rw k (joined-stops a d (f i) (map f (range_with_len (i + 1) (n - (i + 1)))) e)
+
+pub joined_from-end : {X E : Type 0} (f : ℕ → Result (List X) E) (a : List X) (i n : ℕ) → n ≤ i → with_front a (joined_from f i n) ≡ Ok a
+unfolding joined_from joined_each
+joined_from-end f a i n le = let k : n - i ≡ 0 = omega arith in rw k (joined-end a)
+
+pub ruleset steps = (joined_from-next, joined_from-stops, joined_from-end)
+
+-- ---- a loop over items that looks back at those before
+
+-- the items that are left, with what stands before each
+pub with_before-next : {A : Type 0} (before left others : List A) (x : A) → left ≡ x ∷ others → with_before before left ≡ (before, x) ∷ with_before (before ++ x ∷ []) others
+unfolding with_before
+with_before-next {A} before left others x e = ap (λ (t : List A). with_before before t) e
+
+pub with_before-end : {A : Type 0} (before left : List A) → left ≡ [] → with_before before left ≡ []
+unfolding with_before
+with_before-end {A} before left e = ap (λ (t : List A). with_before before t) e

@@ -1,0 +1,3 @@
+pub mod Exact
+pub mod Faults
+pub mod Sequences

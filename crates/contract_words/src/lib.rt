@@ -1,0 +1,17 @@
+//! The words that the contracts of every crate share. There is no code here: `specs/` has the
+//! words, `proofs/` the facts about them that the proofs of other crates cite.
+//!
+//! | word | says | file |
+//! |---|---|---|
+//! | `GivesOr` | a call returned exactly what is meant, or memory ran out | `specs/Exact.antt` |
+//! | `checked_by` | the fault of the first check that is met, else what comes then | `specs/Faults.antt` |
+//! | `joined_each` | what is read of each item, one after the other, or the first fault | `specs/Sequences.antt` |
+//! | `Pushes` | a call pushed what is meant behind what was there | `specs/Sequences.antt` |
+//!
+//! A contract of a crate above reads so:
+//!
+//! ```text
+//! pub fn open(alloc: Global, bytes: &'a [u8]) -> Result<Table<'a>, TableFault>
+//!     ensures { GivesOr OutOfMemory (λ table. table) result (rows_of bytes.now) }
+//! ```
+#![tactic(auto)]
