@@ -1,5 +1,5 @@
 -- How the chunks go on.
-use Rattle.std.proofs.Common.{◌≡◌, ℕ, zero, suc, ◌+◌, ◌-◌, ◌<◌, ◌≤◌, Bool, true, false, cond, List, [], ◌∷◌, length, take, drop, Result, Ok, Err, refl, sym, ap, ◌∙◌, arith, length-drop, inl, inr}
+use Rattle.std.proofs.Common.{◌≡◌, ℕ, zero, suc, ◌+◌, ◌-◌, ◌*◌, ◌<◌, ◌≤◌, Bool, true, false, cond, List, [], ◌∷◌, length, take, drop, Result, Ok, Err, refl, sym, ap, ◌∙◌, arith, length-drop, inl, inr}
 use Rattle.std.proofs.lemmas.Bool.{cases_lt, ltb-false, lt-ltb, le-ltb}
 use Rattle.std.proofs.lemmas.List.{length-take}
 use Rattle.contract_words.specs.Faults.{checked_by}
@@ -96,5 +96,27 @@ chunks_of-ok place left c long found =
 
 pub chunks_of-err : (place : ℕ) (left : List ℕ) (f : ChunkFault) → 8 ≤ length left → Err f ≡ chunk_in place left 8 → chunks_of place left ≡ Err f ∷ []
 chunks_of-err place left f long found = chunks_of-next place left (Err f) long (sym found)
+
+-- each chunk has eight bytes at least, where this is so of what follows it
+length-followed_by : (chunks : ℕ → List ℕ → List (Result Part ChunkFault)) (place : ℕ) (left : List ℕ) (r : Result Part ChunkFault) → chunk_in place left 8 ≡ r → 8 ≤ length left
+    → ((q : ℕ) (behind : List ℕ) → 8 * length (chunks q behind) ≤ length behind) → 8 * length (followed_by chunks left r) ≤ length left
+length-followed_by chunks place left (Err fault) found le few = omega arith
+length-followed_by chunks place left (Ok c) found le few =
+    let w = chunk_in-ok place left 8 c found in
+    omega (arith, few (c.place + length c.whole) (drop (length c.whole) left), length-drop (length c.whole) left, w.low, w.high)
+
+length-at_most_chunks : (n place : ℕ) (left : List ℕ) → 8 * length (at_most_chunks n place left) ≤ length left
+unfolding at_most_chunks
+length-at_most_chunks zero place left = omega arith
+length-at_most_chunks (suc n) place left =
+    elim (cases_lt (length left) 8) [
+      | inl lt ↦ rw (lt-ltb (length left) 8 lt) (omega arith)
+      | inr le ↦ rw (le-ltb (length left) 8 le) (length-followed_by (at_most_chunks n) place left (chunk_in place left 8) refl le (λ q behind. length-at_most_chunks n q behind))
+    ]
+
+pub length-chunks_of : (place : ℕ) (left : List ℕ) → 8 * length (chunks_of place left) ≤ length left
+unfolding chunks_of
+length-chunks_of place left = length-at_most_chunks (length left) place left
+
 
 pub ruleset chunks_steps = (chunks_of-end, chunks_of-ok, chunks_of-err)

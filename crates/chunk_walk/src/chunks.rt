@@ -1,6 +1,6 @@
 //! Chunks one after the other.
 
-ghost use Rattle.std.specs.Prelude.{◌≡◌, drop};
+ghost use Rattle.std.specs.Prelude.{◌≡◌, ◌<◌, ◌^◌, length, drop};
 ghost use Rattle.chunk_walk.specs.Chunk.{part};
 ghost use Rattle.chunk_walk.specs.Chunks.{chunks_of, children_of};
 
@@ -46,7 +46,9 @@ impl<'a> Chunks<'a> {
 impl<'a> Chunk<'a> {
     /// The chunks within this chunk, behind its header.
     pub fn children(&self) -> Chunks<'a>
-        ensures { result ≡ children_of (part self.now) }
+        ensures chunks { result ≡ children_of (part self.now) }
+        // A chunk has eight bytes at least.
+        ensures few { length result < 2 ^ 60 }
     {
         Chunks {
             place: self.place + self.header.len(),

@@ -84,13 +84,39 @@ joined_from-end f a i n le = let k : n - i ≡ 0 = omega arith in rw k (joined-e
 
 pub ruleset steps = (joined_from-next, joined_from-stops, joined_from-end)
 
--- ---- a loop over items that looks back at those before
+-- ---- a loop over items that knows something of those before
 
--- the items that are left, with what stands before each
-pub with_before-next : {A : Type 0} (before left others : List A) (x : A) → left ≡ x ∷ others → with_before before left ≡ (before, x) ∷ with_before (before ++ x ∷ []) others
-unfolding with_before
-with_before-next {A} before left others x e = ap (λ (t : List A). with_before before t) e
+-- What is known is true of the items before those that are left, and of all items a and what f reads
+-- of those that are left was read.
+pub record ReadsKnowing {A S X E : Type 0} (Known : S → List A → Type 0) (f : (List A × A) → Result (List X) E) (s : S) (a : List X) (left : List A) (total : Result (List X) E) : Type 0 where
+  pub before : List A
+  pub known : Known s before
+  pub read : ReadsAllBut f a (with_before before left) total
 
-pub with_before-end : {A : Type 0} (before left : List A) → left ≡ [] → with_before before left ≡ []
+pub ReadsKnowing-none : {A S X E : Type 0} (Known : S → List A → Type 0) (f : (List A × A) → Result (List X) E) (s : S) (a : List X) (all : List A) → Known s []
+    → ReadsKnowing Known f s a all (with_front a (joined_each f (with_before [] all)))
+ReadsKnowing-none Known f s a all known = record { before = []; known = known; read = ReadsAllBut-none f a (with_before [] all) }
+
+pub ReadsKnowing-next : {A S X E : Type 0} (Known : S → List A → Type 0) (f : (List A × A) → Result (List X) E) (s t : S) (a b : List X) (left others : List A) (x : A) (total : Result (List X) E)
+    → (so_far : ReadsKnowing Known f s a left total) → left ≡ x ∷ others → Known t (x ∷ so_far.before) → with_front a (f (so_far.before, x)) ≡ Ok b
+    → ReadsKnowing Known f t b others total
 unfolding with_before
-with_before-end {A} before left e = ap (λ (t : List A). with_before before t) e
+ReadsKnowing-next {A} Known f s t a b left others x total so_far split known read = record {
+  before = x ∷ so_far.before;
+  known = known;
+  read = ReadsAllBut-next f a b (with_before so_far.before left) (with_before (x ∷ so_far.before) others) (so_far.before, x) total so_far.read (ap (λ (t : List A). with_before so_far.before t) split) read;
+}
+
+pub ReadsKnowing-stops : {A S X E : Type 0} (Known : S → List A → Type 0) (f : (List A × A) → Result (List X) E) (s : S) (a : List X) (left others : List A) (x : A) (d : E) (total : Result (List X) E)
+    → (so_far : ReadsKnowing Known f s a left total) → left ≡ x ∷ others → with_front a (f (so_far.before, x)) ≡ Err d → total ≡ Err d
+unfolding with_before
+ReadsKnowing-stops {A} Known f s a left others x d total so_far split read =
+    ReadsAllBut-stops f a (with_before so_far.before left) (with_before (x ∷ so_far.before) others) (so_far.before, x) d total so_far.read (ap (λ (t : List A). with_before so_far.before t) split) read
+
+pub ReadsKnowing-end : {A S X E : Type 0} (Known : S → List A → Type 0) (f : (List A × A) → Result (List X) E) (s : S) (a : List X) (left : List A) (total : Result (List X) E)
+    → ReadsKnowing Known f s a left total → left ≡ [] → total ≡ Ok a
+unfolding with_before
+ReadsKnowing-end {A} Known f s a left total so_far nothing =
+    ReadsAllBut-end f a (with_before so_far.before left) total so_far.read (ap (λ (t : List A). with_before so_far.before t) nothing)
+
+pub ruleset knowing = (ReadsKnowing-none, ReadsKnowing-next, ReadsKnowing-stops, ReadsKnowing-end)

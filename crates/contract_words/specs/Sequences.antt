@@ -22,10 +22,10 @@ joined_each f items = joined (map f items)
 unfoldable pub joined_from : {X E : Type 0} → (ℕ → Result (List X) E) → ℕ → ℕ → Result (List X) E
 joined_from f i n = joined_each f (range_with_len i (n - i))
 
--- each item with the items that stand before it, where some stood before the first
+-- each item with those that stand before it, the nearest first, where some stood before all of these
 unfoldable pub with_before : {A : Type 0} → List A → List A → List (List A × A)
 with_before before [] = []
-with_before before (item ∷ items) = (before, item) ∷ with_before (before ++ item ∷ []) items
+with_before before (item ∷ items) = (before, item) ∷ with_before (item ∷ before) items
 
 -- A call that pushes to a list, which was old and is new, pushed what is meant.
 abbrev pub Pushes : {X Y E : Type 0} → E → List Y → List Y → Result X E → Result (List Y) E → Type 0

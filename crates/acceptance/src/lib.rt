@@ -1,0 +1,2 @@
+//! acceptance
+#![tactic(auto)]

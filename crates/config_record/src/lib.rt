@@ -1,0 +1,2 @@
+//! config_record
+#![tactic(auto)]

@@ -1,0 +1,41 @@
+//! Writes bytes as hexadecimal digits, two small ones for each byte.
+//!
+//! For the crates above: what `write_hex` appends is the digits of the bytes, and nothing else.
+//!
+//! ```text
+//! write_hex(&0x7f010000_u32.to_be_bytes(), &mut out)?; // 7f010000
+//! ```
+#![tactic(auto)]
+
+ghost use Rattle.std.specs.Prelude.{◌≤◌, length, OnOk};
+ghost use Rattle.std.specs.Io.KnownBytes.{Appends};
+ghost use Rattle.hex.specs.Hex.{encode_lower};
+
+use std::io::{self, Write};
+
+/// Writes the digits of at most eight bytes.
+pub fn write_hex<W: Write + Drop>(bytes: &[u8], out: &mut W) -> io::Result<()>
+    requires { length bytes.now ≤ 8 }
+    ensures { OnOk result (Appends (W.contents out.old) (W.contents out.new) (encode_lower bytes.now)) }
+{
+    let mut buffer = [0; 16];
+    let digits = &mut buffer[..2 * bytes.len()];
+    let _ = hex::encode_to_slice(bytes, digits);
+    out.write_all(digits)
+}
+
+#[cfg(test)]
+mod tests {
+    use super::*;
+    use std::test::Fail;
+
+    #[test]
+    fn writes_digits(rt: HostRuntime) -> Result<(), Fail> {
+        let mut out = Vec::new(rt.alloc());
+        write_hex(&0x7f01_0a0b_u32.to_be_bytes(), &mut out)?;
+        write_hex(b"", &mut out)?;
+        write_hex(&[0x1c], &mut out)?;
+        assert_eq!(rt; out.as_slice(), b"7f010a0b1c".as_slice());
+        Ok(())
+    }
+}

@@ -1,0 +1,2 @@
+//! res_value
+#![tactic(auto)]

@@ -1,0 +1,2 @@
+//! resource_tool
+#![tactic(auto)]

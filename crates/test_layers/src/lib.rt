@@ -1,0 +1,2 @@
+//! test_layers
+#![tactic(auto)]

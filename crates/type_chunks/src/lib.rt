@@ -1,0 +1,2 @@
+//! type_chunks
+#![tactic(auto)]
