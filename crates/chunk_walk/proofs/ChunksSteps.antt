@@ -1,27 +1,11 @@
 -- How the chunks go on.
-use Rattle.std.proofs.Common.{◌≡◌, ℕ, zero, suc, ◌+◌, ◌-◌, ◌*◌, ◌<◌, ◌≤◌, Bool, true, false, cond, List, [], ◌∷◌, length, take, drop, Result, Ok, Err, refl, sym, ap, ◌∙◌, arith, length-drop, inl, inr}
+use Rattle.std.proofs.Common.{◌≡◌, ℕ, zero, suc, ◌+◌, ◌-◌, ◌*◌, ◌<◌, ◌≤◌, List, [], ◌∷◌, length, take, drop, Result, Ok, Err, refl, sym, ap, ◌∙◌, arith, length-drop, inl, inr}
 use Rattle.std.proofs.lemmas.Bool.{cases_lt, ltb-false, lt-ltb, le-ltb}
 use Rattle.std.proofs.lemmas.List.{length-take}
-use Rattle.contract_words.specs.Faults.{checked_by}
+use Rattle.contract_words.proofs.FaultSteps.{checked_by-ok}
 use Rattle.chunk_walk.specs.declared.chunk.ChunkFault.{ChunkFault}
 use Rattle.chunk_walk.specs.Chunk.{Part, header_size_in, size_in, chunk_faults, parts_in, chunk_in}
 use Rattle.chunk_walk.specs.Chunks.{followed_by, at_most_chunks, chunks_of}
-
--- no check of the list is met
-abbrev pub NoneMet : {E : Type 0} → List (Bool × E) → Type 0
-NoneMet [] = Unit {0}
-NoneMet (check ∷ checks) = (check.0 ≡ false) × NoneMet checks
-
-check_not_met : {X E : Type 0} (b : Bool) (d : E) (others : Result X E) (y : X) → cond b (Err d) others ≡ Ok y → (b ≡ false) × (others ≡ Ok y)
-check_not_met true d others y e = absurd cc
-check_not_met false d others y e = (refl, e)
-
-pub checked_by-ok : {X E : Type 0} (checks : List (Bool × E)) (meant : Result X E) (y : X) → checked_by checks meant ≡ Ok y → NoneMet checks × (meant ≡ Ok y)
-checked_by-ok [] meant y e = (tt, e)
-checked_by-ok (check ∷ checks) meant y e =
-    let first = check_not_met check.0 check.1 (checked_by checks meant) y e in
-    let others = checked_by-ok checks meant y first.1 in
-    ((first.0, others.0), others.1)
 
 -- what is known of a chunk that is found
 pub record IsWithin (place : ℕ) (left : List ℕ) (min : ℕ) (c : Part) : Type 0 where
@@ -117,6 +101,5 @@ length-at_most_chunks (suc n) place left =
 pub length-chunks_of : (place : ℕ) (left : List ℕ) → 8 * length (chunks_of place left) ≤ length left
 unfolding chunks_of
 length-chunks_of place left = length-at_most_chunks (length left) place left
-
 
 pub ruleset chunks_steps = (chunks_of-end, chunks_of-ok, chunks_of-err)

@@ -1,5 +1,5 @@
 -- Chunks (AOSP: ResChunk_header).
-use Rattle.std.specs.Prelude.{ℕ, ◌+◌, ◌%◌, Bool, ◌&&◌, not, List, [], ◌∷◌, length, take, drop, Result, Ok, Err, nat_lt, ◌==◌}
+use Rattle.std.specs.Prelude.{ℕ, ◌%◌, Bool, ◌&&◌, not, List, [], ◌∷◌, length, take, drop, Result, Ok, Err, nat_lt, ◌==◌}
 use Rattle.contract_words.specs.Faults.{checked_by}
 use Rattle.chunk_walk.specs.declared.chunk.Chunk.{Chunk}
 use Rattle.chunk_walk.specs.declared.chunk.ChunkFault.{ChunkFault}

@@ -38,7 +38,10 @@ impl<'a> Chunks<'a> {
     {
         match bytes.get(from..) {
             Some(left) => Chunks { place: from, left },
-            None => Chunks { place: 0, left: &bytes[..0] },
+            None => Chunks {
+                place: 0,
+                left: &bytes[..0],
+            },
         }
     }
 }

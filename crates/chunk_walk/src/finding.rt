@@ -8,7 +8,9 @@ use crate::number::{u16_within, u32_within};
 
 // Where the numbers of a chunk's first eight bytes stand.
 const KIND: usize = 0;
+
 const HEADER_SIZE_FIELD: usize = 2;
+
 const SIZE_FIELD: usize = 4;
 
 /// The chunk at a place of the bytes (AOSP: `validate_chunk`), whose header has to have `min` bytes at least.

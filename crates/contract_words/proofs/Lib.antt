@@ -1,2 +1,3 @@
+pub mod FaultSteps
 pub mod SequenceSteps
 pub mod TextSteps

@@ -1,5 +1,5 @@
 -- How a loop goes through a list that is read piece by piece.
-use Rattle.std.proofs.Common.{◌≡◌, ◌≢◌, ℕ, suc, ◌+◌, ◌-◌, ◌<◌, ◌≤◌, List, [], ◌∷◌, ◌++◌, map, Result, Ok, Err, refl, sym, ap, ◌∙◌, append_assoc, arith}
+use Rattle.std.proofs.Common.{◌≡◌, ℕ, suc, ◌+◌, ◌-◌, ◌<◌, ◌≤◌, List, [], ◌∷◌, ◌++◌, map, Result, Ok, Err, refl, sym, ap, ◌∙◌, append_assoc, arith}
 use Rattle.std.proofs.lemmas.List.{append-nil}
 use Rattle.std.specs.List.{range_with_len}
 use Rattle.contract_words.specs.Sequences.{with_front, joined, joined_each, joined_from, with_before}
@@ -45,7 +45,7 @@ pub ReadsAllBut-next : {A X E : Type 0} (f : A → Result (List X) E) (a b : Lis
 unfolding joined_each
 ReadsAllBut-next {A} {X} {E} f a b left others x total before split read =
     let here : with_front a (joined (map f left)) ≡ with_front b (joined (map f others)) =
-        ap (λ (t : List A). with_front a (joined (map f t))) split ∙ joined-next a b (f x) (map f others) read in
+    ap (λ (t : List A). with_front a (joined (map f t))) split ∙ joined-next a b (f x) (map f others) read in
     record { others = sym here ∙ before.others }
 
 pub ReadsAllBut-stops : {A X E : Type 0} (f : A → Result (List X) E) (a : List X) (left others : List A) (x : A) (d : E) (total : Result (List X) E)

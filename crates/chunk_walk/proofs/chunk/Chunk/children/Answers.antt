@@ -1,15 +1,15 @@
-use Rattle.std.proofs.Common.{◌+◌, ◌++◌, length, ap, ◌∙◌, ◌≡◌, arith, length-append, List, ℕ}
+use Rattle.std.proofs.Common.{◌+◌, length, ap, ◌∙◌, ◌≡◌, arith, length-append, List, ℕ}
 use Rattle.chunk_walk.proofs.ChunksSteps.{length-chunks_of}
 use Rattle.chunk_walk.proofs.chunk.Chunk.children.Goals as goal
 
 pub invariant_of-result : goal.invariant_of-result
 invariant_of-result c =
     let sizes : length c.args.self.now.whole.now ≡ length c.args.self.now.header.now + length c.args.self.now.body.now =
-        ap (λ (t : List ℕ). length t) c.args.self.now.parts ∙ length-append c.args.self.now.header.now c.args.self.now.body.now in
+    ap (λ (t : List ℕ). length t) c.args.self.now.parts ∙ length-append c.args.self.now.header.now c.args.self.now.body.now in
     omega (arith, c.args.self.now.in_range)
 
 pub returns-clause-few : goal.returns-clause-few
 returns-clause-few c =
     let sizes : length c.args.self.now.whole.now ≡ length c.args.self.now.header.now + length c.args.self.now.body.now =
-        ap (λ (t : List ℕ). length t) c.args.self.now.parts ∙ length-append c.args.self.now.header.now c.args.self.now.body.now in
+    ap (λ (t : List ℕ). length t) c.args.self.now.parts ∙ length-append c.args.self.now.header.now c.args.self.now.body.now in
     omega (arith, c.args.self.now.in_range, length-chunks_of (c.args.self.now.place + length c.args.self.now.header.now) c.args.self.now.body.now)

@@ -1,7 +1,6 @@
-use Rattle.std.proofs.Common.{◌≡◌, ◌∷◌, ◌+◌, Ok, length, sym, ap, ◌∙◌, arith}
+use Rattle.std.proofs.Common.{sym, ◌∙◌, arith}
 use Rattle.std.proofs.lemmas.Grind.{common_steps}
 use Rattle.chunk_walk.specs.Chunk.{part}
-use Rattle.chunk_walk.specs.Chunks.{chunks_of}
 use Rattle.chunk_walk.proofs.ChunksSteps.{chunks_of-ok}
 use Rattle.chunk_walk.proofs.chunks.ChunksIterator.next.Goals as goal
 

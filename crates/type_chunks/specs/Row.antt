@@ -1,0 +1,29 @@
+-- Rows.
+use Rattle.std.specs.Prelude.{ℕ, List, map, filter, ◌==◌}
+use Rattle.config_record.specs.Record.{record_bytes}
+use Rattle.res_value.specs.declared.cell.Cell.{Cell}
+use Rattle.type_chunks.specs.declared.row.Row.{Row}
+
+-- A row of a table, without where it lies in memory.
+pub record RowOf : Type 0 where
+  -- of its resource
+  pub id : ℕ
+  -- the bytes of its configuration
+  pub config : List ℕ
+  pub cell : Cell
+  -- of its type spec
+  pub flags : ℕ
+  -- the place of its name among the package's names of entries
+  pub key : ℕ
+  -- the place of its package among the table's packages
+  pub in_package : ℕ
+
+abbrev pub row_of : Row → RowOf
+row_of row = record { id = row.id.0; config = record_bytes row.config; cell = row.cell; flags = row.flags; key = row.key; in_package = row.package }
+
+abbrev pub rows_in : List Row → List RowOf
+rows_in rows = map row_of rows
+
+-- the rows of one id, in their order
+abbrev pub with_id : ℕ → List RowOf → List RowOf
+with_id id rows = filter (λ row. row.id == id) rows

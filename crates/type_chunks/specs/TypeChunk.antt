@@ -1,0 +1,78 @@
+-- Types (AOSP: ResTable_type), each the entries of one id for one configuration.
+use Rattle.std.specs.Prelude.{ℕ, ◌*◌, ◌%◌, List, ◌==◌, length, drop, slice_index, Option, Some, None, Result, Ok, Err, nat_lt}
+use Rattle.contract_words.specs.Faults.{◌>>=◌, refuse}
+use Rattle.chunk_walk.specs.Number.{number}
+use Rattle.chunk_walk.specs.Chunk.{Part}
+use Rattle.chunk_walk.specs.declared.chunk.ChunkFault.{ChunkFault}
+use Rattle.chunk_walk.specs.declared.chunk.ChunkFault.TheVariants.{HeaderShort}
+use Rattle.config_record.specs.Record.{record_in, record_bytes}
+use Rattle.config_record.specs.declared.record.RecordFault.{RecordFault}
+use Rattle.type_chunks.specs.declared.fault.TableFault.{TableFault}
+use Rattle.type_chunks.specs.declared.fault.TableFault.TheVariants as faults
+use Rattle.type_chunks.specs.declared.package.Package.{Package}
+use Rattle.type_chunks.specs.declared.type_chunk.TypeChunk.{TypeChunk}
+use Rattle.type_chunks.specs.TypeSpec.{SpecPart, spec_part, last_spec}
+
+-- A type in its package, with the type spec that it belongs to, the bytes of its configuration, the
+-- offsets of its entries of four bytes each, and the whole chunk, in which the entries stand.
+pub record TypePart : Type 0 where
+  pub owner : Package
+  pub spec : SpecPart
+  pub place : ℕ
+  pub id : ℕ
+  pub entry_count : ℕ
+  pub entries_start : ℕ
+  pub config : List ℕ
+  pub offsets : List ℕ
+  pub whole : List ℕ
+
+abbrev pub type_part : TypeChunk → TypePart
+type_part chunk = record {
+  owner = chunk.owner;
+  spec = spec_part chunk.spec;
+  place = chunk.place;
+  id = chunk.id;
+  entry_count = chunk.entry_count;
+  entries_start = chunk.entries_start;
+  config = record_bytes chunk.config;
+  offsets = chunk.offsets.now;
+  whole = chunk.whole.now;
+}
+
+abbrev pub seen_type : Result TypeChunk TableFault → Result TypePart TableFault
+seen_type (Ok chunk) = Ok (type_part chunk)
+seen_type (Err fault) = Err fault
+
+-- the type spec that was found, or the fault that there is none
+abbrev pub found_spec : Option SpecPart → ℕ → Result SpecPart TableFault
+found_spec (Some spec) place = Ok spec
+found_spec None place = Err (faults.TypeWithoutSpec place)
+
+-- the configuration that was read, or the fault that it is none
+abbrev pub found_config : Result (List ℕ) RecordFault → ℕ → Result (List ℕ) TableFault
+found_config (Ok bytes) place = Ok bytes
+found_config (Err fault) place = Err (faults.Config place)
+
+-- The fields of a type: the id at 8, flags at 9, the count of entries at 12, where the entries start
+-- at 16, the configuration at 20. Or its first fault, where these chunks stand before it in its package.
+unfoldable pub type_of : Package → List (Result Part ChunkFault) → Part → Result TypePart TableFault
+type_of owner before chunk = do
+  _ ← refuse (nat_lt (length chunk.header) 24) (faults.Chunk (HeaderShort chunk.place))
+  let id = slice_index chunk.header 8
+  _ ← refuse (id == 0) (faults.TypeId chunk.place)
+  spec ← found_spec (last_spec id before) chunk.place
+  _ ← refuse (slice_index chunk.header 9 % 2 == 1) (faults.SparseType chunk.place)
+  config ← found_config (record_in (drop 20 chunk.header)) chunk.place
+  let entry_count = number 4 chunk.header 12
+  _ ← refuse (nat_lt (length chunk.body) (4 * entry_count)) (faults.Offsets chunk.place)
+  Ok (record {
+    owner = owner;
+    spec = spec;
+    place = chunk.place;
+    id = id;
+    entry_count = entry_count;
+    entries_start = number 4 chunk.header 16;
+    config = config;
+    offsets = chunk.body;
+    whole = chunk.whole;
+  })

@@ -1,0 +1,70 @@
+//! Why a table is refused.
+
+ghost use Rattle.std.specs.Prelude.{◌≡◌};
+ghost use Rattle.type_chunks.specs.declared.fault.TableFault.TheVariants.{Chunk as in_chunk, OutOfMemory};
+
+use chunk_walk::ChunkFault;
+use std::alloc::{AllocError, AllocFailed};
+use thiserror::Error;
+
+/// What is wrong with a table: the first fault in the order of the file, with the place of the
+/// chunk, entry or value that has it, from the file's first byte.
+#[derive(Clone, Copy, Debug, PartialEq, Eq, Error)]
+pub enum TableFault {
+    /// A chunk does not stand as a chunk has to.
+    #[error("Chunk {0}")]
+    Chunk(ChunkFault),
+    /// The file's first chunk is no table.
+    #[error("NotTable")]
+    NotTable,
+    /// A package's id is 0 or above 255.
+    #[error("PackageId {0}")]
+    PackageId(usize),
+    /// The id of a type spec or a type is 0.
+    #[error("TypeId {0}")]
+    TypeId(usize),
+    /// A type has no type spec of its id before it in its package.
+    #[error("TypeWithoutSpec {0}")]
+    TypeWithoutSpec(usize),
+    /// A type lists its entries sparsely.
+    #[error("SparseType {0}")]
+    SparseType(usize),
+    /// A type's configuration is too short or passes the header.
+    #[error("Config {0}")]
+    Config(usize),
+    /// The flags of a type spec or the offsets of a type do not fit.
+    #[error("Offsets {0}")]
+    Offsets(usize),
+    /// An entry is out of line, does not fit, or is of a form that is not read.
+    #[error("Entry {0}")]
+    Entry(usize),
+    /// A value's size is not that of a value.
+    #[error("Value {0}")]
+    Value(usize),
+    #[error("OutOfMemory")]
+    OutOfMemory,
+}
+
+impl From<ChunkFault> for TableFault {
+    ghost from_gives = { λ fault e. e ≡ in_chunk fault };
+
+    fn from(fault: ChunkFault) -> TableFault {
+        TableFault::Chunk(fault)
+    }
+}
+
+impl From<AllocError> for TableFault {
+    ghost from_gives = { λ _ e. e ≡ OutOfMemory };
+
+    fn from(_error: AllocError) -> TableFault {
+        TableFault::OutOfMemory
+    }
+}
+
+impl<T: Drop> From<AllocFailed<T>> for TableFault {
+    ghost from_gives = { λ _ e. e ≡ OutOfMemory };
+
+    fn from(_error: AllocFailed<T>) -> TableFault {
+        TableFault::OutOfMemory
+    }
+}

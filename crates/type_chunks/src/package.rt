@@ -1,0 +1,120 @@
+//! Packages, and the rows in them.
+
+ghost use Rattle.std.specs.Prelude.{◌≡◌, ◌<◌, ◌∷◌, List, Result, OnOk};
+ghost use Rattle.chunk_walk.specs.Chunk.{Part, part, seen};
+ghost use Rattle.chunk_walk.specs.declared.chunk.ChunkFault.{ChunkFault};
+ghost use Rattle.contract_words.specs.Sequences.{Pushes};
+ghost use Rattle.type_chunks.specs.declared.fault.TableFault.TheVariants.{OutOfMemory};
+ghost use Rattle.type_chunks.specs.KnownSpecs.{Knows};
+ghost use Rattle.type_chunks.specs.Row.{rows_in};
+ghost use Rattle.type_chunks.specs.TypeChunk.{type_part};
+ghost use Rattle.type_chunks.specs.Entry.{entry_rows};
+ghost use Rattle.type_chunks.specs.Table.{rows_of_entries, rows_in_package, rows_of_children, package_rows};
+
+use crate::fault::TableFault;
+use crate::known_specs::KnownSpecs;
+use crate::layout::{kind, package_header as header};
+use crate::row::Row;
+use crate::type_chunk::TypeChunk;
+use crate::type_spec::TypeSpec;
+use chunk_walk::{Chunk, ChunkFault, u32_within};
+
+/// A package (AOSP: `ResTable_package`).
+#[derive(Clone, Copy, Debug, PartialEq, Eq)]
+pub(crate) struct Package {
+    pub id: u8,
+    /// How many packages of the table stand before it.
+    pub place: usize,
+}
+
+/// Pushes the rows of a package, before which so many others stand.
+#[tactic(auto, unfolding(crate::specs::Table::package_rows))]
+pub(crate) fn push_package<'a>(
+    place: usize,
+    chunk: &Chunk<'a>,
+    rows: &mut Vec<Row<'a>>,
+) -> Result<(), TableFault>
+    ensures { Pushes OutOfMemory (rows_in rows.old.items) (rows_in rows.new.items) result (package_rows place (part chunk.now)) }
+{
+    if chunk.header.len() < header::SIZE {
+        return Err(TableFault::Chunk(ChunkFault::HeaderShort(chunk.place)));
+    }
+    let id = u32_within(chunk.header, header::ID);
+    if id == 0 || id > 255 {
+        return Err(TableFault::PackageId(chunk.place));
+    }
+    push_children(
+        Package {
+            id: id as u8,
+            place,
+        },
+        chunk,
+        rows,
+    )
+}
+
+// Pushes the rows of the chunks in a package.
+#[tactic(auto, using(contract_words::proofs::SequenceSteps::knowing))]
+fn push_children<'a>(
+    owner: Package,
+    chunk: &Chunk<'a>,
+    rows: &mut Vec<Row<'a>>,
+) -> Result<(), TableFault>
+    ensures { Pushes OutOfMemory (rows_in rows.old.items) (rows_in rows.new.items) result (rows_of_children owner (part chunk.now)) }
+{
+    let mut specs = KnownSpecs::new();
+    for found in chunk.children() {
+        push_child(owner, found, &mut specs, rows)?;
+    }
+    Ok(())
+}
+
+// Pushes the rows of a chunk in a package, behind these type specs.
+#[tactic(auto, unfolding(crate::specs::Table::rows_in_package))]
+fn push_child<'a>(
+    owner: Package,
+    found: Result<Chunk<'a>, ChunkFault>,
+    specs: &mut KnownSpecs<'a>,
+    rows: &mut Vec<Row<'a>>,
+) -> Result<(), TableFault>
+    ensures known { (before : List (Result Part ChunkFault)) → Knows specs.old before
+        → OnOk result (Knows specs.new (seen found.entry ∷ before)) }
+    ensures rows { (before : List (Result Part ChunkFault)) → Knows specs.old before
+        → Pushes OutOfMemory (rows_in rows.old.items) (rows_in rows.new.items) result (rows_in_package owner (before, seen found.entry)) }
+{
+    let chunk = found?;
+    match chunk.kind {
+        kind::TYPE_SPEC => {
+            specs.keep(TypeSpec::read(&chunk)?);
+            Ok(())
+        }
+        kind::TYPE => push_type(&TypeChunk::read(owner, specs, &chunk)?, rows),
+        _ => Ok(()),
+    }
+}
+
+// Pushes the rows of the entries of a type.
+#[tactic(auto, using(contract_words::proofs::SequenceSteps::steps))]
+fn push_type<'a>(chunk: &TypeChunk<'a>, rows: &mut Vec<Row<'a>>) -> Result<(), TableFault>
+    ensures { Pushes OutOfMemory (rows_in rows.old.items) (rows_in rows.new.items) result (rows_of_entries (type_part chunk.now)) }
+{
+    for index in 0..chunk.entry_count {
+        push_entry(chunk, index, rows)?;
+    }
+    Ok(())
+}
+
+// Pushes the row of an entry, where there is one.
+fn push_entry<'a>(
+    chunk: &TypeChunk<'a>,
+    index: u32,
+    rows: &mut Vec<Row<'a>>,
+) -> Result<(), TableFault>
+    requires { index < chunk.now.entry_count }
+    ensures { Pushes OutOfMemory (rows_in rows.old.items) (rows_in rows.new.items) result (entry_rows (type_part chunk.now) index) }
+{
+    if let Some(row) = chunk.entry(index)? {
+        rows.push(row)?;
+    }
+    Ok(())
+}

@@ -1,0 +1,53 @@
+//! Type specs.
+
+ghost use Rattle.std.specs.Prelude.{◌≡◌, ◌*◌, ◌<◌, ◌≤◌, length};
+
+use crate::fault::TableFault;
+use crate::layout::type_spec_header as header;
+use chunk_walk::{Chunk, ChunkFault, u32_within};
+
+/// A type spec whose own fields are right (AOSP: `ResTable_typeSpec`).
+#[derive(Clone, Copy, Debug)]
+pub(crate) struct TypeSpec<'a> {
+    pub id: u8,
+    pub entry_count: u32,
+    pub flags: &'a [u8],
+    ghost flags_fit: { 4 * entry_count ≤ length flags.now },
+}
+
+impl<'a> TypeSpec<'a> {
+    ghost use Rattle.chunk_walk.specs.Chunk.{part};
+    ghost use Rattle.chunk_walk.specs.Number.{number};
+    ghost use Rattle.type_chunks.specs.TypeSpec.{spec_part, seen_spec, type_spec_of};
+
+    /// The type spec that a chunk of its kind is.
+    #[tactic(auto, unfolding(crate::specs::TypeSpec::type_spec_of))]
+    pub fn read(chunk: &Chunk<'a>) -> Result<TypeSpec<'a>, TableFault>
+        ensures { seen_spec result ≡ type_spec_of (part chunk.now) }
+    {
+        if chunk.header.len() < header::SIZE {
+            return Err(TableFault::Chunk(ChunkFault::HeaderShort(chunk.place)));
+        }
+        let id = chunk.header[header::ID];
+        if id == 0 {
+            return Err(TableFault::TypeId(chunk.place));
+        }
+        let entry_count = u32_within(chunk.header, header::ENTRY_COUNT);
+        if chunk.body.len() < 4 * entry_count as usize {
+            return Err(TableFault::Offsets(chunk.place));
+        }
+        Ok(TypeSpec {
+            id,
+            entry_count,
+            flags: chunk.body,
+        })
+    }
+
+    /// The flags of an entry.
+    pub fn flags_of(&self, index: u32) -> u32
+        requires { index < self.now.entry_count }
+        ensures { result ≡ number 4 self.now.flags.now (4 * index) }
+    {
+        u32_within(self.flags, 4 * index as usize)
+    }
+}
