@@ -1,2 +1,12 @@
-//! acceptance
+//! Worked rows of the whole path from bytes to text, as tests over the public calls. Nothing stands
+//! on this crate.
 #![tactic(auto)]
+
+#[cfg(test)]
+mod chunks;
+#[cfg(test)]
+mod hostile;
+#[cfg(test)]
+mod rows;
+#[cfg(test)]
+mod table_a;

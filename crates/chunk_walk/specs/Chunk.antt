@@ -8,19 +8,19 @@ use Rattle.chunk_walk.specs.Number.{number}
 
 -- A chunk as it stands in a file, without where the file lies in memory: its kind, its place from
 -- the file's first byte, the bytes of its header, those behind the header, and all of them.
-pub record Part : Type 0 where
+pub record ChunkOf : Type 0 where
   pub kind : ℕ
   pub place : ℕ
   pub header : List ℕ
   pub body : List ℕ
   pub whole : List ℕ
 
-abbrev pub part : Chunk → Part
-part chunk = record { kind = chunk.kind; place = chunk.place; header = chunk.header.now; body = chunk.body.now; whole = chunk.whole.now }
+abbrev pub chunk_of : Chunk → ChunkOf
+chunk_of chunk = record { kind = chunk.kind; place = chunk.place; header = chunk.header.now; body = chunk.body.now; whole = chunk.whole.now }
 
--- what a call returned, without where it lies in memory
-abbrev pub seen : Result Chunk ChunkFault → Result Part ChunkFault
-seen (Ok chunk) = Ok (part chunk)
+-- how contracts see what a call returned: without where it lies in memory
+abbrev pub seen : Result Chunk ChunkFault → Result ChunkOf ChunkFault
+seen (Ok chunk) = Ok (chunk_of chunk)
 seen (Err fault) = Err fault
 
 -- the three numbers at the front of a chunk
@@ -44,9 +44,9 @@ chunk_faults place left min =
     ∷ (nat_lt (length left) (size_in left), Oversize place)
     ∷ []
 
--- its parts
-abbrev pub parts_in : ℕ → List ℕ → Part
-parts_in place left =
+-- what it is made of
+abbrev pub fields_in : ℕ → List ℕ → ChunkOf
+fields_in place left =
     let whole = take (size_in left) left in
     record {
       kind = kind_in left;
@@ -57,5 +57,5 @@ parts_in place left =
     }
 
 -- the chunk at a place, or its first fault
-unfoldable pub chunk_in : ℕ → List ℕ → ℕ → Result Part ChunkFault
-chunk_in place left min = checked_by (chunk_faults place left min) (Ok (parts_in place left))
+unfoldable pub chunk_in : ℕ → List ℕ → ℕ → Result ChunkOf ChunkFault
+chunk_in place left min = checked_by (chunk_faults place left min) (Ok (fields_in place left))

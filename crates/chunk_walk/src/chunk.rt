@@ -1,11 +1,11 @@
-//! What a chunk is, what can be wrong with one, and the chunk at a place.
+//! What a chunk is, and what can be wrong with one.
 
 ghost use Rattle.std.specs.Prelude.{◌≡◌, ◌+◌, ◌++◌, ◌^◌, ◌<◌, ◌≤◌, length};
 
 use thiserror::Error;
 
 /// The bytes that each chunk begins with: a kind, the header's size, the chunk's size.
-pub(crate) const HEADER_SIZE: usize = 8;
+pub(crate) const LEAST_HEADER_SIZE: usize = 8;
 
 /// What is wrong with a chunk, and its place. Of several faults the first of this list is named.
 #[derive(Clone, Copy, Debug, PartialEq, Eq, Error)]
@@ -30,6 +30,7 @@ pub enum ChunkFault {
 /// A chunk (AOSP: `ResChunk_header` and what follows it), lent from the bytes of its file.
 #[derive(Clone, Copy, Debug)]
 pub struct Chunk<'a> {
+    /// What the chunk is: a table, a package, a type .. (AOSP: `RES_TABLE_TYPE` and its like).
     pub kind: u16,
     /// Where the chunk begins, from the file's first byte.
     pub place: usize,

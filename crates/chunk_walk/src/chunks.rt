@@ -1,15 +1,15 @@
 //! Chunks one after the other.
 
 ghost use Rattle.std.specs.Prelude.{◌≡◌, ◌<◌, ◌^◌, length, drop};
-ghost use Rattle.chunk_walk.specs.Chunk.{part};
+ghost use Rattle.chunk_walk.specs.Chunk.{chunk_of};
 ghost use Rattle.chunk_walk.specs.Chunks.{chunks_of, children_of};
 
-use crate::chunk::{Chunk, ChunkFault, HEADER_SIZE};
+use crate::chunk::{Chunk, ChunkFault, LEAST_HEADER_SIZE};
 use crate::finding::first_chunk;
 use std::marker::Model;
 
-/// The chunks that stand one after the other, each with its fault where it has one. They end where
-/// fewer than eight bytes are left, or after a fault.
+/// Walks chunks, one behind the other. A chunk that is wrong comes as its fault, and is the last;
+/// seven bytes or fewer at the end are passed over.
 #[derive(Drop)]
 pub struct Chunks<'a> {
     place: usize,
@@ -18,10 +18,10 @@ pub struct Chunks<'a> {
 
 impl<'a> Model for Chunks<'a> {
     ghost use Rattle.std.specs.Prelude.{List, Result, ◌+◌, ◌^◌, ◌<◌, length};
-    ghost use Rattle.chunk_walk.specs.Chunk.{Part};
+    ghost use Rattle.chunk_walk.specs.Chunk.{ChunkOf};
     ghost use Rattle.chunk_walk.specs.declared.chunk.ChunkFault.{ChunkFault};
 
-    ghost Value = { List (Result Part ChunkFault) };
+    ghost Value = { List (Result ChunkOf ChunkFault) };
 
     ghost use Rattle.chunk_walk.specs.Chunks.{chunks_of};
 
@@ -49,7 +49,7 @@ impl<'a> Chunks<'a> {
 impl<'a> Chunk<'a> {
     /// The chunks within this chunk, behind its header.
     pub fn children(&self) -> Chunks<'a>
-        ensures chunks { result ≡ children_of (part self.now) }
+        ensures chunks { result ≡ children_of (chunk_of self.now) }
         // A chunk has eight bytes at least.
         ensures few { length result < 2 ^ 60 }
     {
@@ -72,10 +72,10 @@ impl<'a> Iterator for Chunks<'a> {
 
     #[tactic(auto, using(crate::proofs::ChunksSteps::chunks_steps))]
     fn next(&mut self) -> Option<Result<Chunk<'a>, ChunkFault>> {
-        if self.left.len() < HEADER_SIZE {
+        if self.left.len() < LEAST_HEADER_SIZE {
             return None;
         }
-        match first_chunk(self.place, self.left, HEADER_SIZE) {
+        match first_chunk(self.place, self.left, LEAST_HEADER_SIZE) {
             Ok(chunk) => {
                 let (_, behind) = self.left.split_at(chunk.whole.len());
                 self.place += chunk.whole.len();

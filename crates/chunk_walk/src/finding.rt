@@ -3,7 +3,7 @@
 ghost use Rattle.std.specs.Prelude.{◌≡◌, ◌+◌, ◌^◌, ◌<◌, ◌≤◌, length, drop, IfOk};
 ghost use Rattle.chunk_walk.specs.Chunk.{seen, chunk_in};
 
-use crate::chunk::{Chunk, ChunkFault, HEADER_SIZE};
+use crate::chunk::{Chunk, ChunkFault, LEAST_HEADER_SIZE};
 use crate::number::{u16_within, u32_within};
 
 // Where the numbers of a chunk's first eight bytes stand.
@@ -33,7 +33,7 @@ pub(crate) fn first_chunk(place: usize, left: &[u8], min: usize) -> Result<Chunk
     ensures chunk { seen result ≡ chunk_in place left.now min }
     ensures fits { IfOk result (λ chunk. length chunk.whole.now ≤ length left.now) }
 {
-    if left.len() < HEADER_SIZE {
+    if left.len() < LEAST_HEADER_SIZE {
         return Err(ChunkFault::Truncated(place));
     }
     let header_size = u16_within(left, HEADER_SIZE_FIELD) as usize;

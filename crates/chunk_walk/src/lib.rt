@@ -1,8 +1,8 @@
 //! Walks the chunks of a resource file, and reads the numbers in them. Nothing is copied: a chunk
 //! lends its parts from the bytes that it was found in.
 //!
-//! For the crate above: `chunk_at` and `Chunks` give the chunks that tile the bytes, or the first
-//! fault of the first that is wrong.
+//! For the crates above: `chunk_at` gives the chunk at a place or its first fault, and `Chunks` the
+//! chunks that stand one behind the other, up to the first that has a fault.
 //!
 //! ```text
 //! let table = chunk_at(file, 0, 12)?;

@@ -60,7 +60,7 @@ unfolding joined_each
 ReadsAllBut-end {A} f a left total before nothing =
     sym before.others ∙ ap (λ (t : List A). with_front a (joined (map f t))) nothing ∙ joined-end a
 
-pub ruleset reads = (ReadsAllBut-none, ReadsAllBut-next, ReadsAllBut-stops, ReadsAllBut-end)
+pub ruleset each_steps = (ReadsAllBut-none, ReadsAllBut-next, ReadsAllBut-stops, ReadsAllBut-end)
 
 -- ---- a loop over the numbers from i on and below n
 
@@ -82,12 +82,12 @@ pub joined_from-end : {X E : Type 0} (f : ℕ → Result (List X) E) (a : List X
 unfolding joined_from joined_each
 joined_from-end f a i n le = let k : n - i ≡ 0 = omega arith in rw k (joined-end a)
 
-pub ruleset steps = (joined_from-next, joined_from-stops, joined_from-end)
+pub ruleset from_steps = (joined_from-next, joined_from-stops, joined_from-end)
 
 -- ---- a loop over items that knows something of those before
 
--- What is known is true of the items before those that are left, and of all items a and what f reads
--- of those that are left was read.
+-- `before` are the items that were read, of which `Known` holds; what f read of them is a, and what it
+-- reads of those that are left is still to come.
 pub record ReadsKnowing {A S X E : Type 0} (Known : S → List A → Type 0) (f : (List A × A) → Result (List X) E) (s : S) (a : List X) (left : List A) (total : Result (List X) E) : Type 0 where
   pub before : List A
   pub known : Known s before
@@ -119,4 +119,4 @@ unfolding with_before
 ReadsKnowing-end {A} Known f s a left total so_far nothing =
     ReadsAllBut-end f a (with_before so_far.before left) total so_far.read (ap (λ (t : List A). with_before so_far.before t) nothing)
 
-pub ruleset knowing = (ReadsKnowing-none, ReadsKnowing-next, ReadsKnowing-stops, ReadsKnowing-end)
+pub ruleset knowing_steps = (ReadsKnowing-none, ReadsKnowing-next, ReadsKnowing-stops, ReadsKnowing-end)

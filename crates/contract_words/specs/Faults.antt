@@ -1,7 +1,8 @@
 -- An order of checks.
 use Rattle.std.specs.Prelude.{Bool, List, [], ◌∷◌, Result, Ok, Err, if◌then◌else◌}
 
--- The fault of the first check that is met. Where none is met, what comes then.
+-- Each check is a condition and its fault. The fault of the first condition that holds; where none
+-- holds, what comes then.
 abbrev pub checked_by : {X E : Type 0} → List (Bool × E) → Result X E → Result X E
 checked_by [] meant = meant
 checked_by (check ∷ checks) meant = if check.0 then Err check.1 else checked_by checks meant
@@ -12,6 +13,6 @@ abbrev pub ◌>>=◌ : {X Y E : Type 0} → Result X E → (X → Result Y E) �
 (Ok x) >>= next = next x
 (Err fault) >>= next = Err fault
 
--- a step that has this fault where the check is met
+-- a step that has this fault where the condition holds
 abbrev pub refuse : {E : Type 0} → Bool → E → Result (Unit {0}) E
-refuse check fault = if check then Err fault else Ok tt
+refuse condition fault = if condition then Err fault else Ok tt

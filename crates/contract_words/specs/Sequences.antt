@@ -22,11 +22,12 @@ joined_each f items = joined (map f items)
 unfoldable pub joined_from : {X E : Type 0} → (ℕ → Result (List X) E) → ℕ → ℕ → Result (List X) E
 joined_from f i n = joined_each f (range_with_len i (n - i))
 
--- each item with those that stand before it, the nearest first, where some stood before all of these
+-- each item with the items before it, the nearest first; `before` are those before the first of these
 unfoldable pub with_before : {A : Type 0} → List A → List A → List (List A × A)
 with_before before [] = []
 with_before before (item ∷ items) = (before, item) ∷ with_before (item ∷ before) items
 
--- A call that pushes to a list, which was old and is new, pushed what is meant.
+-- A call that pushes to a list, which was old and is new, pushed what is meant. After a fault nothing
+-- is said of the new list.
 abbrev pub Pushes : {X Y E : Type 0} → E → List Y → List Y → Result X E → Result (List Y) E → Type 0
 Pushes out_of_memory old new result meant = GivesOr out_of_memory (λ _. new) result (with_front old meant)

@@ -4,8 +4,11 @@
 //! | word | says | file |
 //! |---|---|---|
 //! | `GivesOr` | a call returned exactly what is meant, or memory ran out | `specs/Exact.antt` |
-//! | `checked_by` | the fault of the first check that is met, else what comes then | `specs/Faults.antt` |
+//! | `checked_by` | the fault of the first condition that holds, else what comes then | `specs/Faults.antt` |
+//! | `refuse`, `>>=` | the same as steps of a `do` | `specs/Faults.antt` |
 //! | `joined_each` | what is read of each item, one after the other, or the first fault | `specs/Sequences.antt` |
+//! | `joined_from` | the same for the numbers from one on and below another | `specs/Sequences.antt` |
+//! | `with_before` | each item with the items that stand before it | `specs/Sequences.antt` |
 //! | `Pushes` | a call pushed what is meant behind what was there | `specs/Sequences.antt` |
 //!
 //! A contract of a crate above reads so:

@@ -1,2 +1,22 @@
-//! test_layers
+//! Makes the tables that tests read, from rows that are easy to write. Used by tests alone: it has
+//! no contracts, and nothing that is built for users stands on it.
+//!
+//! A row is a line: an entry, the qualifiers of its configuration between brackets, and its cell.
+//!
+//! ```text
+//! 0 [density=160] 2
+//! 0 [locale=fr,sdk=21] -1
+//! 1 [] @0x7f010000
+//! ```
+//!
+//! The rows become one package 0x7f with one type 0x01, and each row a type chunk of its own, so
+//! entry 0 is the resource 0x7f010000. A cell is a decimal number, a reference `@0x..`, an attribute
+//! `?0x..`, `empty`, or `bag` for an entry that says that a bag follows.
 #![tactic(auto)]
+
+mod bytes;
+mod cell;
+mod qualifier;
+mod table;
+
+pub use table::{LayerFault, layer};

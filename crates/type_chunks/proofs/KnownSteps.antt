@@ -3,17 +3,17 @@ use Rattle.std.proofs.Common.{◌≡◌, ◌≢◌, ℕ, ◌<◌, List, [], ◌�
 use Rattle.std.specs.Prelude.{◌==◌, ◌&&◌, if◌then◌else◌, OnOk}
 use Rattle.std.proofs.lemmas.Bool.Decides.{nat_tests}
 use Rattle.contract_words.proofs.FaultSteps.{checked_by-ok}
-use Rattle.chunk_walk.specs.Chunk.{Part}
+use Rattle.chunk_walk.specs.Chunk.{ChunkOf}
 use Rattle.chunk_walk.specs.declared.chunk.ChunkFault.{ChunkFault}
 use Rattle.type_chunks.specs.declared.type_spec.TypeSpec.{TypeSpec}
 use Rattle.type_chunks.specs.declared.known_specs.KnownSpecs.{KnownSpecs}
-use Rattle.type_chunks.specs.TypeSpec.{SpecPart, spec_part, spec_fields, type_spec_faults, type_spec_of, last_spec}
+use Rattle.type_chunks.specs.TypeSpec.{SpecOf, spec_of, spec_fields, type_spec_faults, type_spec_in, last_spec}
 use Rattle.type_chunks.specs.KnownSpecs.{kept_spec, Knows}
 
 -- a type spec that is read has the fields of its chunk
-type_spec_of-ok : (chunk : Part) (spec : SpecPart) → type_spec_of chunk ≡ Ok spec → spec_fields chunk ≡ spec
-unfolding type_spec_of
-type_spec_of-ok chunk spec e = let read = (checked_by-ok (type_spec_faults chunk) (Ok (spec_fields chunk)) spec e).1 in cc
+type_spec_in-ok : (chunk : ChunkOf) (spec : SpecOf) → type_spec_in chunk ≡ Ok spec → spec_fields chunk ≡ spec
+unfolding type_spec_in
+type_spec_in-ok chunk spec e = let read = (checked_by-ok (type_spec_faults chunk) (Ok (spec_fields chunk)) spec e).1 in cc
 
 -- the same choice, where the chunk is a type spec
 same_choice : {X : Type 0} (kind found spec id : ℕ) (x y z w : X) → kind ≡ 0x0202 → found ≡ spec → x ≡ z → y ≡ w
@@ -30,20 +30,20 @@ unfolding last_spec
 Knows-none specs none = record { last = none }
 
 -- a type spec is known once it is kept
-pub Knows-kept : (old new : KnownSpecs) (spec : TypeSpec) (chunk : Part) (before : List (Result Part ChunkFault))
-    → ((id : ℕ) → kept_spec new id ≡ (if spec.id == id then Some (spec_part spec) else kept_spec old id))
-    → Ok (spec_part spec) ≡ type_spec_of chunk → chunk.kind ≡ 0x0202 → Knows old before → Knows new (Ok chunk ∷ before)
+pub Knows-kept : (old new : KnownSpecs) (spec : TypeSpec) (chunk : ChunkOf) (before : List (Result ChunkOf ChunkFault))
+    → ((id : ℕ) → kept_spec new id ≡ (if spec.id == id then Some (spec_of spec) else kept_spec old id))
+    → Ok (spec_of spec) ≡ type_spec_in chunk → chunk.kind ≡ 0x0202 → Knows old before → Knows new (Ok chunk ∷ before)
 unfolding last_spec
 Knows-kept old new spec chunk before kept read kind known =
-    let fields : spec_fields chunk ≡ spec_part spec = type_spec_of-ok chunk (spec_part spec) (sym read) in
-    let same : slice_index chunk.header 8 ≡ spec.id = ap (λ (s : SpecPart). s.id) fields in
+    let fields : spec_fields chunk ≡ spec_of spec = type_spec_in-ok chunk (spec_of spec) (sym read) in
+    let same : slice_index chunk.header 8 ≡ spec.id = ap (λ (s : SpecOf). s.id) fields in
     record {
-      last = λ id below. kept id ∙ same_choice chunk.kind (slice_index chunk.header 8) spec.id id (Some (spec_fields chunk)) (last_spec id before) (Some (spec_part spec)) (kept_spec old id)
-          kind same (ap (λ (s : SpecPart). Some s) fields) (sym (known.last id below));
+      last = λ id below. kept id ∙ same_choice chunk.kind (slice_index chunk.header 8) spec.id id (Some (spec_fields chunk)) (last_spec id before) (Some (spec_of spec)) (kept_spec old id)
+          kind same (ap (λ (s : SpecOf). Some s) fields) (sym (known.last id below));
     }
 
 -- a chunk of another kind changes nothing
-pub Knows-other : (specs : KnownSpecs) (chunk : Part) (before : List (Result Part ChunkFault)) → chunk.kind ≢ 0x0202 → Knows specs before → Knows specs (Ok chunk ∷ before)
+pub Knows-other : (specs : KnownSpecs) (chunk : ChunkOf) (before : List (Result ChunkOf ChunkFault)) → chunk.kind ≢ 0x0202 → Knows specs before → Knows specs (Ok chunk ∷ before)
 unfolding last_spec
 Knows-other specs chunk before other known = record {
   last = λ id below. known.last id below ∙ other_choice chunk.kind (slice_index chunk.header 8) id (Some (spec_fields chunk)) (last_spec id before) other;

@@ -1,15 +1,16 @@
--- What is kept of the type specs of a package on the way through it.
+-- What the code keeps of the type specs of a package on its way through it. Contracts within the
+-- crate alone speak of this.
 use Rattle.std.specs.Prelude.{◌≡◌, ℕ, ◌<◌, List, Option, None, Result, slice_index_or}
 use Rattle.std.specs.Option.{option_map}
-use Rattle.chunk_walk.specs.Chunk.{Part}
+use Rattle.chunk_walk.specs.Chunk.{ChunkOf}
 use Rattle.chunk_walk.specs.declared.chunk.ChunkFault.{ChunkFault}
 use Rattle.type_chunks.specs.declared.known_specs.KnownSpecs.{KnownSpecs}
-use Rattle.type_chunks.specs.TypeSpec.{SpecPart, spec_part, last_spec}
+use Rattle.type_chunks.specs.TypeSpec.{SpecOf, spec_of, last_spec}
 
 -- the type spec that is kept for an id
-abbrev pub kept_spec : KnownSpecs → ℕ → Option SpecPart
-kept_spec specs id = option_map spec_part (slice_index_or specs.by_id id None)
+abbrev pub kept_spec : KnownSpecs → ℕ → Option SpecOf
+kept_spec specs id = option_map spec_of (slice_index_or specs.by_id id None)
 
 -- For each id the last type spec of it among these chunks is kept, of which the nearest stands first.
-pub record Knows (specs : KnownSpecs) (before : List (Result Part ChunkFault)) : Type 0 where
+pub record Knows (specs : KnownSpecs) (before : List (Result ChunkOf ChunkFault)) : Type 0 where
   pub last : (id : ℕ) → id < 256 → kept_spec specs id ≡ last_spec id before

@@ -1,7 +1,9 @@
+pub mod Layout
 pub mod Row
 pub mod TypeSpec
 pub mod TypeChunk
 pub mod Entry
+pub mod Package
 pub mod Table
 pub mod KnownSpecs
 pub mod CountedPackages

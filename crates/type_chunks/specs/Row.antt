@@ -11,18 +11,18 @@ pub record RowOf : Type 0 where
   -- the bytes of its configuration
   pub config : List ℕ
   pub cell : Cell
-  -- of its type spec
+  -- the type spec's flags for this entry
   pub flags : ℕ
   -- the place of its name among the package's names of entries
   pub key : ℕ
-  -- the place of its package among the table's packages
+  -- the place of its package among the table's packages: `Row.package`
   pub in_package : ℕ
 
 abbrev pub row_of : Row → RowOf
 row_of row = record { id = row.id.0; config = record_bytes row.config; cell = row.cell; flags = row.flags; key = row.key; in_package = row.package }
 
-abbrev pub rows_in : List Row → List RowOf
-rows_in rows = map row_of rows
+abbrev pub views_of : List Row → List RowOf
+views_of rows = map row_of rows
 
 -- the rows of one id, in their order
 abbrev pub with_id : ℕ → List RowOf → List RowOf

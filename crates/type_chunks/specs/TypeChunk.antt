@@ -2,7 +2,7 @@
 use Rattle.std.specs.Prelude.{ℕ, ◌*◌, ◌%◌, List, ◌==◌, length, drop, slice_index, Option, Some, None, Result, Ok, Err, nat_lt}
 use Rattle.contract_words.specs.Faults.{◌>>=◌, refuse}
 use Rattle.chunk_walk.specs.Number.{number}
-use Rattle.chunk_walk.specs.Chunk.{Part}
+use Rattle.chunk_walk.specs.Chunk.{ChunkOf}
 use Rattle.chunk_walk.specs.declared.chunk.ChunkFault.{ChunkFault}
 use Rattle.chunk_walk.specs.declared.chunk.ChunkFault.TheVariants.{HeaderShort}
 use Rattle.config_record.specs.Record.{record_in, record_bytes}
@@ -11,13 +11,14 @@ use Rattle.type_chunks.specs.declared.fault.TableFault.{TableFault}
 use Rattle.type_chunks.specs.declared.fault.TableFault.TheVariants as faults
 use Rattle.type_chunks.specs.declared.package.Package.{Package}
 use Rattle.type_chunks.specs.declared.type_chunk.TypeChunk.{TypeChunk}
-use Rattle.type_chunks.specs.TypeSpec.{SpecPart, spec_part, last_spec}
+use Rattle.type_chunks.specs.Layout.{least_type_header}
+use Rattle.type_chunks.specs.TypeSpec.{SpecOf, spec_of, last_spec}
 
 -- A type in its package, with the type spec that it belongs to, the bytes of its configuration, the
 -- offsets of its entries of four bytes each, and the whole chunk, in which the entries stand.
-pub record TypePart : Type 0 where
+pub record TypeOf : Type 0 where
   pub owner : Package
-  pub spec : SpecPart
+  pub spec : SpecOf
   pub place : ℕ
   pub id : ℕ
   pub entry_count : ℕ
@@ -26,10 +27,10 @@ pub record TypePart : Type 0 where
   pub offsets : List ℕ
   pub whole : List ℕ
 
-abbrev pub type_part : TypeChunk → TypePart
-type_part chunk = record {
+abbrev pub type_of : TypeChunk → TypeOf
+type_of chunk = record {
   owner = chunk.owner;
-  spec = spec_part chunk.spec;
+  spec = spec_of chunk.spec;
   place = chunk.place;
   id = chunk.id;
   entry_count = chunk.entry_count;
@@ -39,25 +40,26 @@ type_part chunk = record {
   whole = chunk.whole.now;
 }
 
-abbrev pub seen_type : Result TypeChunk TableFault → Result TypePart TableFault
-seen_type (Ok chunk) = Ok (type_part chunk)
+abbrev pub seen_type : Result TypeChunk TableFault → Result TypeOf TableFault
+seen_type (Ok chunk) = Ok (type_of chunk)
 seen_type (Err fault) = Err fault
 
 -- the type spec that was found, or the fault that there is none
-abbrev pub found_spec : Option SpecPart → ℕ → Result SpecPart TableFault
+abbrev pub found_spec : Option SpecOf → ℕ → Result SpecOf TableFault
 found_spec (Some spec) place = Ok spec
 found_spec None place = Err (faults.TypeWithoutSpec place)
 
--- the configuration that was read, or the fault that it is none
+-- the configuration that was read, or the fault that it is too short or passes the header
 abbrev pub found_config : Result (List ℕ) RecordFault → ℕ → Result (List ℕ) TableFault
 found_config (Ok bytes) place = Ok bytes
 found_config (Err fault) place = Err (faults.Config place)
 
--- The fields of a type: the id at 8, flags at 9, the count of entries at 12, where the entries start
--- at 16, the configuration at 20. Or its first fault, where these chunks stand before it in its package.
-unfoldable pub type_of : Package → List (Result Part ChunkFault) → Part → Result TypePart TableFault
-type_of owner before chunk = do
-  _ ← refuse (nat_lt (length chunk.header) 24) (faults.Chunk (HeaderShort chunk.place))
+-- A type, or its first fault; `before` are the chunks before it in its package. Its id is at 8, its
+-- flags at 9 (the lowest bit says that the entries are listed sparsely, which is refused), the count of
+-- its entries at 12, where they start at 16, and its configuration at 20.
+unfoldable pub type_in : Package → List (Result ChunkOf ChunkFault) → ChunkOf → Result TypeOf TableFault
+type_in owner before chunk = do
+  _ ← refuse (nat_lt (length chunk.header) least_type_header) (faults.Chunk (HeaderShort chunk.place))
   let id = slice_index chunk.header 8
   _ ← refuse (id == 0) (faults.TypeId chunk.place)
   spec ← found_spec (last_spec id before) chunk.place

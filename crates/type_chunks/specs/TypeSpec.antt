@@ -2,45 +2,46 @@
 use Rattle.std.specs.Prelude.{ℕ, ◌*◌, List, [], ◌∷◌, Bool, ◌&&◌, ◌==◌, length, slice_index, Option, Some, None, Result, Ok, Err, nat_lt, if◌then◌else◌}
 use Rattle.contract_words.specs.Faults.{checked_by}
 use Rattle.chunk_walk.specs.Number.{number}
-use Rattle.chunk_walk.specs.Chunk.{Part}
+use Rattle.chunk_walk.specs.Chunk.{ChunkOf}
 use Rattle.chunk_walk.specs.declared.chunk.ChunkFault.{ChunkFault}
 use Rattle.chunk_walk.specs.declared.chunk.ChunkFault.TheVariants.{HeaderShort}
 use Rattle.type_chunks.specs.declared.fault.TableFault.{TableFault}
 use Rattle.type_chunks.specs.declared.fault.TableFault.TheVariants as faults
 use Rattle.type_chunks.specs.declared.type_spec.TypeSpec.{TypeSpec}
+use Rattle.type_chunks.specs.Layout.{type_spec_kind, least_type_spec_header}
 
 -- The id of a type, how many entries it has, and their flags of four bytes each.
-pub record SpecPart : Type 0 where
+pub record SpecOf : Type 0 where
   pub id : ℕ
   pub entry_count : ℕ
   pub flags : List ℕ
 
-abbrev pub spec_part : TypeSpec → SpecPart
-spec_part spec = record { id = spec.id; entry_count = spec.entry_count; flags = spec.flags.now }
+abbrev pub spec_of : TypeSpec → SpecOf
+spec_of spec = record { id = spec.id; entry_count = spec.entry_count; flags = spec.flags.now }
 
-abbrev pub seen_spec : Result TypeSpec TableFault → Result SpecPart TableFault
-seen_spec (Ok spec) = Ok (spec_part spec)
+abbrev pub seen_spec : Result TypeSpec TableFault → Result SpecOf TableFault
+seen_spec (Ok spec) = Ok (spec_of spec)
 seen_spec (Err fault) = Err fault
 
 -- the fields of a type spec's chunk: the id at 8, the count of entries at 12, then the flags
-abbrev pub spec_fields : Part → SpecPart
+abbrev pub spec_fields : ChunkOf → SpecOf
 spec_fields chunk = record { id = slice_index chunk.header 8; entry_count = number 4 chunk.header 12; flags = chunk.body }
 
 -- what can be wrong with it, in the order of the checks
-abbrev pub type_spec_faults : Part → List (Bool × TableFault)
+abbrev pub type_spec_faults : ChunkOf → List (Bool × TableFault)
 type_spec_faults chunk =
-    (nat_lt (length chunk.header) 16, faults.Chunk (HeaderShort chunk.place))
+    (nat_lt (length chunk.header) least_type_spec_header, faults.Chunk (HeaderShort chunk.place))
     ∷ ((spec_fields chunk).id == 0, faults.TypeId chunk.place)
     ∷ (nat_lt (length chunk.body) (4 * (spec_fields chunk).entry_count), faults.Offsets chunk.place)
     ∷ []
 
 -- the type spec that a chunk is, or its first fault
-unfoldable pub type_spec_of : Part → Result SpecPart TableFault
-type_spec_of chunk = checked_by (type_spec_faults chunk) (Ok (spec_fields chunk))
+unfoldable pub type_spec_in : ChunkOf → Result SpecOf TableFault
+type_spec_in chunk = checked_by (type_spec_faults chunk) (Ok (spec_fields chunk))
 
 -- the last type spec of an id among chunks, of which the nearest stands first
-unfoldable pub last_spec : ℕ → List (Result Part ChunkFault) → Option SpecPart
+unfoldable pub last_spec : ℕ → List (Result ChunkOf ChunkFault) → Option SpecOf
 last_spec id [] = None
 last_spec id (Err fault ∷ before) = last_spec id before
 last_spec id (Ok chunk ∷ before) =
-    if chunk.kind == 0x0202 && slice_index chunk.header 8 == id then Some (spec_fields chunk) else last_spec id before
+    if chunk.kind == type_spec_kind && slice_index chunk.header 8 == id then Some (spec_fields chunk) else last_spec id before

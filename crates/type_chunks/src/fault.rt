@@ -35,7 +35,7 @@ pub enum TableFault {
     /// The flags of a type spec or the offsets of a type do not fit.
     #[error("Offsets {0}")]
     Offsets(usize),
-    /// An entry is out of line, does not fit, or is of a form that is not read.
+    /// An entry stands at no multiple of four, passes its chunk, or is complex.
     #[error("Entry {0}")]
     Entry(usize),
     /// A value's size is not that of a value.

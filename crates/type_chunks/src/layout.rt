@@ -3,64 +3,55 @@
 /// The kinds of chunks (AOSP: `RES_TABLE_TYPE` and its like).
 pub(crate) mod kind {
     pub const TABLE: u16 = 0x0002;
-
     pub const PACKAGE: u16 = 0x0200;
-
     pub const TYPE: u16 = 0x0201;
-
     pub const TYPE_SPEC: u16 = 0x0202;
 }
 
 /// The header of a table (AOSP: `ResTable_header`).
 pub(crate) mod table_header {
-    pub const SIZE: usize = 12;
+    pub const LEAST_SIZE: usize = 12;
 }
 
-/// The header of a package (AOSP: `ResTable_package`), which older tools end before its last field.
+/// The header of a package (AOSP: `ResTable_package`).
 pub(crate) mod package_header {
     pub const ID: usize = 8;
 
-    pub const SIZE: usize = 284;
+    /// Without the last field, typeIdOffset, which older tools do not write.
+    pub const LEAST_SIZE: usize = 284;
 }
 
 /// The header of a type spec (AOSP: `ResTable_typeSpec`).
 pub(crate) mod type_spec_header {
     pub const ID: usize = 8;
-
     pub const ENTRY_COUNT: usize = 12;
-
-    pub const SIZE: usize = 16;
+    pub const LEAST_SIZE: usize = 16;
 }
 
 /// The header of a type (AOSP: `ResTable_type`), which ends with its configuration.
 pub(crate) mod type_header {
     pub const ID: usize = 8;
-
     pub const FLAGS: usize = 9;
-
     pub const ENTRY_COUNT: usize = 12;
-
     pub const ENTRIES_START: usize = 16;
-
     pub const CONFIG: usize = 20;
-    /// With the first field of the configuration, its size.
-    pub const SIZE: usize = 24;
+
+    /// With the size field of the configuration.
+    pub const LEAST_SIZE: usize = 24;
 
     /// The bit of the flags that says that the entries are listed sparsely.
     pub const FLAG_SPARSE: u8 = 1;
+
     /// The offset that says that there is no entry (AOSP: `ResTable_type::NO_ENTRY`).
     pub const NO_ENTRY: u32 = 0xffff_ffff;
 }
 
 /// An entry (AOSP: `ResTable_entry`).
 pub(crate) mod entry_header {
-    pub const ENTRY_SIZE: usize = 0;
-
+    pub const SIZE_FIELD: usize = 0;
     pub const FLAGS: usize = 2;
-
     pub const KEY: usize = 4;
-
-    pub const SIZE: usize = 8;
+    pub const LEAST_SIZE: usize = 8;
 
     /// The bit of the flags that says that a bag follows.
     pub const FLAG_COMPLEX: u16 = 1;

@@ -11,8 +11,8 @@
 //! ```
 //!
 //! A file is a table chunk, which holds packages, which hold type specs and types, which hold
-//! entries. `specs/Table.antt` says what rows these are, `specs/TypeSpec.antt`, `specs/TypeChunk.antt`
-//! and `specs/Entry.antt` what is read of each, and which fault is the first.
+//! entries. What rows these are, and which fault is the first, is said of each in `specs/Table.antt`,
+//! `specs/Package.antt`, `specs/TypeSpec.antt`, `specs/TypeChunk.antt` and `specs/Entry.antt`.
 #![tactic(auto)]
 
 mod fault;

@@ -1,15 +1,15 @@
 //! Packages, and the rows in them.
 
 ghost use Rattle.std.specs.Prelude.{◌≡◌, ◌<◌, ◌∷◌, List, Result, OnOk};
-ghost use Rattle.chunk_walk.specs.Chunk.{Part, part, seen};
+ghost use Rattle.chunk_walk.specs.Chunk.{ChunkOf, chunk_of, seen};
 ghost use Rattle.chunk_walk.specs.declared.chunk.ChunkFault.{ChunkFault};
 ghost use Rattle.contract_words.specs.Sequences.{Pushes};
 ghost use Rattle.type_chunks.specs.declared.fault.TableFault.TheVariants.{OutOfMemory};
 ghost use Rattle.type_chunks.specs.KnownSpecs.{Knows};
-ghost use Rattle.type_chunks.specs.Row.{rows_in};
-ghost use Rattle.type_chunks.specs.TypeChunk.{type_part};
-ghost use Rattle.type_chunks.specs.Entry.{entry_rows};
-ghost use Rattle.type_chunks.specs.Table.{rows_of_entries, rows_in_package, rows_of_children, package_rows};
+ghost use Rattle.type_chunks.specs.Row.{views_of};
+ghost use Rattle.type_chunks.specs.TypeChunk.{type_of};
+ghost use Rattle.type_chunks.specs.Entry.{rows_of_entry};
+ghost use Rattle.type_chunks.specs.Package.{rows_of_entries, rows_of_package_child, rows_of_package_children, rows_of_package};
 
 use crate::fault::TableFault;
 use crate::known_specs::KnownSpecs;
@@ -27,16 +27,16 @@ pub(crate) struct Package {
     pub place: usize,
 }
 
-/// Pushes the rows of a package, before which so many others stand.
-#[tactic(auto, unfolding(crate::specs::Table::package_rows))]
+/// Pushes the rows of a package; `place` packages stand before it.
+#[tactic(auto, unfolding(crate::specs::Package::rows_of_package))]
 pub(crate) fn push_package<'a>(
     place: usize,
     chunk: &Chunk<'a>,
     rows: &mut Vec<Row<'a>>,
 ) -> Result<(), TableFault>
-    ensures { Pushes OutOfMemory (rows_in rows.old.items) (rows_in rows.new.items) result (package_rows place (part chunk.now)) }
+    ensures { Pushes OutOfMemory (views_of rows.old.items) (views_of rows.new.items) result (rows_of_package place (chunk_of chunk.now)) }
 {
-    if chunk.header.len() < header::SIZE {
+    if chunk.header.len() < header::LEAST_SIZE {
         return Err(TableFault::Chunk(ChunkFault::HeaderShort(chunk.place)));
     }
     let id = u32_within(chunk.header, header::ID);
@@ -54,13 +54,13 @@ pub(crate) fn push_package<'a>(
 }
 
 // Pushes the rows of the chunks in a package.
-#[tactic(auto, using(contract_words::proofs::SequenceSteps::knowing))]
+#[tactic(auto, using(contract_words::proofs::SequenceSteps::knowing_steps))]
 fn push_children<'a>(
     owner: Package,
     chunk: &Chunk<'a>,
     rows: &mut Vec<Row<'a>>,
 ) -> Result<(), TableFault>
-    ensures { Pushes OutOfMemory (rows_in rows.old.items) (rows_in rows.new.items) result (rows_of_children owner (part chunk.now)) }
+    ensures { Pushes OutOfMemory (views_of rows.old.items) (views_of rows.new.items) result (rows_of_package_children owner (chunk_of chunk.now)) }
 {
     let mut specs = KnownSpecs::new();
     for found in chunk.children() {
@@ -69,18 +69,18 @@ fn push_children<'a>(
     Ok(())
 }
 
-// Pushes the rows of a chunk in a package, behind these type specs.
-#[tactic(auto, unfolding(crate::specs::Table::rows_in_package))]
+// Pushes the rows of a chunk in a package; `specs` has the type specs before it.
+#[tactic(auto, unfolding(crate::specs::Package::rows_of_package_child))]
 fn push_child<'a>(
     owner: Package,
     found: Result<Chunk<'a>, ChunkFault>,
     specs: &mut KnownSpecs<'a>,
     rows: &mut Vec<Row<'a>>,
 ) -> Result<(), TableFault>
-    ensures known { (before : List (Result Part ChunkFault)) → Knows specs.old before
+    ensures known { (before : List (Result ChunkOf ChunkFault)) → Knows specs.old before
         → OnOk result (Knows specs.new (seen found.entry ∷ before)) }
-    ensures rows { (before : List (Result Part ChunkFault)) → Knows specs.old before
-        → Pushes OutOfMemory (rows_in rows.old.items) (rows_in rows.new.items) result (rows_in_package owner (before, seen found.entry)) }
+    ensures rows { (before : List (Result ChunkOf ChunkFault)) → Knows specs.old before
+        → Pushes OutOfMemory (views_of rows.old.items) (views_of rows.new.items) result (rows_of_package_child owner (before, seen found.entry)) }
 {
     let chunk = found?;
     match chunk.kind {
@@ -94,9 +94,9 @@ fn push_child<'a>(
 }
 
 // Pushes the rows of the entries of a type.
-#[tactic(auto, using(contract_words::proofs::SequenceSteps::steps))]
+#[tactic(auto, using(contract_words::proofs::SequenceSteps::from_steps))]
 fn push_type<'a>(chunk: &TypeChunk<'a>, rows: &mut Vec<Row<'a>>) -> Result<(), TableFault>
-    ensures { Pushes OutOfMemory (rows_in rows.old.items) (rows_in rows.new.items) result (rows_of_entries (type_part chunk.now)) }
+    ensures { Pushes OutOfMemory (views_of rows.old.items) (views_of rows.new.items) result (rows_of_entries (type_of chunk.now)) }
 {
     for index in 0..chunk.entry_count {
         push_entry(chunk, index, rows)?;
@@ -111,7 +111,7 @@ fn push_entry<'a>(
     rows: &mut Vec<Row<'a>>,
 ) -> Result<(), TableFault>
     requires { index < chunk.now.entry_count }
-    ensures { Pushes OutOfMemory (rows_in rows.old.items) (rows_in rows.new.items) result (entry_rows (type_part chunk.now) index) }
+    ensures { Pushes OutOfMemory (views_of rows.old.items) (views_of rows.new.items) result (rows_of_entry (type_of chunk.now) index) }
 {
     if let Some(row) = chunk.entry(index)? {
         rows.push(row)?;

@@ -16,18 +16,18 @@ pub struct AllRows<'t, 'a> {
 impl<'t, 'a> Model for AllRows<'t, 'a> {
     ghost use Rattle.std.specs.Prelude.{List};
     ghost use Rattle.std.specs.Slice.Iter.{iter_rest};
-    ghost use Rattle.type_chunks.specs.Row.{RowOf, rows_in};
+    ghost use Rattle.type_chunks.specs.Row.{RowOf, views_of};
 
     ghost Value = { List RowOf };
 
-    ghost view = { λ s. rows_in (iter_rest s.left) };
+    ghost view = { λ s. views_of (iter_rest s.left) };
 }
 
 impl<'t, 'a> AllRows<'t, 'a> {
-    ghost use Rattle.type_chunks.specs.Row.{rows_in};
+    ghost use Rattle.type_chunks.specs.Row.{views_of};
 
     pub(crate) fn new(rows: &'t [Row<'a>]) -> Self
-        ensures { result ≡ rows_in rows.now }
+        ensures { result ≡ views_of rows.now }
     {
         AllRows { left: rows.iter() }
     }
@@ -65,10 +65,10 @@ impl<'t, 'a> Model for Rows<'t, 'a> {
 }
 
 impl<'t, 'a> Rows<'t, 'a> {
-    ghost use Rattle.type_chunks.specs.Row.{rows_in, with_id};
+    ghost use Rattle.type_chunks.specs.Row.{views_of, with_id};
 
     pub(crate) fn new(rows: &'t [Row<'a>], id: ResId) -> Self
-        ensures { result ≡ with_id id.0 (rows_in rows.now) }
+        ensures { result ≡ with_id id.0 (views_of rows.now) }
     {
         Rows {
             all: AllRows::new(rows),

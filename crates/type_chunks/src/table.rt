@@ -1,13 +1,13 @@
 //! Tables.
 
 ghost use Rattle.std.specs.Prelude.{◌≡◌, ℕ, ◌+◌, ◌<◌, ◌≤◌, ◌^◌, ◌∷◌, List, Result, OnOk, length};
-ghost use Rattle.chunk_walk.specs.Chunk.{Part, part, seen};
+ghost use Rattle.chunk_walk.specs.Chunk.{ChunkOf, chunk_of, seen};
 ghost use Rattle.chunk_walk.specs.declared.chunk.ChunkFault.{ChunkFault};
 ghost use Rattle.contract_words.specs.Exact.{GivesOr};
 ghost use Rattle.contract_words.specs.Sequences.{Pushes};
 ghost use Rattle.type_chunks.specs.declared.fault.TableFault.TheVariants.{OutOfMemory};
-ghost use Rattle.type_chunks.specs.Row.{rows_in, with_id};
-ghost use Rattle.type_chunks.specs.Table.{rows_in_table, rows_of_packages, rows_of};
+ghost use Rattle.type_chunks.specs.Row.{views_of, with_id};
+ghost use Rattle.type_chunks.specs.Table.{rows_of_table_child, rows_of_table_children, rows_of};
 ghost use Rattle.type_chunks.specs.CountedPackages.{CountsPackages};
 
 use crate::fault::TableFault;
@@ -29,11 +29,11 @@ pub struct Table<'a> {
 
 impl<'a> Model for Table<'a> {
     ghost use Rattle.std.specs.Prelude.{List};
-    ghost use Rattle.type_chunks.specs.Row.{RowOf, rows_in};
+    ghost use Rattle.type_chunks.specs.Row.{RowOf, views_of};
 
     ghost Value = { List RowOf };
 
-    ghost view = { λ table. rows_in table.rows.items };
+    ghost view = { λ table. views_of table.rows.items };
 }
 
 impl<'a> Table<'a> {
@@ -42,7 +42,7 @@ impl<'a> Table<'a> {
     pub fn open(alloc: Global, bytes: &'a [u8]) -> Result<Table<'a>, TableFault>
         ensures { GivesOr OutOfMemory (λ table. table) result (rows_of bytes.now) }
     {
-        let table = chunk_at(bytes, 0, table_header::SIZE)?;
+        let table = chunk_at(bytes, 0, table_header::LEAST_SIZE)?;
         if table.kind != kind::TABLE {
             return Err(TableFault::NotTable);
         }
@@ -68,9 +68,9 @@ impl<'a> Table<'a> {
 }
 
 // Pushes the rows of the chunks in a table.
-#[tactic(auto, using(contract_words::proofs::SequenceSteps::knowing))]
+#[tactic(auto, using(contract_words::proofs::SequenceSteps::knowing_steps))]
 fn push_packages<'a>(table: &Chunk<'a>, rows: &mut Vec<Row<'a>>) -> Result<(), TableFault>
-    ensures { Pushes OutOfMemory (rows_in rows.old.items) (rows_in rows.new.items) result (rows_of_packages (part table.now)) }
+    ensures { Pushes OutOfMemory (views_of rows.old.items) (views_of rows.new.items) result (rows_of_table_children (chunk_of table.now)) }
 {
     let mut packages = 0;
     for found in table.children() {
@@ -79,19 +79,19 @@ fn push_packages<'a>(table: &Chunk<'a>, rows: &mut Vec<Row<'a>>) -> Result<(), T
     Ok(())
 }
 
-// Pushes the rows of a chunk in a table, behind so many packages.
-#[tactic(auto, unfolding(crate::specs::Table::rows_in_table))]
+// Pushes the rows of a chunk in a table; `packages` packages stand before it.
+#[tactic(auto, unfolding(crate::specs::Table::rows_of_table_child))]
 fn push_child<'a>(
     found: Result<Chunk<'a>, ChunkFault>,
     packages: &mut usize,
     rows: &mut Vec<Row<'a>>,
 ) -> Result<(), TableFault>
     requires { packages.old < 2 ^ 60 }
-    ensures known { (before : List (Result Part ChunkFault)) → CountsPackages packages.old before
+    ensures known { (before : List (Result ChunkOf ChunkFault)) → CountsPackages packages.old before
         → OnOk result (CountsPackages packages.new (seen found.entry ∷ before)) }
     ensures one { packages.new ≤ packages.old + 1 }
-    ensures rows { (before : List (Result Part ChunkFault)) → CountsPackages packages.old before
-        → Pushes OutOfMemory (rows_in rows.old.items) (rows_in rows.new.items) result (rows_in_table (before, seen found.entry)) }
+    ensures rows { (before : List (Result ChunkOf ChunkFault)) → CountsPackages packages.old before
+        → Pushes OutOfMemory (views_of rows.old.items) (views_of rows.new.items) result (rows_of_table_child (before, seen found.entry)) }
 {
     let chunk = found?;
     if chunk.kind == kind::PACKAGE {

@@ -12,7 +12,8 @@ use chunk_walk::{Chunk, ChunkFault, u16_within, u32_within};
 use config_record::Record;
 use res_value::{Cell, ResId, Value};
 
-/// A type whose own fields are right, with the type spec that it belongs to (AOSP: `ResTable_type`).
+/// A type whose header was checked and whose offsets fit, with the type spec that it belongs to (AOSP:
+/// `ResTable_type`).
 #[derive(Clone, Copy, Debug)]
 pub(crate) struct TypeChunk<'a> {
     pub owner: Package,
@@ -22,6 +23,7 @@ pub(crate) struct TypeChunk<'a> {
     pub entry_count: u32,
     pub entries_start: u32,
     pub config: Record<'a>,
+    /// Four bytes for each entry.
     pub offsets: &'a [u8],
     pub whole: &'a [u8],
     ghost in_range: { place + length whole.now < 2 ^ 63 },
@@ -29,23 +31,23 @@ pub(crate) struct TypeChunk<'a> {
 }
 
 impl<'a> TypeChunk<'a> {
-    ghost use Rattle.chunk_walk.specs.Chunk.{Part, part};
+    ghost use Rattle.chunk_walk.specs.Chunk.{ChunkOf, chunk_of};
     ghost use Rattle.chunk_walk.specs.declared.chunk.ChunkFault.{ChunkFault};
     ghost use Rattle.type_chunks.specs.KnownSpecs.{Knows};
-    ghost use Rattle.type_chunks.specs.TypeChunk.{type_part, seen_type, type_of};
-    ghost use Rattle.type_chunks.specs.Entry.{entry_at, entry_rows, seen_entry};
+    ghost use Rattle.type_chunks.specs.TypeChunk.{type_of, seen_type, type_in};
+    ghost use Rattle.type_chunks.specs.Entry.{rows_of_entry_at, rows_of_entry, seen_entry};
 
-    /// The type that a chunk of its kind is, behind these type specs.
-    #[tactic(auto, unfolding(crate::specs::TypeChunk::type_of))]
+    /// Reads a type from its chunk; `specs` has the type specs before it.
+    #[tactic(auto, unfolding(crate::specs::TypeChunk::type_in))]
     pub fn read(
         owner: Package,
         specs: &KnownSpecs<'a>,
         chunk: &Chunk<'a>,
     ) -> Result<TypeChunk<'a>, TableFault>
-        ensures { (before : List (Result Part ChunkFault)) → Knows specs.now before → seen_type result ≡ type_of owner before (part chunk.now) }
+        ensures { (before : List (Result ChunkOf ChunkFault)) → Knows specs.now before → seen_type result ≡ type_in owner before (chunk_of chunk.now) }
     {
         let place = chunk.place;
-        if chunk.header.len() < header::SIZE {
+        if chunk.header.len() < header::LEAST_SIZE {
             return Err(TableFault::Chunk(ChunkFault::HeaderShort(place)));
         }
         let id = chunk.header[header::ID];
@@ -79,10 +81,10 @@ impl<'a> TypeChunk<'a> {
     }
 
     /// The row of an entry, where there is one.
-    #[tactic(auto, unfolding(crate::specs::Entry::entry_rows))]
+    #[tactic(auto, unfolding(crate::specs::Entry::rows_of_entry))]
     pub fn entry(&self, index: u32) -> Result<Option<Row<'a>>, TableFault>
         requires { index < self.now.entry_count }
-        ensures { seen_entry result ≡ entry_rows (type_part self.now) index }
+        ensures { seen_entry result ≡ rows_of_entry (type_of self.now) index }
     {
         let offset = u32_within(self.offsets, 4 * index as usize);
         if offset == header::NO_ENTRY {
@@ -92,21 +94,21 @@ impl<'a> TypeChunk<'a> {
     }
 
     // The row of the entry at a place from the chunk's start.
-    #[tactic(auto, unfolding(crate::specs::Entry::entry_at))]
+    #[tactic(auto, unfolding(crate::specs::Entry::rows_of_entry_at))]
     fn entry_at(&self, index: u32, at: usize) -> Result<Option<Row<'a>>, TableFault>
         requires { at < 2 ^ 33 }
-        ensures { seen_entry result ≡ entry_at (type_part self.now) index at }
+        ensures { seen_entry result ≡ rows_of_entry_at (type_of self.now) index at }
     {
         let whole = self.whole;
         let fault = TableFault::Entry(self.place + at);
-        if at % 4 != 0 || whole.len() < at + entry_header::SIZE {
+        if at % 4 != 0 || whole.len() < at + entry_header::LEAST_SIZE {
             return Err(fault);
         }
-        let size = u16_within(whole, at + entry_header::ENTRY_SIZE) as usize;
+        let size = u16_within(whole, at + entry_header::SIZE_FIELD) as usize;
         let flags = u16_within(whole, at + entry_header::FLAGS);
         let value = at + size;
         if flags & entry_header::FLAG_COMPLEX != 0
-            || size < entry_header::SIZE
+            || size < entry_header::LEAST_SIZE
             || whole.len() < value + Value::SIZE
         {
             return Err(fault);

@@ -6,26 +6,27 @@ use crate::fault::TableFault;
 use crate::layout::type_spec_header as header;
 use chunk_walk::{Chunk, ChunkFault, u32_within};
 
-/// A type spec whose own fields are right (AOSP: `ResTable_typeSpec`).
+/// A type spec whose header was checked and whose flags fit (AOSP: `ResTable_typeSpec`).
 #[derive(Clone, Copy, Debug)]
 pub(crate) struct TypeSpec<'a> {
     pub id: u8,
     pub entry_count: u32,
+    /// Four bytes for each entry.
     pub flags: &'a [u8],
     ghost flags_fit: { 4 * entry_count ≤ length flags.now },
 }
 
 impl<'a> TypeSpec<'a> {
-    ghost use Rattle.chunk_walk.specs.Chunk.{part};
+    ghost use Rattle.chunk_walk.specs.Chunk.{chunk_of};
     ghost use Rattle.chunk_walk.specs.Number.{number};
-    ghost use Rattle.type_chunks.specs.TypeSpec.{spec_part, seen_spec, type_spec_of};
+    ghost use Rattle.type_chunks.specs.TypeSpec.{spec_of, seen_spec, type_spec_in};
 
-    /// The type spec that a chunk of its kind is.
-    #[tactic(auto, unfolding(crate::specs::TypeSpec::type_spec_of))]
+    /// Reads a type spec from its chunk.
+    #[tactic(auto, unfolding(crate::specs::TypeSpec::type_spec_in))]
     pub fn read(chunk: &Chunk<'a>) -> Result<TypeSpec<'a>, TableFault>
-        ensures { seen_spec result ≡ type_spec_of (part chunk.now) }
+        ensures { seen_spec result ≡ type_spec_in (chunk_of chunk.now) }
     {
-        if chunk.header.len() < header::SIZE {
+        if chunk.header.len() < header::LEAST_SIZE {
             return Err(TableFault::Chunk(ChunkFault::HeaderShort(chunk.place)));
         }
         let id = chunk.header[header::ID];

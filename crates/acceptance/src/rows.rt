@@ -1,0 +1,75 @@
+//! The rows of a table, printed.
+
+use crate::table_a::{table_a, table_with};
+use resource_tool::{Status, rows_bytes};
+use std::test::Fail;
+use test_layers::layer;
+use type_chunks::{Table, TableFault};
+
+fn check_rows(rt: &HostRuntime, table: &[u8], want: &str) -> Result<(), Fail> {
+    let mut out = Vec::new(rt.alloc());
+    let status = rows_bytes(rt.alloc(), table, &mut out)?;
+    assert_eq!(rt; status, Status::Done);
+    assert_eq!(rt; out.as_slice(), want.as_bytes());
+    Ok(())
+}
+
+#[test]
+fn prints_an_empty_table(rt: HostRuntime) -> Result<(), Fail> {
+    let mut table = [0; 40];
+    table[..20].copy_from_slice(&[
+        2, 0, 12, 0, 40, 0, 0, 0, 0, 0, 0, 0, 1, 0, 28, 0, 28, 0, 0, 0,
+    ]);
+    check_rows(&rt, &table, "rows 0 set-aside 0\n")
+}
+
+#[test]
+fn prints_one_row(rt: HostRuntime) -> Result<(), Fail> {
+    let table = table_a(rt.alloc())?;
+    check_rows(&rt, &table, "row 0x7f010000 [] decimal 5\nrows 1 set-aside 0\n")
+}
+
+#[test]
+fn keeps_no_row_that_the_type_spec_does_not_count(rt: HostRuntime) -> Result<(), Fail> {
+    let table = table_with(rt.alloc(), 340, &[0])?;
+    check_rows(&rt, &table, "rows 0 set-aside 0\n")
+}
+
+#[test]
+fn prints_rows_in_the_order_of_the_file(rt: HostRuntime) -> Result<(), Fail> {
+    let table = layer(rt.alloc(), &["0 [density=160] 2", "0 [] 1"])?;
+    check_rows(
+        &rt,
+        &table,
+        "row 0x7f010000 [density=160] decimal 2\nrow 0x7f010000 [] decimal 1\nrows 2 set-aside 0\n",
+    )
+}
+
+#[test]
+fn counts_rows_that_are_set_aside(rt: HostRuntime) -> Result<(), Fail> {
+    let table = layer(rt.alloc(), &["0 [] 1", "0 [locale=sr,script=4c61746e] 2"])?;
+    check_rows(
+        &rt,
+        &table,
+        "row 0x7f010000 [] decimal 1\nrow 0x7f010000 [locale=sr,script=4c61746e] decimal 2\nrows 2 set-aside 1\n",
+    )
+}
+
+#[test]
+fn refuses_an_entry_with_a_bag(rt: HostRuntime) -> Result<(), Fail> {
+    let table = layer(rt.alloc(), &["0 [] bag"])?;
+    assert_eq!(rt; Table::open(rt.alloc(), &table).err(), Some(TableFault::Entry(424)));
+    Ok(())
+}
+
+#[test]
+fn gives_the_rows_of_an_id(rt: HostRuntime) -> Result<(), Fail> {
+    let bytes = layer(rt.alloc(), &["0 [] 1", "1 [] 2", "0 [sdk=21] 3"])?;
+    let table = Table::open(rt.alloc(), &bytes)?;
+    let mut ids = Vec::new(rt.alloc());
+    for row in table.rows(res_value::ResId(0x7f01_0000)) {
+        ids.push(row.id.0)?;
+    }
+    assert_eq!(rt; ids.as_slice(), [0x7f01_0000, 0x7f01_0000].as_slice());
+    Ok(())
+}

@@ -1,0 +1,122 @@
+//! A table of rows.
+
+use crate::bytes::{push_chunk, push_u32};
+use crate::cell::Cell;
+use crate::qualifier::record_of;
+use std::alloc::{AllocError, AllocFailed, Global};
+
+const STRING_POOL: u16 = 0x0001;
+const TABLE: u16 = 0x0002;
+const PACKAGE: u16 = 0x0200;
+const TYPE: u16 = 0x0201;
+const TYPE_SPEC: u16 = 0x0202;
+
+/// The sizes of headers, without the eight bytes that each chunk begins with.
+const STRING_POOL_HEADER: usize = 20;
+const PACKAGE_HEADER: usize = 280;
+
+const PACKAGE_ID: u8 = 0x7f;
+const TYPE_ID: u8 = 1;
+const NO_ENTRY: u32 = 0xffff_ffff;
+
+/// Why no table was made.
+#[derive(Clone, Copy, Debug, PartialEq, Eq)]
+pub enum LayerFault {
+    /// A line is no row.
+    Malformed,
+    OutOfMemory,
+}
+
+impl From<AllocError> for LayerFault {
+    fn from(_error: AllocError) -> LayerFault {
+        LayerFault::OutOfMemory
+    }
+}
+
+impl<T: Drop> From<AllocFailed<T>> for LayerFault {
+    fn from(_error: AllocFailed<T>) -> LayerFault {
+        LayerFault::OutOfMemory
+    }
+}
+
+/// A row as it is written.
+#[derive(Clone, Copy, Debug)]
+struct TestRow<'a> {
+    entry: u16,
+    qualifiers: &'a str,
+    cell: Cell,
+}
+
+fn row_of(line: &str) -> Option<TestRow<'_>> {
+    let (entry, rest) = line.split_once(" [")?;
+    let (qualifiers, cell) = rest.split_once("] ")?;
+    Some(TestRow {
+        entry: entry.parse().ok()?,
+        qualifiers,
+        cell: Cell::read(cell)?,
+    })
+}
+
+/// The bytes of a table that has these rows.
+pub fn layer(alloc: Global, rows: &[&str]) -> Result<Vec<u8>, LayerFault> {
+    let mut count = 0;
+    for line in rows {
+        let row = row_of(line).ok_or(LayerFault::Malformed)?;
+        count = count.max(u32::from(row.entry).saturating_add(1));
+    }
+    let mut chunks = Vec::new(alloc);
+    push_type_spec(alloc, &mut chunks, count)?;
+    for line in rows {
+        let row = row_of(line).ok_or(LayerFault::Malformed)?;
+        push_type(alloc, &mut chunks, row, count)?;
+    }
+    table_of(alloc, &chunks)
+}
+
+// A table of one package, in which these chunks stand.
+fn table_of(alloc: Global, chunks: &[u8]) -> Result<Vec<u8>, LayerFault> {
+    let mut package_header = [0; PACKAGE_HEADER];
+    package_header[0] = PACKAGE_ID;
+    let mut children = Vec::new(alloc);
+    push_chunk(&mut children, STRING_POOL, &[0; STRING_POOL_HEADER], b"")?;
+    push_chunk(&mut children, PACKAGE, &package_header, chunks)?;
+    let mut table = Vec::new(alloc);
+    push_chunk(&mut table, TABLE, &1_u32.to_le_bytes(), &children)?;
+    Ok(table)
+}
+
+// The type spec, with no flags for each entry.
+fn push_type_spec(alloc: Global, chunks: &mut Vec<u8>, count: u32) -> Result<(), LayerFault> {
+    let mut header = Vec::new(alloc);
+    header.extend_from_slice(&[TYPE_ID, 0, 0, 0])?;
+    push_u32(&mut header, count)?;
+    let mut flags = Vec::new(alloc);
+    for _ in 0..count {
+        push_u32(&mut flags, 0)?;
+    }
+    push_chunk(chunks, TYPE_SPEC, &header, &flags)?;
+    Ok(())
+}
+
+// The type chunk of a row.
+fn push_type(
+    alloc: Global,
+    chunks: &mut Vec<u8>,
+    row: TestRow<'_>,
+    count: u32,
+) -> Result<(), LayerFault> {
+    let record = record_of(row.qualifiers).ok_or(LayerFault::Malformed)?;
+    let mut header = Vec::new(alloc);
+    header.extend_from_slice(&[TYPE_ID, 0, 0, 0])?;
+    push_u32(&mut header, count)?;
+    push_u32(&mut header, count.saturating_mul(4).saturating_add(72))?;
+    header.extend_from_slice(&record)?;
+    let mut body = Vec::new(alloc);
+    for index in 0..count {
+        let offset = if index == u32::from(row.entry) { 0 } else { NO_ENTRY };
+        push_u32(&mut body, offset)?;
+    }
+    body.extend_from_slice(&row.cell.entry(alloc)?)?;
+    push_chunk(chunks, TYPE, &header, &body)?;
+    Ok(())
+}
