@@ -1,0 +1,5 @@
+pub mod Word
+pub mod ResId
+pub mod Value
+pub mod Complex
+pub mod ValueText

@@ -1,2 +1,27 @@
-//! res_value
+//! Resource ids and the values of resources: read from a table or a text, and shown.
+//!
+//! For the crates above: the id that a text spells, the value that eight bytes hold, and the one
+//! text of each, as `specs/` define them.
+//!
+//! ```text
+//! let id = ResId::of(0x7f, 0x03, 1);
+//! write_id(id, &mut out)?; // 0x7f030001
+//! if let Some(value) = Value::read(&entry[8..]) {
+//!     write_value(value, &mut out)?; // dimension 16/2^0 dp
+//! }
+//! ```
 #![tactic(auto)]
+
+mod cell;
+mod complex;
+pub mod kind;
+mod res_id;
+mod value;
+mod value_text;
+mod word;
+
+pub use cell::Cell;
+pub use res_id::{ResId, write_id};
+pub use value::Value;
+pub use value_text::write_value;
+pub use word::write_word;

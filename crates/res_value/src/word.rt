@@ -1,0 +1,26 @@
+//! Words of 32 bits as text.
+
+ghost use Rattle.std.specs.Prelude.{◌++◌, OnOk};
+ghost use Rattle.std.specs.Io.KnownBytes.{Appends};
+ghost use Rattle.res_value.specs.Word.{eight_digits, word_text};
+
+use hex_text::write_hex;
+use std::io::{self, Write};
+
+/// Writes a word or flags as `0x` and eight small hexadecimal digits.
+#[tactic(auto, unfolding(crate::specs::Word::word_text))]
+pub fn write_word<W: Write + Drop>(word: u32, out: &mut W) -> io::Result<()>
+    ensures { OnOk result (Appends (W.contents out.old) (W.contents out.new) (word_text word)) }
+{
+    write_digits("0x", word, out)
+}
+
+/// Writes what stands before a word, and then the word's eight digits.
+#[tactic(auto, unfolding(crate::specs::Word::eight_digits))]
+pub(crate) fn write_digits<W: Write + Drop>(before: &str, word: u32, out: &mut W) -> io::Result<()>
+    ensures { OnOk result (Appends (W.contents out.old) (W.contents out.new)
+        (before.now ++ eight_digits word)) }
+{
+    out.write_all(before.as_bytes())?;
+    write_hex(&word.to_be_bytes(), out)
+}
