@@ -16,7 +16,10 @@ fn names_the_first_fault(rt: HostRuntime) {
         assert_eq!(rt; chunk_at(&bytes, 0, 8).err(), Some(want), "at {header:?}");
     }
     let short = [0; 7];
-    assert_eq!(rt; chunk_at(&short, 0, 8).err(), Some(ChunkFault::Truncated(0)));
+    assert_eq!(rt;
+        chunk_at(&short, 0, 8).err(),
+        Some(ChunkFault::Truncated(0))
+    );
 }
 
 #[test]

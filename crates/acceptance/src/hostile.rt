@@ -22,11 +22,19 @@ fn names_the_first_fault(rt: HostRuntime) -> Result<(), Fail> {
         (400, &[4], TableFault::Entry(400)),
         (402, &[1], TableFault::Entry(400)),
         (356, &[2], TableFault::TypeWithoutSpec(348)),
-        (42, &[0x18, 1], TableFault::Chunk(ChunkFault::HeaderShort(40))),
+        (
+            42,
+            &[0x18, 1],
+            TableFault::Chunk(ChunkFault::HeaderShort(40)),
+        ),
     ];
     for (at, piece, want) in cases {
         let bytes = table_with(rt.alloc(), at, piece)?;
-        assert_eq!(rt; Table::open(rt.alloc(), &bytes).err(), Some(want), "at {at}");
+        assert_eq!(rt;
+            Table::open(rt.alloc(), &bytes).err(),
+            Some(want),
+            "at {at}"
+        );
     }
     Ok(())
 }

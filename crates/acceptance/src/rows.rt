@@ -2,11 +2,12 @@
 
 use crate::table_a::{table_a, table_with};
 use resource_tool::{Status, rows_bytes};
+use std::process::Abort;
 use std::test::Fail;
 use test_layers::layer;
 use type_chunks::{Table, TableFault};
 
-fn check_rows(rt: &HostRuntime, table: &[u8], want: &str) -> Result<(), Fail> {
+fn check_rows<R: Abort + AllocGlobal>(rt: &R, table: &[u8], want: &str) -> Result<(), Fail> {
     let mut out = Vec::new(rt.alloc());
     let status = rows_bytes(rt.alloc(), table, &mut out)?;
     assert_eq!(rt; status, Status::Done);
@@ -26,7 +27,11 @@ fn prints_an_empty_table(rt: HostRuntime) -> Result<(), Fail> {
 #[test]
 fn prints_one_row(rt: HostRuntime) -> Result<(), Fail> {
     let table = table_a(rt.alloc())?;
-    check_rows(&rt, &table, "row 0x7f010000 [] decimal 5\nrows 1 set-aside 0\n")
+    check_rows(
+        &rt,
+        &table,
+        "row 0x7f010000 [] decimal 5\nrows 1 set-aside 0\n",
+    )
 }
 
 #[test]
@@ -58,7 +63,10 @@ fn counts_rows_that_are_set_aside(rt: HostRuntime) -> Result<(), Fail> {
 #[test]
 fn refuses_an_entry_with_a_bag(rt: HostRuntime) -> Result<(), Fail> {
     let table = layer(rt.alloc(), &["0 [] bag"])?;
-    assert_eq!(rt; Table::open(rt.alloc(), &table).err(), Some(TableFault::Entry(424)));
+    assert_eq!(rt;
+        Table::open(rt.alloc(), &table).err(),
+        Some(TableFault::Entry(424))
+    );
     Ok(())
 }
 

@@ -1,0 +1,4 @@
+pub mod Input
+pub mod FaultText
+pub mod Output
+pub mod RowsText

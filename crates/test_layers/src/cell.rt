@@ -12,7 +12,9 @@ pub enum Cell {
 }
 
 const REFERENCE: u8 = 1;
+
 const ATTRIBUTE: u8 = 2;
+
 const DECIMAL: u8 = 0x10;
 
 impl Cell {

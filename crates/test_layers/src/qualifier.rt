@@ -43,7 +43,9 @@ const FIELDS: [(&str, Field); 24] = [
 
 /// Where language and region, the script and the variant begin.
 const LOCALE: usize = 8;
+
 const SCRIPT: usize = 36;
+
 const VARIANT: usize = 40;
 
 /// The record of these qualifiers, as `density=160,locale=fr`; None where one is not known.

@@ -6,17 +6,24 @@ use crate::qualifier::record_of;
 use std::alloc::{AllocError, AllocFailed, Global};
 
 const STRING_POOL: u16 = 0x0001;
+
 const TABLE: u16 = 0x0002;
+
 const PACKAGE: u16 = 0x0200;
+
 const TYPE: u16 = 0x0201;
+
 const TYPE_SPEC: u16 = 0x0202;
 
 /// The sizes of headers, without the eight bytes that each chunk begins with.
 const STRING_POOL_HEADER: usize = 20;
+
 const PACKAGE_HEADER: usize = 280;
 
 const PACKAGE_ID: u8 = 0x7f;
+
 const TYPE_ID: u8 = 1;
+
 const NO_ENTRY: u32 = 0xffff_ffff;
 
 /// Why no table was made.
@@ -113,7 +120,11 @@ fn push_type(
     header.extend_from_slice(&record)?;
     let mut body = Vec::new(alloc);
     for index in 0..count {
-        let offset = if index == u32::from(row.entry) { 0 } else { NO_ENTRY };
+        let offset = if index == u32::from(row.entry) {
+            0
+        } else {
+            NO_ENTRY
+        };
         push_u32(&mut body, offset)?;
     }
     body.extend_from_slice(&row.cell.entry(alloc)?)?;

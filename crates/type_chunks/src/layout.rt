@@ -3,8 +3,11 @@
 /// The kinds of chunks (AOSP: `RES_TABLE_TYPE` and its like).
 pub(crate) mod kind {
     pub const TABLE: u16 = 0x0002;
+
     pub const PACKAGE: u16 = 0x0200;
+
     pub const TYPE: u16 = 0x0201;
+
     pub const TYPE_SPEC: u16 = 0x0202;
 }
 
@@ -24,16 +27,22 @@ pub(crate) mod package_header {
 /// The header of a type spec (AOSP: `ResTable_typeSpec`).
 pub(crate) mod type_spec_header {
     pub const ID: usize = 8;
+
     pub const ENTRY_COUNT: usize = 12;
+
     pub const LEAST_SIZE: usize = 16;
 }
 
 /// The header of a type (AOSP: `ResTable_type`), which ends with its configuration.
 pub(crate) mod type_header {
     pub const ID: usize = 8;
+
     pub const FLAGS: usize = 9;
+
     pub const ENTRY_COUNT: usize = 12;
+
     pub const ENTRIES_START: usize = 16;
+
     pub const CONFIG: usize = 20;
 
     /// With the size field of the configuration.
@@ -49,8 +58,11 @@ pub(crate) mod type_header {
 /// An entry (AOSP: `ResTable_entry`).
 pub(crate) mod entry_header {
     pub const SIZE_FIELD: usize = 0;
+
     pub const FLAGS: usize = 2;
+
     pub const KEY: usize = 4;
+
     pub const LEAST_SIZE: usize = 8;
 
     /// The bit of the flags that says that a bag follows.

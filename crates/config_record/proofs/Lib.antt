@@ -1,0 +1,3 @@
+pub mod SeparatorSteps
+pub mod QualifierLemmas
+pub mod LocaleLemmas

@@ -1,0 +1,165 @@
+-- What a text of a locale stands for is printed as that text.
+use Rattle.std.proofs.Common.{◌≡◌, ℕ, ◌+◌, ◌-◌, ◌*◌, ◌/◌, ◌%◌, ◌<◌, ◌≤◌, Bool, true, false, ◌&&◌, ◌||◌, cond, List, [], ◌∷◌, ◌++◌, length, get_or, take, drop, position, ◌==◌, Option, Some, None, Result, Ok, Err, IfOk, is_some, unwrap_or, not, refl, sym, ap, subst, ◌∙◌, arith}
+use Rattle.std.proofs.lemmas.List.{append-nil, drop_more, take-append-drop}
+use Rattle.std.proofs.lemmas.List.Quantifiers.{position-Some}
+use Rattle.std.proofs.lemmas.Bool.{eqb-true, leb-true, le-ltb, lt-ltb}
+use Rattle.std.proofs.lemmas.Bool.Decides.{nat_tests}
+use Rattle.std.proofs.Math.Dec.{eqb-suc-zero}
+use Rattle.contract_words.specs.Faults.{checked_by}
+use Rattle.config_record.specs.declared.locale.Locale.{Locale}
+use Rattle.config_record.specs.declared.locale.LocaleFault.{LocaleFault}
+use Rattle.config_record.specs.declared.locale.LocaleFault.TheVariants.{RegionAlone, Malformed}
+use Rattle.config_record.specs.Zero.{is_zero}
+use Rattle.config_record.specs.Locale.{is_small_letter, is_capital_letter, is_digit, packed, language_of, region_of, no_part, unpacked, without_region, with_region, cut_at, locale_of, locale_text}
+
+both : (a b : Bool) → (a && b) ≡ true → (a ≡ true) × (b ≡ true)
+both true b e = (refl, e)
+both false b e = absurd cc
+
+some_if : {X : Type 0} (b : Bool) (x y : X) → cond b (Some x) None ≡ Some y → (b ≡ true) × (x ≡ y)
+some_if true x y e = (refl, cc)
+some_if false x y e = absurd cc
+
+small : (b : ℕ) → is_small_letter b ≡ true → (97 ≤ b) × (b ≤ 122)
+small b h = let r = both _ _ h in (leb-true 97 b r.0, leb-true b 122 r.1)
+
+capital : (b : ℕ) → is_capital_letter b ≡ true → (65 ≤ b) × (b ≤ 90)
+capital b h = let r = both _ _ h in (leb-true 65 b r.0, leb-true b 90 r.1)
+
+digit : (b : ℕ) → is_digit b ≡ true → (48 ≤ b) × (b ≤ 57)
+digit b h = let r = both _ _ h in (leb-true 48 b r.0, leb-true b 57 r.1)
+
+-- three symbols that are packed and unpacked
+first_back : (y x : ℕ) → x < 32 → (y % 8 * 32 + x) % 32 ≡ x
+first_back y x h = omega arith
+
+second_back : (x y z : ℕ) → x < 32 → y < 32 → (y % 8 * 32 + x) / 32 + (128 + 4 * z + y / 8) % 4 * 8 ≡ y
+second_back x y z h k = omega arith
+
+third_back : (y z : ℕ) → y < 32 → z < 32 → (128 + 4 * z + y / 8) / 4 % 32 ≡ z
+third_back y z h k = omega arith
+
+unpacked-packed : (base a b c : ℕ) → base ≤ a → a < base + 32 → base ≤ b → b < base + 32 → base ≤ c → c < base + 32 → unpacked base (packed base a b c) ≡ a ∷ b ∷ c ∷ []
+unpacked-packed base a b c al ah bl bh cl ch =
+    let high : 128 ≤ 128 + 4 * (c - base) + (b - base) / 8 = omega arith in
+    let first : base + ((b - base) % 8 * 32 + (a - base)) % 32 ≡ a = omega (arith, first_back (b - base) (a - base) (omega arith)) in
+    let second : base + (((b - base) % 8 * 32 + (a - base)) / 32 + (128 + 4 * (c - base) + (b - base) / 8) % 4 * 8) ≡ b =
+    omega (arith, second_back (a - base) (b - base) (c - base) (omega arith) (omega arith)) in
+    let third : base + (128 + 4 * (c - base) + (b - base) / 8) / 4 % 32 ≡ c = omega (arith, third_back (b - base) (c - base) (omega arith) (omega arith)) in
+    rw (le-ltb (128 + 4 * (c - base) + (b - base) / 8) 128 high) (cc)
+
+is_zero-positive : (b : ℕ) (bytes : List ℕ) → 0 < b → is_zero (b ∷ bytes) ≡ false
+is_zero-positive b bytes h = grind (arith, nat_tests)
+
+-- a part of a locale that stands for a text
+pub record StandsFor (base : ℕ) (part text : List ℕ) : Type 0 where
+  pub not_zero : is_zero part ≡ false
+  pub symbols : unpacked base part ≡ text
+
+two_stand : (base a b : ℕ) (part : List ℕ) → 0 < a → a < 128 → a ∷ b ∷ [] ≡ part → StandsFor base part (a ∷ b ∷ [])
+two_stand base a b part low high same =
+    subst (λ (p : List ℕ). StandsFor base p (a ∷ b ∷ [])) same
+    (record { not_zero = is_zero-positive a (b ∷ []) low; symbols = rw (lt-ltb a 128 high) refl })
+
+three_stand : (base a b c : ℕ) (part : List ℕ) → base ≤ a → a < base + 32 → base ≤ b → b < base + 32 → base ≤ c → c < base + 32 → packed base a b c ≡ part → StandsFor base part (a ∷ b ∷ c ∷ [])
+three_stand base a b c part al ah bl bh cl ch same =
+    subst (λ (p : List ℕ). StandsFor base p (a ∷ b ∷ c ∷ [])) same
+    (record { not_zero = is_zero-positive (128 + 4 * (c - base) + (b - base) / 8) (((b - base) % 8 * 32 + (a - base)) ∷ []) (omega arith); symbols = unpacked-packed base a b c al ah bl bh cl ch })
+
+language_of-stands : (text part : List ℕ) → language_of text ≡ Some part → StandsFor 97 part text
+language_of-stands [] part e = absurd cc
+language_of-stands (a ∷ []) part e = absurd cc
+language_of-stands (a ∷ b ∷ []) part e =
+    let r = some_if _ (a ∷ b ∷ []) part e in
+    let s = both _ _ r.0 in
+    let first = small a s.0 in
+    two_stand 97 a b part (omega arith) (omega arith) r.1
+language_of-stands (a ∷ b ∷ c ∷ []) part e =
+    let r = some_if _ (packed 97 a b c) part e in
+    let s = both _ _ r.0 in
+    let t = both _ _ s.0 in
+    let first = small a t.0 in
+    let second = small b t.1 in
+    let third = small c s.1 in
+    three_stand 97 a b c part first.0 (omega arith) second.0 (omega arith) third.0 (omega arith) r.1
+language_of-stands (a ∷ b ∷ c ∷ d ∷ text) part e = absurd cc
+
+region_of-stands : (text part : List ℕ) → region_of text ≡ Some part → StandsFor 48 part text
+region_of-stands [] part e = absurd cc
+region_of-stands (a ∷ []) part e = absurd cc
+region_of-stands (a ∷ b ∷ []) part e =
+    let r = some_if _ (a ∷ b ∷ []) part e in
+    let s = both _ _ r.0 in
+    let first = capital a s.0 in
+    two_stand 48 a b part (omega arith) (omega arith) r.1
+region_of-stands (a ∷ b ∷ c ∷ []) part e =
+    let r = some_if _ (packed 48 a b c) part e in
+    let s = both _ _ r.0 in
+    let t = both _ _ s.0 in
+    let first = digit a t.0 in
+    let second = digit b t.1 in
+    let third = digit c s.1 in
+    three_stand 48 a b c part first.0 (omega arith) second.0 (omega arith) third.0 (omega arith) r.1
+region_of-stands (a ∷ b ∷ c ∷ d ∷ text) part e = absurd cc
+
+-- ---- a whole locale
+
+locale_text-both : (l : Locale) (before after : List ℕ) → language_of before ≡ Some l.language → region_of after ≡ Some l.region → locale_text l ≡ before ++ 45 ∷ after
+unfolding locale_text
+locale_text-both l before after e f =
+    let language = language_of-stands before l.language e in
+    let region = region_of-stands after l.region f in
+    rw (language.not_zero, language.symbols, region.not_zero, region.symbols, e, f) refl
+
+locale_text-language : (l : Locale) (text : List ℕ) → language_of text ≡ Some l.language → l.region ≡ no_part → locale_text l ≡ text
+unfolding locale_text
+locale_text-language l text e none =
+    let language = language_of-stands text l.language e in
+    rw (language.not_zero, language.symbols, none, e) (append-nil text)
+
+dash_between : (text : List ℕ) (dash : ℕ) → position (λ b. b == 45) text ≡ Some dash → take dash text ++ 45 ∷ drop (dash + 1) text ≡ text
+dash_between text dash e =
+    let at = position-Some (λ b. b == 45) text dash 0 e in
+    let byte : get_or text dash 0 ≡ 45 = eqb-true (get_or text dash 0) 45 at.1 in
+    let rest : drop dash text ≡ 45 ∷ drop (dash + 1) text = drop_more text dash 0 at.0 ∙ ap (λ (b : ℕ). b ∷ drop (dash + 1) text) byte in
+    ap (λ (t : List ℕ). take dash text ++ t) (sym rest) ∙ take-append-drop dash text
+
+same_locale : (language region : List ℕ) (l : Locale) → ◌≡◌ {A = Result Locale LocaleFault} (Ok (record { language = language; region = region })) (Ok l) → (language ≡ l.language) × (region ≡ l.region)
+same_locale language region l e =
+    let made : Locale = record { language = language; region = region } in
+    let same : made ≡ l = cc in
+    (ap (λ (m : Locale). m.language) same, ap (λ (m : Locale). m.region) same)
+
+without_region-text : (text : List ℕ) (l : Locale) → without_region text ≡ Ok l → locale_text l ≡ text
+unfolding locale_text
+without_region-text [] l e = let same = same_locale no_part no_part l e in rw (← same.0, ← same.1) refl
+without_region-text (b ∷ bytes) l e = alone (language_of (b ∷ bytes)) refl (rw (eqb-suc-zero (length bytes)) at e)
+  where
+    alone : (o : Option (List ℕ)) → language_of (b ∷ bytes) ≡ o → checked_by ((not (is_some o), Malformed) ∷ []) (Ok (record { language = unwrap_or o no_part; region = no_part })) ≡ Ok l
+        → locale_text l ≡ b ∷ bytes
+    alone None read f = absurd cc
+    alone (Some part) read f = let same = same_locale part no_part l f in locale_text-language l (b ∷ bytes) (rw (← same.0) read) (sym same.1)
+
+with_region-text : (before after : List ℕ) (l : Locale) → with_region before after ≡ Ok l → locale_text l ≡ before ++ 45 ∷ after
+with_region-text before after l e = parts (region_of after) (length before == 0) (language_of before) refl refl e
+  where
+    parts : (r : Option (List ℕ)) (none : Bool) (o : Option (List ℕ)) → region_of after ≡ r → language_of before ≡ o
+        → checked_by ((not (is_some r), Malformed) ∷ (none, RegionAlone) ∷ (not (is_some o), Malformed) ∷ []) (Ok (record { language = unwrap_or o no_part; region = unwrap_or r no_part })) ≡ Ok l
+        → locale_text l ≡ before ++ 45 ∷ after
+    parts None none o read_region read_language f = absurd cc
+    parts (Some region) true o read_region read_language f = absurd cc
+    parts (Some region) false None read_region read_language f = absurd cc
+    parts (Some region) false (Some part) read_region read_language f =
+        let same = same_locale part region l f in
+        locale_text-both l before after (rw (← same.0) read_language) (rw (← same.1) read_region)
+
+locale_of-text : (text : List ℕ) (l : Locale) → locale_of text ≡ Ok l → locale_text l ≡ text
+locale_of-text text l e = at (position (λ b. b == 45) text) refl e
+  where
+    at : (o : Option ℕ) → position (λ b. b == 45) text ≡ o → cut_at text o ≡ Ok l → locale_text l ≡ text
+    at None p e = without_region-text text l e
+    at (Some dash) p e = with_region-text (take dash text) (drop (dash + 1) text) l e ∙ dash_between text dash p
+
+pub printed_back : (text : List ℕ) (r : Result Locale LocaleFault) → r ≡ locale_of text → IfOk r (λ l. locale_text l ≡ text)
+printed_back text (Ok l) e = locale_of-text text l (sym e)
+printed_back text (Err fault) e = tt

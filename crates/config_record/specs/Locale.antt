@@ -1,0 +1,104 @@
+-- Locales: their texts, and the four bytes that these stand for.
+use Rattle.std.specs.Prelude.{ℕ, ◌+◌, ◌-◌, ◌*◌, ◌/◌, ◌%◌, ◌==◌, ◌&&◌, ◌||◌, not, nat_le, nat_lt, Bool, if◌then◌else◌, List, [], ◌∷◌, ◌++◌, length, take, drop, position, slice_index, codes, Option, Some, None, is_some, unwrap_or, Result, Ok, Err}
+use Rattle.hex.specs.Hex.{encode_lower}
+use Rattle.contract_words.specs.Faults.{checked_by}
+use Rattle.config_record.specs.declared.locale.Locale.{Locale}
+use Rattle.config_record.specs.declared.locale.LocaleFault.{LocaleFault}
+use Rattle.config_record.specs.declared.locale.LocaleFault.TheVariants.{RegionAlone, Malformed}
+use Rattle.config_record.specs.declared.locale.Symbols.{Symbols}
+use Rattle.config_record.specs.declared.locale.Symbols.TheVariants.{Two, Three}
+use Rattle.config_record.specs.Zero.{is_zero}
+
+abbrev pub is_small_letter : ℕ → Bool
+is_small_letter b = nat_le 97 b && nat_le b 122
+
+abbrev pub is_capital_letter : ℕ → Bool
+is_capital_letter b = nat_le 65 b && nat_le b 90
+
+abbrev pub is_digit : ℕ → Bool
+is_digit b = nat_le 48 b && nat_le b 57
+
+-- ---- the two bytes of a language or a region
+
+-- Three symbols, each five bits, counted from a base (AOSP: packLanguageOrRegion). From bit 15 on: a
+-- set bit, the third, the second, the first.
+abbrev pub packed : ℕ → ℕ → ℕ → ℕ → List ℕ
+packed base a b c = (128 + 4 * (c - base) + (b - base) / 8) ∷ ((b - base) % 8 * 32 + (a - base)) ∷ []
+
+-- a language is two or three small letters
+abbrev pub language_of : List ℕ → Option (List ℕ)
+language_of (a ∷ b ∷ []) = if is_small_letter a && is_small_letter b then Some (a ∷ b ∷ []) else None
+language_of (a ∷ b ∷ c ∷ []) = if is_small_letter a && is_small_letter b && is_small_letter c then Some (packed 97 a b c) else None
+language_of _ = None
+
+-- a region is two capital letters or three digits
+abbrev pub region_of : List ℕ → Option (List ℕ)
+region_of (a ∷ b ∷ []) = if is_capital_letter a && is_capital_letter b then Some (a ∷ b ∷ []) else None
+region_of (a ∷ b ∷ c ∷ []) = if is_digit a && is_digit b && is_digit c then Some (packed 48 a b c) else None
+region_of _ = None
+
+-- where there is none
+abbrev pub no_part : List ℕ
+no_part = 0 ∷ 0 ∷ []
+
+-- ---- the locale of a text: a language, and a region behind a dash, or nothing at all
+
+abbrev pub without_region : List ℕ → Result Locale LocaleFault
+without_region text =
+    checked_by ((not (length text == 0 || is_some (language_of text)), Malformed) ∷ [])
+    (Ok (record { language = unwrap_or (language_of text) no_part; region = no_part }))
+
+-- what can be wrong with a language and a region, in the order of the checks
+abbrev pub with_region_faults : List ℕ → List ℕ → List (Bool × LocaleFault)
+with_region_faults language region =
+    (not (is_some (region_of region)), Malformed)
+    ∷ (length language == 0, RegionAlone)
+    ∷ (not (is_some (language_of language)), Malformed)
+    ∷ []
+
+abbrev pub with_region : List ℕ → List ℕ → Result Locale LocaleFault
+with_region language region =
+    checked_by (with_region_faults language region)
+    (Ok (record { language = unwrap_or (language_of language) no_part; region = unwrap_or (region_of region) no_part }))
+
+-- cut at the first dash
+abbrev pub cut_at : List ℕ → Option ℕ → Result Locale LocaleFault
+cut_at text None = without_region text
+cut_at text (Some dash) = with_region (take dash text) (drop (dash + 1) text)
+
+abbrev pub locale_of : List ℕ → Result Locale LocaleFault
+locale_of text = cut_at text (position (λ b. b == 45) text)
+
+-- ---- the text of a locale
+
+abbrev pub symbol_bytes : Symbols → List ℕ
+symbol_bytes (Two bytes) = bytes
+symbol_bytes (Three bytes) = bytes
+
+-- The letters or digits in two bytes (AOSP: unpackLanguageOrRegion): the bytes themselves, or three that
+-- are packed where bit 7 of the first byte is set.
+abbrev pub unpacked : ℕ → List ℕ → List ℕ
+unpacked base part =
+    let b0 = slice_index part 0 in
+    let b1 = slice_index part 1 in
+    if nat_lt b0 128 then b0 ∷ b1 ∷ []
+    else (base + b1 % 32) ∷ (base + (b1 / 32 + b0 % 4 * 8)) ∷ (base + b0 / 4 % 32) ∷ []
+
+-- each part that is there is what a text of the grammar stands for
+abbrev pub is_spelled : Locale → Bool
+is_spelled l =
+    (is_zero l.language || is_some (language_of (unpacked 97 l.language)))
+    && (is_zero l.region || is_some (region_of (unpacked 48 l.region)))
+
+abbrev pub language_text : List ℕ → List ℕ
+language_text language = if is_zero language then [] else unpacked 97 language
+
+-- a region stands behind a dash, also where it is alone
+abbrev pub region_text : List ℕ → List ℕ
+region_text region = if is_zero region then [] else 45 ∷ unpacked 48 region
+
+-- where a part is not of the grammar, the digits of all four bytes
+unfoldable pub locale_text : Locale → List ℕ
+locale_text l =
+    if is_spelled l then language_text l.language ++ region_text l.region
+    else codes "x" ++ encode_lower l.language ++ encode_lower l.region

@@ -1,0 +1,215 @@
+//! Locales, read from texts and written as texts.
+
+ghost use Rattle.std.specs.Prelude.{◌≡◌, ◌<◌, ◌≤◌, ◌+◌, ◌==◌, position, OnOk, IfOk};
+ghost use Rattle.std.specs.Io.KnownBytes.{Appends};
+ghost use Rattle.config_record.specs.Locale.{is_small_letter, is_capital_letter, is_digit, packed, language_of, region_of, without_region, with_region, locale_of, symbol_bytes, unpacked, is_spelled, locale_text};
+
+use crate::zero::is_zero;
+use hex_text::write_hex;
+use std::io::{self, Write};
+use thiserror::Error;
+
+/// Why a text is no locale.
+#[derive(Clone, Copy, Debug, PartialEq, Eq, Error)]
+pub enum LocaleFault {
+    /// A dash and a region, without a language.
+    #[error("RegionAlone")]
+    RegionAlone,
+    /// Any other text.
+    #[error("Malformed")]
+    Malformed,
+}
+
+/// A language and a region, each as the two bytes that a record has (AOSP: `language` and `country`
+/// of `ResTable_config`). Where both bytes are zero there is none.
+#[derive(Clone, Copy, Debug, PartialEq, Eq)]
+pub struct Locale {
+    pub language: [u8; 2],
+    pub region: [u8; 2],
+}
+
+const NO_PART: [u8; 2] = [0, 0];
+
+/// Bit 7 of the first byte says that the two bytes hold three letters or digits, of five bits each.
+const PACKED: u8 = 0x80;
+
+impl Locale {
+    /// No language and no region.
+    pub const NONE: Locale = Locale {
+        language: [0, 0],
+        region: [0, 0],
+    };
+
+    /// The locale of a text: of `""`, of two or three small letters, or of these, a dash, and two
+    /// capital letters or three digits.
+    pub fn read(text: &str) -> Result<Locale, LocaleFault>
+        ensures value { result ≡ locale_of text.now }
+        ensures printed_back { IfOk result (λ locale. locale_text locale ≡ text.now) }
+    {
+        locale_of(text.as_bytes())
+    }
+}
+
+// ---- from a text
+
+fn locale_of(text: &[u8]) -> Result<Locale, LocaleFault>
+    ensures { result ≡ locale_of text.now }
+{
+    match dash(text) {
+        Some(dash) => with_region(&text[..dash], &text[dash + 1..]),
+        None => without_region(text),
+    }
+}
+
+fn dash(text: &[u8]) -> Option<usize>
+    ensures { result ≡ position (λ b. b == 45) text.now }
+{
+    text.iter().position(|byte| *byte == b'-')
+}
+
+fn without_region(text: &[u8]) -> Result<Locale, LocaleFault>
+    ensures { result ≡ without_region text.now }
+{
+    if text.is_empty() {
+        return Ok(Locale::NONE);
+    }
+    match language(text) {
+        Some(language) => Ok(Locale {
+            language,
+            region: NO_PART,
+        }),
+        None => Err(LocaleFault::Malformed),
+    }
+}
+
+fn with_region(before: &[u8], after: &[u8]) -> Result<Locale, LocaleFault>
+    ensures { result ≡ with_region before.now after.now }
+{
+    let Some(region) = region(after) else {
+        return Err(LocaleFault::Malformed);
+    };
+    if before.is_empty() {
+        return Err(LocaleFault::RegionAlone);
+    }
+    match language(before) {
+        Some(language) => Ok(Locale { language, region }),
+        None => Err(LocaleFault::Malformed),
+    }
+}
+
+fn language(text: &[u8]) -> Option<[u8; 2]>
+    ensures { result ≡ language_of text.now }
+{
+    match text {
+        [a, b] if is_small_letter(*a) && is_small_letter(*b) => Some([*a, *b]),
+        [a, b, c] if is_small_letter(*a) && is_small_letter(*b) && is_small_letter(*c) => {
+            Some(packed(b'a', *a, *b, *c))
+        }
+        _ => None,
+    }
+}
+
+fn region(text: &[u8]) -> Option<[u8; 2]>
+    ensures { result ≡ region_of text.now }
+{
+    match text {
+        [a, b] if is_capital_letter(*a) && is_capital_letter(*b) => Some([*a, *b]),
+        [a, b, c] if is_digit(*a) && is_digit(*b) && is_digit(*c) => {
+            Some(packed(b'0', *a, *b, *c))
+        }
+        _ => None,
+    }
+}
+
+fn is_small_letter(byte: u8) -> bool
+    ensures { result ≡ is_small_letter byte }
+{
+    byte >= b'a' && byte <= b'z'
+}
+
+fn is_capital_letter(byte: u8) -> bool
+    ensures { result ≡ is_capital_letter byte }
+{
+    byte >= b'A' && byte <= b'Z'
+}
+
+fn is_digit(byte: u8) -> bool
+    ensures { result ≡ is_digit byte }
+{
+    byte >= b'0' && byte <= b'9'
+}
+
+// Three letters or digits, counted from the first of their kind (AOSP: `packLanguageOrRegion`).
+fn packed(base: u8, first: u8, second: u8, third: u8) -> [u8; 2]
+    requires low { (base ≤ first) × (base ≤ second) × (base ≤ third) }
+    requires near { (first < base + 32) × (second < base + 32) × (third < base + 32) }
+    ensures { result ≡ packed base first second third }
+{
+    let (a, b, c) = (first - base, second - base, third - base);
+    [PACKED + (c << 2) + (b >> 3), ((b & 7) << 5) + a]
+}
+
+// ---- as a text
+
+/// The letters or digits of a language or a region.
+#[derive(Clone, Copy)]
+enum Symbols {
+    Two([u8; 2]),
+    Three([u8; 3]),
+}
+
+impl Symbols {
+    fn as_slice(&self) -> &[u8]
+        ensures { result.now ≡ symbol_bytes self.now }
+    {
+        match self {
+            Symbols::Two(bytes) => bytes,
+            Symbols::Three(bytes) => bytes,
+        }
+    }
+}
+
+/// Writes the text of a locale: the one that it is read from, a region alone behind its dash, or,
+/// where a part is not what a text gives, `x` and the eight digits of the four bytes.
+#[tactic(auto, unfolding(crate::specs::Locale::locale_text))]
+pub fn write_locale<W: Write + Drop>(locale: Locale, out: &mut W) -> io::Result<()>
+    ensures { OnOk result (Appends (W.contents out.old) (W.contents out.new) (locale_text locale)) }
+{
+    if !is_spelled(locale) {
+        out.write_all(b"x")?;
+        write_hex(&locale.language, out)?;
+        return write_hex(&locale.region, out);
+    }
+    if !is_zero(&locale.language) {
+        out.write_all(unpacked(b'a', locale.language).as_slice())?;
+    }
+    if !is_zero(&locale.region) {
+        out.write_all(b"-")?;
+        out.write_all(unpacked(b'0', locale.region).as_slice())?;
+    }
+    Ok(())
+}
+
+fn is_spelled(locale: Locale) -> bool
+    ensures { result ≡ is_spelled locale }
+{
+    let Locale { language, region } = locale;
+    (is_zero(&language) || self::language(unpacked(b'a', language).as_slice()).is_some())
+        && (is_zero(&region) || self::region(unpacked(b'0', region).as_slice()).is_some())
+}
+
+// Three letters or digits are counted from the first of their kind (AOSP: `unpackLanguageOrRegion`).
+fn unpacked(base: u8, part: [u8; 2]) -> Symbols
+    requires { base < 128 }
+    ensures { symbol_bytes result ≡ unpacked base part }
+{
+    let [high, low] = part;
+    if high < PACKED {
+        return Symbols::Two(part);
+    }
+    Symbols::Three([
+        base + (low & 31),
+        base + ((low >> 5) + ((high & 3) << 3)),
+        base + (high >> 2 & 31),
+    ])
+}

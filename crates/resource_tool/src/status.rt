@@ -1,0 +1,10 @@
+//! How a command ends.
+
+/// How a command ended that was carried out.
+#[derive(Clone, Copy, Debug, PartialEq, Eq)]
+pub enum Status {
+    /// All that was asked for was found.
+    Done,
+    /// The answer is no, or something that was asked for is not there.
+    Negative,
+}

@@ -1,0 +1,21 @@
+-- How the program ends.
+use Rattle.std.specs.Prelude.{ℕ}
+use Rattle.resource_tool.specs.declared.fault.ToolFault.{ToolFault}
+use Rattle.resource_tool.specs.declared.fault.ToolFault.TheVariants.{Table, OutOfMemory, Write}
+use Rattle.restool.specs.declared.status.ExitStatus.{ExitStatus}
+use Rattle.restool.specs.declared.status.ExitStatus.TheVariants.{Done, Negative, Command, Refused, Memory, Failed}
+
+-- the number that the process ends with
+abbrev pub number_of : ExitStatus → ℕ
+number_of Done = 0
+number_of Negative = 1
+number_of Command = 2
+number_of Refused = 3
+number_of Memory = 4
+number_of Failed = 5
+
+-- how the program ends after a fault of a command
+abbrev pub after_fault : ToolFault → ExitStatus
+after_fault (Table fault) = Refused
+after_fault OutOfMemory = Memory
+after_fault Write = Failed

@@ -1,0 +1,47 @@
+//! From words to the exit status.
+
+use crate::input::table_bytes;
+use crate::status::ExitStatus;
+use crate::stop::Stop;
+use crate::words::{Request, read_words};
+use resource_tool::{Status, ToolFault, rows_bytes};
+use std::io::{BufWriter, Write};
+use std::rt::Files;
+
+/// How many bytes of the output are kept back before they are written.
+const OUTPUT_BUFFER: usize = 65_536;
+
+/// Does what the words ask for, the first of which is the program's name.
+pub fn run_words<R: Input + Files + AllocGlobal, O: Write + Drop, E: Write + Drop>(
+    rt: &R,
+    words: &[String],
+    out: &mut O,
+    errors: &mut E,
+) -> ExitStatus {
+    match carry_out(rt, words, out) {
+        Ok(Status::Done) => ExitStatus::Done,
+        Ok(Status::Negative) => ExitStatus::Negative,
+        Err(stop) => stop.tell(out, errors),
+    }
+}
+
+fn carry_out<'a, R: Input + Files + AllocGlobal, O: Write + Drop>(
+    rt: &R,
+    words: &'a [String],
+    out: &mut O,
+) -> Result<Status, Stop<'a>> {
+    let request = read_words(rt.alloc(), words)?;
+    let Ok(mut out) = BufWriter::with_capacity(rt.alloc(), OUTPUT_BUFFER, out) else {
+        return Err(Stop::Tool(ToolFault::OutOfMemory));
+    };
+    let status = match request {
+        Request::Rows { table } => {
+            let table = table_bytes(rt, table)?;
+            rows_bytes(rt.alloc(), &table, &mut out)?
+        }
+    };
+    match out.flush() {
+        Ok(()) => Ok(status),
+        Err(_) => Err(Stop::Tool(ToolFault::Write)),
+    }
+}

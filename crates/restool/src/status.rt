@@ -1,0 +1,43 @@
+//! The exit status.
+
+use resource_tool::ToolFault;
+
+/// How the program ends.
+#[derive(Clone, Copy, Debug, PartialEq, Eq)]
+pub enum ExitStatus {
+    /// All was done, or help was printed that was asked for.
+    Done = 0,
+    /// The answer is no, or something that was asked for is not there.
+    Negative = 1,
+    /// The words are no command line.
+    Command = 2,
+    /// An input is refused.
+    Refused = 3,
+    /// Memory ran out.
+    Memory = 4,
+    /// A file or the output failed, or an input is too large.
+    Failed = 5,
+}
+
+impl ExitStatus {
+    ghost use Rattle.std.specs.Prelude.{◌≡◌};
+    ghost use Rattle.restool.specs.ExitStatus.{number_of, after_fault};
+
+    /// How the program ends after a fault of a command.
+    pub fn after_fault(fault: &ToolFault) -> ExitStatus
+        ensures { result ≡ after_fault fault.now }
+    {
+        match fault {
+            ToolFault::Table(_) => ExitStatus::Refused,
+            ToolFault::OutOfMemory => ExitStatus::Memory,
+            ToolFault::Write => ExitStatus::Failed,
+        }
+    }
+
+    /// The number that the process ends with.
+    pub fn number(self) -> u8
+        ensures { result ≡ number_of self }
+    {
+        self as u8
+    }
+}

@@ -1,0 +1,70 @@
+//! What keeps the program from doing what it was asked for.
+
+use crate::status::ExitStatus;
+use clap::error::ErrorKind;
+use resource_tool::{ToolFault, fault_text};
+use std::alloc::AllocError;
+use std::io::Write;
+
+/// Why the program stops.
+#[derive(Drop)]
+pub enum Stop<'a> {
+    /// The words are no command line, or ask for help.
+    Words(clap::Error),
+    /// A word is not UTF-8.
+    NotText,
+    /// The file at this path was not read.
+    File(&'a str),
+    /// The command failed.
+    Tool(ToolFault),
+}
+
+impl Stop<'_> {
+    /// Tells why, on the stream where that belongs, and gives the exit status. A stream of errors
+    /// that fails is passed over.
+    pub fn tell<O: Write + Drop, E: Write + Drop>(self, out: &mut O, errors: &mut E) -> ExitStatus {
+        match self {
+            Stop::Words(error) if !error.use_stderr() => match write!(out, "{error}") {
+                Ok(()) => ExitStatus::Done,
+                Err(_) => ExitStatus::Failed,
+            },
+            Stop::Words(error) => {
+                let _ = write!(errors, "{error}");
+                ExitStatus::Command
+            }
+            Stop::NotText => {
+                let _ = writeln!(errors, "command: a word is not UTF-8");
+                ExitStatus::Command
+            }
+            Stop::File(path) => {
+                let _ = writeln!(errors, "file: {path}");
+                ExitStatus::Failed
+            }
+            Stop::Tool(fault) => {
+                let _ = fault_text(&fault, errors);
+                ExitStatus::after_fault(&fault)
+            }
+        }
+    }
+}
+
+impl From<ToolFault> for Stop<'_> {
+    fn from(fault: ToolFault) -> Self {
+        Stop::Tool(fault)
+    }
+}
+
+impl From<AllocError> for Stop<'_> {
+    fn from(_error: AllocError) -> Self {
+        Stop::Tool(ToolFault::OutOfMemory)
+    }
+}
+
+impl From<clap::Error> for Stop<'_> {
+    fn from(error: clap::Error) -> Self {
+        match error.kind() {
+            ErrorKind::OutOfMemory => Stop::Tool(ToolFault::OutOfMemory),
+            _ => Stop::Words(error),
+        }
+    }
+}

@@ -1,0 +1,94 @@
+use crate::run::run_words;
+use crate::status::ExitStatus;
+use std::alloc::{AllocError, Global};
+use std::fs;
+use std::test::Fail;
+
+/// A table with an empty pool of strings, and no package.
+const NO_ROWS: [u8; 40] = [
+    2, 0, 12, 0, 40, 0, 0, 0, 0, 0, 0, 0, 1, 0, 28, 0, 28, 0, 0, 0, 0, 0, 0, 0, 0, 0, 0, 0, 0, 0,
+    0, 0, 0, 0, 0, 0, 0, 0, 0, 0,
+];
+
+const NO_TABLE: &str = "\
+error: the following required arguments were not provided:
+  <TABLE>
+
+Usage: restool rows <TABLE>
+
+For more information, try '--help'.
+";
+
+const NO_COMMAND: &str = "\
+error: unrecognized subcommand 'tables'
+
+Usage: restool <COMMAND>
+
+For more information, try '--help'.
+";
+
+fn words_of(alloc: Global, line: &str) -> Result<Vec<String>, AllocError> {
+    let mut words = Vec::new(alloc);
+    for word in line.split(' ') {
+        words.push(String::from_str(alloc, word)?)?;
+    }
+    Ok(words)
+}
+
+#[test]
+fn prints_or_tells_why_not(rt: HostRuntime) -> Result<(), Fail> {
+    fs::write(&rt, "whole", &NO_ROWS)?;
+    fs::write(&rt, "cut", &NO_ROWS[..4])?;
+    let cases = [
+        (
+            "restool rows whole",
+            ExitStatus::Done,
+            "rows 0 set-aside 0\n",
+            "",
+        ),
+        (
+            "restool rows cut",
+            ExitStatus::Refused,
+            "",
+            "refused: table: Chunk Truncated 0\n",
+        ),
+        (
+            "restool rows absent",
+            ExitStatus::Failed,
+            "",
+            "file: absent\n",
+        ),
+        ("restool rows .", ExitStatus::Failed, "", "file: .\n"),
+        ("restool rows ", ExitStatus::Failed, "", "file: \n"),
+        ("restool rows", ExitStatus::Command, "", NO_TABLE),
+        ("restool tables", ExitStatus::Command, "", NO_COMMAND),
+    ];
+    for (line, status, printed, told) in cases {
+        let words = words_of(rt.alloc(), line)?;
+        let mut out = Vec::new(rt.alloc());
+        let mut errors = Vec::new(rt.alloc());
+        assert_eq!(rt;
+            run_words(&rt, &words, &mut out, &mut errors),
+            status,
+            "at {line}"
+        );
+        assert_eq!(rt; out.as_slice(), printed.as_bytes(), "at {line}");
+        assert_eq!(rt; errors.as_slice(), told.as_bytes(), "at {line}");
+    }
+    fs::remove_file(&rt, "whole")?;
+    fs::remove_file(&rt, "cut")?;
+    Ok(())
+}
+
+#[test]
+fn fails_with_the_output(rt: HostRuntime) -> Result<(), Fail> {
+    fs::write(&rt, "table", &NO_ROWS)?;
+    let words = words_of(rt.alloc(), "restool rows table")?;
+    let mut short = [0; 5];
+    let mut errors = Vec::new(rt.alloc());
+    let status = run_words(&rt, &words, &mut short.as_mut_slice(), &mut errors);
+    assert_eq!(rt; status, ExitStatus::Failed);
+    assert!(rt; errors.is_empty());
+    fs::remove_file(&rt, "table")?;
+    Ok(())
+}
