@@ -1,5 +1,5 @@
 -- The qualifier of a coordinate.
-use Rattle.std.proofs.Common.{◌≡◌, ◌≢◌, ℕ, List, refl}
+use Rattle.std.proofs.Common.{◌≡◌, ◌≢◌, ℕ, refl}
 use Rattle.config_record.specs.declared.coord.Coord.{Coord}
 use Rattle.config_record.specs.declared.coord.Coord.TheVariants as coords
 use Rattle.config_record.specs.declared.locale.Locale.{Locale}

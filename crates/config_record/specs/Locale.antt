@@ -1,5 +1,5 @@
 -- Locales: their texts, and the four bytes that these stand for.
-use Rattle.std.specs.Prelude.{ℕ, ◌+◌, ◌-◌, ◌*◌, ◌/◌, ◌%◌, ◌==◌, ◌&&◌, ◌||◌, not, nat_le, nat_lt, Bool, if◌then◌else◌, List, [], ◌∷◌, ◌++◌, length, take, drop, position, slice_index, codes, Option, Some, None, is_some, unwrap_or, Result, Ok, Err}
+use Rattle.std.specs.Prelude.{ℕ, ◌+◌, ◌-◌, ◌*◌, ◌/◌, ◌%◌, ◌==◌, ◌&&◌, ◌||◌, not, nat_le, nat_lt, Bool, if◌then◌else◌, List, [], ◌∷◌, ◌++◌, length, take, drop, position, slice_index, codes, Option, Some, None, is_some, unwrap_or, Result, Ok}
 use Rattle.hex.specs.Hex.{encode_lower}
 use Rattle.contract_words.specs.Faults.{checked_by}
 use Rattle.config_record.specs.declared.locale.Locale.{Locale}

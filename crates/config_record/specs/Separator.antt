@@ -1,5 +1,5 @@
 -- Parts of a text with a byte between any two.
-use Rattle.std.specs.Prelude.{ℕ, ◌||◌, true, false, Bool, if◌then◌else◌, List, [], ◌∷◌, ◌++◌, ◌≡◌, Option}
+use Rattle.std.specs.Prelude.{ℕ, ◌||◌, true, false, Bool, if◌then◌else◌, List, [], ◌∷◌, ◌≡◌, Option}
 use Rattle.std.specs.List.{flat_map, join_with_byte}
 use Rattle.std.specs.Io.KnownBytes.{Appends}
 use Rattle.config_record.specs.declared.separator.Separator.{Separator}

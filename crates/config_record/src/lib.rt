@@ -1,8 +1,8 @@
 //! The configurations that stand in a resource table, and what they consist of: 25 coordinates, of
 //! which one is a locale and the others are numbers. Nothing is copied: a record lends its bytes.
 //!
-//! For the crates above: the coordinates of a record are those that its bytes spell, a locale those
-//! of its text, and both are printed as their definitions say.
+//! For the crates above: the coordinates of a record are the ones that its bytes spell, a locale is
+//! the one that its text spells, and each is printed as the definition of its text says.
 //!
 //! ```text
 //! let record = Record::read(bytes)?;

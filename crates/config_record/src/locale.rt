@@ -42,6 +42,7 @@ impl Locale {
 
     /// The locale of a text: of `""`, of two or three small letters, or of these, a dash, and two
     /// capital letters or three digits.
+    #[tactic(auto, using(crate::proofs::LocaleLemmas::printed_back))]
     pub fn read(text: &str) -> Result<Locale, LocaleFault>
         ensures value { result ≡ locale_of text.now }
         ensures printed_back { IfOk result (λ locale. locale_text locale ≡ text.now) }

@@ -62,7 +62,7 @@ impl Configuration for Record<'_> {
     }
 }
 
-/// Writes the qualifiers of all coordinates that are not zero.
+/// Writes `name=value` for each coordinate that is not zero, in their order.
 #[tactic(auto, unfolding(crate::specs::Qualifiers::coordinate_qualifiers, crate::specs::Coord::all_coords))]
 pub(crate) fn write_coordinates<C: Configuration, W: Write + Drop>(
     config: &C,
