@@ -5,7 +5,7 @@ ghost use Rattle.chunk_walk.specs.Chunk.{chunk_of};
 ghost use Rattle.chunk_walk.specs.Chunks.{chunks_of, children_of};
 
 use crate::chunk::{Chunk, ChunkFault, LEAST_HEADER_SIZE};
-use crate::finding::first_chunk;
+use crate::chunk_header::first_chunk;
 use std::marker::Model;
 
 /// Walks chunks, one behind the other. A chunk that is wrong comes as its fault, and is the last;
@@ -38,6 +38,7 @@ impl<'a> Chunks<'a> {
     {
         match bytes.get(from..) {
             Some(left) => Chunks { place: from, left },
+            // No chunk follows, so the place is never told.
             None => Chunks {
                 place: 0,
                 left: &bytes[..0],

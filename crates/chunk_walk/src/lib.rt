@@ -14,11 +14,11 @@
 #![tactic(auto)]
 
 mod chunk;
+mod chunk_header;
 mod chunks;
-mod finding;
 mod number;
 
 pub use chunk::{Chunk, ChunkFault};
+pub use chunk_header::chunk_at;
 pub use chunks::Chunks;
-pub use finding::chunk_at;
 pub use number::{u16_at, u16_within, u32_at, u32_within};

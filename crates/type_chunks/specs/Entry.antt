@@ -19,7 +19,7 @@ row_of_entry chunk index at = record {
   cell = Plain (value_at (drop (at + number 2 chunk.whole at) chunk.whole));
   flags = number 4 chunk.spec.flags (4 * index);
   key = number 4 chunk.whole (at + 4);
-  in_package = chunk.owner.place;
+  in_package = chunk.owner.index;
 }
 
 -- an entry of this index is a row: its type spec counts it, and an id has room for it

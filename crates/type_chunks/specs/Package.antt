@@ -33,10 +33,10 @@ rows_of_package_child owner (before, Ok chunk) =
 abbrev pub rows_of_package_children : Package → ChunkOf → Result (List RowOf) TableFault
 rows_of_package_children owner chunk = joined_each (rows_of_package_child owner) (with_before [] (children_of chunk))
 
--- A package, which has its id at 8; `place` packages stand before it.
+-- A package, which has its id at 8; `index` packages stand before it.
 unfoldable pub rows_of_package : ℕ → ChunkOf → Result (List RowOf) TableFault
-rows_of_package place chunk = do
+rows_of_package index chunk = do
   _ ← refuse (nat_lt (length chunk.header) least_package_header) (faults.Chunk (HeaderShort chunk.place))
   let id = number 4 chunk.header 8
   _ ← refuse (id == 0 || nat_lt 255 id) (faults.PackageId chunk.place)
-  rows_of_package_children (record { id = id; place = place }) chunk
+  rows_of_package_children (record { id = id; index = index }) chunk

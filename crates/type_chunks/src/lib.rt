@@ -15,6 +15,7 @@
 //! `specs/Package.antt`, `specs/TypeSpec.antt`, `specs/TypeChunk.antt` and `specs/Entry.antt`.
 #![tactic(auto)]
 
+mod entry;
 mod fault;
 mod known_specs;
 mod layout;

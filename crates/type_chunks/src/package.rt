@@ -24,17 +24,17 @@ use chunk_walk::{Chunk, ChunkFault, u32_within};
 pub(crate) struct Package {
     pub id: u8,
     /// How many packages of the table stand before it.
-    pub place: usize,
+    pub index: usize,
 }
 
-/// Pushes the rows of a package; `place` packages stand before it.
+/// Pushes the rows of a package; `index` packages stand before it.
 #[tactic(auto, unfolding(crate::specs::Package::rows_of_package))]
 pub(crate) fn push_package<'a>(
-    place: usize,
+    index: usize,
     chunk: &Chunk<'a>,
     rows: &mut Vec<Row<'a>>,
 ) -> Result<(), TableFault>
-    ensures { Pushes OutOfMemory (views_of rows.old.items) (views_of rows.new.items) result (rows_of_package place (chunk_of chunk.now)) }
+    ensures { Pushes OutOfMemory (views_of rows.old.items) (views_of rows.new.items) result (rows_of_package index (chunk_of chunk.now)) }
 {
     if chunk.header.len() < header::LEAST_SIZE {
         return Err(TableFault::Chunk(ChunkFault::HeaderShort(chunk.place)));
@@ -46,7 +46,7 @@ pub(crate) fn push_package<'a>(
     push_children(
         Package {
             id: id as u8,
-            place,
+            index,
         },
         chunk,
         rows,

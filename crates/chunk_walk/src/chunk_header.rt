@@ -1,4 +1,4 @@
-//! The chunk at a place.
+//! The first eight bytes of a chunk, and the chunk that they spell at a place.
 
 ghost use Rattle.std.specs.Prelude.{◌≡◌, ◌+◌, ◌^◌, ◌<◌, ◌≤◌, length, drop, IfOk};
 ghost use Rattle.chunk_walk.specs.Chunk.{seen, chunk_in};
