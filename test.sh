@@ -1,20 +1,28 @@
 #!/bin/sh
 # Runs all tests: the gate, which proves every crate and runs its tests, and then the built program.
-# The last line is 'N passed, N failed'.
-here=$(cd "$(dirname "$0")" && pwd) || exit 1
+# The last line is 'N passed, M failed'.
+here=$(CDPATH='' cd "$(dirname "$0")" && pwd) || exit 1
 cd "$here" || exit 1
-gate=$(mktemp) || exit 1
-runs=$(mktemp) || exit 1
-trap 'rm -f "$gate" "$runs"' EXIT
-start=$(date +%s)
-rt ci 2>&1 | tee "$gate"
-echo "the gate took $(($(date +%s) - start)) seconds"
-sh tests/end_to_end.sh 2>&1 | tee "$runs"
+work=$(mktemp -d) || exit 1
+trap 'rm -rf "$work"' EXIT
 
-total() { tail -n 1 "$1" | sed -n "s/^\([0-9]*\) passed, \([0-9]*\) failed.*/\\$2/p"; }
-gate_passed=$(total "$gate" 1) gate_failed=$(total "$gate" 2)
-runs_passed=$(total "$runs" 1) runs_failed=$(total "$runs" 2)
+start=$(date +%s)
+{
+    rt ci 2>&1
+    echo $? >"$work/status"
+} | tee "$work/gate"
+gate_status=$(cat "$work/status")
+echo "the gate took $(($(date +%s) - start)) seconds"
+sh tests/end_to_end.sh 2>&1 | tee "$work/runs"
+
+# count FILE PLACE: the first or second number of the file's last line.
+count() { tail -n 1 "$1" | sed -n "s/^\([0-9]*\) passed, \([0-9]*\) failed.*/\\$2/p"; }
+gate_passed=$(count "$work/gate" 1)
+gate_failed=$(count "$work/gate" 2)
+runs_passed=$(count "$work/runs" 1)
+runs_failed=$(count "$work/runs" 2)
 passed=$((${gate_passed:-0} + ${runs_passed:-0}))
 failed=$((${gate_failed:-1} + ${runs_failed:-1}))
+if [ "$gate_status" != 0 ] && [ "$failed" = 0 ]; then failed=1; fi
 echo "$passed passed, $failed failed"
 [ "$failed" = 0 ]

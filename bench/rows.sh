@@ -1,7 +1,7 @@
 #!/bin/sh
 # Times `restool rows` on a table: rows.sh TABLE. With no table, on tables of 1, 4 and 16 times
 # 60,000 rows that it makes. Prints wall time, peak memory and bytes; needs python3.
-here=$(cd "$(dirname "$0")" && pwd) || exit 1
+here=$(CDPATH='' cd "$(dirname "$0")" && pwd) || exit 1
 work=$(mktemp -d) || exit 1
 trap 'rm -rf "$work"' EXIT
 "$here/../restool" --help >/dev/null || exit 1

@@ -1,6 +1,6 @@
 #!/bin/sh
-# Runs the built program on real files, streams and wrong words. Its last line is 'N passed, N failed'.
-here=$(cd "$(dirname "$0")/.." && pwd) || exit 1
+# Runs the built program on real files, streams and wrong words. Its last line is 'N passed, M failed'.
+here=$(CDPATH='' cd "$(dirname "$0")/.." && pwd) || exit 1
 work=$(mktemp -d) || exit 1
 trap 'rm -rf "$work"' EXIT
 "$here/restool" --help >/dev/null || { echo "0 passed, 1 failed"; exit 1; }
