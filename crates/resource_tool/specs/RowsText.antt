@@ -18,15 +18,19 @@ use Rattle.resource_tool.specs.Output.{Output, fault_of_table}
 abbrev pub cell_text : Cell → List ℕ
 cell_text (Plain value) = value_text value
 
--- `row ID RECORD VALUE`
+-- `ID RECORD VALUE`
+unfoldable pub fields_text : RowOf → List ℕ
+fields_text row = id_text row.id ++ codes " " ++ record_text row.config ++ codes " " ++ cell_text row.cell
+
+-- the line `row ID RECORD VALUE`
 unfoldable pub row_text : RowOf → List ℕ
-row_text row = codes "row " ++ id_text row.id ++ codes " " ++ record_text row.config ++ codes " " ++ cell_text row.cell ++ 10 ∷ []
+row_text row = codes "row " ++ fields_text row ++ 10 ∷ []
 
 -- how many of the rows have a script or a variant
 abbrev pub set_aside_count : List RowOf → ℕ
 set_aside_count rows = count_by (λ row. is_set_aside row.config) rows
 
--- `rows N set-aside M`
+-- the line `rows N set-aside M`
 unfoldable pub totals_text : ℕ → ℕ → List ℕ
 totals_text count set_aside = codes "rows " ++ decimal count ++ codes " set-aside " ++ decimal set_aside ++ 10 ∷ []
 

@@ -4,7 +4,7 @@ ghost use Rattle.std.specs.Prelude.{OnOk};
 ghost use Rattle.std.specs.Io.KnownBytes.{Appends};
 ghost use Rattle.type_chunks.specs.Row.{row_of};
 ghost use Rattle.resource_tool.specs.Output.{Prints};
-ghost use Rattle.resource_tool.specs.RowsText.{cell_text, row_text, totals_text, rows_text, rows_output};
+ghost use Rattle.resource_tool.specs.RowsText.{cell_text, fields_text, row_text, totals_text, rows_text, rows_output};
 
 use crate::fault::ToolFault;
 use crate::status::Status;
@@ -57,12 +57,19 @@ fn write_row<W: Write + Drop>(row: &Row<'_>, out: &mut W) -> io::Result<()>
     ensures { OnOk result (Appends (W.contents out.old) (W.contents out.new) (row_text (row_of row.now))) }
 {
     out.write_all(b"row ")?;
+    write_fields(row, out)?;
+    out.write_all(b"\n")
+}
+
+#[tactic(auto, unfolding(crate::specs::RowsText::fields_text))]
+fn write_fields<W: Write + Drop>(row: &Row<'_>, out: &mut W) -> io::Result<()>
+    ensures { OnOk result (Appends (W.contents out.old) (W.contents out.new) (fields_text (row_of row.now))) }
+{
     write_id(row.id, out)?;
     out.write_all(b" ")?;
     row.config.write_qualifiers(out)?;
     out.write_all(b" ")?;
-    write_cell(row.cell, out)?;
-    out.write_all(b"\n")
+    write_cell(row.cell, out)
 }
 
 fn write_cell<W: Write + Drop>(cell: Cell, out: &mut W) -> io::Result<()>

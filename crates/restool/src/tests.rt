@@ -10,6 +10,18 @@ const NO_ROWS: [u8; 40] = [
     0, 0, 0, 0, 0, 0, 0, 0, 0, 0,
 ];
 
+const HELP: &str = "\
+Prints the rows of a table, in the order of the file
+
+Usage: restool rows <TABLE>
+
+Arguments:
+  <TABLE>  Path of the table, or - for the standard input
+
+Options:
+  -h, --help  Print help
+";
+
 const NO_TABLE: &str = "\
 error: the following required arguments were not provided:
   <TABLE>
@@ -60,6 +72,7 @@ fn prints_or_tells_why_not(rt: HostRuntime) -> Result<(), Fail> {
         ),
         ("restool rows .", ExitStatus::Failed, "", "file: .\n"),
         ("restool rows ", ExitStatus::Failed, "", "file: \n"),
+        ("restool rows --help", ExitStatus::Done, HELP, ""),
         ("restool rows", ExitStatus::Command, "", NO_TABLE),
         ("restool tables", ExitStatus::Command, "", NO_COMMAND),
     ];
