@@ -1,5 +1,5 @@
 -- What was read, where too much came or the end did not.
-use Rattle.std.proofs.Common.{◌++◌, take, arith}
+use Rattle.std.proofs.Common.{◌<◌, ◌++◌, length, take, arith, length-append}
 use Rattle.std.proofs.lemmas.Grind.{common_steps}
 use Rattle.std.proofs.KnownBytes.{Consumes-trans, Consumes-kept}
 use Rattle.resource_tool.proofs.input.read_input.Goals as goal
@@ -8,7 +8,8 @@ use Rattle.resource_tool.proofs.input.read_input.Goals.{else-loop-test, then-loo
 pub returns-in-Ok-clause-too_large : goal.returns-in-Ok-clause-too_large
 returns-in-Ok-clause-too_large g c = λ asked.
     let read = take c.in-Ok.count c.read.new.buf in
-    (c.loop.input.items ++ read, Consumes-trans _ _ _ _ _ c.loop.invariant.given c.in-Ok.ensures.bytes.0, grind (arith, common_steps))
+    let more : c.args.limit < length (c.loop.input.items ++ read) = simp length-append (omega (arith, c.in-Ok.ensures.bound, c.loop.input.ok)) in
+    (c.loop.input.items ++ read, Consumes-trans _ _ _ _ _ c.loop.invariant.given c.in-Ok.ensures.bytes.0, more)
 
 pub returns-clause-read : goal.returns-clause-read
 returns-clause-read g c = λ asked. (
