@@ -46,6 +46,7 @@ cd "$work" || exit 1
 
 # ---- rows
 check "rows of a real table" 0 "$tables/plain.rows.txt" $none rows "$tables/plain.arsc"
+check "rows of a table with bags" 0 "$tables/rich.rows.txt" $none rows "$tables/rich.arsc"
 check "rows of the example" 0 "$teapot/rows.txt" $none rows "$teapot/resources.arsc"
 input=$tables/plain.arsc
 check "rows of standard input" 0 "$tables/plain.rows.txt" $none rows -
@@ -58,9 +59,44 @@ check "a table that is cut" 3 $none cut.err rows cut
 line short.err 'refused: table: Chunk Truncated 0'
 check "no table" 3 $none short.err rows /dev/null
 
+# ---- dump
+check "dump of a table with bags" 0 "$tables/rich.dump.txt" $none dump "$tables/rich.arsc"
+input=$tables/rich.arsc
+check "dump of standard input" 0 "$tables/rich.dump.txt" $none dump -
+input=/dev/null
+{ cat "$tables/rich.arsc"; printf 'what follows a table'; } >followed
+check "dump of a table that something follows" 0 "$tables/rich.dump.txt" $none dump followed
+
+# A byte of the header of the table's string pool.
+cp "$tables/rich.arsc" poolless
+printf '\030' | dd of=poolless bs=1 seek=14 conv=notrunc 2>/dev/null
+line poolless.err 'refused: table: Pool HeaderSize 12'
+check "dump of a refused table" 3 $none poolless.err dump poolless
+check "rows of a refused table" 3 $none poolless.err rows poolless
+line oversize.err 'refused: table: Chunk Oversize 0'
+for command in rows dump; do
+    for length in 0 1 7 8 12 40 1000 23380 23383; do
+        head -c "$length" "$tables/rich.arsc" >rich.cut
+        if [ "$length" -lt 8 ]; then fault=short.err; else fault=oversize.err; fi
+        check "$command of a table's first $length bytes" 3 $none $fault "$command" rich.cut
+    done
+done
+
+# Many strings. The expected text is made from the lists that the table is made from.
+if command -v python3 >/dev/null; then
+    for form in '' ' --utf16'; do
+        python3 "$here/bench/make_strings.py" $form --expect 20000 30 strings.arsc >strings.dump.txt
+        check "dump of 20,000 strings in 30 languages$form" 0 strings.dump.txt $none dump strings.arsc
+    done
+    rm -f strings.arsc strings.dump.txt
+else
+    echo "not run, since python3 is missing: dump of 20,000 strings in 30 languages"
+fi
+
 # ---- files and streams
 line absent.err 'file: absent'
 check "an absent file" 5 $none absent.err rows absent
+check "an absent file to dump" 5 $none absent.err dump absent
 mkdir folder
 line folder.err 'file: folder'
 check "a folder" 5 $none folder.err rows folder
@@ -74,6 +110,7 @@ if [ -w /dev/full ]; then
     ends "a full output prints no line" 0 "[ -z \"\$(\"\$0\" rows '$tables/plain.arsc' 2>&1 >/dev/full)\" ]"
 fi
 ends "a closed output" 5 "\"\$0\" rows '$tables/plain.arsc' >&-"
+ends "a closed output of dump" 5 "\"\$0\" dump '$tables/rich.arsc' >&-"
 line memory.err 'out of memory'
 truncate -s 200000000 wide
 ends "no memory" 4 "ulimit -v 60000; exec \"\$0\" rows wide"
@@ -81,8 +118,12 @@ ends "no memory" 4 "ulimit -v 60000; exec \"\$0\" rows wide"
 # ---- words
 ends "help that was asked for" 0 '"$0" --help >help && grep -q rows help'
 ends "help of a command" 0 '"$0" rows --help >help && grep -q TABLE help'
+ends "help that names dump" 0 '"$0" --help >help && grep -q dump help'
+ends "help of dump" 0 '"$0" dump --help >help && grep -q TABLE help'
 ends "no such command" 2 '"$0" bogus'
 ends "too few words" 2 '"$0" rows'
+ends "dump without a table" 2 '"$0" dump'
+ends "dump of two tables" 2 '"$0" dump a b'
 ends "too many words" 2 '"$0" rows a b'
 ends "a word that is not UTF-8" 2 '"$0" rows "$(printf "\377")"'
 

@@ -5,8 +5,12 @@
 #[cfg(test)]
 mod chunks;
 #[cfg(test)]
+mod dump;
+#[cfg(test)]
 mod hostile;
 #[cfg(test)]
 mod rows;
 #[cfg(test)]
 mod table_a;
+#[cfg(test)]
+mod table_b;

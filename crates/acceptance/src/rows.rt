@@ -5,7 +5,7 @@ use resource_tool::{Status, rows_bytes};
 use std::process::Abort;
 use std::test::Fail;
 use test_layers::layer;
-use type_chunks::{Table, TableFault};
+use type_chunks::Table;
 
 fn check_rows<R: Abort + AllocGlobal>(rt: &R, table: &[u8], want: &str) -> Result<(), Fail> {
     let mut out = Vec::new(rt.alloc());
@@ -61,13 +61,36 @@ fn counts_rows_that_are_set_aside(rt: HostRuntime) -> Result<(), Fail> {
 }
 
 #[test]
-fn refuses_an_entry_with_a_bag(rt: HostRuntime) -> Result<(), Fail> {
-    let table = layer(rt.alloc(), &["0 [] bag"])?;
-    assert_eq!(rt;
-        Table::open(rt.alloc(), &table).err(),
-        Some(TableFault::Entry(424))
-    );
-    Ok(())
+fn prints_bags_with_their_rows(rt: HostRuntime) -> Result<(), Fail> {
+    let table = layer(
+        rt.alloc(),
+        &[
+            "1 [] bag 0x00000000 0x01010001=9 0x01010002=2",
+            "0 [] bag 0x7f010001 0x01010001=1 0x01010003=3",
+        ],
+    )?;
+    check_rows(
+        &rt,
+        &table,
+        "row 0x7f010001 [] bag parent 0x00000000 count 2
+  0x01010001 decimal 9
+  0x01010002 decimal 2
+row 0x7f010000 [] bag parent 0x7f010001 count 2
+  0x01010001 decimal 1
+  0x01010003 decimal 3
+rows 2 set-aside 0
+",
+    )
+}
+
+#[test]
+fn prints_a_bag_without_rows(rt: HostRuntime) -> Result<(), Fail> {
+    let table = layer(rt.alloc(), &["0 [] bag 0x7f010001", "0 [sdk=21] empty"])?;
+    check_rows(
+        &rt,
+        &table,
+        "row 0x7f010000 [] bag parent 0x7f010001 count 0\nrow 0x7f010000 [sdk=21] empty\nrows 2 set-aside 0\n",
+    )
 }
 
 #[test]

@@ -2,7 +2,7 @@
 
 use std::alloc::{AllocError, Global};
 
-pub const SIZE: usize = 416;
+const SIZE: usize = 416;
 
 /// What stands at a place; the bytes between are zero.
 const PIECES: [(usize, &[u8]); 6] = [
@@ -36,12 +36,17 @@ pub fn table_a(alloc: Global) -> Result<Vec<u8>, AllocError> {
 /// The bytes of the table with other bytes from a place on.
 pub fn table_with(alloc: Global, at: usize, piece: &[u8]) -> Result<Vec<u8>, AllocError> {
     let mut bytes = table_a(alloc)?;
+    put(&mut bytes, at, piece);
+    Ok(bytes)
+}
+
+/// Puts other bytes in from a place on, as far as there are bytes.
+pub fn put(bytes: &mut [u8], at: usize, piece: &[u8]) {
     for (n, byte) in piece.iter().enumerate() {
         if let Some(place) = bytes.get_mut(at.saturating_add(n)) {
             *place = *byte;
         }
     }
-    Ok(bytes)
 }
 
 fn fill(bytes: &mut Vec<u8>, len: usize) -> Result<(), AllocError> {

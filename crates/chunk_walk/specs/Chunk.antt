@@ -1,5 +1,5 @@
 -- Chunks (AOSP: ResChunk_header).
-use Rattle.std.specs.Prelude.{ℕ, ◌%◌, Bool, ◌&&◌, not, List, [], ◌∷◌, length, take, drop, Result, Ok, Err, nat_lt, ◌==◌}
+use Rattle.std.specs.Prelude.{ℕ, ◌+◌, ◌%◌, Bool, ◌&&◌, not, List, [], ◌∷◌, length, take, drop, Result, Ok, Err, nat_lt, ◌==◌}
 use Rattle.contract_words.specs.Faults.{checked_by}
 use Rattle.chunk_walk.specs.declared.chunk.Chunk.{Chunk}
 use Rattle.chunk_walk.specs.declared.chunk.ChunkFault.{ChunkFault}
@@ -59,3 +59,7 @@ fields_in place left =
 -- the chunk at a place, or its first fault
 unfoldable pub chunk_in : ℕ → List ℕ → ℕ → Result ChunkOf ChunkFault
 chunk_in place left min = checked_by (chunk_faults place left min) (Ok (fields_in place left))
+
+-- the chunk at a place within a chunk, counted from its start
+abbrev pub chunk_within : ChunkOf → ℕ → Result ChunkOf ChunkFault
+chunk_within chunk at = chunk_in (chunk.place + at) (drop at chunk.whole) 8

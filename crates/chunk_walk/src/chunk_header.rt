@@ -59,3 +59,16 @@ pub(crate) fn first_chunk(place: usize, left: &[u8], min: usize) -> Result<Chunk
         whole,
     })
 }
+
+impl<'a> Chunk<'a> {
+    ghost use Rattle.chunk_walk.specs.Chunk.{chunk_of, chunk_within};
+
+    /// The chunk at a place within this chunk, counted from this chunk's start.
+    pub fn chunk_at(&self, at: usize) -> Result<Chunk<'a>, ChunkFault>
+        requires { at ≤ length self.now.whole.now }
+        ensures { seen result ≡ chunk_within (chunk_of self.now) at }
+    {
+        let (_, left) = self.whole.split_at(at);
+        first_chunk(self.place + at, left, LEAST_HEADER_SIZE)
+    }
+}

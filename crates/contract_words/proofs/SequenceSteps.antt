@@ -1,6 +1,6 @@
 -- How a loop goes through a list that is read piece by piece.
-use Rattle.std.proofs.Common.{◌≡◌, ℕ, suc, ◌+◌, ◌-◌, ◌<◌, ◌≤◌, List, [], ◌∷◌, ◌++◌, map, Result, Ok, Err, refl, sym, ap, ◌∙◌, append_assoc, arith}
-use Rattle.std.proofs.lemmas.List.{append-nil}
+use Rattle.std.proofs.Common.{◌≡◌, ℕ, suc, ◌+◌, ◌-◌, ◌<◌, ◌≤◌, List, [], ◌∷◌, ◌++◌, map, reverse, Result, Ok, Err, refl, sym, ap, subst, ◌∙◌, append_assoc, arith}
+use Rattle.std.proofs.lemmas.List.{append-nil, reverse-append, reverse-reverse}
 use Rattle.std.specs.List.{range_with_len}
 use Rattle.contract_words.specs.Sequences.{with_front, joined, joined_each, joined_from, with_before}
 
@@ -86,37 +86,58 @@ pub ruleset from_steps = (joined_from-next, joined_from-stops, joined_from-end)
 
 -- ---- a loop over items that knows something of those before
 
--- `before` are the items that were read, of which `Known` holds; what f read of them is a, and what it
--- reads of those that are left is still to come.
-pub record ReadsKnowing {A S X E : Type 0} (Known : S → List A → Type 0) (f : (List A × A) → Result (List X) E) (s : S) (a : List X) (left : List A) (total : Result (List X) E) : Type 0 where
+-- Of `all` items `left` are left; `before` are those that were read, the nearest first, of which `Known`
+-- holds; what f read of them is a, and what it reads of those that are left is still to come.
+pub record ReadsKnowing {A S X E : Type 0} (Known : S → List A → Type 0) (f : (List A × A) → Result (List X) E) (s : S) (a : List X) (all left : List A) (total : Result (List X) E) : Type 0 where
   pub before : List A
   pub known : Known s before
+  pub items : reverse before ++ left ≡ all
   pub read : ReadsAllBut f a (with_before before left) total
 
 pub ReadsKnowing-none : {A S X E : Type 0} (Known : S → List A → Type 0) (f : (List A × A) → Result (List X) E) (s : S) (a : List X) (all : List A) → Known s []
-    → ReadsKnowing Known f s a all (with_front a (joined_each f (with_before [] all)))
-ReadsKnowing-none Known f s a all known = record { before = []; known = known; read = ReadsAllBut-none f a (with_before [] all) }
+    → ReadsKnowing Known f s a all all (with_front a (joined_each f (with_before [] all)))
+ReadsKnowing-none Known f s a all known = record { before = []; known = known; items = refl; read = ReadsAllBut-none f a (with_before [] all) }
 
-pub ReadsKnowing-next : {A S X E : Type 0} (Known : S → List A → Type 0) (f : (List A × A) → Result (List X) E) (s t : S) (a b : List X) (left others : List A) (x : A) (total : Result (List X) E)
-    → (so_far : ReadsKnowing Known f s a left total) → left ≡ x ∷ others → Known t (x ∷ so_far.before) → with_front a (f (so_far.before, x)) ≡ Ok b
-    → ReadsKnowing Known f t b others total
+-- an item goes over from those that are left to those that were read
+items-next : {A : Type 0} (before all left others : List A) (x : A) → reverse before ++ left ≡ all → left ≡ x ∷ others → reverse (x ∷ before) ++ others ≡ all
+items-next {A} before all left others x items split =
+    ap (λ (t : List A). t ++ others) (reverse-append (x ∷ []) before)
+    ∙ append_assoc (reverse before) (x ∷ []) others
+    ∙ ap (λ (t : List A). reverse before ++ t) (sym split)
+    ∙ items
+
+pub ReadsKnowing-next : {A S X E : Type 0} (Known : S → List A → Type 0) (f : (List A × A) → Result (List X) E) (s t : S) (a b : List X) (all left others : List A) (x : A) (total : Result (List X) E)
+    → (so_far : ReadsKnowing Known f s a all left total) → left ≡ x ∷ others → Known t (x ∷ so_far.before) → with_front a (f (so_far.before, x)) ≡ Ok b
+    → ReadsKnowing Known f t b all others total
 unfolding with_before
-ReadsKnowing-next {A} Known f s t a b left others x total so_far split known read = record {
+ReadsKnowing-next {A} Known f s t a b all left others x total so_far split known read = record {
   before = x ∷ so_far.before;
   known = known;
+  items = items-next so_far.before all left others x so_far.items split;
   read = ReadsAllBut-next f a b (with_before so_far.before left) (with_before (x ∷ so_far.before) others) (so_far.before, x) total so_far.read (ap (λ (t : List A). with_before so_far.before t) split) read;
 }
 
-pub ReadsKnowing-stops : {A S X E : Type 0} (Known : S → List A → Type 0) (f : (List A × A) → Result (List X) E) (s : S) (a : List X) (left others : List A) (x : A) (d : E) (total : Result (List X) E)
-    → (so_far : ReadsKnowing Known f s a left total) → left ≡ x ∷ others → with_front a (f (so_far.before, x)) ≡ Err d → total ≡ Err d
+pub ReadsKnowing-stops : {A S X E : Type 0} (Known : S → List A → Type 0) (f : (List A × A) → Result (List X) E) (s : S) (a : List X) (all left others : List A) (x : A) (d : E) (total : Result (List X) E)
+    → (so_far : ReadsKnowing Known f s a all left total) → left ≡ x ∷ others → with_front a (f (so_far.before, x)) ≡ Err d → total ≡ Err d
 unfolding with_before
-ReadsKnowing-stops {A} Known f s a left others x d total so_far split read =
+ReadsKnowing-stops {A} Known f s a all left others x d total so_far split read =
     ReadsAllBut-stops f a (with_before so_far.before left) (with_before (x ∷ so_far.before) others) (so_far.before, x) d total so_far.read (ap (λ (t : List A). with_before so_far.before t) split) read
 
-pub ReadsKnowing-end : {A S X E : Type 0} (Known : S → List A → Type 0) (f : (List A × A) → Result (List X) E) (s : S) (a : List X) (left : List A) (total : Result (List X) E)
-    → ReadsKnowing Known f s a left total → left ≡ [] → total ≡ Ok a
+pub ReadsKnowing-end : {A S X E : Type 0} (Known : S → List A → Type 0) (f : (List A × A) → Result (List X) E) (s : S) (a : List X) (all left : List A) (total : Result (List X) E)
+    → ReadsKnowing Known f s a all left total → left ≡ [] → total ≡ Ok a
 unfolding with_before
-ReadsKnowing-end {A} Known f s a left total so_far nothing =
+ReadsKnowing-end {A} Known f s a all left total so_far nothing =
     ReadsAllBut-end f a (with_before so_far.before left) total so_far.read (ap (λ (t : List A). with_before so_far.before t) nothing)
 
-pub ruleset knowing_steps = (ReadsKnowing-none, ReadsKnowing-next, ReadsKnowing-stops, ReadsKnowing-end)
+-- at the end all items are those before, turned round
+reversed-back : {A : Type 0} (before all left : List A) → reverse before ++ left ≡ all → left ≡ [] → before ≡ reverse all
+reversed-back {A} before all left items nothing =
+    sym (reverse-reverse before)
+    ∙ ap (λ (t : List A). reverse t) (sym (append-nil (reverse before)) ∙ ap (λ (t : List A). reverse before ++ t) (sym nothing) ∙ items)
+
+pub ReadsKnowing-known : {A S X E : Type 0} (Known : S → List A → Type 0) (f : (List A × A) → Result (List X) E) (s : S) (a : List X) (all left : List A) (total : Result (List X) E)
+    → ReadsKnowing Known f s a all left total → left ≡ [] → Known s (reverse all)
+ReadsKnowing-known {A} Known f s a all left total so_far nothing =
+    subst (λ (t : List A). Known s t) (reversed-back so_far.before all left so_far.items nothing) so_far.known
+
+pub ruleset knowing_steps = (ReadsKnowing-none, ReadsKnowing-next, ReadsKnowing-stops, ReadsKnowing-end, ReadsKnowing-known)

@@ -1,1 +1,2 @@
 pub mod IdText
+pub mod MapRowsSteps

@@ -3,3 +3,5 @@ pub mod ResId
 pub mod Value
 pub mod Complex
 pub mod ValueText
+pub mod MapRows
+pub mod Cell

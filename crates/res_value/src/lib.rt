@@ -1,7 +1,8 @@
-//! Resource ids and the values of resources: read from a table or a text, and shown.
+//! Resource ids and the values of resources: read from a table or a text, and shown. Also bags, each a
+//! parent and rows of names and values: the rows are lent from their bytes.
 //!
 //! For the crates above: the id that a text spells, the value that eight bytes hold, and the one
-//! text of each, as `specs/` define them.
+//! text of each; and the rows of a bag as a list, or the first fault in them, as `specs/` define them.
 //!
 //! ```text
 //! let id = ResId::of(0x7f, 0x03, 1);
@@ -15,12 +16,14 @@
 mod cell;
 mod complex;
 pub mod kind;
+mod map_rows;
 mod res_id;
 mod value;
 mod value_text;
 mod word;
 
 pub use cell::Cell;
+pub use map_rows::{MapRows, MapRowsFault};
 pub use res_id::{ResId, write_id};
 pub use value::Value;
 pub use value_text::write_value;

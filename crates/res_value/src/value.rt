@@ -1,7 +1,7 @@
 //! A value as it stands in a table.
 
-ghost use Rattle.std.specs.Prelude.{◌≡◌};
-ghost use Rattle.res_value.specs.Value.{value_in};
+ghost use Rattle.std.specs.Prelude.{◌≡◌, ◌≤◌, length};
+ghost use Rattle.res_value.specs.Value.{value_in, value_at};
 
 use chunk_walk::{u16_within, u32_within};
 
@@ -32,10 +32,18 @@ impl Value {
         if bytes.len() < Value::SIZE || u16_within(bytes, SIZE_FIELD) as usize != Value::SIZE {
             return None;
         }
-        Some(Value {
+        Some(Value::within(bytes))
+    }
+
+    /// The value that the bytes begin with, where its size is known.
+    pub(crate) fn within(bytes: &[u8]) -> Value
+        requires { 8 ≤ length bytes.now }
+        ensures { result ≡ value_at bytes.now }
+    {
+        Value {
             kind: bytes[KIND],
             word: u32_within(bytes, WORD),
-        })
+        }
     }
 }
 

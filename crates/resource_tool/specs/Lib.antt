@@ -1,4 +1,3 @@
 pub mod Input
-pub mod FaultText
 pub mod Output
-pub mod RowsText
+pub mod TableOutput

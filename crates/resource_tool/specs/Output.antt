@@ -1,21 +1,14 @@
 -- What a command prints, and how it ends.
 use Rattle.std.specs.Prelude.{◌≡◌, ℕ, List, Option, Result, Ok, Err, IsOk}
 use Rattle.std.specs.Io.KnownBytes.{Appends}
-use Rattle.type_chunks.specs.declared.fault.TableFault.{TableFault}
-use Rattle.type_chunks.specs.declared.fault.TableFault.TheVariants as of_table
+use Rattle.resource_text.specs.declared.fault.ToolFault.{ToolFault}
+use Rattle.resource_text.specs.declared.fault.ToolFault.TheVariants.{OutOfMemory, Write}
 use Rattle.resource_tool.specs.declared.status.Status.{Status}
-use Rattle.resource_tool.specs.declared.fault.ToolFault.{ToolFault}
-use Rattle.resource_tool.specs.declared.fault.ToolFault.TheVariants.{Table, OutOfMemory, Write}
 
 -- how a command ends, and the text that it prints before
 pub record Output : Type 0 where
   pub status : Status
   pub text : List ℕ
-
--- a table's fault, as one of the command; want of memory is the command's own
-abbrev pub fault_of_table : TableFault → ToolFault
-fault_of_table of_table.OutOfMemory = OutOfMemory
-fault_of_table fault = Table fault
 
 -- A command answered what is meant, and the writer, which was old and is new, got the text of that and
 -- nothing else. A fault of the input is the one that is meant, and then the writer is as it was. A

@@ -7,15 +7,18 @@
 //! let table = read_input(alloc, &mut file, 268_435_456)?;
 //! rows_bytes(alloc, &table, &mut out)?; // row 0x7f010000 [] decimal 5
 //!                                       // rows 1 set-aside 0
+//! dump_bytes(alloc, &table, &mut out)?; // package 0x7f "app"
+//!                                       //   0x7f010000 "integer"/"five" flags 0x00000000 [] decimal 5
 //! ```
 #![tactic(auto)]
 
-mod fault;
+mod dump;
 mod input;
 mod rows;
 mod status;
 
-pub use fault::{ToolFault, fault_text};
+pub use dump::dump_bytes;
 pub use input::{InputFault, read_input};
+pub use resource_text::{ToolFault, fault_text};
 pub use rows::rows_bytes;
 pub use status::Status;

@@ -1,7 +1,7 @@
 -- How the program ends.
 use Rattle.std.specs.Prelude.{ℕ}
-use Rattle.resource_tool.specs.declared.fault.ToolFault.{ToolFault}
-use Rattle.resource_tool.specs.declared.fault.ToolFault.TheVariants.{Table, OutOfMemory, Write}
+use Rattle.resource_text.specs.declared.fault.ToolFault.{ToolFault}
+use Rattle.resource_text.specs.declared.fault.ToolFault.TheVariants.{Table, OutOfMemory, Write}
 use Rattle.restool.specs.declared.status.ExitStatus.{ExitStatus}
 use Rattle.restool.specs.declared.status.ExitStatus.TheVariants.{Done, Negative, Command, Refused, Memory, Failed}
 

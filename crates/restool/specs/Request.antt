@@ -1,8 +1,9 @@
 -- What the words of a command line ask for.
-use Rattle.std.specs.Prelude.{ℕ, List}
+use Rattle.std.specs.Prelude.{◌≡◌, ℕ, List}
 use Rattle.restool.specs.declared.words.Request.{Request}
-use Rattle.restool.specs.declared.words.Request.TheVariants.{Rows}
+use Rattle.restool.specs.declared.words.Request.TheVariants.{Rows, Dump}
 
--- the path of the table whose rows are asked for
-abbrev pub table_path : Request → List ℕ
-table_path (Rows path) = path.now
+-- they ask for the rows of the table at this path
+abbrev pub AsksForRows : List ℕ → Request → Type 0
+AsksForRows path (Rows table) = table.now ≡ path
+AsksForRows path (Dump table) = ⊥

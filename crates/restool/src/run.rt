@@ -4,7 +4,7 @@ use crate::input::table_bytes;
 use crate::status::ExitStatus;
 use crate::stop::Stop;
 use crate::words::{Request, read_words};
-use resource_tool::{Status, ToolFault, rows_bytes};
+use resource_tool::{Status, ToolFault, dump_bytes, rows_bytes};
 use std::io::{BufWriter, Write};
 use std::rt::Files;
 
@@ -38,6 +38,10 @@ fn carry_out<'a, R: Input + Files + AllocGlobal, O: Write + Drop>(
         Request::Rows { table } => {
             let table = table_bytes(rt, table)?;
             rows_bytes(rt.alloc(), &table, &mut out)?
+        }
+        Request::Dump { table } => {
+            let table = table_bytes(rt, table)?;
+            dump_bytes(rt.alloc(), &table, &mut out)?
         }
     };
     match out.flush() {

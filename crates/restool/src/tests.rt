@@ -22,6 +22,18 @@ Options:
   -h, --help  Print help
 ";
 
+const DUMP_HELP: &str = "\
+Prints the packages of a table, and their rows with names
+
+Usage: restool dump <TABLE>
+
+Arguments:
+  <TABLE>  Path of the table, or - for the standard input
+
+Options:
+  -h, --help  Print help
+";
+
 const NO_TABLE: &str = "\
 error: the following required arguments were not provided:
   <TABLE>
@@ -72,7 +84,15 @@ fn prints_or_tells_why_not(rt: HostRuntime) -> Result<(), Fail> {
         ),
         ("restool rows .", ExitStatus::Failed, "", "file: .\n"),
         ("restool rows ", ExitStatus::Failed, "", "file: \n"),
+        ("restool dump whole", ExitStatus::Done, "", ""),
+        (
+            "restool dump cut",
+            ExitStatus::Refused,
+            "",
+            "refused: table: Chunk Truncated 0\n",
+        ),
         ("restool rows --help", ExitStatus::Done, HELP, ""),
+        ("restool dump --help", ExitStatus::Done, DUMP_HELP, ""),
         ("restool rows", ExitStatus::Command, "", NO_TABLE),
         ("restool tables", ExitStatus::Command, "", NO_COMMAND),
     ];

@@ -1,10 +1,10 @@
 //! The words of the command line.
 
-ghost use Rattle.std.specs.Prelude.{◌≡◌, ◌≤◌, length, codes, IsOkAnd};
-ghost use Rattle.restool.specs.Request.{table_path};
+ghost use Rattle.std.specs.Prelude.{◌≤◌, length, codes, IsOkAnd};
+ghost use Rattle.restool.specs.Request.{AsksForRows};
 
 use crate::stop::Stop;
-use clap::{Arg, ArgAction, Command};
+use clap::{Arg, ArgAction, ArgMatches, Command};
 use resource_tool::ToolFault;
 use std::alloc::Global;
 use std::env;
@@ -32,6 +32,8 @@ Exit status:
 pub enum Request<'a> {
     /// The rows of the table at a path.
     Rows { table: &'a str },
+    /// The packages of the table at a path, and their rows with names.
+    Dump { table: &'a str },
 }
 
 /// The words that the program was started with. The first is its name.
@@ -47,7 +49,7 @@ pub fn program_words<R: Env + AllocGlobal>(rt: &R) -> Result<Vec<String>, Stop<'
 
 /// What the words ask for, the first of which is the program's name.
 pub fn read_words<'a>(alloc: Global, words: &'a [String]) -> Result<Request<'a>, clap::Error>
-    ensures no_words { length words.now ≤ 1 → IsOkAnd result (λ request. table_path request ≡ codes "-") }
+    ensures no_words { length words.now ≤ 1 → IsOkAnd result (AsksForRows (codes "-")) }
 {
     if words.len() <= 1 {
         return Ok(Request::Rows {
@@ -55,28 +57,45 @@ pub fn read_words<'a>(alloc: Global, words: &'a [String]) -> Result<Request<'a>,
         });
     }
     let matches = command(alloc)?.try_get_matches_from(words)?;
-    let table = match matches.subcommand() {
-        Some((_, given)) => given.get_str(TABLE),
-        None => None,
-    };
-    Ok(Request::Rows {
-        table: table.unwrap_or(STANDARD_INPUT),
-    })
+    match matches.subcommand() {
+        Some(("rows", given)) => Ok(Request::Rows {
+            table: table_path(given),
+        }),
+        Some(("dump", given)) => Ok(Request::Dump {
+            table: table_path(given),
+        }),
+        _ => Ok(Request::Rows {
+            table: STANDARD_INPUT,
+        }),
+    }
+}
+
+// The path of the table that is given.
+fn table_path<'a>(given: &ArgMatches<'a>) -> &'a str {
+    given.get_str(TABLE).unwrap_or(STANDARD_INPUT)
 }
 
 // The command line that is understood.
 fn command<'a>(alloc: Global) -> Result<Command<'a>, clap::Error> {
-    let table = Arg::new(alloc, TABLE)
-        .help("Path of the table, or - for the standard input")
-        .required(true)
-        .action(ArgAction::Set);
     let rows = Command::new(alloc, "rows")
         .about("Prints the rows of a table, in the order of the file")
-        .arg(table)?;
+        .arg(table(alloc))?;
+    let dump = Command::new(alloc, "dump")
+        .about("Prints the packages of a table, and their rows with names")
+        .arg(table(alloc))?;
     let restool = Command::new(alloc, "restool")
         .about("Reads Android's compiled resource tables (resources.arsc)")
         .after_help(AFTER_HELP)
         .subcommand_required(true)
-        .subcommand(rows)?;
+        .subcommand(rows)?
+        .subcommand(dump)?;
     Ok(restool)
+}
+
+// The word that names a table.
+fn table<'a>(alloc: Global) -> Arg<'a> {
+    Arg::new(alloc, TABLE)
+        .help("Path of the table, or - for the standard input")
+        .required(true)
+        .action(ArgAction::Set)
 }

@@ -1,14 +1,16 @@
 //! Cells of rows, as the bytes of an entry.
 
 use crate::bytes::{push_u16, push_u32};
-use res_value::ResId;
+use crate::fault::LayerFault;
+use res_value::{ResId, Value};
 use std::alloc::{AllocError, Global};
 
 /// What a row has.
 #[derive(Clone, Copy, Debug)]
-pub enum Cell {
-    Plain { kind: u8, word: u32 },
-    Bag,
+pub enum Cell<'a> {
+    Plain(Value),
+    /// A bag's parent, and the text of its rows.
+    Bag { parent: ResId, rows: &'a str },
 }
 
 const REFERENCE: u8 = 1;
@@ -17,47 +19,62 @@ const ATTRIBUTE: u8 = 2;
 
 const DECIMAL: u8 = 0x10;
 
-impl Cell {
-    /// The cell that a text spells.
-    pub fn read(text: &str) -> Option<Cell> {
-        if text == "bag" {
-            return Some(Cell::Bag);
-        }
-        if text == "empty" {
-            return Some(Cell::Plain { kind: 0, word: 1 });
-        }
-        if let Some(id) = text.strip_prefix('@') {
-            return plain(REFERENCE, ResId::read(id)?.0);
-        }
-        if let Some(id) = text.strip_prefix('?') {
-            return plain(ATTRIBUTE, ResId::read(id)?.0);
-        }
-        let number = text.parse::<i32>().ok()?;
-        plain(DECIMAL, u32::from_le_bytes(number.to_le_bytes()))
+impl<'a> Cell<'a> {
+    /// The cell that a text spells. The rows of a bag are read when its entry is made.
+    pub fn read(text: &'a str) -> Option<Cell<'a>> {
+        let Some(bag) = text.strip_prefix("bag ") else {
+            return Some(Cell::Plain(read_value(text)?));
+        };
+        let (parent, rows) = bag.split_once(' ').unwrap_or((bag, ""));
+        let parent = ResId::read(parent)?;
+        Some(Cell::Bag { parent, rows })
     }
 
     /// The entry that has this cell.
-    pub fn entry(self, alloc: Global) -> Result<Vec<u8>, AllocError> {
+    pub fn entry(self, alloc: Global) -> Result<Vec<u8>, LayerFault> {
         let mut entry = Vec::new(alloc);
         match self {
-            Cell::Plain { kind, word } => {
+            Cell::Plain(value) => {
                 push_head(&mut entry, 8, 0)?;
-                push_u16(&mut entry, 8)?;
-                entry.extend_from_slice(&[0, kind])?;
-                push_u32(&mut entry, word)?;
+                push_value(&mut entry, value)?;
             }
-            Cell::Bag => {
+            Cell::Bag { parent, rows } => {
                 push_head(&mut entry, 16, 1)?;
-                push_u32(&mut entry, 0)?;
-                push_u32(&mut entry, 0)?;
+                push_u32(&mut entry, parent.0)?;
+                push_map_rows(alloc, &mut entry, rows)?;
             }
         }
         Ok(entry)
     }
 }
 
-fn plain(kind: u8, word: u32) -> Option<Cell> {
-    Some(Cell::Plain { kind, word })
+fn read_value(text: &str) -> Option<Value> {
+    if text == "empty" {
+        return Some(Value { kind: 0, word: 1 });
+    }
+    if let Some(id) = text.strip_prefix('@') {
+        return value_of_id(REFERENCE, id);
+    }
+    if let Some(id) = text.strip_prefix('?') {
+        return value_of_id(ATTRIBUTE, id);
+    }
+    let number = text.parse::<i32>().ok()?;
+    let word = u32::from_le_bytes(number.to_le_bytes());
+    Some(Value {
+        kind: DECIMAL,
+        word,
+    })
+}
+
+fn value_of_id(kind: u8, id: &str) -> Option<Value> {
+    let word = ResId::read(id)?.0;
+    Some(Value { kind, word })
+}
+
+// A row of a bag, as `0x01010001=5`.
+fn read_map_row(text: &str) -> Option<(ResId, Value)> {
+    let (name, value) = text.split_once('=')?;
+    Some((ResId::read(name)?, read_value(value)?))
 }
 
 // The size of an entry, its flags, and its key.
@@ -65,4 +82,25 @@ fn push_head(entry: &mut Vec<u8>, size: u16, flags: u16) -> Result<(), AllocErro
     push_u16(entry, size)?;
     push_u16(entry, flags)?;
     push_u32(entry, 0)
+}
+
+fn push_value(out: &mut Vec<u8>, value: Value) -> Result<(), AllocError> {
+    push_u16(out, 8)?;
+    out.extend_from_slice(&[0, value.kind])?;
+    push_u32(out, value.word)
+}
+
+// The count of a bag's rows, and the rows.
+fn push_map_rows(alloc: Global, entry: &mut Vec<u8>, rows: &str) -> Result<(), LayerFault> {
+    let mut count: u32 = 0;
+    let mut pushed = Vec::new(alloc);
+    for row in rows.split_whitespace() {
+        let (name, value) = read_map_row(row).ok_or(LayerFault::Malformed)?;
+        push_u32(&mut pushed, name.0)?;
+        push_value(&mut pushed, value)?;
+        count = count.saturating_add(1);
+    }
+    push_u32(entry, count)?;
+    entry.extend_from_slice(&pushed)?;
+    Ok(())
 }

@@ -7,16 +7,21 @@
 //! 0 [density=160] 2
 //! 0 [locale=fr,sdk=21] -1
 //! 1 [] @0x7f010000
+//! 2 [] bag 0x7f010003 0x01010001=1 0x01010003=?0x01010001
+//! 3 [] bag 0x00000000
 //! ```
 //!
 //! The rows become one package 0x7f with one type 0x01, and each row a type chunk of its own, so
-//! entry 0 is the resource 0x7f010000. A cell is a decimal number, a reference `@0x..`, an attribute
-//! `?0x..`, `empty`, or `bag` for an entry that says that a bag follows.
+//! entry 0 is the resource 0x7f010000. A cell is a value or a bag. A value is a decimal number, a
+//! reference `@0x..`, an attribute `?0x..`, or `empty`; a bag is `bag`, its parent, 0x00000000 where it
+//! has none, and its rows, each a name and a value.
 #![tactic(auto)]
 
 mod bytes;
 mod cell;
+mod fault;
 mod qualifier;
 mod table;
 
-pub use table::{LayerFault, layer};
+pub use fault::LayerFault;
+pub use table::layer;

@@ -2,8 +2,9 @@
 
 use crate::bytes::{push_chunk, push_u32};
 use crate::cell::Cell;
+use crate::fault::LayerFault;
 use crate::qualifier::record_of;
-use std::alloc::{AllocError, AllocFailed, Global};
+use std::alloc::Global;
 
 const STRING_POOL: u16 = 0x0001;
 
@@ -26,32 +27,12 @@ const TYPE_ID: u8 = 1;
 
 const NO_ENTRY: u32 = 0xffff_ffff;
 
-/// Why no table was made.
-#[derive(Clone, Copy, Debug, PartialEq, Eq)]
-pub enum LayerFault {
-    /// A line is no row.
-    Malformed,
-    OutOfMemory,
-}
-
-impl From<AllocError> for LayerFault {
-    fn from(_error: AllocError) -> LayerFault {
-        LayerFault::OutOfMemory
-    }
-}
-
-impl<T: Drop> From<AllocFailed<T>> for LayerFault {
-    fn from(_error: AllocFailed<T>) -> LayerFault {
-        LayerFault::OutOfMemory
-    }
-}
-
 /// A row as it is written.
 #[derive(Clone, Copy, Debug)]
 struct TestRow<'a> {
     entry: u16,
     qualifiers: &'a str,
-    cell: Cell,
+    cell: Cell<'a>,
 }
 
 fn row_of(line: &str) -> Option<TestRow<'_>> {

@@ -7,11 +7,11 @@ use Rattle.chunk_walk.specs.Chunk.{ChunkOf}
 use Rattle.chunk_walk.specs.declared.chunk.ChunkFault.{ChunkFault}
 use Rattle.type_chunks.specs.declared.type_spec.TypeSpec.{TypeSpec}
 use Rattle.type_chunks.specs.declared.known_specs.KnownSpecs.{KnownSpecs}
-use Rattle.type_chunks.specs.TypeSpec.{SpecOf, spec_of, spec_fields, type_spec_faults, type_spec_in, last_spec}
+use Rattle.type_chunks.specs.TypeSpec.{TypeSpecOf, type_spec_of, spec_fields, type_spec_faults, type_spec_in, last_spec}
 use Rattle.type_chunks.specs.KnownSpecs.{kept_spec, Knows}
 
 -- a type spec that is read has the fields of its chunk
-type_spec_in-ok : (chunk : ChunkOf) (spec : SpecOf) → type_spec_in chunk ≡ Ok spec → spec_fields chunk ≡ spec
+type_spec_in-ok : (chunk : ChunkOf) (spec : TypeSpecOf) → type_spec_in chunk ≡ Ok spec → spec_fields chunk ≡ spec
 unfolding type_spec_in
 type_spec_in-ok chunk spec e = let read = (checked_by-ok (type_spec_faults chunk) (Ok (spec_fields chunk)) spec e).1 in cc
 
@@ -31,15 +31,15 @@ Knows-none specs none = record { last = none }
 
 -- a type spec is known once it is kept
 pub Knows-kept : (old new : KnownSpecs) (spec : TypeSpec) (chunk : ChunkOf) (before : List (Result ChunkOf ChunkFault))
-    → ((id : ℕ) → kept_spec new id ≡ (if spec.id == id then Some (spec_of spec) else kept_spec old id))
-    → Ok (spec_of spec) ≡ type_spec_in chunk → chunk.kind ≡ 0x0202 → Knows old before → Knows new (Ok chunk ∷ before)
+    → ((id : ℕ) → kept_spec new id ≡ (if spec.id == id then Some (type_spec_of spec) else kept_spec old id))
+    → Ok (type_spec_of spec) ≡ type_spec_in chunk → chunk.kind ≡ 0x0202 → Knows old before → Knows new (Ok chunk ∷ before)
 unfolding last_spec
 Knows-kept old new spec chunk before kept read kind known =
-    let fields : spec_fields chunk ≡ spec_of spec = type_spec_in-ok chunk (spec_of spec) (sym read) in
-    let same : slice_index chunk.header 8 ≡ spec.id = ap (λ (s : SpecOf). s.id) fields in
+    let fields : spec_fields chunk ≡ type_spec_of spec = type_spec_in-ok chunk (type_spec_of spec) (sym read) in
+    let same : slice_index chunk.header 8 ≡ spec.id = ap (λ (s : TypeSpecOf). s.id) fields in
     record {
-      last = λ id below. kept id ∙ same_choice chunk.kind (slice_index chunk.header 8) spec.id id (Some (spec_fields chunk)) (last_spec id before) (Some (spec_of spec)) (kept_spec old id)
-          kind same (ap (λ (s : SpecOf). Some s) fields) (sym (known.last id below));
+      last = λ id below. kept id ∙ same_choice chunk.kind (slice_index chunk.header 8) spec.id id (Some (spec_fields chunk)) (last_spec id before) (Some (type_spec_of spec)) (kept_spec old id)
+          kind same (ap (λ (s : TypeSpecOf). Some s) fields) (sym (known.last id below));
     }
 
 -- a chunk of another kind changes nothing

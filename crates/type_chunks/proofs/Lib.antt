@@ -1,1 +1,4 @@
 pub mod KnownSteps
+pub mod ChildrenSteps
+pub mod ZeroSteps
+pub mod RowsSteps

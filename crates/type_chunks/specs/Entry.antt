@@ -1,55 +1,89 @@
--- Entries (AOSP: ResTable_entry), each no row, one row or a fault.
+-- Entries (AOSP: ResTable_entry, ResTable_map_entry), each no row, one row or a fault.
 use Rattle.std.specs.Prelude.{ℕ, ◌+◌, ◌*◌, ◌%◌, Bool, ◌&&◌, not, List, [], ◌∷◌, ◌==◌, length, drop, Result, Ok, Err, Option, Some, None, nat_lt, if◌then◌else◌}
 use Rattle.contract_words.specs.Faults.{◌>>=◌, refuse}
 use Rattle.chunk_walk.specs.Number.{number}
 use Rattle.res_value.specs.ResId.{id_of_parts}
 use Rattle.res_value.specs.Value.{has_value_size, value_at}
-use Rattle.res_value.specs.declared.cell.Cell.TheVariants.{Plain}
+use Rattle.res_value.specs.MapRows.{map_rows_in}
+use Rattle.res_value.specs.Cell.{CellOf, PlainOf, BagOf}
+use Rattle.res_value.specs.declared.map_rows.MapRowsFault.{MapRowsFault}
+use Rattle.res_value.specs.declared.map_rows.MapRowsFault.TheVariants.{Short, ValueSize}
+use Rattle.res_value.specs.declared.res_id.ResId.{ResId}
+use Rattle.res_value.specs.declared.value.Value.{Value}
+use Rattle.res_value.specs.declared.cell.Cell.{Cell}
+use Rattle.res_value.specs.Cell.{cell_of}
 use Rattle.type_chunks.specs.declared.fault.TableFault.{TableFault}
 use Rattle.type_chunks.specs.declared.fault.TableFault.TheVariants as faults
 use Rattle.type_chunks.specs.declared.row.Row.{Row}
 use Rattle.type_chunks.specs.Row.{RowOf, row_of}
-use Rattle.type_chunks.specs.TypeChunk.{TypeOf}
+use Rattle.type_chunks.specs.TypeChunk.{TypeChunkOf}
 
--- the row of the entry of an index, which stands at a place from the chunk's start
-abbrev pub row_of_entry : TypeOf → ℕ → ℕ → RowOf
-row_of_entry chunk index at = record {
+-- an entry of this index is a row: its type spec counts it, and an id has room for it
+abbrev pub is_row : TypeChunkOf → ℕ → Bool
+is_row chunk index = nat_lt index chunk.spec.entry_count && nat_lt index 65536
+
+-- ---- what an entry holds, of which `cell` is the place behind its size, from the chunk's start
+
+-- a value: first that it fits, then its size
+unfoldable pub value_of_entry : TypeChunkOf → ℕ → ℕ → Result CellOf TableFault
+value_of_entry chunk at cell = do
+  _ ← refuse (nat_lt (length chunk.whole) (cell + 8)) (faults.Entry (chunk.place + at))
+  _ ← refuse (not (has_value_size (drop cell chunk.whole))) (faults.Value (chunk.place + cell))
+  Ok (PlainOf (value_at (drop cell chunk.whole)))
+
+-- The rows that were read, or their fault: a value stands four bytes behind the start of its row.
+abbrev pub bag_of_rows : TypeChunkOf → ℕ → ℕ → Result (List (ResId × Value)) MapRowsFault → Result CellOf TableFault
+bag_of_rows chunk at cell (Ok rows) = Ok (BagOf (record { 0 = number 4 chunk.whole (at + 8) }) rows)
+bag_of_rows chunk at cell (Err Short) = Err (faults.Entry (chunk.place + at))
+bag_of_rows chunk at cell (Err (ValueSize index)) = Err (faults.Value (chunk.place + (cell + 12 * index + 4)))
+
+-- a bag: its parent at 8, the count of its rows at 12
+unfoldable pub bag_of_entry : TypeChunkOf → ℕ → ℕ → Result CellOf TableFault
+bag_of_entry chunk at cell =
+    bag_of_rows chunk at cell (map_rows_in (number 4 chunk.whole (at + 12)) (drop cell chunk.whole))
+
+-- ---- an entry
+
+-- the row of the entry of an index, which stands at a place from the chunk's start and holds a cell
+abbrev pub row_of_entry : TypeChunkOf → ℕ → ℕ → CellOf → RowOf
+row_of_entry chunk index at cell = record {
   id = id_of_parts chunk.owner.id chunk.id index;
   config = chunk.config;
-  cell = Plain (value_at (drop (at + number 2 chunk.whole at) chunk.whole));
+  cell = cell;
   flags = number 4 chunk.spec.flags (4 * index);
   key = number 4 chunk.whole (at + 4);
   in_package = chunk.owner.index;
 }
 
--- an entry of this index is a row: its type spec counts it, and an id has room for it
-abbrev pub is_row : TypeOf → ℕ → Bool
-is_row chunk index = nat_lt index chunk.spec.entry_count && nat_lt index 65536
+-- an entry whose lowest bit of flags is set holds a bag
+abbrev pub is_complex : TypeChunkOf → ℕ → Bool
+is_complex chunk at = number 2 chunk.whole (at + 2) % 2 == 1
 
--- The entry at a place: its size at 0, its flags at 2, its key at 4, and its value behind its size. An
--- entry whose lowest bit of flags is set is complex, which is not read yet and is a fault. An entry
--- that is no row is checked all the same.
-unfoldable pub rows_of_entry_at : TypeOf → ℕ → ℕ → Result (List RowOf) TableFault
+-- The entry at a place: its size at 0, its flags at 2, its key at 4, and what it holds behind its size.
+-- An entry that is no row is checked all the same.
+unfoldable pub rows_of_entry_at : TypeChunkOf → ℕ → ℕ → Result (List RowOf) TableFault
 rows_of_entry_at chunk index at = do
   _ ← refuse (not (at % 4 == 0)) (faults.Entry (chunk.place + at))
   _ ← refuse (nat_lt (length chunk.whole) (at + 8)) (faults.Entry (chunk.place + at))
   let size = number 2 chunk.whole at
-  let value = at + size
-  _ ← refuse (number 2 chunk.whole (at + 2) % 2 == 1) (faults.Entry (chunk.place + at))
-  _ ← refuse (nat_lt size 8) (faults.Entry (chunk.place + at))
-  _ ← refuse (nat_lt (length chunk.whole) (value + 8)) (faults.Entry (chunk.place + at))
-  _ ← refuse (not (has_value_size (drop value chunk.whole))) (faults.Value (chunk.place + value))
-  Ok (if is_row chunk index then row_of_entry chunk index at ∷ [] else [])
+  _ ← refuse (nat_lt size (if is_complex chunk at then 16 else 8)) (faults.Entry (chunk.place + at))
+  _ ← refuse (nat_lt (length chunk.whole) (at + size)) (faults.Entry (chunk.place + at))
+  cell ← (if is_complex chunk at then bag_of_entry chunk at (at + size) else value_of_entry chunk at (at + size))
+  Ok (if is_row chunk index then row_of_entry chunk index at cell ∷ [] else [])
 
 -- The entry of an index. Its offset counts from where the entries start, and that from the chunk's
 -- start; an offset of four bytes ff says that there is no entry.
-unfoldable pub rows_of_entry : TypeOf → ℕ → Result (List RowOf) TableFault
+unfoldable pub rows_of_entry : TypeChunkOf → ℕ → Result (List RowOf) TableFault
 rows_of_entry chunk index =
     let offset = number 4 chunk.offsets (4 * index) in
     if offset == 0xffff_ffff then Ok [] else rows_of_entry_at chunk index (chunk.entries_start + offset)
 
--- what a row or none is as a list
+-- how contracts see what a call returned: a row or none is a list, and a cell has no place in memory
 abbrev pub seen_entry : Result (Option Row) TableFault → Result (List RowOf) TableFault
 seen_entry (Ok None) = Ok []
 seen_entry (Ok (Some row)) = Ok (row_of row ∷ [])
 seen_entry (Err fault) = Err fault
+
+abbrev pub seen_cell : Result Cell TableFault → Result CellOf TableFault
+seen_cell (Ok cell) = Ok (cell_of cell)
+seen_cell (Err fault) = Err fault

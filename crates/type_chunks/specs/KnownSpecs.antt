@@ -5,11 +5,11 @@ use Rattle.std.specs.Option.{option_map}
 use Rattle.chunk_walk.specs.Chunk.{ChunkOf}
 use Rattle.chunk_walk.specs.declared.chunk.ChunkFault.{ChunkFault}
 use Rattle.type_chunks.specs.declared.known_specs.KnownSpecs.{KnownSpecs}
-use Rattle.type_chunks.specs.TypeSpec.{SpecOf, spec_of, last_spec}
+use Rattle.type_chunks.specs.TypeSpec.{TypeSpecOf, type_spec_of, last_spec}
 
 -- the type spec that is kept for an id
-abbrev pub kept_spec : KnownSpecs → ℕ → Option SpecOf
-kept_spec specs id = option_map spec_of (slice_index_or specs.by_id id None)
+abbrev pub kept_spec : KnownSpecs → ℕ → Option TypeSpecOf
+kept_spec specs id = option_map type_spec_of (slice_index_or specs.by_id id None)
 
 -- For each id the last type spec of it among these chunks is kept, of which the nearest stands first.
 pub record Knows (specs : KnownSpecs) (before : List (Result ChunkOf ChunkFault)) : Type 0 where

@@ -1,6 +1,9 @@
--- The kinds of chunks, and the least sizes of their headers (AOSP: RES_TABLE_TYPE and its like,
+-- The kinds of chunks, and the least sizes of their headers (AOSP: RES_STRING_POOL_TYPE and its like,
 -- ResTable_header, ResTable_package, ResTable_typeSpec, ResTable_type).
 use Rattle.std.specs.Prelude.{ℕ}
+
+abbrev pub pool_kind : ℕ
+pool_kind = 0x0001
 
 abbrev pub table_kind : ℕ
 table_kind = 0x0002
@@ -20,6 +23,10 @@ least_table_header = 12
 -- without its last field, typeIdOffset, which older tools do not write
 abbrev pub least_package_header : ℕ
 least_package_header = 284
+
+-- with it
+abbrev pub package_header_with_offset : ℕ
+package_header_with_offset = 288
 
 abbrev pub least_type_spec_header : ℕ
 least_type_spec_header = 16

@@ -1,9 +1,14 @@
 pub mod Layout
+pub mod LowerFaults
 pub mod Row
 pub mod TypeSpec
 pub mod TypeChunk
 pub mod Entry
+pub mod PackageRows
 pub mod Package
 pub mod Table
+pub mod Names
 pub mod KnownSpecs
-pub mod CountedPackages
+pub mod KnownChildren
+pub mod LeftRows
+pub mod Units

@@ -1,42 +1,94 @@
--- The rows of a package (AOSP: ResTable_package), in the order of the file, or its first fault.
-use Rattle.std.specs.Prelude.{ℕ, ◌||◌, List, [], ◌==◌, length, Result, Ok, Err, nat_lt, if◌then◌else◌}
+-- Packages (AOSP: ResTable_package): their names, and their rows.
+use Rattle.std.specs.Prelude.{ℕ, ◌%◌, Bool, false, ◌&&◌, ◌||◌, not, List, [], ◌∷◌, map, ◌==◌, length, take, drop, Result, Ok, nat_lt, if◌then◌else◌}
+use Rattle.std.specs.List.{flat_map}
 use Rattle.contract_words.specs.Faults.{◌>>=◌, refuse}
-use Rattle.contract_words.specs.Sequences.{joined_each, joined_from, with_before}
 use Rattle.chunk_walk.specs.Number.{number}
-use Rattle.chunk_walk.specs.Chunk.{ChunkOf}
-use Rattle.chunk_walk.specs.Chunks.{children_of}
-use Rattle.chunk_walk.specs.declared.chunk.ChunkFault.{ChunkFault}
+use Rattle.chunk_walk.specs.Chunk.{ChunkOf, chunk_within}
 use Rattle.chunk_walk.specs.declared.chunk.ChunkFault.TheVariants.{HeaderShort}
+use Rattle.string_pool.specs.Pool.{PoolOf, pool_of, empty_pool}
+use Rattle.string_pool.specs.Text.{TextOf, text_of}
 use Rattle.type_chunks.specs.declared.fault.TableFault.{TableFault}
 use Rattle.type_chunks.specs.declared.fault.TableFault.TheVariants as faults
 use Rattle.type_chunks.specs.declared.package.Package.{Package}
-use Rattle.type_chunks.specs.Layout.{type_kind, type_spec_kind, least_package_header}
-use Rattle.type_chunks.specs.Row.{RowOf}
-use Rattle.type_chunks.specs.TypeSpec.{SpecOf, type_spec_in}
-use Rattle.type_chunks.specs.TypeChunk.{TypeOf, type_in}
-use Rattle.type_chunks.specs.Entry.{rows_of_entry}
+use Rattle.type_chunks.specs.Layout.{pool_kind, least_package_header, package_header_with_offset}
+use Rattle.type_chunks.specs.LowerFaults.{found_chunk, pool_of_chunk}
+use Rattle.type_chunks.specs.Row.{RowOf, views_of}
+use Rattle.type_chunks.specs.PackageRows.{rows_of_children}
 
--- the rows of the entries of a type, in the order of their indexes
-abbrev pub rows_of_entries : TypeOf → Result (List RowOf) TableFault
-rows_of_entries chunk = joined_from (rows_of_entry chunk) 0 chunk.entry_count
+-- A package, without where its file lies in memory.
+pub record PackageOf : Type 0 where
+  pub id : ℕ
+  pub name : TextOf
+  -- the names of its types
+  pub type_names : PoolOf
+  -- the names of its entries
+  pub key_names : PoolOf
+  -- how far the ids of types stand above their places among the names
+  pub type_id_offset : ℕ
+  pub rows : List RowOf
 
--- A chunk in a package, with the chunks that stand before it there. A type spec has no rows, and
--- chunks of other kinds are passed over.
-unfoldable pub rows_of_package_child : Package → (List (Result ChunkOf ChunkFault) × Result ChunkOf ChunkFault) → Result (List RowOf) TableFault
-rows_of_package_child owner (before, Err fault) = Err (faults.Chunk fault)
-rows_of_package_child owner (before, Ok chunk) =
-    if chunk.kind == type_spec_kind then (type_spec_in chunk >>= λ spec. Ok [])
-    else (if chunk.kind == type_kind then (type_in owner before chunk >>= rows_of_entries)
-    else Ok [])
+abbrev pub package_of : Package → PackageOf
+package_of read = record {
+  id = read.id;
+  name = text_of read.name;
+  type_names = pool_of read.type_names;
+  key_names = pool_of read.key_names;
+  type_id_offset = read.type_id_offset;
+  rows = views_of read.rows.items;
+}
 
--- the chunks in a package
-abbrev pub rows_of_package_children : Package → ChunkOf → Result (List RowOf) TableFault
-rows_of_package_children owner chunk = joined_each (rows_of_package_child owner) (with_before [] (children_of chunk))
+abbrev pub packages_of : List Package → List PackageOf
+packages_of packages = map package_of packages
 
--- A package, which has its id at 8; `index` packages stand before it.
-unfoldable pub rows_of_package : ℕ → ChunkOf → Result (List RowOf) TableFault
-rows_of_package index chunk = do
+-- the rows of packages, in the order of the file
+unfoldable pub rows_of_packages : List PackageOf → List RowOf
+rows_of_packages packages = flat_map (λ read. read.rows) packages
+
+-- units of two bytes, up to the first that is zero
+unfoldable pub before_zero : List ℕ → List ℕ
+before_zero [] = []
+before_zero (_ ∷ []) = []
+before_zero (low ∷ high ∷ units) = if low == 0 && high == 0 then [] else low ∷ high ∷ before_zero units
+
+-- the name of a package, which has room for 128 units at 12
+abbrev pub name_in : ChunkOf → TextOf
+name_in chunk = record { utf8 = false; bytes = before_zero (take 256 (drop 12 chunk.header)) }
+
+-- a place where names can stand: a multiple of four, behind the header, and in the package
+abbrev pub is_place_of_names : ChunkOf → ℕ → Bool
+is_place_of_names chunk at = at % 4 == 0 && not (nat_lt at (length chunk.header)) && nat_lt at (length chunk.whole)
+
+-- The names at a place from the package's start: a pool, or its first fault.
+unfoldable pub names_at : ChunkOf → ℕ → Result PoolOf TableFault
+names_at chunk at = do
+  _ ← refuse (not (is_place_of_names chunk at)) (faults.PackageHeader chunk.place)
+  names ← found_chunk (chunk_within chunk at)
+  _ ← refuse (not (names.kind == pool_kind)) (faults.PackageHeader chunk.place)
+  pool_of_chunk names
+
+-- a package with a place of 0 has no names
+abbrev pub names_in : ChunkOf → ℕ → Result PoolOf TableFault
+names_in chunk at = if at == 0 then Ok empty_pool else names_at chunk at
+
+-- a header of another size has no such field
+abbrev pub type_id_offset_in : ChunkOf → ℕ
+type_id_offset_in chunk = if length chunk.header == package_header_with_offset then number 4 chunk.header 284 else 0
+
+-- A package, or its first fault; `index` packages stand before it. Its id is at 8, its name at 12, and
+-- where the names of types and of entries stand at 268 and 276.
+unfoldable pub package_in : ℕ → ChunkOf → Result PackageOf TableFault
+package_in index chunk = do
   _ ← refuse (nat_lt (length chunk.header) least_package_header) (faults.Chunk (HeaderShort chunk.place))
   let id = number 4 chunk.header 8
   _ ← refuse (id == 0 || nat_lt 255 id) (faults.PackageId chunk.place)
-  rows_of_package_children (record { id = id; index = index }) chunk
+  type_names ← names_in chunk (number 4 chunk.header 268)
+  key_names ← names_in chunk (number 4 chunk.header 276)
+  rows ← rows_of_children (record { id = id; index = index }) chunk
+  Ok (record {
+    id = id;
+    name = name_in chunk;
+    type_names = type_names;
+    key_names = key_names;
+    type_id_offset = type_id_offset_in chunk;
+    rows = rows;
+  })

@@ -1,7 +1,7 @@
 -- Rows.
 use Rattle.std.specs.Prelude.{ℕ, List, map, filter, ◌==◌}
 use Rattle.config_record.specs.Record.{record_bytes}
-use Rattle.res_value.specs.declared.cell.Cell.{Cell}
+use Rattle.res_value.specs.Cell.{CellOf, cell_of}
 use Rattle.type_chunks.specs.declared.row.Row.{Row}
 
 -- A row of a table, without where it lies in memory.
@@ -10,7 +10,7 @@ pub record RowOf : Type 0 where
   pub id : ℕ
   -- the bytes of its configuration
   pub config : List ℕ
-  pub cell : Cell
+  pub cell : CellOf
   -- the type spec's flags for this entry
   pub flags : ℕ
   -- the place of its name among the package's names of entries
@@ -19,7 +19,7 @@ pub record RowOf : Type 0 where
   pub in_package : ℕ
 
 abbrev pub row_of : Row → RowOf
-row_of row = record { id = row.id.0; config = record_bytes row.config; cell = row.cell; flags = row.flags; key = row.key; in_package = row.package }
+row_of row = record { id = row.id.0; config = record_bytes row.config; cell = cell_of row.cell; flags = row.flags; key = row.key; in_package = row.package }
 
 abbrev pub views_of : List Row → List RowOf
 views_of rows = map row_of rows

@@ -1,4 +1,4 @@
--- Types (AOSP: ResTable_type), each the entries of one id for one configuration.
+-- Types (AOSP: ResTable_type), each the entries of one type id for one configuration.
 use Rattle.std.specs.Prelude.{ℕ, ◌*◌, ◌%◌, List, ◌==◌, length, drop, slice_index, Option, Some, None, Result, Ok, Err, nat_lt}
 use Rattle.contract_words.specs.Faults.{◌>>=◌, refuse}
 use Rattle.chunk_walk.specs.Number.{number}
@@ -9,16 +9,17 @@ use Rattle.config_record.specs.Record.{record_in, record_bytes}
 use Rattle.config_record.specs.declared.record.RecordFault.{RecordFault}
 use Rattle.type_chunks.specs.declared.fault.TableFault.{TableFault}
 use Rattle.type_chunks.specs.declared.fault.TableFault.TheVariants as faults
-use Rattle.type_chunks.specs.declared.package.Package.{Package}
+use Rattle.type_chunks.specs.declared.owner.Owner.{Owner}
 use Rattle.type_chunks.specs.declared.type_chunk.TypeChunk.{TypeChunk}
 use Rattle.type_chunks.specs.Layout.{least_type_header}
-use Rattle.type_chunks.specs.TypeSpec.{SpecOf, spec_of, last_spec}
+use Rattle.type_chunks.specs.TypeSpec.{TypeSpecOf, type_spec_of, last_spec}
 
--- A type in its package, with the type spec that it belongs to, the bytes of its configuration, the
--- offsets of its entries of four bytes each, and the whole chunk, in which the entries stand.
-pub record TypeOf : Type 0 where
-  pub owner : Package
-  pub spec : SpecOf
+-- A type in its package, with the type spec that it belongs to, the bytes of its configuration, those
+-- that begin with the offsets of its entries, of four bytes each, and the whole chunk, in which the
+-- entries stand.
+pub record TypeChunkOf : Type 0 where
+  pub owner : Owner
+  pub spec : TypeSpecOf
   pub place : ℕ
   pub id : ℕ
   pub entry_count : ℕ
@@ -27,10 +28,10 @@ pub record TypeOf : Type 0 where
   pub offsets : List ℕ
   pub whole : List ℕ
 
-abbrev pub type_of : TypeChunk → TypeOf
-type_of chunk = record {
+abbrev pub type_chunk_of : TypeChunk → TypeChunkOf
+type_chunk_of chunk = record {
   owner = chunk.owner;
-  spec = spec_of chunk.spec;
+  spec = type_spec_of chunk.spec;
   place = chunk.place;
   id = chunk.id;
   entry_count = chunk.entry_count;
@@ -40,12 +41,12 @@ type_of chunk = record {
   whole = chunk.whole.now;
 }
 
-abbrev pub seen_type : Result TypeChunk TableFault → Result TypeOf TableFault
-seen_type (Ok chunk) = Ok (type_of chunk)
+abbrev pub seen_type : Result TypeChunk TableFault → Result TypeChunkOf TableFault
+seen_type (Ok chunk) = Ok (type_chunk_of chunk)
 seen_type (Err fault) = Err fault
 
 -- the type spec that was found, or the fault that there is none
-abbrev pub found_spec : Option SpecOf → ℕ → Result SpecOf TableFault
+abbrev pub found_spec : Option TypeSpecOf → ℕ → Result TypeSpecOf TableFault
 found_spec (Some spec) place = Ok spec
 found_spec None place = Err (faults.TypeWithoutSpec place)
 
@@ -57,7 +58,7 @@ found_config (Err fault) place = Err (faults.Config place)
 -- A type, or its first fault; `before` are the chunks before it in its package. Its id is at 8, its
 -- flags at 9 (the lowest bit says that the entries are listed sparsely, which is refused), the count of
 -- its entries at 12, where they start at 16, and its configuration at 20.
-unfoldable pub type_in : Package → List (Result ChunkOf ChunkFault) → ChunkOf → Result TypeOf TableFault
+unfoldable pub type_in : Owner → List (Result ChunkOf ChunkFault) → ChunkOf → Result TypeChunkOf TableFault
 type_in owner before chunk = do
   _ ← refuse (nat_lt (length chunk.header) least_type_header) (faults.Chunk (HeaderShort chunk.place))
   let id = slice_index chunk.header 8

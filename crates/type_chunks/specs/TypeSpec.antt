@@ -10,21 +10,22 @@ use Rattle.type_chunks.specs.declared.fault.TableFault.TheVariants as faults
 use Rattle.type_chunks.specs.declared.type_spec.TypeSpec.{TypeSpec}
 use Rattle.type_chunks.specs.Layout.{type_spec_kind, least_type_spec_header}
 
--- The id of a type, how many entries it has, and their flags of four bytes each.
-pub record SpecOf : Type 0 where
+-- The id of a type, how many entries it has, and the bytes that begin with their flags, of four bytes
+-- each.
+pub record TypeSpecOf : Type 0 where
   pub id : ℕ
   pub entry_count : ℕ
   pub flags : List ℕ
 
-abbrev pub spec_of : TypeSpec → SpecOf
-spec_of spec = record { id = spec.id; entry_count = spec.entry_count; flags = spec.flags.now }
+abbrev pub type_spec_of : TypeSpec → TypeSpecOf
+type_spec_of spec = record { id = spec.id; entry_count = spec.entry_count; flags = spec.flags.now }
 
-abbrev pub seen_spec : Result TypeSpec TableFault → Result SpecOf TableFault
-seen_spec (Ok spec) = Ok (spec_of spec)
+abbrev pub seen_spec : Result TypeSpec TableFault → Result TypeSpecOf TableFault
+seen_spec (Ok spec) = Ok (type_spec_of spec)
 seen_spec (Err fault) = Err fault
 
 -- the fields of a type spec's chunk: the id at 8, the count of entries at 12, then the flags
-abbrev pub spec_fields : ChunkOf → SpecOf
+abbrev pub spec_fields : ChunkOf → TypeSpecOf
 spec_fields chunk = record { id = slice_index chunk.header 8; entry_count = number 4 chunk.header 12; flags = chunk.body }
 
 -- what can be wrong with it, in the order of the checks
@@ -36,11 +37,11 @@ type_spec_faults chunk =
     ∷ []
 
 -- the type spec that a chunk is, or its first fault
-unfoldable pub type_spec_in : ChunkOf → Result SpecOf TableFault
+unfoldable pub type_spec_in : ChunkOf → Result TypeSpecOf TableFault
 type_spec_in chunk = checked_by (type_spec_faults chunk) (Ok (spec_fields chunk))
 
 -- the last type spec of an id among chunks, of which the nearest stands first
-unfoldable pub last_spec : ℕ → List (Result ChunkOf ChunkFault) → Option SpecOf
+unfoldable pub last_spec : ℕ → List (Result ChunkOf ChunkFault) → Option TypeSpecOf
 last_spec id [] = None
 last_spec id (Err fault ∷ before) = last_spec id before
 last_spec id (Ok chunk ∷ before) =

@@ -5,6 +5,7 @@ ghost use Rattle.type_chunks.specs.declared.fault.TableFault.TheVariants.{Chunk 
 
 use chunk_walk::ChunkFault;
 use std::alloc::{AllocError, AllocFailed};
+use string_pool::PoolFault;
 use thiserror::Error;
 
 /// What is wrong with a table: the first fault in the order of the file, with the place of the
@@ -20,6 +21,13 @@ pub enum TableFault {
     /// A package's id is 0 or above 255.
     #[error("PackageId {0}")]
     PackageId(usize),
+    /// A package's names of types or of entries have no place behind its header and within it, or no
+    /// pool stands there.
+    #[error("PackageHeader {0}")]
+    PackageHeader(usize),
+    /// A string pool does not open.
+    #[error("Pool {1} {0}")]
+    Pool(usize, PoolFault),
     /// The id of a type spec or a type is 0.
     #[error("TypeId {0}")]
     TypeId(usize),
@@ -35,7 +43,7 @@ pub enum TableFault {
     /// The flags of a type spec or the offsets of a type do not fit.
     #[error("Offsets {0}")]
     Offsets(usize),
-    /// An entry stands at no multiple of four, passes its chunk, or is complex.
+    /// An entry stands at no multiple of four, is too short, or does not fit with what it holds.
     #[error("Entry {0}")]
     Entry(usize),
     /// A value's size is not that of a value.

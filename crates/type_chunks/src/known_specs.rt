@@ -2,7 +2,7 @@
 
 ghost use Rattle.std.specs.Prelude.{◌≡◌, ℕ, [], Some, if◌then◌else◌, ◌==◌};
 ghost use Rattle.std.specs.Option.{option_map};
-ghost use Rattle.type_chunks.specs.TypeSpec.{spec_of};
+ghost use Rattle.type_chunks.specs.TypeSpec.{type_spec_of};
 
 use crate::type_spec::TypeSpec;
 
@@ -27,7 +27,7 @@ impl<'a> KnownSpecs<'a> {
 
     /// The last type spec of an id.
     pub fn last(&self, id: u8) -> Option<TypeSpec<'a>>
-        ensures { option_map spec_of result ≡ kept_spec self.now id }
+        ensures { option_map type_spec_of result ≡ kept_spec self.now id }
     {
         let by_id = &self.by_id[..];
         by_id[id as usize]
@@ -35,7 +35,7 @@ impl<'a> KnownSpecs<'a> {
 
     /// Keeps a type spec in place of an earlier one of its id.
     pub fn keep(&mut self, spec: TypeSpec<'a>)
-        ensures { (id : ℕ) → kept_spec self.new id ≡ (if spec.entry.id == id then Some (spec_of spec.entry) else kept_spec self.old id) }
+        ensures { (id : ℕ) → kept_spec self.new id ≡ (if spec.entry.id == id then Some (type_spec_of spec.entry) else kept_spec self.old id) }
     {
         let by_id = &mut self.by_id[..];
         by_id[spec.id as usize] = Some(spec);

@@ -1,7 +1,9 @@
 //! Kinds of chunks, and where the fields of headers stand.
 
-/// The kinds of chunks (AOSP: `RES_TABLE_TYPE` and its like).
+/// The kinds of chunks (AOSP: `RES_STRING_POOL_TYPE` and its like).
 pub(crate) mod kind {
+    pub const POOL: u16 = 0x0001;
+
     pub const TABLE: u16 = 0x0002;
 
     pub const PACKAGE: u16 = 0x0200;
@@ -20,8 +22,24 @@ pub(crate) mod table_header {
 pub(crate) mod package_header {
     pub const ID: usize = 8;
 
+    pub const NAME: usize = 12;
+
+    /// Room for 128 units of two bytes.
+    pub const NAME_SIZE: usize = 256;
+
+    /// Where the names of types stand, from the package's start.
+    pub const TYPE_NAMES: usize = 268;
+
+    /// Where the names of entries stand, from the package's start.
+    pub const KEY_NAMES: usize = 276;
+
+    pub const TYPE_ID_OFFSET: usize = 284;
+
     /// Without the last field, typeIdOffset, which older tools do not write.
     pub const LEAST_SIZE: usize = 284;
+
+    /// With it.
+    pub const SIZE_WITH_OFFSET: usize = 288;
 }
 
 /// The header of a type spec (AOSP: `ResTable_typeSpec`).
@@ -64,7 +82,13 @@ pub(crate) mod entry_header {
     pub const KEY: usize = 4;
 
     pub const LEAST_SIZE: usize = 8;
+}
 
-    /// The bit of the flags that says that a bag follows.
-    pub const FLAG_COMPLEX: u16 = 1;
+/// What follows the key of a complex entry (AOSP: `ResTable_map_entry`).
+pub(crate) mod bag_header {
+    pub const PARENT: usize = 8;
+
+    pub const COUNT: usize = 12;
+
+    pub const LEAST_SIZE: usize = 16;
 }

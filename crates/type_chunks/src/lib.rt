@@ -1,7 +1,10 @@
-//! Reads a resource table: opening checks all of it, and gives its rows in the order of the file.
+//! Reads a resource table: opening checks all of it but its strings, and gives its packages with
+//! their rows in the order of the file.
 //!
-//! For the crates above: a `Table` is the list of its rows; `Table::open` gives the rows that the
-//! bytes spell, or the first fault with its place; `rows(id)` is the rows of an id, `all_rows` all.
+//! For the crates above: a `Table` is the list of its packages with their rows and names, and the
+//! strings of its values; `Table::open` gives those that the bytes spell, or the first fault with its
+//! place; `rows(id)` is the rows of an id, `all_rows` all, and `find` gives the id of the first row that
+//! has two names.
 //!
 //! ```text
 //! let table = Table::open(alloc, &bytes)?;
@@ -12,14 +15,21 @@
 //!
 //! A file is a table chunk, which holds packages, which hold type specs and types, which hold
 //! entries. What rows these are, and which fault is the first, is said of each in `specs/Table.antt`,
-//! `specs/Package.antt`, `specs/TypeSpec.antt`, `specs/TypeChunk.antt` and `specs/Entry.antt`.
+//! `specs/Package.antt`, `specs/PackageRows.antt`, `specs/TypeSpec.antt`, `specs/TypeChunk.antt` and `specs/Entry.antt`.
 #![tactic(auto)]
 
 mod entry;
+mod entry_flags;
 mod fault;
+mod known_children;
 mod known_specs;
 mod layout;
+mod names;
+mod owner;
 mod package;
+mod package_header;
+mod package_rows;
+mod pool;
 mod row;
 mod rows;
 mod table;
@@ -27,6 +37,7 @@ mod type_chunk;
 mod type_spec;
 
 pub use fault::TableFault;
+pub use package::Package;
 pub use row::Row;
-pub use rows::{AllRows, Rows};
+pub use rows::{AllRows, PackageRows, Rows};
 pub use table::Table;

@@ -1,120 +1,86 @@
-//! Packages, and the rows in them.
+//! Packages.
 
-ghost use Rattle.std.specs.Prelude.{◌≡◌, ◌<◌, ◌∷◌, List, Result, OnOk};
-ghost use Rattle.chunk_walk.specs.Chunk.{ChunkOf, chunk_of, seen};
-ghost use Rattle.chunk_walk.specs.declared.chunk.ChunkFault.{ChunkFault};
-ghost use Rattle.contract_words.specs.Sequences.{Pushes};
-ghost use Rattle.type_chunks.specs.declared.fault.TableFault.TheVariants.{OutOfMemory};
-ghost use Rattle.type_chunks.specs.KnownSpecs.{Knows};
-ghost use Rattle.type_chunks.specs.Row.{views_of};
-ghost use Rattle.type_chunks.specs.TypeChunk.{type_of};
-ghost use Rattle.type_chunks.specs.Entry.{rows_of_entry};
-ghost use Rattle.type_chunks.specs.Package.{rows_of_entries, rows_of_package_child, rows_of_package_children, rows_of_package};
+ghost use Rattle.std.specs.Prelude.{◌≡◌, ◌<◌, ◌^◌, length};
 
 use crate::fault::TableFault;
-use crate::known_specs::KnownSpecs;
-use crate::layout::{kind, package_header as header};
+use crate::layout::package_header as header;
+use crate::owner::Owner;
+use crate::package_header::{name_within, open_names, type_id_offset};
+use crate::package_rows::push_children;
 use crate::row::Row;
-use crate::type_chunk::TypeChunk;
-use crate::type_spec::TypeSpec;
+use crate::rows::PackageRows;
 use chunk_walk::{Chunk, ChunkFault, u32_within};
+use std::alloc::Global;
+use string_pool::{Pool, Text};
 
-/// A package (AOSP: `ResTable_package`).
-#[derive(Clone, Copy, Debug, PartialEq, Eq)]
-pub(crate) struct Package {
-    pub id: u8,
-    /// How many packages of the table stand before it.
-    pub index: usize,
+/// A package (AOSP: `ResTable_package`): its rows, with their names.
+#[derive(Drop)]
+pub struct Package<'a> {
+    pub(crate) id: u8,
+    pub(crate) name: Text<'a>,
+    pub(crate) type_names: Pool<'a>,
+    pub(crate) key_names: Pool<'a>,
+    pub(crate) type_id_offset: u32,
+    pub(crate) rows: Vec<Row<'a>>,
+    ghost few: { length rows.items < 2 ^ 63 },
 }
 
-/// Pushes the rows of a package; `index` packages stand before it.
-#[tactic(auto, unfolding(crate::specs::Package::rows_of_package))]
-pub(crate) fn push_package<'a>(
-    index: usize,
-    chunk: &Chunk<'a>,
-    rows: &mut Vec<Row<'a>>,
-) -> Result<(), TableFault>
-    ensures { Pushes OutOfMemory (views_of rows.old.items) (views_of rows.new.items) result (rows_of_package index (chunk_of chunk.now)) }
-{
-    if chunk.header.len() < header::LEAST_SIZE {
-        return Err(TableFault::Chunk(ChunkFault::HeaderShort(chunk.place)));
-    }
-    let id = u32_within(chunk.header, header::ID);
-    if id == 0 || id > 255 {
-        return Err(TableFault::PackageId(chunk.place));
-    }
-    push_children(
-        Package {
-            id: id as u8,
-            index,
-        },
-        chunk,
-        rows,
-    )
-}
+impl<'a> Package<'a> {
+    ghost use Rattle.chunk_walk.specs.Chunk.{chunk_of};
+    ghost use Rattle.contract_words.specs.Exact.{GivesOr};
+    ghost use Rattle.string_pool.specs.Text.{text_of};
+    ghost use Rattle.type_chunks.specs.declared.fault.TableFault.TheVariants.{OutOfMemory};
+    ghost use Rattle.type_chunks.specs.Row.{views_of};
+    ghost use Rattle.type_chunks.specs.Package.{package_of, package_in};
 
-// Pushes the rows of the chunks in a package.
-#[tactic(auto, using(contract_words::proofs::SequenceSteps::knowing_steps))]
-fn push_children<'a>(
-    owner: Package,
-    chunk: &Chunk<'a>,
-    rows: &mut Vec<Row<'a>>,
-) -> Result<(), TableFault>
-    ensures { Pushes OutOfMemory (views_of rows.old.items) (views_of rows.new.items) result (rows_of_package_children owner (chunk_of chunk.now)) }
-{
-    let mut specs = KnownSpecs::new();
-    for found in chunk.children() {
-        push_child(owner, found, &mut specs, rows)?;
-    }
-    Ok(())
-}
-
-// Pushes the rows of a chunk in a package; `specs` has the type specs before it.
-#[tactic(auto, unfolding(crate::specs::Package::rows_of_package_child))]
-fn push_child<'a>(
-    owner: Package,
-    found: Result<Chunk<'a>, ChunkFault>,
-    specs: &mut KnownSpecs<'a>,
-    rows: &mut Vec<Row<'a>>,
-) -> Result<(), TableFault>
-    ensures known { (before : List (Result ChunkOf ChunkFault)) → Knows specs.old before
-        → OnOk result (Knows specs.new (seen found.entry ∷ before)) }
-    ensures rows { (before : List (Result ChunkOf ChunkFault)) → Knows specs.old before
-        → Pushes OutOfMemory (views_of rows.old.items) (views_of rows.new.items) result (rows_of_package_child owner (before, seen found.entry)) }
-{
-    let chunk = found?;
-    match chunk.kind {
-        kind::TYPE_SPEC => {
-            specs.keep(TypeSpec::read(&chunk)?);
-            Ok(())
+    /// The package that a chunk is; `index` packages stand before it.
+    #[tactic(auto, unfolding(crate::specs::Package::package_in))]
+    pub(crate) fn read(
+        alloc: Global,
+        index: usize,
+        chunk: &Chunk<'a>,
+    ) -> Result<Package<'a>, TableFault>
+        ensures { GivesOr OutOfMemory package_of result (package_in index (chunk_of chunk.now)) }
+    {
+        if chunk.header.len() < header::LEAST_SIZE {
+            return Err(TableFault::Chunk(ChunkFault::HeaderShort(chunk.place)));
         }
-        kind::TYPE => push_type(&TypeChunk::read(owner, specs, &chunk)?, rows),
-        _ => Ok(()),
+        let id = u32_within(chunk.header, header::ID);
+        if id == 0 || id > 255 {
+            return Err(TableFault::PackageId(chunk.place));
+        }
+        let id = id as u8;
+        let type_names = open_names(chunk, u32_within(chunk.header, header::TYPE_NAMES))?;
+        let key_names = open_names(chunk, u32_within(chunk.header, header::KEY_NAMES))?;
+        let mut rows = Vec::new(alloc);
+        push_children(Owner { id, index }, chunk, &mut rows)?;
+        Ok(Package {
+            id,
+            name: name_within(chunk),
+            type_names,
+            key_names,
+            type_id_offset: type_id_offset(chunk),
+            rows,
+        })
     }
-}
 
-// Pushes the rows of the entries of a type.
-#[tactic(auto, using(contract_words::proofs::SequenceSteps::from_steps))]
-fn push_type<'a>(chunk: &TypeChunk<'a>, rows: &mut Vec<Row<'a>>) -> Result<(), TableFault>
-    ensures { Pushes OutOfMemory (views_of rows.old.items) (views_of rows.new.items) result (rows_of_entries (type_of chunk.now)) }
-{
-    for index in 0..chunk.entry_count {
-        push_entry(chunk, index, rows)?;
+    /// The upper byte of its resources' ids: 1 is the system, 0x7f an app.
+    pub fn id(&self) -> u8
+        ensures { result ≡ (package_of self.now).id }
+    {
+        self.id
     }
-    Ok(())
-}
 
-// Pushes the row of an entry, where there is one.
-fn push_entry<'a>(
-    chunk: &TypeChunk<'a>,
-    index: u32,
-    rows: &mut Vec<Row<'a>>,
-) -> Result<(), TableFault>
-    requires { index < chunk.now.entry_count }
-    ensures { Pushes OutOfMemory (views_of rows.old.items) (views_of rows.new.items) result (rows_of_entry (type_of chunk.now) index) }
-{
-    if let Some(row) = chunk.entry(index)? {
-        rows.push(row)?;
+    pub fn name(&self) -> Text<'a>
+        ensures { text_of result ≡ (package_of self.now).name }
+    {
+        self.name
     }
-    Ok(())
+
+    /// Its rows, in the order of the file.
+    pub fn rows(&self) -> PackageRows<'_, 'a>
+        ensures { result ≡ (package_of self.now).rows }
+    {
+        PackageRows::new(&self.rows)
+    }
 }

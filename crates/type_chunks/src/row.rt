@@ -10,7 +10,7 @@ pub struct Row<'a> {
     pub id: ResId,
     /// The configuration that the row is for.
     pub config: Record<'a>,
-    pub cell: Cell,
+    pub cell: Cell<'a>,
     /// The flags of the type spec for this entry: which qualifiers vary, and whether it is public.
     pub flags: u32,
     /// The place of the entry's name among the package's names of entries.

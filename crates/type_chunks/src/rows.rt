@@ -1,19 +1,23 @@
 //! The rows of a table, one after the other.
 
-ghost use Rattle.std.specs.Prelude.{◌≡◌};
+ghost use Rattle.std.specs.Prelude.{◌≡◌, ◌<◌, ◌^◌, length};
+ghost use Rattle.std.specs.Iterator.{YieldsFirstBy};
+ghost use Rattle.type_chunks.specs.Row.{row_of};
+ghost use Rattle.type_chunks.specs.LeftRows.{left_rows};
 
+use crate::package::Package;
 use crate::row::Row;
 use res_value::ResId;
 use std::marker::Model;
 use std::slice::Iter;
 
-/// All rows of a table that are left, in the order of the file.
+/// The rows of a package that are left, in the order of the file.
 #[derive(Drop)]
-pub struct AllRows<'t, 'a> {
+pub struct PackageRows<'t, 'a> {
     left: Iter<'t, Row<'a>>,
 }
 
-impl<'t, 'a> Model for AllRows<'t, 'a> {
+impl<'t, 'a> Model for PackageRows<'t, 'a> {
     ghost use Rattle.std.specs.Prelude.{List};
     ghost use Rattle.std.specs.Slice.Iter.{iter_rest};
     ghost use Rattle.type_chunks.specs.Row.{RowOf, views_of};
@@ -23,13 +27,63 @@ impl<'t, 'a> Model for AllRows<'t, 'a> {
     ghost view = { λ s. views_of (iter_rest s.left) };
 }
 
-impl<'t, 'a> AllRows<'t, 'a> {
+impl<'t, 'a> PackageRows<'t, 'a> {
     ghost use Rattle.type_chunks.specs.Row.{views_of};
 
     pub(crate) fn new(rows: &'t [Row<'a>]) -> Self
         ensures { result ≡ views_of rows.now }
     {
-        AllRows { left: rows.iter() }
+        PackageRows { left: rows.iter() }
+    }
+}
+
+impl<'t, 'a> Iterator for PackageRows<'t, 'a> {
+    ghost use Rattle.std.specs.Iterator.{YieldsFirstBy, item_count};
+    ghost use Rattle.type_chunks.specs.Row.{row_of};
+
+    type Item = Row<'a>;
+
+    ghost next_gives = { YieldsFirstBy row_of (λ s. s) };
+
+    ghost remaining = { item_count (λ s. s) };
+
+    fn next(&mut self) -> Option<Row<'a>> {
+        self.left.next().copied()
+    }
+}
+
+/// All rows of a table that are left, in the order of the file.
+#[derive(Drop)]
+pub struct AllRows<'t, 'a> {
+    /// Of the package before these, where there is one.
+    left: Option<PackageRows<'t, 'a>>,
+    packages: Iter<'t, Package<'a>>,
+}
+
+impl<'t, 'a> Model for AllRows<'t, 'a> {
+    ghost use Rattle.std.specs.Prelude.{List, ◌++◌};
+    ghost use Rattle.std.specs.Slice.Iter.{iter_rest};
+    ghost use Rattle.type_chunks.specs.Row.{RowOf};
+    ghost use Rattle.type_chunks.specs.Package.{packages_of, rows_of_packages};
+    ghost use Rattle.type_chunks.specs.LeftRows.{left_rows};
+
+    ghost Value = { List RowOf };
+
+    ghost view = { λ s. left_rows s.left ++ rows_of_packages (packages_of (iter_rest s.packages)) };
+}
+
+impl<'t, 'a> AllRows<'t, 'a> {
+    ghost use Rattle.type_chunks.specs.Package.{packages_of, rows_of_packages};
+
+    #[tactic(auto, using(crate::proofs::RowsSteps::rows_steps))]
+    pub(crate) fn new(packages: &'t [Package<'a>]) -> Self
+        ensures rows { result ≡ rows_of_packages (packages_of packages.now) }
+        ensures few { length result < 2 ^ 126 }
+    {
+        AllRows {
+            left: None,
+            packages: packages.iter(),
+        }
     }
 }
 
@@ -43,8 +97,27 @@ impl<'t, 'a> Iterator for AllRows<'t, 'a> {
 
     ghost remaining = { item_count (λ s. s) };
 
+    #[tactic(auto, using(crate::proofs::RowsSteps::rows_steps))]
     fn next(&mut self) -> Option<Row<'a>> {
-        self.left.next().copied()
+        'packages: loop {
+            if let Some(row) = next_row(&mut self.left) {
+                return Some(row);
+            }
+            let Some(package) = self.packages.next() else {
+                return None;
+            };
+            self.left = Some(package.rows());
+        }
+    }
+}
+
+// The next row of a package, where there is one.
+fn next_row<'a>(left: &mut Option<PackageRows<'_, 'a>>) -> Option<Row<'a>>
+    ensures { YieldsFirstBy row_of left_rows left.old result left.new }
+{
+    match left {
+        Some(rows) => rows.next(),
+        None => None,
     }
 }
 
@@ -65,13 +138,14 @@ impl<'t, 'a> Model for Rows<'t, 'a> {
 }
 
 impl<'t, 'a> Rows<'t, 'a> {
-    ghost use Rattle.type_chunks.specs.Row.{views_of, with_id};
+    ghost use Rattle.type_chunks.specs.Row.{with_id};
+    ghost use Rattle.type_chunks.specs.Package.{packages_of, rows_of_packages};
 
-    pub(crate) fn new(rows: &'t [Row<'a>], id: ResId) -> Self
-        ensures { result ≡ with_id id.0 (views_of rows.now) }
+    pub(crate) fn new(packages: &'t [Package<'a>], id: ResId) -> Self
+        ensures { result ≡ with_id id.0 (rows_of_packages (packages_of packages.now)) }
     {
         Rows {
-            all: AllRows::new(rows),
+            all: AllRows::new(packages),
             id,
         }
     }

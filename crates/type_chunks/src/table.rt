@@ -5,98 +5,125 @@ ghost use Rattle.chunk_walk.specs.Chunk.{ChunkOf, chunk_of, seen};
 ghost use Rattle.chunk_walk.specs.declared.chunk.ChunkFault.{ChunkFault};
 ghost use Rattle.contract_words.specs.Exact.{GivesOr};
 ghost use Rattle.contract_words.specs.Sequences.{Pushes};
+ghost use Rattle.string_pool.specs.Pool.{pool_of};
 ghost use Rattle.type_chunks.specs.declared.fault.TableFault.TheVariants.{OutOfMemory};
-ghost use Rattle.type_chunks.specs.Row.{views_of, with_id};
-ghost use Rattle.type_chunks.specs.Table.{rows_of_table_child, rows_of_table_children, rows_of};
-ghost use Rattle.type_chunks.specs.CountedPackages.{CountsPackages};
+ghost use Rattle.type_chunks.specs.Row.{with_id};
+ghost use Rattle.type_chunks.specs.Package.{packages_of};
+ghost use Rattle.type_chunks.specs.Table.{packages_of_child, table_of_children, table_in, rows_of};
+ghost use Rattle.type_chunks.specs.KnownChildren.{KnowsChildren};
 
 use crate::fault::TableFault;
+use crate::known_children::KnownChildren;
 use crate::layout::{kind, table_header};
-use crate::package::push_package;
-use crate::row::Row;
+use crate::package::Package;
+use crate::pool::open_pool;
 use crate::rows::{AllRows, Rows};
 use chunk_walk::{Chunk, ChunkFault, chunk_at};
 use res_value::ResId;
 use std::alloc::Global;
 use std::marker::Model;
+use string_pool::Pool;
 
-/// The rows of a resource table (AOSP: `ResTable`), whose bytes are lent by the input. Contracts see
-/// it as the list of its rows in the order of the file.
+/// A resource table (AOSP: `ResTable`), whose bytes are lent by the input. Contracts see it as its
+/// packages with their rows, in the order of the file, and the strings of its values.
 #[derive(Drop)]
 pub struct Table<'a> {
-    rows: Vec<Row<'a>>,
+    packages: Vec<Package<'a>>,
+    strings: Pool<'a>,
 }
 
 impl<'a> Model for Table<'a> {
-    ghost use Rattle.std.specs.Prelude.{List};
-    ghost use Rattle.type_chunks.specs.Row.{RowOf, views_of};
+    ghost use Rattle.type_chunks.specs.Table.{TableOf};
+    ghost use Rattle.type_chunks.specs.Package.{packages_of};
+    ghost use Rattle.string_pool.specs.Pool.{pool_of};
 
-    ghost Value = { List RowOf };
+    ghost Value = { TableOf };
 
-    ghost view = { λ table. views_of table.rows.items };
+    ghost view = { λ table. record { packages = packages_of table.packages.items; strings = pool_of table.strings } };
 }
 
 impl<'a> Table<'a> {
     /// The table that a file's bytes spell, all of it checked. What follows the table is passed over.
-    #[tactic(auto, using(contract_words::proofs::SequenceSteps::with_front_nil), unfolding(crate::specs::Table::rows_of))]
+    #[tactic(auto, using(contract_words::proofs::SequenceSteps::with_front_nil), unfolding(crate::specs::Table::table_in))]
     pub fn open(alloc: Global, bytes: &'a [u8]) -> Result<Table<'a>, TableFault>
-        ensures { GivesOr OutOfMemory (λ table. table) result (rows_of bytes.now) }
+        ensures { GivesOr OutOfMemory (λ table. table) result (table_in bytes.now) }
     {
         let table = chunk_at(bytes, 0, table_header::LEAST_SIZE)?;
         if table.kind != kind::TABLE {
             return Err(TableFault::NotTable);
         }
-        let mut rows = Vec::new(alloc);
-        push_packages(&table, &mut rows)?;
-        Ok(Table { rows })
+        Table::read_children(alloc, &table)
+    }
+
+    // The table that the chunks in a table are.
+    #[tactic(auto, using(contract_words::proofs::SequenceSteps::knowing_steps))]
+    fn read_children(alloc: Global, table: &Chunk<'a>) -> Result<Table<'a>, TableFault>
+        ensures { GivesOr OutOfMemory (λ table. table) result (table_of_children (chunk_of table.now)) }
+    {
+        let mut packages = Vec::new(alloc);
+        let mut known = KnownChildren::none();
+        for found in table.children() {
+            push_child(alloc, found, &mut known, &mut packages)?;
+        }
+        Ok(Table {
+            packages,
+            strings: known.strings_or_none(),
+        })
+    }
+
+    /// Its packages, in the order of the file.
+    pub fn packages(&self) -> &[Package<'a>]
+        ensures { packages_of result.now ≡ self.now.packages }
+    {
+        &self.packages
+    }
+
+    /// The strings that its values name.
+    pub fn strings(&self) -> Pool<'a>
+        ensures { pool_of result ≡ self.now.strings }
+    {
+        self.strings
     }
 
     /// All rows, in the order of the file.
     pub fn all_rows(&self) -> AllRows<'_, 'a>
-        ensures rows { result ≡ self.now }
-        ensures few { length result < 2 ^ 63 }
+        ensures rows { result ≡ rows_of self.now }
+        ensures few { length result < 2 ^ 126 }
     {
-        AllRows::new(&self.rows)
+        AllRows::new(&self.packages)
     }
 
     /// The rows of an id, in the order of the file.
     pub fn rows(&self, id: ResId) -> Rows<'_, 'a>
-        ensures { result ≡ with_id id.0 self.now }
+        ensures { result ≡ with_id id.0 (rows_of self.now) }
     {
-        Rows::new(&self.rows, id)
+        Rows::new(&self.packages, id)
     }
 }
 
-// Pushes the rows of the chunks in a table.
-#[tactic(auto, using(contract_words::proofs::SequenceSteps::knowing_steps))]
-fn push_packages<'a>(table: &Chunk<'a>, rows: &mut Vec<Row<'a>>) -> Result<(), TableFault>
-    ensures { Pushes OutOfMemory (views_of rows.old.items) (views_of rows.new.items) result (rows_of_table_children (chunk_of table.now)) }
-{
-    let mut packages = 0;
-    for found in table.children() {
-        push_child(found, &mut packages, rows)?;
-    }
-    Ok(())
-}
-
-// Pushes the rows of a chunk in a table; `packages` packages stand before it.
-#[tactic(auto, unfolding(crate::specs::Table::rows_of_table_child))]
+// Pushes a chunk in a table, where it is a package; `known` tells of the chunks before it.
+#[tactic(auto, unfolding(crate::specs::Table::packages_of_child))]
 fn push_child<'a>(
+    alloc: Global,
     found: Result<Chunk<'a>, ChunkFault>,
-    packages: &mut usize,
-    rows: &mut Vec<Row<'a>>,
+    known: &mut KnownChildren<'a>,
+    packages: &mut Vec<Package<'a>>,
 ) -> Result<(), TableFault>
-    requires { packages.old < 2 ^ 60 }
-    ensures known { (before : List (Result ChunkOf ChunkFault)) → CountsPackages packages.old before
-        → OnOk result (CountsPackages packages.new (seen found.entry ∷ before)) }
-    ensures one { packages.new ≤ packages.old + 1 }
-    ensures rows { (before : List (Result ChunkOf ChunkFault)) → CountsPackages packages.old before
-        → Pushes OutOfMemory (views_of rows.old.items) (views_of rows.new.items) result (rows_of_table_child (before, seen found.entry)) }
+    requires { known.old.packages < 2 ^ 60 }
+    ensures known { (before : List (Result ChunkOf ChunkFault)) → KnowsChildren known.old before
+        → OnOk result (KnowsChildren known.new (seen found.entry ∷ before)) }
+    ensures one { known.new.packages ≤ known.old.packages + 1 }
+    ensures packages { (before : List (Result ChunkOf ChunkFault)) → KnowsChildren known.old before
+        → Pushes OutOfMemory (packages_of packages.old.items) (packages_of packages.new.items) result (packages_of_child (before, seen found.entry)) }
 {
     let chunk = found?;
-    if chunk.kind == kind::PACKAGE {
-        push_package(*packages, &chunk, rows)?;
-        *packages += 1;
+    match chunk.kind {
+        kind::PACKAGE => {
+            packages.push(Package::read(alloc, known.packages, &chunk)?)?;
+            known.packages += 1;
+        }
+        kind::POOL if known.strings.is_none() => known.strings = Some(open_pool(&chunk)?),
+        _ => {}
     }
     Ok(())
 }

@@ -5,7 +5,7 @@ ghost use Rattle.std.specs.Prelude.{◌≡◌, ◌+◌, ◌*◌, ◌<◌, ◌≤
 use crate::fault::TableFault;
 use crate::known_specs::KnownSpecs;
 use crate::layout::type_header as header;
-use crate::package::Package;
+use crate::owner::Owner;
 use crate::type_spec::TypeSpec;
 use chunk_walk::{Chunk, ChunkFault, u32_within};
 use config_record::Record;
@@ -14,7 +14,7 @@ use config_record::Record;
 /// `ResTable_type`).
 #[derive(Clone, Copy, Debug)]
 pub(crate) struct TypeChunk<'a> {
-    pub owner: Package,
+    pub owner: Owner,
     pub spec: TypeSpec<'a>,
     pub place: usize,
     pub id: u8,
@@ -32,12 +32,12 @@ impl<'a> TypeChunk<'a> {
     ghost use Rattle.chunk_walk.specs.Chunk.{ChunkOf, chunk_of};
     ghost use Rattle.chunk_walk.specs.declared.chunk.ChunkFault.{ChunkFault};
     ghost use Rattle.type_chunks.specs.KnownSpecs.{Knows};
-    ghost use Rattle.type_chunks.specs.TypeChunk.{type_of, seen_type, type_in};
+    ghost use Rattle.type_chunks.specs.TypeChunk.{type_chunk_of, seen_type, type_in};
 
     /// Reads a type from its chunk; `specs` has the type specs before it.
     #[tactic(auto, unfolding(crate::specs::TypeChunk::type_in))]
     pub fn read(
-        owner: Package,
+        owner: Owner,
         specs: &KnownSpecs<'a>,
         chunk: &Chunk<'a>,
     ) -> Result<TypeChunk<'a>, TableFault>

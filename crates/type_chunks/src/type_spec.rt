@@ -19,7 +19,7 @@ pub(crate) struct TypeSpec<'a> {
 impl<'a> TypeSpec<'a> {
     ghost use Rattle.chunk_walk.specs.Chunk.{chunk_of};
     ghost use Rattle.chunk_walk.specs.Number.{number};
-    ghost use Rattle.type_chunks.specs.TypeSpec.{spec_of, seen_spec, type_spec_in};
+    ghost use Rattle.type_chunks.specs.TypeSpec.{type_spec_of, seen_spec, type_spec_in};
 
     /// Reads a type spec from its chunk.
     #[tactic(auto, unfolding(crate::specs::TypeSpec::type_spec_in))]

@@ -1,7 +1,7 @@
 use super::rows_bytes;
-use crate::fault::{ToolFault, fault_text};
 use crate::status::Status;
 use chunk_walk::ChunkFault;
+use resource_text::ToolFault;
 use std::test::Fail;
 use type_chunks::TableFault;
 
@@ -28,22 +28,11 @@ fn prints_totals(rt: HostRuntime) -> Result<(), Fail> {
 }
 
 #[test]
-fn tells_faults(rt: HostRuntime) -> Result<(), Fail> {
+fn names_the_fault(rt: HostRuntime) {
     let mut out = Vec::new(rt.alloc());
-    let fault = ToolFault::Table(TableFault::Chunk(ChunkFault::Oversize(0)));
     assert_eq!(rt;
         rows_bytes(rt.alloc(), &NO_ROWS[..39], &mut out),
-        Err(fault)
+        Err(ToolFault::Table(TableFault::Chunk(ChunkFault::Oversize(0))))
     );
-    for fault in [
-        fault,
-        ToolFault::Table(TableFault::NotTable),
-        ToolFault::OutOfMemory,
-        ToolFault::Write,
-    ] {
-        fault_text(&fault, &mut out)?;
-    }
-    let lines = "refused: table: Chunk Oversize 0\nrefused: table: NotTable\nout of memory\n";
-    assert_eq!(rt; out.as_slice(), lines.as_bytes());
-    Ok(())
+    assert!(rt; out.is_empty());
 }

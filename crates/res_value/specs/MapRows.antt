@@ -1,0 +1,40 @@
+-- The rows of a bag (AOSP: ResTable_map): a name, which is an id, and a value.
+use Rattle.std.specs.Prelude.{ℕ, zero, suc, ◌+◌, ◌*◌, not, Bool, List, [], ◌∷◌, length, drop, Option, Some, None, Result, Ok, Err, nat_lt, find, if◌then◌else◌}
+use Rattle.std.specs.List.{range_with_len}
+use Rattle.chunk_walk.specs.Number.{number}
+use Rattle.res_value.specs.declared.res_id.ResId.{ResId}
+use Rattle.res_value.specs.declared.value.Value.{Value}
+use Rattle.res_value.specs.declared.map_rows.MapRows.{MapRows}
+use Rattle.res_value.specs.declared.map_rows.MapRowsFault.{MapRowsFault}
+use Rattle.res_value.specs.declared.map_rows.MapRowsFault.TheVariants.{Short, ValueSize}
+use Rattle.res_value.specs.Value.{has_value_size, value_at}
+
+-- so many rows, one behind the other, each its name and its value
+unfoldable pub map_rows_at : ℕ → List ℕ → List (ResId × Value)
+map_rows_at zero bytes = []
+map_rows_at (suc count) bytes = (record { 0 = number 4 bytes 0 }, value_at (drop 4 bytes)) ∷ map_rows_at count (drop 12 bytes)
+
+-- the rows that are left
+abbrev pub map_rows_of : MapRows → List (ResId × Value)
+map_rows_of rows = map_rows_at rows.count rows.left.now
+
+-- whether the value of the row of this index, counted from 0, has another size than a value has
+unfoldable pub is_odd_row : List ℕ → ℕ → Bool
+is_odd_row bytes index = not (has_value_size (drop (12 * index + 4) bytes))
+
+-- the rows, if none of them has a value of another size
+abbrev pub unless_odd : ℕ → List ℕ → Option ℕ → Result (List (ResId × Value)) MapRowsFault
+unless_odd count bytes None = Ok (map_rows_at count bytes)
+unless_odd count bytes (Some index) = Err (ValueSize index)
+
+-- So many rows at the front of some bytes, if all of them fit and each value has its size. That they fit
+-- is checked before the first value.
+unfoldable pub map_rows_in : ℕ → List ℕ → Result (List (ResId × Value)) MapRowsFault
+map_rows_in count bytes =
+    if nat_lt (length bytes) (12 * count) then Err Short
+    else unless_odd count bytes (find (is_odd_row bytes) (range_with_len 0 count))
+
+-- how contracts see what a call returned: without where it lies in memory
+abbrev pub seen_rows : Result MapRows MapRowsFault → Result (List (ResId × Value)) MapRowsFault
+seen_rows (Ok rows) = Ok (map_rows_of rows)
+seen_rows (Err fault) = Err fault

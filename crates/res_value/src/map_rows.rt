@@ -1,0 +1,164 @@
+//! The rows of a bag.
+
+ghost use Rattle.std.specs.Prelude.{◌≡◌, ◌==◌, ◌+◌, ◌*◌, ◌≤◌, length, find};
+ghost use Rattle.std.specs.List.{range_with_len};
+
+use crate::res_id::ResId;
+use crate::value::Value;
+use chunk_walk::u32_within;
+use thiserror::Error;
+
+// How many bytes a row has.
+const ROW_SIZE: usize = 12;
+
+// Where the parts of a row stand.
+const NAME: usize = 0;
+
+const VALUE: usize = 4;
+
+/// What is wrong with the rows of a bag. That they do not fit is named before a value's size.
+#[derive(Clone, Copy, Debug, PartialEq, Eq, Error)]
+pub enum MapRowsFault {
+    /// There are fewer bytes than the rows have.
+    #[error("Short")]
+    Short,
+    /// The row of this index, counted from 0, is the first whose value has another size than a value
+    /// has.
+    #[error("ValueSize {0}")]
+    ValueSize(u32),
+}
+
+/// The rows of a bag that are left (AOSP: `ResTable_map`), in the order of the file, each its name and
+/// its value. They are lent from the bytes that they stand in.
+#[derive(Clone, Copy, Debug)]
+pub struct MapRows<'a> {
+    count: u32,
+    left: &'a [u8],
+    ghost fits: { 12 * count ≤ length left.now },
+}
+
+impl<'a> MapRows<'a> {
+    ghost use Rattle.std.specs.Prelude.{length};
+    ghost use Rattle.res_value.specs.MapRows.{seen_rows, map_rows_in, map_rows_of, is_odd_row};
+
+    /// So many rows at the front of some bytes.
+    #[tactic(auto, unfolding(crate::specs::MapRows::map_rows_in))]
+    pub fn read(count: u32, bytes: &'a [u8]) -> Result<MapRows<'a>, MapRowsFault>
+        ensures { seen_rows result ≡ map_rows_in count bytes.now }
+    {
+        if bytes.len() < ROW_SIZE * count as usize {
+            return Err(MapRowsFault::Short);
+        }
+        if let Some(index) = MapRows::first_odd(count, bytes) {
+            return Err(MapRowsFault::ValueSize(index));
+        }
+        Ok(MapRows { count, left: bytes })
+    }
+
+    /// Where the value of a row stands, from the start of the rows.
+    pub fn value_place(index: u32) -> usize
+        ensures { result ≡ 12 * index + 4 }
+    {
+        ROW_SIZE * index as usize + VALUE
+    }
+
+    /// How many rows are left.
+    #[tactic(auto, using(crate::proofs::MapRowsSteps::map_rows_steps))]
+    pub fn len(&self) -> usize
+        ensures { result ≡ length (map_rows_of self.now) }
+    {
+        self.count as usize
+    }
+
+    /// Whether no row is left.
+    #[tactic(auto, using(crate::proofs::MapRowsSteps::map_rows_steps))]
+    pub fn is_empty(&self) -> bool
+        ensures { result ≡ (length (map_rows_of self.now) == 0) }
+    {
+        self.count == 0
+    }
+
+    // Whether the value of a row has another size than a value has.
+    #[tactic(auto, unfolding(crate::specs::MapRows::is_odd_row))]
+    fn is_odd(bytes: &[u8], index: u32) -> bool
+        requires { 12 * index + 12 ≤ length bytes.now }
+        ensures { result ≡ is_odd_row bytes.now index }
+    {
+        Value::read(&bytes[MapRows::value_place(index)..]).is_none()
+    }
+
+    // The first row whose value has another size than a value has.
+    #[tactic(auto, using(crate::proofs::MapRowsSteps::odd_steps))]
+    fn first_odd(count: u32, bytes: &[u8]) -> Option<u32>
+        requires { 12 * count ≤ length bytes.now }
+        ensures { result ≡ find (is_odd_row bytes.now) (range_with_len 0 count) }
+    {
+        for index in 0..count {
+            if MapRows::is_odd(bytes, index) {
+                return Some(index);
+            }
+        }
+        None
+    }
+}
+
+impl<'a> Iterator for MapRows<'a> {
+    ghost use Rattle.std.specs.Iterator.{YieldsFirstBy, item_count};
+    ghost use Rattle.res_value.specs.MapRows.{map_rows_of};
+
+    type Item = (ResId, Value);
+
+    ghost next_gives = { YieldsFirstBy (λ row. (row.0, row.1)) map_rows_of };
+
+    ghost remaining = { item_count map_rows_of };
+
+    #[tactic(auto, using(crate::proofs::MapRowsSteps::map_rows_steps))]
+    fn next(&mut self) -> Option<(ResId, Value)> {
+        if self.count == 0 {
+            return None;
+        }
+        let name = ResId(u32_within(self.left, NAME));
+        let (_, behind_name) = self.left.split_at(VALUE);
+        let value = Value::within(behind_name);
+        let (_, behind) = self.left.split_at(ROW_SIZE);
+        self.left = behind;
+        self.count -= 1;
+        Some((name, value))
+    }
+}
+
+#[cfg(test)]
+mod tests {
+    use super::*;
+
+    const ROWS: [u8; 24] = [
+        0x01, 0x00, 0x01, 0x01, 0x08, 0x00, 0x00, 0x10, 0x09, 0x00, 0x00, 0x00, 0x02, 0x00, 0x01,
+        0x01, 0x08, 0x00, 0x00, 0x10, 0x02, 0x00, 0x00, 0x00,
+    ];
+
+    // A row whose value is a number.
+    fn row(name: u32, word: u32) -> (ResId, Value) {
+        (ResId(name), Value { kind: 0x10, word })
+    }
+
+    #[test]
+    fn gives_rows(rt: HostRuntime) -> Result<(), MapRowsFault> {
+        let mut rows = MapRows::read(2, &ROWS)?;
+        assert_eq!(rt; rows.len(), 2);
+        assert_eq!(rt; rows.next(), Some(row(0x0101_0001, 9)));
+        assert_eq!(rt; rows.next(), Some(row(0x0101_0002, 2)));
+        assert_eq!(rt; rows.next(), None);
+        assert!(rt; rows.is_empty());
+        Ok(())
+    }
+
+    #[test]
+    fn refuses_rows(rt: HostRuntime) {
+        let short = MapRows::read(2, &ROWS[..23]);
+        assert_eq!(rt; short.err(), Some(MapRowsFault::Short));
+        let mut bytes = ROWS;
+        bytes[MapRows::value_place(1)] = 7;
+        let odd = MapRows::read(2, &bytes);
+        assert_eq!(rt; odd.err(), Some(MapRowsFault::ValueSize(1)));
+    }
+}

@@ -1,0 +1,60 @@
+-- What rows hold, as text.
+use Rattle.std.specs.Prelude.{ℕ, List, [], ◌∷◌, ◌++◌, codes, length, Option, Some, None, ◌==◌, if◌then◌else◌}
+use Rattle.std.specs.List.{flat_map}
+use Rattle.std.specs.Option.{option_map}
+use Rattle.std.specs.Fmt.{decimal}
+use Rattle.string_pool.specs.Pool.{PoolOf, pool_of}
+use Rattle.string_pool.specs.Text.{text_in}
+use Rattle.string_pool.specs.Shown.{string_text}
+use Rattle.res_value.specs.Cell.{CellOf, PlainOf, BagOf}
+use Rattle.res_value.specs.declared.res_id.ResId.{ResId}
+use Rattle.res_value.specs.declared.value.Value.{Value}
+use Rattle.res_value.specs.ResId.{id_text}
+use Rattle.res_value.specs.ValueText.{value_text}
+use Rattle.config_record.specs.Qualifiers.{record_text}
+use Rattle.type_chunks.specs.Row.{RowOf}
+use Rattle.resource_text.specs.declared.cell.CellStyle.{CellStyle}
+
+-- In what two texts of the same rows differ: what stands before each line of a row of a bag, and the
+-- strings that string values name. Without strings a value stands by itself.
+pub record StyleOf : Type 0 where
+  pub indent : List ℕ
+  pub strings : Option PoolOf
+
+abbrev pub style_of : CellStyle → StyleOf
+style_of style = record { indent = style.indent.now; strings = option_map pool_of style.strings }
+
+-- behind a value of kind 3, which is a string (AOSP: Res_value::TYPE_STRING), the string of its word
+unfoldable pub string_behind : PoolOf → Value → List ℕ
+string_behind strings value = if value.kind == 3 then codes " " ++ string_text (text_in strings value.word) else []
+
+unfoldable pub styled_value : Option PoolOf → Value → List ℕ
+styled_value None value = value_text value
+styled_value (Some strings) value = value_text value ++ string_behind strings value
+
+-- `parent ID`
+unfoldable pub parent_text : ℕ → List ℕ
+parent_text parent = codes "parent " ++ id_text parent
+
+-- `bag parent ID count N`
+unfoldable pub bag_text : ℕ → ℕ → List ℕ
+bag_text parent count = codes "bag " ++ parent_text parent ++ codes " count " ++ decimal count
+
+-- what an entry holds, in the line of its row: a value, or a bag with its count of rows
+unfoldable pub cell_text : StyleOf → CellOf → List ℕ
+cell_text style (PlainOf value) = styled_value style.strings value
+cell_text style (BagOf parent rows) = bag_text parent.0 (length rows)
+
+-- the line of a row of a bag: `NAME VALUE` behind the indent
+unfoldable pub map_row_text : StyleOf → (ResId × Value) → List ℕ
+map_row_text style row = style.indent ++ id_text row.0.0 ++ codes " " ++ styled_value style.strings row.1 ++ 10 ∷ []
+
+-- the lines of a bag's rows
+unfoldable pub map_rows_text : StyleOf → CellOf → List ℕ
+map_rows_text style (PlainOf value) = []
+map_rows_text style (BagOf parent rows) = flat_map (map_row_text style) rows
+
+-- how the line of a row ends, `RECORD VALUE`, and the lines of a bag
+unfoldable pub row_end_text : StyleOf → RowOf → List ℕ
+row_end_text style row =
+    record_text row.config ++ codes " " ++ cell_text style row.cell ++ 10 ∷ [] ++ map_rows_text style row.cell

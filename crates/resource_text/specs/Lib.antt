@@ -1,0 +1,4 @@
+pub mod FaultText
+pub mod CellText
+pub mod RowsText
+pub mod DumpText

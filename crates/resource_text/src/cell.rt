@@ -1,0 +1,143 @@
+//! What rows hold, written.
+
+ghost use Rattle.std.specs.Option.{option_map};
+ghost use Rattle.std.specs.List.{flat_map};
+ghost use Rattle.contract_words.specs.Writes.{Writes};
+ghost use Rattle.string_pool.specs.Pool.{pool_of};
+ghost use Rattle.res_value.specs.Cell.{cell_of};
+ghost use Rattle.res_value.specs.MapRows.{map_rows_of};
+ghost use Rattle.type_chunks.specs.Row.{row_of};
+ghost use Rattle.resource_text.specs.CellText.{style_of, string_behind, styled_value, parent_text, bag_text, cell_text, map_row_text, map_rows_text, row_end_text};
+
+use res_value::{Cell, MapRows, ResId, Value, kind, write_id, write_value};
+use std::io::{self, Write};
+use string_pool::{Pool, write_string};
+use type_chunks::Row;
+
+/// In what two texts of the same rows differ.
+#[derive(Clone, Copy, Debug)]
+pub(crate) struct CellStyle<'a> {
+    /// What stands before each line of a row of a bag.
+    pub indent: &'a str,
+    /// The strings that string values name. Where they are given, such a value is followed by its
+    /// string.
+    pub strings: Option<Pool<'a>>,
+}
+
+/// Writes how the line of a row ends, the configuration and what the row holds, and the lines of a
+/// bag.
+#[tactic(auto, unfolding(crate::specs::CellText::row_end_text))]
+pub(crate) fn write_row_end<W: Write + Drop>(
+    style: CellStyle<'_>,
+    row: &Row<'_>,
+    out: &mut W,
+) -> io::Result<()>
+    ensures { Writes W.contents out.old out.new result (row_end_text (style_of style.entry) (row_of row.now)) }
+{
+    row.config.write_qualifiers(out)?;
+    out.write_all(b" ")?;
+    write_cell(style, row.cell, out)?;
+    out.write_all(b"\n")?;
+    write_map_rows(style, row.cell, out)
+}
+
+#[tactic(auto, unfolding(crate::specs::CellText::cell_text))]
+fn write_cell<W: Write + Drop>(style: CellStyle<'_>, cell: Cell<'_>, out: &mut W) -> io::Result<()>
+    ensures { Writes W.contents out.old out.new result (cell_text (style_of style.entry) (cell_of cell.entry)) }
+{
+    match cell {
+        Cell::Plain(value) => write_styled_value(style.strings, value, out),
+        Cell::Bag { parent, rows } => write_bag(parent, rows.len(), out),
+    }
+}
+
+#[tactic(auto, unfolding(crate::specs::CellText::styled_value))]
+fn write_styled_value<W: Write + Drop>(
+    strings: Option<Pool<'_>>,
+    value: Value,
+    out: &mut W,
+) -> io::Result<()>
+    ensures { Writes W.contents out.old out.new result (styled_value (option_map pool_of strings.entry) value) }
+{
+    write_value(value, out)?;
+    match strings {
+        Some(strings) => write_string_behind(&strings, value, out),
+        None => Ok(()),
+    }
+}
+
+#[tactic(auto, unfolding(crate::specs::CellText::string_behind))]
+fn write_string_behind<W: Write + Drop>(
+    strings: &Pool<'_>,
+    value: Value,
+    out: &mut W,
+) -> io::Result<()>
+    ensures { Writes W.contents out.old out.new result (string_behind (pool_of strings.now) value) }
+{
+    if value.kind != kind::STRING {
+        return Ok(());
+    }
+    out.write_all(b" ")?;
+    write_string(strings.get(value.word as usize), out)
+}
+
+#[tactic(auto, unfolding(crate::specs::CellText::bag_text))]
+fn write_bag<W: Write + Drop>(parent: ResId, count: usize, out: &mut W) -> io::Result<()>
+    ensures { Writes W.contents out.old out.new result (bag_text parent.0 count) }
+{
+    out.write_all(b"bag ")?;
+    write_parent(parent, out)?;
+    write!(out, " count {count}")
+}
+
+#[tactic(auto, unfolding(crate::specs::CellText::parent_text))]
+fn write_parent<W: Write + Drop>(parent: ResId, out: &mut W) -> io::Result<()>
+    ensures { Writes W.contents out.old out.new result (parent_text parent.0) }
+{
+    out.write_all(b"parent ")?;
+    write_id(parent, out)
+}
+
+#[tactic(auto, unfolding(crate::specs::CellText::map_rows_text))]
+fn write_map_rows<W: Write + Drop>(
+    style: CellStyle<'_>,
+    cell: Cell<'_>,
+    out: &mut W,
+) -> io::Result<()>
+    ensures { Writes W.contents out.old out.new result (map_rows_text (style_of style.entry) (cell_of cell.entry)) }
+{
+    match cell {
+        Cell::Plain(_) => Ok(()),
+        Cell::Bag { rows, .. } => write_each_map_row(style, rows, out),
+    }
+}
+
+#[tactic(auto, using(contract_words::proofs::TextSteps::puts, std::proofs::lemmas::Grind::common_steps))]
+fn write_each_map_row<W: Write + Drop>(
+    style: CellStyle<'_>,
+    rows: MapRows<'_>,
+    out: &mut W,
+) -> io::Result<()>
+    ensures { Writes W.contents out.old out.new result (flat_map (map_row_text (style_of style.entry)) (map_rows_of rows.entry)) }
+{
+    for (name, value) in rows {
+        write_map_row(style, name, value, out)?;
+    }
+    Ok(())
+}
+
+#[tactic(auto, unfolding(crate::specs::CellText::map_row_text))]
+fn write_map_row<W: Write + Drop>(
+    style: CellStyle<'_>,
+    name: ResId,
+    value: Value,
+    out: &mut W,
+) -> io::Result<()>
+    ensures { Writes W.contents out.old out.new result (map_row_text (style_of style.entry) (name, value)) }
+{
+    out.write_all(style.indent.as_bytes())?;
+    write_id(name, out)?;
+    out.write_all(b" ")?;
+    write_styled_value(style.strings, value, out)?;
+    out.write_all(b"\n")
+}

@@ -1,0 +1,92 @@
+//! The packages of a table and their rows, written with names.
+
+ghost use Rattle.std.specs.List.{flat_map};
+ghost use Rattle.contract_words.specs.Writes.{Writes};
+ghost use Rattle.type_chunks.specs.Row.{row_of};
+ghost use Rattle.type_chunks.specs.Package.{package_of};
+ghost use Rattle.resource_text.specs.DumpText.{package_line, names_text, row_text, package_text, dump_text};
+
+use crate::cell::{CellStyle, write_row_end};
+use hex_text::write_hex;
+use res_value::{write_id, write_word};
+use std::io::{self, Write};
+use string_pool::write_string;
+use type_chunks::{Package, PackageRows, Row, Table};
+
+/// Writes a line for each package of a table, in the order of the file, and behind it one for each of
+/// its rows with the names of its type and entry, with the lines of its bag. A string value is
+/// followed by its string.
+#[tactic(auto, using(contract_words::proofs::TextSteps::puts_slice), unfolding(crate::specs::DumpText::dump_text))]
+pub fn dump_text<W: Write + Drop>(table: &Table<'_>, out: &mut W) -> io::Result<()>
+    ensures { Writes W.contents out.old out.new result (dump_text table.now) }
+{
+    let packages = table.packages();
+    for package in packages {
+        write_package(table, package, out)?;
+    }
+    Ok(())
+}
+
+#[tactic(auto, unfolding(crate::specs::DumpText::package_text))]
+fn write_package<W: Write + Drop>(
+    table: &Table<'_>,
+    owner: &Package<'_>,
+    out: &mut W,
+) -> io::Result<()>
+    ensures { Writes W.contents out.old out.new result (package_text table.now (package_of owner.now)) }
+{
+    write_package_line(owner, out)?;
+    write_rows(table, owner.rows(), out)
+}
+
+#[tactic(auto, unfolding(crate::specs::DumpText::package_line))]
+fn write_package_line<W: Write + Drop>(owner: &Package<'_>, out: &mut W) -> io::Result<()>
+    ensures { Writes W.contents out.old out.new result (package_line (package_of owner.now)) }
+{
+    out.write_all(b"package 0x")?;
+    write_hex(&[owner.id()], out)?;
+    out.write_all(b" ")?;
+    owner.name().write_shown(out)?;
+    out.write_all(b"\n")
+}
+
+#[tactic(auto, using(contract_words::proofs::TextSteps::puts))]
+fn write_rows<W: Write + Drop>(
+    table: &Table<'_>,
+    rows: PackageRows<'_, '_>,
+    out: &mut W,
+) -> io::Result<()>
+    ensures { Writes W.contents out.old out.new result (flat_map (row_text table.now) rows.entry) }
+{
+    for row in rows {
+        write_row(table, &row, out)?;
+    }
+    Ok(())
+}
+
+#[tactic(auto, unfolding(crate::specs::DumpText::row_text, crate::specs::DumpText::dump_style))]
+fn write_row<W: Write + Drop>(table: &Table<'_>, row: &Row<'_>, out: &mut W) -> io::Result<()>
+    ensures { Writes W.contents out.old out.new result (row_text table.now (row_of row.now)) }
+{
+    let style = CellStyle {
+        indent: "    ",
+        strings: Some(table.strings()),
+    };
+    out.write_all(b"  ")?;
+    write_id(row.id, out)?;
+    out.write_all(b" ")?;
+    write_names(table, row, out)?;
+    out.write_all(b" flags ")?;
+    write_word(row.flags, out)?;
+    out.write_all(b" ")?;
+    write_row_end(style, row, out)
+}
+
+#[tactic(auto, unfolding(crate::specs::DumpText::names_text))]
+fn write_names<W: Write + Drop>(table: &Table<'_>, row: &Row<'_>, out: &mut W) -> io::Result<()>
+    ensures { Writes W.contents out.old out.new result (names_text table.now (row_of row.now)) }
+{
+    write_string(table.type_name(row), out)?;
+    out.write_all(b"/")?;
+    write_string(table.key_name(row), out)
+}

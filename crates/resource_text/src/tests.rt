@@ -1,0 +1,103 @@
+use crate::{ToolFault, dump_text, fault_text, rows_text};
+use chunk_walk::ChunkFault;
+use std::test::Fail;
+use string_pool::PoolFault;
+use type_chunks::{Table, TableFault};
+
+/// What is not zero in a table with one row, of type `s` and with the key `k`, and where that stands.
+const PIECES: [(usize, &[u8]); 10] = [
+    (0, &[2, 0, 12, 0, 0xe8, 1, 0, 0, 1]),
+    (12, &[1, 0, 28, 0, 28]),
+    (40, &[0, 2, 0x20, 1, 0xc0, 1, 0, 0, 0x7f]),
+    (308, &[0x20, 1]),
+    (316, &[0x44, 1]),
+    (
+        328,
+        &[
+            1, 0, 28, 0, 36, 0, 0, 0, 1, 0, 0, 0, 0, 0, 0, 0, 0, 1, 0, 0, 32,
+        ],
+    ),
+    (
+        360,
+        &[
+            1, 1, b's', 0, 1, 0, 28, 0, 36, 0, 0, 0, 1, 0, 0, 0, 0, 0, 0, 0, 0, 1, 0, 0, 32,
+        ],
+    ),
+    (
+        396,
+        &[1, 1, b'k', 0, 2, 2, 16, 0, 20, 0, 0, 0, 1, 0, 0, 0, 1],
+    ),
+    (
+        420,
+        &[
+            1, 2, 48, 0, 68, 0, 0, 0, 1, 0, 0, 0, 1, 0, 0, 0, 52, 0, 0, 0, 28,
+        ],
+    ),
+    (472, &[8, 0, 0, 0, 0, 0, 0, 0, 8, 0, 0, 16, 5]),
+];
+
+fn one_row() -> [u8; 488] {
+    let mut bytes = [0; 488];
+    for (place, piece) in PIECES {
+        for (n, byte) in piece.iter().enumerate() {
+            if let Some(at) = bytes.get_mut(place.saturating_add(n)) {
+                *at = *byte;
+            }
+        }
+    }
+    bytes
+}
+
+#[test]
+fn writes_tables(rt: HostRuntime) -> Result<(), Fail> {
+    let bytes = one_row();
+    let table = Table::open(rt.alloc(), &bytes)?;
+    let mut out = Vec::new(rt.alloc());
+    rows_text(&table, &mut out)?;
+    dump_text(&table, &mut out)?;
+    let lines = "\
+row 0x7f010000 [] decimal 5
+rows 1 set-aside 0
+package 0x7f \"\"
+  0x7f010000 \"s\"/\"k\" flags 0x00000000 [] decimal 5
+";
+    assert_eq!(rt; out.as_slice(), lines.as_bytes());
+    let mut short = [0; 30];
+    assert!(rt; rows_text(&table, &mut short.as_mut_slice()).is_err());
+    assert!(rt; dump_text(&table, &mut short.as_mut_slice()).is_err());
+    Ok(())
+}
+
+#[test]
+fn writes_faults(rt: HostRuntime) -> Result<(), Fail> {
+    let rows = [
+        (
+            ToolFault::Table(TableFault::Chunk(ChunkFault::Oversize(0))),
+            "refused: table: Chunk Oversize 0\n",
+        ),
+        (
+            ToolFault::Table(TableFault::NotTable),
+            "refused: table: NotTable\n",
+        ),
+        (
+            ToolFault::Table(TableFault::PackageHeader(40)),
+            "refused: table: PackageHeader 40\n",
+        ),
+        (
+            ToolFault::Table(TableFault::Pool(12, PoolFault::HeaderSize)),
+            "refused: table: Pool HeaderSize 12\n",
+        ),
+        (
+            ToolFault::Table(TableFault::Pool(12, PoolFault::Offsets)),
+            "refused: table: Pool Offsets 12\n",
+        ),
+        (ToolFault::OutOfMemory, "out of memory\n"),
+        (ToolFault::Write, ""),
+    ];
+    for (fault, line) in rows {
+        let mut out = Vec::new(rt.alloc());
+        fault_text(&fault, &mut out)?;
+        assert_eq!(rt; out.as_slice(), line.as_bytes());
+    }
+    Ok(())
+}

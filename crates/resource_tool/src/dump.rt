@@ -1,0 +1,29 @@
+//! The command `dump`.
+
+ghost use Rattle.resource_tool.specs.Output.{Prints};
+ghost use Rattle.resource_tool.specs.TableOutput.{dump_output};
+
+use crate::status::Status;
+use resource_text::{ToolFault, dump_text};
+use std::alloc::Global;
+use std::io::Write;
+use type_chunks::Table;
+
+/// Prints a line for each package of a table and one for each of its rows with their names, in the
+/// order of the file.
+pub fn dump_bytes<W: Write + Drop>(
+    alloc: Global,
+    table: &[u8],
+    out: &mut W,
+) -> Result<Status, ToolFault>
+    ensures { Prints W.contents out.old out.new result (dump_output table.now) }
+{
+    let table = Table::open(alloc, table)?;
+    match dump_text(&table, out) {
+        Ok(()) => Ok(Status::Done),
+        Err(_) => Err(ToolFault::Write),
+    }
+}
+
+#[cfg(test)]
+mod tests;

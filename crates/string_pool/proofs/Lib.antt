@@ -1,0 +1,6 @@
+pub mod SpanSteps
+pub mod UnitSteps
+pub mod ByteTexts
+pub mod WriteSteps
+pub mod UnitTexts
+pub mod Ranges

@@ -1,0 +1,10 @@
+pub mod Lent
+pub mod Pool
+pub mod Units
+pub mod Text
+pub mod Style
+pub mod Part
+pub mod Front
+pub mod Spans
+pub mod Shown
+pub mod Escapes

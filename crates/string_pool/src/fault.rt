@@ -1,0 +1,32 @@
+//! Why a pool, a string or a style is refused.
+
+use thiserror::Error;
+
+/// What is wrong with a pool. Of several faults the first of this list is named.
+#[derive(Clone, Copy, Debug, PartialEq, Eq, Error)]
+pub enum PoolFault {
+    /// The header has fewer than 28 bytes.
+    #[error("HeaderSize")]
+    HeaderSize,
+    /// The offsets of strings and styles do not fit behind the header.
+    #[error("Offsets")]
+    Offsets,
+    /// The styles start behind the chunk's end, or the strings behind theirs.
+    #[error("Start")]
+    Start,
+}
+
+/// Why there is no string or style at an index. Of several faults the first on the way through its
+/// bytes is named.
+#[derive(Clone, Copy, Debug, PartialEq, Eq, Error)]
+pub enum StringFault {
+    /// The pool has fewer strings, or styles.
+    #[error("NoSuch")]
+    NoSuch,
+    /// A length, a text, the zero that closes it, or a span does not fit.
+    #[error("Cut")]
+    Cut,
+    /// The text is not closed by a zero.
+    #[error("NotEnded")]
+    NotEnded,
+}

@@ -1,0 +1,33 @@
+//! Reads the string pools of resource files: strings in UTF-8 or UTF-16, and styles, which are spans
+//! of strings. Nothing is copied: a string is lent from the bytes of its file.
+//!
+//! For the crates above: `Pool::get` gives the string that the bytes spell, a range of the input, or
+//! the first fault in it; `Pool::spans` likewise the spans of a style; and what `Text::write_shown`
+//! writes is the one text of each string, as `specs/` define them.
+//!
+//! ```text
+//! let pool = Pool::open(&chunk)?;
+//! for index in 0..pool.len() {
+//!     let string = pool.get(index)?;
+//!     string.write_shown(&mut out)?; // "Hi"
+//! }
+//! ```
+#![tactic(auto)]
+
+mod fault;
+mod layout;
+mod part;
+mod pool;
+mod reading;
+mod shown;
+mod span;
+mod spans;
+mod text;
+mod units;
+
+pub use fault::{PoolFault, StringFault};
+pub use pool::Pool;
+pub use shown::write_string;
+pub use span::Span;
+pub use spans::Spans;
+pub use text::Text;

@@ -1,0 +1,233 @@
+//! String pools.
+
+ghost use Rattle.std.specs.Prelude.{◌≡◌, ◌+◌, ◌*◌, ◌≤◌, ◌==◌, length, IfOk};
+
+use crate::fault::{PoolFault, StringFault};
+use crate::layout::{OFFSET_SIZE, pool_header as header};
+use crate::part::{before_styles, bytes_from, part_from};
+use crate::reading::{utf8_text, utf16_text};
+use crate::spans::Spans;
+use crate::text::Text;
+use chunk_walk::{Chunk, u32_within};
+
+/// A string pool whose header was checked (AOSP: `ResStringPool`), lent from the bytes of its file.
+/// A string or a style is checked when it is asked for.
+#[derive(Clone, Copy, Debug)]
+pub struct Pool<'a> {
+    utf8: bool,
+    string_count: u32,
+    style_count: u32,
+    /// Four bytes for each string, then four for each style.
+    offsets: &'a [u8],
+    strings: &'a [u8],
+    styles: &'a [u8],
+    ghost offsets_fit: { 4 * (string_count + style_count) ≤ length offsets.now },
+}
+
+impl<'a> Pool<'a> {
+    ghost use Rattle.chunk_walk.specs.Chunk.{chunk_of};
+    ghost use Rattle.string_pool.specs.Lent.{IsRangeOf};
+    ghost use Rattle.string_pool.specs.Pool.{pool_of, seen_pool, empty_pool, pool_in};
+    ghost use Rattle.string_pool.specs.Text.{text_of, seen_text, text_in};
+    ghost use Rattle.string_pool.specs.Style.{style_in};
+
+    /// Opens the pool that a chunk is, whatever kind the chunk says.
+    #[tactic(auto, using(crate::proofs::Ranges::lent_parts), unfolding(crate::specs::Pool::pool_in))]
+    pub fn open(chunk: &Chunk<'a>) -> Result<Pool<'a>, PoolFault>
+        ensures pool { seen_pool result ≡ pool_in (chunk_of chunk.now) }
+
+        // The bytes of its strings are a range of those of the chunk.
+        ensures lent { IfOk result (λ pool. IsRangeOf chunk.now.whole.now (pool_of pool).strings) }
+    {
+        if chunk.header.len() < header::LEAST_SIZE {
+            return Err(PoolFault::HeaderSize);
+        }
+        let string_count = u32_within(chunk.header, header::STRING_COUNT);
+        let style_count = u32_within(chunk.header, header::STYLE_COUNT);
+        if chunk.body.len() < OFFSET_SIZE * (string_count as usize + style_count as usize) {
+            return Err(PoolFault::Offsets);
+        }
+        let flags = u32_within(chunk.header, header::FLAGS);
+        let strings_start = u32_within(chunk.header, header::STRINGS_START);
+        let styles_start = u32_within(chunk.header, header::STYLES_START);
+        let styles = part_from(chunk.whole, style_count, styles_start)?;
+        let before_styles = before_styles(chunk.whole, style_count, styles_start);
+        let strings = part_from(before_styles, string_count, strings_start)?;
+        Ok(Pool {
+            utf8: flags >> header::UTF8_BIT & 1 == 1,
+            string_count,
+            style_count,
+            offsets: chunk.body,
+            strings,
+            styles,
+        })
+    }
+
+    /// A pool without strings.
+    pub fn empty() -> Pool<'a>
+        ensures { pool_of result ≡ empty_pool }
+    {
+        Pool {
+            utf8: false,
+            string_count: 0,
+            style_count: 0,
+            offsets: &[],
+            strings: &[],
+            styles: &[],
+        }
+    }
+
+    /// How many strings the pool has.
+    pub fn len(&self) -> usize
+        ensures { result ≡ (pool_of self.now).string_count }
+    {
+        self.string_count as usize
+    }
+
+    /// Whether the pool has no strings.
+    pub fn is_empty(&self) -> bool
+        ensures { result ≡ ((pool_of self.now).string_count == 0) }
+    {
+        self.string_count == 0
+    }
+
+    /// Whether the strings are UTF-8, and not UTF-16.
+    pub fn is_utf8(&self) -> bool
+        ensures { result ≡ (pool_of self.now).utf8 }
+    {
+        self.utf8
+    }
+
+    /// The string of an index (AOSP: `ResStringPool::stringAt`, `string8At`).
+    #[tactic(auto, unfolding(crate::specs::Text::text_in))]
+    pub fn get(&self, index: usize) -> Result<Text<'a>, StringFault>
+        ensures text { seen_text result ≡ text_in (pool_of self.now) index }
+
+        // Its bytes are a range of those that the strings stand in.
+        ensures lent { IfOk result (λ text. IsRangeOf (pool_of self.now).strings (text_of text).bytes) }
+    {
+        if index >= self.string_count as usize {
+            return Err(StringFault::NoSuch);
+        }
+        let offset = u32_within(self.offsets, OFFSET_SIZE * index) as usize;
+        let left = bytes_from(self.strings, offset);
+        if self.utf8 {
+            utf8_text(left)
+        } else {
+            utf16_text(left)
+        }
+    }
+
+    /// The spans of a style (AOSP: `ResStringPool::styleAt`).
+    #[tactic(auto, unfolding(crate::specs::Style::style_in))]
+    pub fn spans(&self, index: usize) -> Result<Spans<'a>, StringFault>
+        ensures { result ≡ style_in (pool_of self.now) index }
+    {
+        if index >= self.style_count as usize {
+            return Err(StringFault::NoSuch);
+        }
+        let at = OFFSET_SIZE * (self.string_count as usize + index);
+        let offset = u32_within(self.offsets, at) as usize;
+        Spans::read(bytes_from(self.styles, offset))
+    }
+}
+
+#[cfg(test)]
+mod tests {
+    use super::*;
+    use crate::span::Span;
+    use chunk_walk::chunk_at;
+    use std::test::Fail;
+
+    // The string at the front of these bytes.
+    fn front_string(utf8: bool, strings: &[u8]) -> Result<Text<'_>, StringFault> {
+        let pool = Pool {
+            utf8,
+            string_count: 1,
+            style_count: 0,
+            offsets: &[0; 4],
+            strings,
+            styles: &[],
+        };
+        pool.get(0)
+    }
+
+    // The style at the front of these bytes.
+    fn front_style(styles: &[u8]) -> Result<Spans<'_>, StringFault> {
+        let pool = Pool {
+            utf8: true,
+            string_count: 0,
+            style_count: 1,
+            offsets: &[0; 4],
+            strings: &[],
+            styles,
+        };
+        pool.spans(0)
+    }
+
+    #[test]
+    fn opens_pools(rt: HostRuntime) -> Result<(), Fail> {
+        let bytes = [
+            0x01, 0x00, 0x1c, 0x00, 0x24, 0x00, 0x00, 0x00, 0x01, 0x00, 0x00, 0x00, 0x00, 0x00,
+            0x00, 0x00, 0x00, 0x01, 0x00, 0x00, 0x20, 0x00, 0x00, 0x00, 0x00, 0x00, 0x00, 0x00,
+            0x00, 0x00, 0x00, 0x00, 0x01, 0x01, b's', 0x00,
+        ];
+        let pool = Pool::open(&chunk_at(&bytes, 0, 8)?)?;
+        assert_eq!(rt; pool.len(), 1);
+        assert!(rt; !pool.is_empty());
+        assert!(rt; pool.is_utf8());
+        assert!(rt; pool.get(0)?.is_text("s"));
+        assert_eq!(rt; pool.get(1).err(), Some(StringFault::NoSuch));
+        assert!(rt; Pool::empty().is_empty());
+        Ok(())
+    }
+
+    #[test]
+    fn reads_strings(rt: HostRuntime) -> Result<(), Fail> {
+        for (utf8, strings) in [
+            (true, b"\x02\x02Hi\0".as_slice()),
+            (true, b"\x80\x02\x80\x02Hi\0".as_slice()),
+            (false, b"\x02\0H\0i\0\0\0".as_slice()),
+            (false, b"\0\x80\x02\0H\0i\0\0\0".as_slice()),
+        ] {
+            assert!(rt; front_string(utf8, strings)?.is_text("Hi"));
+        }
+        Ok(())
+    }
+
+    #[test]
+    fn refuses_strings(rt: HostRuntime) {
+        for (utf8, strings, fault) in [
+            (true, b"\x02\x02Hi\x01".as_slice(), StringFault::NotEnded),
+            (true, b"\x02\x02Hi".as_slice(), StringFault::Cut),
+            (true, b"\xff\xff\xff\xff".as_slice(), StringFault::Cut),
+            (false, b"\xff\xff\xff\xff".as_slice(), StringFault::Cut),
+        ] {
+            assert_eq!(rt; front_string(utf8, strings).err(), Some(fault));
+        }
+        let far = Pool {
+            utf8: true,
+            string_count: 1,
+            style_count: 0,
+            offsets: &[0xff; 4],
+            strings: b"\x02\x02Hi\0",
+            styles: &[],
+        };
+        assert_eq!(rt; far.get(0).err(), Some(StringFault::Cut));
+    }
+
+    #[test]
+    fn reads_styles(rt: HostRuntime) -> Result<(), Fail> {
+        let styles = b"\0\0\0\0\x01\0\0\0\x02\0\0\0\xff\xff\xff\xff";
+        let mut spans = front_style(styles)?;
+        let span = Span {
+            name: 0,
+            first: 1,
+            last: 2,
+        };
+        assert_eq!(rt; spans.next(), Some(span));
+        assert_eq!(rt; spans.next(), None);
+        assert_eq!(rt; front_style(&styles[..12]).err(), Some(StringFault::Cut));
+        Ok(())
+    }
+}

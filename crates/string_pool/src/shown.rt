@@ -1,0 +1,182 @@
+//! How strings are shown.
+
+ghost use Rattle.std.specs.Prelude.{◌≡◌, ◌||◌, ◌++◌, ◌<◌, ◌≤◌, length, MatchOption, OnOk};
+ghost use Rattle.std.specs.Io.KnownBytes.{Appends};
+ghost use Rattle.string_pool.specs.Escapes.{escape_text, IsPlain, BeginsEscape, piece_text};
+ghost use Rattle.string_pool.specs.Shown.{takes_backslash, is_control, character_text, bytes_text, units_text, unit_escape, string_text};
+ghost use Rattle.string_pool.specs.Text.{seen_text};
+ghost use Rattle.string_pool.specs.Units.{units_in};
+
+use crate::fault::StringFault;
+use crate::text::Text;
+use crate::units::first_character;
+use hex_text::write_hex;
+use std::io::{self, Write};
+
+impl<'a> Text<'a> {
+    ghost use Rattle.string_pool.specs.Text.{text_of};
+    ghost use Rattle.string_pool.specs.Shown.{shown_text};
+
+    /// Writes the string between quotes, as UTF-8. `"` and `\` have a `\` before them; control
+    /// characters of ASCII and bytes that are no UTF-8 are `\x` and two digits, lone surrogates `\u`
+    /// and four.
+    #[tactic(auto, unfolding(crate::specs::Shown::shown_text))]
+    pub fn write_shown<W: Write + Drop>(&self, out: &mut W) -> io::Result<()>
+        ensures { OnOk result (Appends (W.contents out.old) (W.contents out.new) (shown_text (text_of self.now))) }
+    {
+        out.write_all(b"\"")?;
+        match self {
+            Text::Utf8(bytes) => write_bytes(bytes, out)?,
+            Text::Utf16(bytes) => write_units(bytes, out)?,
+        }
+        out.write_all(b"\"")
+    }
+}
+
+/// Writes what was asked for: a string between quotes, or the name of its fault behind `!`.
+#[tactic(auto, unfolding(crate::specs::Shown::string_text))]
+pub fn write_string<W: Write + Drop>(
+    string: Result<Text<'_>, StringFault>,
+    out: &mut W,
+) -> io::Result<()>
+    ensures { OnOk result (Appends (W.contents out.old) (W.contents out.new) (string_text (seen_text string.entry))) }
+{
+    match string {
+        Ok(text) => text.write_shown(out),
+        Err(StringFault::NoSuch) => out.write_all(b"!NoSuch"),
+        Err(StringFault::Cut) => out.write_all(b"!Cut"),
+        Err(StringFault::NotEnded) => out.write_all(b"!NotEnded"),
+    }
+}
+
+// Writes bytes that are read as UTF-8. What stands for itself is written in one piece.
+#[tactic(auto, using(crate::proofs::WriteSteps::writes))]
+fn write_bytes<W: Write + Drop>(bytes: &[u8], out: &mut W) -> io::Result<()>
+    ensures { OnOk result (Appends (W.contents out.old) (W.contents out.new) (bytes_text bytes.now)) }
+{
+    let mut left = bytes;
+    loop {
+        let (plain, behind) = split_plain(left);
+        out.write_all(plain)?;
+        let Some((byte, others)) = behind.split_first() else {
+            return Ok(());
+        };
+        write_escape(*byte, out)?;
+        left = others;
+    }
+}
+
+// Writes bytes that are read as UTF-16.
+#[tactic(auto, using(crate::proofs::WriteSteps::writes))]
+fn write_units<W: Write + Drop>(bytes: &[u8], out: &mut W) -> io::Result<()>
+    ensures { OnOk result (Appends (W.contents out.old) (W.contents out.new) (units_text (units_in bytes.now))) }
+{
+    let mut left = bytes;
+    while let Some((piece, behind)) = first_character(left) {
+        write_piece(piece, out)?;
+        left = behind;
+    }
+    Ok(())
+}
+
+// What stands for itself at the front, and the bytes behind it.
+#[tactic(auto, using(crate::proofs::ByteTexts::run_steps))]
+fn split_plain(left: &[u8]) -> (&[u8], &[u8])
+    ensures text { bytes_text left.now ≡ result.0.now ++ bytes_text result.1.now }
+    ensures ends { BeginsEscape result.1.now }
+    ensures shorter { length result.1.now ≤ length left.now }
+{
+    let mut length = 0;
+    while let Some(width) = plain_width(&left[length..]) {
+        length += width;
+    }
+    left.split_at(length)
+}
+
+// How many bytes the first character takes, if it stands for itself.
+#[tactic(auto, using(crate::proofs::ByteTexts::plain_steps))]
+fn plain_width(left: &[u8]) -> Option<usize>
+    ensures { MatchOption result (BeginsEscape left.now) (λ width. IsPlain left.now width × (0 < width)) }
+{
+    let byte = *left.first()?;
+    if byte.is_ascii() {
+        return (!is_escaped(char::from(byte))).then_some(1);
+    }
+    match bstr::decode_utf8(left) {
+        (Some(_), width) => Some(width),
+        (None, _) => None,
+    }
+}
+
+// Whether a character is not shown as itself.
+fn is_escaped(character: char) -> bool
+    ensures { result ≡ (takes_backslash character || is_control character) }
+{
+    matches!(character, '"' | '\\') || character.is_ascii_control()
+}
+
+// Writes a character or a lone surrogate.
+fn write_piece<W: Write + Drop>(piece: Result<char, u16>, out: &mut W) -> io::Result<()>
+    ensures { OnOk result (Appends (W.contents out.old) (W.contents out.new) (piece_text piece)) }
+{
+    match piece {
+        Ok(character) => write_character(character, out),
+        Err(unit) => write_surrogate(unit, out),
+    }
+}
+
+fn write_character<W: Write + Drop>(character: char, out: &mut W) -> io::Result<()>
+    ensures { OnOk result (Appends (W.contents out.old) (W.contents out.new) (character_text character)) }
+{
+    if is_escaped(character) {
+        return write_escape(character as u8, out);
+    }
+    out.write_all(character.encode_utf8(&mut [0; 4]).as_bytes())
+}
+
+fn write_escape<W: Write + Drop>(byte: u8, out: &mut W) -> io::Result<()>
+    ensures { OnOk result (Appends (W.contents out.old) (W.contents out.new) (escape_text byte)) }
+{
+    match byte {
+        b'"' | b'\\' => out.write_all(&[b'\\', byte]),
+        _ => {
+            out.write_all(b"\\x")?;
+            write_hex(&[byte], out)
+        }
+    }
+}
+
+fn write_surrogate<W: Write + Drop>(unit: u16, out: &mut W) -> io::Result<()>
+    ensures { OnOk result (Appends (W.contents out.old) (W.contents out.new) (unit_escape unit)) }
+{
+    out.write_all(b"\\u")?;
+    write_hex(&unit.to_be_bytes(), out)
+}
+
+#[cfg(test)]
+mod tests {
+    use super::*;
+    use std::test::Fail;
+
+    #[test]
+    fn writes_strings(rt: HostRuntime) -> Result<(), Fail> {
+        let rows = [
+            (Ok(Text::Utf8(b"Hi")), "\"Hi\""),
+            (Ok(Text::Utf16(b"H\0i\0")), "\"Hi\""),
+            (Ok(Text::Utf8(b"a\xff\"")), r#""a\xff\"""#),
+            (Ok(Text::Utf8("é\\\n\x7f".as_bytes())), r#""é\\\x0a\x7f""#),
+            (Ok(Text::Utf8(b"\xe2\x82\xe2\x82\xac")), r#""\xe2\x82€""#),
+            (Ok(Text::Utf16(b"\x00\xd8")), r#""\ud800""#),
+            (Ok(Text::Utf16(b"\x3d\xd8\x00\xde")), "\"😀\""),
+            (Err(StringFault::NoSuch), "!NoSuch"),
+            (Err(StringFault::Cut), "!Cut"),
+            (Err(StringFault::NotEnded), "!NotEnded"),
+        ];
+        for (string, text) in rows {
+            let mut out = Vec::new(rt.alloc());
+            write_string(string, &mut out)?;
+            assert_eq!(rt; out.as_slice(), text.as_bytes());
+        }
+        Ok(())
+    }
+}

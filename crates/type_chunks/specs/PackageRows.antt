@@ -1,0 +1,32 @@
+-- The rows of the chunks in a package, in the order of the file, or the first fault.
+use Rattle.std.specs.Prelude.{List, [], ◌==◌, Result, Ok, Err, if◌then◌else◌}
+use Rattle.contract_words.specs.Faults.{◌>>=◌}
+use Rattle.contract_words.specs.Sequences.{joined_each, joined_from, with_before}
+use Rattle.chunk_walk.specs.Chunk.{ChunkOf}
+use Rattle.chunk_walk.specs.Chunks.{children_of}
+use Rattle.chunk_walk.specs.declared.chunk.ChunkFault.{ChunkFault}
+use Rattle.type_chunks.specs.declared.fault.TableFault.{TableFault}
+use Rattle.type_chunks.specs.declared.fault.TableFault.TheVariants as faults
+use Rattle.type_chunks.specs.declared.owner.Owner.{Owner}
+use Rattle.type_chunks.specs.Layout.{type_kind, type_spec_kind}
+use Rattle.type_chunks.specs.Row.{RowOf}
+use Rattle.type_chunks.specs.TypeSpec.{type_spec_in}
+use Rattle.type_chunks.specs.TypeChunk.{TypeChunkOf, type_in}
+use Rattle.type_chunks.specs.Entry.{rows_of_entry}
+
+-- the rows of the entries of a type, in the order of their indexes
+abbrev pub rows_of_entries : TypeChunkOf → Result (List RowOf) TableFault
+rows_of_entries chunk = joined_from (rows_of_entry chunk) 0 chunk.entry_count
+
+-- A chunk in a package, with the chunks that stand before it there. A type spec has no rows, and
+-- chunks of other kinds are passed over.
+unfoldable pub rows_of_child : Owner → (List (Result ChunkOf ChunkFault) × Result ChunkOf ChunkFault) → Result (List RowOf) TableFault
+rows_of_child owner (before, Err fault) = Err (faults.Chunk fault)
+rows_of_child owner (before, Ok chunk) =
+    if chunk.kind == type_spec_kind then (type_spec_in chunk >>= λ spec. Ok [])
+    else (if chunk.kind == type_kind then (type_in owner before chunk >>= rows_of_entries)
+    else Ok [])
+
+-- the chunks in a package
+abbrev pub rows_of_children : Owner → ChunkOf → Result (List RowOf) TableFault
+rows_of_children owner chunk = joined_each (rows_of_child owner) (with_before [] (children_of chunk))

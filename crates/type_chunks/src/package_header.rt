@@ -1,0 +1,82 @@
+//! What the header of a package says of names.
+
+ghost use Rattle.std.specs.Prelude.{◌≡◌, ◌≤◌, length};
+ghost use Rattle.chunk_walk.specs.Chunk.{chunk_of};
+ghost use Rattle.string_pool.specs.Text.{text_of};
+ghost use Rattle.type_chunks.specs.Package.{before_zero, name_in, names_at, names_in, type_id_offset_in};
+ghost use Rattle.type_chunks.specs.Units.{has_unit};
+ghost use Rattle.type_chunks.specs.LowerFaults.{seen_table_pool};
+
+use crate::fault::TableFault;
+use crate::layout::{kind, package_header as header};
+use crate::pool::open_pool;
+use chunk_walk::{Chunk, u32_within};
+use string_pool::{Pool, Text};
+
+/// The name of a package whose header is not too short.
+pub(crate) fn name_within<'a>(chunk: &Chunk<'a>) -> Text<'a>
+    requires { 284 ≤ length chunk.now.header.now }
+    ensures { text_of result ≡ name_in (chunk_of chunk.now) }
+{
+    let (_, from_name) = chunk.header.split_at(header::NAME);
+    let (name, _) = from_name.split_at(header::NAME_SIZE);
+    Text::Utf16(before_zero(name))
+}
+
+// Whether a unit that is not zero stands in front.
+#[tactic(auto, using(crate::proofs::ZeroSteps::unit_steps))]
+fn has_unit(units: &[u8]) -> bool
+    ensures { result ≡ has_unit units.now }
+{
+    units.len() >= 2 && (units[0] != 0 || units[1] != 0)
+}
+
+// The units up to the first that is zero.
+fn before_zero(units: &[u8]) -> &[u8]
+    ensures { result.now ≡ before_zero units.now }
+{
+    let mut size = 0;
+    let mut left = units;
+    while has_unit(left) {
+        let (_, others) = left.split_at(2);
+        left = others;
+        size += 2;
+    }
+    &units[..size]
+}
+
+/// How far the ids of types stand above their places among the names (AOSP:
+/// `ResTable_package::typeIdOffset`).
+pub(crate) fn type_id_offset(chunk: &Chunk<'_>) -> u32
+    ensures { result ≡ type_id_offset_in (chunk_of chunk.now) }
+{
+    if chunk.header.len() == header::SIZE_WITH_OFFSET {
+        u32_within(chunk.header, header::TYPE_ID_OFFSET)
+    } else {
+        0
+    }
+}
+
+/// The names that stand at a place of a package.
+pub(crate) fn open_names<'a>(chunk: &Chunk<'a>, at: u32) -> Result<Pool<'a>, TableFault>
+    ensures { seen_table_pool result ≡ names_in (chunk_of chunk.now) at }
+{
+    match at {
+        0 => Ok(Pool::empty()),
+        _ => open_names_at(chunk, at as usize),
+    }
+}
+
+#[tactic(auto, unfolding(crate::specs::Package::names_at))]
+fn open_names_at<'a>(chunk: &Chunk<'a>, at: usize) -> Result<Pool<'a>, TableFault>
+    ensures { seen_table_pool result ≡ names_at (chunk_of chunk.now) at }
+{
+    if at % 4 != 0 || at < chunk.header.len() || at >= chunk.whole.len() {
+        return Err(TableFault::PackageHeader(chunk.place));
+    }
+    let names = chunk.chunk_at(at)?;
+    if names.kind != kind::POOL {
+        return Err(TableFault::PackageHeader(chunk.place));
+    }
+    open_pool(&names)
+}
