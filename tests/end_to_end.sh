@@ -67,7 +67,7 @@ input=/dev/null
 { cat "$tables/rich.arsc"; printf 'what follows a table'; } >followed
 check "dump of a table that something follows" 0 "$tables/rich.dump.txt" $none dump followed
 
-# A byte of the header of the table's string pool.
+# The header of the table's string pool claims 24 bytes.
 cp "$tables/rich.arsc" poolless
 printf '\030' | dd of=poolless bs=1 seek=14 conv=notrunc 2>/dev/null
 line poolless.err 'refused: table: Pool HeaderSize 12'
@@ -75,7 +75,8 @@ check "dump of a refused table" 3 $none poolless.err dump poolless
 check "rows of a refused table" 3 $none poolless.err rows poolless
 line oversize.err 'refused: table: Chunk Oversize 0'
 for command in rows dump; do
-    for length in 0 1 7 8 12 40 1000 23380 23383; do
+    size=$(wc -c <"$tables/rich.arsc")
+    for length in 0 1 7 8 12 40 1000 $((size - 4)) $((size - 1)); do
         head -c "$length" "$tables/rich.arsc" >rich.cut
         if [ "$length" -lt 8 ]; then fault=short.err; else fault=oversize.err; fi
         check "$command of a table's first $length bytes" 3 $none $fault "$command" rich.cut
@@ -92,6 +93,15 @@ if command -v python3 >/dev/null; then
 else
     echo "not run, since python3 is missing: dump of 20,000 strings in 30 languages"
 fi
+
+# ---- README: each line that it shows behind a command is a line of what the command prints
+awk '/^\$ / { n++; print substr($0, 3) >("shown" n ".command"); next }
+    /^```/ { shown = !shown; next } shown && n && $0 != ".." { print >("shown" n ".lines") }' "$here/README.md"
+for shown in shown*.lines; do
+    command=$(cat "${shown%.lines}.command")
+    (cd "$here" && sh -c "$command") >printed 2>&1
+    ends "README's output of '$command'" 0 "! grep -Fvxf printed '$shown' >missing"
+done
 
 # ---- files and streams
 line absent.err 'file: absent'
@@ -117,6 +127,7 @@ ends "no memory" 4 "ulimit -v 60000; exec \"\$0\" rows wide"
 
 # ---- words
 ends "help that was asked for" 0 '"$0" --help >help && grep -q rows help'
+ends "help tells the limit of files" 0 '"$0" --help | grep -q "268,435,456"'
 ends "help of a command" 0 '"$0" rows --help >help && grep -q TABLE help'
 ends "help that names dump" 0 '"$0" --help >help && grep -q dump help'
 ends "help of dump" 0 '"$0" dump --help >help && grep -q TABLE help'

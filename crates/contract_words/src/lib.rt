@@ -10,11 +10,12 @@
 //! | `joined_from` | the same for the numbers from one on and below another | `specs/Sequences.antt` |
 //! | `with_before` | each item with the items that stand before it | `specs/Sequences.antt` |
 //! | `Pushes` | a call pushed what is meant behind what was there | `specs/Sequences.antt` |
+//! | `Writes` | a call wrote a text and nothing else, unless the writer failed | `specs/Writes.antt` |
 //!
 //! A contract of a crate above reads so:
 //!
 //! ```text
 //! pub fn open(alloc: Global, bytes: &'a [u8]) -> Result<Table<'a>, TableFault>
-//!     ensures { GivesOr OutOfMemory (λ table. table) result (rows_of bytes.now) }
+//!     ensures { GivesOr OutOfMemory (λ table. table) result (table_in bytes.now) }
 //! ```
 #![tactic(auto)]

@@ -8,7 +8,7 @@
 #![tactic(auto)]
 
 ghost use Rattle.std.specs.Prelude.{◌≤◌, length, OnOk};
-ghost use Rattle.std.specs.Io.KnownBytes.{Appends};
+ghost use Rattle.contract_words.specs.Writes.{Writes};
 ghost use Rattle.hex.specs.Hex.{encode_lower};
 
 use std::io::{self, Write};
@@ -16,7 +16,7 @@ use std::io::{self, Write};
 /// Writes the digits of at most eight bytes.
 pub fn write_hex<W: Write + Drop>(bytes: &[u8], out: &mut W) -> io::Result<()>
     requires { length bytes.now ≤ 8 }
-    ensures { OnOk result (Appends (W.contents out.old) (W.contents out.new) (encode_lower bytes.now)) }
+    ensures { Writes W.contents out.old out.new result (encode_lower bytes.now) }
 {
     let mut buffer = [0; 16];
     let digits = &mut buffer[..2 * bytes.len()];

@@ -37,4 +37,4 @@ find-next p i n lt e =
 pub find-end : (p : ℕ → Bool) (i n : ℕ) → n ≤ i → find p (range_with_len i (n - i)) ≡ None
 find-end p i n le = let k : n - i ≡ 0 = omega arith in rw k refl
 
-pub ruleset odd_steps = (find-found, find-next, find-end)
+pub ruleset search_steps = (find-found, find-next, find-end)

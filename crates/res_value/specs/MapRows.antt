@@ -18,21 +18,25 @@ map_rows_at (suc count) bytes = (record { 0 = number 4 bytes 0 }, value_at (drop
 abbrev pub map_rows_of : MapRows → List (ResId × Value)
 map_rows_of rows = map_rows_at rows.count rows.left.now
 
+-- where the value of the row of an index stands, from the start of the rows
+abbrev pub value_place : ℕ → ℕ
+value_place index = 12 * index + 4
+
 -- whether the value of the row of this index, counted from 0, has another size than a value has
-unfoldable pub is_odd_row : List ℕ → ℕ → Bool
-is_odd_row bytes index = not (has_value_size (drop (12 * index + 4) bytes))
+unfoldable pub has_wrong_size : List ℕ → ℕ → Bool
+has_wrong_size bytes index = not (has_value_size (drop (value_place index) bytes))
 
 -- the rows, if none of them has a value of another size
-abbrev pub unless_odd : ℕ → List ℕ → Option ℕ → Result (List (ResId × Value)) MapRowsFault
-unless_odd count bytes None = Ok (map_rows_at count bytes)
-unless_odd count bytes (Some index) = Err (ValueSize index)
+abbrev pub unless_wrong : ℕ → List ℕ → Option ℕ → Result (List (ResId × Value)) MapRowsFault
+unless_wrong count bytes None = Ok (map_rows_at count bytes)
+unless_wrong count bytes (Some index) = Err (ValueSize index)
 
 -- So many rows at the front of some bytes, if all of them fit and each value has its size. That they fit
 -- is checked before the first value.
 unfoldable pub map_rows_in : ℕ → List ℕ → Result (List (ResId × Value)) MapRowsFault
 map_rows_in count bytes =
     if nat_lt (length bytes) (12 * count) then Err Short
-    else unless_odd count bytes (find (is_odd_row bytes) (range_with_len 0 count))
+    else unless_wrong count bytes (find (has_wrong_size bytes) (range_with_len 0 count))
 
 -- how contracts see what a call returned: without where it lies in memory
 abbrev pub seen_rows : Result MapRows MapRowsFault → Result (List (ResId × Value)) MapRowsFault

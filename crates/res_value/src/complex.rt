@@ -2,7 +2,7 @@
 
 ghost use Rattle.std.specs.Prelude.{◌≡◌, ◌++◌, map, codes, OnOk};
 ghost use Rattle.std.specs.Fmt.{decimal, signed_decimal};
-ghost use Rattle.std.specs.Io.KnownBytes.{Appends};
+ghost use Rattle.contract_words.specs.Writes.{Writes};
 ghost use Rattle.res_value.specs.Complex.{mantissa_of, radix_of, unit_text, complex_text};
 
 use std::io::{self, Write};
@@ -34,8 +34,8 @@ pub(crate) fn write_complex<W: Write + Drop>(
     units: &[&str],
     out: &mut W,
 ) -> io::Result<()>
-    ensures { OnOk result (Appends (W.contents out.old) (W.contents out.new)
-        (before.now ++ complex_text (map (λ name. name.now) units.entry.now) word)) }
+    ensures { Writes W.contents out.old out.new result
+        (before.now ++ complex_text (map (λ name. name.now) units.entry.now) word) }
 {
     out.write_all(before.as_bytes())?;
     write_number(word, out)?;
@@ -44,8 +44,8 @@ pub(crate) fn write_complex<W: Write + Drop>(
 
 // Writes all but the unit.
 fn write_number<W: Write + Drop>(word: u32, out: &mut W) -> io::Result<()>
-    ensures { OnOk result (Appends (W.contents out.old) (W.contents out.new)
-        (signed_decimal (mantissa_of word) ++ codes "/2^" ++ decimal (radix_of word) ++ codes " ")) }
+    ensures { Writes W.contents out.old out.new result
+        (signed_decimal (mantissa_of word) ++ codes "/2^" ++ decimal (radix_of word) ++ codes " ") }
 {
     let number = mantissa(word);
     let bits = radix(word);
@@ -54,8 +54,8 @@ fn write_number<W: Write + Drop>(word: u32, out: &mut W) -> io::Result<()>
 
 // Writes a unit by its name, or by its number where it has none.
 fn write_unit<W: Write + Drop>(unit: u32, names: &[&str], out: &mut W) -> io::Result<()>
-    ensures { OnOk result (Appends (W.contents out.old) (W.contents out.new)
-        (unit_text (map (λ name. name.now) names.entry.now) unit)) }
+    ensures { Writes W.contents out.old out.new result
+        (unit_text (map (λ name. name.now) names.entry.now) unit) }
 {
     match names.get(unit as usize) {
         Some(name) => write!(out, "{name}"),

@@ -39,7 +39,7 @@ pub struct MapRows<'a> {
 
 impl<'a> MapRows<'a> {
     ghost use Rattle.std.specs.Prelude.{length};
-    ghost use Rattle.res_value.specs.MapRows.{seen_rows, map_rows_in, map_rows_of, is_odd_row};
+    ghost use Rattle.res_value.specs.MapRows.{seen_rows, map_rows_in, map_rows_of, value_place, has_wrong_size};
 
     /// So many rows at the front of some bytes.
     #[tactic(auto, unfolding(crate::specs::MapRows::map_rows_in))]
@@ -49,7 +49,7 @@ impl<'a> MapRows<'a> {
         if bytes.len() < ROW_SIZE * count as usize {
             return Err(MapRowsFault::Short);
         }
-        if let Some(index) = MapRows::first_odd(count, bytes) {
+        if let Some(index) = MapRows::first_wrong_size(count, bytes) {
             return Err(MapRowsFault::ValueSize(index));
         }
         Ok(MapRows { count, left: bytes })
@@ -57,7 +57,7 @@ impl<'a> MapRows<'a> {
 
     /// Where the value of a row stands, from the start of the rows.
     pub fn value_place(index: u32) -> usize
-        ensures { result ≡ 12 * index + 4 }
+        ensures { result ≡ value_place index }
     {
         ROW_SIZE * index as usize + VALUE
     }
@@ -79,22 +79,22 @@ impl<'a> MapRows<'a> {
     }
 
     // Whether the value of a row has another size than a value has.
-    #[tactic(auto, unfolding(crate::specs::MapRows::is_odd_row))]
-    fn is_odd(bytes: &[u8], index: u32) -> bool
+    #[tactic(auto, unfolding(crate::specs::MapRows::has_wrong_size))]
+    fn has_wrong_size(bytes: &[u8], index: u32) -> bool
         requires { 12 * index + 12 ≤ length bytes.now }
-        ensures { result ≡ is_odd_row bytes.now index }
+        ensures { result ≡ has_wrong_size bytes.now index }
     {
         Value::read(&bytes[MapRows::value_place(index)..]).is_none()
     }
 
     // The first row whose value has another size than a value has.
-    #[tactic(auto, using(crate::proofs::MapRowsSteps::odd_steps))]
-    fn first_odd(count: u32, bytes: &[u8]) -> Option<u32>
+    #[tactic(auto, using(crate::proofs::MapRowsSteps::search_steps))]
+    fn first_wrong_size(count: u32, bytes: &[u8]) -> Option<u32>
         requires { 12 * count ≤ length bytes.now }
-        ensures { result ≡ find (is_odd_row bytes.now) (range_with_len 0 count) }
+        ensures { result ≡ find (has_wrong_size bytes.now) (range_with_len 0 count) }
     {
         for index in 0..count {
-            if MapRows::is_odd(bytes, index) {
+            if MapRows::has_wrong_size(bytes, index) {
                 return Some(index);
             }
         }

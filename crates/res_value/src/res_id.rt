@@ -1,7 +1,7 @@
 //! Resource ids.
 
 ghost use Rattle.std.specs.Prelude.{◌≡◌, OnOk};
-ghost use Rattle.std.specs.Io.KnownBytes.{Appends};
+ghost use Rattle.contract_words.specs.Writes.{Writes};
 ghost use Rattle.res_value.specs.ResId.{id_of, id_of_parts, package_of, type_of, entry_of, id_text};
 
 use crate::word::write_word;
@@ -65,7 +65,7 @@ impl ResId {
 /// Writes an id as `0x` and eight small hexadecimal digits.
 #[tactic(auto, using(crate::proofs::IdText::reads_back))]
 pub fn write_id<W: Write + Drop>(id: ResId, out: &mut W) -> io::Result<()>
-    ensures text { OnOk result (Appends (W.contents out.old) (W.contents out.new) (id_text id.0)) }
+    ensures text { Writes W.contents out.old out.new result (id_text id.0) }
 
     // What is written is read as that id.
     ensures reads_back { id_of (id_text id.0) ≡ Some id }

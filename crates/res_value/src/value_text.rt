@@ -1,7 +1,7 @@
 //! How a value is shown.
 
 ghost use Rattle.std.specs.Prelude.{OnOk};
-ghost use Rattle.std.specs.Io.KnownBytes.{Appends};
+ghost use Rattle.contract_words.specs.Writes.{Writes};
 ghost use Rattle.res_value.specs.ValueText.{value_text, null_text, boolean_text};
 
 use crate::complex::{DIMENSION_UNITS, FRACTION_UNITS, write_complex};
@@ -19,7 +19,7 @@ const EMPTY: u32 = 1;
 /// Writes a value: the sign or the name of its kind, and what its word means there.
 #[tactic(auto, unfolding(crate::specs::ValueText::value_text))]
 pub fn write_value<W: Write + Drop>(value: Value, out: &mut W) -> io::Result<()>
-    ensures { OnOk result (Appends (W.contents out.old) (W.contents out.new) (value_text value)) }
+    ensures { Writes W.contents out.old out.new result (value_text value) }
 {
     let word = value.word;
     match value.kind {
@@ -48,7 +48,7 @@ pub fn write_value<W: Write + Drop>(value: Value, out: &mut W) -> io::Result<()>
 
 #[tactic(auto, unfolding(crate::specs::ValueText::null_text))]
 fn write_null<W: Write + Drop>(word: u32, out: &mut W) -> io::Result<()>
-    ensures { OnOk result (Appends (W.contents out.old) (W.contents out.new) (null_text word)) }
+    ensures { Writes W.contents out.old out.new result (null_text word) }
 {
     match word {
         UNDEFINED => write!(out, "null"),
@@ -59,7 +59,7 @@ fn write_null<W: Write + Drop>(word: u32, out: &mut W) -> io::Result<()>
 
 #[tactic(auto, unfolding(crate::specs::ValueText::boolean_text))]
 fn write_boolean<W: Write + Drop>(word: u32, out: &mut W) -> io::Result<()>
-    ensures { OnOk result (Appends (W.contents out.old) (W.contents out.new) (boolean_text word)) }
+    ensures { Writes W.contents out.old out.new result (boolean_text word) }
 {
     match word {
         0 => write!(out, "false"),

@@ -1,7 +1,7 @@
 //! Words of 32 bits as text.
 
 ghost use Rattle.std.specs.Prelude.{◌++◌, OnOk};
-ghost use Rattle.std.specs.Io.KnownBytes.{Appends};
+ghost use Rattle.contract_words.specs.Writes.{Writes};
 ghost use Rattle.res_value.specs.Word.{eight_digits, word_text};
 
 use hex_text::write_hex;
@@ -10,7 +10,7 @@ use std::io::{self, Write};
 /// Writes a word or flags as `0x` and eight small hexadecimal digits.
 #[tactic(auto, unfolding(crate::specs::Word::word_text))]
 pub fn write_word<W: Write + Drop>(word: u32, out: &mut W) -> io::Result<()>
-    ensures { OnOk result (Appends (W.contents out.old) (W.contents out.new) (word_text word)) }
+    ensures { Writes W.contents out.old out.new result (word_text word) }
 {
     write_digits("0x", word, out)
 }
@@ -18,8 +18,8 @@ pub fn write_word<W: Write + Drop>(word: u32, out: &mut W) -> io::Result<()>
 /// Writes what stands before a word, and then the word's eight digits.
 #[tactic(auto, unfolding(crate::specs::Word::eight_digits))]
 pub(crate) fn write_digits<W: Write + Drop>(before: &str, word: u32, out: &mut W) -> io::Result<()>
-    ensures { OnOk result (Appends (W.contents out.old) (W.contents out.new)
-        (before.now ++ eight_digits word)) }
+    ensures { Writes W.contents out.old out.new result
+        (before.now ++ eight_digits word) }
 {
     out.write_all(before.as_bytes())?;
     write_hex(&word.to_be_bytes(), out)

@@ -14,7 +14,7 @@ use std::io::{self, Write};
 use string_pool::{Pool, write_string};
 use type_chunks::Row;
 
-/// In what two texts of the same rows differ.
+/// The two ways in which the texts of rows differ.
 #[derive(Clone, Copy, Debug)]
 pub(crate) struct CellStyle<'a> {
     /// What stands before each line of a row of a bag.

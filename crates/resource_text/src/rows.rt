@@ -9,7 +9,7 @@ use res_value::write_id;
 use std::io::{self, Write};
 use type_chunks::{Row, Table};
 
-/// How what rows hold is written here.
+/// Two spaces before the rows of a bag, and no strings.
 const STYLE: CellStyle<'static> = CellStyle {
     indent: "  ",
     strings: None,

@@ -25,7 +25,7 @@ Exit status:
   2  the words are no command line
   3  an input is refused
   4  out of memory
-  5  a file or the output failed, or an input is too large";
+  5  a file or the output failed, or an input is larger than 268,435,456 bytes";
 
 /// What the words ask for.
 #[derive(Clone, Copy, Debug, PartialEq, Eq)]

@@ -5,40 +5,40 @@ use Rattle.std.proofs.lemmas.List.{append-nil}
 use Rattle.std.proofs.KnownBytes.{Appends-nil, Appends-trans}
 
 -- of a text all was written but for what is left
-pub record Writes (old new : Option (List ℕ)) (left text : List ℕ) : Type 0 where
+pub record WroteAllBut (old new : Option (List ℕ)) (left text : List ℕ) : Type 0 where
   pub so_far : List ℕ
   pub written : Appends old new so_far
   pub others : so_far ++ left ≡ text
 
 -- nothing was written yet
-pub Writes-none : (old : Option (List ℕ)) (text : List ℕ) → Writes old old text text
-Writes-none old text = record { so_far = []; written = Appends-nil old; others = refl }
+pub WroteAllBut-none : (old : Option (List ℕ)) (text : List ℕ) → WroteAllBut old old text text
+WroteAllBut-none old text = record { so_far = []; written = Appends-nil old; others = refl }
 
 -- the next piece
-pub Writes-next : (old mid new : Option (List ℕ)) (left front behind text : List ℕ) → Writes old mid left text → left ≡ front ++ behind → Appends mid new front
-    → Writes old new behind text
-Writes-next old mid new left front behind text before split put = record {
+pub WroteAllBut-next : (old mid new : Option (List ℕ)) (left front behind text : List ℕ) → WroteAllBut old mid left text → left ≡ front ++ behind → Appends mid new front
+    → WroteAllBut old new behind text
+WroteAllBut-next old mid new left front behind text before split put = record {
   so_far = before.so_far ++ front;
   written = Appends-trans old mid new before.so_far front before.written put;
   others = append_assoc before.so_far front behind ∙ ap (λ (t : List ℕ). before.so_far ++ t) (sym split) ∙ before.others;
 }
 
 -- nothing is left
-pub Writes-done : (old new : Option (List ℕ)) (left text : List ℕ) → Writes old new left text → left ≡ [] → Appends old new text
-Writes-done old new left text before nothing =
+pub WroteAllBut-done : (old new : Option (List ℕ)) (left text : List ℕ) → WroteAllBut old new left text → left ≡ [] → Appends old new text
+WroteAllBut-done old new left text before nothing =
     let whole : before.so_far ≡ text = sym (append-nil before.so_far) ∙ ap (λ (t : List ℕ). before.so_far ++ t) (sym nothing) ∙ before.others in
     subst (λ (t : List ℕ). Appends old new t) whole before.written
 
 -- two pieces, one behind the other
-pub Writes-two : (old mid next new : Option (List ℕ)) (left front behind second others text : List ℕ) → Writes old mid left text → left ≡ front ++ behind → Appends mid next front
-    → behind ≡ second ++ others → Appends next new second → Writes old new others text
-Writes-two old mid next new left front behind second others text before split put then put_then =
-    Writes-next old next new behind second others text (Writes-next old mid next left front behind text before split put) then put_then
+pub WroteAllBut-two : (old mid next new : Option (List ℕ)) (left front behind second others text : List ℕ) → WroteAllBut old mid left text → left ≡ front ++ behind → Appends mid next front
+    → behind ≡ second ++ others → Appends next new second → WroteAllBut old new others text
+WroteAllBut-two old mid next new left front behind second others text before split put then put_then =
+    WroteAllBut-next old next new behind second others text (WroteAllBut-next old mid next left front behind text before split put) then put_then
 
 -- the last piece
-pub Writes-last : (old mid new : Option (List ℕ)) (left front behind text : List ℕ) → Writes old mid left text → left ≡ front ++ behind → Appends mid new front → behind ≡ []
+pub WroteAllBut-last : (old mid new : Option (List ℕ)) (left front behind text : List ℕ) → WroteAllBut old mid left text → left ≡ front ++ behind → Appends mid new front → behind ≡ []
     → Appends old new text
-Writes-last old mid new left front behind text before split put nothing =
-    Writes-done old new behind text (Writes-next old mid new left front behind text before split put) nothing
+WroteAllBut-last old mid new left front behind text before split put nothing =
+    WroteAllBut-done old new behind text (WroteAllBut-next old mid new left front behind text before split put) nothing
 
-pub ruleset writes = (Writes-none, Writes-next, Writes-done)
+pub ruleset writes = (WroteAllBut-none, WroteAllBut-next, WroteAllBut-done)

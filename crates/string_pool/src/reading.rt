@@ -9,7 +9,7 @@ use crate::fault::StringFault;
 use crate::text::Text;
 use crate::units::{UNIT_SIZE, first_unit};
 
-// The highest bit of a length's first unit: a second unit follows.
+// The highest bit of a length's first unit says that a second unit follows.
 const LONG_BYTE: u8 = 0x80;
 
 const LONG_UNIT: u16 = 0x8000;

@@ -1,7 +1,7 @@
 //! How strings are shown.
 
 ghost use Rattle.std.specs.Prelude.{◌≡◌, ◌||◌, ◌++◌, ◌<◌, ◌≤◌, length, MatchOption, OnOk};
-ghost use Rattle.std.specs.Io.KnownBytes.{Appends};
+ghost use Rattle.contract_words.specs.Writes.{Writes};
 ghost use Rattle.string_pool.specs.Escapes.{escape_text, IsPlain, BeginsEscape, piece_text};
 ghost use Rattle.string_pool.specs.Shown.{takes_backslash, is_control, character_text, bytes_text, units_text, unit_escape, string_text};
 ghost use Rattle.string_pool.specs.Text.{seen_text};
@@ -22,7 +22,7 @@ impl<'a> Text<'a> {
     /// and four.
     #[tactic(auto, unfolding(crate::specs::Shown::shown_text))]
     pub fn write_shown<W: Write + Drop>(&self, out: &mut W) -> io::Result<()>
-        ensures { OnOk result (Appends (W.contents out.old) (W.contents out.new) (shown_text (text_of self.now))) }
+        ensures { Writes W.contents out.old out.new result (shown_text (text_of self.now)) }
     {
         out.write_all(b"\"")?;
         match self {
@@ -39,7 +39,7 @@ pub fn write_string<W: Write + Drop>(
     string: Result<Text<'_>, StringFault>,
     out: &mut W,
 ) -> io::Result<()>
-    ensures { OnOk result (Appends (W.contents out.old) (W.contents out.new) (string_text (seen_text string.entry))) }
+    ensures { Writes W.contents out.old out.new result (string_text (seen_text string.entry)) }
 {
     match string {
         Ok(text) => text.write_shown(out),
@@ -52,7 +52,7 @@ pub fn write_string<W: Write + Drop>(
 // Writes bytes that are read as UTF-8. What stands for itself is written in one piece.
 #[tactic(auto, using(crate::proofs::WriteSteps::writes))]
 fn write_bytes<W: Write + Drop>(bytes: &[u8], out: &mut W) -> io::Result<()>
-    ensures { OnOk result (Appends (W.contents out.old) (W.contents out.new) (bytes_text bytes.now)) }
+    ensures { Writes W.contents out.old out.new result (bytes_text bytes.now) }
 {
     let mut left = bytes;
     loop {
@@ -69,7 +69,7 @@ fn write_bytes<W: Write + Drop>(bytes: &[u8], out: &mut W) -> io::Result<()>
 // Writes bytes that are read as UTF-16.
 #[tactic(auto, using(crate::proofs::WriteSteps::writes))]
 fn write_units<W: Write + Drop>(bytes: &[u8], out: &mut W) -> io::Result<()>
-    ensures { OnOk result (Appends (W.contents out.old) (W.contents out.new) (units_text (units_in bytes.now))) }
+    ensures { Writes W.contents out.old out.new result (units_text (units_in bytes.now)) }
 {
     let mut left = bytes;
     while let Some((piece, behind)) = first_character(left) {
@@ -117,7 +117,7 @@ fn is_escaped(character: char) -> bool
 
 // Writes a character or a lone surrogate.
 fn write_piece<W: Write + Drop>(piece: Result<char, u16>, out: &mut W) -> io::Result<()>
-    ensures { OnOk result (Appends (W.contents out.old) (W.contents out.new) (piece_text piece)) }
+    ensures { Writes W.contents out.old out.new result (piece_text piece) }
 {
     match piece {
         Ok(character) => write_character(character, out),
@@ -126,7 +126,7 @@ fn write_piece<W: Write + Drop>(piece: Result<char, u16>, out: &mut W) -> io::Re
 }
 
 fn write_character<W: Write + Drop>(character: char, out: &mut W) -> io::Result<()>
-    ensures { OnOk result (Appends (W.contents out.old) (W.contents out.new) (character_text character)) }
+    ensures { Writes W.contents out.old out.new result (character_text character) }
 {
     if is_escaped(character) {
         return write_escape(character as u8, out);
@@ -135,7 +135,7 @@ fn write_character<W: Write + Drop>(character: char, out: &mut W) -> io::Result<
 }
 
 fn write_escape<W: Write + Drop>(byte: u8, out: &mut W) -> io::Result<()>
-    ensures { OnOk result (Appends (W.contents out.old) (W.contents out.new) (escape_text byte)) }
+    ensures { Writes W.contents out.old out.new result (escape_text byte) }
 {
     match byte {
         b'"' | b'\\' => out.write_all(&[b'\\', byte]),
@@ -147,7 +147,7 @@ fn write_escape<W: Write + Drop>(byte: u8, out: &mut W) -> io::Result<()>
 }
 
 fn write_surrogate<W: Write + Drop>(unit: u16, out: &mut W) -> io::Result<()>
-    ensures { OnOk result (Appends (W.contents out.old) (W.contents out.new) (unit_escape unit)) }
+    ensures { Writes W.contents out.old out.new result (unit_escape unit) }
 {
     out.write_all(b"\\u")?;
     write_hex(&unit.to_be_bytes(), out)

@@ -4,7 +4,7 @@ use Rattle.contract_words.specs.Faults.{◌>>=◌, refuse}
 use Rattle.chunk_walk.specs.Number.{number}
 use Rattle.res_value.specs.ResId.{id_of_parts}
 use Rattle.res_value.specs.Value.{has_value_size, value_at}
-use Rattle.res_value.specs.MapRows.{map_rows_in}
+use Rattle.res_value.specs.MapRows.{map_rows_in, value_place}
 use Rattle.res_value.specs.Cell.{CellOf, PlainOf, BagOf}
 use Rattle.res_value.specs.declared.map_rows.MapRowsFault.{MapRowsFault}
 use Rattle.res_value.specs.declared.map_rows.MapRowsFault.TheVariants.{Short, ValueSize}
@@ -22,25 +22,25 @@ use Rattle.type_chunks.specs.TypeChunk.{TypeChunkOf}
 abbrev pub is_row : TypeChunkOf → ℕ → Bool
 is_row chunk index = nat_lt index chunk.spec.entry_count && nat_lt index 65536
 
--- ---- what an entry holds, of which `cell` is the place behind its size, from the chunk's start
+-- ---- what an entry holds; `behind` is the place behind its size, from the chunk's start
 
 -- a value: first that it fits, then its size
 unfoldable pub value_of_entry : TypeChunkOf → ℕ → ℕ → Result CellOf TableFault
-value_of_entry chunk at cell = do
-  _ ← refuse (nat_lt (length chunk.whole) (cell + 8)) (faults.Entry (chunk.place + at))
-  _ ← refuse (not (has_value_size (drop cell chunk.whole))) (faults.Value (chunk.place + cell))
-  Ok (PlainOf (value_at (drop cell chunk.whole)))
+value_of_entry chunk at behind = do
+  _ ← refuse (nat_lt (length chunk.whole) (behind + 8)) (faults.Entry (chunk.place + at))
+  _ ← refuse (not (has_value_size (drop behind chunk.whole))) (faults.Value (chunk.place + behind))
+  Ok (PlainOf (value_at (drop behind chunk.whole)))
 
--- The rows that were read, or their fault: a value stands four bytes behind the start of its row.
+-- the rows that were read, or their fault
 abbrev pub bag_of_rows : TypeChunkOf → ℕ → ℕ → Result (List (ResId × Value)) MapRowsFault → Result CellOf TableFault
-bag_of_rows chunk at cell (Ok rows) = Ok (BagOf (record { 0 = number 4 chunk.whole (at + 8) }) rows)
-bag_of_rows chunk at cell (Err Short) = Err (faults.Entry (chunk.place + at))
-bag_of_rows chunk at cell (Err (ValueSize index)) = Err (faults.Value (chunk.place + (cell + 12 * index + 4)))
+bag_of_rows chunk at behind (Ok rows) = Ok (BagOf (record { 0 = number 4 chunk.whole (at + 8) }) rows)
+bag_of_rows chunk at behind (Err Short) = Err (faults.Entry (chunk.place + at))
+bag_of_rows chunk at behind (Err (ValueSize index)) = Err (faults.Value (chunk.place + (behind + value_place index)))
 
 -- a bag: its parent at 8, the count of its rows at 12
 unfoldable pub bag_of_entry : TypeChunkOf → ℕ → ℕ → Result CellOf TableFault
-bag_of_entry chunk at cell =
-    bag_of_rows chunk at cell (map_rows_in (number 4 chunk.whole (at + 12)) (drop cell chunk.whole))
+bag_of_entry chunk at behind =
+    bag_of_rows chunk at behind (map_rows_in (number 4 chunk.whole (at + 12)) (drop behind chunk.whole))
 
 -- ---- an entry
 

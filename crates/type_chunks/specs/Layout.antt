@@ -24,7 +24,7 @@ least_table_header = 12
 abbrev pub least_package_header : ℕ
 least_package_header = 284
 
--- with it
+-- with typeIdOffset
 abbrev pub package_header_with_offset : ℕ
 package_header_with_offset = 288
 

@@ -4,7 +4,7 @@ pub mod Row
 pub mod TypeSpec
 pub mod TypeChunk
 pub mod Entry
-pub mod PackageRows
+pub mod PackageChildren
 pub mod Package
 pub mod Table
 pub mod Names

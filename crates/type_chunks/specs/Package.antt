@@ -13,7 +13,7 @@ use Rattle.type_chunks.specs.declared.package.Package.{Package}
 use Rattle.type_chunks.specs.Layout.{pool_kind, least_package_header, package_header_with_offset}
 use Rattle.type_chunks.specs.LowerFaults.{found_chunk, pool_of_chunk}
 use Rattle.type_chunks.specs.Row.{RowOf, views_of}
-use Rattle.type_chunks.specs.PackageRows.{rows_of_children}
+use Rattle.type_chunks.specs.PackageChildren.{rows_of_children}
 
 -- A package, without where its file lies in memory.
 pub record PackageOf : Type 0 where
@@ -70,7 +70,7 @@ names_at chunk at = do
 abbrev pub names_in : ChunkOf → ℕ → Result PoolOf TableFault
 names_in chunk at = if at == 0 then Ok empty_pool else names_at chunk at
 
--- a header of another size has no such field
+-- typeIdOffset, which a header of another size does not have
 abbrev pub type_id_offset_in : ChunkOf → ℕ
 type_id_offset_in chunk = if length chunk.header == package_header_with_offset then number 4 chunk.header 284 else 0
 

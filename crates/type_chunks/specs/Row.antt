@@ -6,7 +6,7 @@ use Rattle.type_chunks.specs.declared.row.Row.{Row}
 
 -- A row of a table, without where it lies in memory.
 pub record RowOf : Type 0 where
-  -- of its resource
+  -- the id of its resource
   pub id : ℕ
   -- the bytes of its configuration
   pub config : List ℕ

@@ -16,7 +16,7 @@ use Rattle.type_chunks.specs.Package.{PackageOf, package_in, rows_of_packages}
 -- A table, without where its file lies in memory.
 pub record TableOf : Type 0 where
   pub packages : List PackageOf
-  -- of its values
+  -- the strings that its values name
   pub strings : PoolOf
 
 -- all rows, in the order of the file

@@ -66,36 +66,36 @@ impl<'a> TypeChunk<'a> {
         }))
     }
 
-    // The value of an entry; `cell` is the place behind the entry's size.
+    // The value of an entry; `behind` is the place behind the entry's size.
     #[tactic(auto, unfolding(crate::specs::Entry::value_of_entry))]
-    fn value(&self, at: usize, cell: usize) -> Result<Cell<'a>, TableFault>
-        requires fits { cell ≤ length self.now.whole.now }
+    fn value(&self, at: usize, behind: usize) -> Result<Cell<'a>, TableFault>
+        requires fits { behind ≤ length self.now.whole.now }
         requires near { at < 2 ^ 33 }
-        ensures { seen_cell result ≡ value_of_entry (type_chunk_of self.now) at cell }
+        ensures { seen_cell result ≡ value_of_entry (type_chunk_of self.now) at behind }
     {
-        if self.whole.len() < cell + Value::SIZE {
+        if self.whole.len() < behind + Value::SIZE {
             return Err(TableFault::Entry(self.place + at));
         }
-        match Value::read(&self.whole[cell..]) {
+        match Value::read(&self.whole[behind..]) {
             Some(value) => Ok(Cell::Plain(value)),
-            None => Err(TableFault::Value(self.place + cell)),
+            None => Err(TableFault::Value(self.place + behind)),
         }
     }
 
     // The bag of a complex entry.
     #[tactic(auto, unfolding(crate::specs::Entry::bag_of_entry))]
-    fn bag(&self, at: usize, cell: usize) -> Result<Cell<'a>, TableFault>
-        requires fits { cell ≤ length self.now.whole.now }
-        requires header { at + 16 ≤ cell }
-        ensures { seen_cell result ≡ bag_of_entry (type_chunk_of self.now) at cell }
+    fn bag(&self, at: usize, behind: usize) -> Result<Cell<'a>, TableFault>
+        requires fits { behind ≤ length self.now.whole.now }
+        requires header { at + 16 ≤ behind }
+        ensures { seen_cell result ≡ bag_of_entry (type_chunk_of self.now) at behind }
     {
         let parent = ResId(u32_within(self.whole, at + bag_header::PARENT));
         let count = u32_within(self.whole, at + bag_header::COUNT);
-        match MapRows::read(count, &self.whole[cell..]) {
+        match MapRows::read(count, &self.whole[behind..]) {
             Ok(rows) => Ok(Cell::Bag { parent, rows }),
             Err(MapRowsFault::Short) => Err(TableFault::Entry(self.place + at)),
             Err(MapRowsFault::ValueSize(index)) => {
-                Err(TableFault::Value(self.place + (cell + MapRows::value_place(index))))
+                Err(TableFault::Value(self.place + (behind + MapRows::value_place(index))))
             }
         }
     }

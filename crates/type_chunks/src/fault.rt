@@ -21,8 +21,9 @@ pub enum TableFault {
     /// A package's id is 0 or above 255.
     #[error("PackageId {0}")]
     PackageId(usize),
-    /// A package's names of types or of entries have no place behind its header and within it, or no
-    /// pool stands there.
+    /// Where a package's header puts the names of its types or its entries, no pool can stand or stands:
+    /// the place is no multiple of four, is not behind the header, is not in the package, or holds a
+    /// chunk of another kind.
     #[error("PackageHeader {0}")]
     PackageHeader(usize),
     /// A string pool does not open.

@@ -38,7 +38,7 @@ pub(crate) mod package_header {
     /// Without the last field, typeIdOffset, which older tools do not write.
     pub const LEAST_SIZE: usize = 284;
 
-    /// With it.
+    /// With typeIdOffset.
     pub const SIZE_WITH_OFFSET: usize = 288;
 }
 

@@ -15,7 +15,8 @@
 //!
 //! A file is a table chunk, which holds packages, which hold type specs and types, which hold
 //! entries. What rows these are, and which fault is the first, is said of each in `specs/Table.antt`,
-//! `specs/Package.antt`, `specs/PackageRows.antt`, `specs/TypeSpec.antt`, `specs/TypeChunk.antt` and `specs/Entry.antt`.
+//! `specs/Package.antt`, `specs/PackageChildren.antt`, `specs/TypeSpec.antt`, `specs/TypeChunk.antt` and
+//! `specs/Entry.antt`.
 #![tactic(auto)]
 
 mod entry;
@@ -27,8 +28,8 @@ mod layout;
 mod names;
 mod owner;
 mod package;
+mod package_children;
 mod package_header;
-mod package_rows;
 mod pool;
 mod row;
 mod rows;

@@ -55,7 +55,7 @@ impl<'t, 'a> Iterator for PackageRows<'t, 'a> {
 /// All rows of a table that are left, in the order of the file.
 #[derive(Drop)]
 pub struct AllRows<'t, 'a> {
-    /// Of the package before these, where there is one.
+    /// Those of the package that stands before `packages`, once there is one.
     left: Option<PackageRows<'t, 'a>>,
     packages: Iter<'t, Package<'a>>,
 }

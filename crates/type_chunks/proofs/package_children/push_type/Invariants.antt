@@ -3,7 +3,7 @@ use Rattle.contract_words.specs.Sequences.{with_front, joined_from}
 use Rattle.type_chunks.specs.Row.{views_of}
 use Rattle.type_chunks.specs.TypeChunk.{type_chunk_of}
 use Rattle.type_chunks.specs.Entry.{rows_of_entry}
-use Rattle.type_chunks.proofs.package_rows.push_type.Given as goal
+use Rattle.type_chunks.proofs.package_children.push_type.Given as goal
 
 -- the rows so far and those of the entries that are left are all rows
 abbrev pub invariant-loop-index : goal.invariant-loop-index

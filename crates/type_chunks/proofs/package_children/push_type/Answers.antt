@@ -1,7 +1,7 @@
 use Rattle.std.proofs.Common.{◌∙◌, sym}
 use Rattle.std.proofs.lemmas.Result.{err_from_is_err_and}
 use Rattle.contract_words.proofs.SequenceSteps.{joined_from-stops}
-use Rattle.type_chunks.proofs.package_rows.push_type.Goals as goal
+use Rattle.type_chunks.proofs.package_children.push_type.Goals as goal
 
 pub returns-in_err-push_entry : goal.returns-in_err-push_entry
 returns-in_err-push_entry c =

@@ -9,7 +9,7 @@ ghost use Rattle.type_chunks.specs.KnownSpecs.{Knows};
 ghost use Rattle.type_chunks.specs.Row.{views_of};
 ghost use Rattle.type_chunks.specs.TypeChunk.{type_chunk_of};
 ghost use Rattle.type_chunks.specs.Entry.{rows_of_entry};
-ghost use Rattle.type_chunks.specs.PackageRows.{rows_of_entries, rows_of_child, rows_of_children};
+ghost use Rattle.type_chunks.specs.PackageChildren.{rows_of_entries, rows_of_child, rows_of_children};
 
 use crate::fault::TableFault;
 use crate::known_specs::KnownSpecs;
@@ -37,7 +37,7 @@ pub(crate) fn push_children<'a>(
 }
 
 // Pushes the rows of a chunk in a package; `specs` has the type specs before it.
-#[tactic(auto, unfolding(crate::specs::PackageRows::rows_of_child))]
+#[tactic(auto, unfolding(crate::specs::PackageChildren::rows_of_child))]
 fn push_child<'a>(
     owner: Owner,
     found: Result<Chunk<'a>, ChunkFault>,

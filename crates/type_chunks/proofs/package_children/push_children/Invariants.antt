@@ -4,8 +4,8 @@ use Rattle.chunk_walk.specs.Chunk.{chunk_of}
 use Rattle.chunk_walk.specs.Chunks.{children_of}
 use Rattle.type_chunks.specs.KnownSpecs.{Knows}
 use Rattle.type_chunks.specs.Row.{views_of}
-use Rattle.type_chunks.specs.PackageRows.{rows_of_child, rows_of_children}
-use Rattle.type_chunks.proofs.package_rows.push_children.Given as goal
+use Rattle.type_chunks.specs.PackageChildren.{rows_of_child, rows_of_children}
+use Rattle.type_chunks.proofs.package_children.push_children.Given as goal
 
 -- the rows so far and those of the chunks that are left are all rows, and the type specs so far are known
 abbrev pub invariant-loop-found : goal.invariant-loop-found

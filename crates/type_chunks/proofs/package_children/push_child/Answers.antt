@@ -1,7 +1,7 @@
 use Rattle.std.proofs.Common.{arith}
 use Rattle.chunk_walk.specs.Chunk.{chunk_of}
 use Rattle.type_chunks.proofs.KnownSteps.{Knows-kept, Knows-other, on_ok}
-use Rattle.type_chunks.proofs.package_rows.push_child.Goals as goal
+use Rattle.type_chunks.proofs.package_children.push_child.Goals as goal
 
 pub returns-in_ok-read-in-514-clause-known : goal.returns-in_ok-read-in-514-clause-known
 returns-in_ok-read-in-514-clause-known c = λ before known.

@@ -1,7 +1,7 @@
 use Rattle.std.proofs.lemmas.Result.{err_from_is_err_and}
 use Rattle.contract_words.proofs.SequenceSteps.{ReadsKnowing-none, ReadsKnowing-next, ReadsKnowing-stops, ReadsKnowing-end}
 use Rattle.type_chunks.specs.KnownSpecs.{Knows}
-use Rattle.type_chunks.proofs.package_rows.push_children.Goals as goal
+use Rattle.type_chunks.proofs.package_children.push_children.Goals as goal
 
 pub loop-found-init : goal.loop-found-init
 loop-found-init c = record {
