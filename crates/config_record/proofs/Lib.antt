@@ -1,3 +1,6 @@
+pub mod LocaleLemmas
 pub mod SeparatorSteps
 pub mod QualifierLemmas
-pub mod LocaleLemmas
+pub mod EachNumberSteps
+pub mod DeviceLemmas
+pub mod LocaleGiven

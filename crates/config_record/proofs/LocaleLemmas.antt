@@ -1,5 +1,5 @@
--- What a text of a locale stands for is printed as that text.
-use Rattle.std.proofs.Common.{◌≡◌, ℕ, ◌+◌, ◌-◌, ◌*◌, ◌/◌, ◌%◌, ◌<◌, ◌≤◌, Bool, true, false, ◌&&◌, cond, List, [], ◌∷◌, ◌++◌, length, get_or, take, drop, position, ◌==◌, Option, Some, None, Result, Ok, Err, IfOk, is_some, unwrap_or, not, refl, sym, ap, subst, ◌∙◌, arith}
+-- What a text of a locale stands for is printed as that text, and passes the check of bytes.
+use Rattle.std.proofs.Common.{◌≡◌, ◌≢◌, ℕ, ◌+◌, ◌-◌, ◌*◌, ◌/◌, ◌%◌, ◌<◌, ◌≤◌, Bool, true, false, ◌&&◌, cond, List, [], ◌∷◌, ◌++◌, length, get_or, take, drop, position, ◌==◌, Option, Some, None, Result, Ok, Err, IfOk, is_some, unwrap_or, not, refl, sym, ap, subst, ◌∙◌, arith}
 use Rattle.std.proofs.lemmas.List.{append-nil, drop_more, take-append-drop}
 use Rattle.std.proofs.lemmas.List.Quantifiers.{position-Some}
 use Rattle.std.proofs.lemmas.Bool.{eqb-true, leb-true, le-ltb, lt-ltb}
@@ -10,9 +10,9 @@ use Rattle.config_record.specs.declared.locale.Locale.{Locale}
 use Rattle.config_record.specs.declared.locale.LocaleFault.{LocaleFault}
 use Rattle.config_record.specs.declared.locale.LocaleFault.TheVariants.{RegionAlone, Malformed}
 use Rattle.config_record.specs.Zero.{is_zero}
-use Rattle.config_record.specs.Locale.{is_small_letter, is_capital_letter, is_digit, packed, language_of, region_of, no_part, unpacked, without_region, with_region, cut_at, locale_of, locale_text}
+use Rattle.config_record.specs.Locale.{is_small_letter, is_capital_letter, is_digit, packed, language_of, region_of, no_part, unpacked, without_region, with_region, cut_at, locale_of, checked_locale, locale_text}
 
-both : (a b : Bool) → (a && b) ≡ true → (a ≡ true) × (b ≡ true)
+pub both : (a b : Bool) → (a && b) ≡ true → (a ≡ true) × (b ≡ true)
 both true b e = (refl, e)
 both false b e = absurd cc
 
@@ -20,13 +20,13 @@ some_if : {X : Type 0} (b : Bool) (x y : X) → cond b (Some x) None ≡ Some y 
 some_if true x y e = (refl, cc)
 some_if false x y e = absurd cc
 
-small : (b : ℕ) → is_small_letter b ≡ true → (97 ≤ b) × (b ≤ 122)
+pub small : (b : ℕ) → is_small_letter b ≡ true → (97 ≤ b) × (b ≤ 122)
 small b h = let r = both _ _ h in (leb-true 97 b r.0, leb-true b 122 r.1)
 
-capital : (b : ℕ) → is_capital_letter b ≡ true → (65 ≤ b) × (b ≤ 90)
+pub capital : (b : ℕ) → is_capital_letter b ≡ true → (65 ≤ b) × (b ≤ 90)
 capital b h = let r = both _ _ h in (leb-true 65 b r.0, leb-true b 90 r.1)
 
-digit : (b : ℕ) → is_digit b ≡ true → (48 ≤ b) × (b ≤ 57)
+pub digit : (b : ℕ) → is_digit b ≡ true → (48 ≤ b) × (b ≤ 57)
 digit b h = let r = both _ _ h in (leb-true 48 b r.0, leb-true b 57 r.1)
 
 -- three symbols that are packed and unpacked
@@ -104,18 +104,29 @@ region_of-stands (a ∷ b ∷ c ∷ d ∷ text) part e = absurd cc
 
 -- ---- a whole locale
 
-locale_text-both : (l : Locale) (before after : List ℕ) → language_of before ≡ Some l.language → region_of after ≡ Some l.region → locale_text l ≡ before ++ 45 ∷ after
-unfolding locale_text
-locale_text-both l before after e f =
+-- a text gives a locale: it is the one that is printed, and the bytes pass the check
+pub record Gives (text : List ℕ) (l : Locale) : Type 0 where
+  pub printed : locale_text l ≡ text
+  pub passes : checked_locale l ≡ Ok l
+
+gives-both : (l : Locale) (before after : List ℕ) → language_of before ≡ Some l.language → region_of after ≡ Some l.region → Gives (before ++ 45 ∷ after) l
+unfolding locale_text checked_locale
+gives-both l before after e f =
     let language = language_of-stands before l.language e in
     let region = region_of-stands after l.region f in
-    rw (language.not_zero, language.symbols, region.not_zero, region.symbols, e, f) refl
+    record {
+      printed = rw (language.not_zero, language.symbols, region.not_zero, region.symbols, e, f) refl;
+      passes = rw (language.not_zero, language.symbols, region.not_zero, region.symbols, e, f) refl;
+    }
 
-locale_text-language : (l : Locale) (text : List ℕ) → language_of text ≡ Some l.language → l.region ≡ no_part → locale_text l ≡ text
-unfolding locale_text
-locale_text-language l text e none =
+gives-language : (l : Locale) (text : List ℕ) → language_of text ≡ Some l.language → l.region ≡ no_part → Gives text l
+unfolding locale_text checked_locale
+gives-language l text e none =
     let language = language_of-stands text l.language e in
-    rw (language.not_zero, language.symbols, none, e) (append-nil text)
+    record {
+      printed = rw (language.not_zero, language.symbols, none, e) (append-nil text);
+      passes = rw (language.not_zero, language.symbols, none, e) refl;
+    }
 
 dash_between : (text : List ℕ) (dash : ℕ) → position (λ b. b == 45) text ≡ Some dash → take dash text ++ 45 ∷ drop (dash + 1) text ≡ text
 dash_between text dash e =
@@ -130,36 +141,42 @@ same_locale language region l e =
     let same : made ≡ l = cc in
     (ap (λ (m : Locale). m.language) same, ap (λ (m : Locale). m.region) same)
 
-without_region-text : (text : List ℕ) (l : Locale) → without_region text ≡ Ok l → locale_text l ≡ text
-unfolding locale_text
-without_region-text [] l e = let same = same_locale no_part no_part l e in rw (← same.0, ← same.1) refl
-without_region-text (b ∷ bytes) l e = alone (language_of (b ∷ bytes)) refl (rw (eqb-suc-zero (length bytes)) at e)
+without_region-gives : (text : List ℕ) (l : Locale) → without_region text ≡ Ok l → Gives text l
+unfolding locale_text checked_locale
+without_region-gives [] l e =
+    let same = same_locale no_part no_part l e in
+    record { printed = rw (← same.0, ← same.1) refl; passes = rw (← same.0, ← same.1) refl }
+without_region-gives (b ∷ bytes) l e = alone (language_of (b ∷ bytes)) refl (rw (eqb-suc-zero (length bytes)) at e)
   where
     alone : (o : Option (List ℕ)) → language_of (b ∷ bytes) ≡ o → checked_by ((not (is_some o), Malformed) ∷ []) (Ok (record { language = unwrap_or o no_part; region = no_part })) ≡ Ok l
-        → locale_text l ≡ b ∷ bytes
+        → Gives (b ∷ bytes) l
     alone None read f = absurd cc
-    alone (Some part) read f = let same = same_locale part no_part l f in locale_text-language l (b ∷ bytes) (rw (← same.0) read) (sym same.1)
+    alone (Some part) read f = let same = same_locale part no_part l f in gives-language l (b ∷ bytes) (rw (← same.0) read) (sym same.1)
 
-with_region-text : (before after : List ℕ) (l : Locale) → with_region before after ≡ Ok l → locale_text l ≡ before ++ 45 ∷ after
-with_region-text before after l e = parts (region_of after) (length before == 0) (language_of before) refl refl e
+with_region-gives : (before after : List ℕ) (l : Locale) → with_region before after ≡ Ok l → Gives (before ++ 45 ∷ after) l
+with_region-gives before after l e = parts (region_of after) (length before == 0) (language_of before) refl refl e
   where
     parts : (r : Option (List ℕ)) (none : Bool) (o : Option (List ℕ)) → region_of after ≡ r → language_of before ≡ o
         → checked_by ((not (is_some r), Malformed) ∷ (none, RegionAlone) ∷ (not (is_some o), Malformed) ∷ []) (Ok (record { language = unwrap_or o no_part; region = unwrap_or r no_part })) ≡ Ok l
-        → locale_text l ≡ before ++ 45 ∷ after
+        → Gives (before ++ 45 ∷ after) l
     parts None none o read_region read_language f = absurd cc
     parts (Some region) true o read_region read_language f = absurd cc
     parts (Some region) false None read_region read_language f = absurd cc
     parts (Some region) false (Some part) read_region read_language f =
         let same = same_locale part region l f in
-        locale_text-both l before after (rw (← same.0) read_language) (rw (← same.1) read_region)
+        gives-both l before after (rw (← same.0) read_language) (rw (← same.1) read_region)
 
-locale_of-text : (text : List ℕ) (l : Locale) → locale_of text ≡ Ok l → locale_text l ≡ text
-locale_of-text text l e = at (position (λ b. b == 45) text) refl e
+pub locale_of-gives : (text : List ℕ) (l : Locale) → locale_of text ≡ Ok l → Gives text l
+locale_of-gives text l e = at (position (λ b. b == 45) text) refl e
   where
-    at : (o : Option ℕ) → position (λ b. b == 45) text ≡ o → cut_at text o ≡ Ok l → locale_text l ≡ text
-    at None p e = without_region-text text l e
-    at (Some dash) p e = with_region-text (take dash text) (drop (dash + 1) text) l e ∙ dash_between text dash p
+    at : (o : Option ℕ) → position (λ b. b == 45) text ≡ o → cut_at text o ≡ Ok l → Gives text l
+    at None p e = without_region-gives text l e
+    at (Some dash) p e = subst (λ (t : List ℕ). Gives t l) (dash_between text dash p) (with_region-gives (take dash text) (drop (dash + 1) text) l e)
 
 pub printed_back : (text : List ℕ) (r : Result Locale LocaleFault) → r ≡ locale_of text → IfOk r (λ l. locale_text l ≡ text)
-printed_back text (Ok l) e = locale_of-text text l (sym e)
+printed_back text (Ok l) e = (locale_of-gives text l (sym e)).printed
 printed_back text (Err fault) e = tt
+
+-- bytes that do not pass the check are given by no text
+pub not_given : (l : Locale) (fault : LocaleFault) → Err fault ≡ checked_locale l → (text : List ℕ) → locale_of text ≢ Ok l
+not_given l fault e text given = let passes = (locale_of-gives text l given).passes in cc

@@ -1,5 +1,5 @@
 -- The coordinates of a configuration: their order, names and greatest numbers.
-use Rattle.std.specs.Prelude.{ℕ, List, [], ◌∷◌, codes}
+use Rattle.std.specs.Prelude.{ℕ, List, [], ◌∷◌, codes, slice_index}
 use Rattle.config_record.specs.declared.coord.Coord.{Coord}
 use Rattle.config_record.specs.declared.coord.Coord.TheVariants.{Mcc, Mnc, Locale, LayoutDirection, SmallestWidthDp, WidthDp, HeightDp, ScreenSize, Long, Round, WideColor, Hdr, Orientation, UiType, Night, Density, Touchscreen, KeysHidden, NavHidden, Keyboard, Navigation, Width, Height, Sdk, Minor}
 
@@ -96,3 +96,12 @@ greatest_of Width = 65535
 greatest_of Height = 65535
 greatest_of Sdk = 65535
 greatest_of Minor = 65535
+
+-- the greatest number of a device: that of a record's field, but for density
+unfoldable pub greatest_of_device : Coord → ℕ
+greatest_of_device Density = 32767
+greatest_of_device c = greatest_of c
+
+-- of a list with a number for each coordinate, in their order, the number of one
+abbrev pub number_at : List ℕ → Coord → ℕ
+number_at numbers c = slice_index numbers (place_of c)

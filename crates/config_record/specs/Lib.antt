@@ -2,5 +2,10 @@ pub mod Zero
 pub mod Coord
 pub mod Locale
 pub mod Record
+pub mod ComparedNumber
+pub mod EachNumber
+pub mod Device
+pub mod DeviceJson
+pub mod DeviceSeen
 pub mod Separator
 pub mod Qualifiers

@@ -90,6 +90,17 @@ is_spelled l =
     (is_zero l.language || is_some (language_of (unpacked 97 l.language)))
     && (is_zero l.region || is_some (region_of (unpacked 48 l.region)))
 
+-- what can be wrong with a locale of which the bytes are known, and no text
+abbrev pub locale_faults : Locale → List (Bool × LocaleFault)
+locale_faults l =
+    (not (is_spelled l), Malformed)
+    ∷ (is_zero l.language && not (is_zero l.region), RegionAlone)
+    ∷ []
+
+-- a locale that a text gives, or its first fault
+unfoldable pub checked_locale : Locale → Result Locale LocaleFault
+checked_locale l = checked_by (locale_faults l) (Ok l)
+
 abbrev pub language_text : List ℕ → List ℕ
 language_text language = if is_zero language then [] else unpacked 97 language
 

@@ -9,6 +9,7 @@ use Rattle.config_record.specs.declared.locale.Locale.{Locale}
 use Rattle.config_record.specs.Zero.{is_zero}
 use Rattle.config_record.specs.Coord.{all_coords, name_of}
 use Rattle.config_record.specs.Locale.{locale_text}
+use Rattle.config_record.specs.Device.{device_coordinate, device_locale}
 use Rattle.config_record.specs.Record.{coordinate, locale_in, locale_script, locale_variant}
 
 abbrev pub qualifier : List ℕ → List ℕ → List ℕ
@@ -45,3 +46,7 @@ record_qualifiers r =
 -- a record is printed between brackets, its qualifiers parted by commas
 unfoldable pub record_text : List ℕ → List ℕ
 record_text r = codes "[" ++ join_with_byte 44 (record_qualifiers r) ++ codes "]"
+
+-- a device is printed without brackets, its qualifiers parted by spaces
+unfoldable pub device_text : List ℕ → List ℕ
+device_text d = join_with_byte 32 (coordinate_qualifiers (device_coordinate d) (device_locale d))

@@ -1,7 +1,9 @@
 //! The coordinates of a configuration.
 
-ghost use Rattle.std.specs.Prelude.{◌≡◌, ◌<◌, slice_get};
-ghost use Rattle.config_record.specs.Coord.{all_coords, place_of, name_of, greatest_of};
+ghost use Rattle.std.specs.Prelude.{◌≡◌, ◌<◌, slice_get, map, length, Some};
+ghost use Rattle.config_record.specs.Coord.{all_coords, place_of, name_of, greatest_of, greatest_of_device};
+
+use std::fmt;
 
 /// The coordinates of a configuration, in their order. All but the locale are numbers; 0 says
 /// nothing.
@@ -161,5 +163,44 @@ impl Coord {
             | Coord::Sdk
             | Coord::Minor => 65535,
         }
+    }
+
+    /// The greatest number of a device: that of a record's field, but for the density.
+    #[tactic(auto, unfolding(crate::specs::Coord::greatest_of_device, crate::specs::Coord::greatest_of))]
+    pub fn greatest_of_device(self) -> u32
+        ensures { result ≡ greatest_of_device self }
+    {
+        match self {
+            Coord::Density => 32767,
+            _ => self.greatest(),
+        }
+    }
+
+    /// The names of all coordinates, in their order.
+    #[tactic(auto, unfolding(crate::specs::Coord::all_coords))]
+    pub fn names() -> [&'static str; 25]
+        ensures { map (λ name. name.now) result ≡ map name_of all_coords }
+    {
+        let mut names = [""; 25];
+        fill_names(&Coord::ALL, &mut names);
+        names
+    }
+}
+
+fn fill_names(coords: &[Coord], names: &mut [&'static str])
+    requires { length names.old ≡ length coords.now }
+    ensures { map (λ name. name.now) names.new ≡ map name_of coords.now }
+{
+    for (place, coord) in coords.iter().enumerate() {
+        names[place] = coord.name();
+    }
+}
+
+/// Shows the name.
+impl fmt::Display for Coord {
+    ghost output = { λ coord. Some (name_of coord) };
+
+    fn fmt<W: fmt::Write>(&self, f: &mut fmt::Formatter<W>) -> fmt::Result {
+        f.write_str(self.name())
     }
 }

@@ -1,8 +1,9 @@
 //! Locales, read from texts and written as texts.
 
-ghost use Rattle.std.specs.Prelude.{◌≡◌, ◌<◌, ◌≤◌, ◌+◌, ◌==◌, position, OnOk, IfOk};
-ghost use Rattle.std.specs.Io.KnownBytes.{Appends};
-ghost use Rattle.config_record.specs.Locale.{is_small_letter, is_capital_letter, is_digit, packed, language_of, region_of, without_region, with_region, locale_of, symbol_bytes, unpacked, is_spelled, locale_text};
+ghost use Rattle.std.specs.Prelude.{◌≡◌, ◌≢◌, ℕ, ◌<◌, ◌≤◌, ◌+◌, ◌==◌, List, Ok, position, OnOk, IfOk, IfErr};
+ghost use Rattle.contract_words.specs.Writes.{Writes};
+ghost use Rattle.config_record.specs.Locale.{is_small_letter, is_capital_letter, is_digit, packed, language_of, region_of, without_region, with_region, locale_of, symbol_bytes, unpacked, is_spelled, checked_locale, locale_text};
+ghost use Rattle.config_record.specs.ComparedNumber.{locale_number, locale_of_number};
 
 use crate::zero::is_zero;
 use hex_text::write_hex;
@@ -48,6 +49,49 @@ impl Locale {
         ensures printed_back { IfOk result (λ locale. locale_text locale ≡ text.now) }
     {
         locale_of(text.as_bytes())
+    }
+
+    /// The locale of four bytes, where a text gives it.
+    #[tactic(auto, unfolding(crate::specs::Locale::checked_locale))]
+    pub(crate) fn of_bytes(language: [u8; 2], region: [u8; 2]) -> Result<Locale, LocaleFault>
+        ensures value { result ≡ checked_locale (record { language = language; region = region }) }
+        ensures given { IfOk result (λ locale. locale_of (locale_text locale) ≡ Ok locale) }
+        ensures not_given { IfErr result (λ _. (text : List ℕ) → locale_of text ≢ Ok (record { language = language; region = region })) }
+        ensures numbered { IfOk result (λ locale. locale_of_number (locale_number locale) ≡ locale) }
+    {
+        let locale = Locale { language, region };
+        if !is_spelled(locale) {
+            return Err(LocaleFault::Malformed);
+        }
+        if is_zero(&language) && !is_zero(&region) {
+            Err(LocaleFault::RegionAlone)
+        } else {
+            Ok(locale)
+        }
+    }
+
+    /// The number of the four bytes, language first.
+    #[tactic(auto, unfolding(crate::specs::ComparedNumber::locale_number))]
+    pub(crate) fn number(self) -> u32
+        ensures { result ≡ locale_number self }
+    {
+        let Locale {
+            language: [a, b],
+            region: [c, d],
+        } = self;
+        u32::from_be_bytes([a, b, c, d])
+    }
+
+    /// The locale that has this number.
+    #[tactic(auto, unfolding(crate::specs::ComparedNumber::locale_of_number))]
+    pub(crate) fn of_number(number: u32) -> Locale
+        ensures { result ≡ locale_of_number number }
+    {
+        let [a, b, c, d] = number.to_be_bytes();
+        Locale {
+            language: [a, b],
+            region: [c, d],
+        }
     }
 }
 
@@ -174,7 +218,7 @@ impl Symbols {
 /// where a part is not what a text gives, `x` and the eight digits of the four bytes.
 #[tactic(auto, unfolding(crate::specs::Locale::locale_text))]
 pub fn write_locale<W: Write + Drop>(locale: Locale, out: &mut W) -> io::Result<()>
-    ensures { OnOk result (Appends (W.contents out.old) (W.contents out.new) (locale_text locale)) }
+    ensures { Writes W.contents out.old out.new result (locale_text locale) }
 {
     if !is_spelled(locale) {
         out.write_all(b"x")?;

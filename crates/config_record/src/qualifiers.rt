@@ -2,12 +2,15 @@
 
 ghost use Rattle.std.specs.Prelude.{◌≤◌, length, OnOk};
 ghost use Rattle.std.specs.List.{flat_map};
-ghost use Rattle.std.specs.Io.KnownBytes.{Appends};
+ghost use Rattle.contract_words.specs.Writes.{Writes};
 ghost use Rattle.config_record.specs.Record.{record_bytes, coordinate, locale_in};
+ghost use Rattle.config_record.specs.Device.{device_coordinate, device_locale};
+ghost use Rattle.config_record.specs.DeviceSeen.{device_numbers};
 ghost use Rattle.config_record.specs.Separator.{Continues};
-ghost use Rattle.config_record.specs.Qualifiers.{number_qualifier, locale_qualifier, bytes_qualifier, coordinate_qualifier, coordinate_qualifiers, record_text};
+ghost use Rattle.config_record.specs.Qualifiers.{number_qualifier, locale_qualifier, bytes_qualifier, coordinate_qualifier, coordinate_qualifiers, record_text, device_text};
 
 use crate::coord::Coord;
+use crate::device::Device;
 use crate::locale::{Locale, write_locale};
 use crate::record::Record;
 use crate::separator::Separator;
@@ -18,8 +21,7 @@ use std::io::{self, Write};
 impl Record<'_> {
     /// Writes what is not zero, between brackets: `[locale=fr,density=160]`.
     pub fn write_qualifiers<W: Write + Drop>(&self, out: &mut W) -> io::Result<()>
-        ensures { OnOk result (Appends (W.contents out.old) (W.contents out.new)
-            (record_text (record_bytes self.now))) }
+        ensures { Writes W.contents out.old out.new result (record_text (record_bytes self.now)) }
     {
         let mut comma = Separator::new(b',');
         out.write_all(b"[")?;
@@ -27,6 +29,17 @@ impl Record<'_> {
         write_bytes("script", &self.script(), &mut comma, out)?;
         write_bytes("variant", &self.variant(), &mut comma, out)?;
         out.write_all(b"]")?;
+        Ok(())
+    }
+}
+
+impl Device {
+    /// Writes what is not zero: `locale=fr density=160`.
+    pub fn write_qualifiers<W: Write + Drop>(&self, out: &mut W) -> io::Result<()>
+        ensures { Writes W.contents out.old out.new result (device_text (device_numbers self.now)) }
+    {
+        let mut space = Separator::new(b' ');
+        write_coordinates(self, &mut space, out)?;
         Ok(())
     }
 }
@@ -59,6 +72,20 @@ impl Configuration for Record<'_> {
 
     fn locale(&self) -> Locale {
         Record::locale(self)
+    }
+}
+
+impl Configuration for Device {
+    ghost numbers = { λ d. device_coordinate (device_numbers d) };
+
+    ghost its_locale = { λ d. device_locale (device_numbers d) };
+
+    fn number(&self, coord: Coord) -> u32 {
+        self.get(coord)
+    }
+
+    fn locale(&self) -> Locale {
+        Device::locale(self)
     }
 }
 

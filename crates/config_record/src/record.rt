@@ -1,6 +1,6 @@
 //! Records, read field by field where they stand.
 
-ghost use Rattle.std.specs.Prelude.{◌≡◌, ◌<◌, ◌≤◌};
+ghost use Rattle.std.specs.Prelude.{◌≡◌, ◌≢◌, ◌<◌, ◌≤◌};
 
 use crate::coord::Coord;
 use crate::locale::Locale;
@@ -81,6 +81,8 @@ pub struct Record<'a> {
 impl<'a> Record<'a> {
     ghost use Rattle.config_record.specs.Coord.{greatest_of};
     ghost use Rattle.config_record.specs.Record.{record_bytes, seen, record_in, byte, two_bytes, locale_script, locale_variant, coordinate, locale_in, is_set_aside};
+    ghost use Rattle.config_record.specs.declared.coord.Coord.TheVariants as coords;
+    ghost use Rattle.config_record.specs.ComparedNumber.{record_number};
 
     /// The record that some bytes begin with.
     #[tactic(auto, unfolding(crate::specs::Record::record_in))]
@@ -130,6 +132,19 @@ impl<'a> Record<'a> {
         }
     }
 
+    /// The number that is compared with that of a device: the one of a coordinate, or of the four bytes
+    /// of the locale, language first.
+    #[tactic(auto, unfolding(crate::specs::ComparedNumber::record_number))]
+    pub fn compared_number(&self, coord: Coord) -> u32
+        ensures value { result ≡ record_number (record_bytes self.now) coord }
+        ensures within { coord ≢ coords.Locale → result ≤ greatest_of coord }
+    {
+        match coord {
+            Coord::Locale => self.locale().number(),
+            _ => self.get(coord),
+        }
+    }
+
     #[tactic(auto, unfolding(crate::specs::Record::locale_in))]
     pub fn locale(&self) -> Locale
         ensures { result ≡ locale_in (record_bytes self.now) }
@@ -174,7 +189,8 @@ impl<'a> Record<'a> {
         ]
     }
 
-    fn byte(&self, offset: usize) -> u8
+    /// The byte at an offset; zero behind the end.
+    pub fn byte(&self, offset: usize) -> u8
         ensures { result ≡ byte (record_bytes self.now) offset }
     {
         self.bytes.get(offset).copied().unwrap_or(0)

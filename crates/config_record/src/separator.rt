@@ -1,7 +1,7 @@
 //! What stands between the parts of a text.
 
 ghost use Rattle.std.specs.Prelude.{◌≡◌, [], ◌∷◌, true, false, if◌then◌else◌, OnOk};
-ghost use Rattle.std.specs.Io.KnownBytes.{Appends};
+ghost use Rattle.contract_words.specs.Writes.{Writes};
 
 use std::io::{self, Write};
 
@@ -22,7 +22,7 @@ impl Separator {
     /// Writes the byte, but not the first time.
     pub(crate) fn write<W: Write + Drop>(&mut self, out: &mut W) -> io::Result<()>
         ensures due { self.new ≡ record { byte = self.old.byte; due = true } }
-        ensures text { OnOk result (Appends (W.contents out.old) (W.contents out.new) (if self.old.due then self.old.byte ∷ [] else [])) }
+        ensures text { Writes W.contents out.old out.new result (if self.old.due then self.old.byte ∷ [] else []) }
     {
         if self.due {
             return out.write_all(&[self.byte]);

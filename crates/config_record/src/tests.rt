@@ -73,6 +73,9 @@ fn reads_coordinates(rt: HostRuntime) -> Result<(), Fail> {
             region: *b"CA"
         }
     );
+    for (coord, want) in [(Coord::Locale, 0x6672_4341), (Coord::Height, 800)] {
+        assert_eq!(rt; record.compared_number(coord), want, "{coord}");
+    }
     assert_eq!(rt; Coord::Density.greatest(), 65535);
     assert_eq!(rt; Coord::Density.place(), 15);
     Ok(())

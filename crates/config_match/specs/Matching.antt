@@ -1,0 +1,25 @@
+-- Does a record match a device? A record is the list of its bytes, a device that of its numbers.
+use Rattle.std.specs.Prelude.{ℕ, Bool, not, ◌&&◌, if◌then◌else◌, List, Option, Some, option_map}
+use Rattle.config_record.specs.ComparedNumber.{record_number, device_number}
+use Rattle.config_record.specs.Record.{is_set_aside}
+use Rattle.config_rules.specs.declared.rule.Rule.{Rule}
+use Rattle.config_rules.specs.Answer.{is_pass}
+use Rattle.config_rules.specs.Table.{answer_of_table, rule_of_table}
+use Rattle.config_match.specs.declared.reason.Mismatch.{Mismatch}
+use Rattle.config_match.specs.declared.reason.Mismatch.TheVariants.{SetAside, At}
+use Rattle.config_match.specs.Conditions.{all_conditions}
+
+-- A condition looks at one record alone; so here both are the same.
+
+-- it is not set aside, and no condition fails
+unfoldable pub is_match : List ℕ → List ℕ → Bool
+is_match r d = not (is_set_aside r) && is_pass (answer_of_table all_conditions (record_number r) (record_number r) (device_number d))
+
+abbrev pub mismatch_at : Rule → Mismatch
+mismatch_at rule = At rule.coord
+
+-- what fails first: that it is not set aside, or the condition at a coordinate
+unfoldable pub mismatch_of : List ℕ → List ℕ → Option Mismatch
+mismatch_of r d =
+    if is_set_aside r then Some SetAside
+    else option_map mismatch_at (rule_of_table all_conditions (record_number r) (record_number r) (device_number d))

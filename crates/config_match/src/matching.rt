@@ -1,0 +1,32 @@
+//! Whether a record matches a device, and what fails where it does not.
+
+ghost use Rattle.std.specs.Prelude.{◌≡◌, is_none};
+ghost use Rattle.config_record.specs.Record.{record_bytes};
+ghost use Rattle.config_record.specs.DeviceSeen.{device_numbers};
+ghost use Rattle.config_match.specs.Matching.{is_match, mismatch_of};
+
+use crate::reason::Mismatch;
+use crate::table::conditions;
+use config_record::{Device, Record};
+use config_rules::{deciding_rule, table_answer};
+
+/// Whether a record matches a device.
+#[tactic(auto, unfolding(crate::specs::Matching::is_match))]
+pub fn matches(stored: &Record, device: &Device) -> bool
+    ensures { result ≡ is_match (record_bytes stored.now) (device_numbers device.now) }
+{
+    !stored.set_aside() && table_answer(conditions(), stored, stored, device).is_pass()
+}
+
+/// What fails first; nothing where the record matches.
+#[tactic(auto, unfolding(crate::specs::Matching::mismatch_of, crate::specs::Matching::is_match))]
+pub fn mismatch(stored: &Record, device: &Device) -> Option<Mismatch>
+    ensures value { result ≡ mismatch_of (record_bytes stored.now) (device_numbers device.now) }
+    ensures none { is_none result ≡ is_match (record_bytes stored.now) (device_numbers device.now) }
+{
+    if stored.set_aside() {
+        return Some(Mismatch::SetAside);
+    }
+    let rule = deciding_rule(conditions(), stored, stored, device)?;
+    Some(Mismatch::At(rule.coord))
+}

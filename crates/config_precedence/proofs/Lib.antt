@@ -1,0 +1,6 @@
+pub mod Composition
+pub mod Orders
+pub mod Densities
+pub mod Dimensions
+pub mod Matched
+pub mod Laws

@@ -1,0 +1,4 @@
+pub mod Rules
+pub mod Precedence
+pub mod EqualRecord
+pub mod Laws

@@ -1,0 +1,14 @@
+-- Which of two records is better at a device? A record is the list of its bytes, a device that of its numbers.
+use Rattle.std.specs.Prelude.{ℕ, ◌+◌, Bool, List, Option, option_map}
+use Rattle.config_record.specs.ComparedNumber.{record_number, device_number}
+use Rattle.config_rules.specs.Answer.{is_yes}
+use Rattle.config_rules.specs.Table.{answer_of_table, place_of_table}
+use Rattle.config_precedence.specs.Rules.{all_rules}
+
+-- the first rule that decides says yes
+unfoldable pub is_better : List ℕ → List ℕ → List ℕ → Bool
+is_better a b d = is_yes (answer_of_table all_rules (record_number a) (record_number b) (device_number d))
+
+-- the number of that rule
+unfoldable pub deciding_of : List ℕ → List ℕ → List ℕ → Option ℕ
+deciding_of a b d = option_map (λ place. place + 1) (place_of_table all_rules (record_number a) (record_number b) (device_number d))

@@ -1,0 +1,41 @@
+//! Which of two records is better, and by which rule.
+
+ghost use Rattle.std.specs.Prelude.{◌≡◌, IsNone, IsFalse};
+ghost use Rattle.config_record.specs.Record.{record_bytes};
+ghost use Rattle.config_record.specs.DeviceSeen.{device_numbers};
+ghost use Rattle.config_precedence.specs.Precedence.{is_better, deciding_of};
+ghost use Rattle.config_precedence.specs.Laws.{AtMostOneIsBetter, IsTransitiveFrom};
+
+use crate::table::rules;
+use config_record::{Device, Record};
+use config_rules::{deciding_place, table_answer};
+
+/// Whether the first of two records is better for a device. The first rule that decides answers; where
+/// none does it is not.
+///
+/// Among records that match the device this is an order: of two at most one is better than the other,
+/// and one that is better than a second is better than a third than which the second is better. Only
+/// a density of 0 against one of 160 is no part of that order: both are better, or neither is.
+#[tactic(auto, unfolding(crate::specs::Precedence::is_better))]
+pub fn better(a: &Record, b: &Record, device: &Device) -> bool
+    ensures value { result ≡
+        is_better (record_bytes a.now) (record_bytes b.now) (device_numbers device.now) }
+    ensures at_most_one { AtMostOneIsBetter
+        (record_bytes a.now) (record_bytes b.now) (device_numbers device.now) }
+    ensures transitive { IsTransitiveFrom
+        (record_bytes a.now) (record_bytes b.now) (device_numbers device.now) }
+{
+    table_answer(rules(), a, b, device).is_yes()
+}
+
+/// The number of the rule that decides between two records, 1 to 23.
+#[tactic(auto, unfolding(crate::specs::Precedence::deciding_of, crate::specs::Precedence::is_better))]
+pub fn deciding(a: &Record, b: &Record, device: &Device) -> Option<u8>
+    ensures value { result ≡
+        deciding_of (record_bytes a.now) (record_bytes b.now) (device_numbers device.now) }
+    ensures none { IsNone result →
+        IsFalse (is_better (record_bytes a.now) (record_bytes b.now) (device_numbers device.now)) }
+{
+    let place = deciding_place(rules(), a, b, device)?;
+    Some(place as u8 + 1)
+}

@@ -1,0 +1,142 @@
+-- The numbers of a device are in their ranges.
+use Rattle.std.proofs.Common.{◌≡◌, ℕ, zero, suc, ◌<◌, ◌≤◌, ◌≢◌, ◌==◌, nat_lt, List, [], ◌∷◌, length, get_or, Result, Ok, Err, IfOk, refl, sym, ap, ◌∙◌, arith}
+use Rattle.std.proofs.lemmas.Bool.{ltb-false, eqb-false}
+use Rattle.contract_words.specs.Faults.{◌>>=◌}
+use Rattle.contract_words.specs.Sequences.{with_front}
+use Rattle.contract_words.proofs.FaultSteps.{checked_by-ok}
+use Rattle.config_record.specs.declared.coord.Coord.{Coord}
+use Rattle.config_record.specs.declared.coord.Coord.TheVariants as coords
+use Rattle.config_record.specs.declared.locale.Locale.{Locale}
+use Rattle.config_record.specs.declared.locale.LocaleFault.{LocaleFault}
+use Rattle.config_record.specs.declared.locale.LocaleFault.TheVariants as of_locale
+use Rattle.config_record.specs.declared.fields.DeviceFault.{DeviceFault}
+use Rattle.config_record.specs.declared.fields.DeviceFault.TheVariants.{FieldRange, Density}
+use Rattle.config_record.specs.Coord.{all_coords, place_of, number_at, greatest_of_device}
+use Rattle.config_record.specs.declared.device.Device.{Device}
+use Rattle.config_record.specs.ComparedNumber.{locale_number, locale_of_number, device_number}
+use Rattle.config_record.specs.DeviceSeen.{device_numbers, seen}
+use Rattle.config_record.specs.EachNumber.{each_number}
+use Rattle.config_record.specs.Device.{density_in, field_in, locale_number_in, number_in, device_with, device_locale}
+use Rattle.config_record.specs.Locale.{locale_faults, checked_locale}
+
+-- ---- the number of each coordinate stands at its place
+
+-- the first number and the others
+record Parts (r : Result ℕ DeviceFault) (others : Result (List ℕ) DeviceFault) (numbers : List ℕ) : Type 0 where
+  first : ℕ
+  behind : List ℕ
+  gives_first : r ≡ Ok first
+  gives_others : others ≡ Ok behind
+  same : numbers ≡ first ∷ behind
+
+parts-of : (r : Result ℕ DeviceFault) (others : Result (List ℕ) DeviceFault) (numbers : List ℕ) → (r >>= (λ n. with_front (n ∷ []) others)) ≡ Ok numbers → Parts r others numbers
+parts-of (Ok n) (Ok ns) numbers e = record { first = n; behind = ns; gives_first = refl; gives_others = refl; same = cc }
+parts-of (Ok n) (Err fault) numbers e = absurd cc
+parts-of (Err fault) others numbers e = absurd cc
+
+each_number-at : (f : Coord → Result ℕ DeviceFault) (cs : List Coord) (numbers : List ℕ) (i : ℕ) (d : Coord) → each_number f cs ≡ Ok numbers → i < length cs
+    → f (get_or cs i d) ≡ Ok (get_or numbers i 0)
+unfolding each_number
+each_number-at f [] numbers i d e on = absurd (omega arith)
+each_number-at f (c ∷ cs) numbers zero d e on =
+    let p = parts-of (f c) (each_number f cs) numbers e in
+    rw p.same p.gives_first
+each_number-at f (c ∷ cs) numbers (suc i) d e on =
+    let p = parts-of (f c) (each_number f cs) numbers e in
+    rw p.same (each_number-at f cs p.behind i d p.gives_others (omega arith))
+
+coordinate-at_place : (c : Coord) → get_or all_coords (place_of c) coords.Mcc ≡ c
+unfolding all_coords place_of
+coordinate-at_place coords.Mcc = refl
+coordinate-at_place c = refl
+
+place_of-within : (c : Coord) → place_of c < length all_coords
+unfolding all_coords place_of
+place_of-within coords.Mcc = omega arith
+place_of-within c = omega arith
+
+pub number_at-given : (f : Coord → Result ℕ DeviceFault) (numbers : List ℕ) (c : Coord) → each_number f all_coords ≡ Ok numbers → f c ≡ Ok (number_at numbers c)
+number_at-given f numbers c e =
+    ap f (sym (coordinate-at_place c)) ∙ each_number-at f all_coords numbers (place_of c) coords.Mcc e (place_of-within c)
+
+-- ---- and is in its range
+
+same_number : (a b : ℕ) (r : Result ℕ DeviceFault) → r ≡ Ok a → r ≡ Ok b → a ≡ b
+same_number a b r e f = cc
+
+field_in-within : (c : Coord) (asked n : ℕ) → field_in c asked ≡ Ok n → n ≤ greatest_of_device c
+field_in-within c asked n e =
+    let p = checked_by-ok ((nat_lt (greatest_of_device c) asked, FieldRange c) ∷ []) (Ok asked) n e in
+    let below = ltb-false (greatest_of_device c) asked p.0.0 in
+    let same : asked ≡ n = same_number asked n (Ok asked) refl p.1 in
+    omega arith
+
+field_in-asked : (c : Coord) (asked n : ℕ) → field_in c asked ≡ Ok n → n ≡ asked
+field_in-asked c asked n e =
+    let p = checked_by-ok ((nat_lt (greatest_of_device c) asked, FieldRange c) ∷ []) (Ok asked) n e in
+    sym (same_number asked n (Ok asked) refl p.1)
+
+density_in-within : (asked n : ℕ) → density_in asked ≡ Ok n → (1 ≤ n) × (n ≤ greatest_of_device coords.Density)
+density_in-within asked n e =
+    let p = checked_by-ok ((asked == 0, Density) ∷ (nat_lt (greatest_of_device coords.Density) asked, Density) ∷ []) (Ok asked) n e in
+    let not_zero = eqb-false asked 0 p.0.0 in
+    let below = ltb-false (greatest_of_device coords.Density) asked p.0.1.0 in
+    let same : asked ≡ n = same_number asked n (Ok asked) refl p.1 in
+    (omega arith, omega arith)
+
+density_in-asked : (asked n : ℕ) → density_in asked ≡ Ok n → n ≡ asked
+density_in-asked asked n e =
+    let p = checked_by-ok ((asked == 0, Density) ∷ (nat_lt (greatest_of_device coords.Density) asked, Density) ∷ []) (Ok asked) n e in
+    sym (same_number asked n (Ok asked) refl p.1)
+
+number_in-within : (asked : List ℕ) (l : Result Locale LocaleFault) (c : Coord) (n : ℕ) → number_in asked l c ≡ Ok n → c ≢ coords.Locale → n ≤ greatest_of_device c
+unfolding number_in
+number_in-within asked l coords.Locale n e other = absurd (other refl)
+number_in-within asked l coords.Density n e other = (density_in-within (number_at asked coords.Density) n e).1
+number_in-within asked l c n e other = field_in-within c (number_at asked c) n e
+
+pub device-within : (asked numbers : List ℕ) (l : Result Locale LocaleFault) → Ok numbers ≡ each_number (number_in asked l) all_coords
+    → (c : Coord) → c ≢ coords.Locale → number_at numbers c ≤ greatest_of_device c
+device-within asked numbers l e c other = number_in-within asked l c (number_at numbers c) (number_at-given (number_in asked l) numbers c (sym e)) other
+
+pub device-with_density : (asked numbers : List ℕ) (l : Result Locale LocaleFault) → Ok numbers ≡ each_number (number_in asked l) all_coords → 1 ≤ number_at numbers coords.Density
+unfolding number_in
+device-with_density asked numbers l e = (density_in-within (number_at asked coords.Density) (number_at numbers coords.Density) (number_at-given (number_in asked l) numbers coords.Density (sym e))).0
+
+-- ---- and is the one that was asked for
+
+number_in-asked : (asked : List ℕ) (l : Result Locale LocaleFault) (c : Coord) (n : ℕ) → number_in asked l c ≡ Ok n → c ≢ coords.Locale → n ≡ number_at asked c
+unfolding number_in
+number_in-asked asked l coords.Locale n e other = absurd (other refl)
+number_in-asked asked l coords.Density n e other = density_in-asked (number_at asked coords.Density) n e
+number_in-asked asked l c n e other = field_in-asked c (number_at asked c) n e
+
+pub device-asked : (asked : List ℕ) (l : Result Locale LocaleFault) (r : Result Device DeviceFault) → seen r ≡ device_with asked l
+    → IfOk r (λ d. (c : Coord) → c ≢ coords.Locale → device_number (device_numbers d) c ≡ number_at asked c)
+unfolding device_with
+device-asked asked l (Ok d) e = λ c other. number_in-asked asked l c (number_at (device_numbers d) c) (number_at-given (number_in asked l) (device_numbers d) c (sym e)) other
+device-asked asked l (Err fault) e = tt
+
+-- ---- and its locale is the one that was asked for
+
+same_locale : (own m : Locale) → checked_locale own ≡ Ok m → own ≡ m
+unfolding checked_locale
+same_locale own m e = let p = checked_by-ok (locale_faults own) (Ok own) m e in same_value own m (Ok own) refl p.1
+  where
+    same_value : (a b : Locale) (r : Result Locale LocaleFault) → r ≡ Ok a → r ≡ Ok b → a ≡ b
+    same_value a b r e f = cc
+
+locale_number-asked : (own : Locale) (l : Result Locale LocaleFault) (n : ℕ) → l ≡ checked_locale own → IfOk l (λ m. locale_of_number (locale_number m) ≡ m)
+    → locale_number_in l ≡ Ok n → locale_of_number n ≡ own
+locale_number-asked own (Ok m) n checked back e =
+    let same : own ≡ m = same_locale own m (sym checked) in
+    ap (λ (k : ℕ). locale_of_number k) (same_number n (locale_number m) (Ok n) refl (sym e)) ∙ back ∙ sym same
+locale_number-asked own (Err of_locale.RegionAlone) n checked back e = absurd cc
+locale_number-asked own (Err of_locale.Malformed) n checked back e = absurd cc
+
+pub device-locale_asked : (asked : List ℕ) (own : Locale) (l : Result Locale LocaleFault) (r : Result Device DeviceFault) → seen r ≡ device_with asked l
+    → l ≡ checked_locale own → IfOk l (λ m. locale_of_number (locale_number m) ≡ m) → IfOk r (λ d. device_locale (device_numbers d) ≡ own)
+unfolding device_with number_in
+device-locale_asked asked own l (Ok d) e checked back =
+    locale_number-asked own l (number_at (device_numbers d) coords.Locale) checked back (number_at-given (number_in asked l) (device_numbers d) coords.Locale (sym e))
+device-locale_asked asked own l (Err fault) e checked back = tt

@@ -1,0 +1,220 @@
+-- A locale whose bytes pass the check is given by the text that is printed of it.
+use Rattle.std.proofs.Common.{◌≡◌, ℕ, zero, suc, ◌+◌, ◌-◌, ◌*◌, ◌/◌, ◌%◌, ◌<◌, ◌≤◌, Bool, true, false, ◌&&◌, ◌||◌, cond, if◌then◌else◌, nat_lt, List, [], ◌∷◌, ◌++◌, length, get_or, take, drop, position, ◌==◌, Option, Some, None, Result, Ok, is_some, not, refl, sym, ap, subst, ◌∙◌, arith, length-append}
+use Rattle.std.specs.List.{position_or_len}
+use Rattle.std.proofs.lemmas.List.{append-nil}
+use Rattle.std.proofs.Math.Seq.{take-append_seam, drop-append-add}
+use Rattle.std.proofs.lemmas.Bool.{eqb-true, ltb-false, le-ltb, lt-ltb}
+use Rattle.std.proofs.lemmas.Bool.Decides.{nat_tests}
+use Rattle.std.proofs.lemmas.Nat.{be_bytes_4}
+use Rattle.std.specs.Int.{w32, from_be_bytes, to_be_bytes}
+use Rattle.config_record.specs.declared.locale.Locale.{Locale}
+use Rattle.config_record.specs.declared.locale.LocaleFault.{LocaleFault}
+use Rattle.config_record.specs.Zero.{is_zero}
+use Rattle.config_record.specs.ComparedNumber.{locale_number, locale_of_number}
+use Rattle.config_record.specs.Locale.{is_small_letter, is_capital_letter, is_digit, packed, language_of, region_of, no_part, unpacked, is_spelled, locale_faults, checked_locale, locale_of, locale_text, language_text, region_text, cut_at, with_region}
+use Rattle.contract_words.proofs.FaultSteps.{checked_by-ok}
+use Rattle.config_record.proofs.LocaleLemmas.{both, small, capital, digit}
+
+-- ---- three symbols that are unpacked and packed
+
+first_byte : (a b : ℕ) → 128 ≤ a → a < 256 → b < 256 → 128 + 4 * (a / 4 % 32) + (b / 32 + a % 4 * 8) / 8 ≡ a
+first_byte a b high low fits = omega arith
+
+second_byte : (a b : ℕ) → b < 256 → (b / 32 + a % 4 * 8) % 8 * 32 + b % 32 ≡ b
+second_byte a b fits = omega arith
+
+packed-unpacked : (base a b : ℕ) → 128 ≤ a → a < 256 → b < 256 → packed base (base + b % 32) (base + (b / 32 + a % 4 * 8)) (base + a / 4 % 32) ≡ a ∷ b ∷ []
+packed-unpacked base a b high low fits =
+    let first : 128 + 4 * (base + a / 4 % 32 - base) + (base + (b / 32 + a % 4 * 8) - base) / 8 ≡ a = omega (arith, first_byte a b high low fits) in
+    let second : (base + (b / 32 + a % 4 * 8) - base) % 8 * 32 + (base + b % 32 - base) ≡ b = omega (arith, second_byte a b fits) in
+    rw (first, second) refl
+
+-- ---- the symbols of a part are read as the part
+
+-- none of them is a dash
+abbrev NoDash : List ℕ → Type 0
+NoDash [] = Unit {0}
+NoDash (b ∷ bytes) = ((b == 45) ≡ false) × NoDash bytes
+
+record ReadAs (of : List ℕ → Option (List ℕ)) (part symbols : List ℕ) : Type 0 where
+  reads : of symbols ≡ Some part
+  some : (length symbols == 0) ≡ false
+  no_dash : NoDash symbols
+
+no_dash_above : (b : ℕ) → 45 < b → (b == 45) ≡ false
+no_dash_above b above = grind (arith, nat_tests)
+
+chosen : (c : Bool) (part : List ℕ) → is_some (cond c (Some part) None) ≡ true → (c ≡ true) × (cond c (Some part) None ≡ Some part)
+chosen true part e = (refl, refl)
+chosen false part e = absurd cc
+
+two_letters : (a b : ℕ) → is_some (language_of (a ∷ b ∷ [])) ≡ true → ReadAs language_of (a ∷ b ∷ []) (a ∷ b ∷ [])
+two_letters a b e =
+    let c = chosen (is_small_letter a && is_small_letter b) (a ∷ b ∷ []) e in
+    let s = both _ _ c.0 in
+    let first = small a s.0 in
+    let second = small b s.1 in
+    record { reads = c.1; some = refl; no_dash = (no_dash_above a (omega arith), (no_dash_above b (omega arith), tt)) }
+
+three_letters : (x y z : ℕ) (part : List ℕ) → packed 97 x y z ≡ part → is_some (language_of (x ∷ y ∷ z ∷ [])) ≡ true → ReadAs language_of part (x ∷ y ∷ z ∷ [])
+three_letters x y z part back e =
+    let c = chosen (is_small_letter x && is_small_letter y && is_small_letter z) (packed 97 x y z) e in
+    let s = both _ _ c.0 in
+    let t = both _ _ s.0 in
+    let first = small x t.0 in
+    let second = small y t.1 in
+    let third = small z s.1 in
+    let wrapped : List ℕ → Option (List ℕ) = λ p. Some p in
+    record { reads = c.1 ∙ ap wrapped back; some = refl; no_dash = (no_dash_above x (omega arith), (no_dash_above y (omega arith), (no_dash_above z (omega arith), tt))) }
+
+two_capitals : (a b : ℕ) → is_some (region_of (a ∷ b ∷ [])) ≡ true → ReadAs region_of (a ∷ b ∷ []) (a ∷ b ∷ [])
+two_capitals a b e =
+    let c = chosen (is_capital_letter a && is_capital_letter b) (a ∷ b ∷ []) e in
+    let s = both _ _ c.0 in
+    let first = capital a s.0 in
+    let second = capital b s.1 in
+    record { reads = c.1; some = refl; no_dash = (no_dash_above a (omega arith), (no_dash_above b (omega arith), tt)) }
+
+three_digits : (x y z : ℕ) (part : List ℕ) → packed 48 x y z ≡ part → is_some (region_of (x ∷ y ∷ z ∷ [])) ≡ true → ReadAs region_of part (x ∷ y ∷ z ∷ [])
+three_digits x y z part back e =
+    let c = chosen (is_digit x && is_digit y && is_digit z) (packed 48 x y z) e in
+    let s = both _ _ c.0 in
+    let t = both _ _ s.0 in
+    let first = digit x t.0 in
+    let second = digit y t.1 in
+    let third = digit z s.1 in
+    let wrapped : List ℕ → Option (List ℕ) = λ p. Some p in
+    record { reads = c.1 ∙ ap wrapped back; some = refl; no_dash = (no_dash_above x (omega arith), (no_dash_above y (omega arith), (no_dash_above z (omega arith), tt))) }
+
+-- ---- the two bytes of a part
+
+pub record TwoBytes (part : List ℕ) : Type 0 where
+  pub first : ℕ
+  pub second : ℕ
+  pub same : part ≡ first ∷ second ∷ []
+  pub first_fits : first < 256
+  pub second_fits : second < 256
+
+-- the symbols of two bytes, told apart by bit 7 of the first
+abbrev unpacked_where : Bool → ℕ → ℕ → ℕ → List ℕ
+unpacked_where two base a b = if two then a ∷ b ∷ [] else (base + b % 32) ∷ (base + (b / 32 + a % 4 * 8)) ∷ (base + a / 4 % 32) ∷ []
+
+language-read : (a b : ℕ) (two : Bool) → nat_lt a 128 ≡ two → a < 256 → b < 256 → is_some (language_of (unpacked_where two 97 a b)) ≡ true
+    → ReadAs language_of (a ∷ b ∷ []) (unpacked_where two 97 a b)
+language-read a b true is low fits e = two_letters a b e
+language-read a b false is low fits e =
+    let high : 128 ≤ a = ltb-false a 128 is in
+    three_letters (97 + b % 32) (97 + (b / 32 + a % 4 * 8)) (97 + a / 4 % 32) (a ∷ b ∷ []) (packed-unpacked 97 a b high low fits) e
+
+region-read : (a b : ℕ) (two : Bool) → nat_lt a 128 ≡ two → a < 256 → b < 256 → is_some (region_of (unpacked_where two 48 a b)) ≡ true
+    → ReadAs region_of (a ∷ b ∷ []) (unpacked_where two 48 a b)
+region-read a b true is low fits e = two_capitals a b e
+region-read a b false is low fits e =
+    let high : 128 ≤ a = ltb-false a 128 is in
+    three_digits (48 + b % 32) (48 + (b / 32 + a % 4 * 8)) (48 + a / 4 % 32) (a ∷ b ∷ []) (packed-unpacked 48 a b high low fits) e
+
+language-back : (part : List ℕ) → TwoBytes part → is_some (language_of (unpacked 97 part)) ≡ true → ReadAs language_of part (unpacked 97 part)
+language-back part two e =
+    let goes : List ℕ → Type 0 = λ p. is_some (language_of (unpacked 97 p)) ≡ true → ReadAs language_of p (unpacked 97 p) in
+    subst goes (sym two.same) (language-read two.first two.second (nat_lt two.first 128) refl two.first_fits two.second_fits) e
+
+region-back : (part : List ℕ) → TwoBytes part → is_some (region_of (unpacked 48 part)) ≡ true → ReadAs region_of part (unpacked 48 part)
+region-back part two e =
+    let goes : List ℕ → Type 0 = λ p. is_some (region_of (unpacked 48 p)) ≡ true → ReadAs region_of p (unpacked 48 p) in
+    subst goes (sym two.same) (region-read two.first two.second (nat_lt two.first 128) refl two.first_fits two.second_fits) e
+
+zero-back : (part : List ℕ) → TwoBytes part → is_zero part ≡ true → part ≡ no_part
+zero-back part two e =
+    let z = both _ _ (rw two.same at e) in
+    let first = eqb-true two.first 0 z.0 in
+    let second = eqb-true two.second 0 (both _ _ z.1).0 in
+    two.same ∙ ap (λ (b : ℕ). b ∷ two.second ∷ []) first ∙ ap (λ (b : ℕ). 0 ∷ b ∷ []) second
+
+-- ---- where the first dash of a text stands
+
+dash_or_length : (symbols : List ℕ) → NoDash symbols → position_or_len (λ b. b == 45) symbols ≡ length symbols
+dash_or_length [] none = refl
+dash_or_length (b ∷ symbols) none = let here = none.0 in let others = dash_or_length symbols none.1 in rw here (omega arith)
+
+dash_behind : (symbols after : List ℕ) → NoDash symbols → position_or_len (λ b. b == 45) (symbols ++ 45 ∷ after) ≡ length symbols
+dash_behind [] after none = refl
+dash_behind (b ∷ symbols) after none = let here = none.0 in let others = dash_behind symbols after none.1 in rw here (omega arith)
+
+position-none : (symbols : List ℕ) → NoDash symbols → position (λ b. b == 45) symbols ≡ None
+position-none symbols none = rw (dash_or_length symbols none, le-ltb (length symbols) (length symbols) (omega arith)) refl
+
+position-behind : (symbols after : List ℕ) → NoDash symbols → position (λ b. b == 45) (symbols ++ 45 ∷ after) ≡ Some (length symbols)
+position-behind symbols after none =
+    let within : length symbols < length (symbols ++ 45 ∷ after) = omega (arith, length-append symbols (45 ∷ after)) in
+    rw (dash_behind symbols after none, lt-ltb (length symbols) (length (symbols ++ 45 ∷ after)) within) refl
+
+-- ---- the whole locale
+
+language-alone : (symbols part : List ℕ) → ReadAs language_of part symbols → locale_of (symbols ++ []) ≡ Ok (record { language = part; region = no_part })
+language-alone symbols part r =
+    ap locale_of (append-nil symbols)
+    ∙ ap (cut_at symbols) (position-none symbols r.no_dash)
+    ∙ rw (r.some, r.reads) refl
+
+language-region : (symbols after part region : List ℕ) → ReadAs language_of part symbols → ReadAs region_of region after
+    → locale_of (symbols ++ 45 ∷ after) ≡ Ok (record { language = part; region = region })
+language-region symbols after part region r s =
+    let text = symbols ++ 45 ∷ after in
+    let cut : cut_at text (Some (length symbols)) ≡ with_region symbols after =
+    ap (λ (t : List ℕ). with_region t (drop (length symbols + 1) text)) (take-append_seam symbols (45 ∷ after))
+    ∙ ap (with_region symbols) (drop-append-add symbols (45 ∷ after) 1) in
+    ap (cut_at text) (position-behind symbols after r.no_dash) ∙ cut ∙ rw (s.reads, r.some, r.reads) refl
+
+whole : (l : Locale) (z y : Bool) → is_zero l.language ≡ z → is_zero l.region ≡ y → TwoBytes l.language → TwoBytes l.region
+    → (z || is_some (language_of (unpacked 97 l.language))) ≡ true → (y || is_some (region_of (unpacked 48 l.region))) ≡ true → (z && not y) ≡ false
+    → locale_of ((if z then [] else unpacked 97 l.language) ++ (if y then [] else 45 ∷ unpacked 48 l.region)) ≡ Ok l
+whole l true true no_language no_region a b c d e =
+    let made : List ℕ → List ℕ → Result Locale LocaleFault = λ p q. Ok (record { language = p; region = q }) in
+    ap (λ (p : List ℕ). made p no_part) (sym (zero-back l.language a no_language)) ∙ ap (made l.language) (sym (zero-back l.region b no_region))
+whole l true false no_language some_region a b c d e = absurd cc
+whole l false true some_language no_region a b c d e =
+    let made : List ℕ → List ℕ → Result Locale LocaleFault = λ p q. Ok (record { language = p; region = q }) in
+    language-alone (unpacked 97 l.language) l.language (language-back l.language a c) ∙ ap (made l.language) (sym (zero-back l.region b no_region))
+whole l false false some_language some_region a b c d e =
+    language-region (unpacked 97 l.language) (unpacked 48 l.region) l.language l.region (language-back l.language a c) (region-back l.region b d)
+
+is_not : (b : Bool) → not b ≡ false → b ≡ true
+is_not true e = refl
+is_not false e = absurd cc
+
+pub given : (l : Locale) → TwoBytes l.language → TwoBytes l.region → checked_locale l ≡ Ok l → locale_of (locale_text l) ≡ Ok l
+unfolding checked_locale locale_text
+given l a b e =
+    let met = (checked_by-ok (locale_faults l) (Ok l) l e).0 in
+    let spelled : is_spelled l ≡ true = is_not (is_spelled l) met.0 in
+    let parts = both _ _ spelled in
+    let printed : locale_text l ≡ language_text l.language ++ region_text l.region = rw spelled refl in
+    ap locale_of printed ∙ whole l (is_zero l.language) (is_zero l.region) refl refl a b parts.0 parts.1 met.1.0
+
+-- ---- its number gives the bytes back
+
+four_fit : (a b c d : ℕ) → a < 256 → b < 256 → c < 256 → d < 256 → (i : ℕ) → get_or (a ∷ b ∷ c ∷ d ∷ []) i 0 < 256
+four_fit a b c d p q r s zero = p
+four_fit a b c d p q r s (suc zero) = q
+four_fit a b c d p q r s (suc (suc zero)) = r
+four_fit a b c d p q r s (suc (suc (suc zero))) = s
+four_fit a b c d p q r s (suc (suc (suc (suc i)))) = omega arith
+
+pub numbered : (l : Locale) → TwoBytes l.language → TwoBytes l.region → locale_of_number (locale_number l) ≡ l
+unfolding locale_number locale_of_number
+numbered l a b =
+    let bytes : List ℕ = a.first ∷ a.second ∷ b.first ∷ b.second ∷ [] in
+    let made : List ℕ → List ℕ → Locale = λ p q. record { language = p; region = q } in
+    let joined : l.language ++ l.region ≡ bytes = ap (λ (t : List ℕ). t ++ l.region) a.same ∙ ap (λ (t : List ℕ). a.first ∷ a.second ∷ t) b.same in
+    let back : to_be_bytes w32 (from_be_bytes w32 bytes) ≡ bytes =
+    be_bytes_4 bytes (from_be_bytes w32 bytes) refl (four_fit a.first a.second b.first b.second a.first_fits a.second_fits b.first_fits b.second_fits) refl in
+    ap (λ (t : List ℕ). locale_of_number (from_be_bytes w32 t)) joined
+    ∙ ap (λ (t : List ℕ). made (take 2 t) (drop 2 t)) back
+    ∙ ap (λ (p : List ℕ). made p (b.first ∷ b.second ∷ [])) (sym a.same)
+    ∙ ap (made l.language) (sym b.same)
+
+pub two_bytes : (part : List ℕ) → length part ≡ 2 → ((i : ℕ) → get_or part i 0 < 256) → TwoBytes part
+two_bytes [] e fits = absurd (omega arith)
+two_bytes (a ∷ []) e fits = absurd (omega arith)
+two_bytes (a ∷ b ∷ []) e fits = record { first = a; second = b; same = refl; first_fits = fits 0; second_fits = fits 1 }
+two_bytes (a ∷ b ∷ c ∷ part) e fits = absurd (omega arith)

@@ -1,0 +1,99 @@
+//! Devices: the configurations that are asked for.
+
+ghost use Rattle.std.specs.Prelude.{◌≡◌, ◌≢◌, ◌≤◌};
+ghost use Rattle.config_record.specs.declared.coord.Coord as coord;
+ghost use Rattle.config_record.specs.declared.coord.Coord.TheVariants as coords;
+ghost use Rattle.config_record.specs.Coord.{greatest_of_device, number_at};
+
+use crate::coord::Coord;
+use crate::fields::{DeviceFault, Fields, fill_numbers};
+use crate::json::device_in_value;
+use crate::locale::{Locale, LocaleFault};
+use json_input::{JsonFault, read_value};
+use std::alloc::Global;
+
+/// A configuration that is asked for: 24 numbers, none above the greatest of its coordinate, and a
+/// locale that a text gives. The density is one of 1 to 32767.
+#[derive(Clone, Copy, Debug, PartialEq, Eq)]
+pub struct Device {
+    /// What is compared at each coordinate, in their order; at the locale the number of its four bytes.
+    numbers: [u32; 25],
+    ghost in_range: { (c : coord.Coord) → c ≢ coords.Locale → number_at numbers c ≤ greatest_of_device c },
+    ghost with_density: { 1 ≤ number_at numbers coords.Density },
+}
+
+impl Device {
+    ghost use Rattle.std.specs.Prelude.{IfOk};
+    ghost use Rattle.contract_words.specs.Exact.{GivesOr};
+    ghost use Rattle.config_record.specs.declared.fields.DeviceFault.TheVariants.{OutOfMemory};
+    ghost use Rattle.config_record.specs.ComparedNumber.{device_number};
+    ghost use Rattle.config_record.specs.Device.{device_with, device_in, device_locale, device_coordinate};
+    ghost use Rattle.config_record.specs.DeviceJson.{device_in_json};
+    ghost use Rattle.config_record.specs.DeviceSeen.{device_numbers, seen};
+
+    /// The device of these fields.
+    pub fn check(fields: &Fields) -> Result<Device, DeviceFault>
+        ensures value { seen result ≡ device_in fields.now }
+        ensures numbers { IfOk result (λ device. (c : coord.Coord) → c ≢ coords.Locale
+            → device_number (device_numbers device) c ≡ number_at fields.now.numbers c) }
+        ensures locale { IfOk result (λ device. device_locale (device_numbers device) ≡ fields.now.locale) }
+    {
+        let Locale { language, region } = fields.locale;
+        Device::with(&fields.numbers, Locale::of_bytes(language, region))
+    }
+
+    /// The device of a JSON text: an object with a number for each coordinate and a text for the locale.
+    /// What is missing is 0, or no locale.
+    pub fn read(alloc: Global, json: &[u8]) -> Result<Device, DeviceFault>
+        ensures { GivesOr OutOfMemory device_numbers result (device_in_json json.now) }
+    {
+        match read_value(alloc, json) {
+            Ok(value) => device_in_value(&value),
+            Err(JsonFault::Syntax) => Err(DeviceFault::Syntax),
+            Err(JsonFault::OutOfMemory) => Err(DeviceFault::OutOfMemory),
+        }
+    }
+
+    #[tactic(auto, unfolding(crate::specs::Device::device_with, crate::specs::Coord::all_coords))]
+    pub(crate) fn with(
+        asked: &[u64; 25],
+        locale: Result<Locale, LocaleFault>,
+    ) -> Result<Device, DeviceFault>
+        ensures { seen result ≡ device_with asked.now locale }
+    {
+        let mut numbers = [0; 25];
+        fill_numbers(asked, locale, &Coord::ALL, &mut numbers)?;
+        Ok(Device { numbers })
+    }
+
+    /// The number at a coordinate; 0 at the locale.
+    #[tactic(auto, unfolding(crate::specs::Device::device_coordinate))]
+    pub fn get(&self, coord: Coord) -> u32
+        ensures value { result ≡ device_coordinate (device_numbers self.now) coord }
+        ensures within { result ≤ greatest_of_device coord }
+    {
+        match coord {
+            Coord::Locale => 0,
+            _ => self.compared_number(coord),
+        }
+    }
+
+    /// The number that is compared with that of a record: the one of a coordinate, or of the four bytes
+    /// of the locale, language first.
+    pub fn compared_number(&self, coord: Coord) -> u32
+        ensures value { result ≡ device_number (device_numbers self.now) coord }
+        ensures within { coord ≢ coords.Locale → result ≤ greatest_of_device coord }
+        ensures with_density { coord ≡ coords.Density → 1 ≤ result }
+    {
+        self.numbers[coord.place()]
+    }
+
+    pub fn locale(&self) -> Locale
+        ensures { result ≡ device_locale (device_numbers self.now) }
+    {
+        Locale::of_number(self.compared_number(Coord::Locale))
+    }
+}
+
+#[cfg(test)]
+mod tests;

@@ -1,0 +1,101 @@
+//! What a device is asked to be, and the check of it, coordinate by coordinate.
+
+ghost use Rattle.std.specs.Prelude.{◌≡◌, length};
+ghost use Rattle.config_record.specs.EachNumber.{each_number, filled};
+ghost use Rattle.config_record.specs.Device.{density_in, locale_number_in, field_in, number_in};
+
+use crate::coord::Coord;
+use crate::locale::{Locale, LocaleFault};
+use thiserror::Error;
+
+/// A number for each coordinate, in their order, and a locale. The number at the place of the locale is
+/// not used.
+#[derive(Clone, Copy, Debug, PartialEq, Eq)]
+pub struct Fields {
+    pub numbers: [u64; 25],
+    pub locale: Locale,
+}
+
+/// Why no device was made. A text is first read, then its shape is looked at; then the coordinates are
+/// checked in their order, and the first fault is named.
+#[derive(Clone, Copy, Debug, PartialEq, Eq, Error)]
+pub enum DeviceFault {
+    /// The bytes are no JSON text.
+    #[error("Syntax")]
+    Syntax,
+    /// The value is no object, has a member that is no coordinate, or one that is no number, or no text
+    /// at the locale.
+    #[error("Shape")]
+    Shape,
+    /// A number is above the greatest of its coordinate, or no text gives the locale.
+    #[error("FieldRange {0}")]
+    FieldRange(Coord),
+    /// The locale is a region without a language.
+    #[error("RegionAlone")]
+    RegionAlone,
+    /// The density is missing or not one of 1 to 32767.
+    #[error("Density")]
+    Density,
+    #[error("OutOfMemory")]
+    OutOfMemory,
+}
+
+/// The numbers of a device at these coordinates, or the first fault.
+#[tactic(auto, using(crate::proofs::EachNumberSteps::fill_steps))]
+pub(crate) fn fill_numbers(
+    asked: &[u64; 25],
+    locale: Result<Locale, LocaleFault>,
+    coords: &[Coord],
+    numbers: &mut [u32],
+) -> Result<(), DeviceFault>
+    requires { length numbers.old ≡ length coords.now }
+    ensures { filled result numbers.new ≡ each_number (number_in asked.now locale) coords.now }
+{
+    for (place, coord) in coords.iter().enumerate() {
+        numbers[place] = number_in(asked, locale, *coord)?;
+    }
+    Ok(())
+}
+
+#[tactic(auto, unfolding(crate::specs::Device::number_in))]
+fn number_in(
+    asked: &[u64; 25],
+    locale: Result<Locale, LocaleFault>,
+    coord: Coord,
+) -> Result<u32, DeviceFault>
+    ensures { result ≡ number_in asked.now locale coord }
+{
+    match coord {
+        Coord::Locale => locale_number_in(locale),
+        Coord::Density => density_in(asked[coord.place()]),
+        _ => field_in(coord, asked[coord.place()]),
+    }
+}
+
+fn locale_number_in(locale: Result<Locale, LocaleFault>) -> Result<u32, DeviceFault>
+    ensures { result ≡ locale_number_in locale }
+{
+    match locale {
+        Ok(locale) => Ok(locale.number()),
+        Err(LocaleFault::RegionAlone) => Err(DeviceFault::RegionAlone),
+        Err(LocaleFault::Malformed) => Err(DeviceFault::FieldRange(Coord::Locale)),
+    }
+}
+
+fn density_in(density: u64) -> Result<u32, DeviceFault>
+    ensures { result ≡ density_in density }
+{
+    if density == 0 || density > u64::from(Coord::Density.greatest_of_device()) {
+        return Err(DeviceFault::Density);
+    }
+    Ok(density as u32)
+}
+
+fn field_in(coord: Coord, number: u64) -> Result<u32, DeviceFault>
+    ensures { result ≡ field_in coord number }
+{
+    if number > u64::from(coord.greatest_of_device()) {
+        return Err(DeviceFault::FieldRange(coord));
+    }
+    Ok(number as u32)
+}

@@ -1,0 +1,28 @@
+-- No rule of a table decides exactly where all pass.
+use Rattle.std.proofs.Common.{◌≡◌, ℕ, ◌+◌, not, cond, List, [], ◌∷◌, Option, Some, is_none, refl, ap, ◌∙◌}
+use Rattle.std.proofs.lemmas.Iterator.Adapters.{position_from-zero}
+use Rattle.std.specs.List.{position_from}
+use Rattle.config_record.specs.declared.coord.Coord.{Coord}
+use Rattle.config_rules.specs.declared.answer.Answer.{Answer}
+use Rattle.config_rules.specs.declared.answer.Answer.TheVariants.{Yes, No, Pass}
+use Rattle.config_rules.specs.declared.rule.Rule.{Rule}
+use Rattle.config_rules.specs.Answer.{is_pass, or_else}
+use Rattle.config_rules.specs.Rule.{rule_answer}
+use Rattle.config_rules.specs.Table.{answer_of_table, rule_of_table, place_of_table, decides}
+
+step : {A : Type 0} (x next : Answer) (found : A) (others : Option A) → is_none others ≡ is_pass next → is_none (cond (not (is_pass x)) (Some found) others) ≡ is_pass (or_else x next)
+step Yes next found others h = refl
+step No next found others h = refl
+step Pass next found others h = h
+
+pub no_rule : (rules : List Rule) (a b d : Coord → ℕ) → is_none (rule_of_table rules a b d) ≡ is_pass (answer_of_table rules a b d)
+no_rule [] a b d = refl
+no_rule (rule ∷ rules) a b d = step (rule_answer rule a b d) (answer_of_table rules a b d) rule (rule_of_table rules a b d) (no_rule rules a b d)
+
+no_place_from : (rules : List Rule) (place : ℕ) (a b d : Coord → ℕ) → is_none (position_from (decides a b d) place rules) ≡ is_pass (answer_of_table rules a b d)
+no_place_from [] place a b d = refl
+no_place_from (rule ∷ rules) place a b d =
+    step (rule_answer rule a b d) (answer_of_table rules a b d) place (position_from (decides a b d) (place + 1) rules) (no_place_from rules (place + 1) a b d)
+
+pub no_place : (rules : List Rule) (a b d : Coord → ℕ) → is_none (place_of_table rules a b d) ≡ is_pass (answer_of_table rules a b d)
+no_place rules a b d = ap is_none (position_from-zero (decides a b d) rules) ∙ no_place_from rules 0 a b d

@@ -1,0 +1,20 @@
+-- The conditions under which a number of a record suits that of a device (AOSP: ResTable_config::match).
+-- A record that says 0 suits every device.
+use Rattle.std.specs.Prelude.{ℕ, ◌==◌, ◌&&◌, ◌||◌, nat_le, Bool}
+use Rattle.config_rules.specs.Locale.{language, region}
+
+abbrev pub is_equal : ℕ → ℕ → Bool
+is_equal a d = a == 0 || a == d
+
+-- sizes and versions: the device has as much
+abbrev pub is_at_most : ℕ → ℕ → Bool
+is_at_most a d = a == 0 || nat_le a d
+
+-- keys that are exposed (1) suit a device with keys on its screen (3) too: "for compatibility, we count a
+-- request for KEYSHIDDEN_NO as also matching the more recent KEYSHIDDEN_SOFT"
+abbrev pub keys_suit : ℕ → ℕ → Bool
+keys_suit a d = is_equal a d || (a == 1 && d == 3)
+
+-- the languages are equal, and the record's region is the device's, if it has one
+abbrev pub locale_suits : ℕ → ℕ → Bool
+locale_suits a d = a == 0 || (language a == language d && is_equal (region a) (region d))

@@ -1,0 +1,7 @@
+pub mod Answer
+pub mod Locale
+pub mod Conditions
+pub mod Comparisons
+pub mod Kind
+pub mod Rule
+pub mod Table

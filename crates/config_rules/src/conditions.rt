@@ -1,0 +1,36 @@
+//! Whether a number of a record suits that of a device.
+
+ghost use Rattle.std.specs.Prelude.{◌≡◌};
+ghost use Rattle.config_rules.specs.Conditions.{is_equal, is_at_most, keys_suit, locale_suits};
+
+use crate::locale::{language, region};
+
+/// Keys that are exposed suit a device that has its keys on the screen.
+const EXPOSED: u32 = 1;
+
+const SOFT: u32 = 3;
+
+pub(crate) fn is_equal(stored: u32, device: u32) -> bool
+    ensures { result ≡ is_equal stored device }
+{
+    stored == 0 || stored == device
+}
+
+pub(crate) fn is_at_most(stored: u32, device: u32) -> bool
+    ensures { result ≡ is_at_most stored device }
+{
+    stored == 0 || stored <= device
+}
+
+pub(crate) fn keys_suit(stored: u32, device: u32) -> bool
+    ensures { result ≡ keys_suit stored device }
+{
+    is_equal(stored, device) || (stored == EXPOSED && device == SOFT)
+}
+
+pub(crate) fn locale_suits(stored: u32, device: u32) -> bool
+    ensures { result ≡ locale_suits stored device }
+{
+    stored == 0
+        || (language(stored) == language(device) && is_equal(region(stored), region(device)))
+}

@@ -1,0 +1,52 @@
+//! Which of two densities is better.
+
+ghost use Rattle.std.specs.Prelude.{◌≡◌};
+ghost use Rattle.config_rules.specs.Comparisons.{counted_density, is_larger_better, is_better_density, density_answer};
+
+use crate::answer::Answer;
+
+const MEDIUM: u32 = 160;
+
+const ANY: u32 = 65534;
+
+pub(crate) fn by_density(a: u32, b: u32, device: u32) -> Answer
+    ensures { result ≡ density_answer a b device }
+{
+    Answer::decided(a != b, is_better(a, b, device))
+}
+
+fn is_better(a: u32, b: u32, device: u32) -> bool
+    ensures { result ≡ is_better_density a b device }
+{
+    let (x, y) = (counted(a), counted(b));
+    if x == ANY {
+        true
+    } else if y == ANY {
+        false
+    } else if x >= y {
+        is_larger_better(y, x, device)
+    } else {
+        !is_larger_better(x, y, device)
+    }
+}
+
+fn counted(density: u32) -> u32
+    ensures { result ≡ counted_density density }
+{
+    if density == 0 { MEDIUM } else { density }
+}
+
+// Scaling down counts as twice as good as scaling up.
+#[tactic(auto, unfolding(crate::specs::Comparisons::is_larger_better))]
+fn is_larger_better(low: u32, high: u32, device: u32) -> bool
+    ensures { result ≡ is_larger_better low high device }
+{
+    if device >= high {
+        return true;
+    }
+    if low >= device {
+        return false;
+    }
+    let (low, high, device) = (u128::from(low), u128::from(high), u128::from(device));
+    (2 * low).saturating_sub(device) * high <= device * device
+}

@@ -1,0 +1,59 @@
+//! Which of two pairs of dimensions is nearer to the device's.
+
+ghost use Rattle.std.specs.Prelude.{◌≡◌, pos, negsuc, ◌≤ℤ◌, ◌+ℤ◌};
+ghost use Rattle.config_rules.specs.Comparisons.{rest_of, rest_of_both, smaller_answer, dimensions_answer};
+
+use crate::answer::Answer;
+use crate::kind::Numbers;
+
+/// The record of which less is left of the device's dimensions.
+#[tactic(auto, unfolding(crate::specs::Comparisons::dimensions_answer))]
+pub(crate) fn by_dimensions(a: Numbers, b: Numbers, device: Numbers) -> Answer
+    ensures { result ≡ dimensions_answer a b device }
+{
+    by_smaller(rest_of_both(a, device), rest_of_both(b, device))
+}
+
+#[tactic(auto, unfolding(crate::specs::Comparisons::smaller_answer))]
+fn by_smaller(x: i64, y: i64) -> Answer
+    ensures { result ≡ smaller_answer x y }
+{
+    if x < y {
+        Answer::Yes
+    } else if y < x {
+        Answer::No
+    } else {
+        Answer::Pass
+    }
+}
+
+#[tactic(auto, unfolding(crate::specs::Comparisons::rest_of_both))]
+fn rest_of_both(stored: Numbers, device: Numbers) -> i64
+    ensures { result ≡ rest_of_both stored device }
+{
+    sum(
+        rest_of(stored.first, device.first),
+        rest_of(stored.second, device.second),
+    )
+}
+
+#[tactic(auto, unfolding(crate::specs::Comparisons::rest_of))]
+fn rest_of(stored: u32, device: u32) -> i64
+    ensures value { result ≡ rest_of stored device }
+    ensures low { negsuc 4294967295 ≤ℤ result }
+    ensures high { result ≤ℤ pos 4294967295 }
+{
+    if device == 0 {
+        0
+    } else {
+        i64::from(device) - i64::from(stored)
+    }
+}
+
+fn sum(x: i64, y: i64) -> i64
+    requires low { (negsuc 4294967295 ≤ℤ x) × (negsuc 4294967295 ≤ℤ y) }
+    requires high { (x ≤ℤ pos 4294967295) × (y ≤ℤ pos 4294967295) }
+    ensures { result ≡ x +ℤ y }
+{
+    x + y
+}

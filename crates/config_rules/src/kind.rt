@@ -1,0 +1,83 @@
+//! The kinds of questions that rules ask.
+
+ghost use Rattle.std.specs.Prelude.{◌≡◌};
+ghost use Rattle.config_rules.specs.Kind.{kind_answer};
+
+use crate::answer::Answer;
+use crate::conditions::{is_at_most, is_equal, keys_suit, locale_suits};
+use crate::density::by_density;
+use crate::dimensions::by_dimensions;
+use crate::given::{always_larger, given, larger};
+use crate::hidden::{by_keys, by_navigation};
+use crate::locale::by_rank;
+use crate::screen_size::by_screen_size;
+
+/// What a rule may look at in a configuration.
+#[derive(Clone, Copy, Debug, PartialEq, Eq)]
+pub struct Numbers {
+    /// The number at its coordinate.
+    pub first: u32,
+    /// The one beside it: of two dimensions the second.
+    pub second: u32,
+}
+
+/// What a rule asks of two records at a device. The comparisons say which of two records is better,
+/// the conditions whether the first suits the device.
+#[derive(Clone, Copy, Debug, PartialEq, Eq)]
+pub enum Kind {
+    /// Where the two differ and the device says something: the one that says something is better.
+    Given,
+    /// Where the two differ and the device says something: the larger is better.
+    Larger,
+    /// Where the two differ: the larger is better.
+    AlwaysLarger,
+    /// The locale with more parts is better.
+    LocaleRank,
+    /// The pair of dimensions that leaves less of the device's is better.
+    Dimensions,
+    /// The larger screen is better; no size is as good as normal, on a device of at least that.
+    ScreenSize,
+    /// The density that is scaled better is better.
+    Density,
+    /// The one that says something is better, and of two such the one that says what the device
+    /// says.
+    KeysHidden,
+    /// Where one says nothing: the other is better.
+    NavHidden,
+    /// A condition: the record says nothing, or what the device says.
+    Equal,
+    /// A condition: the record asks for no more than the device has.
+    AtMost,
+    /// A condition: the record's keys are the device's; exposed keys suit keys on the screen.
+    KeysSuit,
+    /// A condition: the record's language and region are the device's, as far as it has them.
+    LocaleSuits,
+    /// A condition that always holds.
+    Always,
+}
+
+impl Kind {
+    /// What is answered to this question.
+    #[tactic(auto, unfolding(crate::specs::Kind::kind_answer))]
+    pub fn answer(self, a: Numbers, b: Numbers, device: Numbers) -> Answer
+        ensures { result ≡ kind_answer self a b device }
+    {
+        let (x, y, d) = (a.first, b.first, device.first);
+        match self {
+            Kind::Given => given(x, y, d),
+            Kind::Larger => larger(x, y, d),
+            Kind::AlwaysLarger => always_larger(x, y),
+            Kind::LocaleRank => by_rank(x, y),
+            Kind::Dimensions => by_dimensions(a, b, device),
+            Kind::ScreenSize => by_screen_size(x, y, d),
+            Kind::Density => by_density(x, y, d),
+            Kind::KeysHidden => by_keys(x, y, d),
+            Kind::NavHidden => by_navigation(x, y, d),
+            Kind::Equal => Answer::of_condition(is_equal(x, d)),
+            Kind::AtMost => Answer::of_condition(is_at_most(x, d)),
+            Kind::KeysSuit => Answer::of_condition(keys_suit(x, d)),
+            Kind::LocaleSuits => Answer::of_condition(locale_suits(x, d)),
+            Kind::Always => Answer::Pass,
+        }
+    }
+}

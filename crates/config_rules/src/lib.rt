@@ -1,0 +1,31 @@
+//! The rules by which records are matched and compared: one kind of question at one coordinate, and
+//! tables of rules, of which the first that decides is the answer.
+//!
+//! A record matches a device where none of its conditions fails, and one record is better than
+//! another where the first rule that decides says yes. Both are tables over the one engine of this
+//! crate; the tables stand in the crates above.
+//!
+//! ```text
+//! let rule = Rule { kind: Kind::Density, coord: Coord::Density };
+//! rule.answer(&low, &high, &device) // Answer::Yes
+//! ```
+#![tactic(auto)]
+
+mod answer;
+mod conditions;
+mod density;
+mod dimensions;
+mod given;
+mod hidden;
+mod kind;
+mod locale;
+mod rule;
+mod screen_size;
+mod table;
+#[cfg(test)]
+mod tests;
+
+pub use answer::Answer;
+pub use kind::{Kind, Numbers};
+pub use rule::{Rule, beside};
+pub use table::{deciding_place, deciding_rule, table_answer};

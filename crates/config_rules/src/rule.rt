@@ -1,0 +1,62 @@
+//! Rules: a question at a coordinate.
+
+ghost use Rattle.std.specs.Prelude.{◌≡◌};
+ghost use Rattle.config_rules.specs.Rule.{beside};
+
+use crate::answer::Answer;
+use crate::kind::{Kind, Numbers};
+use config_record::{Coord, Device, Record};
+
+/// A question of some kind at a coordinate; for dimensions it is the first of the two.
+#[derive(Clone, Copy, Debug, PartialEq, Eq)]
+pub struct Rule {
+    pub kind: Kind,
+    pub coord: Coord,
+}
+
+impl Rule {
+    ghost use Rattle.config_record.specs.Record.{record_bytes};
+    ghost use Rattle.config_record.specs.ComparedNumber.{record_number, device_number};
+    ghost use Rattle.config_record.specs.DeviceSeen.{device_numbers};
+    ghost use Rattle.config_rules.specs.Rule.{numbers_at, rule_answer};
+
+    /// What the rule says of two records at a device.
+    #[tactic(auto, unfolding(crate::specs::Rule::rule_answer))]
+    pub fn answer(self, a: &Record, b: &Record, device: &Device) -> Answer
+        ensures { result ≡ rule_answer self (record_number (record_bytes a.now))
+            (record_number (record_bytes b.now)) (device_number (device_numbers device.now)) }
+    {
+        self.kind.answer(self.of_record(a), self.of_record(b), self.of_device(device))
+    }
+
+    /// What it may look at in a record.
+    pub fn of_record(self, stored: &Record) -> Numbers
+        ensures { result ≡ numbers_at self.coord (record_number (record_bytes stored.now)) }
+    {
+        Numbers {
+            first: stored.compared_number(self.coord),
+            second: stored.compared_number(beside(self.coord)),
+        }
+    }
+
+    fn of_device(self, device: &Device) -> Numbers
+        ensures { result ≡ numbers_at self.coord (device_number (device_numbers device.now)) }
+    {
+        Numbers {
+            first: device.compared_number(self.coord),
+            second: device.compared_number(beside(self.coord)),
+        }
+    }
+}
+
+/// The second of two dimensions.
+#[tactic(auto, unfolding(crate::specs::Rule::beside))]
+pub fn beside(coord: Coord) -> Coord
+    ensures { result ≡ beside coord }
+{
+    match coord {
+        Coord::WidthDp => Coord::HeightDp,
+        Coord::Width => Coord::Height,
+        other => other,
+    }
+}

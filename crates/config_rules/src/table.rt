@@ -1,0 +1,83 @@
+//! Tables of rules: the first rule that does not pass decides.
+
+ghost use Rattle.std.specs.Prelude.{◌≡◌, ◌<◌, length, IfSome, is_none};
+ghost use Rattle.config_record.specs.Record.{record_bytes};
+ghost use Rattle.config_record.specs.ComparedNumber.{record_number, device_number};
+ghost use Rattle.config_record.specs.DeviceSeen.{device_numbers};
+ghost use Rattle.config_rules.specs.Answer.{is_pass};
+ghost use Rattle.config_rules.specs.Table.{answer_of_table, rule_of_table, place_of_table};
+
+use crate::answer::Answer;
+use crate::rule::Rule;
+use config_record::{Device, Record};
+
+/// What the rule that decides says of two records at a device; `Pass` where all pass.
+pub fn table_answer<'a>(rules: &[Rule], a: &Record<'a>, b: &Record<'a>, device: &Device) -> Answer
+    ensures { result ≡ answer_of_table rules.now (record_number (record_bytes a.now))
+        (record_number (record_bytes b.now)) (device_number (device_numbers device.now)) }
+{
+    for rule in rules {
+        let answer = rule.answer(a, b, device);
+        if !answer.is_pass() {
+            return answer;
+        }
+    }
+    Answer::Pass
+}
+
+/// The rule that decides.
+#[tactic(auto, using(crate::proofs::TableLemmas::no_rule))]
+pub fn deciding_rule<'a>(
+    rules: &[Rule],
+    a: &Record<'a>,
+    b: &Record<'a>,
+    device: &Device,
+) -> Option<Rule>
+    ensures value { result ≡ rule_of_table rules.now (record_number (record_bytes a.now))
+        (record_number (record_bytes b.now)) (device_number (device_numbers device.now)) }
+    ensures none { is_none result ≡ is_pass (answer_of_table rules.now
+        (record_number (record_bytes a.now)) (record_number (record_bytes b.now))
+        (device_number (device_numbers device.now))) }
+{
+    first_rule(rules, a, b, device)
+}
+
+fn first_rule(rules: &[Rule], a: &Record, b: &Record, device: &Device) -> Option<Rule>
+    ensures { result ≡ rule_of_table rules.now (record_number (record_bytes a.now))
+        (record_number (record_bytes b.now)) (device_number (device_numbers device.now)) }
+{
+    for rule in rules {
+        if !rule.answer(a, b, device).is_pass() {
+            return Some(*rule);
+        }
+    }
+    None
+}
+
+/// The place of the rule that decides.
+#[tactic(auto, using(crate::proofs::TableLemmas::no_place))]
+pub fn deciding_place<'a>(
+    rules: &[Rule],
+    a: &Record<'a>,
+    b: &Record<'a>,
+    device: &Device,
+) -> Option<usize>
+    ensures value { result ≡ place_of_table rules.now (record_number (record_bytes a.now))
+        (record_number (record_bytes b.now)) (device_number (device_numbers device.now)) }
+    ensures none { is_none result ≡ is_pass (answer_of_table rules.now
+        (record_number (record_bytes a.now)) (record_number (record_bytes b.now))
+        (device_number (device_numbers device.now))) }
+    ensures within { IfSome result (λ place. place < length rules.now) }
+{
+    first_place(rules, a, b, device)
+}
+
+fn first_place(rules: &[Rule], a: &Record, b: &Record, device: &Device) -> Option<usize>
+    ensures value { result ≡ place_of_table rules.now (record_number (record_bytes a.now))
+        (record_number (record_bytes b.now)) (device_number (device_numbers device.now)) }
+    ensures within { IfSome result (λ place. place < length rules.now) }
+{
+    rules
+        .iter()
+        .position(|rule| !rule.answer(a, b, device).is_pass())
+}

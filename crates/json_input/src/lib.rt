@@ -1,0 +1,28 @@
+//! JSON inputs: the value of some bytes, and the words that say which shape a value has.
+//!
+//! For the crates above: `value_of` is what `serde_json` reads of the bytes, none where it refuses
+//! them, and `read_value` gives it. A want of memory is told apart from a refusal.
+//!
+//! | word | says | file |
+//! |---|---|---|
+//! | `value_of` | the JSON value of some bytes | `specs/Json.antt` |
+//! | `has_only` | an object without members of other names than these | `specs/Shape.antt` |
+//! | `number_of` | the number of a value, as `Value::as_u64` gives it | `specs/Shape.antt` |
+//! | `text_of` | the text of a value, as `Value::as_str` gives it | `specs/Shape.antt` |
+//!
+//! ```text
+//! let value = read_value(alloc, bytes)?;
+//! if !has_only(&value, &["table", "map"]) {
+//!     return Err(Fault::Shape);
+//! }
+//! let table = value.get("table").and_then(Value::as_str);
+//! ```
+#![tactic(auto)]
+
+mod shape;
+#[cfg(test)]
+mod tests;
+mod value;
+
+pub use shape::has_only;
+pub use value::{JsonFault, read_value};
