@@ -4,7 +4,8 @@ use Rattle.config_record.specs.Record.{density}
 use Rattle.config_match.specs.Matching.{is_match}
 use Rattle.config_precedence.specs.Precedence.{is_better}
 
--- densities of 0 and 160, which count alike: either both records are better than the other, or neither is
+-- densities of 0 and 160, which count alike: where no earlier rule decides, either both records are better
+-- than the other, or neither is
 abbrev pub densities_tie : List ℕ → List ℕ → Bool
 densities_tie a b = (density a == 0 && density b == 160) || (density a == 160 && density b == 0)
 

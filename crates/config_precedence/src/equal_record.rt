@@ -1,5 +1,5 @@
-//! Whether two records are equal: in all their fields, with the bits and the byte in which no
-//! coordinate stands.
+//! Whether two records are equal: in all their fields but the size, with the bits and the byte in
+//! which no coordinate stands.
 
 ghost use Rattle.std.specs.Prelude.{◌≡◌, ◌==◌, ◌<◌};
 ghost use Rattle.config_record.specs.Record.{record_bytes, byte, two_bytes, locale_script, locale_variant};

@@ -15,7 +15,8 @@ use config_rules::{deciding_place, table_answer};
 ///
 /// Among records that match the device this is an order: of two at most one is better than the other,
 /// and one that is better than a second is better than a third than which the second is better. Only
-/// a density of 0 against one of 160 is no part of that order: both are better, or neither is.
+/// a density of 0 against one of 160 is no part of that order: where no earlier rule decides, both
+/// are better, or neither is.
 #[tactic(auto, unfolding(crate::specs::Precedence::is_better))]
 pub fn better(a: &Record, b: &Record, device: &Device) -> bool
     ensures value { result ≡

@@ -88,6 +88,7 @@ impl Device {
         self.numbers[coord.place()]
     }
 
+    /// Its language and region; each may be missing.
     pub fn locale(&self) -> Locale
         ensures { result ≡ device_locale (device_numbers self.now) }
     {

@@ -20,11 +20,11 @@ pub struct Fields {
 /// checked in their order, and the first fault is named.
 #[derive(Clone, Copy, Debug, PartialEq, Eq, Error)]
 pub enum DeviceFault {
-    /// The bytes are no JSON text.
+    /// The bytes are no JSON text that `serde_json` reads.
     #[error("Syntax")]
     Syntax,
-    /// The value is no object, has a member that is no coordinate, or one that is no number, or no text
-    /// at the locale.
+    /// The value is no object, has a member that is no coordinate, or one that is no whole number of 64
+    /// bits without a sign, or no text at the locale.
     #[error("Shape")]
     Shape,
     /// A number is above the greatest of its coordinate, or no text gives the locale.

@@ -145,6 +145,7 @@ impl<'a> Record<'a> {
         }
     }
 
+    /// Its language and region; each may be missing.
     #[tactic(auto, unfolding(crate::specs::Record::locale_in))]
     pub fn locale(&self) -> Locale
         ensures { result ≡ locale_in (record_bytes self.now) }

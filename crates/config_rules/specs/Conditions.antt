@@ -15,6 +15,7 @@ is_at_most a d = a == 0 || nat_le a d
 abbrev pub keys_suit : ℕ → ℕ → Bool
 keys_suit a d = is_equal a d || (a == 1 && d == 3)
 
--- the languages are equal, and the record's region is the device's, if it has one
+-- It says nothing, or the languages are equal, and the record's region is the device's, if it has one. A
+-- region alone suits no device, since none has a region without a language.
 abbrev pub locale_suits : ℕ → ℕ → Bool
 locale_suits a d = a == 0 || (language a == language d && is_equal (region a) (region d))

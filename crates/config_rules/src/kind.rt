@@ -35,7 +35,8 @@ pub enum Kind {
     LocaleRank,
     /// The pair of dimensions that leaves less of the device's is better.
     Dimensions,
-    /// The larger screen is better; no size is as good as normal, on a device of at least that.
+    /// The larger screen is better; on a device of at least normal size no size counts as normal, and
+    /// loses to it.
     ScreenSize,
     /// The density that is scaled better is better.
     Density,
@@ -50,7 +51,8 @@ pub enum Kind {
     AtMost,
     /// A condition: the record's keys are the device's; exposed keys suit keys on the screen.
     KeysSuit,
-    /// A condition: the record's language and region are the device's, as far as it has them.
+    /// A condition: the record says nothing, or the device's language and, where it has a region, the
+    /// device's region too. A region alone suits no device.
     LocaleSuits,
     /// A condition that always holds.
     Always,

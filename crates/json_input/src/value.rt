@@ -13,7 +13,7 @@ use thiserror::Error;
 /// Why no value was read.
 #[derive(Clone, Copy, Debug, PartialEq, Eq, Error)]
 pub enum JsonFault {
-    /// The bytes are no JSON text.
+    /// The bytes are no JSON text that `serde_json` reads.
     #[error("Syntax")]
     Syntax,
     #[error("OutOfMemory")]
