@@ -1,9 +1,11 @@
 -- Does a record match a device? A record is the list of its bytes, a device that of its numbers.
-use Rattle.std.specs.Prelude.{ℕ, Bool, not, ◌&&◌, if◌then◌else◌, List, Option, Some, option_map}
+use Rattle.std.specs.Prelude.{ℕ, Bool, not, ◌&&◌, ◌==◌, if◌then◌else◌, List, Option, Some, option_map}
+use Rattle.config_record.specs.declared.coord.Coord.TheVariants as coords
 use Rattle.config_record.specs.ComparedNumber.{record_number, device_number}
 use Rattle.config_record.specs.Record.{is_set_aside}
 use Rattle.config_rules.specs.declared.rule.Rule.{Rule}
 use Rattle.config_rules.specs.Answer.{is_pass}
+use Rattle.config_rules.specs.Locale.{language}
 use Rattle.config_rules.specs.Table.{answer_of_table, rule_of_table}
 use Rattle.config_match.specs.declared.reason.Mismatch.{Mismatch}
 use Rattle.config_match.specs.declared.reason.Mismatch.TheVariants.{SetAside, At}
@@ -23,3 +25,7 @@ unfoldable pub mismatch_of : List ℕ → List ℕ → Option Mismatch
 mismatch_of r d =
     if is_set_aside r then Some SetAside
     else option_map mismatch_at (rule_of_table all_conditions (record_number r) (record_number r) (device_number d))
+
+-- it has a region and no language
+abbrev pub has_region_alone : List ℕ → Bool
+has_region_alone r = not (record_number r coords.Locale == 0) && language (record_number r coords.Locale) == 0

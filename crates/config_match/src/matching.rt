@@ -1,19 +1,20 @@
 //! Whether a record matches a device, and what fails where it does not.
 
-ghost use Rattle.std.specs.Prelude.{◌≡◌, is_none};
+ghost use Rattle.std.specs.Prelude.{◌≡◌, false, is_none, IsTrue};
 ghost use Rattle.config_record.specs.Record.{record_bytes};
 ghost use Rattle.config_record.specs.DeviceSeen.{device_numbers};
-ghost use Rattle.config_match.specs.Matching.{is_match, mismatch_of};
+ghost use Rattle.config_match.specs.Matching.{is_match, mismatch_of, has_region_alone};
 
 use crate::reason::Mismatch;
 use crate::table::conditions;
 use config_record::{Device, Record};
 use config_rules::{deciding_rule, table_answer};
 
-/// Whether a record matches a device.
+/// Whether a record matches a device. One with a region and no language matches none.
 #[tactic(auto, unfolding(crate::specs::Matching::is_match))]
 pub fn matches(stored: &Record, device: &Device) -> bool
-    ensures { result ≡ is_match (record_bytes stored.now) (device_numbers device.now) }
+    ensures value { result ≡ is_match (record_bytes stored.now) (device_numbers device.now) }
+    ensures region_alone { IsTrue (has_region_alone (record_bytes stored.now)) → result ≡ false }
 {
     !stored.set_aside() && table_answer(conditions(), stored, stored, device).is_pass()
 }

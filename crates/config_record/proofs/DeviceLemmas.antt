@@ -17,7 +17,7 @@ use Rattle.config_record.specs.ComparedNumber.{locale_number, locale_of_number, 
 use Rattle.config_record.specs.DeviceSeen.{device_numbers, seen}
 use Rattle.config_record.specs.EachNumber.{each_number}
 use Rattle.config_record.specs.Device.{density_in, field_in, locale_number_in, number_in, device_with, device_locale}
-use Rattle.config_record.specs.Locale.{locale_faults, checked_locale}
+use Rattle.config_record.specs.Locale.{locale_faults, checked_locale, IsGiven}
 
 -- ---- the number of each coordinate stands at its place
 
@@ -89,23 +89,35 @@ density_in-asked asked n e =
     let p = checked_by-ok ((asked == 0, Density) ∷ (nat_lt (greatest_of_device coords.Density) asked, Density) ∷ []) (Ok asked) n e in
     sym (same_number asked n (Ok asked) refl p.1)
 
-number_in-within : (asked : List ℕ) (l : Result Locale LocaleFault) (c : Coord) (n : ℕ) → number_in asked l c ≡ Ok n → c ≢ coords.Locale → n ≤ greatest_of_device c
+number_in-within : (asked : List ℕ) (l : Result ℕ DeviceFault) (c : Coord) (n : ℕ) → number_in asked l c ≡ Ok n → c ≢ coords.Locale → n ≤ greatest_of_device c
 unfolding number_in
 number_in-within asked l coords.Locale n e other = absurd (other refl)
 number_in-within asked l coords.Density n e other = (density_in-within (number_at asked coords.Density) n e).1
 number_in-within asked l c n e other = field_in-within c (number_at asked c) n e
 
-pub device-within : (asked numbers : List ℕ) (l : Result Locale LocaleFault) → Ok numbers ≡ each_number (number_in asked l) all_coords
+pub device-within : (asked numbers : List ℕ) (l : Result ℕ DeviceFault) → Ok numbers ≡ each_number (number_in asked l) all_coords
     → (c : Coord) → c ≢ coords.Locale → number_at numbers c ≤ greatest_of_device c
 device-within asked numbers l e c other = number_in-within asked l c (number_at numbers c) (number_at-given (number_in asked l) numbers c (sym e)) other
 
-pub device-with_density : (asked numbers : List ℕ) (l : Result Locale LocaleFault) → Ok numbers ≡ each_number (number_in asked l) all_coords → 1 ≤ number_at numbers coords.Density
+pub device-with_density : (asked numbers : List ℕ) (l : Result ℕ DeviceFault) → Ok numbers ≡ each_number (number_in asked l) all_coords → 1 ≤ number_at numbers coords.Density
 unfolding number_in
 device-with_density asked numbers l e = (density_in-within (number_at asked coords.Density) (number_at numbers coords.Density) (number_at-given (number_in asked l) numbers coords.Density (sym e))).0
 
+-- ---- the locale is one that a text gives
+
+locale_number-given : (locale : Result ℕ DeviceFault) (n : ℕ) → locale ≡ Ok n → IfOk locale (λ m. IsGiven (locale_of_number m)) → IsGiven (locale_of_number n)
+locale_number-given (Ok m) n e given = let same : m ≡ n = same_number m n (Ok m) refl e in rw (← same) given
+locale_number-given (Err fault) n e given = absurd cc
+
+pub device-with_locale : (asked numbers : List ℕ) (locale : Result ℕ DeviceFault) → Ok numbers ≡ each_number (number_in asked locale) all_coords
+    → IfOk locale (λ m. IsGiven (locale_of_number m)) → IsGiven (device_locale numbers)
+unfolding number_in
+device-with_locale asked numbers locale e given =
+    locale_number-given locale (number_at numbers coords.Locale) (number_at-given (number_in asked locale) numbers coords.Locale (sym e)) given
+
 -- ---- and is the one that was asked for
 
-number_in-asked : (asked : List ℕ) (l : Result Locale LocaleFault) (c : Coord) (n : ℕ) → number_in asked l c ≡ Ok n → c ≢ coords.Locale → n ≡ number_at asked c
+number_in-asked : (asked : List ℕ) (l : Result ℕ DeviceFault) (c : Coord) (n : ℕ) → number_in asked l c ≡ Ok n → c ≢ coords.Locale → n ≡ number_at asked c
 unfolding number_in
 number_in-asked asked l coords.Locale n e other = absurd (other refl)
 number_in-asked asked l coords.Density n e other = density_in-asked (number_at asked coords.Density) n e
@@ -114,7 +126,7 @@ number_in-asked asked l c n e other = field_in-asked c (number_at asked c) n e
 pub device-asked : (asked : List ℕ) (l : Result Locale LocaleFault) (r : Result Device DeviceFault) → seen r ≡ device_with asked l
     → IfOk r (λ d. (c : Coord) → c ≢ coords.Locale → device_number (device_numbers d) c ≡ number_at asked c)
 unfolding device_with
-device-asked asked l (Ok d) e = λ c other. number_in-asked asked l c (number_at (device_numbers d) c) (number_at-given (number_in asked l) (device_numbers d) c (sym e)) other
+device-asked asked l (Ok d) e = λ c other. number_in-asked asked (locale_number_in l) c (number_at (device_numbers d) c) (number_at-given (number_in asked (locale_number_in l)) (device_numbers d) c (sym e)) other
 device-asked asked l (Err fault) e = tt
 
 -- ---- and its locale is the one that was asked for
@@ -138,5 +150,5 @@ pub device-locale_asked : (asked : List ℕ) (own : Locale) (l : Result Locale L
     → l ≡ checked_locale own → IfOk l (λ m. locale_of_number (locale_number m) ≡ m) → IfOk r (λ d. device_locale (device_numbers d) ≡ own)
 unfolding device_with number_in
 device-locale_asked asked own l (Ok d) e checked back =
-    locale_number-asked own l (number_at (device_numbers d) coords.Locale) checked back (number_at-given (number_in asked l) (device_numbers d) coords.Locale (sym e))
+    locale_number-asked own l (number_at (device_numbers d) coords.Locale) checked back (number_at-given (number_in asked (locale_number_in l)) (device_numbers d) coords.Locale (sym e))
 device-locale_asked asked own l (Err fault) e checked back = tt

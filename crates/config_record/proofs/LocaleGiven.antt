@@ -11,7 +11,7 @@ use Rattle.config_record.specs.declared.locale.Locale.{Locale}
 use Rattle.config_record.specs.declared.locale.LocaleFault.{LocaleFault}
 use Rattle.config_record.specs.Zero.{is_zero}
 use Rattle.config_record.specs.ComparedNumber.{locale_number, locale_of_number}
-use Rattle.config_record.specs.Locale.{is_small_letter, is_capital_letter, is_digit, packed, language_of, region_of, no_part, unpacked, is_spelled, locale_faults, checked_locale, locale_of, locale_text, language_text, region_text, cut_at, with_region}
+use Rattle.config_record.specs.Locale.{is_small_letter, is_capital_letter, is_digit, packed, language_of, region_of, no_part, unpacked, is_spelled, locale_faults, checked_locale, IsGiven, locale_of, locale_text, language_text, region_text, cut_at, with_region}
 use Rattle.contract_words.proofs.FaultSteps.{checked_by-ok}
 use Rattle.config_record.proofs.LocaleLemmas.{both, small, capital, digit}
 
@@ -218,3 +218,23 @@ two_bytes [] e fits = absurd (omega arith)
 two_bytes (a ∷ []) e fits = absurd (omega arith)
 two_bytes (a ∷ b ∷ []) e fits = record { first = a; second = b; same = refl; first_fits = fits 0; second_fits = fits 1 }
 two_bytes (a ∷ b ∷ c ∷ part) e fits = absurd (omega arith)
+
+-- ---- a locale that a text gives has no region without a language
+
+no_region : (l : Locale) → checked_locale l ≡ Ok l → is_zero l.language ≡ true → is_zero l.region ≡ true
+unfolding checked_locale
+no_region l e none =
+    let met = (checked_by-ok (locale_faults l) (Ok l) l e).0 in
+    let alone : (is_zero l.language && not (is_zero l.region)) ≡ false = met.1.0 in
+    is_not (is_zero l.region) (rw none at alone)
+
+pub no_language : (n : ℕ) → IsGiven (locale_of_number n) → n < 65536 → n ≡ 0
+unfolding locale_of_number
+no_language n given low =
+    let first : n / 16777216 % 256 ≡ 0 = omega arith in
+    let second : n / 65536 % 256 ≡ 0 = omega arith in
+    let none : is_zero (take 2 (to_be_bytes w32 n)) ≡ true = rw (first, second) refl in
+    let all = both _ _ (no_region (locale_of_number n) given none) in
+    let third = eqb-true (n / 256 % 256) 0 all.0 in
+    let fourth = eqb-true (n % 256) 0 (both _ _ all.1).0 in
+    omega arith

@@ -10,7 +10,7 @@ use Rattle.config_record.specs.declared.locale.Locale.{Locale}
 use Rattle.config_record.specs.declared.locale.LocaleFault.{LocaleFault}
 use Rattle.config_record.specs.declared.locale.LocaleFault.TheVariants.{RegionAlone, Malformed}
 use Rattle.config_record.specs.Zero.{is_zero}
-use Rattle.config_record.specs.Locale.{is_small_letter, is_capital_letter, is_digit, packed, language_of, region_of, no_part, unpacked, without_region, with_region, cut_at, locale_of, checked_locale, locale_text}
+use Rattle.config_record.specs.Locale.{is_small_letter, is_capital_letter, is_digit, packed, language_of, region_of, no_part, unpacked, without_region, with_region, cut_at, locale_of, checked_locale, IsGiven, locale_text}
 
 pub both : (a b : Bool) → (a && b) ≡ true → (a ≡ true) × (b ≡ true)
 both true b e = (refl, e)
@@ -176,6 +176,10 @@ locale_of-gives text l e = at (position (λ b. b == 45) text) refl e
 pub printed_back : (text : List ℕ) (r : Result Locale LocaleFault) → r ≡ locale_of text → IfOk r (λ l. locale_text l ≡ text)
 printed_back text (Ok l) e = (locale_of-gives text l (sym e)).printed
 printed_back text (Err fault) e = tt
+
+pub read_given : (text : List ℕ) (r : Result Locale LocaleFault) → r ≡ locale_of text → IfOk r (λ l. IsGiven l)
+read_given text (Ok l) e = (locale_of-gives text l (sym e)).passes
+read_given text (Err fault) e = tt
 
 -- bytes that do not pass the check are given by no text
 pub not_given : (l : Locale) (fault : LocaleFault) → Err fault ≡ checked_locale l → (text : List ℕ) → locale_of text ≢ Ok l

@@ -29,15 +29,15 @@ locale_number_in (Err of_locale.Malformed) = Err (FieldRange coords.Locale)
 abbrev pub field_in : coord.Coord → ℕ → Result ℕ DeviceFault
 field_in c n = checked_by ((nat_lt (greatest_of_device c) n, FieldRange c) ∷ []) (Ok n)
 
--- the number at a coordinate, or what is wrong with it
-unfoldable pub number_in : List ℕ → Result Locale LocaleFault → coord.Coord → Result ℕ DeviceFault
-number_in asked l coords.Locale = locale_number_in l
-number_in asked l coords.Density = density_in (number_at asked coords.Density)
-number_in asked l c = field_in c (number_at asked c)
+-- the number at a coordinate, or what is wrong with it; `locale` is that at the locale
+unfoldable pub number_in : List ℕ → Result ℕ DeviceFault → coord.Coord → Result ℕ DeviceFault
+number_in asked locale coords.Locale = locale
+number_in asked locale coords.Density = density_in (number_at asked coords.Density)
+number_in asked locale c = field_in c (number_at asked c)
 
 -- coordinate by coordinate: the numbers, or the first fault
 unfoldable pub device_with : List ℕ → Result Locale LocaleFault → Result (List ℕ) DeviceFault
-device_with asked l = each_number (number_in asked l) all_coords
+device_with asked l = each_number (number_in asked (locale_number_in l)) all_coords
 
 -- a device from fields, whose number at the locale is not used
 abbrev pub device_in : Fields → Result (List ℕ) DeviceFault

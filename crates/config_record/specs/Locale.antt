@@ -1,5 +1,5 @@
 -- Locales: their texts, and the four bytes that these stand for.
-use Rattle.std.specs.Prelude.{ℕ, ◌+◌, ◌-◌, ◌*◌, ◌/◌, ◌%◌, ◌==◌, ◌&&◌, ◌||◌, not, nat_le, nat_lt, Bool, if◌then◌else◌, List, [], ◌∷◌, ◌++◌, length, take, drop, position, slice_index, codes, Option, Some, None, is_some, unwrap_or, Result, Ok}
+use Rattle.std.specs.Prelude.{◌≡◌, ℕ, ◌+◌, ◌-◌, ◌*◌, ◌/◌, ◌%◌, ◌==◌, ◌&&◌, ◌||◌, not, nat_le, nat_lt, Bool, if◌then◌else◌, List, [], ◌∷◌, ◌++◌, length, take, drop, position, slice_index, codes, Option, Some, None, is_some, unwrap_or, Result, Ok}
 use Rattle.hex.specs.Hex.{encode_lower}
 use Rattle.contract_words.specs.Faults.{checked_by}
 use Rattle.config_record.specs.declared.locale.Locale.{Locale}
@@ -100,6 +100,10 @@ locale_faults l =
 -- a locale that a text gives, or its first fault
 unfoldable pub checked_locale : Locale → Result Locale LocaleFault
 checked_locale l = checked_by (locale_faults l) (Ok l)
+
+-- a text gives it
+abbrev pub IsGiven : Locale → Type 0
+IsGiven l = checked_locale l ≡ Ok l
 
 abbrev pub language_text : List ℕ → List ℕ
 language_text language = if is_zero language then [] else unpacked 97 language

@@ -1,12 +1,14 @@
 //! Devices: the configurations that are asked for.
 
-ghost use Rattle.std.specs.Prelude.{◌≡◌, ◌≢◌, ◌≤◌};
+ghost use Rattle.std.specs.Prelude.{◌≡◌, ◌≢◌, ◌≤◌, ◌<◌};
 ghost use Rattle.config_record.specs.declared.coord.Coord as coord;
 ghost use Rattle.config_record.specs.declared.coord.Coord.TheVariants as coords;
 ghost use Rattle.config_record.specs.Coord.{greatest_of_device, number_at};
+ghost use Rattle.config_record.specs.Device.{device_locale};
+ghost use Rattle.config_record.specs.Locale.{IsGiven};
 
 use crate::coord::Coord;
-use crate::fields::{DeviceFault, Fields, fill_numbers};
+use crate::fields::{DeviceFault, Fields, fill_numbers, locale_number_in};
 use crate::json::device_in_value;
 use crate::locale::{Locale, LocaleFault};
 use json_input::{JsonFault, read_value};
@@ -20,6 +22,7 @@ pub struct Device {
     numbers: [u32; 25],
     ghost in_range: { (c : coord.Coord) → c ≢ coords.Locale → number_at numbers c ≤ greatest_of_device c },
     ghost with_density: { 1 ≤ number_at numbers coords.Density },
+    ghost with_locale: { IsGiven (device_locale numbers) },
 }
 
 impl Device {
@@ -27,7 +30,7 @@ impl Device {
     ghost use Rattle.contract_words.specs.Exact.{GivesOr};
     ghost use Rattle.config_record.specs.declared.fields.DeviceFault.TheVariants.{OutOfMemory};
     ghost use Rattle.config_record.specs.ComparedNumber.{device_number};
-    ghost use Rattle.config_record.specs.Device.{device_with, device_in, device_locale, device_coordinate};
+    ghost use Rattle.config_record.specs.Device.{device_with, device_in, device_coordinate};
     ghost use Rattle.config_record.specs.DeviceJson.{device_in_json};
     ghost use Rattle.config_record.specs.DeviceSeen.{device_numbers, seen};
 
@@ -59,10 +62,11 @@ impl Device {
         asked: &[u64; 25],
         locale: Result<Locale, LocaleFault>,
     ) -> Result<Device, DeviceFault>
+        requires { IfOk locale (λ locale. IsGiven locale) }
         ensures { seen result ≡ device_with asked.now locale }
     {
         let mut numbers = [0; 25];
-        fill_numbers(asked, locale, &Coord::ALL, &mut numbers)?;
+        fill_numbers(asked, locale_number_in(locale), &Coord::ALL, &mut numbers)?;
         Ok(Device { numbers })
     }
 
@@ -79,18 +83,20 @@ impl Device {
     }
 
     /// The number that is compared with that of a record: the one of a coordinate, or of the four bytes
-    /// of the locale, language first.
+    /// of the locale, language first. A locale without a language is none at all.
     pub fn compared_number(&self, coord: Coord) -> u32
         ensures value { result ≡ device_number (device_numbers self.now) coord }
         ensures within { coord ≢ coords.Locale → result ≤ greatest_of_device coord }
         ensures with_density { coord ≡ coords.Density → 1 ≤ result }
+        ensures with_language { coord ≡ coords.Locale → result < 65536 → result ≡ 0 }
     {
         self.numbers[coord.place()]
     }
 
     /// Its language and region; each may be missing.
     pub fn locale(&self) -> Locale
-        ensures { result ≡ device_locale (device_numbers self.now) }
+        ensures value { result ≡ device_locale (device_numbers self.now) }
+        ensures given { IsGiven result }
     {
         Locale::of_number(self.compared_number(Coord::Locale))
     }

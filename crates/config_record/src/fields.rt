@@ -1,8 +1,10 @@
 //! What a device is asked to be, and the check of it, coordinate by coordinate.
 
-ghost use Rattle.std.specs.Prelude.{◌≡◌, length};
+ghost use Rattle.std.specs.Prelude.{◌≡◌, length, IfOk};
 ghost use Rattle.config_record.specs.EachNumber.{each_number, filled};
 ghost use Rattle.config_record.specs.Device.{density_in, locale_number_in, field_in, number_in};
+ghost use Rattle.config_record.specs.ComparedNumber.{locale_of_number};
+ghost use Rattle.config_record.specs.Locale.{IsGiven};
 
 use crate::coord::Coord;
 use crate::locale::{Locale, LocaleFault};
@@ -40,11 +42,12 @@ pub enum DeviceFault {
     OutOfMemory,
 }
 
-/// The numbers of a device at these coordinates, or the first fault.
+/// The numbers of a device at these coordinates, or the first fault; `locale` is the number at the locale, or
+/// its fault.
 #[tactic(auto, using(crate::proofs::EachNumberSteps::fill_steps))]
 pub(crate) fn fill_numbers(
     asked: &[u64; 25],
-    locale: Result<Locale, LocaleFault>,
+    locale: Result<u32, DeviceFault>,
     coords: &[Coord],
     numbers: &mut [u32],
 ) -> Result<(), DeviceFault>
@@ -60,20 +63,22 @@ pub(crate) fn fill_numbers(
 #[tactic(auto, unfolding(crate::specs::Device::number_in))]
 fn number_in(
     asked: &[u64; 25],
-    locale: Result<Locale, LocaleFault>,
+    locale: Result<u32, DeviceFault>,
     coord: Coord,
 ) -> Result<u32, DeviceFault>
     ensures { result ≡ number_in asked.now locale coord }
 {
     match coord {
-        Coord::Locale => locale_number_in(locale),
+        Coord::Locale => locale,
         Coord::Density => density_in(asked[coord.place()]),
         _ => field_in(coord, asked[coord.place()]),
     }
 }
 
-fn locale_number_in(locale: Result<Locale, LocaleFault>) -> Result<u32, DeviceFault>
-    ensures { result ≡ locale_number_in locale }
+/// The number of a locale, or why there is none.
+pub(crate) fn locale_number_in(locale: Result<Locale, LocaleFault>) -> Result<u32, DeviceFault>
+    ensures value { result ≡ locale_number_in locale }
+    ensures given { IfOk locale (λ locale. IsGiven locale) → IfOk result (λ number. IsGiven (locale_of_number number)) }
 {
     match locale {
         Ok(locale) => Ok(locale.number()),

@@ -2,7 +2,7 @@
 
 ghost use Rattle.std.specs.Prelude.{◌≡◌, ◌≢◌, ℕ, ◌<◌, ◌≤◌, ◌+◌, ◌==◌, List, Ok, position, OnOk, IfOk, IfErr};
 ghost use Rattle.contract_words.specs.Writes.{Writes};
-ghost use Rattle.config_record.specs.Locale.{is_small_letter, is_capital_letter, is_digit, packed, language_of, region_of, without_region, with_region, locale_of, symbol_bytes, unpacked, is_spelled, checked_locale, locale_text};
+ghost use Rattle.config_record.specs.Locale.{is_small_letter, is_capital_letter, is_digit, packed, language_of, region_of, without_region, with_region, locale_of, symbol_bytes, unpacked, is_spelled, checked_locale, IsGiven, locale_text};
 ghost use Rattle.config_record.specs.ComparedNumber.{locale_number, locale_of_number};
 
 use crate::zero::is_zero;
@@ -43,10 +43,11 @@ impl Locale {
 
     /// The locale of a text: of `""`, of two or three small letters, or of these, a dash, and two
     /// capital letters or three digits.
-    #[tactic(auto, using(crate::proofs::LocaleLemmas::printed_back))]
+    #[tactic(auto, using(crate::proofs::LocaleLemmas::printed_back, crate::proofs::LocaleLemmas::read_given))]
     pub fn read(text: &str) -> Result<Locale, LocaleFault>
         ensures value { result ≡ locale_of text.now }
         ensures printed_back { IfOk result (λ locale. locale_text locale ≡ text.now) }
+        ensures given { IfOk result (λ locale. IsGiven locale) }
     {
         locale_of(text.as_bytes())
     }
@@ -55,6 +56,7 @@ impl Locale {
     #[tactic(auto, unfolding(crate::specs::Locale::checked_locale))]
     pub(crate) fn of_bytes(language: [u8; 2], region: [u8; 2]) -> Result<Locale, LocaleFault>
         ensures value { result ≡ checked_locale (record { language = language; region = region }) }
+        ensures passes { IfOk result (λ locale. IsGiven locale) }
         ensures given { IfOk result (λ locale. locale_of (locale_text locale) ≡ Ok locale) }
         ensures not_given { IfErr result (λ _. (text : List ℕ) → locale_of text ≢ Ok (record { language = language; region = region })) }
         ensures numbered { IfOk result (λ locale. locale_of_number (locale_number locale) ≡ locale) }
@@ -73,7 +75,8 @@ impl Locale {
     /// The number of the four bytes, language first.
     #[tactic(auto, unfolding(crate::specs::ComparedNumber::locale_number))]
     pub(crate) fn number(self) -> u32
-        ensures { result ≡ locale_number self }
+        ensures value { result ≡ locale_number self }
+        ensures back { locale_of_number result ≡ self }
     {
         let Locale {
             language: [a, b],

@@ -1,0 +1,14 @@
+use Rattle.std.proofs.Common.{rules}
+use Rattle.config_record.specs.declared.coord.Coord.TheVariants as coords
+use Rattle.config_record.specs.ComparedNumber.{device_number}
+use Rattle.config_record.specs.DeviceSeen.{device_numbers}
+use Rattle.config_record.specs.Record.{record_bytes}
+use Rattle.config_record.proofs.LocaleGiven.{no_language}
+use Rattle.config_match.proofs.RegionAlone.{region_alone}
+use Rattle.config_match.proofs.matching.matches.Goals as goal
+
+pub returns-then-not-set_aside-clause-region_alone : goal.returns-then-not-set_aside-clause-region_alone
+returns-then-not-set_aside-clause-region_alone c = λ alone.
+    let whole = no_language (device_number (device_numbers c.args.device.now) coords.Locale) c.args.device.now.with_locale in
+    let fails = region_alone (record_bytes c.args.stored.now) (device_numbers c.args.device.now) alone whole in
+    search (rules, fails)
