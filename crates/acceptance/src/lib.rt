@@ -11,6 +11,12 @@ mod hostile;
 #[cfg(test)]
 mod rows;
 #[cfg(test)]
+mod rows_by_id;
+#[cfg(test)]
+mod selection;
+#[cfg(test)]
+mod stack;
+#[cfg(test)]
 mod table_a;
 #[cfg(test)]
 mod table_b;

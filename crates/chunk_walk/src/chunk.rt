@@ -41,6 +41,7 @@ pub struct Chunk<'a> {
     /// Header and body.
     pub whole: &'a [u8],
     ghost in_range: { place + length whole.now < 2 ^ 63 },
+    ghost small: { length whole.now < 2 ^ 32 },
     ghost parts: { whole.now ≡ header.now ++ body.now },
     ghost has_header: { 8 ≤ length header.now },
 }

@@ -52,7 +52,7 @@ impl<'a> Chunk<'a> {
     pub fn children(&self) -> Chunks<'a>
         ensures chunks { result ≡ children_of (chunk_of self.now) }
         // A chunk has eight bytes at least.
-        ensures few { length result < 2 ^ 60 }
+        ensures few { length result < 2 ^ 29 }
     {
         Chunks {
             place: self.place + self.header.len(),

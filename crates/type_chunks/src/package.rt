@@ -1,6 +1,7 @@
 //! Packages.
 
-ghost use Rattle.std.specs.Prelude.{◌≡◌, ◌<◌, ◌^◌, length};
+ghost use Rattle.std.specs.Prelude.{◌≡◌, ◌<◌, ◌^◌, length, slice_get};
+ghost use Rattle.std.specs.Option.{option_map};
 
 use crate::fault::TableFault;
 use crate::layout::package_header as header;
@@ -30,7 +31,7 @@ impl<'a> Package<'a> {
     ghost use Rattle.contract_words.specs.Exact.{GivesOr};
     ghost use Rattle.string_pool.specs.Text.{text_of};
     ghost use Rattle.type_chunks.specs.declared.fault.TableFault.TheVariants.{OutOfMemory};
-    ghost use Rattle.type_chunks.specs.Row.{views_of};
+    ghost use Rattle.type_chunks.specs.Row.{row_of, views_of};
     ghost use Rattle.type_chunks.specs.Package.{package_of, package_in};
 
     /// The package that a chunk is; `index` packages stand before it.
@@ -82,5 +83,12 @@ impl<'a> Package<'a> {
         ensures { result ≡ (package_of self.now).rows }
     {
         PackageRows::new(&self.rows)
+    }
+
+    /// The row at a place among its rows, in constant time.
+    pub fn row(&self, place: usize) -> Option<Row<'a>>
+        ensures { option_map row_of result ≡ slice_get (package_of self.now).rows place }
+    {
+        self.rows.get(place).copied()
     }
 }

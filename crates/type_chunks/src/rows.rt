@@ -1,6 +1,6 @@
 //! The rows of a table, one after the other.
 
-ghost use Rattle.std.specs.Prelude.{◌≡◌, ◌<◌, ◌^◌, length};
+ghost use Rattle.std.specs.Prelude.{◌≡◌, ◌*◌, ◌≤◌, ◌^◌, length};
 ghost use Rattle.std.specs.Iterator.{YieldsFirstBy};
 ghost use Rattle.type_chunks.specs.Row.{row_of};
 ghost use Rattle.type_chunks.specs.LeftRows.{left_rows};
@@ -78,7 +78,7 @@ impl<'t, 'a> AllRows<'t, 'a> {
     #[tactic(auto, using(crate::proofs::RowsSteps::rows_steps))]
     pub(crate) fn new(packages: &'t [Package<'a>]) -> Self
         ensures rows { result ≡ rows_of_packages (packages_of packages.now) }
-        ensures few { length result < 2 ^ 126 }
+        ensures few { length result ≤ length packages.now * 2 ^ 63 }
     {
         AllRows {
             left: None,

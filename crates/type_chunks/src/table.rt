@@ -30,6 +30,7 @@ use string_pool::Pool;
 pub struct Table<'a> {
     packages: Vec<Package<'a>>,
     strings: Pool<'a>,
+    ghost few: { length packages.items < 2 ^ 29 },
 }
 
 impl<'a> Model for Table<'a> {
@@ -88,7 +89,8 @@ impl<'a> Table<'a> {
     /// All rows, in the order of the file.
     pub fn all_rows(&self) -> AllRows<'_, 'a>
         ensures rows { result ≡ rows_of self.now }
-        ensures few { length result < 2 ^ 126 }
+        // A chunk is shorter than 4 GiB, so it holds few packages.
+        ensures few { length result < 2 ^ 92 }
     {
         AllRows::new(&self.packages)
     }
@@ -113,6 +115,7 @@ fn push_child<'a>(
     ensures known { (before : List (Result ChunkOf ChunkFault)) → KnowsChildren known.old before
         → OnOk result (KnowsChildren known.new (seen found.entry ∷ before)) }
     ensures one { known.new.packages ≤ known.old.packages + 1 }
+    ensures one_package { length packages.new.items ≤ length packages.old.items + 1 }
     ensures packages { (before : List (Result ChunkOf ChunkFault)) → KnowsChildren known.old before
         → Pushes OutOfMemory (packages_of packages.old.items) (packages_of packages.new.items) result (packages_of_child (before, seen found.entry)) }
 {

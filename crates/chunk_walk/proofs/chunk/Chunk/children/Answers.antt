@@ -12,4 +12,4 @@ pub returns-clause-few : goal.returns-clause-few
 returns-clause-few c =
     let sizes : length c.args.self.now.whole.now ≡ length c.args.self.now.header.now + length c.args.self.now.body.now =
     ap (λ (t : List ℕ). length t) c.args.self.now.parts ∙ length-append c.args.self.now.header.now c.args.self.now.body.now in
-    omega (arith, c.args.self.now.in_range, length-chunks_of (c.args.self.now.place + length c.args.self.now.header.now) c.args.self.now.body.now)
+    omega (arith, c.args.self.now.small, length-chunks_of (c.args.self.now.place + length c.args.self.now.header.now) c.args.self.now.body.now)

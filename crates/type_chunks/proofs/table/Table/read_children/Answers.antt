@@ -12,6 +12,7 @@ loop-found-preserved c =
       can = tt;
       ends = tt;
       few = grind (arith, common_steps, c.in-Some.ensures.steps, c.loop-found.invariant.few, c.in_ok-push_child.ensures.one);
+      fits = grind (arith, common_steps, c.in-Some.ensures.steps, c.loop-found.invariant.fits, c.in_ok-push_child.ensures.one_package);
       read = ReadsKnowing-next _ _ _ _ _ _ _ _ _ _ _ so_far c.in-Some.ensures.steps (c.in_ok-push_child.ensures.known so_far.before so_far.known) (c.in_ok-push_child.ensures.packages so_far.before so_far.known);
     }
 

@@ -14,6 +14,7 @@ invariant-loop-found l = record {
   can : (goal.iterator-loop-found).can_next l.found-iterator;
   ends : (goal.iterator-loop-found).is_finite l.found-iterator;
   few : l.known.packages + length l.found-iterator < 2 ^ 60;
+  fits : length l.packages.items + length l.found-iterator < 2 ^ 29;
   read : ReadsKnowing (λ known before. KnowsChildren known before) packages_of_child l.known (packages_of l.packages.items) (children_of (chunk_of l.table)) l.found-iterator
       (with_front [] (packages_of_children (chunk_of l.table)));
 }

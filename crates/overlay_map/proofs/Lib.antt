@@ -1,0 +1,3 @@
+pub mod LookSteps
+pub mod PairSteps
+pub mod EntrySteps

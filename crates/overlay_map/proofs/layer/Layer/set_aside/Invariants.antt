@@ -1,0 +1,13 @@
+use Rattle.std.proofs.Common.{◌≡◌, ◌+◌, ◌^◌, ◌<◌, length, count_by}
+use Rattle.config_record.specs.Record.{is_set_aside}
+use Rattle.overlay_map.specs.SetAside.{set_aside_in}
+use Rattle.overlay_map.proofs.layer.Layer.set_aside.Given as goal
+
+-- the count so far and those of the rows that are left are all
+abbrev pub invariant-loop-row : goal.invariant-loop-row
+invariant-loop-row l = record {
+  can : (goal.iterator-loop-row).can_next l.row-iterator;
+  ends : (goal.iterator-loop-row).is_finite l.row-iterator;
+  all : l.count + count_by (λ row. is_set_aside row.config) l.row-iterator ≡ set_aside_in l.self.table;
+  few : l.count + length l.row-iterator < 2 ^ 92;
+}

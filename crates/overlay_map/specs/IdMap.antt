@@ -1,0 +1,84 @@
+-- Id maps: which id of an overlay stands for an id of the stack.
+use Rattle.std.specs.Prelude.{ℕ, not, List, [], ◌∷◌, map, ◌==◌, Option, Some, None, option_and_then, ok_or, Result, Ok, if◌then◌else◌}
+use Rattle.std.specs.List.{list_any}
+use Rattle.contract_words.specs.Faults.{◌>>=◌, refuse}
+use Rattle.contract_words.specs.Sequences.{with_front, joined_each, with_before}
+use Rattle.serde_json.specs.Data.{Data, Items, no_items, item}
+use Rattle.serde_json.specs.Find.{as_array}
+use Rattle.json_input.specs.Json.{value_of}
+use Rattle.json_input.specs.Shape.{text_of}
+use Rattle.res_value.specs.declared.res_id.ResId.{ResId}
+use Rattle.res_value.specs.ResId.{id_of, package_of}
+use Rattle.overlay_map.specs.declared.map_fault.MapFault.{MapFault}
+use Rattle.overlay_map.specs.declared.map_fault.MapFault.TheVariants.{Syntax, Shape, Repeated, OtherPackage}
+
+-- pairs of a target and the overlay's id that stands for it, in the order of the text; no target twice
+abbrev pub MapOf : Type 0
+MapOf = List (ℕ × ℕ)
+
+-- the id that stands for a target, none where the map has no such target
+unfoldable pub look_of : MapOf → ℕ → Option ℕ
+look_of [] target = None
+look_of (pair ∷ pairs) target = if pair.0 == target then Some pair.1 else look_of pairs target
+
+-- a target and the overlay's id, as ids
+abbrev pub IdPair : Type 0
+IdPair = ResId × ResId
+
+-- the numbers of pairs
+abbrev pub pairs_of : List IdPair → MapOf
+pairs_of pairs = map (λ pair. (pair.0.0, pair.1.0)) pairs
+
+-- ---- the shape: a list of pairs of ids
+
+-- the id of a value: that of a text which spells one
+abbrev pub id_in : Data → Option ResId
+id_in value = option_and_then id_of (text_of value)
+
+abbrev both : Option ResId → Option ResId → Option IdPair
+both (Some target) (Some own) = Some (target, own)
+both (Some target) None = None
+both None own = None
+
+abbrev pub pair_of_items : Items → Option IdPair
+pair_of_items (item target (item own no_items)) = both (id_in target) (id_in own)
+pair_of_items _ = None
+
+-- a list of two ids
+abbrev pub pair_in : Data → Option IdPair
+pair_in value = option_and_then pair_of_items (as_array value)
+
+-- each item is a pair
+unfoldable pub pairs_of_items : Items → Result (List IdPair) MapFault
+pairs_of_items no_items = Ok []
+pairs_of_items (item value items) = do
+  pair ← ok_or (pair_in value) Shape
+  with_front (pair ∷ []) (pairs_of_items items)
+
+unfoldable pub pairs_in : Data → Result (List IdPair) MapFault
+pairs_in value = ok_or (as_array value) Shape >>= pairs_of_items
+
+-- ---- the pairs, one after the other
+
+-- A target, with the pairs before it: it has to be new, and of the first pair's package.
+unfoldable pub check_target : ℕ → List IdPair → ResId → Result (Unit {0}) MapFault
+check_target first_package before target = do
+  _ ← refuse (list_any (λ other. target.0 == other.0.0) before) (Repeated target)
+  refuse (not (package_of target == first_package)) (OtherPackage target)
+
+-- a pair, with the pairs before it, of which the nearest stands first
+unfoldable pub checked_pair : ℕ → (List IdPair × IdPair) → Result (List IdPair) MapFault
+checked_pair first_package (before, pair) = check_target first_package before pair.0 >>= λ _. Ok (pair ∷ [])
+
+unfoldable pub checked_pairs : List IdPair → Result (List IdPair) MapFault
+checked_pairs [] = Ok []
+checked_pairs (first ∷ pairs) = joined_each (checked_pair (package_of first.0)) (with_before [] (first ∷ pairs))
+
+-- ---- the map of a JSON text, or its first fault: that of the text, of the shape, of a pair
+
+abbrev pub map_in : List ℕ → Result MapOf MapFault
+map_in json = do
+  value ← ok_or (value_of json) Syntax
+  pairs ← pairs_in value
+  checked ← checked_pairs pairs
+  Ok (pairs_of checked)

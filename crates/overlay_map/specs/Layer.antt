@@ -1,0 +1,32 @@
+-- Layers of a stack, the later over the earlier.
+use Rattle.std.specs.Prelude.{ℕ, List, [], Option, Some, None}
+use Rattle.type_chunks.specs.Row.{RowOf, with_id}
+use Rattle.type_chunks.specs.Table.{TableOf, rows_of}
+use Rattle.overlay_map.specs.IdMap.{MapOf, look_of}
+
+-- A layer, without where it lies in memory: a table, as a base or as an overlay with its id map.
+pub record LayerOf : Type 0 where
+  pub table : TableOf
+  -- none at a base
+  pub map : Option MapOf
+
+-- a stack has no more layers than these
+abbrev pub most_layers : ℕ
+most_layers = 64
+
+abbrev id_by : Option MapOf → ℕ → Option ℕ
+id_by None id = Some id
+id_by (Some map) id = look_of map id
+
+-- The id under which a layer has the rows that stand for this one: the same in a base, that of the map in
+-- an overlay.
+abbrev pub own_id : LayerOf → ℕ → Option ℕ
+own_id layer id = id_by layer.map id
+
+abbrev rows_with : TableOf → Option ℕ → List RowOf
+rows_with table None = []
+rows_with table (Some id) = with_id id (rows_of table)
+
+-- the rows of a layer that stand for an id, in the order of the file
+abbrev pub rows_for : LayerOf → ℕ → List RowOf
+rows_for layer id = rows_with layer.table (own_id layer id)

@@ -1,0 +1,6 @@
+pub mod IdMap
+pub mod Layer
+pub mod Candidates
+pub mod LeftCandidates
+pub mod Pushing
+pub mod SetAside

@@ -1,0 +1,59 @@
+//! Layers.
+
+ghost use Rattle.std.specs.Prelude.{◌≡◌, ◌<◌, ◌^◌, is_some};
+ghost use Rattle.std.specs.Option.{option_map};
+ghost use Rattle.overlay_map.specs.Layer.{own_id};
+ghost use Rattle.overlay_map.specs.SetAside.{set_aside_in};
+
+use crate::id_map::IdMap;
+use res_value::ResId;
+use row_index::IndexedTable;
+use std::marker::Model;
+
+/// A table in a stack, as a base or as an overlay.
+#[derive(Drop)]
+pub(crate) struct Layer<'a> {
+    pub table: IndexedTable<'a>,
+    /// None at a base.
+    pub map: Option<IdMap>,
+}
+
+impl<'a> Model for Layer<'a> {
+    ghost use Rattle.overlay_map.specs.Layer.{LayerOf};
+
+    ghost Value = { LayerOf };
+
+    ghost view = { λ layer. record { table = layer.table; map = layer.map } };
+}
+
+impl<'a> Layer<'a> {
+    pub fn is_overlay(&self) -> bool
+        ensures { result ≡ is_some self.now.map }
+    {
+        self.map.is_some()
+    }
+
+    /// The id under which its table has the rows that stand for an id of the stack.
+    pub fn own_id(&self, id: ResId) -> Option<ResId>
+        ensures { option_map (λ own. own.0) result ≡ own_id self.now id.0 }
+    {
+        match &self.map {
+            Some(map) => map.look(id),
+            None => Some(id),
+        }
+    }
+
+    /// How many rows of its table are set aside.
+    pub fn set_aside(&self) -> u128
+        ensures count { result ≡ set_aside_in self.now.table }
+        ensures few { result < 2 ^ 92 }
+    {
+        let mut count = 0;
+        for row in self.table.table().all_rows() {
+            if row.config.set_aside() {
+                count += 1;
+            }
+        }
+        count
+    }
+}

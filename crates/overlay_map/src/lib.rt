@@ -1,0 +1,38 @@
+//! Stacks of tables. A layer is the table of an app, or that of an overlay; then an id map says which of its
+//! ids stand for which of the stack's. The rows that may stand for an id are its candidates.
+//!
+//! For the crates above: a `Stack` is the list of its layers, at most 64, the later over the earlier;
+//! `candidates(id)` are the rows that may stand for an id, layer by layer and in the order of each file;
+//! an `IdMap` is the list of pairs that its JSON text means, and `look` gives the id of a target.
+//!
+//! ```text
+//! let mut stack = Stack::new(alloc);
+//! if let Err((fault, table)) = stack.push_base(table) {
+//!     // the stack is as it was, and the table is back
+//! }
+//! if let Err((fault, table, map)) = stack.push_overlay(overlay, map) {
+//!     // so is the overlay's, with its id map
+//! }
+//! for candidate in stack.candidates(ResId(0x7f010000)) {
+//!     println!(rt; "layer {}", candidate.layer)?;
+//! }
+//! ```
+#![tactic(auto)]
+
+mod candidate;
+mod candidates;
+mod id_map;
+mod layer;
+mod map_fault;
+mod pairs;
+mod stack;
+mod stack_fault;
+#[cfg(test)]
+mod tests;
+
+pub use candidate::Cand;
+pub use candidates::Cands;
+pub use id_map::IdMap;
+pub use map_fault::MapFault;
+pub use stack::Stack;
+pub use stack_fault::StackFault;

@@ -1,0 +1,36 @@
+//! Why an id map is refused.
+
+ghost use Rattle.std.specs.Prelude.{◌≡◌};
+ghost use Rattle.overlay_map.specs.declared.map_fault.MapFault.TheVariants.{OutOfMemory};
+
+use res_value::ResId;
+use std::alloc::AllocFailed;
+use thiserror::Error;
+
+/// Why no id map was read. A text is first read, then its shape is looked at; then the pairs are checked
+/// in their order, and the first fault is named.
+#[derive(Clone, Copy, Debug, PartialEq, Eq, Error)]
+pub enum MapFault {
+    /// The bytes are no JSON text that `serde_json` reads.
+    #[error("Syntax")]
+    Syntax,
+    /// The value is no list of pairs of ids.
+    #[error("Shape")]
+    Shape,
+    /// This target stands in an earlier pair too.
+    #[error("Repeated {:#010x}", .0.0)]
+    Repeated(ResId),
+    /// This target is of another package than the first pair's.
+    #[error("OtherPackage {:#010x}", .0.0)]
+    OtherPackage(ResId),
+    #[error("OutOfMemory")]
+    OutOfMemory,
+}
+
+impl<T: Drop> From<AllocFailed<T>> for MapFault {
+    ghost from_gives = { λ _ e. e ≡ OutOfMemory };
+
+    fn from(_error: AllocFailed<T>) -> MapFault {
+        MapFault::OutOfMemory
+    }
+}

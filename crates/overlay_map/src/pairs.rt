@@ -1,0 +1,53 @@
+//! The pairs of ids that a JSON value is.
+
+ghost use Rattle.std.specs.Prelude.{◌≡◌};
+ghost use Rattle.serde_json.specs.View.{view, items_view};
+ghost use Rattle.contract_words.specs.Exact.{GivesOr};
+ghost use Rattle.overlay_map.specs.IdMap.{id_in, pair_in, pairs_of_items, pairs_in};
+ghost use Rattle.overlay_map.specs.declared.map_fault.MapFault.TheVariants.{OutOfMemory};
+
+use crate::map_fault::MapFault;
+use res_value::ResId;
+use serde_json::Value;
+use std::alloc::Global;
+
+/// The pairs of a list, each a target and the overlay's id.
+#[tactic(auto, unfolding(crate::specs::IdMap::pairs_in))]
+pub(crate) fn pairs_in(alloc: Global, value: &Value) -> Result<Vec<(ResId, ResId)>, MapFault>
+    ensures { GivesOr OutOfMemory (λ pairs. pairs.items) result (pairs_in (view value.now)) }
+{
+    match value.as_array() {
+        Some(items) => pairs_of_items(alloc, items),
+        None => Err(MapFault::Shape),
+    }
+}
+
+fn pairs_of_items(alloc: Global, items: &[Value]) -> Result<Vec<(ResId, ResId)>, MapFault>
+    ensures { GivesOr OutOfMemory (λ pairs. pairs.items) result (pairs_of_items (items_view items.now)) }
+{
+    let mut pairs = Vec::new(alloc);
+    for item in items {
+        let Some(pair) = pair_in(item) else {
+            return Err(MapFault::Shape);
+        };
+        pairs.push(pair)?;
+    }
+    Ok(pairs)
+}
+
+// The pair that a list of two ids is.
+fn pair_in(value: &Value) -> Option<(ResId, ResId)>
+    ensures { result ≡ pair_in (view value.now) }
+{
+    let items = value.as_array()?;
+    let [target, own] = items.as_slice() else {
+        return None;
+    };
+    Some((id_in(target)?, id_in(own)?))
+}
+
+fn id_in(value: &Value) -> Option<ResId>
+    ensures { result ≡ id_in (view value.now) }
+{
+    value.as_str().and_then(ResId::read)
+}

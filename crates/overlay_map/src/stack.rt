@@ -1,0 +1,166 @@
+//! Stacks.
+
+ghost use Rattle.std.specs.Prelude.{◌≡◌, ◌≤◌, ◌<◌, [], ◌∷◌, ◌++◌, length, slice_get, vec_len, vec_capacity, nat_eq, OnOk, IfErr};
+ghost use Rattle.std.specs.Option.{option_map};
+ghost use Rattle.overlay_map.specs.Layer.{most_layers};
+ghost use Rattle.overlay_map.specs.Pushing.{RefusesLayer, PushesLayer, base_of, overlay_of};
+ghost use Rattle.overlay_map.specs.SetAside.{set_aside_count};
+ghost use Rattle.overlay_map.specs.Candidates.{candidates_of};
+
+use crate::candidates::Cands;
+use crate::id_map::IdMap;
+use crate::layer::Layer;
+use crate::stack_fault::StackFault;
+use res_value::ResId;
+use row_index::IndexedTable;
+use std::alloc::Global;
+use std::marker::Model;
+use type_chunks::Table;
+
+/// A stack has no more layers.
+const MOST_LAYERS: usize = 64;
+
+/// Layers, the later over the earlier (AOSP: the packages of a `ResTable`, each with the tables that were
+/// added to it). Contracts see them as a list.
+#[derive(Drop)]
+pub struct Stack<'a> {
+    layers: Vec<Layer<'a>>,
+    ghost few: { vec_len layers ≤ most_layers },
+}
+
+impl<'a> Model for Stack<'a> {
+    ghost use Rattle.std.specs.Prelude.{List};
+    ghost use Rattle.overlay_map.specs.Layer.{LayerOf};
+
+    ghost Value = { List LayerOf };
+
+    ghost view = { λ stack. stack.layers.items };
+}
+
+impl<'a> Stack<'a> {
+    /// A stack without layers. What is pushed later takes its memory from `alloc`.
+    pub fn new(alloc: Global) -> Stack<'a>
+        ensures { result ≡ [] }
+    {
+        Stack {
+            layers: Vec::new(alloc),
+        }
+    }
+
+    /// Puts a table over all layers, as a base. Where 64 layers stand or memory runs out, the stack is
+    /// unchanged and the table is handed back.
+    pub fn push_base(&mut self, table: Table<'a>) -> Result<(), (StackFault, Table<'a>)>
+        ensures pushed { PushesLayer (λ refused. refused.0) (base_of table.entry) self.old self.new result }
+        ensures back { IfErr result (λ refused. refused.1 ≡ table.entry) }
+    {
+        if let Err(fault) = make_room(&mut self.layers) {
+            return Err((fault, table));
+        }
+        match IndexedTable::new(*self.layers.allocator(), table) {
+            Ok(table) => {
+                push_layer(&mut self.layers, Layer { table, map: None });
+                Ok(())
+            }
+            Err(table) => Err((StackFault::OutOfMemory, table)),
+        }
+    }
+
+    /// Puts a table over all layers, as an overlay with its id map. Where 64 layers stand or memory runs
+    /// out, the stack is unchanged and both are handed back.
+    pub fn push_overlay(
+        &mut self,
+        table: Table<'a>,
+        map: IdMap,
+    ) -> Result<(), (StackFault, Table<'a>, IdMap)>
+        ensures pushed { PushesLayer (λ refused. refused.0) (overlay_of table.entry map) self.old self.new result }
+        ensures back { IfErr result (λ refused. (refused.1 ≡ table.entry) × (refused.2 ≡ map)) }
+    {
+        if let Err(fault) = make_room(&mut self.layers) {
+            return Err((fault, table, map));
+        }
+        match IndexedTable::new(*self.layers.allocator(), table) {
+            Ok(table) => {
+                push_layer(
+                    &mut self.layers,
+                    Layer {
+                        table,
+                        map: Some(map),
+                    },
+                );
+                Ok(())
+            }
+            Err(table) => Err((StackFault::OutOfMemory, table, map)),
+        }
+    }
+
+    /// How many layers it has, 64 at most.
+    pub fn len(&self) -> usize
+        ensures value { result ≡ length self.now }
+        ensures few { result ≤ most_layers }
+    {
+        self.layers.len()
+    }
+
+    pub fn is_empty(&self) -> bool
+        ensures { result ≡ nat_eq (length self.now) 0 }
+    {
+        self.layers.is_empty()
+    }
+
+    /// The table of the layer at a place, counted from 0.
+    pub fn layer_table(&self, place: usize) -> Option<&Table<'a>>
+        ensures { option_map (λ table. table.now) result ≡ option_map (λ layer. layer.table) (slice_get self.now place) }
+    {
+        match self.layers.get(place) {
+            Some(layer) => Some(layer.table.table()),
+            None => None,
+        }
+    }
+
+    /// How many rows of all layers are set aside: their locale has a script or a variant, and they match
+    /// no device.
+    #[tactic(auto, unfolding(crate::specs::SetAside::set_aside_count))]
+    pub fn set_aside(&self) -> u128
+        ensures { result ≡ set_aside_count self.now }
+    {
+        let mut count = 0;
+        for layer in &self.layers {
+            count += layer.set_aside();
+        }
+        count
+    }
+
+    /// The rows that may stand for an id, layer by layer and in the order of each file: those of the id in
+    /// a base, and in an overlay those of the id that its map gives, none where it gives none.
+    #[tactic(auto, unfolding(crate::specs::Candidates::candidates_of))]
+    pub fn candidates(&self, id: ResId) -> Cands<'_, 'a>
+        ensures { result ≡ candidates_of self.now id.0 }
+    {
+        Cands::new(&self.layers, id)
+    }
+}
+
+// Makes room for one layer more, where one may stand.
+fn make_room(layers: &mut Vec<Layer<'_>>) -> Result<(), StackFault>
+    requires { length layers.old.items ≤ most_layers }
+    ensures same { layers.new.items ≡ layers.old.items }
+    ensures room { OnOk result (vec_len layers.new < vec_capacity layers.new) }
+    ensures below { OnOk result (length layers.old.items < most_layers) }
+    ensures refused { IfErr result (RefusesLayer layers.old.items layers.new.items) }
+{
+    if layers.len() == MOST_LAYERS {
+        return Err(StackFault::TooManyLayers);
+    }
+    layers.reserve(1)?;
+    Ok(())
+}
+
+// Pushes a layer, for which there is room.
+fn push_layer<'a>(layers: &mut Vec<Layer<'a>>, layer: Layer<'a>)
+    requires { vec_len layers.old < vec_capacity layers.old }
+    ensures { layers.new.items ≡ layers.old.items ++ layer.entry ∷ [] }
+{
+    let Ok(()) = layers.push(layer) else {
+        unreachable!()
+    };
+}

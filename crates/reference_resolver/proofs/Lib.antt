@@ -1,0 +1,5 @@
+pub mod Places
+pub mod Reordering
+pub mod Best
+pub mod AnyOrder
+pub mod Chains

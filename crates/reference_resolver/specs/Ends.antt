@@ -1,0 +1,73 @@
+-- Where a chain of references ends (AOSP: ResTable::resolveReference). An id is looked up by selection; what it
+-- selects is a reference to the next id, or the end.
+use Rattle.std.specs.Prelude.{ℕ, zero, suc, ◌≡◌, ◌≤◌, ◌⊎◌, ◌==◌, Bool, ◌&&◌, not, List, [], ◌∷◌, length, Option, Some, None, if◌then◌else◌}
+use Rattle.res_value.specs.declared.res_id.ResId.{ResId}
+use Rattle.res_value.specs.declared.value.Value.{Value}
+use Rattle.res_value.specs.Cell.{CellOf, PlainOf, BagOf}
+use Rattle.overlay_map.specs.Layer.{LayerOf}
+use Rattle.overlay_map.specs.Candidates.{CandOf}
+use Rattle.reference_resolver.specs.declared.end.End.{End}
+use Rattle.reference_resolver.specs.declared.end.End.TheVariants as ends
+use Rattle.reference_resolver.specs.declared.next.Next.{Next}
+use Rattle.reference_resolver.specs.declared.next.Next.TheVariants.{LookUp, EndsAt}
+use Rattle.reference_resolver.specs.Selection.{selected}
+
+-- how many references are followed, at most
+abbrev pub references_followed : ℕ
+references_followed = 0
+
+-- ---- one look-up
+
+-- a value of kind 1 with a word other than 0
+abbrev pub is_reference : Value → Bool
+is_reference value = value.kind == 1 && not (value.word == 0)
+
+-- a reference leads to the id that its word is; any other value, and a bag, is an end
+abbrev next_of_cell : ℕ → ℕ → CellOf → Next
+next_of_cell id layer (PlainOf value) =
+    if is_reference value then LookUp (record { 0 = value.word }) else EndsAt (ends.Value layer value)
+next_of_cell id layer (BagOf parent rows) = EndsAt (ends.Bag (record { 0 = id }))
+
+-- where an id leads of which this is selected
+abbrev pub next_of : ℕ → Option CandOf → Next
+next_of id None = EndsAt (ends.Absent (record { 0 = id }))
+next_of id (Some candidate) = next_of_cell id candidate.layer candidate.row.cell
+
+-- ---- the end, look-up by look-up
+
+abbrev end_by : (ResId → End) → Next → End
+end_by follow (LookUp target) = follow target
+end_by follow (EndsAt end) = end
+
+-- where at most so many references are followed
+abbrev pub end_of : List LayerOf → ℕ → ℕ → List ℕ → End
+end_of stack zero id d = end_by (λ target. ends.TooLong target) (next_of id (selected stack id d))
+end_of stack (suc most) id d = end_by (λ target. end_of stack most target.0 d) (next_of id (selected stack id d))
+
+-- ---- the end of a chain
+
+-- an id selects a reference to another
+abbrev pub RefersTo : List LayerOf → List ℕ → ℕ → ℕ → Type 0
+RefersTo stack d id target = next_of id (selected stack id d) ≡ LookUp (record { 0 = target })
+
+-- an id selects nothing, a bag, or a value that is no reference, and this is the end
+abbrev pub EndsHere : List LayerOf → List ℕ → ℕ → End → Type 0
+EndsHere stack d id end = next_of id (selected stack id d) ≡ EndsAt end
+
+-- each id selects a reference to the next one: the first to the first of these, and so on to the last
+abbrev pub IsChain : List LayerOf → List ℕ → ℕ → List ℕ → ℕ → Type 0
+IsChain stack d first [] last = first ≡ last
+IsChain stack d first (next ∷ ids) last = RefersTo stack d first next × IsChain stack d next ids last
+
+-- There is a chain of at most so many references whose last id ends here, or one of just as many whose last id
+-- selects one reference more.
+abbrev pub Ends : List LayerOf → ℕ → List ℕ → ℕ → End → Type 0
+Ends stack id d most end =
+    (ids : List ℕ) × (last : ℕ) × (length ids ≤ most) × IsChain stack d id ids last
+    × (EndsHere stack d last end
+    ⊎ ((target : ℕ) × (length ids ≡ most) × RefersTo stack d last target × (end ≡ ends.TooLong (record { 0 = target }))))
+
+-- there is one such end, and it is this
+pub record IsTheEnd (stack : List LayerOf) (id : ℕ) (d : List ℕ) (most : ℕ) (end : End) : Type 0 where
+  pub ends : Ends stack id d most end
+  pub only : (other : End) → Ends stack id d most other → other ≡ end

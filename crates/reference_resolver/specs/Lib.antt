@@ -1,0 +1,4 @@
+pub mod Selection
+pub mod Takers
+pub mod OrderLaw
+pub mod Ends

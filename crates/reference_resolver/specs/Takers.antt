@@ -1,0 +1,41 @@
+-- Selection, told of the places of candidates: which of them take over, one after the other, and what it means
+-- that the others do not.
+use Rattle.std.specs.Prelude.{ℕ, ◌≡◌, ◌≤◌, ◌<◌, ◌+◌, Bool, ◌&&◌, List, [], ◌∷◌, Option, Some, None, IsTrue, IsFalse, slice_get, length}
+use Rattle.config_match.specs.Matching.{is_match}
+use Rattle.overlay_map.specs.Candidates.{CandOf}
+use Rattle.reference_resolver.specs.Selection.{beats}
+
+-- a candidate matches, and it beats the last that took over, if one did
+abbrev pub takes_over : Option CandOf → CandOf → List ℕ → Bool
+takes_over None candidate d = is_match candidate.row.config d
+takes_over (Some last) candidate d = is_match candidate.row.config d && beats candidate last d
+
+-- from one place up to another no candidate takes over from the last that did
+abbrev pub ArePassedOver : List CandOf → List ℕ → Option CandOf → ℕ → ℕ → Type 0
+ArePassedOver candidates d last from to =
+    (place : ℕ) (candidate : CandOf) → from ≤ place → place < to → slice_get candidates place ≡ Some candidate
+    → IsFalse (takes_over last candidate d)
+
+-- These are the rising places, from one place on, of all candidates that take over, each from the one before
+-- it, and the first from `last`, if there is one. Those between are passed over.
+abbrev pub AreTakers : List CandOf → List ℕ → Option CandOf → ℕ → List ℕ → Type 0
+AreTakers candidates d last from [] = ArePassedOver candidates d last from (length candidates)
+AreTakers candidates d last from (place ∷ places) =
+    (from ≤ place) × ArePassedOver candidates d last from place
+    × ((taker : CandOf) × (slice_get candidates place ≡ Some taker) × IsTrue (takes_over last taker d)
+    × AreTakers candidates d (Some taker) (place + 1) places)
+
+-- the candidate at the last of the places, where there is one
+abbrev pub last_taker : List CandOf → Option CandOf → List ℕ → Option CandOf
+last_taker candidates last [] = last
+last_taker candidates last (place ∷ places) = last_taker candidates (slice_get candidates place) places
+
+-- it is the last that takes over, none where none does
+abbrev pub IsSelected : List CandOf → List ℕ → Option CandOf → Type 0
+IsSelected candidates d chosen =
+    (places : List ℕ) × AreTakers candidates d None 0 places × (chosen ≡ last_taker candidates None places)
+
+-- there is one such, and it is this
+pub record IsTheSelected (candidates : List CandOf) (d : List ℕ) (chosen : Option CandOf) : Type 0 where
+  pub is : IsSelected candidates d chosen
+  pub only : (other : Option CandOf) → IsSelected candidates d other → other ≡ chosen

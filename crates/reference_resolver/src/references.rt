@@ -1,0 +1,45 @@
+//! Where the references of an id lead.
+
+ghost use Rattle.std.specs.Prelude.{◌≡◌};
+ghost use Rattle.config_record.specs.DeviceSeen.{device_numbers};
+ghost use Rattle.reference_resolver.specs.Ends.{references_followed, end_of, IsTheEnd};
+
+use crate::end::End;
+use crate::next::Next;
+use crate::selection::select;
+use config_record::Device;
+use overlay_map::Stack;
+use res_value::ResId;
+
+// How many references are followed, at most.
+const REFERENCES_FOLLOWED: u8 = 0;
+
+/// Where the references of an id end at a device. No reference is followed: one that is selected ends as
+/// too long.
+pub fn resolve(stack: &Stack<'_>, id: ResId, device: &Device) -> End
+    ensures value { result ≡
+        end_of stack.now references_followed id.0 (device_numbers device.now) }
+    ensures chain { IsTheEnd
+        stack.now id.0 (device_numbers device.now) references_followed result }
+{
+    resolve_within(stack, id, device, REFERENCES_FOLLOWED)
+}
+
+/// Where the references of an id end at a device if at most so many are followed (AOSP:
+/// `ResTable::resolveReference`). An id that selects nothing or a bag is the end, and so is a value that
+/// is no reference. A reference that is met after the last that may be followed ends as too long.
+pub fn resolve_within(stack: &Stack<'_>, id: ResId, device: &Device, most: u8) -> End
+    ensures value { result ≡ end_of stack.now most id.0 (device_numbers device.now) }
+    ensures chain { IsTheEnd stack.now id.0 (device_numbers device.now) most result }
+{
+    let mut id = id;
+    let mut left = most;
+    'chain: loop {
+        match Next::of(id, &select(stack, id, device)) {
+            Next::EndsAt(end) => return end,
+            Next::LookUp(target) if left == 0 => return End::TooLong { id: target },
+            Next::LookUp(target) => id = target,
+        }
+        left -= 1;
+    }
+}

@@ -1,0 +1,65 @@
+//! What a candidate does to the best so far.
+
+ghost use Rattle.std.specs.Prelude.{◌≡◌};
+ghost use Rattle.std.specs.Option.{option_map};
+ghost use Rattle.config_record.specs.DeviceSeen.{device_numbers};
+ghost use Rattle.overlay_map.specs.Candidates.{cand_of};
+ghost use Rattle.reference_resolver.specs.Selection.{beats, beats_best, step_of};
+
+use config_match::matches;
+use config_precedence::{better, same};
+use config_record::Device;
+use overlay_map::Cand;
+
+/// What a candidate does to the best so far.
+#[derive(Clone, Copy, Debug, PartialEq, Eq)]
+pub enum Step {
+    /// It does not match, and is passed over.
+    NoMatch,
+    /// It matches, and the best stays.
+    KeptOut,
+    /// It is now the best.
+    TookOver,
+}
+
+impl Step {
+    ghost use Rattle.std.specs.Option.{option_map};
+    ghost use Rattle.config_record.specs.DeviceSeen.{device_numbers};
+    ghost use Rattle.overlay_map.specs.Candidates.{cand_of};
+    ghost use Rattle.reference_resolver.specs.Selection.{step_of};
+
+    /// What a candidate does to the best so far, where there is one.
+    pub fn of(best: &Option<Cand<'_>>, candidate: &Cand<'_>, device: &Device) -> Step
+        ensures { result ≡ step_of
+            (option_map cand_of best.now) (cand_of candidate.now) (device_numbers device.now) }
+    {
+        if !matches(&candidate.row.config, device) {
+            Step::NoMatch
+        } else if beats_best(best, candidate, device) {
+            Step::TookOver
+        } else {
+            Step::KeptOut
+        }
+    }
+}
+
+// Any candidate beats a best that is not there.
+fn beats_best(best: &Option<Cand<'_>>, candidate: &Cand<'_>, device: &Device) -> bool
+    ensures { result ≡ beats_best
+        (option_map cand_of best.now) (cand_of candidate.now) (device_numbers device.now) }
+{
+    match best {
+        Some(best) => beats(candidate, best, device),
+        None => true,
+    }
+}
+
+// A candidate of an overlay also beats one that has an equal record.
+#[tactic(auto, unfolding(crate::specs::Selection::beats))]
+fn beats(candidate: &Cand<'_>, best: &Cand<'_>, device: &Device) -> bool
+    ensures { result ≡ beats
+        (cand_of candidate.now) (cand_of best.now) (device_numbers device.now) }
+{
+    let (config, best) = (&candidate.row.config, &best.row.config);
+    better(config, best, device) || candidate.overlay && same(config, best)
+}

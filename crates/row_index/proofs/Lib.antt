@@ -1,0 +1,4 @@
+pub mod WalkSteps
+pub mod PackagesSteps
+pub mod PlacesSteps
+pub mod StandSteps

@@ -1,0 +1,22 @@
+//! The rows of a table by their id: a look-up goes to the rows of its id alone, without a walk over other
+//! rows, types or packages.
+//!
+//! For the crates above: an `IndexedTable` is its table, and `rows(id)` gives what `Table::rows` does.
+//!
+//! ```text
+//! let Ok(table) = IndexedTable::new(alloc, Table::open(alloc, &bytes)?) else {
+//!     return Err(OutOfMemory);
+//! };
+//! for row in table.rows(ResId(0x7f01_0000)) {
+//!     println!(rt; "{}", row.flags)?;
+//! }
+//! ```
+#![tactic(auto)]
+
+mod indexed_rows;
+mod indexed_table;
+mod row_place;
+mod row_places;
+
+pub use indexed_rows::IndexedRows;
+pub use indexed_table::IndexedTable;
