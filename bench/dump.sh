@@ -10,15 +10,7 @@
 #
 # Status 0: all was measured. 1: a command failed. 2: the packages are not to be had; the tables that this
 # script makes are measured all the same.
-here=$(CDPATH='' cd "$(dirname "$0")" && pwd) || exit 1
-work=$(mktemp -d) || exit 1
-trap 'rm -rf "$work"' EXIT
-if ! /usr/bin/time -f '%e %M' -o "$work/time" true; then
-    echo "dump.sh: GNU time is needed (Debian's package time)" >&2
-    exit 1
-fi
-"$here/../restool" --help >/dev/null || exit 1
-program=$here/../crates/restool/out/restool
+. "$(dirname "$0")/common.sh"
 status=0
 
 # run NAME COMMAND..: runs a command, writes its output to NAME.out, and adds its time and its memory to
@@ -97,8 +89,7 @@ line() {
 
 framework() {
     write_aapt
-    python3 -c 'import sys, zipfile; sys.stdout.buffer.write(zipfile.ZipFile(sys.argv[1]).read("resources.arsc"))' \
-        "$apk" >"$work/framework.arsc" || exit 1
+    table_of_apk "$apk" >"$work/framework.arsc" || exit 1
     for _ in 1 2 3; do
         run rows "$program" rows "$work/framework.arsc"
         run dump "$program" dump "$work/framework.arsc"

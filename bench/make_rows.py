@@ -41,4 +41,5 @@ def main():
         out.write(chunk(0x0002, struct.pack("<I", 1), pool + package))
 
 
-main()
+if __name__ == "__main__":
+    main()

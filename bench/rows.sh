@@ -2,11 +2,7 @@
 # Times `restool rows` on tables: rows.sh TABLE.. With no table, on tables of 1, 4 and 16 times 60,000
 # rows that it makes. Prints wall time, peak memory and sizes. Needs GNU time (Debian's package time),
 # and python3 to make tables.
-here=$(CDPATH='' cd "$(dirname "$0")" && pwd) || exit 1
-work=$(mktemp -d) || exit 1
-trap 'rm -rf "$work"' EXIT
-"$here/../restool" --help >/dev/null || exit 1
-program=$here/../crates/restool/out/restool
+. "$(dirname "$0")/common.sh"
 
 measure() {
     /usr/bin/time -f '%e %M' -o "$work/time" "$program" rows "$1" >"$work/rows.txt" || exit 1

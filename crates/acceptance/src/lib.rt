@@ -9,6 +9,8 @@ mod dump;
 #[cfg(test)]
 mod hostile;
 #[cfg(test)]
+mod query;
+#[cfg(test)]
 mod rows;
 #[cfg(test)]
 mod rows_by_id;

@@ -1,6 +1,6 @@
 //! Layers of a stack, and the candidates of an id in them.
 
-use overlay_map::{IdMap, Stack, StackFault};
+use overlay_map::{IdMap, MOST_LAYERS, Stack, StackFault};
 use res_value::{Cell, ResId};
 use std::process::Abort;
 use std::test::Fail;
@@ -8,8 +8,6 @@ use test_layers::layer;
 use type_chunks::Table;
 
 const MAP: &str = "[[\"0x7f010000\",\"0x7f010001\"]]";
-
-const MOST_LAYERS: usize = 64;
 
 fn push_base<'a, R: Abort + AllocGlobal>(
     rt: &R,

@@ -1,13 +1,13 @@
 -- Rows that are set aside: they are shown, and match no device.
-use Rattle.std.specs.Prelude.{ℕ, List, map, count_by, sum}
-use Rattle.config_record.specs.Record.{is_set_aside}
-use Rattle.type_chunks.specs.Table.{TableOf, rows_of}
+use Rattle.std.specs.Prelude.{ℕ, List, map, sum}
+use Rattle.type_chunks.specs.Row.{set_aside_count}
+use Rattle.type_chunks.specs.Table.{rows_of}
 use Rattle.overlay_map.specs.Layer.{LayerOf}
 
--- how many rows of a table are set aside
-abbrev pub set_aside_in : TableOf → ℕ
-set_aside_in table = count_by (λ row. is_set_aside row.config) (rows_of table)
+-- how many rows of a layer's table are
+abbrev pub set_aside_in_layer : LayerOf → ℕ
+set_aside_in_layer layer = set_aside_count (rows_of layer.table)
 
 -- how many rows of all layers are
-unfoldable pub set_aside_count : List LayerOf → ℕ
-set_aside_count stack = sum (map (λ layer. set_aside_in layer.table) stack)
+unfoldable pub set_aside_in_stack : List LayerOf → ℕ
+set_aside_in_stack stack = sum (map set_aside_in_layer stack)

@@ -3,7 +3,7 @@
 ghost use Rattle.std.specs.Prelude.{◌≡◌, ◌<◌, ◌^◌, is_some};
 ghost use Rattle.std.specs.Option.{option_map};
 ghost use Rattle.overlay_map.specs.Layer.{own_id};
-ghost use Rattle.overlay_map.specs.SetAside.{set_aside_in};
+ghost use Rattle.overlay_map.specs.SetAside.{set_aside_in_layer};
 
 use crate::id_map::IdMap;
 use res_value::ResId;
@@ -45,7 +45,7 @@ impl<'a> Layer<'a> {
 
     /// How many rows of its table are set aside.
     pub fn set_aside(&self) -> u128
-        ensures count { result ≡ set_aside_in self.now.table }
+        ensures count { result ≡ set_aside_in_layer self.now }
         ensures few { result < 2 ^ 92 }
     {
         let mut count = 0;

@@ -34,5 +34,5 @@ pub use candidate::Cand;
 pub use candidates::Cands;
 pub use id_map::IdMap;
 pub use map_fault::MapFault;
-pub use stack::Stack;
+pub use stack::{MOST_LAYERS, Stack};
 pub use stack_fault::StackFault;

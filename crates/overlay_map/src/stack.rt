@@ -4,7 +4,7 @@ ghost use Rattle.std.specs.Prelude.{◌≡◌, ◌≤◌, ◌<◌, [], ◌∷◌
 ghost use Rattle.std.specs.Option.{option_map};
 ghost use Rattle.overlay_map.specs.Layer.{most_layers};
 ghost use Rattle.overlay_map.specs.Pushing.{RefusesLayer, PushesLayer, base_of, overlay_of};
-ghost use Rattle.overlay_map.specs.SetAside.{set_aside_count};
+ghost use Rattle.overlay_map.specs.SetAside.{set_aside_in_stack};
 ghost use Rattle.overlay_map.specs.Candidates.{candidates_of};
 
 use crate::candidates::Cands;
@@ -18,7 +18,7 @@ use std::marker::Model;
 use type_chunks::Table;
 
 /// A stack has no more layers.
-const MOST_LAYERS: usize = 64;
+pub const MOST_LAYERS: usize = 64;
 
 /// Layers, the later over the earlier (AOSP: the packages of a `ResTable`, each with the tables that were
 /// added to it). Contracts see them as a list.
@@ -119,9 +119,9 @@ impl<'a> Stack<'a> {
 
     /// How many rows of all layers are set aside: their locale has a script or a variant, and they match
     /// no device.
-    #[tactic(auto, unfolding(crate::specs::SetAside::set_aside_count))]
+    #[tactic(auto, unfolding(crate::specs::SetAside::set_aside_in_stack))]
     pub fn set_aside(&self) -> u128
-        ensures { result ≡ set_aside_count self.now }
+        ensures { result ≡ set_aside_in_stack self.now }
     {
         let mut count = 0;
         for layer in &self.layers {

@@ -1,60 +1,51 @@
 -- The line that tells of a fault.
 use Rattle.std.specs.Prelude.{ℕ, List, [], ◌∷◌, ◌++◌, codes}
-use Rattle.std.specs.Fmt.{decimal}
-use Rattle.chunk_walk.specs.declared.chunk.ChunkFault.{ChunkFault}
-use Rattle.chunk_walk.specs.declared.chunk.ChunkFault.TheVariants.{Truncated, HeaderShort, HeaderLong, Misaligned, Oversize}
-use Rattle.string_pool.specs.declared.fault.PoolFault.{PoolFault}
-use Rattle.string_pool.specs.declared.fault.PoolFault.TheVariants as of_pool
+use Rattle.config_record.specs.declared.fields.DeviceFault.{DeviceFault}
 use Rattle.type_chunks.specs.declared.fault.TableFault.{TableFault}
-use Rattle.type_chunks.specs.declared.fault.TableFault.TheVariants as of_table
+use Rattle.overlay_map.specs.declared.map_fault.MapFault.{MapFault}
+use Rattle.resource_text.specs.declared.layers_fault.LayersFault.{LayersFault}
 use Rattle.resource_text.specs.declared.fault.ToolFault.{ToolFault}
-use Rattle.resource_text.specs.declared.fault.ToolFault.TheVariants as of_tool
-
--- a table's fault, as one of the command; want of memory is the command's own
-abbrev pub fault_of_table : TableFault → ToolFault
-fault_of_table of_table.OutOfMemory = of_tool.OutOfMemory
-fault_of_table fault = of_tool.Table fault
-
--- the name of a chunk's fault, and its place
-unfoldable pub chunk_fault_text : ChunkFault → List ℕ
-chunk_fault_text (Truncated place) = codes "Truncated " ++ decimal place
-chunk_fault_text (HeaderShort place) = codes "HeaderShort " ++ decimal place
-chunk_fault_text (HeaderLong place) = codes "HeaderLong " ++ decimal place
-chunk_fault_text (Misaligned place) = codes "Misaligned " ++ decimal place
-chunk_fault_text (Oversize place) = codes "Oversize " ++ decimal place
-
--- the name of a pool's fault
-abbrev pub pool_fault_name : PoolFault → List ℕ
-pool_fault_name of_pool.HeaderSize = codes "HeaderSize"
-pool_fault_name of_pool.Offsets = codes "Offsets"
-pool_fault_name of_pool.Start = codes "Start"
-
--- the names of a pool's fault, and the place of the pool
-unfoldable pub pool_fault_text : ℕ → PoolFault → List ℕ
-pool_fault_text place fault = codes "Pool " ++ pool_fault_name fault ++ codes " " ++ decimal place
-
--- the names of a table's fault from outside in, and its place
-unfoldable pub table_fault_text : TableFault → List ℕ
-table_fault_text (of_table.Chunk fault) = codes "Chunk " ++ chunk_fault_text fault
-table_fault_text of_table.NotTable = codes "NotTable"
-table_fault_text (of_table.PackageId place) = codes "PackageId " ++ decimal place
-table_fault_text (of_table.PackageHeader place) = codes "PackageHeader " ++ decimal place
-table_fault_text (of_table.Pool place fault) = pool_fault_text place fault
-table_fault_text (of_table.TypeId place) = codes "TypeId " ++ decimal place
-table_fault_text (of_table.TypeWithoutSpec place) = codes "TypeWithoutSpec " ++ decimal place
-table_fault_text (of_table.SparseType place) = codes "SparseType " ++ decimal place
-table_fault_text (of_table.Config place) = codes "Config " ++ decimal place
-table_fault_text (of_table.Offsets place) = codes "Offsets " ++ decimal place
-table_fault_text (of_table.Entry place) = codes "Entry " ++ decimal place
-table_fault_text (of_table.Value place) = codes "Value " ++ decimal place
-table_fault_text of_table.OutOfMemory = codes "OutOfMemory"
+use Rattle.resource_text.specs.declared.fault.ToolFault.TheVariants.{Table, Layers, LayerTable, LayerMap, Device, OutOfMemory, Write}
+use Rattle.resource_text.specs.LayerText.{layer_text}
+use Rattle.resource_text.specs.TableFaultText.{table_fault_text}
+use Rattle.resource_text.specs.LayersFaultText.{layers_fault_text}
+use Rattle.resource_text.specs.MapFaultText.{map_fault_text}
+use Rattle.resource_text.specs.DeviceFaultText.{device_fault_text}
 
 -- which part of the input is refused
 unfoldable pub refused_text : List ℕ → List ℕ
 refused_text part = codes "refused: " ++ part ++ codes ": "
 
+-- which part of a layer is refused
+unfoldable pub refused_layer_text : ℕ → List ℕ → List ℕ
+refused_layer_text layer part = codes "refused: " ++ layer_text layer ++ codes " " ++ part ++ codes ": "
+
+-- `refused: table: FAULT`
+unfoldable pub table_line : TableFault → List ℕ
+table_line fault = refused_text (codes "table") ++ table_fault_text fault ++ 10 ∷ []
+
+-- `refused: layers: FAULT`
+unfoldable pub layers_line : LayersFault → List ℕ
+layers_line fault = refused_text (codes "layers") ++ layers_fault_text fault ++ 10 ∷ []
+
+-- `refused: layer N table: FAULT`
+unfoldable pub layer_table_line : ℕ → TableFault → List ℕ
+layer_table_line layer fault = refused_layer_text layer (codes "table") ++ table_fault_text fault ++ 10 ∷ []
+
+-- `refused: layer N map: FAULT`
+unfoldable pub layer_map_line : ℕ → MapFault → List ℕ
+layer_map_line layer fault = refused_layer_text layer (codes "map") ++ map_fault_text fault ++ 10 ∷ []
+
+-- `refused: device: FAULT`
+unfoldable pub device_line : DeviceFault → List ℕ
+device_line fault = refused_text (codes "device") ++ device_fault_text fault ++ 10 ∷ []
+
 -- A line for a part that is refused, and one for memory; none for a writer that failed.
 unfoldable pub fault_line : ToolFault → List ℕ
-fault_line (of_tool.Table fault) = refused_text (codes "table") ++ table_fault_text fault ++ 10 ∷ []
-fault_line of_tool.OutOfMemory = codes "out of memory" ++ 10 ∷ []
-fault_line of_tool.Write = []
+fault_line (Table fault) = table_line fault
+fault_line (Layers fault) = layers_line fault
+fault_line (LayerTable layer fault) = layer_table_line layer fault
+fault_line (LayerMap layer fault) = layer_map_line layer fault
+fault_line (Device fault) = device_line fault
+fault_line OutOfMemory = codes "out of memory" ++ 10 ∷ []
+fault_line Write = []

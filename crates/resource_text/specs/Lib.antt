@@ -1,4 +1,12 @@
+pub mod LayerText
+pub mod ToolFault
+pub mod TableFaultText
+pub mod LayersFaultText
+pub mod MapFaultText
+pub mod DeviceFaultText
 pub mod FaultText
 pub mod CellText
 pub mod RowsText
 pub mod DumpText
+pub mod EndText
+pub mod QueryText

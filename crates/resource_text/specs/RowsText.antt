@@ -1,10 +1,9 @@
 -- The rows of a table as text.
-use Rattle.std.specs.Prelude.{ℕ, List, [], ◌∷◌, ◌++◌, codes, length, count_by, None}
+use Rattle.std.specs.Prelude.{ℕ, List, [], ◌∷◌, ◌++◌, codes, length, None}
 use Rattle.std.specs.List.{flat_map}
 use Rattle.std.specs.Fmt.{decimal}
 use Rattle.res_value.specs.ResId.{id_text}
-use Rattle.config_record.specs.Record.{is_set_aside}
-use Rattle.type_chunks.specs.Row.{RowOf}
+use Rattle.type_chunks.specs.Row.{RowOf, set_aside_count}
 use Rattle.type_chunks.specs.Table.{TableOf, rows_of}
 use Rattle.resource_text.specs.CellText.{StyleOf, row_end_text}
 
@@ -15,10 +14,6 @@ rows_style = record { indent = codes "  "; strings = None }
 -- the line `row ID RECORD VALUE`, and those of a bag
 unfoldable pub row_text : RowOf → List ℕ
 row_text row = codes "row " ++ id_text row.id ++ codes " " ++ row_end_text rows_style row
-
--- how many of the rows have a script or a variant
-abbrev pub set_aside_count : List RowOf → ℕ
-set_aside_count rows = count_by (λ row. is_set_aside row.config) rows
 
 -- the line `rows N set-aside M`
 unfoldable pub totals_text : ℕ → ℕ → List ℕ

@@ -51,8 +51,9 @@ fn write_cell<W: Write + Drop>(style: CellStyle<'_>, cell: Cell<'_>, out: &mut W
     }
 }
 
+/// Writes a value. Where strings are given, a string value is followed by its string among them.
 #[tactic(auto, unfolding(crate::specs::CellText::styled_value))]
-fn write_styled_value<W: Write + Drop>(
+pub(crate) fn write_styled_value<W: Write + Drop>(
     strings: Option<Pool<'_>>,
     value: Value,
     out: &mut W,

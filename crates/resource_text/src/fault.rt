@@ -2,19 +2,37 @@
 
 ghost use Rattle.std.specs.Prelude.{◌≡◌};
 ghost use Rattle.contract_words.specs.Writes.{Writes};
-ghost use Rattle.resource_text.specs.FaultText.{chunk_fault_text, pool_fault_name, pool_fault_text, table_fault_text, refused_text, fault_line};
+ghost use Rattle.resource_text.specs.FaultText.{refused_text, refused_layer_text, table_line, layers_line, layer_table_line, layer_map_line, device_line, fault_line};
+ghost use Rattle.resource_text.specs.ToolFault.{fault_of_layer_table, fault_of_layer_map};
 
-use chunk_walk::ChunkFault;
+use crate::device_fault::write_device_fault;
+use crate::layer::write_layer;
+use crate::layers_fault::{LayersFault, write_layers_fault};
+use crate::map_fault::write_map_fault;
+use crate::table_fault::write_table_fault;
+use config_record::DeviceFault;
+use overlay_map::{MapFault, StackFault};
 use std::io::{self, Write};
-use string_pool::PoolFault;
 use thiserror::Error;
 use type_chunks::TableFault;
 
-/// Why a command was not carried out: the part of its input that is refused, or what failed.
+/// Why a command was not carried out: the part of its input that is refused, or what failed. Layers
+/// are told by their place, from 0.
 #[derive(Clone, Copy, Debug, PartialEq, Eq, Error)]
 pub enum ToolFault {
+    /// The table of a command that reads one alone.
     #[error("refused: table: {0}")]
     Table(TableFault),
+    /// The list of the layers' files.
+    #[error("refused: layers: {0}")]
+    Layers(LayersFault),
+    #[error("refused: layer {0} table: {1}")]
+    LayerTable(usize, TableFault),
+    /// The id map of an overlay.
+    #[error("refused: layer {0} map: {1}")]
+    LayerMap(usize, MapFault),
+    #[error("refused: device: {0}")]
+    Device(DeviceFault),
     #[error("out of memory")]
     OutOfMemory,
     /// The writer failed.
@@ -22,8 +40,30 @@ pub enum ToolFault {
     Write,
 }
 
+impl ToolFault {
+    /// The fault of a layer's table; want of memory is the command's own.
+    pub fn of_layer_table(layer: usize, fault: TableFault) -> ToolFault
+        ensures { result ≡ fault_of_layer_table layer fault }
+    {
+        match fault {
+            TableFault::OutOfMemory => ToolFault::OutOfMemory,
+            _ => ToolFault::LayerTable(layer, fault),
+        }
+    }
+
+    /// The fault of an overlay's id map; want of memory is the command's own.
+    pub fn of_layer_map(layer: usize, fault: MapFault) -> ToolFault
+        ensures { result ≡ fault_of_layer_map layer fault }
+    {
+        match fault {
+            MapFault::OutOfMemory => ToolFault::OutOfMemory,
+            _ => ToolFault::LayerMap(layer, fault),
+        }
+    }
+}
+
 impl From<TableFault> for ToolFault {
-    ghost use Rattle.resource_text.specs.FaultText.{fault_of_table};
+    ghost use Rattle.resource_text.specs.ToolFault.{fault_of_table};
 
     ghost from_gives = { λ fault e. e ≡ fault_of_table fault };
 
@@ -35,21 +75,113 @@ impl From<TableFault> for ToolFault {
     }
 }
 
-/// Writes the line that tells of a fault: which part of the input is refused, the names of its fault
-/// from outside in, and the place. A writer that failed has no line.
+impl From<LayersFault> for ToolFault {
+    ghost use Rattle.resource_text.specs.ToolFault.{fault_of_layers};
+
+    ghost from_gives = { λ fault e. e ≡ fault_of_layers fault };
+
+    fn from(fault: LayersFault) -> ToolFault {
+        match fault {
+            LayersFault::OutOfMemory => ToolFault::OutOfMemory,
+            _ => ToolFault::Layers(fault),
+        }
+    }
+}
+
+impl From<DeviceFault> for ToolFault {
+    ghost use Rattle.resource_text.specs.ToolFault.{fault_of_device};
+
+    ghost from_gives = { λ fault e. e ≡ fault_of_device fault };
+
+    fn from(fault: DeviceFault) -> ToolFault {
+        match fault {
+            DeviceFault::OutOfMemory => ToolFault::OutOfMemory,
+            _ => ToolFault::Device(fault),
+        }
+    }
+}
+
+impl From<StackFault> for ToolFault {
+    ghost use Rattle.resource_text.specs.ToolFault.{fault_of_stack};
+
+    ghost from_gives = { λ fault e. e ≡ fault_of_stack fault };
+
+    fn from(fault: StackFault) -> ToolFault {
+        match fault {
+            StackFault::TooManyLayers => ToolFault::Layers(LayersFault::TooManyLayers),
+            StackFault::OutOfMemory => ToolFault::OutOfMemory,
+        }
+    }
+}
+
+/// Writes the line that tells of a fault: which part of the input is refused, and the names of its
+/// fault from outside in, with its place, id or coordinate. A writer that failed has no line.
 #[tactic(auto, unfolding(crate::specs::FaultText::fault_line))]
 pub fn fault_text<W: Write + Drop>(fault: &ToolFault, out: &mut W) -> io::Result<()>
     ensures { Writes W.contents out.old out.new result (fault_line fault.now) }
 {
     match *fault {
-        ToolFault::Table(fault) => {
-            write_refused("table", out)?;
-            write_table_fault(fault, out)?;
-            out.write_all(b"\n")
-        }
+        ToolFault::Table(fault) => write_table_line(fault, out),
+        ToolFault::Layers(fault) => write_layers_line(fault, out),
+        ToolFault::LayerTable(layer, fault) => write_layer_table_line(layer, fault, out),
+        ToolFault::LayerMap(layer, fault) => write_layer_map_line(layer, fault, out),
+        ToolFault::Device(fault) => write_device_line(fault, out),
         ToolFault::OutOfMemory => out.write_all(b"out of memory\n"),
         ToolFault::Write => Ok(()),
     }
+}
+
+#[tactic(auto, unfolding(crate::specs::FaultText::table_line))]
+fn write_table_line<W: Write + Drop>(fault: TableFault, out: &mut W) -> io::Result<()>
+    ensures { Writes W.contents out.old out.new result (table_line fault) }
+{
+    write_refused("table", out)?;
+    write_table_fault(fault, out)?;
+    out.write_all(b"\n")
+}
+
+#[tactic(auto, unfolding(crate::specs::FaultText::layers_line))]
+fn write_layers_line<W: Write + Drop>(fault: LayersFault, out: &mut W) -> io::Result<()>
+    ensures { Writes W.contents out.old out.new result (layers_line fault) }
+{
+    write_refused("layers", out)?;
+    write_layers_fault(fault, out)?;
+    out.write_all(b"\n")
+}
+
+#[tactic(auto, unfolding(crate::specs::FaultText::layer_table_line))]
+fn write_layer_table_line<W: Write + Drop>(
+    layer: usize,
+    fault: TableFault,
+    out: &mut W,
+) -> io::Result<()>
+    ensures { Writes W.contents out.old out.new result (layer_table_line layer fault) }
+{
+    write_refused_layer(layer, "table", out)?;
+    write_table_fault(fault, out)?;
+    out.write_all(b"\n")
+}
+
+#[tactic(auto, unfolding(crate::specs::FaultText::layer_map_line))]
+fn write_layer_map_line<W: Write + Drop>(
+    layer: usize,
+    fault: MapFault,
+    out: &mut W,
+) -> io::Result<()>
+    ensures { Writes W.contents out.old out.new result (layer_map_line layer fault) }
+{
+    write_refused_layer(layer, "map", out)?;
+    write_map_fault(fault, out)?;
+    out.write_all(b"\n")
+}
+
+#[tactic(auto, unfolding(crate::specs::FaultText::device_line))]
+fn write_device_line<W: Write + Drop>(fault: DeviceFault, out: &mut W) -> io::Result<()>
+    ensures { Writes W.contents out.old out.new result (device_line fault) }
+{
+    write_refused("device", out)?;
+    write_device_fault(fault, out)?;
+    out.write_all(b"\n")
 }
 
 #[tactic(auto, unfolding(crate::specs::FaultText::refused_text))]
@@ -59,57 +191,11 @@ fn write_refused<W: Write + Drop>(part: &str, out: &mut W) -> io::Result<()>
     write!(out, "refused: {part}: ")
 }
 
-#[tactic(auto, unfolding(crate::specs::FaultText::table_fault_text))]
-fn write_table_fault<W: Write + Drop>(fault: TableFault, out: &mut W) -> io::Result<()>
-    ensures { Writes W.contents out.old out.new result (table_fault_text fault) }
+#[tactic(auto, unfolding(crate::specs::FaultText::refused_layer_text))]
+fn write_refused_layer<W: Write + Drop>(layer: usize, part: &str, out: &mut W) -> io::Result<()>
+    ensures { Writes W.contents out.old out.new result (refused_layer_text layer part.now) }
 {
-    match fault {
-        TableFault::Chunk(fault) => {
-            out.write_all(b"Chunk ")?;
-            write_chunk_fault(fault, out)
-        }
-        TableFault::NotTable => out.write_all(b"NotTable"),
-        TableFault::PackageId(place) => write!(out, "PackageId {place}"),
-        TableFault::PackageHeader(place) => write!(out, "PackageHeader {place}"),
-        TableFault::Pool(place, fault) => write_pool_fault(place, fault, out),
-        TableFault::TypeId(place) => write!(out, "TypeId {place}"),
-        TableFault::TypeWithoutSpec(place) => write!(out, "TypeWithoutSpec {place}"),
-        TableFault::SparseType(place) => write!(out, "SparseType {place}"),
-        TableFault::Config(place) => write!(out, "Config {place}"),
-        TableFault::Offsets(place) => write!(out, "Offsets {place}"),
-        TableFault::Entry(place) => write!(out, "Entry {place}"),
-        TableFault::Value(place) => write!(out, "Value {place}"),
-        TableFault::OutOfMemory => out.write_all(b"OutOfMemory"),
-    }
-}
-
-#[tactic(auto, unfolding(crate::specs::FaultText::chunk_fault_text))]
-fn write_chunk_fault<W: Write + Drop>(fault: ChunkFault, out: &mut W) -> io::Result<()>
-    ensures { Writes W.contents out.old out.new result (chunk_fault_text fault) }
-{
-    match fault {
-        ChunkFault::Truncated(place) => write!(out, "Truncated {place}"),
-        ChunkFault::HeaderShort(place) => write!(out, "HeaderShort {place}"),
-        ChunkFault::HeaderLong(place) => write!(out, "HeaderLong {place}"),
-        ChunkFault::Misaligned(place) => write!(out, "Misaligned {place}"),
-        ChunkFault::Oversize(place) => write!(out, "Oversize {place}"),
-    }
-}
-
-#[tactic(auto, unfolding(crate::specs::FaultText::pool_fault_text))]
-fn write_pool_fault<W: Write + Drop>(place: usize, fault: PoolFault, out: &mut W) -> io::Result<()>
-    ensures { Writes W.contents out.old out.new result (pool_fault_text place fault) }
-{
-    let name = pool_fault_name(fault);
-    write!(out, "Pool {name} {place}")
-}
-
-fn pool_fault_name(fault: PoolFault) -> &'static str
-    ensures { result.now ≡ pool_fault_name fault }
-{
-    match fault {
-        PoolFault::HeaderSize => "HeaderSize",
-        PoolFault::Offsets => "Offsets",
-        PoolFault::Start => "Start",
-    }
+    out.write_all(b"refused: ")?;
+    write_layer(layer, out)?;
+    write!(out, " {part}: ")
 }

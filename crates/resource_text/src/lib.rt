@@ -8,16 +8,27 @@
 //!                               // rows 1 set-aside 0
 //! dump_text(&table, &mut out)?; // package 0x7f "app"
 //!                               //   0x7f010000 "integer"/"five" flags 0x00000000 [] decimal 5
+//! end_text(end, &mut out)?; // value layer 0 decimal 5
 //! ```
 #![tactic(auto)]
 
 mod cell;
+mod device_fault;
 mod dump;
+mod end;
 mod fault;
+mod layer;
+mod layers_fault;
+mod map_fault;
+mod query;
 mod rows;
+mod table_fault;
 
 pub use dump::dump_text;
+pub use end::end_text;
 pub use fault::{ToolFault, fault_text};
+pub use layers_fault::LayersFault;
+pub use query::{query_line, set_aside_line};
 pub use rows::rows_text;
 
 #[cfg(test)]

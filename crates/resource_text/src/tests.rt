@@ -1,5 +1,11 @@
-use crate::{ToolFault, dump_text, fault_text, rows_text};
+use crate::{
+    LayersFault, ToolFault, dump_text, end_text, fault_text, query_line, rows_text, set_aside_line,
+};
 use chunk_walk::ChunkFault;
+use config_record::{Coord, DeviceFault};
+use overlay_map::{MapFault, Stack};
+use reference_resolver::End;
+use res_value::{ResId, Value};
 use std::test::Fail;
 use string_pool::PoolFault;
 use type_chunks::{Table, TableFault};
@@ -91,6 +97,30 @@ fn writes_faults(rt: HostRuntime) -> Result<(), Fail> {
             ToolFault::Table(TableFault::Pool(12, PoolFault::Offsets)),
             "refused: table: Pool Offsets 12\n",
         ),
+        (
+            ToolFault::Layers(LayersFault::TooManyLayers),
+            "refused: layers: TooManyLayers\n",
+        ),
+        (
+            ToolFault::LayerTable(1, TableFault::Chunk(ChunkFault::Truncated(0))),
+            "refused: layer 1 table: Chunk Truncated 0\n",
+        ),
+        (
+            ToolFault::LayerMap(1, MapFault::Repeated(ResId(0x7f01_0000))),
+            "refused: layer 1 map: Repeated 0x7f010000\n",
+        ),
+        (
+            ToolFault::LayerMap(63, MapFault::OtherPackage(ResId(0x0101_0000))),
+            "refused: layer 63 map: OtherPackage 0x01010000\n",
+        ),
+        (
+            ToolFault::Device(DeviceFault::FieldRange(Coord::Mcc)),
+            "refused: device: FieldRange mcc\n",
+        ),
+        (
+            ToolFault::Device(DeviceFault::Density),
+            "refused: device: Density\n",
+        ),
         (ToolFault::OutOfMemory, "out of memory\n"),
         (ToolFault::Write, ""),
     ];
@@ -99,5 +129,38 @@ fn writes_faults(rt: HostRuntime) -> Result<(), Fail> {
         fault_text(&fault, &mut out)?;
         assert_eq!(rt; out.as_slice(), line.as_bytes());
     }
+    Ok(())
+}
+
+#[test]
+fn writes_ends(rt: HostRuntime) -> Result<(), Fail> {
+    let id = ResId(0x7f01_0000);
+    let value = Value {
+        kind: 0x10,
+        word: 2,
+    };
+    let rows = [
+        (End::Value { layer: 1, value }, "value layer 1 decimal 2"),
+        (End::Bag { id }, "bag 0x7f010000"),
+        (End::Absent { id }, "absent 0x7f010000"),
+        (End::TooLong { id }, "too long 0x7f010000"),
+    ];
+    for (end, text) in rows {
+        let mut out = Vec::new(rt.alloc());
+        end_text(end, &mut out)?;
+        assert_eq!(rt; out.as_slice(), text.as_bytes());
+    }
+    Ok(())
+}
+
+#[test]
+fn writes_lines_of_ids(rt: HostRuntime) -> Result<(), Fail> {
+    let id = ResId(0x7f01_0000);
+    let stack = Stack::new(rt.alloc());
+    let mut out = Vec::new(rt.alloc());
+    query_line(&stack, id, End::Absent { id }, &mut out)?;
+    set_aside_line(stack.set_aside(), &mut out)?;
+    let lines = "0x7f010000 absent 0x7f010000\nset-aside 0\n";
+    assert_eq!(rt; out.as_slice(), lines.as_bytes());
     Ok(())
 }

@@ -1,3 +1,9 @@
 pub mod Input
+pub mod LayerList
+pub mod LayerListSeen
+pub mod Told
+pub mod StackBytes
+pub mod StackBytesSeen
 pub mod Output
 pub mod TableOutput
+pub mod QueryOutput

@@ -1,5 +1,5 @@
 -- What a command prints, and how it ends.
-use Rattle.std.specs.Prelude.{◌≡◌, ℕ, List, Option, Result, Ok, Err, IsOk}
+use Rattle.std.specs.Prelude.{◌≡◌, ◌≢◌, ℕ, List, Option, Result, Ok, Err, IsOk, IfErr}
 use Rattle.std.specs.Io.KnownBytes.{Appends}
 use Rattle.resource_text.specs.declared.fault.ToolFault.{ToolFault}
 use Rattle.resource_text.specs.declared.fault.ToolFault.TheVariants.{OutOfMemory, Write}
@@ -12,10 +12,14 @@ pub record Output : Type 0 where
 
 -- A command answered what is meant, and the writer, which was old and is new, got the text of that and
 -- nothing else. A fault of the input is the one that is meant, and then the writer is as it was. A
--- writer fails only where there is a text to write. Where memory ran out, nothing is said.
+-- writer fails only where the input is read. Where memory ran out, nothing is said.
 abbrev pub Prints : {W : Type 0} → (W → Option (List ℕ)) → W → W → Result Status ToolFault → Result Output ToolFault → Type 0
 Prints contents old new (Ok status) meant =
     (text : List ℕ) × (meant ≡ Ok (record { status = status; text = text })) × Appends (contents old) (contents new) text
 Prints contents old new (Err OutOfMemory) meant = Unit {0}
 Prints contents old new (Err Write) meant = IsOk meant
 Prints contents old new (Err fault) meant = (meant ≡ Err fault) × (new ≡ old)
+
+-- A call that reads an input writes nothing, so no writer failed in it.
+abbrev pub IsOfInput : {X : Type 0} → Result X ToolFault → Type 0
+IsOfInput result = IfErr result (λ fault. fault ≢ Write)

@@ -9,16 +9,26 @@
 //!                                       // rows 1 set-aside 0
 //! dump_bytes(alloc, &table, &mut out)?; // package 0x7f "app"
 //!                                       //   0x7f010000 "integer"/"five" flags 0x00000000 [] decimal 5
+//!
+//! let list = LayerList::read(alloc, &json)?; // which files the layers are
+//! let layers = [(base.as_slice(), None), (overlay.as_slice(), Some(map.as_slice()))];
+//! query_bytes(alloc, &layers, &device, &ids, &mut out)?; // 0x7f010000 value layer 1 decimal 5
+//!                                                        // set-aside 0
 //! ```
 #![tactic(auto)]
 
 mod dump;
 mod input;
+mod layer_list;
+mod query;
 mod rows;
+mod stack;
 mod status;
 
 pub use dump::dump_bytes;
 pub use input::{InputFault, read_input};
-pub use resource_text::{ToolFault, fault_text};
+pub use layer_list::LayerList;
+pub use query::query_bytes;
+pub use resource_text::{LayersFault, ToolFault, fault_text};
 pub use rows::rows_bytes;
 pub use status::Status;

@@ -1,7 +1,7 @@
 -- How the program ends.
 use Rattle.std.specs.Prelude.{ℕ}
 use Rattle.resource_text.specs.declared.fault.ToolFault.{ToolFault}
-use Rattle.resource_text.specs.declared.fault.ToolFault.TheVariants.{Table, OutOfMemory, Write}
+use Rattle.resource_text.specs.declared.fault.ToolFault.TheVariants.{OutOfMemory, Write}
 use Rattle.restool.specs.declared.status.ExitStatus.{ExitStatus}
 use Rattle.restool.specs.declared.status.ExitStatus.TheVariants.{Done, Negative, Command, Refused, Memory, Failed}
 
@@ -14,8 +14,8 @@ number_of Refused = 3
 number_of Memory = 4
 number_of Failed = 5
 
--- how the program ends after a fault of a command
+-- how the program ends after a fault of a command; all others are of an input that is refused
 abbrev pub after_fault : ToolFault → ExitStatus
-after_fault (Table fault) = Refused
 after_fault OutOfMemory = Memory
 after_fault Write = Failed
+after_fault _ = Refused

@@ -1,10 +1,10 @@
 //! From words to the exit status.
 
-use crate::input::table_bytes;
+use crate::input::{LayerFiles, file_bytes, table_bytes};
 use crate::status::ExitStatus;
 use crate::stop::Stop;
 use crate::words::{Request, read_words};
-use resource_tool::{Status, ToolFault, dump_bytes, rows_bytes};
+use resource_tool::{Status, ToolFault, dump_bytes, query_bytes, rows_bytes};
 use std::io::{BufWriter, Write};
 use std::rt::Files;
 
@@ -42,6 +42,21 @@ fn carry_out<'a, R: Input + Files + AllocGlobal, O: Write + Drop>(
         Request::Dump { table } => {
             let table = table_bytes(rt, table)?;
             dump_bytes(rt.alloc(), &table, &mut out)?
+        }
+        Request::Query {
+            layers,
+            device,
+            ids,
+        } => {
+            let files = LayerFiles::read(rt, layers)?;
+            let device = file_bytes(rt, device)?;
+            query_bytes(
+                rt.alloc(),
+                &files.layers(rt.alloc())?,
+                &device,
+                &ids,
+                &mut out,
+            )?
         }
     };
     match out.flush() {

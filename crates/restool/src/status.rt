@@ -28,7 +28,11 @@ impl ExitStatus {
         ensures { result ≡ after_fault fault.now }
     {
         match fault {
-            ToolFault::Table(_) => ExitStatus::Refused,
+            ToolFault::Table(_)
+            | ToolFault::Layers(_)
+            | ToolFault::LayerTable(_, _)
+            | ToolFault::LayerMap(_, _)
+            | ToolFault::Device(_) => ExitStatus::Refused,
             ToolFault::OutOfMemory => ExitStatus::Memory,
             ToolFault::Write => ExitStatus::Failed,
         }

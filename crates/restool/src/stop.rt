@@ -2,8 +2,8 @@
 
 use crate::status::ExitStatus;
 use clap::error::ErrorKind;
-use resource_tool::{ToolFault, fault_text};
-use std::alloc::AllocError;
+use resource_tool::{LayersFault, ToolFault, fault_text};
+use std::alloc::{AllocError, AllocFailed};
 use std::io::Write;
 
 /// Why the program stops.
@@ -13,8 +13,12 @@ pub enum Stop<'a> {
     Words(clap::Error),
     /// A word is not UTF-8.
     NotText,
+    /// This word is no id.
+    BadId(&'a str),
     /// The file at this path was not read.
     File(&'a str),
+    /// The file of a layer was not read, whose path a list of layers names.
+    LayerFile(String),
     /// The command failed.
     Tool(ToolFault),
 }
@@ -36,10 +40,12 @@ impl Stop<'_> {
                 let _ = writeln!(errors, "command: a word is not UTF-8");
                 ExitStatus::Command
             }
-            Stop::File(path) => {
-                let _ = writeln!(errors, "file: {path}");
-                ExitStatus::Failed
+            Stop::BadId(word) => {
+                let _ = writeln!(errors, "command: bad id {word}");
+                ExitStatus::Command
             }
+            Stop::File(path) => tell_of_file(path, errors),
+            Stop::LayerFile(path) => tell_of_file(path.as_str(), errors),
             Stop::Tool(fault) => {
                 let _ = fault_text(&fault, errors);
                 ExitStatus::after_fault(&fault)
@@ -48,9 +54,26 @@ impl Stop<'_> {
     }
 }
 
+fn tell_of_file<E: Write + Drop>(path: &str, errors: &mut E) -> ExitStatus {
+    let _ = writeln!(errors, "file: {path}");
+    ExitStatus::Failed
+}
+
 impl From<ToolFault> for Stop<'_> {
     fn from(fault: ToolFault) -> Self {
         Stop::Tool(fault)
+    }
+}
+
+impl From<LayersFault> for Stop<'_> {
+    fn from(fault: LayersFault) -> Self {
+        Stop::Tool(ToolFault::from(fault))
+    }
+}
+
+impl<T: Drop> From<AllocFailed<T>> for Stop<'_> {
+    fn from(_error: AllocFailed<T>) -> Self {
+        Stop::Tool(ToolFault::OutOfMemory)
     }
 }
 

@@ -34,6 +34,20 @@ Options:
   -h, --help  Print help
 ";
 
+const QUERY_HELP: &str = "\
+Prints what a device has for each id
+
+Usage: restool query <LAYERS> <DEVICE> <ID>...
+
+Arguments:
+  <LAYERS>  Path of the list of layers
+  <DEVICE>  Path of the device
+  <ID>...   Id of a resource, as 0x7f010000
+
+Options:
+  -h, --help  Print help
+";
+
 const NO_TABLE: &str = "\
 error: the following required arguments were not provided:
   <TABLE>
@@ -63,6 +77,9 @@ fn words_of(alloc: Global, line: &str) -> Result<Vec<String>, AllocError> {
 fn prints_or_tells_why_not(rt: HostRuntime) -> Result<(), Fail> {
     fs::write(&rt, "whole", &NO_ROWS)?;
     fs::write(&rt, "cut", &NO_ROWS[..4])?;
+    fs::write(&rt, "layers", b"[{\"table\":\"whole\"}]")?;
+    fs::write(&rt, "far", b"[{\"table\":\"whole\",\"map\":\"absent\"}]")?;
+    fs::write(&rt, "device", b"{\"density\":160}")?;
     let cases = [
         (
             "restool rows whole",
@@ -91,6 +108,31 @@ fn prints_or_tells_why_not(rt: HostRuntime) -> Result<(), Fail> {
             "",
             "refused: table: Chunk Truncated 0\n",
         ),
+        (
+            "restool query layers device 0x7f010000 0x7F010001",
+            ExitStatus::Negative,
+            "0x7f010000 absent 0x7f010000\n0x7f010001 absent 0x7f010001\nset-aside 0\n",
+            "",
+        ),
+        (
+            "restool query absent device 0x7f010000 7 0x7",
+            ExitStatus::Command,
+            "",
+            "command: bad id 7\n",
+        ),
+        (
+            "restool query device absent 0x7f010000",
+            ExitStatus::Refused,
+            "",
+            "refused: layers: Shape\n",
+        ),
+        (
+            "restool query far absent 0x7f010000",
+            ExitStatus::Failed,
+            "",
+            "file: absent\n",
+        ),
+        ("restool query --help", ExitStatus::Done, QUERY_HELP, ""),
         ("restool rows --help", ExitStatus::Done, HELP, ""),
         ("restool dump --help", ExitStatus::Done, DUMP_HELP, ""),
         ("restool rows", ExitStatus::Command, "", NO_TABLE),
@@ -110,6 +152,9 @@ fn prints_or_tells_why_not(rt: HostRuntime) -> Result<(), Fail> {
     }
     fs::remove_file(&rt, "whole")?;
     fs::remove_file(&rt, "cut")?;
+    fs::remove_file(&rt, "layers")?;
+    fs::remove_file(&rt, "far")?;
+    fs::remove_file(&rt, "device")?;
     Ok(())
 }
 

@@ -5,6 +5,7 @@ ghost use Rattle.restool.specs.Request.{AsksForRows};
 
 use crate::stop::Stop;
 use clap::{Arg, ArgAction, ArgMatches, Command};
+use res_value::ResId;
 use resource_tool::ToolFault;
 use std::alloc::Global;
 use std::env;
@@ -15,6 +16,12 @@ use std::rt::Env;
 pub const STANDARD_INPUT: &str = "-";
 
 const TABLE: &str = "TABLE";
+
+const LAYERS: &str = "LAYERS";
+
+const DEVICE: &str = "DEVICE";
+
+const ID: &str = "ID";
 
 const AFTER_HELP: &str = "\
 With no words at all, restool prints the rows of the table on its standard input.
@@ -28,12 +35,22 @@ Exit status:
   5  a file or the output failed, or an input is larger than 268,435,456 bytes";
 
 /// What the words ask for.
-#[derive(Clone, Copy, Debug, PartialEq, Eq)]
+#[derive(Debug, Drop)]
 pub enum Request<'a> {
     /// The rows of the table at a path.
-    Rows { table: &'a str },
+    Rows {
+        table: &'a str,
+    },
     /// The packages of the table at a path, and their rows with names.
-    Dump { table: &'a str },
+    Dump {
+        table: &'a str,
+    },
+    /// What a device has for each of some ids; the layers and the device are at these paths.
+    Query {
+        layers: &'a str,
+        device: &'a str,
+        ids: Vec<ResId>,
+    },
 }
 
 /// The words that the program was started with. The first is its name.
@@ -48,7 +65,7 @@ pub fn program_words<R: Env + AllocGlobal>(rt: &R) -> Result<Vec<String>, Stop<'
 }
 
 /// What the words ask for, the first of which is the program's name.
-pub fn read_words<'a>(alloc: Global, words: &'a [String]) -> Result<Request<'a>, clap::Error>
+pub fn read_words<'a>(alloc: Global, words: &'a [String]) -> Result<Request<'a>, Stop<'a>>
     ensures no_words { length words.now ≤ 1 → IsOkAnd result (AsksForRows (codes "-")) }
 {
     if words.len() <= 1 {
@@ -58,21 +75,38 @@ pub fn read_words<'a>(alloc: Global, words: &'a [String]) -> Result<Request<'a>,
     }
     let matches = command(alloc)?.try_get_matches_from(words)?;
     match matches.subcommand() {
-        Some(("rows", given)) => Ok(Request::Rows {
-            table: table_path(given),
-        }),
         Some(("dump", given)) => Ok(Request::Dump {
-            table: table_path(given),
+            table: word(given, TABLE),
         }),
-        _ => Ok(Request::Rows {
+        Some(("query", given)) => Ok(Request::Query {
+            layers: word(given, LAYERS),
+            device: word(given, DEVICE),
+            ids: read_ids(alloc, given.get_strs(ID).unwrap_or(&[]))?,
+        }),
+        Some((_, given)) => Ok(Request::Rows {
+            table: word(given, TABLE),
+        }),
+        None => Ok(Request::Rows {
             table: STANDARD_INPUT,
         }),
     }
 }
 
-// The path of the table that is given.
-fn table_path<'a>(given: &ArgMatches<'a>) -> &'a str {
-    given.get_str(TABLE).unwrap_or(STANDARD_INPUT)
+// The word that is given under a name, each of which is required.
+fn word<'a>(given: &ArgMatches<'a>, name: &str) -> &'a str {
+    given.get_str(name).unwrap_or(STANDARD_INPUT)
+}
+
+// The ids that the words spell, or the first word that is none.
+fn read_ids<'a>(alloc: Global, words: &[&'a str]) -> Result<Vec<ResId>, Stop<'a>> {
+    let mut ids = Vec::new(alloc);
+    for word in words {
+        let Some(id) = ResId::read(word) else {
+            return Err(Stop::BadId(*word));
+        };
+        ids.push(id)?;
+    }
+    Ok(ids)
 }
 
 // The command line that is understood.
@@ -83,19 +117,42 @@ fn command<'a>(alloc: Global) -> Result<Command<'a>, clap::Error> {
     let dump = Command::new(alloc, "dump")
         .about("Prints the packages of a table, and their rows with names")
         .arg(table(alloc))?;
+    let query = Command::new(alloc, "query")
+        .about("Prints what a device has for each id")
+        .arg(path(alloc, LAYERS, "Path of the list of layers"))?
+        .arg(path(alloc, DEVICE, "Path of the device"))?
+        .arg(ids(alloc))?;
     let restool = Command::new(alloc, "restool")
         .about("Reads Android's compiled resource tables (resources.arsc)")
         .after_help(AFTER_HELP)
         .subcommand_required(true)
         .subcommand(rows)?
-        .subcommand(dump)?;
+        .subcommand(dump)?
+        .subcommand(query)?;
     Ok(restool)
 }
 
-// The word that names a table.
 fn table<'a>(alloc: Global) -> Arg<'a> {
-    Arg::new(alloc, TABLE)
-        .help("Path of the table, or - for the standard input")
+    path(
+        alloc,
+        TABLE,
+        "Path of the table, or - for the standard input",
+    )
+}
+
+// A word that names a file.
+fn path<'a>(alloc: Global, name: &'a str, help: &'a str) -> Arg<'a> {
+    Arg::new(alloc, name)
+        .help(help)
         .required(true)
         .action(ArgAction::Set)
+}
+
+// One or more ids.
+fn ids<'a>(alloc: Global) -> Arg<'a> {
+    Arg::new(alloc, ID)
+        .help("Id of a resource, as 0x7f010000")
+        .required(true)
+        .num_args(1..)
+        .action(ArgAction::Append)
 }

@@ -1,6 +1,6 @@
 -- Rows.
-use Rattle.std.specs.Prelude.{ℕ, List, map, filter, ◌==◌}
-use Rattle.config_record.specs.Record.{record_bytes}
+use Rattle.std.specs.Prelude.{ℕ, List, map, filter, count_by, ◌==◌}
+use Rattle.config_record.specs.Record.{record_bytes, is_set_aside}
 use Rattle.res_value.specs.Cell.{CellOf, cell_of}
 use Rattle.type_chunks.specs.declared.row.Row.{Row}
 
@@ -27,3 +27,7 @@ views_of rows = map row_of rows
 -- the rows of one id, in their order
 abbrev pub with_id : ℕ → List RowOf → List RowOf
 with_id id rows = filter (λ row. row.id == id) rows
+
+-- how many of the rows are set aside: those with a script or a variant, which match no device
+abbrev pub set_aside_count : List RowOf → ℕ
+set_aside_count rows = count_by (λ row. is_set_aside row.config) rows

@@ -1,6 +1,6 @@
-use Rattle.std.proofs.Common.{◌≡◌, ◌+◌, ◌^◌, ◌<◌, length, count_by}
-use Rattle.config_record.specs.Record.{is_set_aside}
-use Rattle.overlay_map.specs.SetAside.{set_aside_in}
+use Rattle.std.proofs.Common.{◌≡◌, ◌+◌, ◌^◌, ◌<◌, length}
+use Rattle.type_chunks.specs.Row.{set_aside_count}
+use Rattle.overlay_map.specs.SetAside.{set_aside_in_layer}
 use Rattle.overlay_map.proofs.layer.Layer.set_aside.Given as goal
 
 -- the count so far and those of the rows that are left are all
@@ -8,6 +8,6 @@ abbrev pub invariant-loop-row : goal.invariant-loop-row
 invariant-loop-row l = record {
   can : (goal.iterator-loop-row).can_next l.row-iterator;
   ends : (goal.iterator-loop-row).is_finite l.row-iterator;
-  all : l.count + count_by (λ row. is_set_aside row.config) l.row-iterator ≡ set_aside_in l.self.table;
+  all : l.count + set_aside_count l.row-iterator ≡ set_aside_in_layer l.self;
   few : l.count + length l.row-iterator < 2 ^ 92;
 }

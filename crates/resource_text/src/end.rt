@@ -1,0 +1,77 @@
+//! Ends of references, written.
+
+ghost use Rattle.std.specs.Option.{option_map};
+ghost use Rattle.contract_words.specs.Writes.{Writes};
+ghost use Rattle.string_pool.specs.Pool.{pool_of};
+ghost use Rattle.resource_text.specs.EndText.{value_end_text, bag_end_text, absent_end_text, too_long_end_text, styled_end, end_text};
+
+use crate::cell::write_styled_value;
+use crate::layer::write_layer;
+use reference_resolver::End;
+use res_value::{ResId, Value, write_id};
+use std::io::{self, Write};
+use string_pool::Pool;
+
+/// Writes an end: a value with the place of its layer, counted from 0; the id that selected a bag, or
+/// nothing; or the id that a reference names which is one too many.
+pub fn end_text<W: Write + Drop>(end: End, out: &mut W) -> io::Result<()>
+    ensures { Writes W.contents out.old out.new result (end_text end) }
+{
+    write_styled_end(None, end, out)
+}
+
+/// Writes an end. Where strings are given, a string value is followed by its string among them.
+#[tactic(auto, unfolding(crate::specs::EndText::styled_end))]
+pub(crate) fn write_styled_end<W: Write + Drop>(
+    strings: Option<Pool<'_>>,
+    end: End,
+    out: &mut W,
+) -> io::Result<()>
+    ensures { Writes W.contents out.old out.new result (styled_end (option_map pool_of strings.entry) end) }
+{
+    match end {
+        End::Value { layer, value } => write_value_end(strings, layer, value, out),
+        End::Bag { id } => write_bag_end(id, out),
+        End::Absent { id } => write_absent_end(id, out),
+        End::TooLong { id } => write_too_long_end(id, out),
+    }
+}
+
+#[tactic(auto, unfolding(crate::specs::EndText::value_end_text))]
+fn write_value_end<W: Write + Drop>(
+    strings: Option<Pool<'_>>,
+    layer: usize,
+    value: Value,
+    out: &mut W,
+) -> io::Result<()>
+    ensures { Writes W.contents out.old out.new result (value_end_text (option_map pool_of strings.entry) layer value) }
+{
+    out.write_all(b"value ")?;
+    write_layer(layer, out)?;
+    out.write_all(b" ")?;
+    write_styled_value(strings, value, out)
+}
+
+#[tactic(auto, unfolding(crate::specs::EndText::bag_end_text))]
+fn write_bag_end<W: Write + Drop>(id: ResId, out: &mut W) -> io::Result<()>
+    ensures { Writes W.contents out.old out.new result (bag_end_text id.0) }
+{
+    out.write_all(b"bag ")?;
+    write_id(id, out)
+}
+
+#[tactic(auto, unfolding(crate::specs::EndText::absent_end_text))]
+fn write_absent_end<W: Write + Drop>(id: ResId, out: &mut W) -> io::Result<()>
+    ensures { Writes W.contents out.old out.new result (absent_end_text id.0) }
+{
+    out.write_all(b"absent ")?;
+    write_id(id, out)
+}
+
+#[tactic(auto, unfolding(crate::specs::EndText::too_long_end_text))]
+fn write_too_long_end<W: Write + Drop>(id: ResId, out: &mut W) -> io::Result<()>
+    ensures { Writes W.contents out.old out.new result (too_long_end_text id.0) }
+{
+    out.write_all(b"too long ")?;
+    write_id(id, out)
+}

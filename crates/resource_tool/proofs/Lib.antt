@@ -1,0 +1,3 @@
+pub mod LayerSteps
+pub mod StackSteps
+pub mod QuerySteps

@@ -1,0 +1,112 @@
+//! Lists of layers: which files the layers of a stack are.
+
+ghost use Rattle.std.specs.Prelude.{◌≡◌};
+ghost use Rattle.contract_words.specs.Exact.{GivesOr};
+ghost use Rattle.serde_json.specs.View.{view, items_view};
+ghost use Rattle.resource_text.specs.declared.layers_fault.LayersFault.TheVariants.{OutOfMemory};
+ghost use Rattle.resource_tool.specs.LayerList.{table_path, map_path, layer_paths_in, each_layer, layers_in_value};
+ghost use Rattle.resource_tool.specs.LayerListSeen.{path_seen, optional_path_seen, paths_of, all_paths_of, listed};
+
+use json_input::{JsonFault, has_only, read_value};
+use overlay_map::MOST_LAYERS;
+use resource_text::LayersFault;
+use serde_json::Value;
+use std::alloc::Global;
+
+/// The name of the member that has the path of a layer's table.
+const TABLE: &str = "table";
+
+/// The name of the member that has the path of an overlay's id map.
+const MAP: &str = "map";
+
+/// The files of a stack's layers, the later over the earlier. Any text is a path.
+#[derive(Drop)]
+pub struct LayerList {
+    /// The path of each layer's table and, at an overlay, of its id map.
+    pub paths: Vec<(String, Option<String>)>,
+}
+
+impl LayerList {
+    ghost use Rattle.resource_tool.specs.LayerList.{layers_in};
+
+    /// The layers of a JSON text: a list of at most 64 objects, each with the path of a table and, at an
+    /// overlay, that of its id map.
+    pub fn read(alloc: Global, json: &[u8]) -> Result<LayerList, LayersFault>
+        ensures { GivesOr OutOfMemory listed result (layers_in json.now) }
+    {
+        match read_value(alloc, json) {
+            Ok(value) => read_list(alloc, &value),
+            Err(JsonFault::Syntax) => Err(LayersFault::Syntax),
+            Err(JsonFault::OutOfMemory) => Err(LayersFault::OutOfMemory),
+        }
+    }
+}
+
+#[tactic(auto, unfolding(crate::specs::LayerList::layers_in_value))]
+fn read_list(alloc: Global, value: &Value) -> Result<LayerList, LayersFault>
+    ensures { GivesOr OutOfMemory listed result (layers_in_value (view value.now)) }
+{
+    let Some(items) = value.as_array() else {
+        return Err(LayersFault::Shape);
+    };
+    let paths = read_each(alloc, items)?;
+    if paths.len() > MOST_LAYERS {
+        return Err(LayersFault::TooManyLayers);
+    }
+    Ok(LayerList { paths })
+}
+
+#[tactic(auto, using(crate::proofs::LayerSteps::layer_steps))]
+fn read_each(alloc: Global, items: &[Value]) -> Result<Vec<(String, Option<String>)>, LayersFault>
+    ensures { GivesOr OutOfMemory all_paths_of result (each_layer (items_view items.now)) }
+{
+    let mut paths = Vec::new(alloc);
+    for item in items {
+        paths.push(read_layer(alloc, item)?)?;
+    }
+    Ok(paths)
+}
+
+// The paths of one layer.
+#[tactic(auto, unfolding(crate::specs::LayerList::layer_paths_in))]
+fn read_layer(alloc: Global, value: &Value) -> Result<(String, Option<String>), LayersFault>
+    ensures { GivesOr OutOfMemory paths_of result (layer_paths_in (view value.now)) }
+{
+    if !has_only(value, &[TABLE, MAP]) {
+        return Err(LayersFault::Shape);
+    }
+    let table = table_path(value)?;
+    let map = map_path(value)?;
+    let table = String::from_str(alloc, table)?;
+    match map {
+        Some(map) => Ok((table, Some(String::from_str(alloc, map)?))),
+        None => Ok((table, None)),
+    }
+}
+
+#[tactic(auto, unfolding(crate::specs::LayerList::table_path))]
+fn table_path(value: &Value) -> Result<&str, LayersFault>
+    ensures { path_seen result ≡ table_path (view value.now) }
+{
+    match value.get(TABLE) {
+        Some(path) => path.as_str().ok_or(LayersFault::Shape),
+        None => Err(LayersFault::Shape),
+    }
+}
+
+// The path of the id map, None at a base.
+#[tactic(auto, unfolding(crate::specs::LayerList::map_path))]
+fn map_path(value: &Value) -> Result<Option<&str>, LayersFault>
+    ensures { optional_path_seen result ≡ map_path (view value.now) }
+{
+    match value.get(MAP) {
+        Some(path) => match path.as_str() {
+            Some(path) => Ok(Some(path)),
+            None => Err(LayersFault::Shape),
+        },
+        None => Ok(None),
+    }
+}
+
+#[cfg(test)]
+mod tests;
