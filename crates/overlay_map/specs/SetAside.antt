@@ -1,4 +1,4 @@
--- Rows that are set aside: they are shown, and match no device.
+-- Rows that are set aside: they have a script or a variant, and match no device.
 use Rattle.std.specs.Prelude.{ℕ, List, map, sum}
 use Rattle.type_chunks.specs.Row.{set_aside_count}
 use Rattle.type_chunks.specs.Table.{rows_of}

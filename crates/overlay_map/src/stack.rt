@@ -17,7 +17,7 @@ use std::alloc::Global;
 use std::marker::Model;
 use type_chunks::Table;
 
-/// A stack has no more layers.
+/// The most layers that a stack can have.
 pub const MOST_LAYERS: usize = 64;
 
 /// Layers, the later over the earlier (AOSP: the packages of a `ResTable`, each with the tables that were

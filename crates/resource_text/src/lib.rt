@@ -1,4 +1,4 @@
-//! Every line that restool prints, written straight to a writer.
+//! The lines that commands of restool print, written straight to a writer.
 //!
 //! For the crates above: what each call appends is the one text of its value, as `specs/` define it,
 //! and nothing else; the only error is the writer's.
