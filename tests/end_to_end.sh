@@ -96,16 +96,17 @@ fi
 
 # ---- query
 
-# answers LAYERS DEVICE: the ends of all ids of rich.arsc. References are not followed yet: an id that
-# selects one ends as too long, and its line is left out on both sides.
+# answers LAYERS DEVICE: the ends of all ids of rich.arsc, of which some are absent, and how each comes to its
+# end.
 answers() {
-    (cd "$tables" && "$program" query "$1.layers.json" "$2.device.json" \
-        $(awk '$1 == "row" { print $2 }' rich.rows.txt | sort -u)) >answered 2>&1
-    awk '/ too long / { print "^" $1 }' answered >references
-    grep -vf references answered >answered.ends
-    grep -vf references "$tables/$1.$2.query.txt" >wanted.ends
-    ends "answers of $1 for $2" 0 'cmp answered.ends wanted.ends'
-    ends "references of $1 for $2" 0 '[ "$(wc -l <references)" -ge 5 ] && [ "$(wc -l <references)" -le 6 ]'
+    cd "$tables" || exit 1
+    check "answers of $1 for $2" 1 "$1.$2.query.txt" $none query "$1.layers.json" "$2.device.json" \
+        $(awk '$1 == "row" { print $2 }' rich.rows.txt | sort -u)
+    if command -v python3 >/dev/null; then
+        ends "explanations of $1 for $2" 0 \
+            "python3 '$here/tests/check_explanations.py' \"\$0\" $1.layers.json $2.device.json 4"
+    fi
+    cd "$work" || exit 1
 }
 for device in bare phone-fr tablet-de; do
     answers rich $device
@@ -124,6 +125,8 @@ line none '[]'
 line absent.out '0x7f060000 absent 0x7f060000'
 echo 'set-aside 0' >>absent.out
 check "no layers" 1 absent.out $none query none device 0x7f060000
+printf 'lookup 0x7f060000\nend absent 0x7f060000\n' >explained.out
+check "an explanation without candidates" 1 explained.out $none explain none device 0x7f060000
 
 # refused NAME LINE: a query of these layers and this device is refused with this line.
 refused() {
@@ -202,6 +205,9 @@ ends "no such command" 2 '"$0" bogus'
 ends "too few words" 2 '"$0" rows'
 ends "dump without a table" 2 '"$0" dump'
 ends "help of query" 0 '"$0" query --help >help && grep -q LAYERS help'
+ends "help of explain" 0 '"$0" explain --help >help && grep -q LAYERS help'
+ends "explain with two ids" 2 '"$0" explain layers device 0x7f010000 0x7f010001'
+ends "explain of a word that is no id" 2 '"$0" explain layers device 0x7f'
 ends "query without an id" 2 '"$0" query layers device'
 ends "dump of two tables" 2 '"$0" dump a b'
 ends "too many words" 2 '"$0" rows a b'

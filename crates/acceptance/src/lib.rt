@@ -7,6 +7,8 @@ mod chunks;
 #[cfg(test)]
 mod dump;
 #[cfg(test)]
+mod explain;
+#[cfg(test)]
 mod hostile;
 #[cfg(test)]
 mod query;

@@ -111,6 +111,7 @@ fn prints_ids_in_the_order_asked(rt: HostRuntime) -> Result<(), Fail> {
             "1 [] 1",
             "1 [locale=sr,script=4c61746e] 2",
             "2 [] bag 0x00000000",
+            "3 [] @0x7f010003",
         ],
     )?;
     let overlay = layer(rt.alloc(), &["0 [variant=7831000000000000] 3"])?;
@@ -131,8 +132,16 @@ set-aside 2
 ",
         ),
     )?;
-    let too_long = "0x7f010000 too long 0x7f010001\nset-aside 2\n";
-    check_query(&rt, &layers, PLAIN, &[FIRST], (Status::Negative, too_long))?;
+    let followed = "0x7f010000 value layer 0 decimal 1\nset-aside 2\n";
+    check_query(&rt, &layers, PLAIN, &[FIRST], (Status::Done, followed))?;
+    let too_long = "0x7f010003 too long 0x7f010003\nset-aside 2\n";
+    check_query(
+        &rt,
+        &layers,
+        PLAIN,
+        &[ResId(0x7f01_0003)],
+        (Status::Negative, too_long),
+    )?;
     let absent = "0x7f010009 absent 0x7f010009\n0x7f010001 value layer 0 decimal 1\nset-aside 2\n";
     check_query(
         &rt,

@@ -2,7 +2,7 @@
 
 use config_record::Device;
 use overlay_map::{IdMap, Stack};
-use reference_resolver::{End, Next, Step, resolve, resolve_within, select};
+use reference_resolver::{End, Next, REFERENCES_FOLLOWED, Step, resolve, resolve_within, select};
 use res_value::{ResId, Value, kind};
 use std::process::Abort;
 use std::test::Fail;
@@ -72,7 +72,7 @@ fn check_tables<R: Abort + AllocGlobal>(
     let mut stack = Stack::new(rt.alloc());
     push_base(&mut stack, base)?;
     push_overlay(&mut stack, overlay, map)?;
-    check_end(rt, &stack, device, want);
+    assert_eq!(rt; resolve(&stack, FIRST, device), want);
     Ok(())
 }
 
@@ -133,18 +133,28 @@ fn selects_from_an_overlay(rt: HostRuntime) -> Result<(), Fail> {
     check_overlay(&rt, &rows, &["0 [] 2"], german, decimal(1, 2))
 }
 
-// Where entry 0 of a base ends at a device of density 160.
+// Where entry 0 of a base ends at a device of density 160, where at most so many references are followed.
 fn end_within<R: Abort + AllocGlobal>(rt: &R, rows: &[&str], most: u8) -> Result<End, Fail> {
     let base = layer(rt.alloc(), rows)?;
     let device = Device::read(rt.alloc(), br#"{"density":160}"#)?;
     let table = Table::open(rt.alloc(), &base)?;
     let mut stack = Stack::new(rt.alloc());
     push_base(&mut stack, table)?;
-    Ok(resolve_within(&stack, FIRST, &device, most))
+    let end = resolve_within(&stack, FIRST, &device, most);
+    if most == REFERENCES_FOLLOWED {
+        assert_eq!(rt; resolve(&stack, FIRST, &device), end);
+    }
+    Ok(end)
 }
 
-// Where a chain of so many references, of entry 0 and on, ends; behind it stands a value.
-fn end_of_chain<R: Abort + AllocGlobal>(rt: &R, references: u32) -> Result<End, Fail> {
+// The end of entry 0 of a base is this one.
+fn check_references<R: Abort + AllocGlobal>(rt: &R, rows: &[&str], want: End) -> Result<(), Fail> {
+    assert_eq!(rt; end_within(rt, rows, 20)?, want);
+    Ok(())
+}
+
+// The end of a chain of so many references, of entry 0 and on, is this one; behind it stands a value.
+fn check_chain<R: Abort + AllocGlobal>(rt: &R, references: u32, want: End) -> Result<(), Fail> {
     let mut rows = Vec::new(rt.alloc());
     for entry in 0..references {
         let next = FIRST.0.saturating_add(entry).saturating_add(1);
@@ -155,27 +165,60 @@ fn end_of_chain<R: Abort + AllocGlobal>(rt: &R, references: u32) -> Result<End, 
     for row in &rows {
         lines.push(row.as_str())?;
     }
-    end_within(rt, &lines, 20)
+    check_references(rt, &lines, want)
 }
 
 #[test]
-fn follows_so_many_references(rt: HostRuntime) -> Result<(), Fail> {
-    assert_eq!(rt; end_of_chain(&rt, 20)?, decimal(0, 5));
+fn follows_twenty_references(rt: HostRuntime) -> Result<(), Fail> {
+    check_chain(&rt, 20, decimal(0, 5))?;
     let too_long = End::TooLong {
         id: ResId(0x7f01_0015),
     };
-    assert_eq!(rt; end_of_chain(&rt, 21)?, too_long);
-    let to_itself = end_within(&rt, &["0 [] @0x7f010000"], 20)?;
-    assert_eq!(rt; to_itself, End::TooLong { id: FIRST });
-    let absent = End::Absent {
-        id: ResId(0x7f01_0009),
-    };
-    assert_eq!(rt; end_within(&rt, &["0 [] @0x7f010009"], 20)?, absent);
-    Ok(())
+    check_chain(&rt, 21, too_long)
 }
 
 #[test]
-fn follows_no_reference(rt: HostRuntime) -> Result<(), Fail> {
+fn ends_where_a_reference_leads_nowhere(rt: HostRuntime) -> Result<(), Fail> {
+    let to_itself = End::TooLong { id: FIRST };
+    check_references(&rt, &["0 [] @0x7f010000"], to_itself)?;
+    let absent = End::Absent {
+        id: ResId(0x7f01_0009),
+    };
+    check_references(&rt, &["0 [] @0x7f010009"], absent)
+}
+
+#[test]
+fn ends_at_a_reference_to_nothing(rt: HostRuntime) -> Result<(), Fail> {
+    let value = Value {
+        kind: kind::REFERENCE,
+        word: 0,
+    };
+    let end = End::Value { layer: 0, value };
+    check_references(&rt, &["0 [] @0x7f010001", "1 [] @0x00000000"], end)
+}
+
+#[test]
+fn ends_at_the_id_that_selects_a_bag(rt: HostRuntime) -> Result<(), Fail> {
+    let bag = End::Bag {
+        id: ResId(0x7f01_0001),
+    };
+    check_references(&rt, &["0 [] @0x7f010001", "1 [] bag 0x00000000"], bag)
+}
+
+#[test]
+fn follows_references_of_overlays_in_the_stack(rt: HostRuntime) -> Result<(), Fail> {
+    let device = r#"{"density":160}"#;
+    let overlay = ["0 [] @0x7f010001", "1 [] 9"];
+    let absent = End::Absent {
+        id: ResId(0x7f01_0001),
+    };
+    check_overlay(&rt, &["0 [] 1"], &overlay, device, absent)?;
+    let base = ["0 [] 1", "1 [] 7"];
+    check_overlay(&rt, &base, &overlay, device, decimal(0, 7))
+}
+
+#[test]
+fn follows_no_reference_where_none_may_be(rt: HostRuntime) -> Result<(), Fail> {
     let too_long = End::TooLong {
         id: ResId(0x7f01_0001),
     };

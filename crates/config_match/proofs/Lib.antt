@@ -1,1 +1,2 @@
 pub mod RegionAlone
+pub mod NoMismatch

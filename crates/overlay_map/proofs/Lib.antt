@@ -1,3 +1,4 @@
 pub mod LookSteps
 pub mod PairSteps
 pub mod EntrySteps
+pub mod FewRows

@@ -1,5 +1,5 @@
 -- Layers of a stack, the later over the earlier.
-use Rattle.std.specs.Prelude.{ℕ, List, [], Option, Some, None}
+use Rattle.std.specs.Prelude.{ℕ, ◌<◌, ◌^◌, List, [], length, Option, Some, None}
 use Rattle.type_chunks.specs.Row.{RowOf, with_id}
 use Rattle.type_chunks.specs.Table.{TableOf, rows_of}
 use Rattle.overlay_map.specs.IdMap.{MapOf, look_of}
@@ -23,10 +23,14 @@ id_by (Some map) id = look_of map id
 abbrev pub own_id : LayerOf → ℕ → Option ℕ
 own_id layer id = id_by layer.map id
 
-abbrev rows_with : TableOf → Option ℕ → List RowOf
+abbrev pub rows_with : TableOf → Option ℕ → List RowOf
 rows_with table None = []
 rows_with table (Some id) = with_id id (rows_of table)
 
 -- the rows of a layer that stand for an id, in the order of the file
 abbrev pub rows_for : LayerOf → ℕ → List RowOf
 rows_for layer id = rows_with layer.table (own_id layer id)
+
+-- it has fewer rows than a number of 92 bits counts
+abbrev pub HasFewRows : LayerOf → Type 0
+HasFewRows layer = length (rows_of layer.table) < 2 ^ 92

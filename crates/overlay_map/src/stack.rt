@@ -1,8 +1,8 @@
 //! Stacks.
 
-ghost use Rattle.std.specs.Prelude.{◌≡◌, ◌≤◌, ◌<◌, [], ◌∷◌, ◌++◌, length, slice_get, vec_len, vec_capacity, nat_eq, OnOk, IfErr};
+ghost use Rattle.std.specs.Prelude.{◌≡◌, ◌≤◌, ◌<◌, ◌^◌, [], ◌∷◌, ◌++◌, All, length, slice_get, vec_len, vec_capacity, nat_eq, OnOk, IfErr};
 ghost use Rattle.std.specs.Option.{option_map};
-ghost use Rattle.overlay_map.specs.Layer.{most_layers};
+ghost use Rattle.overlay_map.specs.Layer.{most_layers, HasFewRows};
 ghost use Rattle.overlay_map.specs.Pushing.{RefusesLayer, PushesLayer, base_of, overlay_of};
 ghost use Rattle.overlay_map.specs.SetAside.{set_aside_in_stack};
 ghost use Rattle.overlay_map.specs.Candidates.{candidates_of};
@@ -26,6 +26,7 @@ pub const MOST_LAYERS: usize = 64;
 pub struct Stack<'a> {
     layers: Vec<Layer<'a>>,
     ghost few: { vec_len layers ≤ most_layers },
+    ghost few_rows: { All HasFewRows layers.items },
 }
 
 impl<'a> Model for Stack<'a> {
@@ -134,7 +135,8 @@ impl<'a> Stack<'a> {
     /// a base, and in an overlay those of the id that its map gives, none where it gives none.
     #[tactic(auto, unfolding(crate::specs::Candidates::candidates_of))]
     pub fn candidates(&self, id: ResId) -> Cands<'_, 'a>
-        ensures { result ≡ candidates_of self.now id.0 }
+        ensures candidates { result ≡ candidates_of self.now id.0 }
+        ensures few { length result < 2 ^ 99 }
     {
         Cands::new(&self.layers, id)
     }

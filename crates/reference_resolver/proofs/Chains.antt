@@ -1,6 +1,7 @@
 -- The end, look-up by look-up, is the end of a chain, and there is no other.
-use Rattle.std.proofs.Common.{◌≡◌, ◌⊎◌, ◌≤◌, ◌<◌, ◌-◌, inl, inr, ℕ, zero, suc, List, [], ◌∷◌, length, refl, sym, ◌∙◌, ap, subst, arith}
+use Rattle.std.proofs.Common.{◌≡◌, ◌⊎◌, ◌≤◌, ◌<◌, ◌-◌, inl, inr, ℕ, zero, suc, List, [], ◌∷◌, length, Option, refl, sym, ◌∙◌, ap, subst, arith}
 use Rattle.overlay_map.specs.Layer.{LayerOf}
+use Rattle.overlay_map.specs.Candidates.{CandOf}
 use Rattle.res_value.specs.declared.res_id.ResId.{ResId}
 use Rattle.reference_resolver.specs.declared.end.End.{End}
 use Rattle.reference_resolver.specs.declared.end.End.TheVariants.{TooLong}
@@ -8,8 +9,14 @@ use Rattle.reference_resolver.specs.declared.next.Next.{Next}
 use Rattle.reference_resolver.specs.declared.next.Next.TheVariants.{LookUp, EndsAt}
 use Rattle.reference_resolver.specs.Selection.{selected}
 use Rattle.reference_resolver.specs.Ends.{next_of, end_of, RefersTo, EndsHere, IsChain, Ends, IsTheEnd}
+use Rattle.reference_resolver.specs.Trace.{look_ups_of}
 
 -- ---- one look-up
+
+-- where an id leads, from what was selected for it
+pub next_from : (stack : List LayerOf) (id : ℕ) (d : List ℕ) (picked : Option CandOf) (told next : Next) → picked ≡ selected stack id d → told ≡ next_of id picked → told ≡ next
+    → next_of id (selected stack id d) ≡ next
+next_from stack id d picked told next is by same = ap (λ (o : Option CandOf). next_of id o) (sym is) ∙ sym by ∙ same
 
 pub end_here : (stack : List LayerOf) (most id : ℕ) (end : End) (d : List ℕ) → EndsHere stack d id end → end_of stack most id d ≡ end
 end_here stack zero id end d e = rw e
@@ -25,6 +32,16 @@ follow stack most id target d e = rw e
 pub end_more : (stack : List LayerOf) (most id target : ℕ) (d : List ℕ) → 0 < most → RefersTo stack d id target → end_of stack most id d ≡ end_of stack (most - 1) target d
 end_more stack zero id target d some e = absurd (omega arith)
 end_more stack (suc most) id target d some e = let less : suc most - 1 ≡ most = omega arith in rw (e, less)
+
+-- ---- the ids that are looked up from here on
+
+pub look_ups_here : (stack : List LayerOf) (most id : ℕ) (end : End) (d : List ℕ) → EndsHere stack d id end → look_ups_of stack most id d ≡ id ∷ []
+look_ups_here stack zero id end d e = refl
+look_ups_here stack (suc most) id end d e = rw e refl
+
+pub look_ups_more : (stack : List LayerOf) (most id target : ℕ) (d : List ℕ) → 0 < most → RefersTo stack d id target → look_ups_of stack most id d ≡ id ∷ look_ups_of stack (most - 1) target d
+look_ups_more stack zero id target d some e = absurd (omega arith)
+look_ups_more stack (suc most) id target d some e = let less : suc most - 1 ≡ most = omega arith in rw (e, less) refl
 
 -- ---- there is one
 

@@ -14,7 +14,7 @@ use Rattle.reference_resolver.specs.Selection.{selected}
 
 -- how many references are followed, at most
 abbrev pub references_followed : ℕ
-references_followed = 0
+references_followed = 20
 
 -- ---- one look-up
 

@@ -2,3 +2,4 @@ pub mod Selection
 pub mod Takers
 pub mod OrderLaw
 pub mod Ends
+pub mod Trace

@@ -32,11 +32,11 @@ best_after NoMatch best candidate = best
 best_after KeptOut best candidate = best
 best_after TookOver best candidate = Some candidate
 
--- the steps of candidates in turn, where this is the best before them
-abbrev pub steps_of : Option CandOf → List CandOf → List ℕ → List Step
-steps_of best [] d = []
-steps_of best (candidate ∷ candidates) d =
-    step_of best candidate d ∷ steps_of (best_after (step_of best candidate d) best candidate) candidates d
+-- What is told of candidates in turn, of each by the best before it. This one is the best before them all.
+abbrev pub told_of : {X : Type 0} → (Option CandOf → CandOf → List ℕ → X) → Option CandOf → List CandOf → List ℕ → List X
+told_of tell best [] d = []
+told_of tell best (candidate ∷ candidates) d =
+    tell best candidate d ∷ told_of tell (best_after (step_of best candidate d) best candidate) candidates d
 
 -- the best behind them
 abbrev pub best_of : Option CandOf → List CandOf → List ℕ → Option CandOf

@@ -11,11 +11,10 @@ use config_record::Device;
 use overlay_map::Stack;
 use res_value::ResId;
 
-// How many references are followed, at most.
-const REFERENCES_FOLLOWED: u8 = 0;
+/// How many references are followed, at most.
+pub const REFERENCES_FOLLOWED: u8 = 20;
 
-/// Where the references of an id end at a device. No reference is followed: one that is selected ends as
-/// too long.
+/// Where the references of an id end at a device if at most twenty are followed.
 pub fn resolve(stack: &Stack<'_>, id: ResId, device: &Device) -> End
     ensures value { result ≡
         end_of stack.now references_followed id.0 (device_numbers device.now) }

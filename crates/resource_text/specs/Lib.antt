@@ -10,3 +10,5 @@ pub mod RowsText
 pub mod DumpText
 pub mod EndText
 pub mod QueryText
+pub mod Decision
+pub mod ExplainText

@@ -9,13 +9,19 @@
 //! dump_text(&table, &mut out)?; // package 0x7f "app"
 //!                               //   0x7f010000 "integer"/"five" flags 0x00000000 [] decimal 5
 //! end_text(end, &mut out)?; // value layer 0 decimal 5
+//! explain(&stack, id, &device, &mut out)?; // lookup 0x7f010000
+//!                                          // candidate 0 layer 0 [] first
+//!                                          // candidate 1 layer 0 [sdk=21] took over P22
+//!                                          // end value layer 0 decimal 5
 //! ```
 #![tactic(auto)]
 
 mod cell;
+mod decision;
 mod device_fault;
 mod dump;
 mod end;
+mod explanation;
 mod fault;
 mod layer;
 mod layers_fault;
@@ -26,6 +32,7 @@ mod table_fault;
 
 pub use dump::dump_text;
 pub use end::end_text;
+pub use explanation::explain;
 pub use fault::{ToolFault, fault_text};
 pub use layers_fault::LayersFault;
 pub use query::{query_line, set_aside_line};

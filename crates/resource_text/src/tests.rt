@@ -1,8 +1,9 @@
 use crate::{
-    LayersFault, ToolFault, dump_text, end_text, fault_text, query_line, rows_text, set_aside_line,
+    LayersFault, ToolFault, dump_text, end_text, explain, fault_text, query_line, rows_text,
+    set_aside_line,
 };
 use chunk_walk::ChunkFault;
-use config_record::{Coord, DeviceFault};
+use config_record::{Coord, Device, DeviceFault};
 use overlay_map::{MapFault, Stack};
 use reference_resolver::End;
 use res_value::{ResId, Value};
@@ -161,6 +162,18 @@ fn writes_lines_of_ids(rt: HostRuntime) -> Result<(), Fail> {
     query_line(&stack, id, End::Absent { id }, &mut out)?;
     set_aside_line(stack.set_aside(), &mut out)?;
     let lines = "0x7f010000 absent 0x7f010000\nset-aside 0\n";
+    assert_eq!(rt; out.as_slice(), lines.as_bytes());
+    Ok(())
+}
+
+#[test]
+fn writes_look_ups(rt: HostRuntime) -> Result<(), Fail> {
+    let id = ResId(0x7f01_0000);
+    let stack = Stack::new(rt.alloc());
+    let device = Device::read(rt.alloc(), br#"{"density":160}"#)?;
+    let mut out = Vec::new(rt.alloc());
+    assert_eq!(rt; explain(&stack, id, &device, &mut out)?, End::Absent { id });
+    let lines = "lookup 0x7f010000\nend absent 0x7f010000\n";
     assert_eq!(rt; out.as_slice(), lines.as_bytes());
     Ok(())
 }

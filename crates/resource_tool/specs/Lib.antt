@@ -7,3 +7,4 @@ pub mod StackBytesSeen
 pub mod Output
 pub mod TableOutput
 pub mod QueryOutput
+pub mod ExplainOutput

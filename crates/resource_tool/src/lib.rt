@@ -14,10 +14,15 @@
 //! let layers = [(base.as_slice(), None), (overlay.as_slice(), Some(map.as_slice()))];
 //! query_bytes(alloc, &layers, &device, &ids, &mut out)?; // 0x7f010000 value layer 1 decimal 5
 //!                                                        // set-aside 0
+//! explain_bytes(alloc, &layers, &device, id, &mut out)?; // lookup 0x7f010000
+//!                                                        // candidate 0 layer 0 [] first
+//!                                                        // candidate 1 layer 1 [] took over equal
+//!                                                        // end value layer 1 decimal 5
 //! ```
 #![tactic(auto)]
 
 mod dump;
+mod explain;
 mod input;
 mod layer_list;
 mod query;
@@ -26,6 +31,7 @@ mod stack;
 mod status;
 
 pub use dump::dump_bytes;
+pub use explain::explain_bytes;
 pub use input::{InputFault, read_input};
 pub use layer_list::LayerList;
 pub use query::query_bytes;

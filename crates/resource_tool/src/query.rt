@@ -61,8 +61,8 @@ fn write_ends<W: Write + Drop>(
     Ok(status)
 }
 
-// Whether nothing was found, or too many references.
-fn is_missing(end: End) -> bool
+/// Whether nothing was found, or too many references.
+pub(crate) fn is_missing(end: End) -> bool
     ensures { result ≡ is_missing end }
 {
     match end {

@@ -4,7 +4,7 @@ use crate::input::{LayerFiles, file_bytes, table_bytes};
 use crate::status::ExitStatus;
 use crate::stop::Stop;
 use crate::words::{Request, read_words};
-use resource_tool::{Status, ToolFault, dump_bytes, query_bytes, rows_bytes};
+use resource_tool::{Status, ToolFault, dump_bytes, explain_bytes, query_bytes, rows_bytes};
 use std::io::{BufWriter, Write};
 use std::rt::Files;
 
@@ -34,15 +34,23 @@ fn carry_out<'a, R: Input + Files + AllocGlobal, O: Write + Drop>(
     let Ok(mut out) = BufWriter::with_capacity(rt.alloc(), OUTPUT_BUFFER, out) else {
         return Err(Stop::Tool(ToolFault::OutOfMemory));
     };
+    let status = answer(rt, request, &mut out)?;
+    match out.flush() {
+        Ok(()) => Ok(status),
+        Err(_) => Err(Stop::Tool(ToolFault::Write)),
+    }
+}
+
+// Reads the files that a request names, in the order of its words, and carries it out.
+fn answer<'a, R: Input + Files + AllocGlobal, O: Write + Drop>(
+    rt: &R,
+    request: Request<'a>,
+    out: &mut O,
+) -> Result<Status, Stop<'a>> {
+    let alloc = rt.alloc();
     let status = match request {
-        Request::Rows { table } => {
-            let table = table_bytes(rt, table)?;
-            rows_bytes(rt.alloc(), &table, &mut out)?
-        }
-        Request::Dump { table } => {
-            let table = table_bytes(rt, table)?;
-            dump_bytes(rt.alloc(), &table, &mut out)?
-        }
+        Request::Rows { table } => rows_bytes(alloc, &table_bytes(rt, table)?, out)?,
+        Request::Dump { table } => dump_bytes(alloc, &table_bytes(rt, table)?, out)?,
         Request::Query {
             layers,
             device,
@@ -50,17 +58,13 @@ fn carry_out<'a, R: Input + Files + AllocGlobal, O: Write + Drop>(
         } => {
             let files = LayerFiles::read(rt, layers)?;
             let device = file_bytes(rt, device)?;
-            query_bytes(
-                rt.alloc(),
-                &files.layers(rt.alloc())?,
-                &device,
-                &ids,
-                &mut out,
-            )?
+            query_bytes(alloc, &files.layers(alloc)?, &device, &ids, out)?
+        }
+        Request::Explain { layers, device, id } => {
+            let files = LayerFiles::read(rt, layers)?;
+            let device = file_bytes(rt, device)?;
+            explain_bytes(alloc, &files.layers(alloc)?, &device, id, out)?
         }
     };
-    match out.flush() {
-        Ok(()) => Ok(status),
-        Err(_) => Err(Stop::Tool(ToolFault::Write)),
-    }
+    Ok(status)
 }

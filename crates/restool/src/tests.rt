@@ -115,6 +115,18 @@ fn prints_or_tells_why_not(rt: HostRuntime) -> Result<(), Fail> {
             "",
         ),
         (
+            "restool explain layers device 0x7f010000",
+            ExitStatus::Negative,
+            "lookup 0x7f010000\nend absent 0x7f010000\n",
+            "",
+        ),
+        (
+            "restool explain absent device 0x7f01",
+            ExitStatus::Command,
+            "",
+            "command: bad id 0x7f01\n",
+        ),
+        (
             "restool query absent device 0x7f010000 7 0x7",
             ExitStatus::Command,
             "",

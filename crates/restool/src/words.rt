@@ -51,6 +51,12 @@ pub enum Request<'a> {
         device: &'a str,
         ids: Vec<ResId>,
     },
+    /// How a device comes by what it has for an id.
+    Explain {
+        layers: &'a str,
+        device: &'a str,
+        id: ResId,
+    },
 }
 
 /// The words that the program was started with. The first is its name.
@@ -83,6 +89,11 @@ pub fn read_words<'a>(alloc: Global, words: &'a [String]) -> Result<Request<'a>,
             device: word(given, DEVICE),
             ids: read_ids(alloc, given.get_strs(ID).unwrap_or(&[]))?,
         }),
+        Some(("explain", given)) => Ok(Request::Explain {
+            layers: word(given, LAYERS),
+            device: word(given, DEVICE),
+            id: read_id(word(given, ID))?,
+        }),
         Some((_, given)) => Ok(Request::Rows {
             table: word(given, TABLE),
         }),
@@ -101,12 +112,16 @@ fn word<'a>(given: &ArgMatches<'a>, name: &str) -> &'a str {
 fn read_ids<'a>(alloc: Global, words: &[&'a str]) -> Result<Vec<ResId>, Stop<'a>> {
     let mut ids = Vec::new(alloc);
     for word in words {
-        let Some(id) = ResId::read(word) else {
-            return Err(Stop::BadId(*word));
-        };
-        ids.push(id)?;
+        ids.push(read_id(*word)?)?;
     }
     Ok(ids)
+}
+
+fn read_id<'a>(word: &'a str) -> Result<ResId, Stop<'a>> {
+    match ResId::read(word) {
+        Some(id) => Ok(id),
+        None => Err(Stop::BadId(word)),
+    }
 }
 
 // The command line that is understood.
@@ -117,18 +132,20 @@ fn command<'a>(alloc: Global) -> Result<Command<'a>, clap::Error> {
     let dump = Command::new(alloc, "dump")
         .about("Prints the packages of a table, and their rows with names")
         .arg(table(alloc))?;
-    let query = Command::new(alloc, "query")
+    let query = of_device(alloc, "query")?
         .about("Prints what a device has for each id")
-        .arg(path(alloc, LAYERS, "Path of the list of layers"))?
-        .arg(path(alloc, DEVICE, "Path of the device"))?
-        .arg(ids(alloc))?;
+        .arg(id(alloc).num_args(1..).action(ArgAction::Append))?;
+    let explain = of_device(alloc, "explain")?
+        .about("Prints how a device comes by what it has for an id")
+        .arg(id(alloc).action(ArgAction::Set))?;
     let restool = Command::new(alloc, "restool")
         .about("Reads Android's compiled resource tables (resources.arsc)")
         .after_help(AFTER_HELP)
         .subcommand_required(true)
         .subcommand(rows)?
         .subcommand(dump)?
-        .subcommand(query)?;
+        .subcommand(query)?
+        .subcommand(explain)?;
     Ok(restool)
 }
 
@@ -148,11 +165,16 @@ fn path<'a>(alloc: Global, name: &'a str, help: &'a str) -> Arg<'a> {
         .action(ArgAction::Set)
 }
 
-// One or more ids.
-fn ids<'a>(alloc: Global) -> Arg<'a> {
+// A command that is asked of layers and a device.
+fn of_device<'a>(alloc: Global, name: &'a str) -> Result<Command<'a>, clap::Error> {
+    let command = Command::new(alloc, name)
+        .arg(path(alloc, LAYERS, "Path of the list of layers"))?
+        .arg(path(alloc, DEVICE, "Path of the device"))?;
+    Ok(command)
+}
+
+fn id<'a>(alloc: Global) -> Arg<'a> {
     Arg::new(alloc, ID)
         .help("Id of a resource, as 0x7f010000")
         .required(true)
-        .num_args(1..)
-        .action(ArgAction::Append)
 }

@@ -1,6 +1,6 @@
 //! A table that gives the rows of an id at once.
 
-ghost use Rattle.std.specs.Prelude.{◌≡◌, IfOk, IfErr};
+ghost use Rattle.std.specs.Prelude.{◌≡◌, ◌<◌, ◌^◌, IfOk, IfErr, length};
 ghost use Rattle.type_chunks.specs.Row.{with_id};
 ghost use Rattle.type_chunks.specs.Table.{rows_of};
 ghost use Rattle.row_index.specs.Places.{ArePlacesOf};
@@ -33,6 +33,7 @@ impl<'a> IndexedTable<'a> {
     /// memory runs out, the table is handed back.
     pub fn new(alloc: Global, table: Table<'a>) -> Result<IndexedTable<'a>, Table<'a>>
         ensures made { IfOk result (λ indexed. indexed ≡ table.entry) }
+        ensures few { IfOk result (λ indexed. length (rows_of indexed) < 2 ^ 92) }
         ensures back { IfErr result (λ back. back ≡ table.entry) }
     {
         match RowPlaces::of_packages(alloc, table.packages()) {

@@ -74,7 +74,9 @@ impl<'a> Table<'a> {
 
     /// Its packages, in the order of the file.
     pub fn packages(&self) -> &[Package<'a>]
-        ensures { packages_of result.now ≡ self.now.packages }
+        ensures packages { packages_of result.now ≡ self.now.packages }
+        // A chunk is shorter than 4 GiB, so it holds few packages.
+        ensures few { length result.now < 2 ^ 29 }
     {
         &self.packages
     }
@@ -89,7 +91,6 @@ impl<'a> Table<'a> {
     /// All rows, in the order of the file.
     pub fn all_rows(&self) -> AllRows<'_, 'a>
         ensures rows { result ≡ rows_of self.now }
-        // A chunk is shorter than 4 GiB, so it holds few packages.
         ensures few { length result < 2 ^ 92 }
     {
         AllRows::new(&self.packages)

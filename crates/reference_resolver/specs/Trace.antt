@@ -1,0 +1,46 @@
+-- The trace of an id at a device: what each candidate of its look-ups does, and where the id ends.
+use Rattle.std.specs.Prelude.{ℕ, zero, suc, List, [], ◌∷◌, Option, None}
+use Rattle.std.specs.List.{flat_map}
+use Rattle.res_value.specs.declared.res_id.ResId.{ResId}
+use Rattle.overlay_map.specs.Layer.{LayerOf}
+use Rattle.overlay_map.specs.Candidates.{CandOf, candidates_of}
+use Rattle.reference_resolver.specs.declared.end.End.{End}
+use Rattle.reference_resolver.specs.declared.next.Next.{Next}
+use Rattle.reference_resolver.specs.declared.next.Next.TheVariants.{LookUp, EndsAt}
+use Rattle.reference_resolver.specs.declared.step.Step.{Step}
+use Rattle.reference_resolver.specs.Selection.{selected, step_of, told_of}
+use Rattle.reference_resolver.specs.Ends.{next_of, end_of}
+
+-- ---- the look-ups
+
+abbrev look_ups_by : (ResId → List ℕ) → Next → List ℕ
+look_ups_by behind (LookUp target) = behind target
+look_ups_by behind (EndsAt end) = []
+
+-- The ids that are looked up, one after the other, where at most so many references are followed: the first,
+-- and behind each one that selects a reference the id that it names.
+abbrev pub look_ups_of : List LayerOf → ℕ → ℕ → List ℕ → List ℕ
+look_ups_of stack zero id d = id ∷ []
+look_ups_of stack (suc most) id d =
+    id ∷ look_ups_by (λ target. look_ups_of stack most target.0 d) (next_of id (selected stack id d))
+
+-- ---- what is told of the candidates
+
+-- of those of an id, in their order
+abbrev pub told_at : {X : Type 0} → (Option CandOf → CandOf → List ℕ → X) → List LayerOf → List ℕ → ℕ → List X
+told_at tell stack d id = told_of tell None (candidates_of stack id) d
+
+-- of those of each id that is looked up
+abbrev pub told_along : {X : Type 0} → (Option CandOf → CandOf → List ℕ → X) → List LayerOf → ℕ → ℕ → List ℕ → List X
+told_along tell stack most id d = flat_map (told_at tell stack d) (look_ups_of stack most id d)
+
+-- ---- the trace
+
+pub record Trace : Type 0 where
+  -- what each candidate of each look-up does
+  pub steps : List Step
+  pub end : End
+
+-- where at most so many references are followed
+abbrev pub trace_of : List LayerOf → ℕ → ℕ → List ℕ → Trace
+trace_of stack most id d = record { steps = told_along step_of stack most id d; end = end_of stack most id d }

@@ -1,0 +1,37 @@
+//! The command `explain`.
+
+ghost use Rattle.std.specs.Prelude.{map};
+ghost use Rattle.resource_tool.specs.Output.{Prints};
+ghost use Rattle.resource_tool.specs.StackBytesSeen.{layer_bytes};
+ghost use Rattle.resource_tool.specs.ExplainOutput.{explain_output};
+
+use crate::query::is_missing;
+use crate::stack::open_stack;
+use crate::status::Status;
+use config_record::Device;
+use res_value::ResId;
+use resource_text::{ToolFault, explain};
+use std::alloc::Global;
+use std::io::Write;
+
+/// Prints how an id comes to its end for a device: a line for each id that is looked up and one for each
+/// of its candidates, with the rule that decided, and last the end. A layer is the bytes of a table and, at
+/// an overlay, those of an id map. The end is Negative where the id ends as absent or as too long.
+#[tactic(auto, unfolding(crate::specs::ExplainOutput::explain_output))]
+pub fn explain_bytes<W: Write + Drop>(
+    alloc: Global,
+    layers: &[(&[u8], Option<&[u8]>)],
+    device: &[u8],
+    id: ResId,
+    out: &mut W,
+) -> Result<Status, ToolFault>
+    ensures { Prints W.contents out.old out.new result (explain_output (map layer_bytes layers.now) device.now id.0) }
+{
+    let stack = open_stack(alloc, layers)?;
+    let device = Device::read(alloc, device)?;
+    match explain(&stack, id, &device, out) {
+        Ok(end) if is_missing(end) => Ok(Status::Negative),
+        Ok(_) => Ok(Status::Done),
+        Err(_) => Err(ToolFault::Write),
+    }
+}
