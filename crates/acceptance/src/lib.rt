@@ -3,6 +3,8 @@
 #![tactic(auto)]
 
 #[cfg(test)]
+mod bags;
+#[cfg(test)]
 mod chunks;
 #[cfg(test)]
 mod dump;
@@ -24,3 +26,5 @@ mod stack;
 mod table_a;
 #[cfg(test)]
 mod table_b;
+#[cfg(test)]
+mod themes;

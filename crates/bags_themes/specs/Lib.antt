@@ -1,0 +1,5 @@
+pub mod Merge
+pub mod Bag
+pub mod FoundBag
+pub mod Theme
+pub mod Attribute

@@ -1,0 +1,52 @@
+-- Themes (AOSP: ResTable::Theme): what styles have set for attributes.
+use Rattle.std.specs.Prelude.{ℕ, ◌≡◌, ◌≢◌, ◌==◌, Bool, true, ◌&&◌, not, List, map, filter, find, Option, Some, None, Result, Ok, Err, if◌then◌else◌}
+use Rattle.std.specs.List.{last_or}
+use Rattle.std.specs.Map.{lookup}
+use Rattle.std.specs.Option.{option_or}
+use Rattle.res_value.specs.declared.res_id.ResId.{ResId}
+use Rattle.bags_themes.specs.declared.bag_row.BagRow.{BagRow}
+use Rattle.bags_themes.specs.declared.bag_fault.BagFault.{BagFault}
+use Rattle.bags_themes.specs.declared.bag_fault.BagFault.TheVariants.{OutOfMemory}
+use Rattle.bags_themes.specs.declared.theme_value.ThemeValue.{ThemeValue}
+
+-- attributes and their values; no attribute twice
+abbrev pub ThemeOf : Type 0
+ThemeOf = List (ResId × ThemeValue)
+
+-- the value that is set for an attribute, none where it is unset
+abbrev pub value_of : ThemeOf → ℕ → Option ThemeValue
+value_of theme attr = lookup (λ key. attr == key.0) theme
+
+-- of kind 0 with a word other than 1, which is "empty"
+abbrev pub is_undefined_value : ThemeValue → Bool
+is_undefined_value set = set.value.kind == 0 && not (set.value.word == 1)
+
+-- unset, or set to such a value
+abbrev pub is_undefined : Option ThemeValue → Bool
+is_undefined None = true
+is_undefined (Some set) = is_undefined_value set
+
+-- ---- a style is applied
+
+-- the values of the rows of an attribute, in their order
+abbrev pub values_for : ℕ → List BagRow → List ThemeValue
+values_for attr rows = map (λ row. record { layer = row.layer; value = row.value }) (filter (λ row. row.name.0 == attr) rows)
+
+-- What an attribute has behind the values of its rows. With force it is the last of these. Without, it stays what
+-- it was where this was not undefined; else it is the first of the values that is not undefined, or the last of
+-- them. Without rows it stays what it was.
+abbrev pub value_after : Bool → Option ThemeValue → List ThemeValue → Option ThemeValue
+value_after force old values =
+    if force then last_or old values
+    else if is_undefined old then option_or (find (λ set. not (is_undefined_value set)) values) (last_or old values)
+    else old
+
+-- rows were applied to a theme, which was old and is new
+abbrev pub AppliesRows : Bool → List BagRow → ThemeOf → ThemeOf → Type 0
+AppliesRows force rows old new = (attr : ℕ) → value_of new attr ≡ value_after force (value_of old attr) (values_for attr rows)
+
+-- A call applied the rows of a style's bag, which are meant, or told why there are none. Then, and where memory ran
+-- out, the theme is unchanged.
+abbrev pub AppliesStyle : Bool → ThemeOf → ThemeOf → Result (Unit {0}) BagFault → Result (List BagRow) BagFault → Type 0
+AppliesStyle force old new (Ok _) meant = (rows : List BagRow) × (meant ≡ Ok rows) × AppliesRows force rows old new
+AppliesStyle force old new (Err fault) meant = (fault ≢ OutOfMemory → meant ≡ Err fault) × (new ≡ old)

@@ -1,0 +1,54 @@
+//! The rows of the bag of an id.
+
+ghost use Rattle.std.specs.Prelude.{◌≡◌, IfOk};
+ghost use Rattle.contract_words.specs.Exact.{GivesOr};
+ghost use Rattle.config_record.specs.DeviceSeen.{device_numbers};
+ghost use Rattle.bags_themes.specs.Bag.{bag_of, merged};
+ghost use Rattle.bags_themes.specs.FoundBag.{found_bags_of};
+ghost use Rattle.bags_themes.specs.declared.bag_fault.BagFault.TheVariants.{OutOfMemory};
+
+use crate::bag_fault::BagFault;
+use crate::bag_row::BagRow;
+use crate::bag_rows::BagRows;
+use crate::found_bag::FoundBag;
+use crate::merging::merge;
+use crate::parents::with_parents;
+use config_record::Device;
+use overlay_map::Stack;
+use res_value::ResId;
+use std::alloc::{AllocError, Global};
+
+// The most parents that a bag can have, one above the other.
+const MOST_PARENTS: u8 = 64;
+
+/// The rows of the bag that an id selects, merged into those of its parents (AOSP:
+/// `ResTable::getBagLocked`): in file order, each own row stands behind inherited rows of smaller names and in
+/// the place of one of its own name. Parents are found by selection alone. Refused where the id selects
+/// nothing or a value, and where there are more than 64 parents.
+#[tactic(auto, unfolding(crate::specs::Bag::bag_of))]
+pub fn bag(
+    alloc: Global,
+    stack: &Stack<'_>,
+    id: ResId,
+    device: &Device,
+) -> Result<BagRows, BagFault>
+    ensures { GivesOr OutOfMemory (λ rows. rows) result
+        (bag_of stack.now id.0 (device_numbers device.now)) }
+{
+    let bag = FoundBag::select(stack, id, device)?;
+    let chain = with_parents(alloc, stack, bag, device, MOST_PARENTS)?;
+    let rows = merged(alloc, chain)?;
+    Ok(BagRows { rows })
+}
+
+// The rows of a bag and its parents, from the topmost parent down.
+fn merged(alloc: Global, chain: Vec<FoundBag<'_>>) -> Result<Vec<BagRow>, AllocError>
+    ensures { IfOk result (λ rows. rows.items ≡ merged (found_bags_of chain.entry.items)) }
+{
+    let mut left = chain;
+    let mut rows = Vec::new(alloc);
+    'bags: while let Some(bag) = left.pop() {
+        rows = merge(alloc, &rows, &bag)?;
+    }
+    Ok(rows)
+}

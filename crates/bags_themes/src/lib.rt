@@ -1,0 +1,35 @@
+//! Bags, with the rows that they inherit from their parents, and themes, to which bags are applied as styles.
+//!
+//! For the crates above: `bag` gives the rows of a bag merged into those of its parents, each with the layer that
+//! it came from, or tells why there are none. A `Theme` is a finite map from attributes to values; `apply` sets
+//! what the rows of a style set, or leaves the theme unchanged, and `attribute` tells where an attribute ends.
+//!
+//! ```text
+//! let rows = bag(alloc, &stack, id, &device)?;
+//! for row in rows.as_slice() {
+//!     write_value(row.value, &mut out)?;
+//! }
+//! let mut theme = Theme::new(alloc);
+//! theme.apply(&stack, style, true, &device)?;
+//! if let End::Value { layer, value } = theme.attribute(&stack, attr, &device) {
+//!     write_value(value, &mut out)?;
+//! }
+//! ```
+#![tactic(auto)]
+
+mod bag_fault;
+mod bag_row;
+mod bag_rows;
+mod bags;
+mod found_bag;
+mod merging;
+mod parents;
+mod slot;
+mod theme;
+mod theme_value;
+
+pub use bag_fault::BagFault;
+pub use bag_row::BagRow;
+pub use bag_rows::BagRows;
+pub use bags::bag;
+pub use theme::Theme;

@@ -1,0 +1,41 @@
+//! A bag with its parents.
+
+ghost use Rattle.std.specs.Prelude.{◌≡◌};
+ghost use Rattle.contract_words.specs.Exact.{GivesOr};
+ghost use Rattle.config_record.specs.DeviceSeen.{device_numbers};
+ghost use Rattle.bags_themes.specs.Bag.{chain_of};
+ghost use Rattle.bags_themes.specs.FoundBag.{found_bag_of, found_bags_of};
+ghost use Rattle.bags_themes.specs.declared.bag_fault.BagFault.TheVariants.{OutOfMemory};
+
+use crate::bag_fault::BagFault;
+use crate::found_bag::FoundBag;
+use config_record::Device;
+use overlay_map::Stack;
+use std::alloc::Global;
+
+/// A bag, its parent, and so on to the topmost one; there may be so many parents.
+pub(crate) fn with_parents<'a>(
+    alloc: Global,
+    stack: &Stack<'a>,
+    bag: FoundBag<'a>,
+    device: &Device,
+    most: u8,
+) -> Result<Vec<FoundBag<'a>>, BagFault>
+    ensures { GivesOr OutOfMemory (λ chain. found_bags_of chain.items) result
+        (chain_of stack.now most (found_bag_of bag.entry) (device_numbers device.now)) }
+{
+    let mut chain = Vec::new(alloc);
+    let mut bag = bag;
+    let mut left = most;
+    'chain: loop {
+        chain.push(bag)?;
+        let Some(parent) = bag.parent(stack, device) else {
+            return Ok(chain);
+        };
+        if left == 0 {
+            return Err(BagFault::BagDepth);
+        }
+        bag = parent;
+        left -= 1;
+    }
+}

@@ -1,0 +1,54 @@
+//! Where an attribute leads in a theme.
+
+ghost use Rattle.std.specs.Prelude.{◌≡◌};
+ghost use Rattle.std.specs.Option.{option_copied};
+ghost use Rattle.bags_themes.specs.Attribute.{step_of};
+
+use crate::theme_value::ThemeValue;
+use reference_resolver::End;
+use res_value::{ResId, kind};
+
+/// What the attributes that are followed reach.
+#[derive(Clone, Copy, Debug, PartialEq, Eq)]
+pub(crate) enum Slot {
+    /// A reference to this id.
+    Refers(ResId),
+    /// An end.
+    Ends(End),
+}
+
+/// Where one attribute leads.
+#[derive(Clone, Copy, Debug, PartialEq, Eq)]
+pub(crate) enum AttributeStep {
+    /// To this attribute.
+    Follows(ResId),
+    /// No further.
+    Reaches(Slot),
+}
+
+impl AttributeStep {
+    ghost use Rattle.std.specs.Option.{option_copied};
+    ghost use Rattle.bags_themes.specs.Attribute.{step_of};
+
+    /// Where an attribute leads for which this is set, or nothing.
+    pub fn of(attr: ResId, set: Option<&ThemeValue>) -> AttributeStep
+        ensures { result ≡ step_of attr.0 (option_copied set.entry) }
+    {
+        let Some(set) = set else {
+            return AttributeStep::Reaches(Slot::Ends(End::Absent { id: attr }));
+        };
+        let value = set.value;
+        if set.is_undefined() {
+            AttributeStep::Reaches(Slot::Ends(End::Absent { id: attr }))
+        } else if value.kind == kind::ATTRIBUTE {
+            AttributeStep::Follows(ResId(value.word))
+        } else if value.kind == kind::REFERENCE && value.word != 0 {
+            AttributeStep::Reaches(Slot::Refers(ResId(value.word)))
+        } else {
+            AttributeStep::Reaches(Slot::Ends(End::Value {
+                layer: set.layer,
+                value,
+            }))
+        }
+    }
+}

@@ -1,0 +1,26 @@
+//! What a theme has for an attribute.
+
+ghost use Rattle.std.specs.Prelude.{◌≡◌};
+ghost use Rattle.bags_themes.specs.Theme.{is_undefined_value};
+
+use res_value::{Value, kind};
+
+// The word of "empty", a value of kind 0 that is not undefined.
+const EMPTY: u32 = 1;
+
+/// A value that is set for an attribute (AOSP: `ResTable::Theme::theme_entry`).
+#[derive(Clone, Copy, Debug)]
+pub(crate) struct ThemeValue {
+    /// The place of the layer that it came from.
+    pub layer: usize,
+    pub value: Value,
+}
+
+impl ThemeValue {
+    /// Whether it is undefined, so that the attribute is as one that is unset.
+    pub fn is_undefined(&self) -> bool
+        ensures { result ≡ is_undefined_value self.now }
+    {
+        self.value.kind == kind::NULL && self.value.word != EMPTY
+    }
+}
