@@ -13,3 +13,32 @@ program=$here/../crates/restool/out/restool
 table_of_apk() {
     python3 -c 'import sys, zipfile; sys.stdout.buffer.write(zipfile.ZipFile(sys.argv[1]).read("resources.arsc"))' "$1"
 }
+
+# seconds COMMAND..: the least time of three runs, whose output is left in `printed`. A command that finds
+# something absent ends with status 1.
+seconds() {
+    for _ in 1 2 3; do
+        /usr/bin/time -q -f '%e' -o time "$@" >printed
+        ended=$?
+        if [ "$ended" -gt 1 ]; then
+            echo "$(basename "$0"): failed with status $ended: $1 $2 .." >&2
+            return 1
+        fi
+        cat time
+    done >times || return
+    sort -n times | head -n 1
+}
+
+# framework: leaves the table of Android's framework in framework.arsc, that of Debian's package
+# android-framework-res. Where that is not installed it is downloaded and unpacked into the work folder.
+framework() {
+    apk=/usr/share/android-framework-res/framework-res.apk
+    if [ ! -r "$apk" ]; then
+        mkdir root
+        apt-cache show android-framework-res >/dev/null 2>&1 || apt-get update >/dev/null 2>&1
+        apt-get download android-framework-res >download.log 2>&1 || return
+        dpkg -x android-framework-res*.deb root || return
+        apk=$work/root$apk
+    fi
+    table_of_apk "$apk" >framework.arsc
+}

@@ -14,21 +14,6 @@
 cd "$work" || exit 1
 echo '{"density":320}' >device
 
-# seconds COMMAND..: the least time of three runs, whose output is left in `printed`. A query that finds
-# some id absent ends with status 1.
-seconds() {
-    for _ in 1 2 3; do
-        /usr/bin/time -q -f '%e' -o time "$@" >printed
-        ended=$?
-        if [ "$ended" -gt 1 ]; then
-            echo "query.sh: failed with status $ended: $1 $2 .." >&2
-            return 1
-        fi
-        cat time
-    done >times || return
-    sort -n times | head -n 1
-}
-
 # query TABLE IDS: the time of a query of the ids in a file, one a line.
 query() {
     printf '[{"table":"%s"}]' "$1" >layers
@@ -49,19 +34,6 @@ for shape in '1 1' '1 16' '1 255' '16 16' '100 16'; do
 done
 
 # ---- the framework's table
-
-# Leaves the framework's table in framework.arsc.
-framework() {
-    apk=/usr/share/android-framework-res/framework-res.apk
-    if [ ! -r "$apk" ]; then
-        mkdir root
-        apt-cache show android-framework-res >/dev/null 2>&1 || apt-get update >/dev/null 2>&1
-        apt-get download android-framework-res >download.log 2>&1 || return
-        dpkg -x android-framework-res*.deb root || return
-        apk=$work/root$apk
-    fi
-    table_of_apk "$apk" >framework.arsc
-}
 
 if ! framework; then
     echo "query.sh: the framework's table is not to be had" >&2

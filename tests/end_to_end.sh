@@ -96,8 +96,8 @@ fi
 
 # ---- query
 
-# answers LAYERS DEVICE: the ends of all ids of rich.arsc, of which some are absent, and how each comes to its
-# end.
+# answers LAYERS DEVICE: the ends of all ids of rich.arsc, of which some are absent, how each comes to its end, the
+# rows of all bags, and attributes behind some of them.
 answers() {
     cd "$tables" || exit 1
     check "answers of $1 for $2" 1 "$1.$2.query.txt" $none query "$1.layers.json" "$2.device.json" \
@@ -105,6 +105,8 @@ answers() {
     if command -v python3 >/dev/null; then
         ends "explanations of $1 for $2" 0 \
             "python3 '$here/tests/check_explanations.py' \"\$0\" $1.layers.json $2.device.json 4"
+        ends "bags and attributes of $1 for $2" 0 \
+            "python3 '$here/tests/check_bags.py' \"\$0\" $1.layers.json $2.device.json 4"
     fi
     cd "$work" || exit 1
 }
@@ -128,6 +130,9 @@ check "no layers" 1 absent.out $none query none device 0x7f060000
 printf 'lookup 0x7f060000\nend absent 0x7f060000\n' >explained.out
 check "an explanation without candidates" 1 explained.out $none explain none device 0x7f060000
 
+line bagless.out 'no bag Absent'
+check "a bag that is not there" 1 bagless.out $none bag none device 0x7f0c0000
+check "an attribute behind a style that is not there" 1 bagless.out $none attr none device 0x01010036 0x7f0c0000
 # refused NAME LINE: a query of these layers and this device is refused with this line.
 refused() {
     line refused.err "$2"
@@ -209,6 +214,14 @@ ends "help of explain" 0 '"$0" explain --help >help && grep -q LAYERS help'
 ends "explain with two ids" 2 '"$0" explain layers device 0x7f010000 0x7f010001'
 ends "explain of a word that is no id" 2 '"$0" explain layers device 0x7f'
 ends "query without an id" 2 '"$0" query layers device'
+ends "help of bag" 0 '"$0" bag --help >help && grep -q LAYERS help'
+ends "help of attr" 0 '"$0" attr --help >help && grep -q -e --keep help'
+ends "bag with two ids" 2 '"$0" bag layers device 0x7f010000 0x7f010001'
+ends "attr without a style" 2 '"$0" attr layers device 0x01010000'
+line attr.err 'command: bad id 0x0101'
+check "the attribute is the first word that is no id" 2 $none attr.err attr layers device 0x0101 style
+line style.err 'command: bad id style'
+check "a style that is no id" 2 $none style.err attr layers device --keep 0x01010000 0x7f010000 style
 ends "dump of two tables" 2 '"$0" dump a b'
 ends "too many words" 2 '"$0" rows a b'
 ends "a word that is not UTF-8" 2 '"$0" rows "$(printf "\377")"'

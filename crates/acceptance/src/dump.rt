@@ -1,13 +1,11 @@
 //! The rows of a table, printed with names.
 
-use crate::table_a::{put, table_a, table_with};
-use crate::table_b::table_b;
 use chunk_walk::ChunkFault;
 use res_value::ResId;
 use resource_tool::{Status, ToolFault, dump_bytes};
 use std::process::Abort;
 use std::test::Fail;
-use test_layers::layer;
+use test_layers::{layer, put, table_a, table_b, table_with};
 use type_chunks::{Table, TableFault};
 
 fn check_dump<R: Abort + AllocGlobal>(rt: &R, table: &[u8], want: &str) -> Result<(), Fail> {

@@ -1,13 +1,11 @@
 //! Tables that are wrong in one place.
 
-use crate::table_a::{put, table_a};
-use crate::table_b::table_b;
 use chunk_walk::ChunkFault;
 use resource_tool::{dump_bytes, rows_bytes};
 use std::process::Abort;
 use std::test::Fail;
 use string_pool::PoolFault;
-use test_layers::layer;
+use test_layers::{layer, put, table_a, table_b};
 use type_chunks::{Table, TableFault};
 
 // A piece that is put into a table from a place on, and the fault that it makes.

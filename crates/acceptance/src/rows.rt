@@ -1,10 +1,9 @@
 //! The rows of a table, printed.
 
-use crate::table_a::{table_a, table_with};
 use resource_tool::{Status, rows_bytes};
 use std::process::Abort;
 use std::test::Fail;
-use test_layers::layer;
+use test_layers::{layer, table_a, table_with};
 use type_chunks::Table;
 
 fn check_rows<R: Abort + AllocGlobal>(rt: &R, table: &[u8], want: &str) -> Result<(), Fail> {

@@ -1,12 +1,11 @@
 //! The rows of an id, found in an indexed table.
 
-use crate::table_a::put;
 use res_value::ResId;
 use row_index::IndexedTable;
 use std::alloc::{AllocError, Global};
 use std::process::Abort;
 use std::test::Fail;
-use test_layers::layer;
+use test_layers::{layer, put};
 use type_chunks::Table;
 
 /// Where the numbers of a table's header stand: its size, and how many packages it has.

@@ -1,2 +1,3 @@
 pub mod ChainSteps
 pub mod ThemeSteps
+pub mod StyleSteps

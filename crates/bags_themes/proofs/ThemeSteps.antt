@@ -11,7 +11,7 @@ use Rattle.bags_themes.specs.declared.theme_value.ThemeValue.{ThemeValue}
 use Rattle.bags_themes.specs.declared.slot.Slot.{Slot}
 use Rattle.bags_themes.specs.declared.slot.Slot.TheVariants.{Ends}
 use Rattle.bags_themes.specs.declared.slot.AttributeStep.TheVariants.{Follows, Reaches}
-use Rattle.bags_themes.specs.Theme.{ThemeOf, value_of, is_undefined, is_undefined_value, values_for, value_after, AppliesRows}
+use Rattle.bags_themes.specs.Theme.{ThemeOf, AttributeValues, value_of, is_undefined, is_undefined_value, values_for, value_after, AppliesRows}
 use Rattle.bags_themes.specs.Attribute.{step_of, slot_of}
 
 -- ---- the value behind one value more, and behind values
@@ -108,17 +108,17 @@ AppliesRows-set force row set old new is sets updates attr = by (row.name.0 == a
 
 -- ---- attributes that are followed
 
-pub slot_of-reaches : (theme : ThemeOf) (most attr : ℕ) (slot : Slot) → step_of attr (value_of theme attr) ≡ Reaches slot → slot ≡ slot_of theme most attr
+pub slot_of-reaches : (values : AttributeValues) (most attr : ℕ) (slot : Slot) → step_of attr (values attr) ≡ Reaches slot → slot ≡ slot_of values most attr
 unfolding slot_of
-slot_of-reaches theme zero attr slot e = rw e refl
-slot_of-reaches theme (suc most) attr slot e = rw e refl
+slot_of-reaches values zero attr slot e = rw e refl
+slot_of-reaches values (suc most) attr slot e = rw e refl
 
-pub slot_of-long : (theme : ThemeOf) (most attr : ℕ) (target : ResId) → step_of attr (value_of theme attr) ≡ Follows target → most ≡ 0 → Ends (ends.TooLong target) ≡ slot_of theme most attr
+pub slot_of-long : (values : AttributeValues) (most attr : ℕ) (target : ResId) → step_of attr (values attr) ≡ Follows target → most ≡ 0 → Ends (ends.TooLong target) ≡ slot_of values most attr
 unfolding slot_of
-slot_of-long theme most attr target e none = rw (none, e) refl
+slot_of-long values most attr target e none = rw (none, e) refl
 
-pub slot_of-follows : (theme : ThemeOf) (most attr : ℕ) (target : ResId) → step_of attr (value_of theme attr) ≡ Follows target → 0 < most → slot_of theme (most - 1) target.0 ≡ slot_of theme most attr
+pub slot_of-follows : (values : AttributeValues) (most attr : ℕ) (target : ResId) → step_of attr (values attr) ≡ Follows target → 0 < most → slot_of values (most - 1) target.0 ≡ slot_of values most attr
 unfolding slot_of
-slot_of-follows theme zero attr target e some = absurd (omega arith)
-slot_of-follows theme (suc most) attr target e some =
+slot_of-follows values zero attr target e some = absurd (omega arith)
+slot_of-follows values (suc most) attr target e some =
     let same : suc most - 1 ≡ most = omega arith in rw (same, e) refl

@@ -8,12 +8,14 @@ use Rattle.bags_themes.specs.declared.bag_row.BagRow.{BagRow}
 abbrev pub merge : List BagRow → List BagRow → List BagRow
 merge [] own = own
 merge (first ∷ inherited) [] = first ∷ inherited
-merge (first ∷ inherited) (next ∷ own) =
-    if nat_lt first.name.0 next.name.0 then first ∷ merge inherited (next ∷ own)
-    else if first.name.0 == next.name.0 then next ∷ merge inherited own
-    else next ∷ merge (first ∷ inherited) own
+merge (first ∷ inherited) (own_row ∷ own) =
+    if nat_lt first.name.0 own_row.name.0 then first ∷ merge inherited (own_row ∷ own)
+    else if first.name.0 == own_row.name.0 then own_row ∷ merge inherited own
+    else own_row ∷ merge (first ∷ inherited) own
 
--- One own row was merged: rows that were old are new, and of the inherited rows, of which these stood there, others
--- are left for the own rows behind it. Contracts within the crate alone speak of this.
+-- One own row was merged. Written before it were these rows, and after it those; before it these inherited rows
+-- were left, and after it those. To go on from after it, whatever own rows follow, gives what it would have given to
+-- go on from before. Contracts within the crate alone speak of this.
 abbrev pub MergesRow : List BagRow → List BagRow → List BagRow → List BagRow → BagRow → Type 0
-MergesRow old new inherited left next = (own : List BagRow) → old ++ merge inherited (next ∷ own) ≡ new ++ merge left own
+MergesRow before after inherited left own_row =
+    (others : List BagRow) → before ++ merge inherited (own_row ∷ others) ≡ after ++ merge left others

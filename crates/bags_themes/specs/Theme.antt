@@ -13,11 +13,19 @@ use Rattle.bags_themes.specs.declared.theme_value.ThemeValue.{ThemeValue}
 abbrev pub ThemeOf : Type 0
 ThemeOf = List (ResId × ThemeValue)
 
--- the value that is set for an attribute, none where it is unset
-abbrev pub value_of : ThemeOf → ℕ → Option ThemeValue
+-- what is set for each attribute, none where it is unset
+abbrev pub AttributeValues : Type 0
+AttributeValues = ℕ → Option ThemeValue
+
+-- in a theme
+abbrev pub value_of : ThemeOf → AttributeValues
 value_of theme attr = lookup (λ key. attr == key.0) theme
 
--- of kind 0 with a word other than 1, which is "empty"
+-- where nothing was applied
+abbrev pub unset : AttributeValues
+unset attr = None
+
+-- null, but not empty: of kind 0, and the word is not 1
 abbrev pub is_undefined_value : ThemeValue → Bool
 is_undefined_value set = set.value.kind == 0 && not (set.value.word == 1)
 
@@ -32,7 +40,7 @@ is_undefined (Some set) = is_undefined_value set
 abbrev pub values_for : ℕ → List BagRow → List ThemeValue
 values_for attr rows = map (λ row. record { layer = row.layer; value = row.value }) (filter (λ row. row.name.0 == attr) rows)
 
--- What an attribute has behind the values of its rows. With force it is the last of these. Without, it stays what
+-- What an attribute has after the values of its rows. With force it is the last of these. Without, it stays what
 -- it was where this was not undefined; else it is the first of the values that is not undefined, or the last of
 -- them. Without rows it stays what it was.
 abbrev pub value_after : Bool → Option ThemeValue → List ThemeValue → Option ThemeValue
@@ -41,9 +49,13 @@ value_after force old values =
     else if is_undefined old then option_or (find (λ set. not (is_undefined_value set)) values) (last_or old values)
     else old
 
+-- what attributes have after these rows
+abbrev pub values_after : Bool → List BagRow → AttributeValues → AttributeValues
+values_after force rows values attr = value_after force (values attr) (values_for attr rows)
+
 -- rows were applied to a theme, which was old and is new
 abbrev pub AppliesRows : Bool → List BagRow → ThemeOf → ThemeOf → Type 0
-AppliesRows force rows old new = (attr : ℕ) → value_of new attr ≡ value_after force (value_of old attr) (values_for attr rows)
+AppliesRows force rows old new = (attr : ℕ) → value_of new attr ≡ values_after force rows (value_of old) attr
 
 -- A call applied the rows of a style's bag, which are meant, or told why there are none. Then, and where memory ran
 -- out, the theme is unchanged.

@@ -22,8 +22,8 @@ use std::alloc::{AllocError, Global};
 const MOST_PARENTS: u8 = 64;
 
 /// The rows of the bag that an id selects, merged into those of its parents (AOSP:
-/// `ResTable::getBagLocked`): in file order, each own row stands behind inherited rows of smaller names and in
-/// the place of one of its own name. Parents are found by selection alone. Refused where the id selects
+/// `ResTable::getBagLocked`): in file order, each own row goes after the inherited rows of smaller names that are
+/// left, and replaces the next one if that has its name. Parents are found by selection alone. Refused where the id selects
 /// nothing or a value, and where there are more than 64 parents.
 #[tactic(auto, unfolding(crate::specs::Bag::bag_of))]
 pub fn bag(

@@ -2,10 +2,13 @@
 
 ghost use Rattle.std.specs.Prelude.{◌≡◌, ◌≤◌, ◌<◌, ◌+◌, [], length, ◌∷◌};
 ghost use Rattle.indexmap.specs.IndexMap.{spare};
+ghost use Rattle.contract_words.specs.Exact.{GivesOr};
 ghost use Rattle.config_record.specs.DeviceSeen.{device_numbers};
 ghost use Rattle.bags_themes.specs.Bag.{bag_of};
-ghost use Rattle.bags_themes.specs.Theme.{value_of, is_undefined, AppliesRows, AppliesStyle};
+ghost use Rattle.bags_themes.specs.Theme.{value_of, unset, is_undefined, AppliesRows, AppliesStyle};
+ghost use Rattle.bags_themes.specs.Styles.{values_after_styles};
 ghost use Rattle.bags_themes.specs.Attribute.{slot_of, attributes_followed, attribute_of};
+ghost use Rattle.bags_themes.specs.declared.bag_fault.BagFault.TheVariants.{OutOfMemory};
 
 use crate::bag_fault::BagFault;
 use crate::bag_row::BagRow;
@@ -23,8 +26,8 @@ use std::marker::Model;
 // How many attributes are followed, at most.
 const ATTRIBUTES_FOLLOWED: u8 = 20;
 
-// How many references are followed behind a slot that is the first of them, at most.
-const REFERENCES_BEHIND_SLOT: u8 = 19;
+// How many references are followed after that of a slot, at most; it is the first of twenty.
+const REFERENCES_AFTER_SLOT: u8 = 19;
 
 /// What styles have set for attributes (AOSP: `ResTable::Theme`). Contracts see it as the list of attributes
 /// with their values, by look-up alone.
@@ -51,6 +54,26 @@ impl Theme {
         }
     }
 
+    /// A theme to which styles were applied in their order, each as `apply` does. Refused for the first style
+    /// that has no rows to give.
+    #[tactic(auto, using(crate::proofs::StyleSteps::style_steps))]
+    pub fn of_styles(
+        alloc: Global,
+        stack: &Stack<'_>,
+        styles: &[ResId],
+        force: bool,
+        device: &Device,
+    ) -> Result<Theme, BagFault>
+        ensures { GivesOr OutOfMemory value_of result
+            (values_after_styles stack.now force styles.now unset (device_numbers device.now)) }
+    {
+        let mut theme = Theme::new(alloc);
+        for style in styles {
+            theme.apply(stack, *style, force, device)?;
+        }
+        Ok(theme)
+    }
+
     /// Applies a style, the bag of an id, row by row (AOSP: `ResTable::Theme::applyStyle`). With `force` each row
     /// sets its attribute; without, only where this is undefined. Refused where the style has no rows to give, or
     /// where memory runs out; then the theme is unchanged.
@@ -73,17 +96,17 @@ impl Theme {
     /// Where an attribute ends: its value, or that of the attribute that it names, and so on for twenty of them
     /// (AOSP: `ResTable::Theme::resolveAttributeReference`). A reference that is reached is the first of twenty.
     pub fn attribute(&self, stack: &Stack<'_>, attr: ResId, device: &Device) -> End
-        ensures { result ≡ attribute_of stack.now self.now attr.0 (device_numbers device.now) }
+        ensures { result ≡ attribute_of stack.now (value_of self.now) attr.0 (device_numbers device.now) }
     {
         match self.slot(attr, ATTRIBUTES_FOLLOWED) {
-            Slot::Refers(target) => resolve_within(stack, target, device, REFERENCES_BEHIND_SLOT),
+            Slot::Refers(target) => resolve_within(stack, target, device, REFERENCES_AFTER_SLOT),
             Slot::Ends(end) => end,
         }
     }
 
     // What an attribute reaches where at most so many are followed.
     fn slot(&self, attr: ResId, most: u8) -> Slot
-        ensures { result ≡ slot_of self.now most attr.0 }
+        ensures { result ≡ slot_of (value_of self.now) most attr.0 }
     {
         let mut attr = attr;
         let mut left = most;

@@ -5,9 +5,10 @@ use Rattle.std.proofs.lemmas.Bool.{cases_lt}
 use Rattle.std.proofs.lemmas.Option.{slice_get_within}
 use Rattle.config_match.specs.Matching.{is_match}
 use Rattle.overlay_map.specs.Candidates.{CandOf}
+use Rattle.reference_resolver.specs.declared.step.Step.{Step}
 use Rattle.reference_resolver.specs.declared.step.Step.TheVariants.{NoMatch, KeptOut, TookOver}
-use Rattle.reference_resolver.specs.Selection.{beats_best, step_of, best_after, best_of}
-use Rattle.reference_resolver.specs.Takers.{takes_over, ArePassedOver, AreTakers, last_taker, IsTheSelected}
+use Rattle.reference_resolver.specs.Selection.{beats_best, step_of, best_after, scan_candidates, best_of}
+use Rattle.reference_resolver.specs.Takers.{takes_over, ArePassedOver, AreTakers, last_taker, places_taken, IsTheSelected}
 
 -- from a place on these candidates stand
 pub record StandsAt (all : List CandOf) (from : ℕ) (left : List CandOf) : Type 0 where
@@ -46,14 +47,17 @@ takes_both (Some best) c d = refl
 -- a candidate that matches (x) and beats the best (y) takes over (z)
 cases_by : (last : Option CandOf) (c : CandOf) (x y z : Bool) → z ≡ (x && y)
     → ((z ≡ true) × ((if x then (if y then TookOver else KeptOut) else NoMatch) ≡ TookOver))
-    ⊎ ((z ≡ false) × (best_after (if x then (if y then TookOver else KeptOut) else NoMatch) last c ≡ last))
-cases_by last c false y z e = inr (e, refl)
-cases_by last c true false z e = inr (e, refl)
+    ⊎ ((z ≡ false) × (best_after (if x then (if y then TookOver else KeptOut) else NoMatch) last c ≡ last)
+    × ((from : ℕ) (steps : List Step) → places_taken from ((if x then (if y then TookOver else KeptOut) else NoMatch) ∷ steps) ≡ places_taken (from + 1) steps))
+cases_by last c false y z e = inr (e, refl, (λ from steps. refl))
+cases_by last c true false z e = inr (e, refl, (λ from steps. refl))
 cases_by last c true true z e = inl (e, refl)
 
 -- a candidate takes over, or the best stays
 step_cases : (last : Option CandOf) (c : CandOf) (d : List ℕ)
-    → ((takes_over last c d ≡ true) × (step_of last c d ≡ TookOver)) ⊎ ((takes_over last c d ≡ false) × (best_after (step_of last c d) last c ≡ last))
+    → ((takes_over last c d ≡ true) × (step_of last c d ≡ TookOver))
+    ⊎ ((takes_over last c d ≡ false) × (best_after (step_of last c d) last c ≡ last)
+    × ((from : ℕ) (steps : List Step) → places_taken from (step_of last c d ∷ steps) ≡ places_taken (from + 1) steps))
 step_cases last c d = cases_by last c (is_match c.row.config d) (beats_best last c d) (takes_over last c d) (takes_both last c d)
 
 -- ---- there is one
@@ -73,10 +77,11 @@ takers_more all d last from c [] at_from kept passed = pass_more all d last from
 takers_more all d last from c (place ∷ places) at_from kept takers =
     (omega (arith, takers.0), pass_more all d last from place c at_from kept takers.1, takers.2)
 
--- the best of all is the candidate at the last taker
+-- the best of all is the candidate at the last taker, and the takers are those of the steps
 selects : (all : List CandOf) (from : ℕ) (left : List CandOf) (last : Option CandOf) (d : List ℕ) → StandsAt all from left
     → (places : List ℕ) × AreTakers all d last from places × (best_of last left d ≡ last_taker all last places)
-selects all from [] last d stands = ([], (λ place c p q e. let n : length all ≡ from + 0 = stands.count in absurd (omega arith)), refl)
+    × (places ≡ places_taken from (scan_candidates step_of last left d))
+selects all from [] last d stands = ([], (λ place c p q e. let n : length all ≡ from + 0 = stands.count in absurd (omega arith)), refl, refl)
 selects all from (c ∷ left) last d stands =
     let e = stands_first all from c left stands in
     elim (step_cases last c d) [
@@ -84,9 +89,16 @@ selects all from (c ∷ left) last d stands =
         from ∷ rest.0,
         (omega arith, (λ place x p q g. absurd (omega arith)), (c, e, taken.0, rest.1)),
         ap (λ z. best_of (best_after z last c) left d) taken.1 ∙ rest.2 ∙ ap (λ o. last_taker all o rest.0) (sym e),
+        ap (λ (places : List ℕ). from ∷ places) rest.3 ∙ ap (λ (z : Step). places_taken from (z ∷ scan_candidates step_of (best_after z last c) left d)) (sym taken.1),
       ))
-      | inr kept ↦ (let rest = selects all (from + 1) left last d (stands_next all from c left stands) in
-          (rest.0, takers_more all d last from c rest.0 e kept.0 rest.1, ap (λ o. best_of o left d) kept.1 ∙ rest.2))
+      | inr kept ↦ (let rest = selects all (from + 1) left last d (stands_next all from c left stands) in (
+        rest.0,
+        takers_more all d last from c rest.0 e kept.0 rest.1,
+        ap (λ o. best_of o left d) kept.1 ∙ rest.2,
+        rest.3
+            ∙ ap (λ o. places_taken (from + 1) (scan_candidates step_of o left d)) (sym kept.1)
+            ∙ sym (kept.2 from (scan_candidates step_of (best_after (step_of last c d) last c) left d)),
+      ))
     ]
 
 -- ---- there is no other
@@ -130,7 +142,10 @@ only all from (c ∷ left) last d (place ∷ places) stands takers =
     ]
 
 pub best_is_selected : (all : List CandOf) (d : List ℕ) → IsTheSelected all d (best_of None all d)
-best_is_selected all d = record {
-  is = selects all 0 all None d (stands_all all);
-  only = λ other h. h.2 ∙ only all 0 all None d h.0 (stands_all all) h.1;
-}
+best_is_selected all d =
+    let selection = selects all 0 all None d (stands_all all) in
+    record {
+      is = (selection.0, selection.1, selection.2);
+      only = λ other h. h.2 ∙ only all 0 all None d h.0 (stands_all all) h.1;
+      steps = subst (λ (places : List ℕ). AreTakers all d None 0 places) selection.3 selection.1;
+    }

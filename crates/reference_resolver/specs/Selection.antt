@@ -26,19 +26,19 @@ step_of best candidate d =
     if is_match candidate.row.config d then (if beats_best best candidate d then TookOver else KeptOut)
     else NoMatch
 
--- the best behind such a step
+-- the best after such a step
 abbrev pub best_after : Step → Option CandOf → CandOf → Option CandOf
 best_after NoMatch best candidate = best
 best_after KeptOut best candidate = best
 best_after TookOver best candidate = Some candidate
 
--- What is told of candidates in turn, of each by the best before it. This one is the best before them all.
-abbrev pub told_of : {X : Type 0} → (Option CandOf → CandOf → List ℕ → X) → Option CandOf → List CandOf → List ℕ → List X
-told_of tell best [] d = []
-told_of tell best (candidate ∷ candidates) d =
-    tell best candidate d ∷ told_of tell (best_after (step_of best candidate d) best candidate) candidates d
+-- What is told of each candidate in turn, by the best before it. This one is the best before them all.
+abbrev pub scan_candidates : {X : Type 0} → (Option CandOf → CandOf → List ℕ → X) → Option CandOf → List CandOf → List ℕ → List X
+scan_candidates tell best [] d = []
+scan_candidates tell best (candidate ∷ candidates) d =
+    tell best candidate d ∷ scan_candidates tell (best_after (step_of best candidate d) best candidate) candidates d
 
--- the best behind them
+-- the best after them
 abbrev pub best_of : Option CandOf → List CandOf → List ℕ → Option CandOf
 best_of best [] d = best
 best_of best (candidate ∷ candidates) d =

@@ -3,7 +3,9 @@
 use Rattle.std.specs.Prelude.{ℕ, ◌≡◌, ◌≤◌, ◌<◌, ◌+◌, Bool, ◌&&◌, List, [], ◌∷◌, Option, Some, None, IsTrue, IsFalse, slice_get, length}
 use Rattle.config_match.specs.Matching.{is_match}
 use Rattle.overlay_map.specs.Candidates.{CandOf}
-use Rattle.reference_resolver.specs.Selection.{beats}
+use Rattle.reference_resolver.specs.declared.step.Step.{Step}
+use Rattle.reference_resolver.specs.declared.step.Step.TheVariants.{NoMatch, KeptOut, TookOver}
+use Rattle.reference_resolver.specs.Selection.{beats, step_of, scan_candidates}
 
 -- a candidate matches, and it beats the last that took over, if one did
 abbrev pub takes_over : Option CandOf → CandOf → List ℕ → Bool
@@ -35,7 +37,15 @@ abbrev pub IsSelected : List CandOf → List ℕ → Option CandOf → Type 0
 IsSelected candidates d chosen =
     (places : List ℕ) × AreTakers candidates d None 0 places × (chosen ≡ last_taker candidates None places)
 
--- there is one such, and it is this
+-- the places at which steps take over, of which the first stands at this place
+abbrev pub places_taken : ℕ → List Step → List ℕ
+places_taken place [] = []
+places_taken place (TookOver ∷ steps) = place ∷ places_taken (place + 1) steps
+places_taken place (NoMatch ∷ steps) = places_taken (place + 1) steps
+places_taken place (KeptOut ∷ steps) = places_taken (place + 1) steps
+
+-- there is one such, and it is this; and the steps that take over are those at such places
 pub record IsTheSelected (candidates : List CandOf) (d : List ℕ) (chosen : Option CandOf) : Type 0 where
   pub is : IsSelected candidates d chosen
   pub only : (other : Option CandOf) → IsSelected candidates d other → other ≡ chosen
+  pub steps : AreTakers candidates d None 0 (places_taken 0 (scan_candidates step_of None candidates d))

@@ -8,17 +8,17 @@ use Rattle.reference_resolver.specs.declared.end.End.{End}
 use Rattle.reference_resolver.specs.declared.next.Next.{Next}
 use Rattle.reference_resolver.specs.declared.next.Next.TheVariants.{LookUp, EndsAt}
 use Rattle.reference_resolver.specs.declared.step.Step.{Step}
-use Rattle.reference_resolver.specs.Selection.{selected, step_of, told_of}
+use Rattle.reference_resolver.specs.Selection.{selected, step_of, scan_candidates}
 use Rattle.reference_resolver.specs.Ends.{next_of, end_of}
 
 -- ---- the look-ups
 
 abbrev look_ups_by : (ResId → List ℕ) → Next → List ℕ
-look_ups_by behind (LookUp target) = behind target
-look_ups_by behind (EndsAt end) = []
+look_ups_by after (LookUp target) = after target
+look_ups_by after (EndsAt end) = []
 
 -- The ids that are looked up, one after the other, where at most so many references are followed: the first,
--- and behind each one that selects a reference the id that it names.
+-- and after each one that selects a reference the id that it names.
 abbrev pub look_ups_of : List LayerOf → ℕ → ℕ → List ℕ → List ℕ
 look_ups_of stack zero id d = id ∷ []
 look_ups_of stack (suc most) id d =
@@ -27,12 +27,12 @@ look_ups_of stack (suc most) id d =
 -- ---- what is told of the candidates
 
 -- of those of an id, in their order
-abbrev pub told_at : {X : Type 0} → (Option CandOf → CandOf → List ℕ → X) → List LayerOf → List ℕ → ℕ → List X
-told_at tell stack d id = told_of tell None (candidates_of stack id) d
+abbrev pub scan_look_up : {X : Type 0} → (Option CandOf → CandOf → List ℕ → X) → List LayerOf → List ℕ → ℕ → List X
+scan_look_up tell stack d id = scan_candidates tell None (candidates_of stack id) d
 
 -- of those of each id that is looked up
-abbrev pub told_along : {X : Type 0} → (Option CandOf → CandOf → List ℕ → X) → List LayerOf → ℕ → ℕ → List ℕ → List X
-told_along tell stack most id d = flat_map (told_at tell stack d) (look_ups_of stack most id d)
+abbrev pub scan_chain : {X : Type 0} → (Option CandOf → CandOf → List ℕ → X) → List LayerOf → ℕ → ℕ → List ℕ → List X
+scan_chain tell stack most id d = flat_map (scan_look_up tell stack d) (look_ups_of stack most id d)
 
 -- ---- the trace
 
@@ -43,4 +43,4 @@ pub record Trace : Type 0 where
 
 -- where at most so many references are followed
 abbrev pub trace_of : List LayerOf → ℕ → ℕ → List ℕ → Trace
-trace_of stack most id d = record { steps = told_along step_of stack most id d; end = end_of stack most id d }
+trace_of stack most id d = record { steps = scan_chain step_of stack most id d; end = end_of stack most id d }

@@ -13,24 +13,24 @@ use Rattle.res_value.specs.ResId.{id_text}
 use Rattle.res_value.specs.ValueText.{value_text}
 use Rattle.config_record.specs.Qualifiers.{record_text}
 use Rattle.type_chunks.specs.Row.{RowOf}
-use Rattle.resource_text.specs.declared.cell.CellStyle.{CellStyle}
+use Rattle.resource_text.specs.declared.cell.RowFormat.{RowFormat}
 
 -- In what two texts of the same rows differ: what stands before each line of a row of a bag, and the
 -- strings that string values name. Without strings a value stands by itself.
-pub record StyleOf : Type 0 where
+pub record RowFormatOf : Type 0 where
   pub indent : List ℕ
   pub strings : Option PoolOf
 
-abbrev pub style_of : CellStyle → StyleOf
-style_of style = record { indent = style.indent.now; strings = option_map pool_of style.strings }
+abbrev pub format_of : RowFormat → RowFormatOf
+format_of format = record { indent = format.indent.now; strings = option_map pool_of format.strings }
 
 -- behind a value of kind 3, which is a string (AOSP: Res_value::TYPE_STRING), the string of its word
 unfoldable pub string_behind : PoolOf → Value → List ℕ
 string_behind strings value = if value.kind == 3 then codes " " ++ string_text (text_in strings value.word) else []
 
-unfoldable pub styled_value : Option PoolOf → Value → List ℕ
-styled_value None value = value_text value
-styled_value (Some strings) value = value_text value ++ string_behind strings value
+unfoldable pub value_with_string : Option PoolOf → Value → List ℕ
+value_with_string None value = value_text value
+value_with_string (Some strings) value = value_text value ++ string_behind strings value
 
 -- `parent ID`
 unfoldable pub parent_text : ℕ → List ℕ
@@ -41,20 +41,20 @@ unfoldable pub bag_text : ℕ → ℕ → List ℕ
 bag_text parent count = codes "bag " ++ parent_text parent ++ codes " count " ++ decimal count
 
 -- what an entry holds, in the line of its row: a value, or a bag with its count of rows
-unfoldable pub cell_text : StyleOf → CellOf → List ℕ
-cell_text style (PlainOf value) = styled_value style.strings value
-cell_text style (BagOf parent rows) = bag_text parent.0 (length rows)
+unfoldable pub cell_text : RowFormatOf → CellOf → List ℕ
+cell_text format (PlainOf value) = value_with_string format.strings value
+cell_text format (BagOf parent rows) = bag_text parent.0 (length rows)
 
 -- the line of a row of a bag: `NAME VALUE` behind the indent
-unfoldable pub map_row_text : StyleOf → (ResId × Value) → List ℕ
-map_row_text style row = style.indent ++ id_text row.0.0 ++ codes " " ++ styled_value style.strings row.1 ++ 10 ∷ []
+unfoldable pub map_row_text : RowFormatOf → (ResId × Value) → List ℕ
+map_row_text format row = format.indent ++ id_text row.0.0 ++ codes " " ++ value_with_string format.strings row.1 ++ 10 ∷ []
 
 -- the lines of a bag's rows
-unfoldable pub map_rows_text : StyleOf → CellOf → List ℕ
-map_rows_text style (PlainOf value) = []
-map_rows_text style (BagOf parent rows) = flat_map (map_row_text style) rows
+unfoldable pub map_rows_text : RowFormatOf → CellOf → List ℕ
+map_rows_text format (PlainOf value) = []
+map_rows_text format (BagOf parent rows) = flat_map (map_row_text format) rows
 
 -- how the line of a row ends, `RECORD VALUE`, and the lines of a bag
-unfoldable pub row_end_text : StyleOf → RowOf → List ℕ
-row_end_text style row =
-    record_text row.config ++ codes " " ++ cell_text style row.cell ++ 10 ∷ [] ++ map_rows_text style row.cell
+unfoldable pub row_end_text : RowFormatOf → RowOf → List ℕ
+row_end_text format row =
+    record_text row.config ++ codes " " ++ cell_text format row.cell ++ 10 ∷ [] ++ map_rows_text format row.cell

@@ -10,11 +10,11 @@ use Rattle.type_chunks.specs.Row.{RowOf}
 use Rattle.type_chunks.specs.Package.{PackageOf}
 use Rattle.type_chunks.specs.Table.{TableOf}
 use Rattle.type_chunks.specs.Names.{type_name_in, key_name_in}
-use Rattle.resource_text.specs.CellText.{StyleOf, row_end_text}
+use Rattle.resource_text.specs.CellText.{RowFormatOf, row_end_text}
 
 -- four spaces before the lines of a bag, and these strings
-unfoldable pub dump_style : PoolOf → StyleOf
-dump_style strings = record { indent = codes "    "; strings = Some strings }
+unfoldable pub dump_format : PoolOf → RowFormatOf
+dump_format strings = record { indent = codes "    "; strings = Some strings }
 
 -- the line `package 0xKK NAME`
 unfoldable pub package_line : PackageOf → List ℕ
@@ -28,7 +28,7 @@ names_text table row = string_text (type_name_in table row) ++ codes "/" ++ stri
 unfoldable pub row_text : TableOf → RowOf → List ℕ
 row_text table row =
     codes "  " ++ id_text row.id ++ codes " " ++ names_text table row
-    ++ codes " flags " ++ word_text row.flags ++ codes " " ++ row_end_text (dump_style table.strings) row
+    ++ codes " flags " ++ word_text row.flags ++ codes " " ++ row_end_text (dump_format table.strings) row
 
 -- the line of a package, and those of its rows in their order
 unfoldable pub package_text : TableOf → PackageOf → List ℕ

@@ -6,11 +6,11 @@ use Rattle.res_value.specs.ResId.{id_text}
 use Rattle.reference_resolver.specs.declared.end.End.{End}
 use Rattle.reference_resolver.specs.declared.end.End.TheVariants as of_end
 use Rattle.resource_text.specs.LayerText.{layer_text}
-use Rattle.resource_text.specs.CellText.{styled_value}
+use Rattle.resource_text.specs.CellText.{value_with_string}
 
 -- `value layer L VALUE`
 unfoldable pub value_end_text : Option PoolOf → ℕ → Value → List ℕ
-value_end_text strings layer value = codes "value " ++ layer_text layer ++ codes " " ++ styled_value strings value
+value_end_text strings layer value = codes "value " ++ layer_text layer ++ codes " " ++ value_with_string strings value
 
 -- `bag ID`
 unfoldable pub bag_end_text : ℕ → List ℕ
@@ -25,12 +25,12 @@ unfoldable pub too_long_end_text : ℕ → List ℕ
 too_long_end_text id = codes "too long " ++ id_text id
 
 -- An end. Where strings are given, a string value is followed by its string among them.
-unfoldable pub styled_end : Option PoolOf → End → List ℕ
-styled_end strings (of_end.Value layer value) = value_end_text strings layer value
-styled_end strings (of_end.Bag id) = bag_end_text id.0
-styled_end strings (of_end.Absent id) = absent_end_text id.0
-styled_end strings (of_end.TooLong id) = too_long_end_text id.0
+unfoldable pub end_with_string : Option PoolOf → End → List ℕ
+end_with_string strings (of_end.Value layer value) = value_end_text strings layer value
+end_with_string strings (of_end.Bag id) = bag_end_text id.0
+end_with_string strings (of_end.Absent id) = absent_end_text id.0
+end_with_string strings (of_end.TooLong id) = too_long_end_text id.0
 
 -- an end with its value alone
 abbrev pub end_text : End → List ℕ
-end_text end = styled_end None end
+end_text end = end_with_string None end

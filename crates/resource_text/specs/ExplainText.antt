@@ -10,7 +10,7 @@ use Rattle.overlay_map.specs.Layer.{LayerOf}
 use Rattle.overlay_map.specs.Candidates.{CandOf}
 use Rattle.reference_resolver.specs.declared.end.End.{End}
 use Rattle.reference_resolver.specs.Ends.{references_followed, end_of}
-use Rattle.reference_resolver.specs.Trace.{look_ups_of, told_at, told_along, trace_of}
+use Rattle.reference_resolver.specs.Trace.{look_ups_of, scan_look_up, scan_chain, trace_of}
 use Rattle.resource_text.specs.declared.decision.Decision.{Decision}
 use Rattle.resource_text.specs.declared.decision.Decision.TheVariants.{SetAside, NoMatch, First, TookOver, TookOverEqual, KeptOut}
 use Rattle.resource_text.specs.Decision.{decision_of, step_by}
@@ -37,19 +37,19 @@ decision_text TookOverEqual = codes "took over equal"
 decision_text (KeptOut rule) = codes "kept out" ++ rule_text rule
 
 -- a candidate, and what is told of it
-pub record Told : Type 0 where
+pub record ExplainedCandidate : Type 0 where
   pub candidate : CandOf
   pub decision : Decision
 
-abbrev pub told_by : Option CandOf → CandOf → List ℕ → Told
-told_by best candidate d = record { candidate = candidate; decision = decision_of best candidate d }
+abbrev pub explained : Option CandOf → CandOf → List ℕ → ExplainedCandidate
+explained best candidate d = record { candidate = candidate; decision = decision_of best candidate d }
 
 -- `candidate K layer L`
 unfoldable pub place_text : ℕ → ℕ → List ℕ
 place_text place layer = codes "candidate " ++ decimal place ++ codes " " ++ layer_text layer
 
 -- the line `candidate K layer L RECORD DECISION`
-unfoldable pub candidate_line : (ℕ × Told) → List ℕ
+unfoldable pub candidate_line : (ℕ × ExplainedCandidate) → List ℕ
 candidate_line numbered =
     place_text numbered.0 numbered.1.candidate.layer ++ codes " " ++ record_text numbered.1.candidate.row.config
     ++ codes " " ++ decision_text numbered.1.decision ++ 10 ∷ []
@@ -62,7 +62,7 @@ look_up_line id = codes "lookup " ++ id_text id ++ 10 ∷ []
 
 -- the lines of the candidates of an id, which are counted from 0
 unfoldable pub candidate_lines : List LayerOf → List ℕ → ℕ → List ℕ
-candidate_lines stack d id = flat_map candidate_line (enumerate_from 0 (told_at told_by stack d id))
+candidate_lines stack d id = flat_map candidate_line (enumerate_from 0 (scan_look_up explained stack d id))
 
 unfoldable pub look_up_text : List LayerOf → List ℕ → ℕ → List ℕ
 look_up_text stack d id = look_up_line id ++ candidate_lines stack d id
@@ -82,5 +82,5 @@ explain_text stack id d =
 -- What is told of the candidates is what they do by the trace.
 unfoldable pub TellsTheTrace : List LayerOf → ℕ → List ℕ → Type 0
 TellsTheTrace stack id d =
-    map (λ told. step_by told.decision) (told_along told_by stack references_followed id d)
+    map (λ told. step_by told.decision) (scan_chain explained stack references_followed id d)
     ≡ (trace_of stack references_followed id d).steps

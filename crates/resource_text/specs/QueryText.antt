@@ -7,7 +7,7 @@ use Rattle.res_value.specs.ResId.{id_text}
 use Rattle.overlay_map.specs.Layer.{LayerOf}
 use Rattle.reference_resolver.specs.declared.end.End.{End}
 use Rattle.reference_resolver.specs.declared.end.End.TheVariants as of_end
-use Rattle.resource_text.specs.EndText.{styled_end}
+use Rattle.resource_text.specs.EndText.{end_with_string}
 
 -- the strings that the values of a layer name: those of its own table
 abbrev pub strings_of_layer : List LayerOf → ℕ → Option PoolOf
@@ -20,7 +20,7 @@ strings_of_end stack end = None
 
 -- the line `ID END`; a string value is followed by its string
 unfoldable pub query_line : List LayerOf → ℕ → End → List ℕ
-query_line stack id end = id_text id ++ codes " " ++ styled_end (strings_of_end stack end) end ++ 10 ∷ []
+query_line stack id end = id_text id ++ codes " " ++ end_with_string (strings_of_end stack end) end ++ 10 ∷ []
 
 -- the line `set-aside M`
 unfoldable pub set_aside_line : ℕ → List ℕ

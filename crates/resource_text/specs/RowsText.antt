@@ -5,15 +5,15 @@ use Rattle.std.specs.Fmt.{decimal}
 use Rattle.res_value.specs.ResId.{id_text}
 use Rattle.type_chunks.specs.Row.{RowOf, set_aside_count}
 use Rattle.type_chunks.specs.Table.{TableOf, rows_of}
-use Rattle.resource_text.specs.CellText.{StyleOf, row_end_text}
+use Rattle.resource_text.specs.CellText.{RowFormatOf, row_end_text}
 
 -- two spaces before the lines of a bag, and no strings
-unfoldable pub rows_style : StyleOf
-rows_style = record { indent = codes "  "; strings = None }
+unfoldable pub rows_format : RowFormatOf
+rows_format = record { indent = codes "  "; strings = None }
 
 -- the line `row ID RECORD VALUE`, and those of a bag
 unfoldable pub row_text : RowOf → List ℕ
-row_text row = codes "row " ++ id_text row.id ++ codes " " ++ row_end_text rows_style row
+row_text row = codes "row " ++ id_text row.id ++ codes " " ++ row_end_text rows_format row
 
 -- the line `rows N set-aside M`
 unfoldable pub totals_text : ℕ → ℕ → List ℕ

@@ -7,7 +7,7 @@ ghost use Rattle.string_pool.specs.Pool.{pool_of};
 ghost use Rattle.res_value.specs.Cell.{cell_of};
 ghost use Rattle.res_value.specs.MapRows.{map_rows_of};
 ghost use Rattle.type_chunks.specs.Row.{row_of};
-ghost use Rattle.resource_text.specs.CellText.{style_of, string_behind, styled_value, parent_text, bag_text, cell_text, map_row_text, map_rows_text, row_end_text};
+ghost use Rattle.resource_text.specs.CellText.{format_of, string_behind, value_with_string, parent_text, bag_text, cell_text, map_row_text, map_rows_text, row_end_text};
 
 use res_value::{Cell, MapRows, ResId, Value, kind, write_id, write_value};
 use std::io::{self, Write};
@@ -16,7 +16,7 @@ use type_chunks::Row;
 
 /// The two ways in which the texts of rows differ.
 #[derive(Clone, Copy, Debug)]
-pub(crate) struct CellStyle<'a> {
+pub(crate) struct RowFormat<'a> {
     /// What stands before each line of a row of a bag.
     pub indent: &'a str,
     /// The strings that string values name. Where they are given, such a value is followed by its
@@ -28,37 +28,37 @@ pub(crate) struct CellStyle<'a> {
 /// bag.
 #[tactic(auto, unfolding(crate::specs::CellText::row_end_text))]
 pub(crate) fn write_row_end<W: Write + Drop>(
-    style: CellStyle<'_>,
+    format: RowFormat<'_>,
     row: &Row<'_>,
     out: &mut W,
 ) -> io::Result<()>
-    ensures { Writes W.contents out.old out.new result (row_end_text (style_of style.entry) (row_of row.now)) }
+    ensures { Writes W.contents out.old out.new result (row_end_text (format_of format.entry) (row_of row.now)) }
 {
     row.config.write_qualifiers(out)?;
     out.write_all(b" ")?;
-    write_cell(style, row.cell, out)?;
+    write_cell(format, row.cell, out)?;
     out.write_all(b"\n")?;
-    write_map_rows(style, row.cell, out)
+    write_map_rows(format, row.cell, out)
 }
 
 #[tactic(auto, unfolding(crate::specs::CellText::cell_text))]
-fn write_cell<W: Write + Drop>(style: CellStyle<'_>, cell: Cell<'_>, out: &mut W) -> io::Result<()>
-    ensures { Writes W.contents out.old out.new result (cell_text (style_of style.entry) (cell_of cell.entry)) }
+fn write_cell<W: Write + Drop>(format: RowFormat<'_>, cell: Cell<'_>, out: &mut W) -> io::Result<()>
+    ensures { Writes W.contents out.old out.new result (cell_text (format_of format.entry) (cell_of cell.entry)) }
 {
     match cell {
-        Cell::Plain(value) => write_styled_value(style.strings, value, out),
+        Cell::Plain(value) => write_value_with_string(format.strings, value, out),
         Cell::Bag { parent, rows } => write_bag(parent, rows.len(), out),
     }
 }
 
 /// Writes a value. Where strings are given, a string value is followed by its string among them.
-#[tactic(auto, unfolding(crate::specs::CellText::styled_value))]
-pub(crate) fn write_styled_value<W: Write + Drop>(
+#[tactic(auto, unfolding(crate::specs::CellText::value_with_string))]
+pub(crate) fn write_value_with_string<W: Write + Drop>(
     strings: Option<Pool<'_>>,
     value: Value,
     out: &mut W,
 ) -> io::Result<()>
-    ensures { Writes W.contents out.old out.new result (styled_value (option_map pool_of strings.entry) value) }
+    ensures { Writes W.contents out.old out.new result (value_with_string (option_map pool_of strings.entry) value) }
 {
     write_value(value, out)?;
     match strings {
@@ -101,44 +101,44 @@ fn write_parent<W: Write + Drop>(parent: ResId, out: &mut W) -> io::Result<()>
 
 #[tactic(auto, unfolding(crate::specs::CellText::map_rows_text))]
 fn write_map_rows<W: Write + Drop>(
-    style: CellStyle<'_>,
+    format: RowFormat<'_>,
     cell: Cell<'_>,
     out: &mut W,
 ) -> io::Result<()>
-    ensures { Writes W.contents out.old out.new result (map_rows_text (style_of style.entry) (cell_of cell.entry)) }
+    ensures { Writes W.contents out.old out.new result (map_rows_text (format_of format.entry) (cell_of cell.entry)) }
 {
     match cell {
         Cell::Plain(_) => Ok(()),
-        Cell::Bag { rows, .. } => write_each_map_row(style, rows, out),
+        Cell::Bag { rows, .. } => write_each_map_row(format, rows, out),
     }
 }
 
 #[tactic(auto, using(contract_words::proofs::TextSteps::puts, std::proofs::lemmas::Grind::common_steps))]
 fn write_each_map_row<W: Write + Drop>(
-    style: CellStyle<'_>,
+    format: RowFormat<'_>,
     rows: MapRows<'_>,
     out: &mut W,
 ) -> io::Result<()>
-    ensures { Writes W.contents out.old out.new result (flat_map (map_row_text (style_of style.entry)) (map_rows_of rows.entry)) }
+    ensures { Writes W.contents out.old out.new result (flat_map (map_row_text (format_of format.entry)) (map_rows_of rows.entry)) }
 {
     for (name, value) in rows {
-        write_map_row(style, name, value, out)?;
+        write_map_row(format, name, value, out)?;
     }
     Ok(())
 }
 
 #[tactic(auto, unfolding(crate::specs::CellText::map_row_text))]
 fn write_map_row<W: Write + Drop>(
-    style: CellStyle<'_>,
+    format: RowFormat<'_>,
     name: ResId,
     value: Value,
     out: &mut W,
 ) -> io::Result<()>
-    ensures { Writes W.contents out.old out.new result (map_row_text (style_of style.entry) (name, value)) }
+    ensures { Writes W.contents out.old out.new result (map_row_text (format_of format.entry) (name, value)) }
 {
-    out.write_all(style.indent.as_bytes())?;
+    out.write_all(format.indent.as_bytes())?;
     write_id(name, out)?;
     out.write_all(b" ")?;
-    write_styled_value(style.strings, value, out)?;
+    write_value_with_string(format.strings, value, out)?;
     out.write_all(b"\n")
 }

@@ -6,7 +6,7 @@ ghost use Rattle.type_chunks.specs.Row.{row_of};
 ghost use Rattle.type_chunks.specs.Package.{package_of};
 ghost use Rattle.resource_text.specs.DumpText.{package_line, names_text, row_text, package_text, dump_text};
 
-use crate::cell::{CellStyle, write_row_end};
+use crate::cell::{RowFormat, write_row_end};
 use hex_text::write_hex;
 use res_value::{write_id, write_word};
 use std::io::{self, Write};
@@ -64,11 +64,11 @@ fn write_rows<W: Write + Drop>(
     Ok(())
 }
 
-#[tactic(auto, unfolding(crate::specs::DumpText::row_text, crate::specs::DumpText::dump_style))]
+#[tactic(auto, unfolding(crate::specs::DumpText::row_text, crate::specs::DumpText::dump_format))]
 fn write_row<W: Write + Drop>(table: &Table<'_>, row: &Row<'_>, out: &mut W) -> io::Result<()>
     ensures { Writes W.contents out.old out.new result (row_text table.now (row_of row.now)) }
 {
-    let style = CellStyle {
+    let format = RowFormat {
         indent: "    ",
         strings: Some(table.strings()),
     };
@@ -79,7 +79,7 @@ fn write_row<W: Write + Drop>(table: &Table<'_>, row: &Row<'_>, out: &mut W) -> 
     out.write_all(b" flags ")?;
     write_word(row.flags, out)?;
     out.write_all(b" ")?;
-    write_row_end(style, row, out)
+    write_row_end(format, row, out)
 }
 
 #[tactic(auto, unfolding(crate::specs::DumpText::names_text))]

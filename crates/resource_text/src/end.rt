@@ -3,9 +3,9 @@
 ghost use Rattle.std.specs.Option.{option_map};
 ghost use Rattle.contract_words.specs.Writes.{Writes};
 ghost use Rattle.string_pool.specs.Pool.{pool_of};
-ghost use Rattle.resource_text.specs.EndText.{value_end_text, bag_end_text, absent_end_text, too_long_end_text, styled_end, end_text};
+ghost use Rattle.resource_text.specs.EndText.{value_end_text, bag_end_text, absent_end_text, too_long_end_text, end_with_string, end_text};
 
-use crate::cell::write_styled_value;
+use crate::cell::write_value_with_string;
 use crate::layer::write_layer;
 use reference_resolver::End;
 use res_value::{ResId, Value, write_id};
@@ -17,17 +17,17 @@ use string_pool::Pool;
 pub fn end_text<W: Write + Drop>(end: End, out: &mut W) -> io::Result<()>
     ensures { Writes W.contents out.old out.new result (end_text end) }
 {
-    write_styled_end(None, end, out)
+    write_end_with_string(None, end, out)
 }
 
 /// Writes an end. Where strings are given, a string value is followed by its string among them.
-#[tactic(auto, unfolding(crate::specs::EndText::styled_end))]
-pub(crate) fn write_styled_end<W: Write + Drop>(
+#[tactic(auto, unfolding(crate::specs::EndText::end_with_string))]
+pub(crate) fn write_end_with_string<W: Write + Drop>(
     strings: Option<Pool<'_>>,
     end: End,
     out: &mut W,
 ) -> io::Result<()>
-    ensures { Writes W.contents out.old out.new result (styled_end (option_map pool_of strings.entry) end) }
+    ensures { Writes W.contents out.old out.new result (end_with_string (option_map pool_of strings.entry) end) }
 {
     match end {
         End::Value { layer, value } => write_value_end(strings, layer, value, out),
@@ -49,7 +49,7 @@ fn write_value_end<W: Write + Drop>(
     out.write_all(b"value ")?;
     write_layer(layer, out)?;
     out.write_all(b" ")?;
-    write_styled_value(strings, value, out)
+    write_value_with_string(strings, value, out)
 }
 
 #[tactic(auto, unfolding(crate::specs::EndText::bag_end_text))]

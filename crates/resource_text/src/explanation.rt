@@ -22,7 +22,7 @@ use std::io::{self, Write};
 
 /// Writes how an id comes to its end at a device: a line for each id that is looked up, behind it one for
 /// each of its candidates with what it does and why, and last the end, which is also given.
-#[tactic(auto, using(crate::proofs::Told::tells_the_trace), unfolding(crate::specs::ExplainText::explain_text))]
+#[tactic(auto, using(crate::proofs::TellsTheTrace::tells_the_trace), unfolding(crate::specs::ExplainText::explain_text))]
 pub fn explain<W: Write + Drop>(
     stack: &Stack<'_>,
     id: ResId,

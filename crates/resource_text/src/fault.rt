@@ -4,6 +4,7 @@ ghost use Rattle.std.specs.Prelude.{◌≡◌};
 ghost use Rattle.contract_words.specs.Writes.{Writes};
 ghost use Rattle.resource_text.specs.FaultText.{refused_text, refused_layer_text, table_line, layers_line, layer_table_line, layer_map_line, device_line, fault_line};
 ghost use Rattle.resource_text.specs.ToolFault.{fault_of_layer_table, fault_of_layer_map};
+ghost use Rattle.resource_text.specs.declared.fault.ToolFault.TheVariants.{Write};
 
 use crate::device_fault::write_device_fault;
 use crate::layer::write_layer;
@@ -111,6 +112,15 @@ impl From<StackFault> for ToolFault {
             StackFault::TooManyLayers => ToolFault::Layers(LayersFault::TooManyLayers),
             StackFault::OutOfMemory => ToolFault::OutOfMemory,
         }
+    }
+}
+
+/// A command has no errors of its own from streams but those of its writer.
+impl From<io::Error> for ToolFault {
+    ghost from_gives = { λ _ e. e ≡ Write };
+
+    fn from(_error: io::Error) -> ToolFault {
+        ToolFault::Write
     }
 }
 

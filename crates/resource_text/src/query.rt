@@ -6,7 +6,7 @@ ghost use Rattle.contract_words.specs.Writes.{Writes};
 ghost use Rattle.string_pool.specs.Pool.{pool_of};
 ghost use Rattle.resource_text.specs.QueryText.{strings_of_layer, strings_of_end, query_line, set_aside_line};
 
-use crate::end::write_styled_end;
+use crate::end::write_end_with_string;
 use overlay_map::Stack;
 use reference_resolver::End;
 use res_value::{ResId, write_id};
@@ -27,7 +27,7 @@ pub fn query_line<W: Write + Drop>(
     let strings = strings_of_end(stack, end);
     write_id(id, out)?;
     out.write_all(b" ")?;
-    write_styled_end(strings, end, out)?;
+    write_end_with_string(strings, end, out)?;
     out.write_all(b"\n")
 }
 

@@ -4,13 +4,13 @@ ghost use Rattle.contract_words.specs.Writes.{Writes};
 ghost use Rattle.type_chunks.specs.Row.{row_of};
 ghost use Rattle.resource_text.specs.RowsText.{row_text, totals_text, rows_text};
 
-use crate::cell::{CellStyle, write_row_end};
+use crate::cell::{RowFormat, write_row_end};
 use res_value::write_id;
 use std::io::{self, Write};
 use type_chunks::{Row, Table};
 
 /// Two spaces before the rows of a bag, and no strings.
-const STYLE: CellStyle<'static> = CellStyle {
+const FORMAT: RowFormat<'static> = RowFormat {
     indent: "  ",
     strings: None,
 };
@@ -40,12 +40,12 @@ fn write_totals<W: Write + Drop>(count: u128, set_aside: u128, out: &mut W) -> i
     writeln!(out, "rows {count} set-aside {set_aside}")
 }
 
-#[tactic(auto, unfolding(crate::specs::RowsText::row_text, crate::specs::RowsText::rows_style))]
+#[tactic(auto, unfolding(crate::specs::RowsText::row_text, crate::specs::RowsText::rows_format))]
 fn write_row<W: Write + Drop>(row: &Row<'_>, out: &mut W) -> io::Result<()>
     ensures { Writes W.contents out.old out.new result (row_text (row_of row.now)) }
 {
     out.write_all(b"row ")?;
     write_id(row.id, out)?;
     out.write_all(b" ")?;
-    write_row_end(STYLE, row, out)
+    write_row_end(FORMAT, row, out)
 }

@@ -1,3 +1,4 @@
 pub mod LayerSteps
 pub mod StackSteps
+pub mod LineSteps
 pub mod QuerySteps

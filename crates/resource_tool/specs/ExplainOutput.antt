@@ -1,5 +1,5 @@
 -- What the command `explain` prints.
-use Rattle.std.specs.Prelude.{ℕ, List, Result, Ok, if◌then◌else◌}
+use Rattle.std.specs.Prelude.{ℕ, List, Result, Ok}
 use Rattle.contract_words.specs.Faults.{◌>>=◌}
 use Rattle.config_record.specs.DeviceJson.{device_in_json}
 use Rattle.overlay_map.specs.Layer.{LayerOf}
@@ -8,19 +8,18 @@ use Rattle.resource_text.specs.declared.fault.ToolFault.{ToolFault}
 use Rattle.resource_text.specs.ToolFault.{fault_of_device}
 use Rattle.resource_text.specs.ExplainText.{explain_text}
 use Rattle.resource_tool.specs.declared.status.Status.{Status}
-use Rattle.resource_tool.specs.declared.status.Status.TheVariants.{Done, Negative}
 use Rattle.resource_tool.specs.Output.{Output}
 use Rattle.resource_tool.specs.StackBytes.{LayerBytes, stack_in}
-use Rattle.resource_tool.specs.Told.{told_as}
-use Rattle.resource_tool.specs.QueryOutput.{is_missing}
+use Rattle.resource_tool.specs.MapFault.{map_fault}
+use Rattle.resource_tool.specs.EndStatus.{status_of_end}
 
 -- it is done where the id does not end as absent or as too long
 abbrev pub explain_status : List LayerOf → List ℕ → ℕ → Status
-explain_status stack device id = if is_missing (end_of stack references_followed id device) then Negative else Done
+explain_status stack device id = status_of_end (end_of stack references_followed id device)
 
 -- What `explain` prints of these layers, a device's text and this id. The layers are read before the device.
 unfoldable pub explain_output : List LayerBytes → List ℕ → ℕ → Result Output ToolFault
 explain_output layers text id = do
   stack ← stack_in layers
-  device ← told_as fault_of_device (device_in_json text)
+  device ← map_fault fault_of_device (device_in_json text)
   Ok (record { status = explain_status stack device id; text = explain_text stack id device })

@@ -1,10 +1,13 @@
 pub mod Input
 pub mod LayerList
 pub mod LayerListSeen
-pub mod Told
+pub mod MapFault
 pub mod StackBytes
 pub mod StackBytesSeen
 pub mod Output
 pub mod TableOutput
+pub mod EndStatus
 pub mod QueryOutput
 pub mod ExplainOutput
+pub mod BagOutput
+pub mod AttrOutput

@@ -1,5 +1,5 @@
 -- What the command `query` prints.
-use Rattle.std.specs.Prelude.{ℕ, ◌++◌, Bool, true, false, List, Result, Ok, if◌then◌else◌}
+use Rattle.std.specs.Prelude.{ℕ, ◌++◌, Bool, List, Result, Ok, if◌then◌else◌}
 use Rattle.std.specs.List.{flat_map, list_any}
 use Rattle.contract_words.specs.Faults.{◌>>=◌}
 use Rattle.res_value.specs.declared.res_id.ResId.{ResId}
@@ -7,7 +7,6 @@ use Rattle.config_record.specs.DeviceJson.{device_in_json}
 use Rattle.overlay_map.specs.Layer.{LayerOf}
 use Rattle.overlay_map.specs.SetAside.{set_aside_in_stack}
 use Rattle.reference_resolver.specs.declared.end.End.{End}
-use Rattle.reference_resolver.specs.declared.end.End.TheVariants as of_end
 use Rattle.reference_resolver.specs.Ends.{references_followed, end_of}
 use Rattle.resource_text.specs.declared.fault.ToolFault.{ToolFault}
 use Rattle.resource_text.specs.ToolFault.{fault_of_device}
@@ -16,26 +15,20 @@ use Rattle.resource_tool.specs.declared.status.Status.{Status}
 use Rattle.resource_tool.specs.declared.status.Status.TheVariants.{Done, Negative}
 use Rattle.resource_tool.specs.Output.{Output}
 use Rattle.resource_tool.specs.StackBytes.{LayerBytes, stack_in}
-use Rattle.resource_tool.specs.Told.{told_as}
+use Rattle.resource_tool.specs.MapFault.{map_fault}
+use Rattle.resource_tool.specs.EndStatus.{is_unresolved}
 
 -- what an id ends as
 abbrev pub end_for : List LayerOf → List ℕ → ResId → End
 end_for stack device id = end_of stack references_followed id.0 device
 
--- nothing was found, or too many references
-abbrev pub is_missing : End → Bool
-is_missing (of_end.Value layer value) = false
-is_missing (of_end.Bag id) = false
-is_missing (of_end.Absent id) = true
-is_missing (of_end.TooLong id) = true
-
 -- it ends as absent or as too long
-abbrev pub has_no_end : List LayerOf → List ℕ → ResId → Bool
-has_no_end stack device id = is_missing (end_for stack device id)
+abbrev pub is_unresolved_for : List LayerOf → List ℕ → ResId → Bool
+is_unresolved_for stack device id = is_unresolved (end_for stack device id)
 
 -- it is done where no id does
 abbrev pub query_status : List LayerOf → List ℕ → List ResId → Status
-query_status stack device ids = if list_any (has_no_end stack device) ids then Negative else Done
+query_status stack device ids = if list_any (is_unresolved_for stack device) ids then Negative else Done
 
 -- the line of an id
 abbrev pub line_of : List LayerOf → List ℕ → ResId → List ℕ
@@ -49,5 +42,5 @@ query_text stack device ids = flat_map (line_of stack device) ids ++ set_aside_l
 unfoldable pub query_output : List LayerBytes → List ℕ → List ResId → Result Output ToolFault
 query_output layers text ids = do
   stack ← stack_in layers
-  device ← told_as fault_of_device (device_in_json text)
+  device ← map_fault fault_of_device (device_in_json text)
   Ok (record { status = query_status stack device ids; text = query_text stack device ids })

@@ -5,7 +5,7 @@ ghost use Rattle.resource_tool.specs.Output.{Prints};
 ghost use Rattle.resource_tool.specs.StackBytesSeen.{layer_bytes};
 ghost use Rattle.resource_tool.specs.ExplainOutput.{explain_output};
 
-use crate::query::is_missing;
+use crate::end_status::status_of_end;
 use crate::stack::open_stack;
 use crate::status::Status;
 use config_record::Device;
@@ -29,9 +29,6 @@ pub fn explain_bytes<W: Write + Drop>(
 {
     let stack = open_stack(alloc, layers)?;
     let device = Device::read(alloc, device)?;
-    match explain(&stack, id, &device, out) {
-        Ok(end) if is_missing(end) => Ok(Status::Negative),
-        Ok(_) => Ok(Status::Done),
-        Err(_) => Err(ToolFault::Write),
-    }
+    let end = explain(&stack, id, &device, out)?;
+    Ok(status_of_end(end))
 }

@@ -18,18 +18,27 @@
 //!                                                        // candidate 0 layer 0 [] first
 //!                                                        // candidate 1 layer 1 [] took over equal
 //!                                                        // end value layer 1 decimal 5
+//!
+//! bag_bytes(alloc, &layers, &device, id, &mut out)?; // 0x01010000 layer 0 decimal 5
+//! attr_bytes(alloc, &layers, &device, attr, &styles, true, &mut out)?; // 0x01010000 value layer 0 decimal 5
 //! ```
 #![tactic(auto)]
 
+mod attr;
+mod bag;
 mod dump;
+mod end_status;
 mod explain;
 mod input;
 mod layer_list;
+mod no_bag;
 mod query;
 mod rows;
 mod stack;
 mod status;
 
+pub use attr::attr_bytes;
+pub use bag::bag_bytes;
 pub use dump::dump_bytes;
 pub use explain::explain_bytes;
 pub use input::{InputFault, read_input};

@@ -5,13 +5,14 @@ ghost use Rattle.contract_words.specs.Writes.{Writes};
 ghost use Rattle.config_record.specs.DeviceSeen.{device_numbers};
 ghost use Rattle.resource_tool.specs.Output.{Prints};
 ghost use Rattle.resource_tool.specs.StackBytesSeen.{layer_bytes};
-ghost use Rattle.resource_tool.specs.QueryOutput.{is_missing, query_status, query_text, query_output};
+ghost use Rattle.resource_tool.specs.QueryOutput.{query_status, query_text, query_output};
 
+use crate::end_status::is_unresolved;
 use crate::stack::open_stack;
 use crate::status::Status;
 use config_record::Device;
 use overlay_map::Stack;
-use reference_resolver::{End, resolve};
+use reference_resolver::resolve;
 use res_value::ResId;
 use resource_text::{ToolFault, query_line, set_aside_line};
 use std::alloc::Global;
@@ -32,10 +33,7 @@ pub fn query_bytes<W: Write + Drop>(
 {
     let stack = open_stack(alloc, layers)?;
     let device = Device::read(alloc, device)?;
-    match write_ends(&stack, &device, ids, out) {
-        Ok(status) => Ok(status),
-        Err(_) => Err(ToolFault::Write),
-    }
+    Ok(write_ends(&stack, &device, ids, out)?)
 }
 
 // Writes a line for each id, and one with the number of rows that are set aside.
@@ -53,20 +51,10 @@ fn write_ends<W: Write + Drop>(
     for id in ids {
         let end = resolve(stack, *id, device);
         query_line(stack, *id, end, out)?;
-        if is_missing(end) {
+        if is_unresolved(end) {
             status = Status::Negative;
         }
     }
     set_aside_line(stack.set_aside(), out)?;
     Ok(status)
-}
-
-/// Whether nothing was found, or too many references.
-pub(crate) fn is_missing(end: End) -> bool
-    ensures { result ≡ is_missing end }
-{
-    match end {
-        End::Value { .. } | End::Bag { .. } => false,
-        End::Absent { .. } | End::TooLong { .. } => true,
-    }
 }

@@ -1,2 +1,3 @@
 pub mod ExitStatus
 pub mod Request
+pub mod Ids

@@ -1,11 +1,10 @@
 -- What the words of a command line ask for.
 use Rattle.std.specs.Prelude.{◌≡◌, ℕ, List}
 use Rattle.restool.specs.declared.words.Request.{Request}
-use Rattle.restool.specs.declared.words.Request.TheVariants.{Rows, Dump, Query, Explain}
+use Rattle.restool.specs.declared.words.Request.TheVariants.{Rows, Dump, OfDevice}
 
 -- they ask for the rows of the table at this path
 abbrev pub AsksForRows : List ℕ → Request → Type 0
 AsksForRows path (Rows table) = table.now ≡ path
 AsksForRows path (Dump table) = ⊥
-AsksForRows path (Query layers device ids) = ⊥
-AsksForRows path (Explain layers device id) = ⊥
+AsksForRows path (OfDevice layers device question) = ⊥

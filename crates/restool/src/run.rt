@@ -3,8 +3,11 @@
 use crate::input::{LayerFiles, file_bytes, table_bytes};
 use crate::status::ExitStatus;
 use crate::stop::Stop;
-use crate::words::{Request, read_words};
-use resource_tool::{Status, ToolFault, dump_bytes, explain_bytes, query_bytes, rows_bytes};
+use crate::words::{Question, Request, read_words};
+use resource_tool::{
+    Status, ToolFault, attr_bytes, bag_bytes, dump_bytes, explain_bytes, query_bytes, rows_bytes,
+};
+use std::alloc::Global;
 use std::io::{BufWriter, Write};
 use std::rt::Files;
 
@@ -51,20 +54,35 @@ fn answer<'a, R: Input + Files + AllocGlobal, O: Write + Drop>(
     let status = match request {
         Request::Rows { table } => rows_bytes(alloc, &table_bytes(rt, table)?, out)?,
         Request::Dump { table } => dump_bytes(alloc, &table_bytes(rt, table)?, out)?,
-        Request::Query {
+        Request::OfDevice {
             layers,
             device,
-            ids,
+            question,
         } => {
             let files = LayerFiles::read(rt, layers)?;
             let device = file_bytes(rt, device)?;
-            query_bytes(alloc, &files.layers(alloc)?, &device, &ids, out)?
-        }
-        Request::Explain { layers, device, id } => {
-            let files = LayerFiles::read(rt, layers)?;
-            let device = file_bytes(rt, device)?;
-            explain_bytes(alloc, &files.layers(alloc)?, &device, id, out)?
+            ask(alloc, &files.layers(alloc)?, &device, question, out)?
         }
     };
     Ok(status)
+}
+
+// Answers a question that is asked of layers and a device.
+fn ask<O: Write + Drop>(
+    alloc: Global,
+    layers: &[(&[u8], Option<&[u8]>)],
+    device: &[u8],
+    question: Question,
+    out: &mut O,
+) -> Result<Status, ToolFault> {
+    match question {
+        Question::Query { ids } => query_bytes(alloc, layers, device, &ids, out),
+        Question::Explain { id } => explain_bytes(alloc, layers, device, id, out),
+        Question::Bag { id } => bag_bytes(alloc, layers, device, id, out),
+        Question::Attr {
+            attr,
+            styles,
+            force,
+        } => attr_bytes(alloc, layers, device, attr, &styles, force, out),
+    }
 }

@@ -1,5 +1,9 @@
 //! What keeps the program from doing what it was asked for.
 
+ghost use Rattle.std.specs.Prelude.{◌≡◌};
+ghost use Rattle.resource_text.specs.declared.fault.ToolFault.TheVariants.{OutOfMemory};
+ghost use Rattle.restool.specs.declared.stop.Stop.TheVariants.{Tool};
+
 use crate::status::ExitStatus;
 use clap::error::ErrorKind;
 use resource_tool::{LayersFault, ToolFault, fault_text};
@@ -60,24 +64,34 @@ fn tell_of_file<E: Write + Drop>(path: &str, errors: &mut E) -> ExitStatus {
 }
 
 impl From<ToolFault> for Stop<'_> {
+    ghost from_gives = { λ fault e. e ≡ Tool fault };
+
     fn from(fault: ToolFault) -> Self {
         Stop::Tool(fault)
     }
 }
 
 impl From<LayersFault> for Stop<'_> {
+    ghost use Rattle.resource_text.specs.ToolFault.{fault_of_layers};
+
+    ghost from_gives = { λ fault e. e ≡ Tool (fault_of_layers fault) };
+
     fn from(fault: LayersFault) -> Self {
         Stop::Tool(ToolFault::from(fault))
     }
 }
 
 impl<T: Drop> From<AllocFailed<T>> for Stop<'_> {
+    ghost from_gives = { λ _ e. e ≡ Tool OutOfMemory };
+
     fn from(_error: AllocFailed<T>) -> Self {
         Stop::Tool(ToolFault::OutOfMemory)
     }
 }
 
 impl From<AllocError> for Stop<'_> {
+    ghost from_gives = { λ _ e. e ≡ Tool OutOfMemory };
+
     fn from(_error: AllocError) -> Self {
         Stop::Tool(ToolFault::OutOfMemory)
     }

@@ -48,6 +48,36 @@ Options:
   -h, --help  Print help
 ";
 
+const BAG_HELP: &str = "\
+Prints the rows of a bag, such as a style, with those that it inherits
+
+Usage: restool bag <LAYERS> <DEVICE> <ID>
+
+Arguments:
+  <LAYERS>  Path of the list of layers
+  <DEVICE>  Path of the device
+  <ID>      Id of the bag, as 0x7f010000
+
+Options:
+  -h, --help  Print help
+";
+
+const ATTR_HELP: &str = "\
+Prints where an attribute ends after styles
+
+Usage: restool attr [OPTIONS] <LAYERS> <DEVICE> <ATTR> <STYLE>...
+
+Arguments:
+  <LAYERS>    Path of the list of layers
+  <DEVICE>    Path of the device
+  <ATTR>      Id of the attribute, as 0x01010000
+  <STYLE>...  Id of a style, as 0x7f010000
+
+Options:
+      --keep  A style leaves what a style before it has set
+  -h, --help  Print help
+";
+
 const NO_TABLE: &str = "\
 error: the following required arguments were not provided:
   <TABLE>
@@ -121,6 +151,24 @@ fn prints_or_tells_why_not(rt: HostRuntime) -> Result<(), Fail> {
             "",
         ),
         (
+            "restool bag layers device 0x7f010000",
+            ExitStatus::Negative,
+            "no bag Absent\n",
+            "",
+        ),
+        (
+            "restool attr layers device --keep 0x01010000 0x7f010000",
+            ExitStatus::Negative,
+            "no bag Absent\n",
+            "",
+        ),
+        (
+            "restool attr absent device 0x01010000 0x7f010000 0x",
+            ExitStatus::Command,
+            "",
+            "command: bad id 0x\n",
+        ),
+        (
             "restool explain absent device 0x7f01",
             ExitStatus::Command,
             "",
@@ -145,6 +193,8 @@ fn prints_or_tells_why_not(rt: HostRuntime) -> Result<(), Fail> {
             "file: absent\n",
         ),
         ("restool query --help", ExitStatus::Done, QUERY_HELP, ""),
+        ("restool bag --help", ExitStatus::Done, BAG_HELP, ""),
+        ("restool attr --help", ExitStatus::Done, ATTR_HELP, ""),
         ("restool rows --help", ExitStatus::Done, HELP, ""),
         ("restool dump --help", ExitStatus::Done, DUMP_HELP, ""),
         ("restool rows", ExitStatus::Command, "", NO_TABLE),

@@ -3,6 +3,7 @@
 ghost use Rattle.std.specs.Prelude.{◌≤◌, length, codes, IsOkAnd};
 ghost use Rattle.restool.specs.Request.{AsksForRows};
 
+use crate::ids::{read_id, read_ids};
 use crate::stop::Stop;
 use clap::{Arg, ArgAction, ArgMatches, Command};
 use res_value::ResId;
@@ -22,6 +23,12 @@ const LAYERS: &str = "LAYERS";
 const DEVICE: &str = "DEVICE";
 
 const ID: &str = "ID";
+
+const ATTR: &str = "ATTR";
+
+const STYLE: &str = "STYLE";
+
+const KEEP: &str = "keep";
 
 const AFTER_HELP: &str = "\
 With no words at all, restool prints the rows of the table on its standard input.
@@ -45,17 +52,34 @@ pub enum Request<'a> {
     Dump {
         table: &'a str,
     },
-    /// What a device has for each of some ids; the layers and the device are at these paths.
-    Query {
+    /// What is asked of a device; the layers and the device are at these paths.
+    OfDevice {
         layers: &'a str,
         device: &'a str,
+        question: Question,
+    },
+}
+
+/// What is asked of a device.
+#[derive(Debug, Drop)]
+pub enum Question {
+    /// What it has for each of some ids.
+    Query {
         ids: Vec<ResId>,
     },
-    /// How a device comes by what it has for an id.
+    /// How it comes by what it has for an id.
     Explain {
-        layers: &'a str,
-        device: &'a str,
         id: ResId,
+    },
+    /// The rows of a bag.
+    Bag {
+        id: ResId,
+    },
+    /// Where an attribute ends after styles that are applied with or without force.
+    Attr {
+        attr: ResId,
+        styles: Vec<ResId>,
+        force: bool,
     },
 }
 
@@ -84,16 +108,10 @@ pub fn read_words<'a>(alloc: Global, words: &'a [String]) -> Result<Request<'a>,
         Some(("dump", given)) => Ok(Request::Dump {
             table: word(given, TABLE),
         }),
-        Some(("query", given)) => Ok(Request::Query {
-            layers: word(given, LAYERS),
-            device: word(given, DEVICE),
-            ids: read_ids(alloc, given.get_strs(ID).unwrap_or(&[]))?,
-        }),
-        Some(("explain", given)) => Ok(Request::Explain {
-            layers: word(given, LAYERS),
-            device: word(given, DEVICE),
-            id: read_id(word(given, ID))?,
-        }),
+        Some(("query", given)) => of_device(given, query(alloc, given)?),
+        Some(("explain", given)) => of_device(given, explain(given)?),
+        Some(("bag", given)) => of_device(given, bag(given)?),
+        Some(("attr", given)) => of_device(given, attr(alloc, given)?),
         Some((_, given)) => Ok(Request::Rows {
             table: word(given, TABLE),
         }),
@@ -103,25 +121,44 @@ pub fn read_words<'a>(alloc: Global, words: &'a [String]) -> Result<Request<'a>,
     }
 }
 
+// What is asked of the layers and the device that are given.
+fn of_device<'a>(given: &ArgMatches<'a>, question: Question) -> Result<Request<'a>, Stop<'a>> {
+    Ok(Request::OfDevice {
+        layers: word(given, LAYERS),
+        device: word(given, DEVICE),
+        question,
+    })
+}
+
+fn query<'a>(alloc: Global, given: &ArgMatches<'a>) -> Result<Question, Stop<'a>> {
+    Ok(Question::Query {
+        ids: read_ids(alloc, given.get_strs(ID).unwrap_or(&[]))?,
+    })
+}
+
+fn explain<'a>(given: &ArgMatches<'a>) -> Result<Question, Stop<'a>> {
+    Ok(Question::Explain {
+        id: read_id(word(given, ID))?,
+    })
+}
+
+fn bag<'a>(given: &ArgMatches<'a>) -> Result<Question, Stop<'a>> {
+    Ok(Question::Bag {
+        id: read_id(word(given, ID))?,
+    })
+}
+
+fn attr<'a>(alloc: Global, given: &ArgMatches<'a>) -> Result<Question, Stop<'a>> {
+    Ok(Question::Attr {
+        attr: read_id(word(given, ATTR))?,
+        styles: read_ids(alloc, given.get_strs(STYLE).unwrap_or(&[]))?,
+        force: !given.get_flag(KEEP),
+    })
+}
+
 // The word that is given under a name, each of which is required.
 fn word<'a>(given: &ArgMatches<'a>, name: &str) -> &'a str {
     given.get_str(name).unwrap_or(STANDARD_INPUT)
-}
-
-// The ids that the words spell, or the first word that is none.
-fn read_ids<'a>(alloc: Global, words: &[&'a str]) -> Result<Vec<ResId>, Stop<'a>> {
-    let mut ids = Vec::new(alloc);
-    for word in words {
-        ids.push(read_id(*word)?)?;
-    }
-    Ok(ids)
-}
-
-fn read_id<'a>(word: &'a str) -> Result<ResId, Stop<'a>> {
-    match ResId::read(word) {
-        Some(id) => Ok(id),
-        None => Err(Stop::BadId(word)),
-    }
 }
 
 // The command line that is understood.
@@ -132,12 +169,20 @@ fn command<'a>(alloc: Global) -> Result<Command<'a>, clap::Error> {
     let dump = Command::new(alloc, "dump")
         .about("Prints the packages of a table, and their rows with names")
         .arg(table(alloc))?;
-    let query = of_device(alloc, "query")?
+    let query = asking(alloc, "query")?
         .about("Prints what a device has for each id")
-        .arg(id(alloc).num_args(1..).action(ArgAction::Append))?;
-    let explain = of_device(alloc, "explain")?
+        .arg(some(alloc, ID, "Id of a resource, as 0x7f010000"))?;
+    let explain = asking(alloc, "explain")?
         .about("Prints how a device comes by what it has for an id")
-        .arg(id(alloc).action(ArgAction::Set))?;
+        .arg(one(alloc, ID, "Id of a resource, as 0x7f010000"))?;
+    let bag = asking(alloc, "bag")?
+        .about("Prints the rows of a bag, such as a style, with those that it inherits")
+        .arg(one(alloc, ID, "Id of the bag, as 0x7f010000"))?;
+    let attr = asking(alloc, "attr")?
+        .about("Prints where an attribute ends after styles")
+        .arg(keep(alloc))?
+        .arg(one(alloc, ATTR, "Id of the attribute, as 0x01010000"))?
+        .arg(some(alloc, STYLE, "Id of a style, as 0x7f010000"))?;
     let restool = Command::new(alloc, "restool")
         .about("Reads Android's compiled resource tables (resources.arsc)")
         .after_help(AFTER_HELP)
@@ -145,36 +190,49 @@ fn command<'a>(alloc: Global) -> Result<Command<'a>, clap::Error> {
         .subcommand(rows)?
         .subcommand(dump)?
         .subcommand(query)?
-        .subcommand(explain)?;
+        .subcommand(explain)?
+        .subcommand(bag)?
+        .subcommand(attr)?;
     Ok(restool)
 }
 
 fn table<'a>(alloc: Global) -> Arg<'a> {
-    path(
+    one(
         alloc,
         TABLE,
         "Path of the table, or - for the standard input",
     )
 }
 
-// A word that names a file.
-fn path<'a>(alloc: Global, name: &'a str, help: &'a str) -> Arg<'a> {
+// One word.
+fn one<'a>(alloc: Global, name: &'a str, help: &'a str) -> Arg<'a> {
     Arg::new(alloc, name)
         .help(help)
         .required(true)
         .action(ArgAction::Set)
 }
 
-// A command that is asked of layers and a device.
-fn of_device<'a>(alloc: Global, name: &'a str) -> Result<Command<'a>, clap::Error> {
-    let command = Command::new(alloc, name)
-        .arg(path(alloc, LAYERS, "Path of the list of layers"))?
-        .arg(path(alloc, DEVICE, "Path of the device"))?;
-    Ok(command)
+// One word or more.
+fn some<'a>(alloc: Global, name: &'a str, help: &'a str) -> Arg<'a> {
+    Arg::new(alloc, name)
+        .help(help)
+        .required(true)
+        .num_args(1..)
+        .action(ArgAction::Append)
 }
 
-fn id<'a>(alloc: Global) -> Arg<'a> {
-    Arg::new(alloc, ID)
-        .help("Id of a resource, as 0x7f010000")
-        .required(true)
+// Whether styles are applied without force.
+fn keep<'a>(alloc: Global) -> Arg<'a> {
+    Arg::new(alloc, KEEP)
+        .long(KEEP)
+        .help("A style leaves what a style before it has set")
+        .action(ArgAction::SetTrue)
+}
+
+// A command that is asked of layers and a device.
+fn asking<'a>(alloc: Global, name: &'a str) -> Result<Command<'a>, clap::Error> {
+    let command = Command::new(alloc, name)
+        .arg(one(alloc, LAYERS, "Path of the list of layers"))?
+        .arg(one(alloc, DEVICE, "Path of the device"))?;
+    Ok(command)
 }

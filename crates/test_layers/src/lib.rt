@@ -15,13 +15,20 @@
 //! entry 0 is the resource 0x7f010000. A cell is a value or a bag. A value is a decimal number, a
 //! reference `@0x..`, an attribute `?0x..`, or `empty`; a bag is `bag`, its parent, 0x00000000 where it
 //! has none, and its rows, each a name and a value.
+//!
+//! Beside them stand two tables byte by byte, of one entry without names (`table_a`) and with them
+//! (`table_b`), for tests that set single bytes wrong.
 #![tactic(auto)]
 
 mod bytes;
 mod cell;
 mod fault;
+mod named_entry;
 mod qualifier;
 mod table;
+mod unnamed_entry;
 
 pub use fault::LayerFault;
+pub use named_entry::table_b;
 pub use table::layer;
+pub use unnamed_entry::{put, table_a, table_with};

@@ -4,9 +4,9 @@ use Rattle.std.specs.Option.{option_map}
 use Rattle.contract_words.proofs.TextSteps.{PutsAllBut}
 use Rattle.config_record.specs.DeviceSeen.{device_numbers}
 use Rattle.overlay_map.specs.Candidates.{cand_of, candidates_of}
-use Rattle.reference_resolver.specs.Selection.{best_of, told_of}
-use Rattle.reference_resolver.specs.Trace.{told_at}
-use Rattle.resource_text.specs.ExplainText.{told_by, candidate_line}
+use Rattle.reference_resolver.specs.Selection.{best_of, scan_candidates}
+use Rattle.reference_resolver.specs.Trace.{scan_look_up}
+use Rattle.resource_text.specs.ExplainText.{explained, candidate_line}
 use Rattle.resource_text.proofs.explanation.write_candidates.Given as goal
 
 -- the lines of all candidates were written but of those that are left, from the place and the best so far on
@@ -15,8 +15,8 @@ invariant-loop-candidate g l = record {
   can : (goal.iterator-loop-candidate g).can_next l.candidate-iterator;
   ends : (goal.iterator-loop-candidate g).is_finite l.candidate-iterator;
   texts : PutsAllBut candidate_line (g.W.Write.contents l.fn.out) (g.W.Write.contents l.out)
-      (enumerate_from 0 (told_at told_by l.stack (device_numbers l.device) l.fn.id.0))
-      (enumerate_from l.place (told_of told_by (option_map cand_of l.best) l.candidate-iterator (device_numbers l.device)));
+      (enumerate_from 0 (scan_look_up explained l.stack (device_numbers l.device) l.fn.id.0))
+      (enumerate_from l.place (scan_candidates explained (option_map cand_of l.best) l.candidate-iterator (device_numbers l.device)));
   picked : best_of (option_map cand_of l.best) l.candidate-iterator (device_numbers l.device) ≡ best_of None (candidates_of l.stack l.fn.id.0) (device_numbers l.device);
   few : l.place + length l.candidate-iterator < 2 ^ 99;
 }

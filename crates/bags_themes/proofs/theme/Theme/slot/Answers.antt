@@ -8,16 +8,16 @@ pub returns-in-Reaches : goal.returns-in-Reaches
 returns-in-Reaches c =
     let attr = c.attributes.attr.0 in
     let step = ap (λ theme. step_of attr (value_of theme attr)) (sym c.self.view_is) ∙ ap (λ set. step_of attr set) (sym c.get.ensures.value) ∙ sym c.of.ensures ∙ c.in-Reaches.is in
-    slot_of-reaches c.args.self.now c.attributes.left attr c.in-Reaches.slot step ∙ c.attributes.invariant
+    slot_of-reaches (value_of c.args.self.now) c.attributes.left attr c.in-Reaches.slot step ∙ c.attributes.invariant
 
 pub returns-in-Follows : goal.returns-in-Follows
 returns-in-Follows c =
     let attr = c.attributes.attr.0 in
     let step = ap (λ theme. step_of attr (value_of theme attr)) (sym c.self.view_is) ∙ ap (λ set. step_of attr set) (sym c.get.ensures.value) ∙ sym c.of.ensures ∙ c.in-Follows.is in
-    slot_of-long c.args.self.now c.attributes.left attr c.in-Follows.target step c.if-left-eq0.true ∙ c.attributes.invariant
+    slot_of-long (value_of c.args.self.now) c.attributes.left attr c.in-Follows.target step c.if-left-eq0.true ∙ c.attributes.invariant
 
 pub attributes-preserved : goal.attributes-preserved
 attributes-preserved c =
     let attr = c.attributes.attr.0 in
     let step = ap (λ theme. step_of attr (value_of theme attr)) (sym c.self.view_is) ∙ ap (λ set. step_of attr set) (sym c.get.ensures.value) ∙ sym c.of.ensures ∙ c.in-Follows.is in
-    slot_of-follows c.args.self.now c.attributes.left attr c.in-Follows.target step (omega (arith, c.if-left-eq0.false)) ∙ c.attributes.invariant
+    slot_of-follows (value_of c.args.self.now) c.attributes.left attr c.in-Follows.target step (omega (arith, c.if-left-eq0.false)) ∙ c.attributes.invariant

@@ -3,7 +3,7 @@ use Rattle.std.specs.Option.{option_map}
 use Rattle.config_record.specs.DeviceSeen.{device_numbers}
 use Rattle.overlay_map.specs.Candidates.{cand_of}
 use Rattle.resource_text.specs.Decision.{decision_by, step_by}
-use Rattle.resource_text.proofs.Told.{step_told}
+use Rattle.resource_text.proofs.TellsTheTrace.{step_told}
 use Rattle.resource_text.proofs.decision.Decision.of.Goals as goal
 
 pub returns-in-None-clause-step : goal.returns-in-None-clause-step

@@ -12,12 +12,12 @@ use Rattle.overlay_map.specs.Layer.{LayerOf}
 use Rattle.overlay_map.specs.Candidates.{CandOf, candidates_of}
 use Rattle.reference_resolver.specs.declared.step.Step.{Step}
 use Rattle.reference_resolver.specs.declared.step.Step.TheVariants as steps
-use Rattle.reference_resolver.specs.Selection.{beats, beats_best, step_of, best_after, told_of}
+use Rattle.reference_resolver.specs.Selection.{beats, beats_best, step_of, best_after, scan_candidates}
 use Rattle.reference_resolver.specs.Ends.{references_followed}
-use Rattle.reference_resolver.specs.Trace.{told_at, look_ups_of}
+use Rattle.reference_resolver.specs.Trace.{scan_look_up, look_ups_of}
 use Rattle.resource_text.specs.declared.decision.Decision.TheVariants as decisions
 use Rattle.resource_text.specs.Decision.{decision_against, decision_of_match, decision_by, decision_of, step_by}
-use Rattle.resource_text.specs.ExplainText.{Told, told_by, TellsTheTrace}
+use Rattle.resource_text.specs.ExplainText.{ExplainedCandidate, explained, TellsTheTrace}
 
 -- ---- of one candidate
 
@@ -50,21 +50,21 @@ step_told best candidate d =
 
 -- ---- of all
 
-abbrev step_of_told : Told → Step
-step_of_told told = step_by told.decision
+abbrev step_of_explained : ExplainedCandidate → Step
+step_of_explained told = step_by told.decision
 
-steps_told : (best : Option CandOf) (candidates : List CandOf) (d : List ℕ) → map step_of_told (told_of told_by best candidates d) ≡ told_of step_of best candidates d
-steps_told best [] d = refl
-steps_told best (candidate ∷ candidates) d =
-    ap (λ (step : Step). step ∷ map step_of_told (told_of told_by (best_after (step_of best candidate d) best candidate) candidates d)) (step_told best candidate d)
-    ∙ ap (λ (steps : List Step). step_of best candidate d ∷ steps) (steps_told (best_after (step_of best candidate d) best candidate) candidates d)
+steps_explained : (best : Option CandOf) (candidates : List CandOf) (d : List ℕ) → map step_of_explained (scan_candidates explained best candidates d) ≡ scan_candidates step_of best candidates d
+steps_explained best [] d = refl
+steps_explained best (candidate ∷ candidates) d =
+    ap (λ (step : Step). step ∷ map step_of_explained (scan_candidates explained (best_after (step_of best candidate d) best candidate) candidates d)) (step_told best candidate d)
+    ∙ ap (λ (steps : List Step). step_of best candidate d ∷ steps) (steps_explained (best_after (step_of best candidate d) best candidate) candidates d)
 
-steps_along : (stack : List LayerOf) (d ids : List ℕ) → map step_of_told (flat_map (told_at told_by stack d) ids) ≡ flat_map (told_at step_of stack d) ids
+steps_along : (stack : List LayerOf) (d ids : List ℕ) → map step_of_explained (flat_map (scan_look_up explained stack d) ids) ≡ flat_map (scan_look_up step_of stack d) ids
 steps_along stack d [] = refl
 steps_along stack d (id ∷ ids) =
-    map-append step_of_told (told_at told_by stack d id) (flat_map (told_at told_by stack d) ids)
-    ∙ ap (λ (steps : List Step). steps ++ map step_of_told (flat_map (told_at told_by stack d) ids)) (steps_told None (candidates_of stack id) d)
-    ∙ ap (λ (steps : List Step). told_at step_of stack d id ++ steps) (steps_along stack d ids)
+    map-append step_of_explained (scan_look_up explained stack d id) (flat_map (scan_look_up explained stack d) ids)
+    ∙ ap (λ (steps : List Step). steps ++ map step_of_explained (flat_map (scan_look_up explained stack d) ids)) (steps_explained None (candidates_of stack id) d)
+    ∙ ap (λ (steps : List Step). scan_look_up step_of stack d id ++ steps) (steps_along stack d ids)
 
 pub tells_the_trace : (stack : List LayerOf) (id : ℕ) (d : List ℕ) → TellsTheTrace stack id d
 unfolding TellsTheTrace

@@ -1,6 +1,5 @@
 //! What ids end as for devices, printed.
 
-use crate::table_a::table_with;
 use config_record::{Coord, DeviceFault};
 use overlay_map::MapFault;
 use res_value::ResId;
@@ -8,7 +7,7 @@ use resource_tool::{LayersFault, Status, ToolFault, query_bytes};
 use std::alloc::{AllocError, Global};
 use std::process::Abort;
 use std::test::Fail;
-use test_layers::layer;
+use test_layers::{layer, table_with};
 use type_chunks::TableFault;
 
 /// The resource of entry 0.

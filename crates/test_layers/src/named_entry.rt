@@ -1,7 +1,7 @@
 //! The table of one entry with names: two string pools stand behind its package's header, one with the
 //! name of the type, "s", and one with that of the key, "k". It is 488 bytes long.
 
-use crate::table_a::{put, table_a};
+use crate::unnamed_entry::{put, table_a};
 use std::alloc::{AllocError, Global};
 
 /// Where the package's header ends.

@@ -1,0 +1,7 @@
+use Rattle.bags_themes.proofs.StyleSteps.{StylesAllBut}
+use Rattle.config_record.specs.DeviceSeen.{device_numbers}
+use Rattle.bags_themes.proofs.theme.Theme.of_styles.Given as goal
+
+-- the theme has what the styles so far have set
+abbrev pub invariant-loop-style : goal.invariant-loop-style
+invariant-loop-style l = StylesAllBut l.stack l.force l.theme l.style-index l.styles (device_numbers l.device)

@@ -1,0 +1,16 @@
+-- Styles, applied one after the other.
+use Rattle.std.specs.Prelude.{ℕ, Bool, List, [], ◌∷◌, Result, Ok}
+use Rattle.contract_words.specs.Faults.{◌>>=◌}
+use Rattle.res_value.specs.declared.res_id.ResId.{ResId}
+use Rattle.overlay_map.specs.Layer.{LayerOf}
+use Rattle.bags_themes.specs.declared.bag_fault.BagFault.{BagFault}
+use Rattle.bags_themes.specs.Bag.{bag_of}
+use Rattle.bags_themes.specs.Theme.{AttributeValues, values_after}
+
+-- What attributes have after these styles in their order, with or without force, or why the first style that
+-- has no rows to give has none.
+unfoldable pub values_after_styles : List LayerOf → Bool → List ResId → AttributeValues → List ℕ → Result AttributeValues BagFault
+values_after_styles stack force [] values d = Ok values
+values_after_styles stack force (style ∷ styles) values d = do
+  rows ← bag_of stack style.0 d
+  values_after_styles stack force styles (values_after force rows values) d

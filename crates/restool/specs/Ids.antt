@@ -1,0 +1,34 @@
+-- Words that are ids.
+use Rattle.std.specs.Prelude.{ℕ, ◌≡◌, List, [], ◌∷◌, ok_or, Result, Ok, Err, Vec}
+use Rattle.std.specs.declared.alloc.Global.{Global}
+use Rattle.contract_words.specs.Faults.{◌>>=◌}
+use Rattle.contract_words.specs.Sequences.{with_front}
+use Rattle.res_value.specs.declared.res_id.ResId.{ResId}
+use Rattle.res_value.specs.ResId.{id_of}
+use Rattle.resource_text.specs.declared.fault.ToolFault.TheVariants.{OutOfMemory}
+use Rattle.restool.specs.declared.stop.Stop.{Stop}
+use Rattle.restool.specs.declared.stop.Stop.TheVariants.{BadId, Tool}
+
+-- the id that a word spells, or the word
+abbrev pub id_in : List ℕ → Result ResId (List ℕ)
+id_in word = ok_or (id_of word) word
+
+-- the ids that words spell, in their order, or the first word that spells none
+unfoldable pub ids_in : List (List ℕ) → Result (List ResId) (List ℕ)
+ids_in [] = Ok []
+ids_in (word ∷ words) = do
+  id ← id_in word
+  with_front (id ∷ []) (ids_in words)
+
+-- a call gave the id that is meant, or stops for the word that is none
+abbrev pub ReadsId : Result ResId Stop → Result ResId (List ℕ) → Type 0
+ReadsId (Ok id) meant = meant ≡ Ok id
+ReadsId (Err (BadId word)) meant = meant ≡ Err word.now
+ReadsId (Err stop) meant = ⊥
+
+-- a call gave the ids that are meant, or stops for the first word that is none; or memory ran out
+abbrev pub ReadsIds : Result (Vec ResId Global) Stop → Result (List ResId) (List ℕ) → Type 0
+ReadsIds (Ok ids) meant = meant ≡ Ok ids.items
+ReadsIds (Err (BadId word)) meant = meant ≡ Err word.now
+ReadsIds (Err (Tool OutOfMemory)) meant = Unit {0}
+ReadsIds (Err stop) meant = ⊥
