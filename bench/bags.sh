@@ -1,5 +1,5 @@
 #!/bin/sh
-# Times the merging of bags. First `restool bag` on tables of a bag and its parent with more and more rows: the
+# Times the merging of bags. First `restool bag`, which also prints each row, on tables of a bag and its parent with more and more rows: the
 # time of a row is not to grow with their number. It is that of `bag` less that of a query of the same bag, which
 # opens the table and merges nothing. Then on the table of Android's framework: `restool attr` with all its bags
 # as styles, so that each is merged with its parents and applied in one run, for two devices.

@@ -108,12 +108,13 @@ def check_attribute(restool, bags, styles, force, attr):
 
 
 def attributes_asked(bags):
-    """Random styles, each list with and without force and with some of their attributes."""
+    """Random bags, taken for styles: lists of them, each with attributes that they set or, seldom, one that none
+    sets, with force or without."""
     chance = random.Random(1)
     names = [name for name, rows in sorted(bags.items()) if not isinstance(rows, str) and rows]
     for _ in range(STYLE_LISTS):
         styles = chance.choices(names, k=chance.randint(1, 4))
-        attrs = [row[0] for style in styles for row in bags[style]]
+        attrs = [row[0] for style in styles for row in bags[style]] + ["0x0101ffff"]
         for attr in chance.choices(attrs, k=ATTRIBUTES_ASKED):
             yield styles, chance.random() < 0.5, attr
 

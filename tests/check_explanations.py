@@ -3,7 +3,7 @@
 
     check_explanations.py PROGRAM LAYERS DEVICE [JOBS]
 
-for each id of the layers, which is run from the folder that their paths are relative to. The candidates of
+for each id of the layers. It is run from the folder that their paths are relative to. The candidates of
 each look-up have to be the rows of its id in all layers, in their order; one that matches comes first, and no
 other is told as first; what the last of those that took over holds has to be what the chain goes on with, or
 ends at; and the end has to be that of `query`. The last line is the number of ids, and of look-ups."""

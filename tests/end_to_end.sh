@@ -25,7 +25,7 @@ check() {
     fi
 }
 
-# ends NAME STATUS COMMAND: the shell's command ends with this status.
+# ends NAME STATUS COMMAND: the command, run by sh with the program as its $0, ends with this status.
 ends() {
     sh -c "$3" "$program" >"$work/out" 2>"$work/err"
     got=$?
@@ -94,10 +94,10 @@ else
     echo "not run, since python3 is missing: dump of 20,000 strings in 30 languages"
 fi
 
-# ---- query
+# ---- query, explain, bag and attr
 
 # answers LAYERS DEVICE: the ends of all ids of rich.arsc, of which some are absent, how each comes to its end, the
-# rows of all bags, and attributes behind some of them.
+# rows of all bags, and attributes after some of these as styles.
 answers() {
     cd "$tables" || exit 1
     check "answers of $1 for $2" 1 "$1.$2.query.txt" $none query "$1.layers.json" "$2.device.json" \
@@ -107,6 +107,8 @@ answers() {
             "python3 '$here/tests/check_explanations.py' \"\$0\" $1.layers.json $2.device.json 4"
         ends "bags and attributes of $1 for $2" 0 \
             "python3 '$here/tests/check_bags.py' \"\$0\" $1.layers.json $2.device.json 4"
+    else
+        echo "not run, since python3 is missing: explanations, bags and attributes of $1 for $2"
     fi
     cd "$work" || exit 1
 }
@@ -123,16 +125,16 @@ line layers '[{"table":"base"},{"table":"overlay","map":"map"}]'
 line one.out "$(grep '^0x7f060000 ' "$tables/rich-overlay.bare.query.txt")"
 echo 'set-aside 2' >>one.out
 check "an id of an overlay" 0 one.out $none query layers device 0x7f060000
-line none '[]'
+line no-layers '[]'
 line absent.out '0x7f060000 absent 0x7f060000'
 echo 'set-aside 0' >>absent.out
-check "no layers" 1 absent.out $none query none device 0x7f060000
+check "no layers" 1 absent.out $none query no-layers device 0x7f060000
 printf 'lookup 0x7f060000\nend absent 0x7f060000\n' >explained.out
-check "an explanation without candidates" 1 explained.out $none explain none device 0x7f060000
-
+check "an explanation without candidates" 1 explained.out $none explain no-layers device 0x7f060000
 line bagless.out 'no bag Absent'
-check "a bag that is not there" 1 bagless.out $none bag none device 0x7f0c0000
-check "an attribute behind a style that is not there" 1 bagless.out $none attr none device 0x01010036 0x7f0c0000
+check "a bag that is not there" 1 bagless.out $none bag no-layers device 0x7f0c0000
+check "an attribute after a style that is not there" 1 bagless.out $none attr no-layers device 0x01010036 0x7f0c0000
+
 # refused NAME LINE: a query of these layers and this device is refused with this line.
 refused() {
     line refused.err "$2"

@@ -50,7 +50,7 @@ abbrev chain_by : (FoundBagOf → Result (List FoundBagOf) BagFault) → FoundBa
 chain_by above bag None = Ok (bag ∷ [])
 chain_by above bag (Some parent) = with_front (bag ∷ []) (above parent)
 
--- a bag, its parent, and so on to the topmost one; there may be so many parents
+-- A bag, its parent, and so on to the topmost one. Refused where there are more than `most` parents.
 unfoldable pub chain_of : List LayerOf → ℕ → FoundBagOf → List ℕ → Result (List FoundBagOf) BagFault
 chain_of stack zero bag d = chain_by (λ parent. Err BagDepth) bag (parent_of stack bag d)
 chain_of stack (suc most) bag d = chain_by (λ parent. chain_of stack most parent d) bag (parent_of stack bag d)

@@ -13,9 +13,9 @@ merge (first ∷ inherited) (own_row ∷ own) =
     else if first.name.0 == own_row.name.0 then own_row ∷ merge inherited own
     else own_row ∷ merge (first ∷ inherited) own
 
--- One own row was merged. Written before it were these rows, and after it those; before it these inherited rows
--- were left, and after it those. To go on from after it, whatever own rows follow, gives what it would have given to
--- go on from before. Contracts within the crate alone speak of this.
+-- One own row was merged: `before` and `inherited` are what was written and what was left before it, `after` and
+-- `left` after it. Whatever own rows follow, to go on from either gives the same. Contracts within the crate alone
+-- speak of this.
 abbrev pub MergesRow : List BagRow → List BagRow → List BagRow → List BagRow → BagRow → Type 0
 MergesRow before after inherited left own_row =
     (others : List BagRow) → before ++ merge inherited (own_row ∷ others) ≡ after ++ merge left others

@@ -8,7 +8,7 @@ use Rattle.bags_themes.specs.Bag.{bag_of}
 use Rattle.bags_themes.specs.Theme.{AttributeValues, values_after}
 
 -- What attributes have after these styles in their order, with or without force, or why the first style that
--- has no rows to give has none.
+-- is no bag, or has too many parents, is refused.
 unfoldable pub values_after_styles : List LayerOf → Bool → List ResId → AttributeValues → List ℕ → Result AttributeValues BagFault
 values_after_styles stack force [] values d = Ok values
 values_after_styles stack force (style ∷ styles) values d = do

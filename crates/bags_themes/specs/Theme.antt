@@ -9,7 +9,7 @@ use Rattle.bags_themes.specs.declared.bag_fault.BagFault.{BagFault}
 use Rattle.bags_themes.specs.declared.bag_fault.BagFault.TheVariants.{OutOfMemory}
 use Rattle.bags_themes.specs.declared.theme_value.ThemeValue.{ThemeValue}
 
--- attributes and their values; no attribute twice
+-- attributes and their values; of an attribute that stands twice the first counts
 abbrev pub ThemeOf : Type 0
 ThemeOf = List (ResId × ThemeValue)
 

@@ -1,4 +1,4 @@
-//! Why a bag has no rows.
+//! Why there is no bag.
 
 ghost use Rattle.std.specs.Prelude.{◌≡◌};
 ghost use Rattle.bags_themes.specs.declared.bag_fault.BagFault.TheVariants.{OutOfMemory};
@@ -6,7 +6,7 @@ ghost use Rattle.bags_themes.specs.declared.bag_fault.BagFault.TheVariants.{OutO
 use std::alloc::{AllocError, AllocFailed};
 use thiserror::Error;
 
-/// Why the rows of a bag were not found. What the id selects is looked at before its parents are.
+/// Why there is no bag to give. What the id selects is looked at before its parents are.
 #[derive(Clone, Copy, Debug, PartialEq, Eq, Error)]
 pub enum BagFault {
     /// The id selects nothing.

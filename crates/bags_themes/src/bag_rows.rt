@@ -21,6 +21,7 @@ impl Model for BagRows {
 }
 
 impl BagRows {
+    /// The rows, as they were merged.
     pub fn as_slice(&self) -> &[BagRow]
         ensures { result.now ≡ self.now }
     {

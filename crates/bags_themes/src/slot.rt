@@ -8,7 +8,7 @@ use crate::theme_value::ThemeValue;
 use reference_resolver::End;
 use res_value::{ResId, kind};
 
-/// What the attributes that are followed reach.
+/// What following attributes arrives at.
 #[derive(Clone, Copy, Debug, PartialEq, Eq)]
 pub(crate) enum Slot {
     /// A reference to this id.
@@ -22,7 +22,7 @@ pub(crate) enum Slot {
 pub(crate) enum AttributeStep {
     /// To this attribute.
     Follows(ResId),
-    /// No further.
+    /// To no other attribute.
     Reaches(Slot),
 }
 
@@ -30,7 +30,7 @@ impl AttributeStep {
     ghost use Rattle.std.specs.Option.{option_copied};
     ghost use Rattle.bags_themes.specs.Attribute.{step_of};
 
-    /// Where an attribute leads for which this is set, or nothing.
+    /// Where `attr` leads; `set` is what the theme has for it, if anything.
     pub fn of(attr: ResId, set: Option<&ThemeValue>) -> AttributeStep
         ensures { result ≡ step_of attr.0 (option_copied set.entry) }
     {

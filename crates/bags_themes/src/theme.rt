@@ -55,7 +55,7 @@ impl Theme {
     }
 
     /// A theme to which styles were applied in their order, each as `apply` does. Refused for the first style
-    /// that has no rows to give.
+    /// that is no bag or has too many parents.
     #[tactic(auto, using(crate::proofs::StyleSteps::style_steps))]
     pub fn of_styles(
         alloc: Global,
@@ -75,8 +75,8 @@ impl Theme {
     }
 
     /// Applies a style, the bag of an id, row by row (AOSP: `ResTable::Theme::applyStyle`). With `force` each row
-    /// sets its attribute; without, only where this is undefined. Refused where the style has no rows to give, or
-    /// where memory runs out; then the theme is unchanged.
+    /// sets its attribute; without, only where this is undefined. Refused where the style is no bag or has too many
+    /// parents, or where memory runs out; then the theme is unchanged.
     pub fn apply(
         &mut self,
         stack: &Stack<'_>,

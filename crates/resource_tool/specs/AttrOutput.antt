@@ -15,7 +15,7 @@ use Rattle.resource_text.specs.ToolFault.{fault_of_device}
 use Rattle.resource_text.specs.EndText.{end_text}
 use Rattle.resource_tool.specs.Output.{Output}
 use Rattle.resource_tool.specs.StackBytes.{LayerBytes, stack_in}
-use Rattle.resource_tool.specs.MapFault.{map_fault}
+use Rattle.resource_tool.specs.MapErr.{map_err}
 use Rattle.resource_tool.specs.EndStatus.{status_of_end}
 use Rattle.resource_tool.specs.BagOutput.{no_bag}
 
@@ -27,7 +27,7 @@ attribute_line attr end = id_text attr ++ codes " " ++ end_text end ++ 10 ∷ []
 abbrev pub end_output : ℕ → End → Output
 end_output attr end = record { status = status_of_end end; text = attribute_line attr end }
 
--- where an attribute ends after styles, or why the first of them that has no rows to give has none
+-- where an attribute ends after styles, or why the first of them that is no bag, or has too many parents, is refused
 abbrev pub attr_answer : List LayerOf → ℕ → List ℕ → Result AttributeValues BagFault → Output
 attr_answer stack attr d (Ok values) = end_output attr (attribute_of stack values attr d)
 attr_answer stack attr d (Err fault) = no_bag fault
@@ -35,7 +35,7 @@ attr_answer stack attr d (Err fault) = no_bag fault
 -- What `attr` prints of these layers, a device's text, an attribute and styles that are applied to nothing in
 -- their order, with or without force. The layers are read before the device.
 unfoldable pub attr_output : List LayerBytes → List ℕ → ℕ → List ResId → Bool → Result Output ToolFault
-attr_output layers text attr styles force = do
+attr_output layers device_json attr styles force = do
   stack ← stack_in layers
-  device ← map_fault fault_of_device (device_in_json text)
+  device ← map_err fault_of_device (device_in_json device_json)
   Ok (attr_answer stack attr device (values_after_styles stack force styles unset device))

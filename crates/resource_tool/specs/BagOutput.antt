@@ -15,26 +15,25 @@ use Rattle.resource_text.specs.LayerText.{layer_text}
 use Rattle.resource_tool.specs.declared.status.Status.TheVariants.{Done, Negative}
 use Rattle.resource_tool.specs.Output.{Output}
 use Rattle.resource_tool.specs.StackBytes.{LayerBytes, stack_in}
-use Rattle.resource_tool.specs.MapFault.{map_fault}
+use Rattle.resource_tool.specs.MapErr.{map_err}
 
 -- the line of a row, `NAME layer L VALUE`
 unfoldable pub bag_row_line : BagRow → List ℕ
 bag_row_line row = id_text row.name.0 ++ codes " " ++ layer_text row.layer ++ codes " " ++ value_text row.value ++ 10 ∷ []
 
--- the name of a fault; want of memory is the command's own, and is not told as that of a bag
-abbrev pub bag_fault_name : BagFault → List ℕ
-bag_fault_name of_bag.Absent = codes "Absent"
-bag_fault_name of_bag.Plain = codes "Plain"
-bag_fault_name of_bag.BagDepth = codes "BagDepth"
-bag_fault_name of_bag.OutOfMemory = codes "OutOfMemory"
-
 -- the line `no bag FAULT`
-unfoldable pub no_bag_line : BagFault → List ℕ
-no_bag_line fault = codes "no bag " ++ bag_fault_name fault ++ 10 ∷ []
+unfoldable pub no_bag_line : List ℕ → List ℕ
+no_bag_line fault = codes "no bag " ++ fault ++ 10 ∷ []
 
--- why there is no bag
+-- why there is no bag; want of memory is the command's own fault and has no line
+abbrev pub reason_of : BagFault → List ℕ
+reason_of of_bag.Absent = no_bag_line (codes "Absent")
+reason_of of_bag.Plain = no_bag_line (codes "Plain")
+reason_of of_bag.BagDepth = no_bag_line (codes "BagDepth")
+reason_of of_bag.OutOfMemory = []
+
 abbrev pub no_bag : BagFault → Output
-no_bag fault = record { status = Negative; text = no_bag_line fault }
+no_bag fault = record { status = Negative; text = reason_of fault }
 
 -- a line for each row, or why there are none
 abbrev pub bag_answer : Result (List BagRow) BagFault → Output
@@ -43,7 +42,7 @@ bag_answer (Err fault) = no_bag fault
 
 -- What `bag` prints of these layers, a device's text and this id. The layers are read before the device.
 unfoldable pub bag_output : List LayerBytes → List ℕ → ℕ → Result Output ToolFault
-bag_output layers text id = do
+bag_output layers device_json id = do
   stack ← stack_in layers
-  device ← map_fault fault_of_device (device_in_json text)
+  device ← map_err fault_of_device (device_in_json device_json)
   Ok (bag_answer (bag_of stack id device))

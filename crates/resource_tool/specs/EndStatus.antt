@@ -1,4 +1,4 @@
--- How a command ends that tells where something ends.
+-- The status of a command that prints an end.
 use Rattle.std.specs.Prelude.{Bool, true, false, if◌then◌else◌}
 use Rattle.reference_resolver.specs.declared.end.End.{End}
 use Rattle.reference_resolver.specs.declared.end.End.TheVariants as of_end
@@ -12,6 +12,6 @@ is_unresolved (of_end.Bag id) = false
 is_unresolved (of_end.Absent id) = true
 is_unresolved (of_end.TooLong id) = true
 
--- it is done where there is such an end
+-- negative at such an end, else done
 abbrev pub status_of_end : End → Status
 status_of_end end = if is_unresolved end then Negative else Done

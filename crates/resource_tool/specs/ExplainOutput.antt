@@ -10,7 +10,7 @@ use Rattle.resource_text.specs.ExplainText.{explain_text}
 use Rattle.resource_tool.specs.declared.status.Status.{Status}
 use Rattle.resource_tool.specs.Output.{Output}
 use Rattle.resource_tool.specs.StackBytes.{LayerBytes, stack_in}
-use Rattle.resource_tool.specs.MapFault.{map_fault}
+use Rattle.resource_tool.specs.MapErr.{map_err}
 use Rattle.resource_tool.specs.EndStatus.{status_of_end}
 
 -- it is done where the id does not end as absent or as too long
@@ -19,7 +19,7 @@ explain_status stack device id = status_of_end (end_of stack references_followed
 
 -- What `explain` prints of these layers, a device's text and this id. The layers are read before the device.
 unfoldable pub explain_output : List LayerBytes → List ℕ → ℕ → Result Output ToolFault
-explain_output layers text id = do
+explain_output layers device_json id = do
   stack ← stack_in layers
-  device ← map_fault fault_of_device (device_in_json text)
+  device ← map_err fault_of_device (device_in_json device_json)
   Ok (record { status = explain_status stack device id; text = explain_text stack id device })

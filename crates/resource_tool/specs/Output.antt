@@ -5,7 +5,7 @@ use Rattle.resource_text.specs.declared.fault.ToolFault.{ToolFault}
 use Rattle.resource_text.specs.declared.fault.ToolFault.TheVariants.{OutOfMemory, Write}
 use Rattle.resource_tool.specs.declared.status.Status.{Status}
 
--- how a command ends, and the text that it prints before
+-- how a command ends, and the text that it prints
 pub record Output : Type 0 where
   pub status : Status
   pub text : List ℕ

@@ -15,7 +15,7 @@ use Rattle.resource_tool.specs.declared.status.Status.{Status}
 use Rattle.resource_tool.specs.declared.status.Status.TheVariants.{Done, Negative}
 use Rattle.resource_tool.specs.Output.{Output}
 use Rattle.resource_tool.specs.StackBytes.{LayerBytes, stack_in}
-use Rattle.resource_tool.specs.MapFault.{map_fault}
+use Rattle.resource_tool.specs.MapErr.{map_err}
 use Rattle.resource_tool.specs.EndStatus.{is_unresolved}
 
 -- what an id ends as
@@ -40,7 +40,7 @@ query_text stack device ids = flat_map (line_of stack device) ids ++ set_aside_l
 
 -- What `query` prints of these layers, a device's text and these ids. The layers are read before the device.
 unfoldable pub query_output : List LayerBytes → List ℕ → List ResId → Result Output ToolFault
-query_output layers text ids = do
+query_output layers device_json ids = do
   stack ← stack_in layers
-  device ← map_fault fault_of_device (device_in_json text)
+  device ← map_err fault_of_device (device_in_json device_json)
   Ok (record { status = query_status stack device ids; text = query_text stack device ids })

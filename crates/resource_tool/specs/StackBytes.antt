@@ -9,7 +9,7 @@ use Rattle.resource_text.specs.declared.layers_fault.LayersFault.TheVariants.{To
 use Rattle.resource_text.specs.declared.fault.ToolFault.{ToolFault}
 use Rattle.resource_text.specs.declared.fault.ToolFault.TheVariants.{Layers}
 use Rattle.resource_text.specs.ToolFault.{fault_of_layer_table, fault_of_layer_map}
-use Rattle.resource_tool.specs.MapFault.{map_fault}
+use Rattle.resource_tool.specs.MapErr.{map_err}
 
 -- the bytes of a layer: those of its table and, at an overlay, those of its id map
 pub record LayerBytes : Type 0 where
@@ -19,12 +19,12 @@ pub record LayerBytes : Type 0 where
 
 -- the table of the layer at a place
 abbrev pub table_of_layer : ℕ → List ℕ → Result TableOf ToolFault
-table_of_layer place bytes = map_fault (fault_of_layer_table place) (table_in bytes)
+table_of_layer place bytes = map_err (fault_of_layer_table place) (table_in bytes)
 
 -- the id map of the layer at a place, where it has one
 abbrev pub map_of_layer : ℕ → Option (List ℕ) → Result (Option MapOf) ToolFault
 map_of_layer place None = Ok None
-map_of_layer place (Some bytes) = map_fault (fault_of_layer_map place) (map_in bytes) >>= λ map. Ok (Some map)
+map_of_layer place (Some bytes) = map_err (fault_of_layer_map place) (map_in bytes) >>= λ map. Ok (Some map)
 
 -- the layer at a place; its table is read before its map
 unfoldable pub layer_in : ℕ → LayerBytes → Result LayerOf ToolFault

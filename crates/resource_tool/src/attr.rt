@@ -7,10 +7,10 @@ ghost use Rattle.resource_tool.specs.StackBytesSeen.{layer_bytes};
 ghost use Rattle.resource_tool.specs.AttrOutput.{attribute_line, attr_output};
 
 use crate::end_status::status_of_end;
-use crate::no_bag::write_no_bag;
+use crate::no_bag::tell_no_bag;
 use crate::stack::open_stack;
 use crate::status::Status;
-use bags_themes::{BagFault, Theme};
+use bags_themes::Theme;
 use config_record::Device;
 use reference_resolver::End;
 use res_value::{ResId, write_id};
@@ -19,7 +19,7 @@ use std::alloc::Global;
 use std::io::{self, Write};
 
 /// Prints where an attribute ends for a device after styles that are applied in their order, with `force` or
-/// without, or why the first style that has no rows to give has none. The end is Negative there, and where the
+/// without, or why the first style that is no bag, or has too many parents, is refused. The status is Negative there, and where the
 /// attribute ends as absent or as too long. A layer is the bytes of a table and, at an overlay, those of an id
 /// map.
 #[tactic(auto, unfolding(crate::specs::AttrOutput::attr_output))]
@@ -43,11 +43,7 @@ pub fn attr_bytes<W: Write + Drop>(
             write_attribute(attr, end, out)?;
             Ok(status_of_end(end))
         }
-        Err(BagFault::OutOfMemory) => Err(ToolFault::OutOfMemory),
-        Err(fault) => {
-            write_no_bag(fault, out)?;
-            Ok(Status::Negative)
-        }
+        Err(fault) => tell_no_bag(fault, out),
     }
 }
 

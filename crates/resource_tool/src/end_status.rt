@@ -1,4 +1,4 @@
-//! How a command ends that tells where something ends.
+//! The status of a command that prints an end.
 
 ghost use Rattle.std.specs.Prelude.{◌≡◌};
 ghost use Rattle.resource_tool.specs.EndStatus.{is_unresolved, status_of_end};

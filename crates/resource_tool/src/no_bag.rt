@@ -1,28 +1,38 @@
 //! Why there is no bag, told.
 
+ghost use Rattle.std.specs.Prelude.{◌≡◌, ◌≢◌, Ok, Err};
+ghost use Rattle.bags_themes.specs.declared.bag_fault.BagFault.TheVariants as of_bag;
 ghost use Rattle.contract_words.specs.Writes.{Writes};
-ghost use Rattle.resource_tool.specs.BagOutput.{bag_fault_name, no_bag_line};
+ghost use Rattle.resource_text.specs.declared.fault.ToolFault.TheVariants.{OutOfMemory};
+ghost use Rattle.resource_tool.specs.Output.{Prints};
+ghost use Rattle.resource_tool.specs.BagOutput.{no_bag, no_bag_line};
 
+use crate::status::Status;
 use bags_themes::BagFault;
+use resource_text::ToolFault;
 use std::io::{self, Write};
 
-/// Writes the line that tells why there is no bag.
-#[tactic(auto, unfolding(crate::specs::BagOutput::no_bag_line))]
-pub(crate) fn write_no_bag<W: Write + Drop>(fault: BagFault, out: &mut W) -> io::Result<()>
-    ensures { Writes W.contents out.old out.new result (no_bag_line fault) }
-{
-    out.write_all(b"no bag ")?;
-    write_name(fault, out)?;
-    out.write_all(b"\n")
-}
-
-fn write_name<W: Write + Drop>(fault: BagFault, out: &mut W) -> io::Result<()>
-    ensures { Writes W.contents out.old out.new result (bag_fault_name fault) }
+/// Prints the line that tells why there is no bag. Want of memory is the command's own fault.
+#[tactic(auto, unfolding(crate::specs::BagOutput::no_bag))]
+pub(crate) fn tell_no_bag<W: Write + Drop>(
+    fault: BagFault,
+    out: &mut W,
+) -> Result<Status, ToolFault>
+    ensures told { fault ≢ of_bag.OutOfMemory → Prints W.contents out.old out.new result (Ok (no_bag fault)) }
+    ensures memory { fault ≡ of_bag.OutOfMemory → result ≡ Err OutOfMemory }
 {
     match fault {
-        BagFault::Absent => out.write_all(b"Absent"),
-        BagFault::Plain => out.write_all(b"Plain"),
-        BagFault::BagDepth => out.write_all(b"BagDepth"),
-        BagFault::OutOfMemory => out.write_all(b"OutOfMemory"),
+        BagFault::Absent => write_no_bag("Absent", out)?,
+        BagFault::Plain => write_no_bag("Plain", out)?,
+        BagFault::BagDepth => write_no_bag("BagDepth", out)?,
+        BagFault::OutOfMemory => return Err(ToolFault::OutOfMemory),
     }
+    Ok(Status::Negative)
+}
+
+#[tactic(auto, unfolding(crate::specs::BagOutput::no_bag_line))]
+fn write_no_bag<W: Write + Drop>(fault: &str, out: &mut W) -> io::Result<()>
+    ensures { Writes W.contents out.old out.new result (no_bag_line fault.now) }
+{
+    writeln!(out, "no bag {fault}")
 }

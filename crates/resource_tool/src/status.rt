@@ -5,6 +5,6 @@
 pub enum Status {
     /// All that was asked for was found.
     Done,
-    /// The answer is no, or something that was asked for is not there.
+    /// Something that was asked for is not there, or has too many references or parents.
     Negative,
 }

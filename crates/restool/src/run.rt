@@ -14,7 +14,7 @@ use std::rt::Files;
 /// How many bytes of the output are kept back before they are written.
 const OUTPUT_BUFFER: usize = 65_536;
 
-/// Does what the words ask for, the first of which is the program's name.
+/// Does what the words ask for; the first word is the program's name.
 pub fn run_words<R: Input + Files + AllocGlobal, O: Write + Drop, E: Write + Drop>(
     rt: &R,
     words: &[String],
@@ -44,7 +44,7 @@ fn carry_out<'a, R: Input + Files + AllocGlobal, O: Write + Drop>(
     }
 }
 
-// Reads the files that a request names, in the order of its words, and carries it out.
+// Reads the files that a request names, in the order of its words, and answers it.
 fn answer<'a, R: Input + Files + AllocGlobal, O: Write + Drop>(
     rt: &R,
     request: Request<'a>,
@@ -61,14 +61,14 @@ fn answer<'a, R: Input + Files + AllocGlobal, O: Write + Drop>(
         } => {
             let files = LayerFiles::read(rt, layers)?;
             let device = file_bytes(rt, device)?;
-            ask(alloc, &files.layers(alloc)?, &device, question, out)?
+            answer_question(alloc, &files.layers(alloc)?, &device, question, out)?
         }
     };
     Ok(status)
 }
 
 // Answers a question that is asked of layers and a device.
-fn ask<O: Write + Drop>(
+fn answer_question<O: Write + Drop>(
     alloc: Global,
     layers: &[(&[u8], Option<&[u8]>)],
     device: &[u8],

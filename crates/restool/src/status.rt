@@ -7,9 +7,9 @@ use resource_tool::ToolFault;
 pub enum ExitStatus {
     /// All was done, or help was printed that was asked for.
     Done = 0,
-    /// The answer is no, or something that was asked for is not there.
+    /// Something that was asked for is not there, or has too many references or parents.
     Negative = 1,
-    /// The words are no command line.
+    /// The words are no command line, or one of them is no id.
     Command = 2,
     /// An input is refused.
     Refused = 3,

@@ -40,8 +40,8 @@ Prints what a device has for each id
 Usage: restool query <LAYERS> <DEVICE> <ID>...
 
 Arguments:
-  <LAYERS>  Path of the list of layers
-  <DEVICE>  Path of the device
+  <LAYERS>  Path of the JSON list of layers
+  <DEVICE>  Path of the device, a JSON object
   <ID>...   Id of a resource, as 0x7f010000
 
 Options:
@@ -54,8 +54,8 @@ Prints the rows of a bag, such as a style, with those that it inherits
 Usage: restool bag <LAYERS> <DEVICE> <ID>
 
 Arguments:
-  <LAYERS>  Path of the list of layers
-  <DEVICE>  Path of the device
+  <LAYERS>  Path of the JSON list of layers
+  <DEVICE>  Path of the device, a JSON object
   <ID>      Id of the bag, as 0x7f010000
 
 Options:
@@ -68,8 +68,8 @@ Prints where an attribute ends after styles
 Usage: restool attr [OPTIONS] <LAYERS> <DEVICE> <ATTR> <STYLE>...
 
 Arguments:
-  <LAYERS>    Path of the list of layers
-  <DEVICE>    Path of the device
+  <LAYERS>    Path of the JSON list of layers
+  <DEVICE>    Path of the device, a JSON object
   <ATTR>      Id of the attribute, as 0x01010000
   <STYLE>...  Id of a style, as 0x7f010000
 

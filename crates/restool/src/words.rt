@@ -24,7 +24,7 @@ const DEVICE: &str = "DEVICE";
 
 const ID: &str = "ID";
 
-const ATTR: &str = "ATTR";
+const ATTRIBUTE: &str = "ATTR";
 
 const STYLE: &str = "STYLE";
 
@@ -35,8 +35,8 @@ With no words at all, restool prints the rows of the table on its standard input
 
 Exit status:
   0  done
-  1  the answer is no, or something that was asked for is not there
-  2  the words are no command line
+  1  something that was asked for is not there, or has too many references or parents
+  2  the words are no command line, or one of them is no id
   3  an input is refused
   4  out of memory
   5  a file or the output failed, or an input is larger than 268,435,456 bytes";
@@ -94,7 +94,7 @@ pub fn program_words<R: Env + AllocGlobal>(rt: &R) -> Result<Vec<String>, Stop<'
     }
 }
 
-/// What the words ask for, the first of which is the program's name.
+/// What the words ask for; the first word is the program's name.
 pub fn read_words<'a>(alloc: Global, words: &'a [String]) -> Result<Request<'a>, Stop<'a>>
     ensures no_words { length words.now ≤ 1 → IsOkAnd result (AsksForRows (codes "-")) }
 {
@@ -105,29 +105,30 @@ pub fn read_words<'a>(alloc: Global, words: &'a [String]) -> Result<Request<'a>,
     }
     let matches = command(alloc)?.try_get_matches_from(words)?;
     match matches.subcommand() {
+        Some(("rows", given)) => Ok(Request::Rows {
+            table: word(given, TABLE),
+        }),
         Some(("dump", given)) => Ok(Request::Dump {
             table: word(given, TABLE),
         }),
-        Some(("query", given)) => of_device(given, query(alloc, given)?),
-        Some(("explain", given)) => of_device(given, explain(given)?),
-        Some(("bag", given)) => of_device(given, bag(given)?),
-        Some(("attr", given)) => of_device(given, attr(alloc, given)?),
-        Some((_, given)) => Ok(Request::Rows {
-            table: word(given, TABLE),
-        }),
-        None => Ok(Request::Rows {
+        Some(("query", given)) => Ok(of_device(given, query(alloc, given)?)),
+        Some(("explain", given)) => Ok(of_device(given, explain(given)?)),
+        Some(("bag", given)) => Ok(of_device(given, bag(given)?)),
+        Some(("attr", given)) => Ok(of_device(given, attr(alloc, given)?)),
+        // There is no other command, and one is required.
+        _ => Ok(Request::Rows {
             table: STANDARD_INPUT,
         }),
     }
 }
 
 // What is asked of the layers and the device that are given.
-fn of_device<'a>(given: &ArgMatches<'a>, question: Question) -> Result<Request<'a>, Stop<'a>> {
-    Ok(Request::OfDevice {
+fn of_device<'a>(given: &ArgMatches<'a>, question: Question) -> Request<'a> {
+    Request::OfDevice {
         layers: word(given, LAYERS),
         device: word(given, DEVICE),
         question,
-    })
+    }
 }
 
 fn query<'a>(alloc: Global, given: &ArgMatches<'a>) -> Result<Question, Stop<'a>> {
@@ -150,7 +151,7 @@ fn bag<'a>(given: &ArgMatches<'a>) -> Result<Question, Stop<'a>> {
 
 fn attr<'a>(alloc: Global, given: &ArgMatches<'a>) -> Result<Question, Stop<'a>> {
     Ok(Question::Attr {
-        attr: read_id(word(given, ATTR))?,
+        attr: read_id(word(given, ATTRIBUTE))?,
         styles: read_ids(alloc, given.get_strs(STYLE).unwrap_or(&[]))?,
         force: !given.get_flag(KEEP),
     })
@@ -181,7 +182,7 @@ fn command<'a>(alloc: Global) -> Result<Command<'a>, clap::Error> {
     let attr = asking(alloc, "attr")?
         .about("Prints where an attribute ends after styles")
         .arg(keep(alloc))?
-        .arg(one(alloc, ATTR, "Id of the attribute, as 0x01010000"))?
+        .arg(one(alloc, ATTRIBUTE, "Id of the attribute, as 0x01010000"))?
         .arg(some(alloc, STYLE, "Id of a style, as 0x7f010000"))?;
     let restool = Command::new(alloc, "restool")
         .about("Reads Android's compiled resource tables (resources.arsc)")
@@ -232,7 +233,7 @@ fn keep<'a>(alloc: Global) -> Arg<'a> {
 // A command that is asked of layers and a device.
 fn asking<'a>(alloc: Global, name: &'a str) -> Result<Command<'a>, clap::Error> {
     let command = Command::new(alloc, name)
-        .arg(one(alloc, LAYERS, "Path of the list of layers"))?
-        .arg(one(alloc, DEVICE, "Path of the device"))?;
+        .arg(one(alloc, LAYERS, "Path of the JSON list of layers"))?
+        .arg(one(alloc, DEVICE, "Path of the device, a JSON object"))?;
     Ok(command)
 }
