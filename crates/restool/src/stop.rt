@@ -3,6 +3,7 @@
 ghost use Rattle.std.specs.Prelude.{◌≡◌};
 ghost use Rattle.resource_text.specs.declared.fault.ToolFault.TheVariants.{OutOfMemory};
 ghost use Rattle.restool.specs.declared.stop.Stop.TheVariants.{Tool};
+ghost use Rattle.restool.specs.declared.status.ExitStatus.TheVariants.{Failed};
 
 use crate::status::ExitStatus;
 use clap::error::ErrorKind;
@@ -28,9 +29,13 @@ pub enum Stop<'a> {
 }
 
 impl Stop<'_> {
+    ghost use Rattle.restool.specs.ExitStatus.{EndsWith};
+
     /// Tells why, on the stream where that belongs, and gives the exit status. A stream of errors
     /// that fails is passed over.
-    pub fn tell<O: Write + Drop, E: Write + Drop>(self, out: &mut O, errors: &mut E) -> ExitStatus {
+    pub fn tell<O: Write + Drop, E: Write + Drop>(self, out: &mut O, errors: &mut E) -> ExitStatus
+        ensures { EndsWith self.entry result }
+    {
         match self {
             Stop::Words(error) if !error.use_stderr() => match write!(out, "{error}") {
                 Ok(()) => ExitStatus::Done,
@@ -58,7 +63,9 @@ impl Stop<'_> {
     }
 }
 
-fn tell_of_file<E: Write + Drop>(path: &str, errors: &mut E) -> ExitStatus {
+fn tell_of_file<E: Write + Drop>(path: &str, errors: &mut E) -> ExitStatus
+    ensures { result ≡ Failed }
+{
     let _ = writeln!(errors, "file: {path}");
     ExitStatus::Failed
 }
