@@ -13,18 +13,19 @@ program=$(basename "$0")
 rt=${RT:-rt}
 part_size=${PART:-10}
 
-# try_part WORK PART: tries one part of a crate's edits in a copy of its own, since rt locks the folders of a
-# crate and of those below it.
+# try_part WORK LIST: tries the edits that the file LIST, CRATE.PART, names, in a copy of its own, since rt locks
+# the folders of a crate and of those below it.
 try_part() {
-    crate=${2%.*}
-    copy=$1/copies/$2
+    part=$(basename "$2")
+    crate=${part%.*}
+    copy=$1/copies/$part
     # Links share the files: rt writes none of these in place.
     cp -al "$1/base" "$copy" && mkdir "$copy/crates/$crate/must-fail" || return
     while read -r name; do
         cp "$1/edits/$crate/$name" "$copy/crates/$crate/must-fail/" || return
-    done <"$1/parts/$2"
-    (cd "$copy" && $rt must-fail "$crate") >"$1/answers/$2" 2>&1 </dev/null
-    grep "^rt: must-fail " "$1/answers/$2" || cat "$1/answers/$2"
+    done <"$2"
+    (cd "$copy" && $rt must-fail "$crate") >"$1/answers/$part" 2>&1 </dev/null
+    grep "^rt: must-fail " "$1/answers/$part" || cat "$1/answers/$part"
     rm -rf "$copy"
 }
 if [ "$1" = --part ]; then
@@ -57,8 +58,9 @@ trap 'exit 130' INT TERM
 mkdir "$work/base" "$work/base/crates" "$work/edits" "$work/parts" "$work/answers" "$work/copies" || exit 1
 
 # Each crate's edits, of its folders together.
+crates=${*:-$listed}
 tried=
-for crate in ${*:-$listed}; do
+for crate in $crates; do
     mkdir "$work/edits/$crate"
     for folder in $folders; do
         for edit in "$here/crates/$crate/$folder"/*.edit; do
@@ -107,7 +109,7 @@ needed=$(awk -v crates="$tried" '
     }' "$here/crates.txt")
 [ -f "$here/HANDLES" ] && cp "$here/HANDLES" "$work/base/"
 for crate in $needed; do
-    grep "^$crate[ :]" "$here/crates.txt" >>"$work/base/crates.txt"
+    grep "^${crate}[ :]" "$here/crates.txt" >>"$work/base/crates.txt"
     cp -a "$here/crates/$crate" "$work/base/crates/" || exit 1
     rm -rf "$work/base/crates/$crate/must-fail" "$work/base/crates/$crate/wrong-bodies"
 done
@@ -127,7 +129,7 @@ free=$(awk '/^MemAvailable:/ { print int($2 / 4000000) }' /proc/meminfo 2>/dev/n
 jobs=$(getconf _NPROCESSORS_ONLN)
 if [ "${free:-1}" -lt "$jobs" ]; then jobs=${free:-1}; fi
 if [ "$jobs" -lt 1 ]; then jobs=1; fi
-ls "$work/parts" | xargs -r -P "${JOBS:-$jobs}" -n 1 sh "$0" --part "$work"
+find "$work/parts" -type f | sort | xargs -r -P "${JOBS:-$jobs}" -n 1 sh "$0" --part "$work"
 
 refused=$(cat "$work/answers"/*.* 2>/dev/null | grep -c '^rt: must-fail .*: refused, as it must be')
 echo "$refused refused, $((count - refused)) let through"
