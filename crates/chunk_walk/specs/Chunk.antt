@@ -5,6 +5,7 @@ use Rattle.chunk_walk.specs.declared.chunk.Chunk.{Chunk}
 use Rattle.chunk_walk.specs.declared.chunk.ChunkFault.{ChunkFault}
 use Rattle.chunk_walk.specs.declared.chunk.ChunkFault.TheVariants.{Truncated, HeaderShort, HeaderLong, Misaligned, Oversize}
 use Rattle.chunk_walk.specs.Number.{number}
+use Rattle.chunk_walk.specs.Layout.{least_header_size}
 
 -- A chunk as it stands in a file, without where the file lies in memory: its kind, its place from
 -- the file's first byte, the bytes of its header, those behind the header, and all of them.
@@ -37,7 +38,7 @@ size_in left = number 4 left 4
 -- bytes from that place on are left, and its header has to have min bytes at least.
 abbrev pub chunk_faults : ℕ → List ℕ → ℕ → List (Bool × ChunkFault)
 chunk_faults place left min =
-    (nat_lt (length left) 8, Truncated place)
+    (nat_lt (length left) least_header_size, Truncated place)
     ∷ (nat_lt (header_size_in left) min, HeaderShort place)
     ∷ (nat_lt (size_in left) (header_size_in left), HeaderLong place)
     ∷ (not (header_size_in left % 4 == 0 && size_in left % 4 == 0), Misaligned place)
@@ -62,4 +63,4 @@ chunk_in place left min = checked_by (chunk_faults place left min) (Ok (fields_i
 
 -- the chunk at a place within a chunk, counted from its start
 abbrev pub chunk_within : ChunkOf → ℕ → Result ChunkOf ChunkFault
-chunk_within chunk at = chunk_in (chunk.place + at) (drop at chunk.whole) 8
+chunk_within chunk at = chunk_in (chunk.place + at) (drop at chunk.whole) least_header_size

@@ -1,6 +1,7 @@
 -- Chunks that stand one after the other.
 use Rattle.std.specs.Prelude.{ℕ, zero, suc, ◌+◌, List, [], ◌∷◌, length, drop, Result, Ok, Err, nat_lt, if◌then◌else◌}
 use Rattle.chunk_walk.specs.declared.chunk.ChunkFault.{ChunkFault}
+use Rattle.chunk_walk.specs.Layout.{least_header_size}
 use Rattle.chunk_walk.specs.Chunk.{ChunkOf, chunk_in}
 
 -- A chunk, and the chunks of what is left behind it. A fault is the last.
@@ -13,7 +14,7 @@ followed_by chunks left (Err fault) = Err fault ∷ []
 unfoldable pub at_most_chunks : ℕ → ℕ → List ℕ → List (Result ChunkOf ChunkFault)
 at_most_chunks zero place left = []
 at_most_chunks (suc most) place left =
-    if nat_lt (length left) 8 then [] else followed_by (at_most_chunks most) left (chunk_in place left 8)
+    if nat_lt (length left) least_header_size then [] else followed_by (at_most_chunks most) left (chunk_in place left least_header_size)
 
 -- all chunks of the bytes that are left: each has eight bytes at least, so there are fewer than bytes
 unfoldable pub chunks_of : ℕ → List ℕ → List (Result ChunkOf ChunkFault)

@@ -1,7 +1,10 @@
 //! What a chunk is, and what can be wrong with one.
 
 ghost use Rattle.std.specs.Prelude.{◌≡◌, ◌+◌, ◌++◌, ◌^◌, ◌<◌, ◌≤◌, length};
+ghost use Rattle.chunk_walk.specs.Layout.{least_header_size};
 
+use crate::chunk_header::first_chunk;
+use crate::chunks::Chunks;
 use thiserror::Error;
 
 /// The bytes that each chunk begins with: a kind, the header's size, the chunk's size.
@@ -43,5 +46,31 @@ pub struct Chunk<'a> {
     ghost in_range: { place + length whole.now < 2 ^ 63 },
     ghost small: { length whole.now < 2 ^ 32 },
     ghost parts: { whole.now ≡ header.now ++ body.now },
-    ghost has_header: { 8 ≤ length header.now },
+    ghost has_header: { least_header_size ≤ length header.now },
+}
+
+impl<'a> Chunk<'a> {
+    ghost use Rattle.chunk_walk.specs.Chunk.{chunk_of, chunk_within, seen};
+    ghost use Rattle.chunk_walk.specs.Chunks.{children_of};
+
+    /// The chunk at a place within this chunk, counted from this chunk's start.
+    pub fn chunk_at(&self, at: usize) -> Result<Chunk<'a>, ChunkFault>
+        requires { at ≤ length self.now.whole.now }
+        ensures { seen result ≡ chunk_within (chunk_of self.now) at }
+    {
+        let (_, left) = self.whole.split_at(at);
+        first_chunk(self.place + at, left, LEAST_HEADER_SIZE)
+    }
+
+    /// The chunks within this chunk, behind its header.
+    pub fn children(&self) -> Chunks<'a>
+        ensures chunks { result ≡ children_of (chunk_of self.now) }
+        // A chunk has eight bytes at least.
+        ensures few { length result < 2 ^ 29 }
+    {
+        Chunks {
+            place: self.place + self.header.len(),
+            left: self.body,
+        }
+    }
 }

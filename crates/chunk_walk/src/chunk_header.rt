@@ -1,6 +1,7 @@
 //! The first eight bytes of a chunk, and the chunk that they spell at a place.
 
 ghost use Rattle.std.specs.Prelude.{◌≡◌, ◌+◌, ◌^◌, ◌<◌, ◌≤◌, length, drop, IfOk};
+ghost use Rattle.chunk_walk.specs.Layout.{least_header_size};
 ghost use Rattle.chunk_walk.specs.Chunk.{seen, chunk_in};
 
 use crate::chunk::{Chunk, ChunkFault, LEAST_HEADER_SIZE};
@@ -16,7 +17,7 @@ const SIZE_FIELD: usize = 4;
 /// The chunk at a place of the bytes (AOSP: `validate_chunk`), whose header has to have `min` bytes at least.
 #[tactic(auto, unfolding(crate::specs::Chunk::chunk_in))]
 pub fn chunk_at(bytes: &[u8], at: usize, min: usize) -> Result<Chunk<'_>, ChunkFault>
-    requires { 8 ≤ min }
+    requires { least_header_size ≤ min }
     ensures { seen result ≡ chunk_in at (drop at bytes.now) min }
 {
     match bytes.get(at..) {
@@ -28,7 +29,7 @@ pub fn chunk_at(bytes: &[u8], at: usize, min: usize) -> Result<Chunk<'_>, ChunkF
 /// The chunk at a place, from which on these bytes are left.
 #[tactic(auto, unfolding(crate::specs::Chunk::chunk_in))]
 pub(crate) fn first_chunk(place: usize, left: &[u8], min: usize) -> Result<Chunk<'_>, ChunkFault>
-    requires wide { 8 ≤ min }
+    requires wide { least_header_size ≤ min }
     requires in_range { place + length left.now < 2 ^ 63 }
     ensures chunk { seen result ≡ chunk_in place left.now min }
     ensures fits { IfOk result (λ chunk. length chunk.whole.now ≤ length left.now) }
@@ -58,17 +59,4 @@ pub(crate) fn first_chunk(place: usize, left: &[u8], min: usize) -> Result<Chunk
         body: &whole[header_size..],
         whole,
     })
-}
-
-impl<'a> Chunk<'a> {
-    ghost use Rattle.chunk_walk.specs.Chunk.{chunk_of, chunk_within};
-
-    /// The chunk at a place within this chunk, counted from this chunk's start.
-    pub fn chunk_at(&self, at: usize) -> Result<Chunk<'a>, ChunkFault>
-        requires { at ≤ length self.now.whole.now }
-        ensures { seen result ≡ chunk_within (chunk_of self.now) at }
-    {
-        let (_, left) = self.whole.split_at(at);
-        first_chunk(self.place + at, left, LEAST_HEADER_SIZE)
-    }
 }

@@ -1,8 +1,7 @@
 //! Chunks one after the other.
 
-ghost use Rattle.std.specs.Prelude.{◌≡◌, ◌<◌, ◌^◌, length, drop};
-ghost use Rattle.chunk_walk.specs.Chunk.{chunk_of};
-ghost use Rattle.chunk_walk.specs.Chunks.{chunks_of, children_of};
+ghost use Rattle.std.specs.Prelude.{◌≡◌, drop};
+ghost use Rattle.chunk_walk.specs.Chunks.{chunks_of};
 
 use crate::chunk::{Chunk, ChunkFault, LEAST_HEADER_SIZE};
 use crate::chunk_header::first_chunk;
@@ -12,8 +11,9 @@ use std::marker::Model;
 /// seven bytes or fewer at the end are passed over.
 #[derive(Drop)]
 pub struct Chunks<'a> {
-    place: usize,
-    left: &'a [u8],
+    /// The place of what is left, from the file's first byte.
+    pub(crate) place: usize,
+    pub(crate) left: &'a [u8],
 }
 
 impl<'a> Model for Chunks<'a> {
@@ -31,7 +31,14 @@ impl<'a> Model for Chunks<'a> {
 }
 
 impl<'a> Chunks<'a> {
-    /// The chunks from a place to the end of the bytes.
+    /// The chunks from a place to the end of the bytes: for chunks that stand in no other, as those of a whole
+    /// file. Those within a chunk are its `children`.
+    ///
+    /// ```text
+    /// for chunk in Chunks::new(file, 0) {
+    ///     println!(rt; "{:#06x}", chunk?.kind)?;
+    /// }
+    /// ```
     #[tactic(auto, using(crate::proofs::ChunksSteps::chunks_steps))]
     pub fn new(bytes: &'a [u8], from: usize) -> Self
         ensures { result ≡ chunks_of from (drop from bytes.now) }
@@ -43,20 +50,6 @@ impl<'a> Chunks<'a> {
                 place: 0,
                 left: &bytes[..0],
             },
-        }
-    }
-}
-
-impl<'a> Chunk<'a> {
-    /// The chunks within this chunk, behind its header.
-    pub fn children(&self) -> Chunks<'a>
-        ensures chunks { result ≡ children_of (chunk_of self.now) }
-        // A chunk has eight bytes at least.
-        ensures few { length result < 2 ^ 29 }
-    {
-        Chunks {
-            place: self.place + self.header.len(),
-            left: self.body,
         }
     }
 }

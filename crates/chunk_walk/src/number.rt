@@ -5,7 +5,14 @@ ghost use Rattle.chunk_walk.specs.Number.{number, number_at};
 
 use byteorder::{ByteOrder, LittleEndian};
 
-/// The number of two bytes at a place, where they fit.
+/// The number of two bytes at a place, where they fit: for bytes whose length was not compared yet. Where
+/// it was, `u16_within` gives the number itself.
+///
+/// ```text
+/// let Some(kind) = u16_at(bytes, 0) else {
+///     return Err(Fault::Short); // fewer than two bytes are left
+/// };
+/// ```
 #[tactic(auto, unfolding(crate::specs::Number::number))]
 pub fn u16_at(bytes: &[u8], at: usize) -> Option<u16>
     ensures { result ≡ number_at 2 bytes.now at }
@@ -17,7 +24,7 @@ pub fn u16_at(bytes: &[u8], at: usize) -> Option<u16>
     Some(LittleEndian::read_u16(left))
 }
 
-/// The number of four bytes at a place, where they fit.
+/// The number of four bytes at a place, where they fit; `u32_within` where they are known to.
 #[tactic(auto, unfolding(crate::specs::Number::number))]
 pub fn u32_at(bytes: &[u8], at: usize) -> Option<u32>
     ensures { result ≡ number_at 4 bytes.now at }

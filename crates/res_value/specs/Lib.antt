@@ -1,4 +1,5 @@
 pub mod Word
+pub mod Layout
 pub mod ResId
 pub mod Value
 pub mod Complex

@@ -7,12 +7,13 @@ use Rattle.res_value.specs.declared.value.Value.{Value}
 use Rattle.res_value.specs.declared.map_rows.MapRows.{MapRows}
 use Rattle.res_value.specs.declared.map_rows.MapRowsFault.{MapRowsFault}
 use Rattle.res_value.specs.declared.map_rows.MapRowsFault.TheVariants.{Short, ValueSize}
+use Rattle.res_value.specs.Layout.{row_name_size, row_size}
 use Rattle.res_value.specs.Value.{has_value_size, value_at}
 
 -- so many rows, one behind the other, each its name and its value
 unfoldable pub map_rows_at : ℕ → List ℕ → List (ResId × Value)
 map_rows_at zero bytes = []
-map_rows_at (suc count) bytes = (record { 0 = number 4 bytes 0 }, value_at (drop 4 bytes)) ∷ map_rows_at count (drop 12 bytes)
+map_rows_at (suc count) bytes = (record { 0 = number 4 bytes 0 }, value_at (drop row_name_size bytes)) ∷ map_rows_at count (drop row_size bytes)
 
 -- the rows that are left
 abbrev pub map_rows_of : MapRows → List (ResId × Value)
@@ -20,7 +21,7 @@ map_rows_of rows = map_rows_at rows.count rows.left.now
 
 -- where the value of the row of an index stands, from the start of the rows
 abbrev pub value_place : ℕ → ℕ
-value_place index = 12 * index + 4
+value_place index = row_size * index + row_name_size
 
 -- whether the value of the row of this index, counted from 0, has another size than a value has
 unfoldable pub has_wrong_size : List ℕ → ℕ → Bool
@@ -35,7 +36,7 @@ unless_wrong count bytes (Some index) = Err (ValueSize index)
 -- is checked before the first value.
 unfoldable pub map_rows_in : ℕ → List ℕ → Result (List (ResId × Value)) MapRowsFault
 map_rows_in count bytes =
-    if nat_lt (length bytes) (12 * count) then Err Short
+    if nat_lt (length bytes) (row_size * count) then Err Short
     else unless_wrong count bytes (find (has_wrong_size bytes) (range_with_len 0 count))
 
 -- how contracts see what a call returned: without where it lies in memory

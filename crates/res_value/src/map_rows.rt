@@ -2,6 +2,7 @@
 
 ghost use Rattle.std.specs.Prelude.{◌≡◌, ◌==◌, ◌+◌, ◌*◌, ◌≤◌, length, find};
 ghost use Rattle.std.specs.List.{range_with_len};
+ghost use Rattle.res_value.specs.Layout.{row_size};
 
 use crate::res_id::ResId;
 use crate::value::Value;
@@ -34,7 +35,7 @@ pub enum MapRowsFault {
 pub struct MapRows<'a> {
     count: u32,
     left: &'a [u8],
-    ghost fits: { 12 * count ≤ length left.now },
+    ghost fits: { row_size * count ≤ length left.now },
 }
 
 impl<'a> MapRows<'a> {
@@ -81,7 +82,7 @@ impl<'a> MapRows<'a> {
     // Whether the value of a row has another size than a value has.
     #[tactic(auto, unfolding(crate::specs::MapRows::has_wrong_size))]
     fn has_wrong_size(bytes: &[u8], index: u32) -> bool
-        requires { 12 * index + 12 ≤ length bytes.now }
+        requires { row_size * index + row_size ≤ length bytes.now }
         ensures { result ≡ has_wrong_size bytes.now index }
     {
         Value::read(&bytes[MapRows::value_place(index)..]).is_none()
@@ -90,7 +91,7 @@ impl<'a> MapRows<'a> {
     // The first row whose value has another size than a value has.
     #[tactic(auto, using(crate::proofs::MapRowsSteps::search_steps))]
     fn first_wrong_size(count: u32, bytes: &[u8]) -> Option<u32>
-        requires { 12 * count ≤ length bytes.now }
+        requires { row_size * count ≤ length bytes.now }
         ensures { result ≡ find (has_wrong_size bytes.now) (range_with_len 0 count) }
     {
         for index in 0..count {

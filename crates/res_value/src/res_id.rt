@@ -55,6 +55,12 @@ impl ResId {
         (self.0 >> TYPE_SHIFT & TYPE_MASK) as u8
     }
 
+    /// Its number among the entries of its type: the index of the entry in each type chunk that has it, and
+    /// the last four digits of the id's text.
+    ///
+    /// ```text
+    /// let same_place = first.entry() == second.entry(); // 0x7f010002 and 0x7f020002
+    /// ```
     pub fn entry(self) -> u16
         ensures { result ≡ entry_of self }
     {

@@ -1,6 +1,7 @@
 //! A value as it stands in a table.
 
 ghost use Rattle.std.specs.Prelude.{◌≡◌, ◌≤◌, length};
+ghost use Rattle.res_value.specs.Layout.{value_size};
 ghost use Rattle.res_value.specs.Value.{value_in, value_at};
 
 use chunk_walk::{u16_within, u32_within};
@@ -37,7 +38,7 @@ impl Value {
 
     /// The value that the bytes begin with, where its size is known.
     pub(crate) fn within(bytes: &[u8]) -> Value
-        requires { 8 ≤ length bytes.now }
+        requires { value_size ≤ length bytes.now }
         ensures { result ≡ value_at bytes.now }
     {
         Value {

@@ -1,4 +1,4 @@
 pub mod WalkSteps
 pub mod PackagesSteps
-pub mod PlacesSteps
+pub mod PositionsSteps
 pub mod StandSteps

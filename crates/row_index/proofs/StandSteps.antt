@@ -1,4 +1,4 @@
--- Rows that stand at places.
+-- Rows that stand at positions.
 use Rattle.std.proofs.Common.{◌≡◌, List, [], ◌∷◌, map, Option, Some, None, refl, sym, ap, subst, ◌∙◌, arith, Bor, Iter}
 use Rattle.std.specs.List.{filter_map}
 use Rattle.std.specs.Slice.Iter.{iter_rest, iter_steps}

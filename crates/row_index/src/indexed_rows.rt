@@ -1,13 +1,13 @@
 //! The rows of an id, one after the other.
 
-ghost use Rattle.std.specs.Prelude.{◌≡◌};
+ghost use Rattle.std.specs.Prelude.{◌≡◌, []};
 ghost use Rattle.std.specs.Option.{option_map};
 ghost use Rattle.std.specs.Slice.Iter.{iter_rest};
 ghost use Rattle.type_chunks.specs.Row.{row_of};
 ghost use Rattle.type_chunks.specs.Package.{packages_of};
-ghost use Rattle.row_index.specs.Places.{row_at, rows_at, StandAt};
+ghost use Rattle.row_index.specs.Positions.{row_at, rows_at, StandAt};
 
-use crate::row_place::RowPlace;
+use crate::row_position::RowPosition;
 use std::marker::Model;
 use std::slice::Iter;
 use type_chunks::{Package, Row};
@@ -16,8 +16,8 @@ use type_chunks::{Package, Row};
 #[derive(Drop)]
 pub struct IndexedRows<'t, 'a> {
     packages: &'t [Package<'a>],
-    places: Iter<'t, RowPlace>,
-    ghost found: { StandAt (packages_of packages.now) (iter_rest places) (rows_at (packages_of packages.now) (iter_rest places)) },
+    positions: Iter<'t, RowPosition>,
+    ghost found: { StandAt (packages_of packages.now) (iter_rest positions) (rows_at (packages_of packages.now) (iter_rest positions)) },
 }
 
 impl<'t, 'a> Model for IndexedRows<'t, 'a> {
@@ -25,23 +25,39 @@ impl<'t, 'a> Model for IndexedRows<'t, 'a> {
     ghost use Rattle.std.specs.Slice.Iter.{iter_rest};
     ghost use Rattle.type_chunks.specs.Row.{RowOf};
     ghost use Rattle.type_chunks.specs.Package.{packages_of};
-    ghost use Rattle.row_index.specs.Places.{rows_at};
+    ghost use Rattle.row_index.specs.Positions.{rows_at};
 
     ghost Value = { List RowOf };
 
-    ghost view = { λ s. rows_at (packages_of s.packages.now) (iter_rest s.places) };
+    ghost view = { λ s. rows_at (packages_of s.packages.now) (iter_rest s.positions) };
 }
 
 impl<'t, 'a> IndexedRows<'t, 'a> {
-    pub(crate) fn new(packages: &'t [Package<'a>], places: &'t [RowPlace]) -> Self
-        requires { StandAt (packages_of packages.now) places.now (rows_at (packages_of packages.now) places.now) }
-        ensures { result ≡ rows_at (packages_of packages.now) places.now }
+    pub(crate) fn new(packages: &'t [Package<'a>], positions: &'t [RowPosition]) -> Self
+        requires { StandAt (packages_of packages.now) positions.now (rows_at (packages_of packages.now) positions.now) }
+        ensures { result ≡ rows_at (packages_of packages.now) positions.now }
     {
         IndexedRows {
             packages,
-            places: places.iter(),
+            positions: positions.iter(),
         }
     }
+
+    /// No rows.
+    pub fn none() -> Self
+        ensures { result ≡ [] }
+    {
+        IndexedRows {
+            packages: &[],
+            positions: no_positions().iter(),
+        }
+    }
+}
+
+fn no_positions<'t>() -> &'t [RowPosition]
+    ensures { result.now ≡ [] }
+{
+    &[]
 }
 
 impl<'t, 'a> Iterator for IndexedRows<'t, 'a> {
@@ -56,19 +72,19 @@ impl<'t, 'a> Iterator for IndexedRows<'t, 'a> {
 
     #[tactic(auto, using(crate::proofs::StandSteps::stand_steps))]
     fn next(&mut self) -> Option<Row<'a>> {
-        let Some(place) = self.places.next() else {
+        let Some(position) = self.positions.next() else {
             return None;
         };
-        find_row(self.packages, *place)
+        find_row(self.packages, *position)
     }
 }
 
-// The row at a place.
-fn find_row<'a>(packages: &[Package<'a>], place: RowPlace) -> Option<Row<'a>>
-    ensures { option_map row_of result ≡ row_at (packages_of packages.now) place }
+// The row at a position.
+fn find_row<'a>(packages: &[Package<'a>], position: RowPosition) -> Option<Row<'a>>
+    ensures { option_map row_of result ≡ row_at (packages_of packages.now) position }
 {
-    match packages.get(place.package) {
-        Some(package) => package.row(place.row),
+    match packages.get(position.package) {
+        Some(package) => package.row(position.row),
         None => None,
     }
 }

@@ -3,21 +3,21 @@
 ghost use Rattle.std.specs.Prelude.{◌≡◌, ◌<◌, ◌^◌, IfOk, IfErr, length};
 ghost use Rattle.type_chunks.specs.Row.{with_id};
 ghost use Rattle.type_chunks.specs.Table.{rows_of};
-ghost use Rattle.row_index.specs.Places.{ArePlacesOf};
+ghost use Rattle.row_index.specs.Positions.{ArePositionsOf};
 
 use crate::indexed_rows::IndexedRows;
-use crate::row_places::RowPlaces;
+use crate::row_positions::RowPositions;
 use res_value::ResId;
 use std::alloc::Global;
 use std::marker::Model;
 use type_chunks::Table;
 
-/// A table with the places of its rows by id. Contracts see it as the table.
-#[derive(Drop)]
+/// A table with the positions of its rows by id. Contracts see it as the table.
+#[derive(Debug, Drop)]
 pub struct IndexedTable<'a> {
     table: Table<'a>,
-    places: RowPlaces,
-    ghost all: { ArePlacesOf (rows_of table) table.packages places },
+    positions: RowPositions,
+    ghost all: { ArePositionsOf (rows_of table) table.packages positions },
 }
 
 impl<'a> Model for IndexedTable<'a> {
@@ -36,8 +36,8 @@ impl<'a> IndexedTable<'a> {
         ensures few { IfOk result (λ indexed. length (rows_of indexed) < 2 ^ 92) }
         ensures back { IfErr result (λ back. back ≡ table.entry) }
     {
-        match RowPlaces::of_packages(alloc, table.packages()) {
-            Ok(places) => Ok(IndexedTable { table, places }),
+        match RowPositions::of_packages(alloc, table.packages()) {
+            Ok(positions) => Ok(IndexedTable { table, positions }),
             Err(_) => Err(table),
         }
     }
@@ -55,6 +55,6 @@ impl<'a> IndexedTable<'a> {
     pub fn rows(&self, id: ResId) -> IndexedRows<'_, 'a>
         ensures { result ≡ with_id id.0 (rows_of self.now) }
     {
-        IndexedRows::new(self.table.packages(), self.places.get(id))
+        IndexedRows::new(self.table.packages(), self.positions.get(id))
     }
 }

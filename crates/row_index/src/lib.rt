@@ -15,8 +15,8 @@
 
 mod indexed_rows;
 mod indexed_table;
-mod row_place;
-mod row_places;
+mod row_position;
+mod row_positions;
 
 pub use indexed_rows::IndexedRows;
 pub use indexed_table::IndexedTable;

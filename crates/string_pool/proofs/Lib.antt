@@ -1,3 +1,4 @@
+pub mod BitSteps
 pub mod SpanSteps
 pub mod UnitSteps
 pub mod ByteTexts

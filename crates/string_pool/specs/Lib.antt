@@ -1,4 +1,5 @@
 pub mod Lent
+pub mod Layout
 pub mod Pool
 pub mod Units
 pub mod Text

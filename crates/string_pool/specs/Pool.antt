@@ -3,13 +3,14 @@ use Rattle.std.specs.Prelude.{ℕ, ◌+◌, ◌*◌, ◌/◌, ◌%◌, ◌^◌, 
 use Rattle.contract_words.specs.Faults.{◌>>=◌, refuse}
 use Rattle.chunk_walk.specs.Number.{number}
 use Rattle.chunk_walk.specs.Chunk.{ChunkOf}
+use Rattle.string_pool.specs.Layout.{least_pool_header, offset_size}
 use Rattle.string_pool.specs.declared.pool.Pool.{Pool}
 use Rattle.string_pool.specs.declared.fault.PoolFault.{PoolFault}
 use Rattle.string_pool.specs.declared.fault.PoolFault.TheVariants.{HeaderSize, Offsets, Start}
 
 -- A string pool, without where its file lies in memory: whether its strings are UTF-8 or UTF-16, how
 -- many strings and styles it has, the bytes that begin with the offsets of the strings and behind them
--- those of the styles, of four bytes each, the bytes from where the strings stand, and those from where
+-- those of the styles, the bytes from where the strings stand, and those from where
 -- the styles stand.
 pub record PoolOf : Type 0 where
   pub utf8 : Bool
@@ -55,13 +56,13 @@ before_styles bytes count start = if count == 0 then bytes else take start bytes
 -- ends.
 unfoldable pub pool_in : ChunkOf → Result PoolOf PoolFault
 pool_in chunk = do
-  _ ← refuse (nat_lt (length chunk.header) 28) HeaderSize
+  _ ← refuse (nat_lt (length chunk.header) least_pool_header) HeaderSize
   let string_count = number 4 chunk.header 8
   let style_count = number 4 chunk.header 12
   let flags = number 4 chunk.header 16
   let strings_start = number 4 chunk.header 20
   let styles_start = number 4 chunk.header 24
-  _ ← refuse (nat_lt (length chunk.body) (4 * (string_count + style_count))) Offsets
+  _ ← refuse (nat_lt (length chunk.body) (offset_size * (string_count + style_count))) Offsets
   styles ← part_in chunk.whole style_count styles_start
   strings ← part_in (before_styles chunk.whole style_count styles_start) string_count strings_start
   Ok (record {

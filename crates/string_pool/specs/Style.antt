@@ -6,6 +6,7 @@ use Rattle.chunk_walk.specs.Number.{number}
 use Rattle.string_pool.specs.declared.fault.StringFault.{StringFault}
 use Rattle.string_pool.specs.declared.fault.StringFault.TheVariants.{NoSuch, Cut}
 use Rattle.string_pool.specs.declared.span.Span.{Span}
+use Rattle.string_pool.specs.Layout.{offset_size, span_size, span_name_size, end_of_spans}
 use Rattle.string_pool.specs.Pool.{PoolOf}
 
 -- a span: the index of its name among the strings, and its first and last characters
@@ -17,11 +18,11 @@ span_in left = record { name = number 4 left 0; first = number 4 left 4; last = 
 unfoldable pub at_most_spans : ℕ → List ℕ → Result (List Span) StringFault
 at_most_spans zero left = Err Cut
 at_most_spans (suc most) left = do
-  _ ← refuse (nat_lt (length left) 4) Cut
+  _ ← refuse (nat_lt (length left) span_name_size) Cut
   let more = do
-    _ ← refuse (nat_lt (length left) 12) Cut
-    with_front (span_in left ∷ []) (at_most_spans most (drop 12 left))
-  if number 4 left 0 == 0xffff_ffff then Ok [] else more
+    _ ← refuse (nat_lt (length left) span_size) Cut
+    with_front (span_in left ∷ []) (at_most_spans most (drop span_size left))
+  if number 4 left 0 == end_of_spans then Ok [] else more
 
 -- the spans from the front of what is left: each has twelve bytes, so there are no more than bytes
 unfoldable pub spans_in : List ℕ → Result (List Span) StringFault
@@ -32,4 +33,4 @@ spans_in left = at_most_spans (length left) left
 unfoldable pub style_in : PoolOf → ℕ → Result (List Span) StringFault
 style_in pool index = do
   _ ← refuse (not (nat_lt index pool.style_count)) NoSuch
-  spans_in (drop (number 4 pool.offsets (4 * (pool.string_count + index))) pool.styles)
+  spans_in (drop (number 4 pool.offsets (offset_size * (pool.string_count + index))) pool.styles)

@@ -7,6 +7,7 @@ use Rattle.string_pool.specs.declared.fault.StringFault.{StringFault}
 use Rattle.string_pool.specs.declared.fault.StringFault.TheVariants.{NoSuch, Cut, NotEnded}
 use Rattle.string_pool.specs.declared.text.Text.{Text}
 use Rattle.string_pool.specs.declared.text.Text.TheVariants.{Utf8, Utf16}
+use Rattle.string_pool.specs.Layout.{offset_size}
 use Rattle.string_pool.specs.Pool.{PoolOf}
 use Rattle.string_pool.specs.Units.{units_in, units_of}
 
@@ -80,5 +81,5 @@ utf16_in left = do
 unfoldable pub text_in : PoolOf → ℕ → Result TextOf StringFault
 text_in pool index = do
   _ ← refuse (not (nat_lt index pool.string_count)) NoSuch
-  let left = drop (number 4 pool.offsets (4 * index)) pool.strings
+  let left = drop (number 4 pool.offsets (offset_size * index)) pool.strings
   if pool.utf8 then utf8_in left else utf16_in left

@@ -13,9 +13,6 @@ pub(crate) mod pool_header {
     pub const STYLES_START: usize = 24;
 
     pub const LEAST_SIZE: usize = 28;
-
-    /// Which bit of the flags says that the strings are UTF-8.
-    pub const UTF8_BIT: u32 = 8;
 }
 
 /// How many bytes an offset has.

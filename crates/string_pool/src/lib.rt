@@ -18,6 +18,7 @@ mod fault;
 mod layout;
 mod part;
 mod pool;
+mod pool_flags;
 mod reading;
 mod shown;
 mod span;

@@ -1,13 +1,16 @@
 //! String pools.
 
 ghost use Rattle.std.specs.Prelude.{◌≡◌, ◌+◌, ◌*◌, ◌≤◌, ◌==◌, length, IfOk};
+ghost use Rattle.string_pool.specs.Layout.{offset_size};
 
 use crate::fault::{PoolFault, StringFault};
 use crate::layout::{OFFSET_SIZE, pool_header as header};
 use crate::part::{before_styles, bytes_from, part_from};
+use crate::pool_flags::PoolFlags;
 use crate::reading::{utf8_text, utf16_text};
 use crate::spans::Spans;
 use crate::text::Text;
+use bitflags::Flags;
 use chunk_walk::{Chunk, u32_within};
 
 /// A string pool whose header was checked (AOSP: `ResStringPool`), lent from the bytes of its file.
@@ -21,7 +24,7 @@ pub struct Pool<'a> {
     offsets: &'a [u8],
     strings: &'a [u8],
     styles: &'a [u8],
-    ghost offsets_fit: { 4 * (string_count + style_count) ≤ length offsets.now },
+    ghost offsets_fit: { offset_size * (string_count + style_count) ≤ length offsets.now },
 }
 
 impl<'a> Pool<'a> {
@@ -47,14 +50,14 @@ impl<'a> Pool<'a> {
         if chunk.body.len() < OFFSET_SIZE * (string_count as usize + style_count as usize) {
             return Err(PoolFault::Offsets);
         }
-        let flags = u32_within(chunk.header, header::FLAGS);
+        let flags = PoolFlags::from_bits_retain(u32_within(chunk.header, header::FLAGS));
         let strings_start = u32_within(chunk.header, header::STRINGS_START);
         let styles_start = u32_within(chunk.header, header::STYLES_START);
         let styles = part_from(chunk.whole, style_count, styles_start)?;
         let before_styles = before_styles(chunk.whole, style_count, styles_start);
         let strings = part_from(before_styles, string_count, strings_start)?;
         Ok(Pool {
-            utf8: flags >> header::UTF8_BIT & 1 == 1,
+            utf8: flags.is_utf8(),
             string_count,
             style_count,
             offsets: chunk.body,
@@ -91,7 +94,12 @@ impl<'a> Pool<'a> {
         self.string_count == 0
     }
 
-    /// Whether the strings are UTF-8, and not UTF-16.
+    /// Whether the strings are UTF-8, and not UTF-16: for a report on the pool. Who reads a string needs no
+    /// such question, since its `Text` says which it is.
+    ///
+    /// ```text
+    /// let encoding = if table.strings().is_utf8() { "UTF-8" } else { "UTF-16" };
+    /// ```
     pub fn is_utf8(&self) -> bool
         ensures { result ≡ (pool_of self.now).utf8 }
     {
@@ -118,7 +126,16 @@ impl<'a> Pool<'a> {
         }
     }
 
-    /// The spans of a style (AOSP: `ResStringPool::styleAt`).
+    /// The spans of a style (AOSP: `ResStringPool::styleAt`): for a string that is shown with its marks, such
+    /// as `<b>`. The style of an index is that of the string of this index; a pool has them for the first of
+    /// its strings, so `NoSuch` says that a string has none.
+    ///
+    /// ```text
+    /// for span in pool.spans(index)? {
+    ///     let mark = pool.get(span.name as usize)?;
+    ///     mark.write_shown(&mut out)?; // "b", from span.first to span.last
+    /// }
+    /// ```
     #[tactic(auto, unfolding(crate::specs::Style::style_in))]
     pub fn spans(&self, index: usize) -> Result<Spans<'a>, StringFault>
         ensures { result ≡ style_in (pool_of self.now) index }

@@ -13,26 +13,6 @@ use crate::units::first_character;
 use hex_text::write_hex;
 use std::io::{self, Write};
 
-impl<'a> Text<'a> {
-    ghost use Rattle.string_pool.specs.Text.{text_of};
-    ghost use Rattle.string_pool.specs.Shown.{shown_text};
-
-    /// Writes the string between quotes, as UTF-8. `"` and `\` have a `\` before them; control
-    /// characters of ASCII and bytes that are no UTF-8 are `\x` and two digits, lone surrogates `\u`
-    /// and four.
-    #[tactic(auto, unfolding(crate::specs::Shown::shown_text))]
-    pub fn write_shown<W: Write + Drop>(&self, out: &mut W) -> io::Result<()>
-        ensures { Writes W.contents out.old out.new result (shown_text (text_of self.now)) }
-    {
-        out.write_all(b"\"")?;
-        match self {
-            Text::Utf8(bytes) => write_bytes(bytes, out)?,
-            Text::Utf16(bytes) => write_units(bytes, out)?,
-        }
-        out.write_all(b"\"")
-    }
-}
-
 /// Writes what was asked for: a string between quotes, or the name of its fault behind `!`.
 #[tactic(auto, unfolding(crate::specs::Shown::string_text))]
 pub fn write_string<W: Write + Drop>(
@@ -49,9 +29,9 @@ pub fn write_string<W: Write + Drop>(
     }
 }
 
-// Writes bytes that are read as UTF-8. What stands for itself is written in one piece.
+/// Writes bytes that are read as UTF-8. What stands for itself is written in one piece.
 #[tactic(auto, using(crate::proofs::WriteSteps::writes))]
-fn write_bytes<W: Write + Drop>(bytes: &[u8], out: &mut W) -> io::Result<()>
+pub(crate) fn write_bytes<W: Write + Drop>(bytes: &[u8], out: &mut W) -> io::Result<()>
     ensures { Writes W.contents out.old out.new result (bytes_text bytes.now) }
 {
     let mut left = bytes;
@@ -66,9 +46,9 @@ fn write_bytes<W: Write + Drop>(bytes: &[u8], out: &mut W) -> io::Result<()>
     }
 }
 
-// Writes bytes that are read as UTF-16.
+/// Writes bytes that are read as UTF-16.
 #[tactic(auto, using(crate::proofs::WriteSteps::writes))]
-fn write_units<W: Write + Drop>(bytes: &[u8], out: &mut W) -> io::Result<()>
+pub(crate) fn write_units<W: Write + Drop>(bytes: &[u8], out: &mut W) -> io::Result<()>
     ensures { Writes W.contents out.old out.new result (units_text (units_in bytes.now)) }
 {
     let mut left = bytes;

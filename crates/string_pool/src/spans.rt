@@ -1,6 +1,7 @@
 //! The spans of a style.
 
 ghost use Rattle.std.specs.Prelude.{◌≡◌, ◌≤◌, length};
+ghost use Rattle.string_pool.specs.Layout.{span_size};
 ghost use Rattle.string_pool.specs.Style.{span_in, spans_in};
 
 use crate::fault::StringFault;
@@ -19,13 +20,14 @@ pub struct Spans<'a> {
 impl<'a> Model for Spans<'a> {
     ghost use Rattle.std.specs.Prelude.{List, ◌*◌, ◌≤◌, length};
     ghost use Rattle.string_pool.specs.declared.span.Span.{Span};
+    ghost use Rattle.string_pool.specs.Layout.{span_size};
     ghost use Rattle.string_pool.specs.Spans.{listed_spans};
 
     ghost Value = { List Span };
 
     ghost view = { λ s. listed_spans s.count s.left.now };
 
-    ghost invariant = { λ s. 12 * s.count ≤ length s.left.now };
+    ghost invariant = { λ s. span_size * s.count ≤ length s.left.now };
 }
 
 impl<'a> Spans<'a> {
@@ -77,7 +79,7 @@ impl<'a> Iterator for Spans<'a> {
 
 // The span at the front of what is left.
 fn first_span(left: &[u8]) -> Span
-    requires { 12 ≤ length left.now }
+    requires { span_size ≤ length left.now }
     ensures { result ≡ span_in left.now }
 {
     Span {

@@ -3,6 +3,7 @@ use Rattle.std.specs.Prelude.{ℕ, ◌+◌, ◌*◌, ◌%◌, Bool, ◌&&◌, no
 use Rattle.contract_words.specs.Faults.{◌>>=◌, refuse}
 use Rattle.chunk_walk.specs.Number.{number}
 use Rattle.res_value.specs.ResId.{id_of_parts}
+use Rattle.res_value.specs.Layout.{value_size}
 use Rattle.res_value.specs.Value.{has_value_size, value_at}
 use Rattle.res_value.specs.MapRows.{map_rows_in, value_place}
 use Rattle.res_value.specs.Cell.{CellOf, PlainOf, BagOf}
@@ -17,17 +18,18 @@ use Rattle.type_chunks.specs.declared.fault.TableFault.TheVariants as faults
 use Rattle.type_chunks.specs.declared.row.Row.{Row}
 use Rattle.type_chunks.specs.Row.{RowOf, row_of}
 use Rattle.type_chunks.specs.TypeChunk.{TypeChunkOf}
+use Rattle.type_chunks.specs.Layout.{entry_flags_size, entry_offset_size, no_entry, least_entry, least_entry_size, indexes}
 
 -- an entry of this index is a row: its type spec counts it, and an id has room for it
 abbrev pub is_row : TypeChunkOf → ℕ → Bool
-is_row chunk index = nat_lt index chunk.spec.entry_count && nat_lt index 65536
+is_row chunk index = nat_lt index chunk.spec.entry_count && nat_lt index indexes
 
 -- ---- what an entry holds; `behind` is the place behind its size, from the chunk's start
 
 -- a value: first that it fits, then its size
 unfoldable pub value_of_entry : TypeChunkOf → ℕ → ℕ → Result CellOf TableFault
 value_of_entry chunk at behind = do
-  _ ← refuse (nat_lt (length chunk.whole) (behind + 8)) (faults.Entry (chunk.place + at))
+  _ ← refuse (nat_lt (length chunk.whole) (behind + value_size)) (faults.Entry (chunk.place + at))
   _ ← refuse (not (has_value_size (drop behind chunk.whole))) (faults.Value (chunk.place + behind))
   Ok (PlainOf (value_at (drop behind chunk.whole)))
 
@@ -50,7 +52,7 @@ row_of_entry chunk index at cell = record {
   id = id_of_parts chunk.owner.id chunk.id index;
   config = chunk.config;
   cell = cell;
-  flags = number 4 chunk.spec.flags (4 * index);
+  flags = number 4 chunk.spec.flags (entry_flags_size * index);
   key = number 4 chunk.whole (at + 4);
   in_package = chunk.owner.index;
 }
@@ -64,9 +66,9 @@ is_complex chunk at = number 2 chunk.whole (at + 2) % 2 == 1
 unfoldable pub rows_of_entry_at : TypeChunkOf → ℕ → ℕ → Result (List RowOf) TableFault
 rows_of_entry_at chunk index at = do
   _ ← refuse (not (at % 4 == 0)) (faults.Entry (chunk.place + at))
-  _ ← refuse (nat_lt (length chunk.whole) (at + 8)) (faults.Entry (chunk.place + at))
+  _ ← refuse (nat_lt (length chunk.whole) (at + least_entry)) (faults.Entry (chunk.place + at))
   let size = number 2 chunk.whole at
-  _ ← refuse (nat_lt size (if is_complex chunk at then 16 else 8)) (faults.Entry (chunk.place + at))
+  _ ← refuse (nat_lt size (least_entry_size (is_complex chunk at))) (faults.Entry (chunk.place + at))
   _ ← refuse (nat_lt (length chunk.whole) (at + size)) (faults.Entry (chunk.place + at))
   cell ← (if is_complex chunk at then bag_of_entry chunk at (at + size) else value_of_entry chunk at (at + size))
   Ok (if is_row chunk index then row_of_entry chunk index at cell ∷ [] else [])
@@ -75,8 +77,8 @@ rows_of_entry_at chunk index at = do
 -- start; an offset of four bytes ff says that there is no entry.
 unfoldable pub rows_of_entry : TypeChunkOf → ℕ → Result (List RowOf) TableFault
 rows_of_entry chunk index =
-    let offset = number 4 chunk.offsets (4 * index) in
-    if offset == 0xffff_ffff then Ok [] else rows_of_entry_at chunk index (chunk.entries_start + offset)
+    let offset = number 4 chunk.offsets (entry_offset_size * index) in
+    if offset == no_entry then Ok [] else rows_of_entry_at chunk index (chunk.entries_start + offset)
 
 -- how contracts see what a call returned: a row or none is a list, and a cell has no place in memory
 abbrev pub seen_entry : Result (Option Row) TableFault → Result (List RowOf) TableFault

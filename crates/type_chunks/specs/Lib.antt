@@ -10,5 +10,4 @@ pub mod Table
 pub mod Names
 pub mod KnownSpecs
 pub mod KnownChildren
-pub mod LeftRows
 pub mod Units

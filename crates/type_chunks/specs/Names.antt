@@ -39,8 +39,8 @@ is_name (Err fault) text = false
 
 -- a row whose type and entry have these names
 abbrev pub has_names : TableOf → List ℕ → List ℕ → RowOf → Bool
-has_names table kind key row = is_name (type_name_in table row) kind && is_name (key_name_in table row) key
+has_names table type_name key_name row = is_name (type_name_in table row) type_name && is_name (key_name_in table row) key_name
 
 -- the id of the first row of two names
 abbrev pub found_in : TableOf → List ℕ → List ℕ → Option ℕ
-found_in table kind key = option_map (λ row. row.id) (find (has_names table kind key) (rows_of table))
+found_in table type_name key_name = option_map (λ row. row.id) (find (has_names table type_name key_name) (rows_of table))

@@ -23,7 +23,7 @@ pub record PackageOf : Type 0 where
   pub type_names : PoolOf
   -- the names of its entries
   pub key_names : PoolOf
-  -- how far the ids of types stand above their places among the names
+  -- how far the ids of types stand above their indexes among the names
   pub type_id_offset : ℕ
   pub rows : List RowOf
 

@@ -13,9 +13,9 @@ pub record RowOf : Type 0 where
   pub cell : CellOf
   -- the type spec's flags for this entry
   pub flags : ℕ
-  -- the place of its name among the package's names of entries
+  -- the index of its name among the package's names of entries
   pub key : ℕ
-  -- the place of its package among the table's packages: `Row.package`
+  -- the index of its package among the table's packages: `Row.package`
   pub in_package : ℕ
 
 abbrev pub row_of : Row → RowOf

@@ -11,11 +11,11 @@ use Rattle.type_chunks.specs.declared.fault.TableFault.{TableFault}
 use Rattle.type_chunks.specs.declared.fault.TableFault.TheVariants as faults
 use Rattle.type_chunks.specs.declared.owner.Owner.{Owner}
 use Rattle.type_chunks.specs.declared.type_chunk.TypeChunk.{TypeChunk}
-use Rattle.type_chunks.specs.Layout.{least_type_header}
+use Rattle.type_chunks.specs.Layout.{least_type_header, entry_offset_size}
 use Rattle.type_chunks.specs.TypeSpec.{TypeSpecOf, type_spec_of, last_spec}
 
 -- A type in its package, with the type spec that it belongs to, the bytes of its configuration, those
--- that begin with the offsets of its entries, of four bytes each, and the whole chunk, in which the
+-- that begin with the offsets of its entries, and the whole chunk, in which the
 -- entries stand.
 pub record TypeChunkOf : Type 0 where
   pub owner : Owner
@@ -67,7 +67,7 @@ type_in owner before chunk = do
   _ ← refuse (slice_index chunk.header 9 % 2 == 1) (faults.SparseType chunk.place)
   config ← found_config (record_in (drop 20 chunk.header)) chunk.place
   let entry_count = number 4 chunk.header 12
-  _ ← refuse (nat_lt (length chunk.body) (4 * entry_count)) (faults.Offsets chunk.place)
+  _ ← refuse (nat_lt (length chunk.body) (entry_offset_size * entry_count)) (faults.Offsets chunk.place)
   Ok (record {
     owner = owner;
     spec = spec;

@@ -8,10 +8,9 @@ use Rattle.chunk_walk.specs.declared.chunk.ChunkFault.TheVariants.{HeaderShort}
 use Rattle.type_chunks.specs.declared.fault.TableFault.{TableFault}
 use Rattle.type_chunks.specs.declared.fault.TableFault.TheVariants as faults
 use Rattle.type_chunks.specs.declared.type_spec.TypeSpec.{TypeSpec}
-use Rattle.type_chunks.specs.Layout.{type_spec_kind, least_type_spec_header}
+use Rattle.type_chunks.specs.Layout.{type_spec_kind, least_type_spec_header, entry_flags_size}
 
--- The id of a type, how many entries it has, and the bytes that begin with their flags, of four bytes
--- each.
+-- The id of a type, how many entries it has, and the bytes that begin with their flags.
 pub record TypeSpecOf : Type 0 where
   pub id : ℕ
   pub entry_count : ℕ
@@ -33,7 +32,7 @@ abbrev pub type_spec_faults : ChunkOf → List (Bool × TableFault)
 type_spec_faults chunk =
     (nat_lt (length chunk.header) least_type_spec_header, faults.Chunk (HeaderShort chunk.place))
     ∷ ((spec_fields chunk).id == 0, faults.TypeId chunk.place)
-    ∷ (nat_lt (length chunk.body) (4 * (spec_fields chunk).entry_count), faults.Offsets chunk.place)
+    ∷ (nat_lt (length chunk.body) (entry_flags_size * (spec_fields chunk).entry_count), faults.Offsets chunk.place)
     ∷ []
 
 -- the type spec that a chunk is, or its first fault

@@ -1,6 +1,7 @@
 //! Entries of a type: each no row, one row, or a fault.
 
-ghost use Rattle.std.specs.Prelude.{◌≡◌, ◌+◌, ◌<◌, ◌≤◌, ◌^◌, length, if◌then◌else◌};
+ghost use Rattle.std.specs.Prelude.{◌≡◌, ◌+◌, ◌<◌, ◌≤◌, ◌^◌, length};
+ghost use Rattle.type_chunks.specs.Layout.{least_bag, least_entry_size};
 
 use crate::entry_flags::EntryFlags;
 use crate::fault::TableFault;
@@ -24,7 +25,7 @@ impl<'a> TypeChunk<'a> {
         requires { index < self.now.entry_count }
         ensures { seen_entry result ≡ rows_of_entry (type_chunk_of self.now) index }
     {
-        let offset = u32_within(self.offsets, 4 * index as usize);
+        let offset = u32_within(self.offsets, type_header::OFFSET_SIZE * index as usize);
         if offset == type_header::NO_ENTRY {
             return Ok(None);
         }
@@ -86,7 +87,7 @@ impl<'a> TypeChunk<'a> {
     #[tactic(auto, unfolding(crate::specs::Entry::bag_of_entry))]
     fn bag(&self, at: usize, behind: usize) -> Result<Cell<'a>, TableFault>
         requires fits { behind ≤ length self.now.whole.now }
-        requires header { at + 16 ≤ behind }
+        requires header { at + least_bag ≤ behind }
         ensures { seen_cell result ≡ bag_of_entry (type_chunk_of self.now) at behind }
     {
         let parent = ResId(u32_within(self.whole, at + bag_header::PARENT));
@@ -103,7 +104,7 @@ impl<'a> TypeChunk<'a> {
 
 // The least size of an entry: a complex one has two fields more.
 fn least_entry_size(is_complex: bool) -> usize
-    ensures { result ≡ (if is_complex then 16 else 8) }
+    ensures { result ≡ least_entry_size is_complex }
 {
     if is_complex {
         bag_header::LEAST_SIZE

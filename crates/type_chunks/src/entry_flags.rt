@@ -2,18 +2,40 @@
 
 ghost use Rattle.std.specs.Prelude.{⊤, ◌≡◌, ◌==◌, ◌%◌, [], ◌∷◌, codes};
 
-use bitflags::{Flag, Flags, bitflag_items};
+use bitflags::{Flag, Flags};
 
 /// The flags of an entry (AOSP: `ResTable_entry::flags`). The table's meaning rests on the first
 /// alone.
-#[derive(Clone, Copy, Debug, PartialEq, Eq)]
+#[derive(Clone, Copy, Debug)]
 pub(crate) struct EntryFlags(u16);
 
-bitflag_items! {
-    impl EntryFlags: u16 {
-        const COMPLEX = 1;
-        const PUBLIC = 2;
-        const WEAK = 4;
+impl EntryFlags {
+    const COMPLEX: EntryFlags = EntryFlags(1);
+
+    const PUBLIC: EntryFlags = EntryFlags(2);
+
+    const WEAK: EntryFlags = EntryFlags(4);
+
+    const FLAGS: &'static [Flag<EntryFlags>] = &[
+        Flag {
+            name: "COMPLEX",
+            value: EntryFlags::COMPLEX,
+        },
+        Flag {
+            name: "PUBLIC",
+            value: EntryFlags::PUBLIC,
+        },
+        Flag {
+            name: "WEAK",
+            value: EntryFlags::WEAK,
+        },
+    ];
+
+    /// Whether the entry holds a bag.
+    pub fn is_complex(self) -> bool
+        ensures { result ≡ (self.0 % 2 == 1) }
+    {
+        self.contains(EntryFlags::COMPLEX)
     }
 }
 
@@ -36,14 +58,5 @@ impl Flags for EntryFlags {
 
     fn from_bits_retain(bits: u16) -> EntryFlags {
         EntryFlags(bits)
-    }
-}
-
-impl EntryFlags {
-    /// Whether the entry holds a bag.
-    pub fn is_complex(self) -> bool
-        ensures { result ≡ (self.0 % 2 == 1) }
-    {
-        self.contains(EntryFlags::COMPLEX)
     }
 }

@@ -24,7 +24,10 @@ pub(crate) mod package_header {
 
     pub const NAME: usize = 12;
 
-    /// Room for 128 units of two bytes.
+    /// How many bytes a unit of the name has.
+    pub const UNIT_SIZE: usize = 2;
+
+    /// Room for 128 units.
     pub const NAME_SIZE: usize = 256;
 
     /// Where the names of types stand, from the package's start.
@@ -49,6 +52,9 @@ pub(crate) mod type_spec_header {
     pub const ENTRY_COUNT: usize = 12;
 
     pub const LEAST_SIZE: usize = 16;
+
+    /// How many bytes the flags of an entry have, behind the header.
+    pub const FLAGS_SIZE: usize = 4;
 }
 
 /// The header of a type (AOSP: `ResTable_type`), which ends with its configuration.
@@ -66,8 +72,8 @@ pub(crate) mod type_header {
     /// With the size field of the configuration.
     pub const LEAST_SIZE: usize = 24;
 
-    /// The bit of the flags that says that the entries are listed sparsely.
-    pub const FLAG_SPARSE: u8 = 1;
+    /// How many bytes the offset of an entry has, behind the header.
+    pub const OFFSET_SIZE: usize = 4;
 
     /// The offset that says that there is no entry (AOSP: `ResTable_type::NO_ENTRY`).
     pub const NO_ENTRY: u32 = 0xffff_ffff;

@@ -35,6 +35,7 @@ mod row;
 mod rows;
 mod table;
 mod type_chunk;
+mod type_flags;
 mod type_spec;
 
 pub use fault::TableFault;

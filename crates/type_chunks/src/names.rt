@@ -1,4 +1,5 @@
-//! The names of rows, and rows by their names.
+//! The names of rows, and rows by their names: methods of `Table` that ask no more of it than its packages and
+//! rows.
 
 ghost use Rattle.std.specs.Prelude.{◌≡◌};
 ghost use Rattle.std.specs.Option.{option_map};
@@ -40,8 +41,15 @@ impl<'a> Table<'a> {
         }
     }
 
-    /// The resource of a type's name and an entry's name: that of the first row in the order of the file
-    /// which has both.
+    /// The resource whose type has the name `kind` and whose entry the name `key`: that of the first row in the
+    /// order of the file which has both. For a user who knows names, where all else takes ids. It walks over the
+    /// rows, so for many names it is better to read each row's names once.
+    ///
+    /// ```text
+    /// let Some(id) = table.find("string", "app_name") else {
+    ///     return Err(Fault::NoSuchResource);
+    /// };
+    /// ```
     pub fn find(&self, kind: &str, key: &str) -> Option<ResId>
         ensures { option_map (λ id. id.0) result ≡ found_in self.now kind.now key.now }
     {
@@ -54,10 +62,10 @@ impl<'a> Table<'a> {
     }
 
     // Whether a row has these names.
-    fn is_named(&self, row: &Row<'_>, kind: &str, key: &str) -> bool
-        ensures { result ≡ has_names self.now kind.now key.now (row_of row.now) }
+    fn is_named(&self, row: &Row<'_>, type_name: &str, key_name: &str) -> bool
+        ensures { result ≡ has_names self.now type_name.now key_name.now (row_of row.now) }
     {
-        is_text(self.type_name(row), kind) && is_text(self.key_name(row), key)
+        is_text(self.type_name(row), type_name) && is_text(self.key_name(row), key_name)
     }
 }
 

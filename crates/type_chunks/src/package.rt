@@ -15,7 +15,7 @@ use std::alloc::Global;
 use string_pool::{Pool, Text};
 
 /// A package (AOSP: `ResTable_package`): its rows, with their names.
-#[derive(Drop)]
+#[derive(Debug, Drop)]
 pub struct Package<'a> {
     pub(crate) id: u8,
     pub(crate) name: Text<'a>,
@@ -85,10 +85,10 @@ impl<'a> Package<'a> {
         PackageRows::new(&self.rows)
     }
 
-    /// The row at a place among its rows, in constant time.
-    pub fn row(&self, place: usize) -> Option<Row<'a>>
-        ensures { option_map row_of result ≡ slice_get (package_of self.now).rows place }
+    /// The row of an index among its rows, in constant time.
+    pub fn row(&self, index: usize) -> Option<Row<'a>>
+        ensures { option_map row_of result ≡ slice_get (package_of self.now).rows index }
     {
-        self.rows.get(place).copied()
+        self.rows.get(index).copied()
     }
 }

@@ -3,6 +3,7 @@
 ghost use Rattle.std.specs.Prelude.{◌≡◌, ◌≤◌, length};
 ghost use Rattle.chunk_walk.specs.Chunk.{chunk_of};
 ghost use Rattle.string_pool.specs.Text.{text_of};
+ghost use Rattle.type_chunks.specs.Layout.{least_package_header};
 ghost use Rattle.type_chunks.specs.Package.{before_zero, name_in, names_at, names_in, type_id_offset_in};
 ghost use Rattle.type_chunks.specs.Units.{has_unit};
 ghost use Rattle.type_chunks.specs.LowerFaults.{seen_table_pool};
@@ -15,7 +16,7 @@ use string_pool::{Pool, Text};
 
 /// The name of a package whose header is not too short.
 pub(crate) fn name_within<'a>(chunk: &Chunk<'a>) -> Text<'a>
-    requires { 284 ≤ length chunk.now.header.now }
+    requires { least_package_header ≤ length chunk.now.header.now }
     ensures { text_of result ≡ name_in (chunk_of chunk.now) }
 {
     let (_, from_name) = chunk.header.split_at(header::NAME);
@@ -28,7 +29,7 @@ pub(crate) fn name_within<'a>(chunk: &Chunk<'a>) -> Text<'a>
 fn has_unit(units: &[u8]) -> bool
     ensures { result ≡ has_unit units.now }
 {
-    units.len() >= 2 && (units[0] != 0 || units[1] != 0)
+    units.len() >= header::UNIT_SIZE && (units[0] != 0 || units[1] != 0)
 }
 
 // The units up to the first that is zero.
@@ -38,14 +39,14 @@ fn before_zero(units: &[u8]) -> &[u8]
     let mut size = 0;
     let mut left = units;
     while has_unit(left) {
-        let (_, others) = left.split_at(2);
+        let (_, others) = left.split_at(header::UNIT_SIZE);
         left = others;
-        size += 2;
+        size += header::UNIT_SIZE;
     }
     &units[..size]
 }
 
-/// How far the ids of types stand above their places among the names (AOSP:
+/// How far the ids of types stand above their indexes among the names (AOSP:
 /// `ResTable_package::typeIdOffset`).
 pub(crate) fn type_id_offset(chunk: &Chunk<'_>) -> u32
     ensures { result ≡ type_id_offset_in (chunk_of chunk.now) }

@@ -13,8 +13,8 @@ pub struct Row<'a> {
     pub cell: Cell<'a>,
     /// The flags of the type spec for this entry: which qualifiers vary, and whether it is public.
     pub flags: u32,
-    /// The place of the entry's name among the package's names of entries.
+    /// The index of the entry's name among the package's names of entries.
     pub key: u32,
-    /// The place of the package among the table's packages.
+    /// The index of the package among the table's packages.
     pub package: usize,
 }

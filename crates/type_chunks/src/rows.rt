@@ -1,9 +1,6 @@
 //! The rows of a table, one after the other.
 
-ghost use Rattle.std.specs.Prelude.{◌≡◌, ◌*◌, ◌≤◌, ◌^◌, length};
-ghost use Rattle.std.specs.Iterator.{YieldsFirstBy};
-ghost use Rattle.type_chunks.specs.Row.{row_of};
-ghost use Rattle.type_chunks.specs.LeftRows.{left_rows};
+ghost use Rattle.std.specs.Prelude.{◌≡◌, ◌*◌, ◌≤◌, ◌^◌, [], length};
 
 use crate::package::Package;
 use crate::row::Row;
@@ -52,11 +49,18 @@ impl<'t, 'a> Iterator for PackageRows<'t, 'a> {
     }
 }
 
+// The rows before the first package.
+fn no_rows<'t, 'a>() -> &'t [Row<'a>]
+    ensures { result.now ≡ [] }
+{
+    &[]
+}
+
 /// All rows of a table that are left, in the order of the file.
 #[derive(Drop)]
 pub struct AllRows<'t, 'a> {
-    /// Those of the package that stands before `packages`, once there is one.
-    left: Option<PackageRows<'t, 'a>>,
+    /// Those of the package that stands before `packages`; none before the first.
+    left: PackageRows<'t, 'a>,
     packages: Iter<'t, Package<'a>>,
 }
 
@@ -65,11 +69,10 @@ impl<'t, 'a> Model for AllRows<'t, 'a> {
     ghost use Rattle.std.specs.Slice.Iter.{iter_rest};
     ghost use Rattle.type_chunks.specs.Row.{RowOf};
     ghost use Rattle.type_chunks.specs.Package.{packages_of, rows_of_packages};
-    ghost use Rattle.type_chunks.specs.LeftRows.{left_rows};
 
     ghost Value = { List RowOf };
 
-    ghost view = { λ s. left_rows s.left ++ rows_of_packages (packages_of (iter_rest s.packages)) };
+    ghost view = { λ s. s.left ++ rows_of_packages (packages_of (iter_rest s.packages)) };
 }
 
 impl<'t, 'a> AllRows<'t, 'a> {
@@ -81,7 +84,7 @@ impl<'t, 'a> AllRows<'t, 'a> {
         ensures few { length result ≤ length packages.now * 2 ^ 63 }
     {
         AllRows {
-            left: None,
+            left: PackageRows::new(no_rows()),
             packages: packages.iter(),
         }
     }
@@ -100,24 +103,14 @@ impl<'t, 'a> Iterator for AllRows<'t, 'a> {
     #[tactic(auto, using(crate::proofs::RowsSteps::rows_steps))]
     fn next(&mut self) -> Option<Row<'a>> {
         'packages: loop {
-            if let Some(row) = next_row(&mut self.left) {
+            if let Some(row) = self.left.next() {
                 return Some(row);
             }
             let Some(package) = self.packages.next() else {
                 return None;
             };
-            self.left = Some(package.rows());
+            self.left = package.rows();
         }
-    }
-}
-
-// The next row of a package, where there is one.
-fn next_row<'a>(left: &mut Option<PackageRows<'_, 'a>>) -> Option<Row<'a>>
-    ensures { YieldsFirstBy row_of left_rows left.old result left.new }
-{
-    match left {
-        Some(rows) => rows.next(),
-        None => None,
     }
 }
 

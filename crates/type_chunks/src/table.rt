@@ -26,7 +26,7 @@ use string_pool::Pool;
 
 /// A resource table (AOSP: `ResTable`), whose bytes are lent by the input. Contracts see it as its
 /// packages with their rows, in the order of the file, and the strings of its values.
-#[derive(Drop)]
+#[derive(Debug, Drop)]
 pub struct Table<'a> {
     packages: Vec<Package<'a>>,
     strings: Pool<'a>,
@@ -96,7 +96,14 @@ impl<'a> Table<'a> {
         AllRows::new(&self.packages)
     }
 
-    /// The rows of an id, in the order of the file.
+    /// The rows of an id, in the order of the file: for one look-up, since it walks over all rows and takes no
+    /// memory. An `IndexedTable` of `row_index` is for many.
+    ///
+    /// ```text
+    /// for row in table.rows(ResId(0x7f01_0000)) {
+    ///     row.config.write_qualifiers(&mut out)?; // [locale=fr]
+    /// }
+    /// ```
     pub fn rows(&self, id: ResId) -> Rows<'_, 'a>
         ensures { result ≡ with_id id.0 (rows_of self.now) }
     {

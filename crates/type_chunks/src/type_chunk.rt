@@ -1,12 +1,15 @@
 //! Types: their headers. The entries in them are read in `entry.rt`.
 
 ghost use Rattle.std.specs.Prelude.{◌≡◌, ◌+◌, ◌*◌, ◌<◌, ◌≤◌, ◌^◌, length, Result, List};
+ghost use Rattle.type_chunks.specs.Layout.{entry_offset_size};
 
 use crate::fault::TableFault;
 use crate::known_specs::KnownSpecs;
 use crate::layout::type_header as header;
 use crate::owner::Owner;
+use crate::type_flags::TypeFlags;
 use crate::type_spec::TypeSpec;
+use bitflags::Flags;
 use chunk_walk::{Chunk, ChunkFault, u32_within};
 use config_record::Record;
 
@@ -25,7 +28,7 @@ pub(crate) struct TypeChunk<'a> {
     pub offsets: &'a [u8],
     pub whole: &'a [u8],
     ghost in_range: { place + length whole.now < 2 ^ 63 },
-    ghost offsets_fit: { 4 * entry_count ≤ length offsets.now },
+    ghost offsets_fit: { entry_offset_size * entry_count ≤ length offsets.now },
 }
 
 impl<'a> TypeChunk<'a> {
@@ -54,14 +57,14 @@ impl<'a> TypeChunk<'a> {
         let Some(spec) = specs.last(id) else {
             return Err(TableFault::TypeWithoutSpec(place));
         };
-        if chunk.header[header::FLAGS] & header::FLAG_SPARSE != 0 {
+        if TypeFlags::from_bits_retain(chunk.header[header::FLAGS]).is_sparse() {
             return Err(TableFault::SparseType(place));
         }
         let Ok(config) = Record::read(&chunk.header[header::CONFIG..]) else {
             return Err(TableFault::Config(place));
         };
         let entry_count = u32_within(chunk.header, header::ENTRY_COUNT);
-        if chunk.body.len() < 4 * entry_count as usize {
+        if chunk.body.len() < header::OFFSET_SIZE * entry_count as usize {
             return Err(TableFault::Offsets(place));
         }
         Ok(TypeChunk {

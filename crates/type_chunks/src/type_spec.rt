@@ -1,6 +1,7 @@
 //! Type specs.
 
 ghost use Rattle.std.specs.Prelude.{◌≡◌, ◌*◌, ◌<◌, ◌≤◌, length};
+ghost use Rattle.type_chunks.specs.Layout.{entry_flags_size};
 
 use crate::fault::TableFault;
 use crate::layout::type_spec_header as header;
@@ -13,7 +14,7 @@ pub(crate) struct TypeSpec<'a> {
     pub entry_count: u32,
     /// Four bytes for each entry.
     pub flags: &'a [u8],
-    ghost flags_fit: { 4 * entry_count ≤ length flags.now },
+    ghost flags_fit: { entry_flags_size * entry_count ≤ length flags.now },
 }
 
 impl<'a> TypeSpec<'a> {
@@ -34,7 +35,7 @@ impl<'a> TypeSpec<'a> {
             return Err(TableFault::TypeId(chunk.place));
         }
         let entry_count = u32_within(chunk.header, header::ENTRY_COUNT);
-        if chunk.body.len() < 4 * entry_count as usize {
+        if chunk.body.len() < header::FLAGS_SIZE * entry_count as usize {
             return Err(TableFault::Offsets(chunk.place));
         }
         Ok(TypeSpec {
@@ -47,8 +48,8 @@ impl<'a> TypeSpec<'a> {
     /// The flags of an entry.
     pub fn flags_of(&self, index: u32) -> u32
         requires { index < self.now.entry_count }
-        ensures { result ≡ number 4 self.now.flags.now (4 * index) }
+        ensures { result ≡ number 4 self.now.flags.now (entry_flags_size * index) }
     {
-        u32_within(self.flags, 4 * index as usize)
+        u32_within(self.flags, header::FLAGS_SIZE * index as usize)
     }
 }

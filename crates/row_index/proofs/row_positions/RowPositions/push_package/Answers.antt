@@ -3,8 +3,8 @@ use Rattle.std.proofs.lemmas.Grind.{common_steps}
 use Rattle.std.specs.Iterator.Adapters.{enumerate_count}
 use Rattle.type_chunks.specs.Package.{package_of}
 use Rattle.row_index.proofs.WalkSteps.{drop-next}
-use Rattle.row_index.proofs.PlacesSteps.{ArePlacesOf-next}
-use Rattle.row_index.proofs.row_places.RowPlaces.push_package.Goals as goal
+use Rattle.row_index.proofs.PositionsSteps.{ArePositionsOf-next}
+use Rattle.row_index.proofs.row_positions.RowPositions.push_package.Goals as goal
 
 pub loop-row-preserved : goal.loop-row-preserved
 loop-row-preserved c =
@@ -17,5 +17,5 @@ loop-row-preserved c =
       can = grind (arith, common_steps, steps, c.in-Some.ensures.goes);
       ends = tt;
       left = rw (steps.2) (sym (drop-next read.rows count _ _ here));
-      added = λ packages before found those. ArePlacesOf-next packages before read c.args.index _ count _ c.loop-row.self c.push.new.self _ _ found here steps.1 steps.2 c.in_ok-push.ensures (so_far.added packages before found those);
+      added = λ packages before found those. ArePositionsOf-next packages before read c.args.index _ count _ c.loop-row.self c.push.new.self _ _ found here steps.1 steps.2 c.in_ok-push.ensures (so_far.added packages before found those);
     }

@@ -1,7 +1,7 @@
 use Rattle.std.proofs.Common.{refl, ap, sym}
 use Rattle.type_chunks.specs.Package.{package_of, packages_of, rows_of_packages}
 use Rattle.row_index.proofs.PackagesSteps.{rows_of_packages-none, rows_of_packages-next, package_at, take-packages}
-use Rattle.row_index.proofs.row_places.RowPlaces.of_packages.Goals as goal
+use Rattle.row_index.proofs.row_positions.RowPositions.of_packages.Goals as goal
 
 pub loop-index-init : goal.loop-index-init
 loop-index-init c = λ id. rw (c.new.ensures.empty, rows_of_packages-none) refl
