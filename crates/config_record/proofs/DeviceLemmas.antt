@@ -45,12 +45,12 @@ each_number-at f (c ∷ cs) numbers (suc i) d e on =
     let p = parts-of (f c) (each_number f cs) numbers e in
     rw p.same (each_number-at f cs p.behind i d p.gives_others (omega arith))
 
-coordinate-at_place : (c : Coord) → get_or all_coords (place_of c) coords.Mcc ≡ c
+pub coordinate-at_place : (c : Coord) → get_or all_coords (place_of c) coords.Mcc ≡ c
 unfolding all_coords place_of
 coordinate-at_place coords.Mcc = refl
 coordinate-at_place c = refl
 
-place_of-within : (c : Coord) → place_of c < length all_coords
+pub place_of-within : (c : Coord) → place_of c < length all_coords
 unfolding all_coords place_of
 place_of-within coords.Mcc = omega arith
 place_of-within c = omega arith

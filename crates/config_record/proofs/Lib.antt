@@ -4,3 +4,4 @@ pub mod QualifierLemmas
 pub mod EachNumberSteps
 pub mod DeviceLemmas
 pub mod LocaleGiven
+pub mod ChangedNumber

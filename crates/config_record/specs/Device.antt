@@ -1,6 +1,6 @@
 -- Devices: the configurations that are asked for. A device is the list of the numbers that are compared,
 -- one for each coordinate, in their order.
-use Rattle.std.specs.Prelude.{ℕ, ◌==◌, nat_lt, List, [], ◌∷◌, Result, Ok, Err}
+use Rattle.std.specs.Prelude.{ℕ, ◌≤◌, ◌==◌, nat_lt, List, [], ◌∷◌, Result, Ok, Err}
 use Rattle.contract_words.specs.Faults.{checked_by}
 use Rattle.config_record.specs.declared.coord.Coord as coord
 use Rattle.config_record.specs.declared.coord.Coord.TheVariants as coords
@@ -12,7 +12,7 @@ use Rattle.config_record.specs.declared.fields.DeviceFault.{DeviceFault}
 use Rattle.config_record.specs.declared.fields.DeviceFault.TheVariants.{FieldRange, RegionAlone, Density}
 use Rattle.config_record.specs.Coord.{all_coords, number_at, greatest_of_device}
 use Rattle.config_record.specs.EachNumber.{each_number}
-use Rattle.config_record.specs.Locale.{checked_locale}
+use Rattle.config_record.specs.Locale.{checked_locale, IsGiven}
 use Rattle.config_record.specs.ComparedNumber.{locale_number, locale_of_number, device_number}
 
 -- ---- a device from the numbers that are asked for, one for each coordinate, and a locale
@@ -52,3 +52,11 @@ device_locale d = locale_of_number (device_number d coords.Locale)
 unfoldable pub device_coordinate : List ℕ → coord.Coord → ℕ
 device_coordinate d coords.Locale = 0
 device_coordinate d c = device_number d c
+
+-- ---- what it can say
+
+-- A device can have this number at this coordinate: one in its range, and at the locale that of one that a text gives.
+abbrev pub CanHave : coord.Coord → ℕ → Type 0
+CanHave coords.Locale n = IsGiven (locale_of_number n)
+CanHave coords.Density n = (1 ≤ n) × (n ≤ greatest_of_device coords.Density)
+CanHave c n = n ≤ greatest_of_device c

@@ -4,7 +4,7 @@ ghost use Rattle.std.specs.Prelude.{◌≡◌, ◌≢◌, ◌≤◌, ◌<◌};
 ghost use Rattle.config_record.specs.declared.coord.Coord as coord;
 ghost use Rattle.config_record.specs.declared.coord.Coord.TheVariants as coords;
 ghost use Rattle.config_record.specs.Coord.{greatest_of_device, number_at};
-ghost use Rattle.config_record.specs.Device.{device_locale};
+ghost use Rattle.config_record.specs.Device.{device_locale, CanHave};
 ghost use Rattle.config_record.specs.Locale.{IsGiven};
 
 use crate::coord::Coord;
@@ -57,6 +57,14 @@ impl Device {
         }
     }
 
+    /// The device of the numbers that are compared at each coordinate, in their order.
+    pub fn of_numbers(numbers: [u32; 25]) -> Device
+        requires { (c : coord.Coord) → CanHave c (number_at numbers c) }
+        ensures { device_numbers result ≡ numbers }
+    {
+        Device { numbers }
+    }
+
     #[tactic(auto, unfolding(crate::specs::Device::device_with, crate::specs::Coord::all_coords))]
     pub(crate) fn with(
         asked: &[u64; 25],
@@ -99,6 +107,19 @@ impl Device {
         ensures given { IsGiven result }
     {
         Locale::of_number(self.compared_number(Coord::Locale))
+    }
+
+    /// The same device with another number to compare at one coordinate; at the locale that of the four
+    /// bytes of another locale.
+    pub fn changed(&self, at: Coord, number: u32) -> Device
+        requires { CanHave at number }
+        ensures same { device_number (device_numbers result) at ≡ number }
+        ensures others { (c : coord.Coord) → c ≢ at
+            → device_number (device_numbers result) c ≡ device_number (device_numbers self.now) c }
+    {
+        let mut numbers = self.numbers;
+        numbers[at.place()] = number;
+        Device { numbers }
     }
 }
 

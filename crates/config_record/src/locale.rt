@@ -22,8 +22,9 @@ pub enum LocaleFault {
 }
 
 /// A language and a region, each as the two bytes that a record has (AOSP: `language` and `country`
-/// of `ResTable_config`). Where both bytes are zero there is none.
-#[derive(Clone, Copy, Debug, PartialEq, Eq)]
+/// of `ResTable_config`). Where both bytes are zero there is none. Locales are ordered by these four
+/// bytes, as their numbers are.
+#[derive(Clone, Copy, Debug, PartialEq, Eq, PartialOrd, Ord)]
 pub struct Locale {
     pub language: [u8; 2],
     pub region: [u8; 2],
@@ -74,7 +75,7 @@ impl Locale {
 
     /// The number of the four bytes, language first.
     #[tactic(auto, unfolding(crate::specs::ComparedNumber::locale_number))]
-    pub(crate) fn number(self) -> u32
+    pub fn number(self) -> u32
         ensures value { result ≡ locale_number self }
         ensures back { locale_of_number result ≡ self }
     {
@@ -87,8 +88,9 @@ impl Locale {
 
     /// The locale that has this number.
     #[tactic(auto, unfolding(crate::specs::ComparedNumber::locale_of_number))]
-    pub(crate) fn of_number(number: u32) -> Locale
-        ensures { result ≡ locale_of_number number }
+    pub fn of_number(number: u32) -> Locale
+        ensures value { result ≡ locale_of_number number }
+        ensures back { locale_number result ≡ number }
     {
         let [a, b, c, d] = number.to_be_bytes();
         Locale {
