@@ -33,21 +33,25 @@ def types(chunks):
         at += max(size, 8)
 
 
+def config(chunk):
+    return chunk[CONFIG : CONFIG + number("I", chunk, CONFIG)]
+
+
 def entries(header, chunk):
-    """Where the entries of a type that is not sparse stand in it."""
+    """Where the entries of a type are in it. Those of a sparse type are not looked at."""
+    if chunk[FLAGS] & SPARSE:
+        return []
     form, width, none, unit = ("H", 2, 0xFFFF, 4) if chunk[FLAGS] & SHORT_OFFSETS else ("I", 4, 0xFFFFFFFF, 1)
     offsets = [number(form, chunk, header + width * n) for n in range(number("I", chunk, COUNT))]
     return [number("I", chunk, START) + offset * unit for offset in offsets if offset != none]
 
 
-def config(chunk):
-    return chunk[CONFIG : CONFIG + number("I", chunk, CONFIG)]
+def is_compact(chunk, at):
+    return at + 4 <= len(chunk) and number("H", chunk, at + 2) & COMPACT != 0
 
 
 def compact_entries(header, chunk):
-    if chunk[FLAGS] & SPARSE:
-        return 0
-    return sum(number("H", chunk, at + 2) & COMPACT != 0 for at in entries(header, chunk))
+    return sum(is_compact(chunk, at) for at in entries(header, chunk))
 
 
 found = list(types(open(sys.argv[1], "rb").read()))

@@ -165,10 +165,13 @@ check "a word that is no id" 2 $none id.err query layers device 0x7f060000 0x7f0
 for page in README.md docs/GUIDE.md; do
     rm -rf shown
     mkdir shown
-    awk '/^\$ / { n++; behind = 1; print substr($0, 3) >("shown/" n ".command"); printf "" >("shown/" n ".lines"); next }
-        /^```/ { behind = 0 } behind { print >("shown/" n ".lines") }' "$here/$page"
+    awk '/^\$ / { name = "shown/" ++n; print substr($0, 3) >(name ".command"); printf "" >(name ".lines"); next }
+        /^```/ { name = "" } name { print >(name ".lines") }' "$here/$page"
     for shown in shown/*.lines; do
         command=$(cat "${shown%.lines}.command")
+        case $command in
+        python3*) command -v python3 >/dev/null || { echo "not run, since python3 is missing: $command"; continue; } ;;
+        esac
         (cd "$here" && sh -c "$command") >printed 2>&1
         ends "$page's output of '$command'" 0 "awk -f '$here/tests/shown.awk' '$shown' printed >&2"
     done
@@ -180,6 +183,18 @@ ln -s "$here/examples" examples
 printf '#!/bin/sh\nexec "%s" "$@"\n' "$program" >restool
 chmod +x restool
 ends "the id map of the guide" 0 'sh ./map.sh && cmp map.json examples/porcelain/map.json'
+
+# The guide's search for newer features. Each of these bytes of the example gives it one: the flags of its first
+# type, its grammatical gender, the flags of its first entry.
+if command -v python3 >/dev/null; then
+    for byte in '853 \002' '883 \001' '946 \010'; do
+        cp "$teapot/resources.arsc" newer
+        printf "${byte#* }" | dd of=newer bs=1 seek="${byte% *}" conv=notrunc 2>/dev/null
+        ends "newer features are found at ${byte% *}" 1 "python3 '$here/examples/newer_format.py' newer"
+    done
+else
+    echo "not run, since python3 is missing: a search for newer features"
+fi
 
 # ---- files and streams
 line absent.err 'file: absent'

@@ -1,4 +1,4 @@
--- Parts of a text with a byte between any two.
+-- Parts of a text with a byte between any two. Contracts within the crate alone speak of this.
 use Rattle.std.specs.Prelude.{ℕ, ◌||◌, true, false, Bool, if◌then◌else◌, List, [], ◌∷◌, ◌≡◌, Option}
 use Rattle.std.specs.List.{flat_map, join_with_byte}
 use Rattle.std.specs.Io.KnownBytes.{Appends}
