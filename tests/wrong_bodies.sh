@@ -6,12 +6,10 @@
 #   --apply  proves nothing: checks that each edit of both folders still applies (each `old:` text stands once)
 # The last line is 'N refused, M let through' (with --apply 'N apply, M do not'), and the status is 0 only where
 # M is 0. An edit that could not be tried counts as let through.
-# The environment may give RT, the command that proves in place of rt, JOBS, how many runs go side by side, and
-# PART, how many edits of a crate are tried in one run, over one another's work.
+# The environment may give RT, the command that proves in place of rt, and JOBS, how many runs go side by side.
 here=$(CDPATH='' cd "$(dirname "$0")/.." && pwd) || exit 1
 program=$(basename "$0")
 rt=${RT:-rt}
-part_size=${PART:-10}
 
 # try_part WORK LIST: tries the edits that the file LIST, CRATE.PART, names, in a copy of its own, since rt locks
 # the folders of a crate and of those below it.
@@ -55,6 +53,7 @@ done
 work=$(mktemp -d) || exit 1
 trap 'rm -rf "$work"' EXIT
 trap 'exit 130' INT TERM
+: >"$work/order"
 mkdir "$work/base" "$work/base/crates" "$work/edits" "$work/parts" "$work/answers" "$work/copies" || exit 1
 
 # Each crate's edits, of its folders together.
@@ -114,22 +113,30 @@ for crate in $needed; do
     rm -rf "$work/base/crates/$crate/must-fail" "$work/base/crates/$crate/wrong-bodies"
 done
 
-# An edit shows something only in a crate that is proved without it.
-for crate in $tried; do
-    if (cd "$work/base/crates/$crate" && $rt check) >"$work/answers/proof" 2>&1 </dev/null; then
-        (cd "$work/edits/$crate" && ls) | split -l "$part_size" - "$work/parts/$crate."
-    else
-        echo "$crate is not proved, so its edits were not tried:"
-        tail -n 5 "$work/answers/proof"
-    fi
-done
-
 # As many runs side by side as there are processors, and 4 GB of free memory for each.
 free=$(awk '/^MemAvailable:/ { print int($2 / 4000000) }' /proc/meminfo 2>/dev/null)
 jobs=$(getconf _NPROCESSORS_ONLN)
 if [ "${free:-1}" -lt "$jobs" ]; then jobs=${free:-1}; fi
 if [ "$jobs" -lt 1 ]; then jobs=1; fi
-find "$work/parts" -type f | sort | xargs -r -P "${JOBS:-$jobs}" -n 1 sh "$0" --part "$work"
+jobs=${JOBS:-$jobs}
+
+# An edit shows something only in a crate that is proved without it. The edits of a crate are tried in one run, over
+# one another's work; where there are fewer crates than runs, in several of five edits at least.
+runs_of_each=$(echo "$tried" | awk -v jobs="$jobs" '{ print int((jobs + NF - 1) / NF) }')
+for crate in $tried; do
+    if [ -f "$work/base/crates/$crate/src/main.rt" ]; then verb=check; else verb=lib; fi
+    if (cd "$work/base/crates/$crate" && $rt $verb) >"$work/answers/proof" 2>&1 </dev/null; then
+        size=$(find "$work/edits/$crate" -name '*.edit' | awk -v runs="$runs_of_each" '
+            END { size = int((NR + runs - 1) / runs); print size < 5 ? 5 : size }')
+        (cd "$work/edits/$crate" && ls) | split -l "$size" - "$work/parts/$crate."
+        # The last crates are the dearest, and go first.
+        { find "$work/parts" -name "$crate.*" | sort; cat "$work/order"; } >"$work/later" && mv "$work/later" "$work/order"
+    else
+        echo "$crate is not proved, so its edits were not tried:"
+        tail -n 5 "$work/answers/proof"
+    fi
+done
+xargs -r -P "$jobs" -n 1 sh "$0" --part "$work" <"$work/order"
 
 refused=$(cat "$work/answers"/*.* 2>/dev/null | grep -c '^rt: must-fail .*: refused, as it must be')
 echo "$refused refused, $((count - refused)) let through"
