@@ -101,7 +101,11 @@ locale_faults l =
 unfoldable pub checked_locale : Locale → Result Locale LocaleFault
 checked_locale l = checked_by (locale_faults l) (Ok l)
 
--- a text gives it
+-- some text stands for it
+abbrev pub IsOfSomeText : Locale → Type 0
+IsOfSomeText l = (text : List ℕ) × (locale_of text ≡ Ok l)
+
+-- a text gives it, as the check of its bytes says
 abbrev pub IsGiven : Locale → Type 0
 IsGiven l = checked_locale l ≡ Ok l
 

@@ -26,12 +26,13 @@ pub struct Device {
 }
 
 impl Device {
-    ghost use Rattle.std.specs.Prelude.{IfOk};
+    ghost use Rattle.std.specs.Prelude.{IfOk, IfErr};
     ghost use Rattle.contract_words.specs.Exact.{GivesOr};
-    ghost use Rattle.config_record.specs.declared.fields.DeviceFault.TheVariants.{OutOfMemory};
+    ghost use Rattle.config_record.specs.declared.fields.DeviceFault.TheVariants.{FieldRange, RegionAlone, OutOfMemory};
     ghost use Rattle.config_record.specs.ComparedNumber.{device_number};
     ghost use Rattle.config_record.specs.Device.{device_with, device_in, device_coordinate};
     ghost use Rattle.config_record.specs.DeviceJson.{device_in_json};
+    ghost use Rattle.config_record.specs.Locale.{IsOfSomeText};
     ghost use Rattle.config_record.specs.DeviceSeen.{device_numbers, seen};
 
     /// The device of these fields.
@@ -40,6 +41,9 @@ impl Device {
         ensures numbers { IfOk result (λ device. (c : coord.Coord) → c ≢ coords.Locale
             → device_number (device_numbers device) c ≡ number_at fields.now.numbers c) }
         ensures locale { IfOk result (λ device. device_locale (device_numbers device) ≡ fields.now.locale) }
+        ensures some_text { IfOk result (λ device. IsOfSomeText (device_locale (device_numbers device))) }
+        ensures not_refused { IsOfSomeText fields.now.locale
+            → IfErr result (λ fault. (fault ≢ RegionAlone) × (fault ≢ FieldRange coords.Locale)) }
     {
         let Locale { language, region } = fields.locale;
         Device::with(&fields.numbers, Locale::of_bytes(language, region))
