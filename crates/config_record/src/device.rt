@@ -35,7 +35,15 @@ impl Device {
     ghost use Rattle.config_record.specs.Locale.{IsOfSomeText};
     ghost use Rattle.config_record.specs.DeviceSeen.{device_numbers, seen};
 
-    /// The device of these fields.
+    /// The device of these fields. For callers that have numbers and a locale, as one that asks the
+    /// system it runs on; a JSON text is for `read`.
+    ///
+    /// ```text
+    /// let mut numbers = [0; 25];
+    /// numbers[Coord::Density.place()] = 420;
+    /// numbers[Coord::Sdk.place()] = 27;
+    /// let device = Device::check(&Fields { numbers, locale: Locale::read("fr-CA")? })?;
+    /// ```
     pub fn check(fields: &Fields) -> Result<Device, DeviceFault>
         ensures value { seen result ≡ device_in fields.now }
         ensures numbers { IfOk result (λ device. (c : coord.Coord) → c ≢ coords.Locale
