@@ -5,7 +5,7 @@ use Rattle.config_record.specs.declared.coord.Coord.{Coord}
 use Rattle.config_rules.specs.declared.answer.Answer.{Answer}
 use Rattle.config_rules.specs.declared.answer.Answer.TheVariants.{Yes, No, Pass}
 use Rattle.config_rules.specs.declared.rule.Rule.{Rule}
-use Rattle.config_rules.specs.Answer.{is_yes, or_else}
+use Rattle.config_rules.specs.Answer.{is_pass, is_yes, or_else}
 use Rattle.config_rules.specs.Rule.{rule_answer}
 use Rattle.config_rules.specs.Table.{answer_of_table}
 
@@ -16,15 +16,26 @@ pub record Opposes (x x' : Answer) : Type 0 where
   pub pass : x ≡ Pass → x' ≡ Pass
   pub yes : x ≡ Yes → x' ≡ No
 
-opposes_step : (x x' X X' : Answer) → Opposes x x' → (is_yes X ≡ true → is_yes X' ≡ false) → is_yes (or_else x X) ≡ true → is_yes (or_else x' X') ≡ false
-opposes_step Yes x' X X' o rest h = rw (o.yes refl) refl
-opposes_step No x' X X' o rest h = absurd cc
-opposes_step Pass x' X X' o rest h = rw (o.pass refl) (rest h)
+opposes_step : (x x' X X' : Answer) → Opposes x x' → Opposes X X' → Opposes (or_else x X) (or_else x' X')
+opposes_step Yes x' X X' o rest = record { pass = λ h. absurd cc; yes = λ h. rw (o.yes refl) refl }
+opposes_step No x' X X' o rest = record { pass = λ h. absurd cc; yes = λ h. absurd cc }
+opposes_step Pass x' X X' o rest = rw (o.pass refl) rest
 
 pub opposes : (rules : List Rule) (a b d : Coord → ℕ) → AllByRecursion (λ rule. Opposes (rule_answer rule a b d) (rule_answer rule b a d)) rules
-    → is_yes (answer_of_table rules a b d) ≡ true → is_yes (answer_of_table rules b a d) ≡ false
-opposes [] a b d all h = refl
-opposes (rule ∷ rules) a b d all h = opposes_step (rule_answer rule a b d) (rule_answer rule b a d) _ _ all.0 (opposes rules a b d all.1) h
+    → Opposes (answer_of_table rules a b d) (answer_of_table rules b a d)
+opposes [] a b d all = record { pass = λ h. refl; yes = λ h. absurd cc }
+opposes (rule ∷ rules) a b d all = opposes_step (rule_answer rule a b d) (rule_answer rule b a d) _ _ all.0 (opposes rules a b d all.1)
+
+pub yes_alone : (x x' : Answer) → Opposes x x' → is_yes x ≡ true → is_yes x' ≡ false
+yes_alone Yes x' o h = rw (o.yes refl) refl
+yes_alone No x' o h = absurd cc
+yes_alone Pass x' o h = absurd cc
+
+pub passes_alike : (x x' : Answer) → (x ≡ Pass → x' ≡ Pass) → (x' ≡ Pass → x ≡ Pass) → is_pass x ≡ is_pass x'
+passes_alike Pass Pass to back = refl
+passes_alike Pass x' to back = let h = to refl in absurd cc
+passes_alike x Pass to back = let h = back refl in absurd cc
+passes_alike x x' to back = refl
 
 -- ---- of three records
 

@@ -5,8 +5,9 @@ use Rattle.std.proofs.lemmas.Bool.{cases_lt, cases_eq}
 use Rattle.std.proofs.lemmas.Bool.Decides.{nat_tests}
 use Rattle.std.proofs.lemmas.Nat.{mul-le}
 use Rattle.config_rules.specs.declared.answer.Answer.TheVariants.{Yes, No, Pass}
-use Rattle.config_rules.specs.Answer.{answer_where}
+use Rattle.config_rules.specs.Answer.{answer_where, is_pass, is_yes}
 use Rattle.config_rules.specs.Comparisons.{density_answer, is_better_density, is_larger_better, counted_density, any_density, differ}
+use Rattle.config_precedence.specs.Laws.{medium_density}
 use Rattle.config_precedence.proofs.Composition.{Opposes, Composes}
 
 -- which of two densities is better, where neither is any
@@ -220,7 +221,7 @@ density-composes a b c d = record {
 
 -- where one is 0 and the other 160
 abbrev pub tie : ℕ → ℕ → Bool
-tie a b = (a == 0 && b == 160) || (a == 160 && b == 0)
+tie a b = (a == 0 && b == medium_density) || (a == medium_density && b == 0)
 
 counted_apart : (a b : ℕ) → tie a b ≡ false → a ≢ b → counted_density a ≢ counted_density b
 counted_apart a b t n = grind (arith, nat_tests)
@@ -236,3 +237,38 @@ density-opposes a b d untied = record {
       let other = counted_apart a b untied (differs a b is.0) in
       (answers a b d (record { other = other; better = is.1; worse = preferred-turned (counted_density a) (counted_density b) d other ∙ ap not is.1 })).1;
 }
+
+-- ---- the tie
+
+pass_where_not : (p q : Bool) → p ≡ true → is_pass (answer_where p q) ≡ false
+pass_where_not true true e = refl
+pass_where_not true false e = refl
+pass_where_not false q e = absurd cc
+
+yes_where_so : (p q : Bool) → p ≡ true → is_yes (answer_where p q) ≡ q
+yes_where_so true true e = refl
+yes_where_so true false e = refl
+yes_where_so false q e = absurd cc
+
+tie-differ : (a b : ℕ) → tie a b ≡ true → differ a b ≡ true
+tie-differ a b e = grind (arith, nat_tests)
+
+tie-first : (a b : ℕ) → tie a b ≡ true → counted_density a ≡ medium_density
+tie-first a b e = grind (arith, nat_tests)
+
+tie-second : (a b : ℕ) → tie a b ≡ true → counted_density b ≡ medium_density
+tie-second a b e = grind (arith, nat_tests)
+
+medium-preferred : (d : ℕ) → preferred medium_density medium_density d ≡ nat_le medium_density d
+unfolding is_larger_better
+medium-preferred d = grind (arith, nat_tests)
+
+pub tie-decides : (a b d : ℕ) → tie a b ≡ true → is_pass (density_answer a b d) ≡ false
+tie-decides a b d e = pass_where_not (differ a b) (is_better_density a b d) (tie-differ a b e)
+
+pub tie-yes : (a b d : ℕ) → tie a b ≡ true → is_yes (density_answer a b d) ≡ nat_le medium_density d
+tie-yes a b d e =
+    yes_where_so (differ a b) (is_better_density a b d) (tie-differ a b e)
+    ∙ ap (λ (x : ℕ). preferred x (counted_density b) d) (tie-first a b e)
+    ∙ ap (λ (y : ℕ). preferred medium_density y d) (tie-second a b e)
+    ∙ medium-preferred d

@@ -1,6 +1,7 @@
 -- The laws of 'better': each rule is an order among the records that match a device, and so is the table.
-use Rattle.std.proofs.Common.{◌≡◌, ℕ, true, false, List, [], ◌∷◌, refl, arith}
-use Rattle.std.specs.List.{AllByRecursion}
+use Rattle.std.proofs.Common.{◌≡◌, ℕ, zero, suc, Bool, true, false, not, ◌&&◌, List, [], ◌∷◌, take, refl, sym, ap, ◌∙◌, arith}
+use Rattle.std.specs.List.{AllByRecursion, list_all}
+use Rattle.std.proofs.lemmas.Bool.{and_parts}
 use Rattle.std.proofs.lemmas.Bool.Decides.{nat_tests}
 use Rattle.config_record.specs.declared.coord.Coord.{Coord}
 use Rattle.config_record.specs.declared.coord.Coord.TheVariants as coords
@@ -8,27 +9,36 @@ use Rattle.config_record.specs.Coord.{place_of}
 use Rattle.config_record.specs.ComparedNumber.{record_number, device_number}
 use Rattle.config_record.specs.Record.{coordinate}
 use Rattle.config_rules.specs.declared.answer.Answer.{Answer}
+use Rattle.config_rules.specs.declared.answer.Answer.TheVariants.{Yes, No, Pass}
+use Rattle.config_rules.specs.declared.kind.Kind.{Kind}
 use Rattle.config_rules.specs.declared.kind.Kind.TheVariants as kinds
 use Rattle.config_rules.specs.declared.rule.Rule.{Rule}
+use Rattle.config_rules.specs.Answer.{is_pass, is_yes, or_else}
 use Rattle.config_rules.specs.Comparisons.{always_larger_answer, locale_rank, dimensions_answer, rest_of_both}
 use Rattle.config_rules.specs.Conditions.{is_equal, is_at_most}
 use Rattle.config_rules.specs.Kind.{kind_answer}
 use Rattle.config_rules.specs.Rule.{at, rule_answer, numbers_at}
+use Rattle.config_rules.specs.Table.{answer_of_table}
 use Rattle.config_match.specs.Conditions.{all_conditions}
-use Rattle.config_precedence.specs.Laws.{AtMostOneIsBetter, IsTransitiveFrom}
+use Rattle.config_precedence.specs.Laws.{AtMostOneIsBetter, IsTransitiveFrom, densities_tie}
 use Rattle.config_precedence.specs.Precedence.{is_better}
 use Rattle.config_precedence.specs.Rules.{all_rules}
-use Rattle.config_precedence.proofs.Composition.{Opposes, Composes, opposes, composes}
+use Rattle.config_precedence.proofs.Composition.{Opposes, Composes, opposes, yes_alone, composes}
 use Rattle.config_precedence.proofs.Densities.{density-composes, density-opposes, tie}
+use Rattle.config_precedence.proofs.DensityTie.{earlier_rules, answer-parted, deciding-tie}
 use Rattle.config_precedence.proofs.Dimensions.{smaller-composes, smaller-opposes}
 use Rattle.config_precedence.proofs.Matched.{Suits, kind_at, match_suits, equal_suits, at_most_suits, keys_suits}
 use Rattle.config_precedence.proofs.Orders.{larger-opposes, larger-composes, given_rank, given-ranked, navigation-ranked, larger-ranked, keys_rank, keys-ranked, size_rank, size-ranked}
 
 -- ---- each rule
 
--- a rule is an order among the records that suit the device
+abbrev is_density : Kind → Bool
+is_density kinds.Density = true
+is_density k = false
+
+-- a rule is an order among the records that suit the device; that of density is one of two records that do not tie
 record IsOrder (d : Coord → ℕ) (rule : Rule) : Type 0 where
-  two : (a b : Coord → ℕ) → Suits a d → Suits b d → tie (a coords.Density) (b coords.Density) ≡ false
+  two : (a b : Coord → ℕ) → Suits a d → Suits b d → (is_density rule.kind && tie (a coords.Density) (b coords.Density)) ≡ false
       → Opposes (rule_answer rule a b d) (rule_answer rule b a d)
   three : (a b c : Coord → ℕ) → Suits a d → Suits b d → Suits c d
       → Composes (rule_answer rule a b d) (rule_answer rule b a d) (rule_answer rule b c d) (rule_answer rule c b d) (rule_answer rule a c d) (rule_answer rule c a d)
@@ -184,16 +194,65 @@ orders d = (
 
 -- ---- the table
 
-weaker : {P Q : Rule → Type 0} → ((rule : Rule) → P rule → Q rule) → (rules : List Rule) → AllByRecursion P rules → AllByRecursion Q rules
-weaker f [] all = tt
-weaker f (rule ∷ rules) all = (f rule all.0, weaker f rules all.1)
+each : {P Q : Rule → Type 0} → ((rule : Rule) → P rule → Q rule) → (rules : List Rule) → AllByRecursion P rules → AllByRecursion Q rules
+each f [] all = tt
+each f (rule ∷ rules) all = (f rule all.0, each f rules all.1)
+
+untied_everywhere : (density t : Bool) → t ≡ false → (density && t) ≡ false
+untied_everywhere true t e = e
+untied_everywhere false t e = refl
+
+all_oppose : (a b d : Coord → ℕ) → Suits a d → Suits b d → tie (a coords.Density) (b coords.Density) ≡ false → Opposes (answer_of_table all_rules a b d) (answer_of_table all_rules b a d)
+all_oppose a b d s t untied = opposes all_rules a b d (each (λ rule o. o.two a b s t (untied_everywhere (is_density rule.kind) _ untied)) all_rules (orders d))
+
+earlier_oppose : (a b d : Coord → ℕ) → Suits a d → Suits b d → Opposes (answer_of_table earlier_rules a b d) (answer_of_table earlier_rules b a d)
+unfolding all_rules
+earlier_oppose a b d s t = opposes earlier_rules a b d (not_density earlier_rules refl (front 14 all_rules (orders d)))
+  where
+    front : (n : ℕ) (rules : List Rule) → AllByRecursion (IsOrder d) rules → AllByRecursion (IsOrder d) (take n rules)
+    front zero rules all = tt
+    front (suc n) [] all = tt
+    front (suc n) (rule ∷ rules) all = (all.0, front n rules all.1)
+
+    untied : (density t : Bool) → not density ≡ true → (density && t) ≡ false
+    untied true t e = absurd cc
+    untied false t e = refl
+
+    not_density : (rules : List Rule) → list_all (λ rule. not (is_density rule.kind)) rules ≡ true → AllByRecursion (IsOrder d) rules
+        → AllByRecursion (λ rule. Opposes (rule_answer rule a b d) (rule_answer rule b a d)) rules
+    not_density [] others all = tt
+    not_density (rule ∷ rules) others all =
+        let parts = and_parts _ _ others in
+        (all.0.two a b s t (untied (is_density rule.kind) _ parts.0), not_density rules parts.1 all.1)
+
+decided_alone : (x x' y y' : Answer) → Opposes x x' → is_pass x ≡ false → is_yes (or_else x y) ≡ true → is_yes (or_else x' y') ≡ false
+decided_alone Yes x' y y' o some h = rw (o.yes refl) refl
+decided_alone No x' y y' o some h = absurd cc
+decided_alone Pass x' y y' o some h = absurd cc
+
+-- one of the earlier rules decides
+earlier_alone : (a b d : Coord → ℕ) → Suits a d → Suits b d → is_pass (answer_of_table earlier_rules a b d) ≡ false
+    → is_yes (answer_of_table all_rules a b d) ≡ true → is_yes (answer_of_table all_rules b a d) ≡ false
+earlier_alone a b d s t some better =
+    ap is_yes (answer-parted b a d) ∙ decided_alone _ _ _ _ (earlier_oppose a b d s t) some (sym (ap is_yes (answer-parted a b d)) ∙ better)
 
 pub at_most_one : (a b d : List ℕ) → AtMostOneIsBetter a b d
 unfolding is_better record_number coordinate
-at_most_one a b d ma mb untied better =
-    let s = match_suits a d ma in
-    let t = match_suits b d mb in
-    opposes all_rules (record_number a) (record_number b) (device_number d) (weaker (λ rule o. o.two (record_number a) (record_number b) s t untied) all_rules (orders (device_number d))) better
+at_most_one a b d ma mb not_tie better = densities (densities_tie a b) refl
+  where
+    suits_a : Suits (record_number a) (device_number d)
+    suits_a = match_suits a d ma
+
+    suits_b : Suits (record_number b) (device_number d)
+    suits_b = match_suits b d mb
+
+    earlier : densities_tie a b ≡ true → (pass : Bool) → is_pass (answer_of_table earlier_rules (record_number a) (record_number b) (device_number d)) ≡ pass → is_better b a d ≡ false
+    earlier tied true pass = absurd (not_tie (record { densities = tied; decided = deciding-tie a b d tied pass }))
+    earlier tied false some = earlier_alone (record_number a) (record_number b) (device_number d) suits_a suits_b some better
+
+    densities : (t : Bool) → densities_tie a b ≡ t → is_better b a d ≡ false
+    densities false untied = yes_alone _ _ (all_oppose (record_number a) (record_number b) (device_number d) suits_a suits_b untied) better
+    densities true tied = earlier tied (is_pass (answer_of_table earlier_rules (record_number a) (record_number b) (device_number d))) refl
 
 pub transitive : (a b d : List ℕ) → IsTransitiveFrom a b d
 unfolding is_better
@@ -202,5 +261,5 @@ transitive a b d c ma mb mc first second =
     let t = match_suits b d mb in
     let u = match_suits c d mc in
     composes all_rules (record_number a) (record_number b) (record_number c) (device_number d)
-    (weaker (λ rule o. o.three (record_number a) (record_number b) (record_number c) s t u) all_rules (orders (device_number d)))
+    (each (λ rule o. o.three (record_number a) (record_number b) (record_number c) s t u) all_rules (orders (device_number d)))
     first second

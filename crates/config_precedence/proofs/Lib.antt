@@ -2,5 +2,7 @@ pub mod Composition
 pub mod Orders
 pub mod Densities
 pub mod Dimensions
+pub mod EitherOrder
+pub mod DensityTie
 pub mod Matched
 pub mod Laws

@@ -1,7 +1,7 @@
 -- Are two records equal? All their fields count but the size, with the bits and the byte in which no
 -- coordinate stands (AOSP: ResTable_config::compare). A record is the list of its bytes.
 use Rattle.std.specs.Prelude.{ℕ, ◌==◌, ◌&&◌, Bool, List, bytes_eq}
-use Rattle.config_record.specs.Record.{byte, mcc, mnc, language, country, locale_script, locale_variant, orientation, touchscreen, density, keyboard, navigation, input_flags, screen_width, screen_height, sdk_version, minor_version, screen_layout, screen_layout2, color_mode, ui_mode, smallest_screen_width_dp, screen_width_dp, screen_height_dp}
+use Rattle.config_record.specs.Record.{mcc, mnc, language, country, locale_script, locale_variant, orientation, touchscreen, density, keyboard, navigation, input_flags, input_pad, screen_width, screen_height, sdk_version, minor_version, screen_layout, screen_layout2, color_mode, ui_mode, smallest_screen_width_dp, screen_width_dp, screen_height_dp}
 
 abbrev pub same_operator : List ℕ → List ℕ → Bool
 same_operator a b = mcc a == mcc b && mnc a == mnc b
@@ -14,10 +14,6 @@ same_locale a b =
 -- the bytes 12 to 15
 abbrev pub same_screen_type : List ℕ → List ℕ → Bool
 same_screen_type a b = orientation a == orientation b && touchscreen a == touchscreen b && density a == density b
-
--- the byte behind the input flags (AOSP: inputPad0)
-abbrev pub input_pad : List ℕ → ℕ
-input_pad r = byte r 19
 
 -- the bytes 16 to 19
 abbrev pub same_input : List ℕ → List ℕ → Bool

@@ -1,25 +1,54 @@
--- What holds of 'better' among the records that match a device.
-use Rattle.std.specs.Prelude.{ℕ, ◌==◌, ◌&&◌, ◌||◌, Bool, List, IsTrue, IsFalse}
+-- What holds of 'better' among the records that match a device, and of the rule that decides.
+use Rattle.std.specs.Prelude.{ℕ, ◌≡◌, ◌==◌, ◌&&◌, ◌||◌, nat_le, Bool, List, Some, IsTrue, IsFalse}
+use Rattle.config_record.specs.declared.coord.Coord.TheVariants as coords
+use Rattle.config_record.specs.ComparedNumber.{device_number}
 use Rattle.config_record.specs.Record.{density}
 use Rattle.config_match.specs.Matching.{is_match}
-use Rattle.config_precedence.specs.Precedence.{is_better}
+use Rattle.config_precedence.specs.Precedence.{is_better, deciding_of}
 
--- densities of 0 and 160, which count alike: where no earlier rule decides, either both records are better
--- than the other, or neither is
+-- ---- the rule that decides
+
+-- It is the same in either order of the two records, also where none decides, and whether they match or not.
+abbrev pub DecidesInEitherOrder : List ℕ → List ℕ → List ℕ → Type 0
+DecidesInEitherOrder a b d = deciding_of a b d ≡ deciding_of b a d
+
+-- ---- densities of 0 and 160, which count alike
+
+abbrev pub medium_density : ℕ
+medium_density = 160
+
+-- the number of the rule that compares densities
+abbrev pub density_rule : ℕ
+density_rule = 15
+
 abbrev pub densities_tie : List ℕ → List ℕ → Bool
-densities_tie a b = (density a == 0 && density b == 160) || (density a == 160 && density b == 0)
+densities_tie a b = (density a == 0 && density b == medium_density) || (density a == medium_density && density b == 0)
+
+-- the densities are 0 and 160, and no earlier rule decides
+pub record IsTie (a b d : List ℕ) : Type 0 where
+  pub densities : IsTrue (densities_tie a b)
+  pub decided : deciding_of a b d ≡ Some density_rule
+
+-- Then each record is better than the other at a device of 160 and more, and neither is below.
+abbrev pub BothOrNeitherIsBetter : List ℕ → List ℕ → List ℕ → Type 0
+BothOrNeitherIsBetter a b d =
+    IsTie a b d
+    → (is_better a b d ≡ nat_le medium_density (device_number d coords.Density))
+    × (is_better b a d ≡ nat_le medium_density (device_number d coords.Density))
+
+-- ---- an order
 
 -- Of two records that match the device at most one is better than the other, but for that tie. Without matching
 -- it does not hold: with the mcc 310 and 311 each is better than the other at a device that has any mcc.
 abbrev pub AtMostOneIsBetter : List ℕ → List ℕ → List ℕ → Type 0
-AtMostOneIsBetter a b d = IsTrue (is_match a d) → IsTrue (is_match b d) → IsFalse (densities_tie a b) → IsTrue (is_better a b d) → IsFalse (is_better b a d)
+AtMostOneIsBetter a b d = IsTrue (is_match a d) → IsTrue (is_match b d) → ¬ IsTie a b d → IsTrue (is_better a b d) → IsFalse (is_better b a d)
 
 -- a is better, and b is not better than a
 abbrev pub IsStrictlyBetter : List ℕ → List ℕ → List ℕ → Type 0
 IsStrictlyBetter a b d = IsTrue (is_better a b d) × IsFalse (is_better b a d)
 
 -- Among records that match the device: where a is strictly better than b, and b than c, a is strictly better
--- than c. Where densities do not tie, 'strictly' asks for no more than 'better', by the law above.
+-- than c. But for that tie 'strictly' asks for no more than 'better', by the law above.
 abbrev pub IsTransitiveFrom : List ℕ → List ℕ → List ℕ → Type 0
 IsTransitiveFrom a b d =
     (c : List ℕ) → IsTrue (is_match a d) → IsTrue (is_match b d) → IsTrue (is_match c d)

@@ -4,7 +4,7 @@ ghost use Rattle.std.specs.Prelude.{◌≡◌, IsNone, IsFalse};
 ghost use Rattle.config_record.specs.Record.{record_bytes};
 ghost use Rattle.config_record.specs.DeviceSeen.{device_numbers};
 ghost use Rattle.config_precedence.specs.Precedence.{is_better, deciding_of};
-ghost use Rattle.config_precedence.specs.Laws.{AtMostOneIsBetter, IsTransitiveFrom};
+ghost use Rattle.config_precedence.specs.Laws.{DecidesInEitherOrder, BothOrNeitherIsBetter, AtMostOneIsBetter, IsTransitiveFrom};
 
 use crate::table::rules;
 use config_record::{Device, Record};
@@ -15,13 +15,15 @@ use config_rules::{deciding_place, table_answer};
 ///
 /// Among records that match the device this is an order: of two at most one is better than the other,
 /// and one that is better than a second is better than a third than which the second is better. Only
-/// a density of 0 against one of 160 is no part of that order: where no earlier rule decides, both
-/// are better, or neither is.
+/// a density of 0 against one of 160 is no part of that order where no earlier rule decides: then both
+/// are better at a device of density 160 and more, and neither is below.
 #[tactic(auto, unfolding(crate::specs::Precedence::is_better))]
 pub fn better(a: &Record, b: &Record, device: &Device) -> bool
     ensures value { result ≡
         is_better (record_bytes a.now) (record_bytes b.now) (device_numbers device.now) }
     ensures at_most_one { AtMostOneIsBetter
+        (record_bytes a.now) (record_bytes b.now) (device_numbers device.now) }
+    ensures both_or_neither { BothOrNeitherIsBetter
         (record_bytes a.now) (record_bytes b.now) (device_numbers device.now) }
     ensures transitive { IsTransitiveFrom
         (record_bytes a.now) (record_bytes b.now) (device_numbers device.now) }
@@ -29,11 +31,14 @@ pub fn better(a: &Record, b: &Record, device: &Device) -> bool
     table_answer(rules(), a, b, device).is_yes()
 }
 
-/// The number of the rule that decides between two records, 1 to 23.
+/// The number of the rule that decides between two records, 1 to 23. It is the same in either order of
+/// the two.
 #[tactic(auto, unfolding(crate::specs::Precedence::deciding_of, crate::specs::Precedence::is_better))]
 pub fn deciding(a: &Record, b: &Record, device: &Device) -> Option<u8>
     ensures value { result ≡
         deciding_of (record_bytes a.now) (record_bytes b.now) (device_numbers device.now) }
+    ensures either_order { DecidesInEitherOrder
+        (record_bytes a.now) (record_bytes b.now) (device_numbers device.now) }
     ensures none { IsNone result →
         IsFalse (is_better (record_bytes a.now) (record_bytes b.now) (device_numbers device.now)) }
 {

@@ -1,7 +1,8 @@
 -- The numbers of a device are in their ranges.
-use Rattle.std.proofs.Common.{◌≡◌, ℕ, zero, suc, ◌<◌, ◌≤◌, ◌≢◌, ◌==◌, nat_lt, List, [], ◌∷◌, length, get_or, Result, Ok, Err, IfOk, refl, sym, ap, ◌∙◌, arith}
+use Rattle.std.proofs.Common.{◌≡◌, ℕ, zero, suc, ◌<◌, ◌≤◌, ◌≢◌, ◌==◌, nat_lt, Bool, true, false, List, [], ◌∷◌, length, get_or, ◌⊎◌, inl, inr, Result, Ok, Err, IfOk, refl, sym, ap, subst, ◌∙◌, arith}
+use Rattle.std.specs.Prelude.{IfErr}
 use Rattle.std.proofs.lemmas.Bool.{ltb-false, eqb-false}
-use Rattle.contract_words.specs.Faults.{◌>>=◌}
+use Rattle.contract_words.specs.Faults.{◌>>=◌, checked_by}
 use Rattle.contract_words.specs.Sequences.{with_front}
 use Rattle.contract_words.proofs.FaultSteps.{checked_by-ok}
 use Rattle.config_record.specs.declared.coord.Coord.{Coord}
@@ -10,14 +11,15 @@ use Rattle.config_record.specs.declared.locale.Locale.{Locale}
 use Rattle.config_record.specs.declared.locale.LocaleFault.{LocaleFault}
 use Rattle.config_record.specs.declared.locale.LocaleFault.TheVariants as of_locale
 use Rattle.config_record.specs.declared.fields.DeviceFault.{DeviceFault}
-use Rattle.config_record.specs.declared.fields.DeviceFault.TheVariants.{FieldRange, Density}
+use Rattle.config_record.specs.declared.fields.DeviceFault.TheVariants.{FieldRange, RegionAlone, Density}
 use Rattle.config_record.specs.Coord.{all_coords, place_of, number_at, greatest_of_device}
 use Rattle.config_record.specs.declared.device.Device.{Device}
 use Rattle.config_record.specs.ComparedNumber.{locale_number, locale_of_number, device_number}
 use Rattle.config_record.specs.DeviceSeen.{device_numbers, seen}
 use Rattle.config_record.specs.EachNumber.{each_number}
 use Rattle.config_record.specs.Device.{density_in, field_in, locale_number_in, number_in, device_with, device_locale}
-use Rattle.config_record.specs.Locale.{locale_faults, checked_locale, IsGiven}
+use Rattle.config_record.proofs.LocaleLemmas.{locale_of-gives}
+use Rattle.config_record.specs.Locale.{locale_of, locale_faults, checked_locale, IsOfSomeText, IsGiven, locale_text}
 
 -- ---- the number of each coordinate stands at its place
 
@@ -152,3 +154,59 @@ unfolding device_with number_in
 device-locale_asked asked own l (Ok d) e checked back =
     locale_number-asked own l (number_at (device_numbers d) coords.Locale) checked back (number_at-given (number_in asked (locale_number_in l)) (device_numbers d) coords.Locale (sym e))
 device-locale_asked asked own l (Err fault) e checked back = tt
+
+-- ---- which some text stands for
+
+some_text-asked : (own : Locale) (l : Result Locale LocaleFault) (n : ℕ) → l ≡ checked_locale own → IfOk l (λ m. locale_of (locale_text m) ≡ Ok m)
+    → locale_number_in l ≡ Ok n → IsOfSomeText own
+some_text-asked own (Ok m) n checked read e = subst (λ (l : Locale). IsOfSomeText l) (sym (same_locale own m (sym checked))) (locale_text m, read)
+some_text-asked own (Err of_locale.RegionAlone) n checked read e = absurd cc
+some_text-asked own (Err of_locale.Malformed) n checked read e = absurd cc
+
+pub device-some_text : (asked : List ℕ) (own : Locale) (l : Result Locale LocaleFault) (r : Result Device DeviceFault) → seen r ≡ device_with asked l
+    → l ≡ checked_locale own → IfOk l (λ m. locale_of_number (locale_number m) ≡ m) → IfOk l (λ m. locale_of (locale_text m) ≡ Ok m)
+    → IfOk r (λ d. IsOfSomeText (device_locale (device_numbers d)))
+unfolding device_with number_in
+device-some_text asked own l (Ok d) e checked back read =
+    let some = some_text-asked own l (number_at (device_numbers d) coords.Locale) checked read (number_at-given (number_in asked (locale_number_in l)) (device_numbers d) coords.Locale (sym e)) in
+    subst (λ (l : Locale). IsOfSomeText l) (sym (device-locale_asked asked own l (Ok d) e checked back)) some
+device-some_text asked own l (Err fault) e checked back read = tt
+
+-- ---- and a locale that some text stands for is no fault
+
+first_or_later : (r : Result ℕ DeviceFault) (others : Result (List ℕ) DeviceFault) (fault : DeviceFault) → (r >>= (λ n. with_front (n ∷ []) others)) ≡ Err fault → (r ≡ Err fault) ⊎ (others ≡ Err fault)
+first_or_later (Ok n) (Ok ns) fault e = absurd cc
+first_or_later (Ok n) (Err other) fault e = let same : other ≡ fault = cc in inr (rw same refl)
+first_or_later (Err other) others fault e = let same : other ≡ fault = cc in inl (rw same refl)
+
+each_number-fault : (f : Coord → Result ℕ DeviceFault) (cs : List Coord) (fault : DeviceFault) → each_number f cs ≡ Err fault → (c : Coord) × (f c ≡ Err fault)
+unfolding each_number
+each_number-fault f [] fault e = absurd cc
+each_number-fault f (c ∷ cs) fault e = elim (first_or_later (f c) (each_number f cs) fault e) [ inl here ↦ (c, here) | inr later ↦ each_number-fault f cs fault later ]
+
+one_fault : (test : Bool) (n : ℕ) (f fault : DeviceFault) → checked_by ((test, f) ∷ []) (Ok n) ≡ Err fault → fault ≡ f
+one_fault true n f fault e = let same : f ≡ fault = cc in sym same
+one_fault false n f fault e = absurd cc
+
+two_faults : (test other : Bool) (n : ℕ) (f fault : DeviceFault) → checked_by ((test, f) ∷ (other, f) ∷ []) (Ok n) ≡ Err fault → fault ≡ f
+two_faults true other n f fault e = let same : f ≡ fault = cc in sym same
+two_faults false other n f fault e = one_fault other n f fault e
+
+-- no fault of a locale
+abbrev IsElsewhere : DeviceFault → Type 0
+IsElsewhere fault = (fault ≢ RegionAlone) × (fault ≢ FieldRange coords.Locale)
+
+number_in-elsewhere : (asked : List ℕ) (l : ℕ) (c : Coord) (fault : DeviceFault) → number_in asked (Ok l) c ≡ Err fault → IsElsewhere fault
+unfolding number_in
+number_in-elsewhere asked l coords.Locale fault e = absurd cc
+number_in-elsewhere asked l coords.Density fault e = let is = two_faults _ _ _ Density fault e in (λ h. cc, λ h. cc)
+number_in-elsewhere asked l c fault e = let is = one_fault _ _ (FieldRange c) fault e in (λ h. cc, λ h. cc)
+
+pub device-not_refused : (asked : List ℕ) (own : Locale) (l : Result Locale LocaleFault) (r : Result Device DeviceFault) → seen r ≡ device_with asked l
+    → l ≡ checked_locale own → IsOfSomeText own → IfErr r IsElsewhere
+unfolding device_with
+device-not_refused asked own l (Ok d) e checked some = tt
+device-not_refused asked own l (Err fault) e checked some =
+    let passes : l ≡ Ok own = checked ∙ (locale_of-gives some.0 own some.1).passes in
+    let f = each_number-fault (number_in asked (Ok (locale_number own))) all_coords fault (rw passes at (sym e)) in
+    number_in-elsewhere asked (locale_number own) f.0 fault f.1

@@ -11,9 +11,9 @@ use Rattle.config_record.specs.declared.locale.Locale.{Locale}
 use Rattle.config_record.specs.declared.locale.LocaleFault.{LocaleFault}
 use Rattle.config_record.specs.Zero.{is_zero}
 use Rattle.config_record.specs.ComparedNumber.{locale_number, locale_of_number}
-use Rattle.config_record.specs.Locale.{is_small_letter, is_capital_letter, is_digit, packed, language_of, region_of, no_part, unpacked, is_spelled, locale_faults, checked_locale, IsGiven, locale_of, locale_text, language_text, region_text, cut_at, with_region}
+use Rattle.config_record.specs.Locale.{first_letter, first_digit, dash, packed, part_of, language_of, region_of, no_part, unpacked, is_spelled, locale_faults, checked_locale, IsGiven, locale_of, locale_text, language_text, region_text, cut_at, with_region}
 use Rattle.contract_words.proofs.FaultSteps.{checked_by-ok}
-use Rattle.config_record.proofs.LocaleLemmas.{both, small, capital, digit}
+use Rattle.config_record.proofs.LocaleLemmas.{both, Symbolic, of_languages, of_regions}
 
 -- ---- three symbols that are unpacked and packed
 
@@ -34,57 +34,47 @@ packed-unpacked base a b high low fits =
 -- none of them is a dash
 abbrev NoDash : List ℕ → Type 0
 NoDash [] = Unit {0}
-NoDash (b ∷ bytes) = ((b == 45) ≡ false) × NoDash bytes
+NoDash (b ∷ bytes) = ((b == dash) ≡ false) × NoDash bytes
 
 record ReadAs (of : List ℕ → Option (List ℕ)) (part symbols : List ℕ) : Type 0 where
   reads : of symbols ≡ Some part
   some : (length symbols == 0) ≡ false
   no_dash : NoDash symbols
 
-no_dash_above : (b : ℕ) → 45 < b → (b == 45) ≡ false
+no_dash_above : (b : ℕ) → dash < b → (b == dash) ≡ false
 no_dash_above b above = grind (arith, nat_tests)
 
 chosen : (c : Bool) (part : List ℕ) → is_some (cond c (Some part) None) ≡ true → (c ≡ true) × (cond c (Some part) None ≡ Some part)
 chosen true part e = (refl, refl)
 chosen false part e = absurd cc
 
-two_letters : (a b : ℕ) → is_some (language_of (a ∷ b ∷ [])) ≡ true → ReadAs language_of (a ∷ b ∷ []) (a ∷ b ∷ [])
-two_letters a b e =
-    let c = chosen (is_small_letter a && is_small_letter b) (a ∷ b ∷ []) e in
+two_read : (two three : ℕ → Bool) (base : ℕ) → Symbolic two three base → (a b : ℕ) → is_some (part_of two three base (a ∷ b ∷ [])) ≡ true
+    → ReadAs (part_of two three base) (a ∷ b ∷ []) (a ∷ b ∷ [])
+two_read two three base sy a b e =
+    let c = chosen (two a && two b) (a ∷ b ∷ []) e in
     let s = both _ _ c.0 in
-    let first = small a s.0 in
-    let second = small b s.1 in
-    record { reads = c.1; some = refl; no_dash = (no_dash_above a (omega arith), (no_dash_above b (omega arith), tt)) }
+    record {
+      reads = c.1;
+      some = refl;
+      no_dash = (no_dash_above a (sy.one_of_two a s.0).0, (no_dash_above b (sy.one_of_two b s.1).0, tt));
+    }
 
-three_letters : (x y z : ℕ) (part : List ℕ) → packed 97 x y z ≡ part → is_some (language_of (x ∷ y ∷ z ∷ [])) ≡ true → ReadAs language_of part (x ∷ y ∷ z ∷ [])
-three_letters x y z part back e =
-    let c = chosen (is_small_letter x && is_small_letter y && is_small_letter z) (packed 97 x y z) e in
+three_read : (two three : ℕ → Bool) (base : ℕ) → Symbolic two three base → (x y z : ℕ) (part : List ℕ) → packed base x y z ≡ part → is_some (part_of two three base (x ∷ y ∷ z ∷ [])) ≡ true
+    → ReadAs (part_of two three base) part (x ∷ y ∷ z ∷ [])
+three_read two three base sy x y z part back e =
+    let c = chosen (three x && three y && three z) (packed base x y z) e in
     let s = both _ _ c.0 in
     let t = both _ _ s.0 in
-    let first = small x t.0 in
-    let second = small y t.1 in
-    let third = small z s.1 in
+    let above = sy.base_above in
+    let first = sy.one_of_three x t.0 in
+    let second = sy.one_of_three y t.1 in
+    let third = sy.one_of_three z s.1 in
     let wrapped : List ℕ → Option (List ℕ) = λ p. Some p in
-    record { reads = c.1 ∙ ap wrapped back; some = refl; no_dash = (no_dash_above x (omega arith), (no_dash_above y (omega arith), (no_dash_above z (omega arith), tt))) }
-
-two_capitals : (a b : ℕ) → is_some (region_of (a ∷ b ∷ [])) ≡ true → ReadAs region_of (a ∷ b ∷ []) (a ∷ b ∷ [])
-two_capitals a b e =
-    let c = chosen (is_capital_letter a && is_capital_letter b) (a ∷ b ∷ []) e in
-    let s = both _ _ c.0 in
-    let first = capital a s.0 in
-    let second = capital b s.1 in
-    record { reads = c.1; some = refl; no_dash = (no_dash_above a (omega arith), (no_dash_above b (omega arith), tt)) }
-
-three_digits : (x y z : ℕ) (part : List ℕ) → packed 48 x y z ≡ part → is_some (region_of (x ∷ y ∷ z ∷ [])) ≡ true → ReadAs region_of part (x ∷ y ∷ z ∷ [])
-three_digits x y z part back e =
-    let c = chosen (is_digit x && is_digit y && is_digit z) (packed 48 x y z) e in
-    let s = both _ _ c.0 in
-    let t = both _ _ s.0 in
-    let first = digit x t.0 in
-    let second = digit y t.1 in
-    let third = digit z s.1 in
-    let wrapped : List ℕ → Option (List ℕ) = λ p. Some p in
-    record { reads = c.1 ∙ ap wrapped back; some = refl; no_dash = (no_dash_above x (omega arith), (no_dash_above y (omega arith), (no_dash_above z (omega arith), tt))) }
+    record {
+      reads = c.1 ∙ ap wrapped back;
+      some = refl;
+      no_dash = (no_dash_above x (omega arith), (no_dash_above y (omega arith), (no_dash_above z (omega arith), tt)));
+    }
 
 -- ---- the two bytes of a part
 
@@ -99,29 +89,18 @@ pub record TwoBytes (part : List ℕ) : Type 0 where
 abbrev unpacked_where : Bool → ℕ → ℕ → ℕ → List ℕ
 unpacked_where two base a b = if two then a ∷ b ∷ [] else (base + b % 32) ∷ (base + (b / 32 + a % 4 * 8)) ∷ (base + a / 4 % 32) ∷ []
 
-language-read : (a b : ℕ) (two : Bool) → nat_lt a 128 ≡ two → a < 256 → b < 256 → is_some (language_of (unpacked_where two 97 a b)) ≡ true
-    → ReadAs language_of (a ∷ b ∷ []) (unpacked_where two 97 a b)
-language-read a b true is low fits e = two_letters a b e
-language-read a b false is low fits e =
+two_or_three_read : (two three : ℕ → Bool) (base : ℕ) → Symbolic two three base → (a b : ℕ) (low : Bool) → nat_lt a 128 ≡ low → a < 256 → b < 256
+    → is_some (part_of two three base (unpacked_where low base a b)) ≡ true → ReadAs (part_of two three base) (a ∷ b ∷ []) (unpacked_where low base a b)
+two_or_three_read two three base sy a b true is less fits e = two_read two three base sy a b e
+two_or_three_read two three base sy a b false is less fits e =
     let high : 128 ≤ a = ltb-false a 128 is in
-    three_letters (97 + b % 32) (97 + (b / 32 + a % 4 * 8)) (97 + a / 4 % 32) (a ∷ b ∷ []) (packed-unpacked 97 a b high low fits) e
+    three_read two three base sy (base + b % 32) (base + (b / 32 + a % 4 * 8)) (base + a / 4 % 32) (a ∷ b ∷ []) (packed-unpacked base a b high less fits) e
 
-region-read : (a b : ℕ) (two : Bool) → nat_lt a 128 ≡ two → a < 256 → b < 256 → is_some (region_of (unpacked_where two 48 a b)) ≡ true
-    → ReadAs region_of (a ∷ b ∷ []) (unpacked_where two 48 a b)
-region-read a b true is low fits e = two_capitals a b e
-region-read a b false is low fits e =
-    let high : 128 ≤ a = ltb-false a 128 is in
-    three_digits (48 + b % 32) (48 + (b / 32 + a % 4 * 8)) (48 + a / 4 % 32) (a ∷ b ∷ []) (packed-unpacked 48 a b high low fits) e
-
-language-back : (part : List ℕ) → TwoBytes part → is_some (language_of (unpacked 97 part)) ≡ true → ReadAs language_of part (unpacked 97 part)
-language-back part two e =
-    let goes : List ℕ → Type 0 = λ p. is_some (language_of (unpacked 97 p)) ≡ true → ReadAs language_of p (unpacked 97 p) in
-    subst goes (sym two.same) (language-read two.first two.second (nat_lt two.first 128) refl two.first_fits two.second_fits) e
-
-region-back : (part : List ℕ) → TwoBytes part → is_some (region_of (unpacked 48 part)) ≡ true → ReadAs region_of part (unpacked 48 part)
-region-back part two e =
-    let goes : List ℕ → Type 0 = λ p. is_some (region_of (unpacked 48 p)) ≡ true → ReadAs region_of p (unpacked 48 p) in
-    subst goes (sym two.same) (region-read two.first two.second (nat_lt two.first 128) refl two.first_fits two.second_fits) e
+part-back : (two three : ℕ → Bool) (base : ℕ) → Symbolic two three base → (part : List ℕ) → TwoBytes part → is_some (part_of two three base (unpacked base part)) ≡ true
+    → ReadAs (part_of two three base) part (unpacked base part)
+part-back two three base sy part bytes e =
+    let goes : List ℕ → Type 0 = λ p. is_some (part_of two three base (unpacked base p)) ≡ true → ReadAs (part_of two three base) p (unpacked base p) in
+    subst goes (sym bytes.same) (two_or_three_read two three base sy bytes.first bytes.second (nat_lt bytes.first 128) refl bytes.first_fits bytes.second_fits) e
 
 zero-back : (part : List ℕ) → TwoBytes part → is_zero part ≡ true → part ≡ no_part
 zero-back part two e =
@@ -132,21 +111,21 @@ zero-back part two e =
 
 -- ---- where the first dash of a text stands
 
-dash_or_length : (symbols : List ℕ) → NoDash symbols → position_or_len (λ b. b == 45) symbols ≡ length symbols
+dash_or_length : (symbols : List ℕ) → NoDash symbols → position_or_len (λ b. b == dash) symbols ≡ length symbols
 dash_or_length [] none = refl
 dash_or_length (b ∷ symbols) none = let here = none.0 in let others = dash_or_length symbols none.1 in rw here (omega arith)
 
-dash_behind : (symbols after : List ℕ) → NoDash symbols → position_or_len (λ b. b == 45) (symbols ++ 45 ∷ after) ≡ length symbols
+dash_behind : (symbols after : List ℕ) → NoDash symbols → position_or_len (λ b. b == dash) (symbols ++ dash ∷ after) ≡ length symbols
 dash_behind [] after none = refl
 dash_behind (b ∷ symbols) after none = let here = none.0 in let others = dash_behind symbols after none.1 in rw here (omega arith)
 
-position-none : (symbols : List ℕ) → NoDash symbols → position (λ b. b == 45) symbols ≡ None
+position-none : (symbols : List ℕ) → NoDash symbols → position (λ b. b == dash) symbols ≡ None
 position-none symbols none = rw (dash_or_length symbols none, le-ltb (length symbols) (length symbols) (omega arith)) refl
 
-position-behind : (symbols after : List ℕ) → NoDash symbols → position (λ b. b == 45) (symbols ++ 45 ∷ after) ≡ Some (length symbols)
+position-behind : (symbols after : List ℕ) → NoDash symbols → position (λ b. b == dash) (symbols ++ dash ∷ after) ≡ Some (length symbols)
 position-behind symbols after none =
-    let within : length symbols < length (symbols ++ 45 ∷ after) = omega (arith, length-append symbols (45 ∷ after)) in
-    rw (dash_behind symbols after none, lt-ltb (length symbols) (length (symbols ++ 45 ∷ after)) within) refl
+    let within : length symbols < length (symbols ++ dash ∷ after) = omega (arith, length-append symbols (dash ∷ after)) in
+    rw (dash_behind symbols after none, lt-ltb (length symbols) (length (symbols ++ dash ∷ after)) within) refl
 
 -- ---- the whole locale
 
@@ -157,26 +136,26 @@ language-alone symbols part r =
     ∙ rw (r.some, r.reads) refl
 
 language-region : (symbols after part region : List ℕ) → ReadAs language_of part symbols → ReadAs region_of region after
-    → locale_of (symbols ++ 45 ∷ after) ≡ Ok (record { language = part; region = region })
+    → locale_of (symbols ++ dash ∷ after) ≡ Ok (record { language = part; region = region })
 language-region symbols after part region r s =
-    let text = symbols ++ 45 ∷ after in
+    let text = symbols ++ dash ∷ after in
     let cut : cut_at text (Some (length symbols)) ≡ with_region symbols after =
-    ap (λ (t : List ℕ). with_region t (drop (length symbols + 1) text)) (take-append_seam symbols (45 ∷ after))
-    ∙ ap (with_region symbols) (drop-append-add symbols (45 ∷ after) 1) in
+    ap (λ (t : List ℕ). with_region t (drop (length symbols + 1) text)) (take-append_seam symbols (dash ∷ after))
+    ∙ ap (with_region symbols) (drop-append-add symbols (dash ∷ after) 1) in
     ap (cut_at text) (position-behind symbols after r.no_dash) ∙ cut ∙ rw (s.reads, r.some, r.reads) refl
 
 whole : (l : Locale) (z y : Bool) → is_zero l.language ≡ z → is_zero l.region ≡ y → TwoBytes l.language → TwoBytes l.region
-    → (z || is_some (language_of (unpacked 97 l.language))) ≡ true → (y || is_some (region_of (unpacked 48 l.region))) ≡ true → (z && not y) ≡ false
-    → locale_of ((if z then [] else unpacked 97 l.language) ++ (if y then [] else 45 ∷ unpacked 48 l.region)) ≡ Ok l
+    → (z || is_some (language_of (unpacked first_letter l.language))) ≡ true → (y || is_some (region_of (unpacked first_digit l.region))) ≡ true → (z && not y) ≡ false
+    → locale_of ((if z then [] else unpacked first_letter l.language) ++ (if y then [] else dash ∷ unpacked first_digit l.region)) ≡ Ok l
 whole l true true no_language no_region a b c d e =
     let made : List ℕ → List ℕ → Result Locale LocaleFault = λ p q. Ok (record { language = p; region = q }) in
     ap (λ (p : List ℕ). made p no_part) (sym (zero-back l.language a no_language)) ∙ ap (made l.language) (sym (zero-back l.region b no_region))
 whole l true false no_language some_region a b c d e = absurd cc
 whole l false true some_language no_region a b c d e =
     let made : List ℕ → List ℕ → Result Locale LocaleFault = λ p q. Ok (record { language = p; region = q }) in
-    language-alone (unpacked 97 l.language) l.language (language-back l.language a c) ∙ ap (made l.language) (sym (zero-back l.region b no_region))
+    language-alone (unpacked first_letter l.language) l.language (part-back _ _ _ of_languages l.language a c) ∙ ap (made l.language) (sym (zero-back l.region b no_region))
 whole l false false some_language some_region a b c d e =
-    language-region (unpacked 97 l.language) (unpacked 48 l.region) l.language l.region (language-back l.language a c) (region-back l.region b d)
+    language-region (unpacked first_letter l.language) (unpacked first_digit l.region) l.language l.region (part-back _ _ _ of_languages l.language a c) (part-back _ _ _ of_regions l.region b d)
 
 is_not : (b : Bool) → not b ≡ false → b ≡ true
 is_not true e = refl

@@ -1,5 +1,5 @@
 -- What a text of a locale stands for is printed as that text, and passes the check of bytes.
-use Rattle.std.proofs.Common.{◌≡◌, ◌≢◌, ℕ, ◌+◌, ◌-◌, ◌*◌, ◌/◌, ◌%◌, ◌<◌, ◌≤◌, Bool, true, false, ◌&&◌, cond, List, [], ◌∷◌, ◌++◌, length, get_or, take, drop, position, ◌==◌, Option, Some, None, Result, Ok, Err, IfOk, is_some, unwrap_or, not, refl, sym, ap, subst, ◌∙◌, arith}
+use Rattle.std.proofs.Common.{◌≡◌, ◌≢◌, ℕ, ◌+◌, ◌-◌, ◌*◌, ◌/◌, ◌%◌, ◌<◌, ◌≤◌, Bool, true, false, ◌&&◌, nat_le, cond, List, [], ◌∷◌, ◌++◌, length, get_or, take, drop, position, ◌==◌, Option, Some, None, Result, Ok, Err, IfOk, is_some, unwrap_or, not, refl, sym, ap, subst, ◌∙◌, arith}
 use Rattle.std.proofs.lemmas.List.{append-nil, drop_more, take-append-drop}
 use Rattle.std.proofs.lemmas.List.Quantifiers.{position-Some}
 use Rattle.std.proofs.lemmas.Bool.{eqb-true, leb-true, le-ltb, lt-ltb}
@@ -10,7 +10,7 @@ use Rattle.config_record.specs.declared.locale.Locale.{Locale}
 use Rattle.config_record.specs.declared.locale.LocaleFault.{LocaleFault}
 use Rattle.config_record.specs.declared.locale.LocaleFault.TheVariants.{RegionAlone, Malformed}
 use Rattle.config_record.specs.Zero.{is_zero}
-use Rattle.config_record.specs.Locale.{is_small_letter, is_capital_letter, is_digit, packed, language_of, region_of, no_part, unpacked, without_region, with_region, cut_at, locale_of, checked_locale, IsGiven, locale_text}
+use Rattle.config_record.specs.Locale.{first_letter, first_digit, dash, is_small_letter, is_capital_letter, is_digit, packed, part_of, language_of, region_of, no_part, unpacked, without_region, with_region, cut_at, locale_of, checked_locale, IsGiven, locale_text}
 
 pub both : (a b : Bool) → (a && b) ≡ true → (a ≡ true) × (b ≡ true)
 both true b e = (refl, e)
@@ -20,14 +20,29 @@ some_if : {X : Type 0} (b : Bool) (x y : X) → cond b (Some x) None ≡ Some y 
 some_if true x y e = (refl, cc)
 some_if false x y e = absurd cc
 
-pub small : (b : ℕ) → is_small_letter b ≡ true → (97 ≤ b) × (b ≤ 122)
-small b h = let r = both _ _ h in (leb-true 97 b r.0, leb-true b 122 r.1)
+within : (low high b : ℕ) → (nat_le low b && nat_le b high) ≡ true → (low ≤ b) × (b ≤ high)
+within low high b h = let r = both _ _ h in (leb-true low b r.0, leb-true b high r.1)
 
-pub capital : (b : ℕ) → is_capital_letter b ≡ true → (65 ≤ b) × (b ≤ 90)
-capital b h = let r = both _ _ h in (leb-true 65 b r.0, leb-true b 90 r.1)
+-- what the symbols of languages and those of regions have in common: two of them stand for themselves, three are
+-- counted from a base in five bits each, and none is a dash
+pub record Symbolic (two three : ℕ → Bool) (base : ℕ) : Type 0 where
+  pub one_of_two : (b : ℕ) → two b ≡ true → (dash < b) × (b < 128)
+  pub one_of_three : (b : ℕ) → three b ≡ true → (base ≤ b) × (b < base + 32)
+  pub base_above : dash < base
 
-pub digit : (b : ℕ) → is_digit b ≡ true → (48 ≤ b) × (b ≤ 57)
-digit b h = let r = both _ _ h in (leb-true 48 b r.0, leb-true b 57 r.1)
+pub of_languages : Symbolic is_small_letter is_small_letter first_letter
+of_languages = record {
+  one_of_two = λ b h. let r = within first_letter 122 b h in (omega arith, omega arith);
+  one_of_three = λ b h. let r = within first_letter 122 b h in (omega arith, omega arith);
+  base_above = omega arith;
+}
+
+pub of_regions : Symbolic is_capital_letter is_digit first_digit
+of_regions = record {
+  one_of_two = λ b h. let r = within 65 90 b h in (omega arith, omega arith);
+  one_of_three = λ b h. let r = within first_digit 57 b h in (omega arith, omega arith);
+  base_above = omega arith;
+}
 
 -- three symbols that are packed and unpacked
 first_back : (y x : ℕ) → x < 32 → (y % 8 * 32 + x) % 32 ≡ x
@@ -66,41 +81,23 @@ three_stand base a b c part al ah bl bh cl ch same =
     subst (λ (p : List ℕ). StandsFor base p (a ∷ b ∷ c ∷ [])) same
     (record { not_zero = is_zero-positive (128 + 4 * (c - base) + (b - base) / 8) (((b - base) % 8 * 32 + (a - base)) ∷ []) (omega arith); symbols = unpacked-packed base a b c al ah bl bh cl ch })
 
-language_of-stands : (text part : List ℕ) → language_of text ≡ Some part → StandsFor 97 part text
-language_of-stands [] part e = absurd cc
-language_of-stands (a ∷ []) part e = absurd cc
-language_of-stands (a ∷ b ∷ []) part e =
+part_of-stands : (two three : ℕ → Bool) (base : ℕ) → Symbolic two three base → (text part : List ℕ) → part_of two three base text ≡ Some part → StandsFor base part text
+part_of-stands two three base sy [] part e = absurd cc
+part_of-stands two three base sy (a ∷ []) part e = absurd cc
+part_of-stands two three base sy (a ∷ b ∷ []) part e =
     let r = some_if _ (a ∷ b ∷ []) part e in
     let s = both _ _ r.0 in
-    let first = small a s.0 in
-    two_stand 97 a b part (omega arith) (omega arith) r.1
-language_of-stands (a ∷ b ∷ c ∷ []) part e =
-    let r = some_if _ (packed 97 a b c) part e in
+    let first = sy.one_of_two a s.0 in
+    two_stand base a b part (omega arith) (omega arith) r.1
+part_of-stands two three base sy (a ∷ b ∷ c ∷ []) part e =
+    let r = some_if _ (packed base a b c) part e in
     let s = both _ _ r.0 in
     let t = both _ _ s.0 in
-    let first = small a t.0 in
-    let second = small b t.1 in
-    let third = small c s.1 in
-    three_stand 97 a b c part first.0 (omega arith) second.0 (omega arith) third.0 (omega arith) r.1
-language_of-stands (a ∷ b ∷ c ∷ d ∷ text) part e = absurd cc
-
-region_of-stands : (text part : List ℕ) → region_of text ≡ Some part → StandsFor 48 part text
-region_of-stands [] part e = absurd cc
-region_of-stands (a ∷ []) part e = absurd cc
-region_of-stands (a ∷ b ∷ []) part e =
-    let r = some_if _ (a ∷ b ∷ []) part e in
-    let s = both _ _ r.0 in
-    let first = capital a s.0 in
-    two_stand 48 a b part (omega arith) (omega arith) r.1
-region_of-stands (a ∷ b ∷ c ∷ []) part e =
-    let r = some_if _ (packed 48 a b c) part e in
-    let s = both _ _ r.0 in
-    let t = both _ _ s.0 in
-    let first = digit a t.0 in
-    let second = digit b t.1 in
-    let third = digit c s.1 in
-    three_stand 48 a b c part first.0 (omega arith) second.0 (omega arith) third.0 (omega arith) r.1
-region_of-stands (a ∷ b ∷ c ∷ d ∷ text) part e = absurd cc
+    let first = sy.one_of_three a t.0 in
+    let second = sy.one_of_three b t.1 in
+    let third = sy.one_of_three c s.1 in
+    three_stand base a b c part first.0 first.1 second.0 second.1 third.0 third.1 r.1
+part_of-stands two three base sy (a ∷ b ∷ c ∷ d ∷ text) part e = absurd cc
 
 -- ---- a whole locale
 
@@ -109,11 +106,11 @@ pub record Gives (text : List ℕ) (l : Locale) : Type 0 where
   pub printed : locale_text l ≡ text
   pub passes : checked_locale l ≡ Ok l
 
-gives-both : (l : Locale) (before after : List ℕ) → language_of before ≡ Some l.language → region_of after ≡ Some l.region → Gives (before ++ 45 ∷ after) l
+gives-both : (l : Locale) (before after : List ℕ) → language_of before ≡ Some l.language → region_of after ≡ Some l.region → Gives (before ++ dash ∷ after) l
 unfolding locale_text checked_locale
 gives-both l before after e f =
-    let language = language_of-stands before l.language e in
-    let region = region_of-stands after l.region f in
+    let language = part_of-stands _ _ _ of_languages before l.language e in
+    let region = part_of-stands _ _ _ of_regions after l.region f in
     record {
       printed = rw (language.not_zero, language.symbols, region.not_zero, region.symbols, e, f) refl;
       passes = rw (language.not_zero, language.symbols, region.not_zero, region.symbols, e, f) refl;
@@ -122,18 +119,18 @@ gives-both l before after e f =
 gives-language : (l : Locale) (text : List ℕ) → language_of text ≡ Some l.language → l.region ≡ no_part → Gives text l
 unfolding locale_text checked_locale
 gives-language l text e none =
-    let language = language_of-stands text l.language e in
+    let language = part_of-stands _ _ _ of_languages text l.language e in
     record {
       printed = rw (language.not_zero, language.symbols, none, e) (append-nil text);
       passes = rw (language.not_zero, language.symbols, none, e) refl;
     }
 
-dash_between : (text : List ℕ) (dash : ℕ) → position (λ b. b == 45) text ≡ Some dash → take dash text ++ 45 ∷ drop (dash + 1) text ≡ text
-dash_between text dash e =
-    let at = position-Some (λ b. b == 45) text dash 0 e in
-    let byte : get_or text dash 0 ≡ 45 = eqb-true (get_or text dash 0) 45 at.1 in
-    let rest : drop dash text ≡ 45 ∷ drop (dash + 1) text = drop_more text dash 0 at.0 ∙ ap (λ (b : ℕ). b ∷ drop (dash + 1) text) byte in
-    ap (λ (t : List ℕ). take dash text ++ t) (sym rest) ∙ take-append-drop dash text
+dash_between : (text : List ℕ) (place : ℕ) → position (λ b. b == dash) text ≡ Some place → take place text ++ dash ∷ drop (place + 1) text ≡ text
+dash_between text place e =
+    let at = position-Some (λ b. b == dash) text place 0 e in
+    let byte : get_or text place 0 ≡ dash = eqb-true (get_or text place 0) dash at.1 in
+    let rest : drop place text ≡ dash ∷ drop (place + 1) text = drop_more text place 0 at.0 ∙ ap (λ (b : ℕ). b ∷ drop (place + 1) text) byte in
+    ap (λ (t : List ℕ). take place text ++ t) (sym rest) ∙ take-append-drop place text
 
 same_locale : (language region : List ℕ) (l : Locale) → ◌≡◌ {A = Result Locale LocaleFault} (Ok (record { language = language; region = region })) (Ok l) → (language ≡ l.language) × (region ≡ l.region)
 same_locale language region l e =
@@ -153,12 +150,12 @@ without_region-gives (b ∷ bytes) l e = alone (language_of (b ∷ bytes)) refl 
     alone None read f = absurd cc
     alone (Some part) read f = let same = same_locale part no_part l f in gives-language l (b ∷ bytes) (rw (← same.0) read) (sym same.1)
 
-with_region-gives : (before after : List ℕ) (l : Locale) → with_region before after ≡ Ok l → Gives (before ++ 45 ∷ after) l
+with_region-gives : (before after : List ℕ) (l : Locale) → with_region before after ≡ Ok l → Gives (before ++ dash ∷ after) l
 with_region-gives before after l e = parts (region_of after) (length before == 0) (language_of before) refl refl e
   where
     parts : (r : Option (List ℕ)) (none : Bool) (o : Option (List ℕ)) → region_of after ≡ r → language_of before ≡ o
         → checked_by ((not (is_some r), Malformed) ∷ (none, RegionAlone) ∷ (not (is_some o), Malformed) ∷ []) (Ok (record { language = unwrap_or o no_part; region = unwrap_or r no_part })) ≡ Ok l
-        → Gives (before ++ 45 ∷ after) l
+        → Gives (before ++ dash ∷ after) l
     parts None none o read_region read_language f = absurd cc
     parts (Some region) true o read_region read_language f = absurd cc
     parts (Some region) false None read_region read_language f = absurd cc
@@ -167,11 +164,11 @@ with_region-gives before after l e = parts (region_of after) (length before == 0
         gives-both l before after (rw (← same.0) read_language) (rw (← same.1) read_region)
 
 pub locale_of-gives : (text : List ℕ) (l : Locale) → locale_of text ≡ Ok l → Gives text l
-locale_of-gives text l e = at (position (λ b. b == 45) text) refl e
+locale_of-gives text l e = at (position (λ b. b == dash) text) refl e
   where
-    at : (o : Option ℕ) → position (λ b. b == 45) text ≡ o → cut_at text o ≡ Ok l → Gives text l
+    at : (o : Option ℕ) → position (λ b. b == dash) text ≡ o → cut_at text o ≡ Ok l → Gives text l
     at None p e = without_region-gives text l e
-    at (Some dash) p e = subst (λ (t : List ℕ). Gives t l) (dash_between text dash p) (with_region-gives (take dash text) (drop (dash + 1) text) l e)
+    at (Some place) p e = subst (λ (t : List ℕ). Gives t l) (dash_between text place p) (with_region-gives (take place text) (drop (place + 1) text) l e)
 
 pub printed_back : (text : List ℕ) (r : Result Locale LocaleFault) → r ≡ locale_of text → IfOk r (λ l. locale_text l ≡ text)
 printed_back text (Ok l) e = (locale_of-gives text l (sym e)).printed

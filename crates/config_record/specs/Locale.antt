@@ -9,14 +9,28 @@ use Rattle.config_record.specs.declared.locale.Symbols.{Symbols}
 use Rattle.config_record.specs.declared.locale.Symbols.TheVariants.{Two, Three}
 use Rattle.config_record.specs.Zero.{is_zero}
 
-abbrev pub is_small_letter : ℕ → Bool
-is_small_letter b = nat_le 97 b && nat_le b 122
+-- 'a', from which the letters of a language are counted
+abbrev pub first_letter : ℕ
+first_letter = 97
 
+-- '0', from which the digits of a region are counted
+abbrev pub first_digit : ℕ
+first_digit = 48
+
+abbrev pub dash : ℕ
+dash = 45
+
+-- 'a' to 'z'
+abbrev pub is_small_letter : ℕ → Bool
+is_small_letter b = nat_le first_letter b && nat_le b 122
+
+-- 'A' to 'Z'
 abbrev pub is_capital_letter : ℕ → Bool
 is_capital_letter b = nat_le 65 b && nat_le b 90
 
+-- '0' to '9'
 abbrev pub is_digit : ℕ → Bool
-is_digit b = nat_le 48 b && nat_le b 57
+is_digit b = nat_le first_digit b && nat_le b 57
 
 -- ---- the two bytes of a language or a region
 
@@ -25,17 +39,19 @@ is_digit b = nat_le 48 b && nat_le b 57
 abbrev pub packed : ℕ → ℕ → ℕ → ℕ → List ℕ
 packed base a b c = (128 + 4 * (c - base) + (b - base) / 8) ∷ ((b - base) % 8 * 32 + (a - base)) ∷ []
 
+-- two symbols of one kind stand for themselves, three of another are packed
+abbrev pub part_of : (ℕ → Bool) → (ℕ → Bool) → ℕ → List ℕ → Option (List ℕ)
+part_of two three base (a ∷ b ∷ []) = if two a && two b then Some (a ∷ b ∷ []) else None
+part_of two three base (a ∷ b ∷ c ∷ []) = if three a && three b && three c then Some (packed base a b c) else None
+part_of two three base _ = None
+
 -- a language is two or three small letters
 abbrev pub language_of : List ℕ → Option (List ℕ)
-language_of (a ∷ b ∷ []) = if is_small_letter a && is_small_letter b then Some (a ∷ b ∷ []) else None
-language_of (a ∷ b ∷ c ∷ []) = if is_small_letter a && is_small_letter b && is_small_letter c then Some (packed 97 a b c) else None
-language_of _ = None
+language_of = part_of is_small_letter is_small_letter first_letter
 
 -- a region is two capital letters or three digits
 abbrev pub region_of : List ℕ → Option (List ℕ)
-region_of (a ∷ b ∷ []) = if is_capital_letter a && is_capital_letter b then Some (a ∷ b ∷ []) else None
-region_of (a ∷ b ∷ c ∷ []) = if is_digit a && is_digit b && is_digit c then Some (packed 48 a b c) else None
-region_of _ = None
+region_of = part_of is_capital_letter is_digit first_digit
 
 -- where there is none
 abbrev pub no_part : List ℕ
@@ -64,10 +80,10 @@ with_region language region =
 -- cut at the first dash
 abbrev pub cut_at : List ℕ → Option ℕ → Result Locale LocaleFault
 cut_at text None = without_region text
-cut_at text (Some dash) = with_region (take dash text) (drop (dash + 1) text)
+cut_at text (Some place) = with_region (take place text) (drop (place + 1) text)
 
 abbrev pub locale_of : List ℕ → Result Locale LocaleFault
-locale_of text = cut_at text (position (λ b. b == 45) text)
+locale_of text = cut_at text (position (λ b. b == dash) text)
 
 -- ---- the text of a locale
 
@@ -87,8 +103,8 @@ unpacked base part =
 -- each part that is there is what a text of the grammar stands for
 abbrev pub is_spelled : Locale → Bool
 is_spelled l =
-    (is_zero l.language || is_some (language_of (unpacked 97 l.language)))
-    && (is_zero l.region || is_some (region_of (unpacked 48 l.region)))
+    (is_zero l.language || is_some (language_of (unpacked first_letter l.language)))
+    && (is_zero l.region || is_some (region_of (unpacked first_digit l.region)))
 
 -- what can be wrong with a locale of which the bytes are known, and no text
 abbrev pub locale_faults : Locale → List (Bool × LocaleFault)
@@ -101,16 +117,20 @@ locale_faults l =
 unfoldable pub checked_locale : Locale → Result Locale LocaleFault
 checked_locale l = checked_by (locale_faults l) (Ok l)
 
--- a text gives it
+-- some text stands for it
+abbrev pub IsOfSomeText : Locale → Type 0
+IsOfSomeText l = (text : List ℕ) × (locale_of text ≡ Ok l)
+
+-- a text gives it, as the check of its bytes says
 abbrev pub IsGiven : Locale → Type 0
 IsGiven l = checked_locale l ≡ Ok l
 
 abbrev pub language_text : List ℕ → List ℕ
-language_text language = if is_zero language then [] else unpacked 97 language
+language_text language = if is_zero language then [] else unpacked first_letter language
 
 -- a region stands behind a dash, also where it is alone
 abbrev pub region_text : List ℕ → List ℕ
-region_text region = if is_zero region then [] else 45 ∷ unpacked 48 region
+region_text region = if is_zero region then [] else dash ∷ unpacked first_digit region
 
 -- where a part is not of the grammar, the digits of all four bytes
 unfoldable pub locale_text : Locale → List ℕ

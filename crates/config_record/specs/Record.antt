@@ -77,6 +77,10 @@ navigation r = byte r 17
 abbrev pub input_flags : List ℕ → ℕ
 input_flags r = byte r 18
 
+-- the byte behind the input flags, in which no coordinate stands (AOSP: inputPad0)
+abbrev pub input_pad : List ℕ → ℕ
+input_pad r = byte r 19
+
 abbrev pub screen_width : List ℕ → ℕ
 screen_width r = two_bytes r 20
 

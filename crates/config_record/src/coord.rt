@@ -135,7 +135,14 @@ impl Coord {
         }
     }
 
-    /// The greatest number that the field of a record holds; 0 at the locale, which is no number.
+    /// The greatest number that the field of a record holds; 0 at the locale, which is no number. For
+    /// callers that check numbers before they make a record of them.
+    ///
+    /// ```text
+    /// if number > Coord::ScreenSize.greatest() {
+    ///     return Err(Fault::TooGreat);
+    /// }
+    /// ```
     #[tactic(auto, unfolding(crate::specs::Coord::greatest_of))]
     pub fn greatest(self) -> u32
         ensures { result ≡ greatest_of self }
@@ -165,7 +172,14 @@ impl Coord {
         }
     }
 
-    /// The greatest number of a device: that of a record's field, but for the density.
+    /// The greatest number of a device: that of a record's field, but for the density. It is the bound
+    /// of `Device::check`, for callers that let a number be chosen.
+    ///
+    /// ```text
+    /// for density in 1..=Coord::Density.greatest_of_device() {
+    ///     numbers[Coord::Density.place()] = u64::from(density);
+    /// }
+    /// ```
     #[tactic(auto, unfolding(crate::specs::Coord::greatest_of_device, crate::specs::Coord::greatest_of))]
     pub fn greatest_of_device(self) -> u32
         ensures { result ≡ greatest_of_device self }

@@ -26,20 +26,32 @@ pub struct Device {
 }
 
 impl Device {
-    ghost use Rattle.std.specs.Prelude.{IfOk};
+    ghost use Rattle.std.specs.Prelude.{IfOk, IfErr};
     ghost use Rattle.contract_words.specs.Exact.{GivesOr};
-    ghost use Rattle.config_record.specs.declared.fields.DeviceFault.TheVariants.{OutOfMemory};
+    ghost use Rattle.config_record.specs.declared.fields.DeviceFault.TheVariants.{FieldRange, RegionAlone, OutOfMemory};
     ghost use Rattle.config_record.specs.ComparedNumber.{device_number};
     ghost use Rattle.config_record.specs.Device.{device_with, device_in, device_coordinate};
     ghost use Rattle.config_record.specs.DeviceJson.{device_in_json};
+    ghost use Rattle.config_record.specs.Locale.{IsOfSomeText};
     ghost use Rattle.config_record.specs.DeviceSeen.{device_numbers, seen};
 
-    /// The device of these fields.
+    /// The device of these fields. For callers that have numbers and a locale, as one that asks the
+    /// system it runs on; a JSON text is for `read`.
+    ///
+    /// ```text
+    /// let mut numbers = [0; 25];
+    /// numbers[Coord::Density.place()] = 420;
+    /// numbers[Coord::Sdk.place()] = 27;
+    /// let device = Device::check(&Fields { numbers, locale: Locale::read("fr-CA")? })?;
+    /// ```
     pub fn check(fields: &Fields) -> Result<Device, DeviceFault>
         ensures value { seen result ≡ device_in fields.now }
         ensures numbers { IfOk result (λ device. (c : coord.Coord) → c ≢ coords.Locale
             → device_number (device_numbers device) c ≡ number_at fields.now.numbers c) }
         ensures locale { IfOk result (λ device. device_locale (device_numbers device) ≡ fields.now.locale) }
+        ensures some_text { IfOk result (λ device. IsOfSomeText (device_locale (device_numbers device))) }
+        ensures not_refused { IsOfSomeText fields.now.locale
+            → IfErr result (λ fault. (fault ≢ RegionAlone) × (fault ≢ FieldRange coords.Locale)) }
     {
         let Locale { language, region } = fields.locale;
         Device::with(&fields.numbers, Locale::of_bytes(language, region))

@@ -10,8 +10,8 @@ use crate::coord::Coord;
 use crate::locale::{Locale, LocaleFault};
 use thiserror::Error;
 
-/// A number for each coordinate, in their order, and a locale. The number at the place of the locale is
-/// not used.
+/// A number for each coordinate, in their order, and a locale, for `Device::check`. The number at the
+/// place of the locale is not used.
 #[derive(Clone, Copy, Debug, PartialEq, Eq)]
 pub struct Fields {
     pub numbers: [u64; 25],

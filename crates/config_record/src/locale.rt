@@ -2,7 +2,7 @@
 
 ghost use Rattle.std.specs.Prelude.{◌≡◌, ◌≢◌, ℕ, ◌<◌, ◌≤◌, ◌+◌, ◌==◌, List, Ok, position, OnOk, IfOk, IfErr};
 ghost use Rattle.contract_words.specs.Writes.{Writes};
-ghost use Rattle.config_record.specs.Locale.{is_small_letter, is_capital_letter, is_digit, packed, language_of, region_of, without_region, with_region, locale_of, symbol_bytes, unpacked, is_spelled, checked_locale, IsGiven, locale_text};
+ghost use Rattle.config_record.specs.Locale.{dash, is_small_letter, is_capital_letter, is_digit, packed, language_of, region_of, without_region, with_region, locale_of, symbol_bytes, unpacked, is_spelled, checked_locale, IsGiven, locale_text};
 ghost use Rattle.config_record.specs.ComparedNumber.{locale_number, locale_of_number};
 
 use crate::zero::is_zero;
@@ -105,14 +105,14 @@ impl Locale {
 fn locale_of(text: &[u8]) -> Result<Locale, LocaleFault>
     ensures { result ≡ locale_of text.now }
 {
-    match dash(text) {
-        Some(dash) => with_region(&text[..dash], &text[dash + 1..]),
+    match first_dash(text) {
+        Some(place) => with_region(&text[..place], &text[place + 1..]),
         None => without_region(text),
     }
 }
 
-fn dash(text: &[u8]) -> Option<usize>
-    ensures { result ≡ position (λ b. b == 45) text.now }
+fn first_dash(text: &[u8]) -> Option<usize>
+    ensures { result ≡ position (λ b. b == dash) text.now }
 {
     text.iter().position(|byte| *byte == b'-')
 }
@@ -220,7 +220,12 @@ impl Symbols {
 }
 
 /// Writes the text of a locale: the one that it is read from, a region alone behind its dash, or,
-/// where a part is not what a text gives, `x` and the eight digits of the four bytes.
+/// where a part is not what a text gives, `x` and the eight digits of the four bytes. For callers that
+/// show a locale by itself; `write_qualifiers` shows it with all others.
+///
+/// ```text
+/// write_locale(record.locale(), &mut out)?; // fr-CA
+/// ```
 #[tactic(auto, unfolding(crate::specs::Locale::locale_text))]
 pub fn write_locale<W: Write + Drop>(locale: Locale, out: &mut W) -> io::Result<()>
     ensures { Writes W.contents out.old out.new result (locale_text locale) }

@@ -1,4 +1,5 @@
-//! The qualifiers of a configuration, written as text.
+//! The qualifiers of a configuration, written as text. Records and devices have one writer, so this
+//! method of both stands here, and not with its struct.
 
 ghost use Rattle.std.specs.Prelude.{◌≤◌, length, OnOk};
 ghost use Rattle.std.specs.List.{flat_map};

@@ -8,57 +8,43 @@ use crate::zero::is_zero;
 use chunk_walk::u32_at;
 use thiserror::Error;
 
-// Where the fields stand.
+mod fields;
+
+/// Where the size stands, the first field.
 const SIZE: usize = 0;
-
-const MCC: usize = 4;
-
-const MNC: usize = 6;
-
-const LANGUAGE: usize = 8;
-
-const COUNTRY: usize = 10;
-
-const ORIENTATION: usize = 12;
-
-const TOUCHSCREEN: usize = 13;
-
-const DENSITY: usize = 14;
-
-const KEYBOARD: usize = 16;
-
-const NAVIGATION: usize = 17;
-
-const INPUT_FLAGS: usize = 18;
-
-const SCREEN_WIDTH: usize = 20;
-
-const SCREEN_HEIGHT: usize = 22;
-
-const SDK_VERSION: usize = 24;
-
-const MINOR_VERSION: usize = 26;
-
-const SCREEN_LAYOUT: usize = 28;
-
-const UI_MODE: usize = 29;
-
-const SMALLEST_SCREEN_WIDTH_DP: usize = 30;
-
-const SCREEN_WIDTH_DP: usize = 32;
-
-const SCREEN_HEIGHT_DP: usize = 34;
-
-const LOCALE_SCRIPT: usize = 36;
-
-const LOCALE_VARIANT: usize = 40;
-
-const SCREEN_LAYOUT2: usize = 48;
-
-const COLOR_MODE: usize = 49;
 
 /// The size of the smallest record: one that ends with its versions.
 const LEAST_SIZE: usize = 28;
+
+// The bits of the numbers in fields that hold several: the shift, and the mask of what is then left
+// (AOSP: `SHIFT_LAYOUTDIR`, `MASK_SCREENSIZE` and those beside them).
+const LAYOUT_DIRECTION_SHIFT: u32 = 6;
+
+const SCREEN_SIZE_MASK: u8 = 0x0f;
+
+const LONG_SHIFT: u32 = 4;
+
+const LONG_MASK: u8 = 0x03;
+
+const ROUND_MASK: u8 = 0x03;
+
+const WIDE_COLOR_MASK: u8 = 0x03;
+
+const HDR_SHIFT: u32 = 2;
+
+const HDR_MASK: u8 = 0x03;
+
+const UI_TYPE_MASK: u8 = 0x0f;
+
+const NIGHT_SHIFT: u32 = 4;
+
+const NIGHT_MASK: u8 = 0x03;
+
+const KEYS_HIDDEN_MASK: u8 = 0x03;
+
+const NAV_HIDDEN_SHIFT: u32 = 2;
+
+const NAV_HIDDEN_MASK: u8 = 0x03;
 
 /// What is wrong with a record. Of two faults the first of this list is named.
 #[derive(Clone, Copy, Debug, PartialEq, Eq, Error)]
@@ -80,7 +66,7 @@ pub struct Record<'a> {
 
 impl<'a> Record<'a> {
     ghost use Rattle.config_record.specs.Coord.{greatest_of};
-    ghost use Rattle.config_record.specs.Record.{record_bytes, seen, record_in, byte, two_bytes, locale_script, locale_variant, coordinate, locale_in, is_set_aside};
+    ghost use Rattle.config_record.specs.Record.{record_bytes, seen, record_in, coordinate, locale_in, is_set_aside};
     ghost use Rattle.config_record.specs.declared.coord.Coord.TheVariants as coords;
     ghost use Rattle.config_record.specs.ComparedNumber.{record_number};
 
@@ -104,31 +90,31 @@ impl<'a> Record<'a> {
         ensures within { result ≤ greatest_of coord }
     {
         match coord {
-            Coord::Mcc => self.two_bytes(MCC),
-            Coord::Mnc => self.two_bytes(MNC),
+            Coord::Mcc => u32::from(self.mcc()),
+            Coord::Mnc => u32::from(self.mnc()),
             Coord::Locale => 0,
-            Coord::LayoutDirection => u32::from(self.byte(SCREEN_LAYOUT) >> 6),
-            Coord::SmallestWidthDp => self.two_bytes(SMALLEST_SCREEN_WIDTH_DP),
-            Coord::WidthDp => self.two_bytes(SCREEN_WIDTH_DP),
-            Coord::HeightDp => self.two_bytes(SCREEN_HEIGHT_DP),
-            Coord::ScreenSize => u32::from(self.byte(SCREEN_LAYOUT) & 15),
-            Coord::Long => u32::from(self.byte(SCREEN_LAYOUT) >> 4 & 3),
-            Coord::Round => u32::from(self.byte(SCREEN_LAYOUT2) & 3),
-            Coord::WideColor => u32::from(self.byte(COLOR_MODE) & 3),
-            Coord::Hdr => u32::from(self.byte(COLOR_MODE) >> 2 & 3),
-            Coord::Orientation => u32::from(self.byte(ORIENTATION)),
-            Coord::UiType => u32::from(self.byte(UI_MODE) & 15),
-            Coord::Night => u32::from(self.byte(UI_MODE) >> 4 & 3),
-            Coord::Density => self.two_bytes(DENSITY),
-            Coord::Touchscreen => u32::from(self.byte(TOUCHSCREEN)),
-            Coord::KeysHidden => u32::from(self.byte(INPUT_FLAGS) & 3),
-            Coord::NavHidden => u32::from(self.byte(INPUT_FLAGS) >> 2 & 3),
-            Coord::Keyboard => u32::from(self.byte(KEYBOARD)),
-            Coord::Navigation => u32::from(self.byte(NAVIGATION)),
-            Coord::Width => self.two_bytes(SCREEN_WIDTH),
-            Coord::Height => self.two_bytes(SCREEN_HEIGHT),
-            Coord::Sdk => self.two_bytes(SDK_VERSION),
-            Coord::Minor => self.two_bytes(MINOR_VERSION),
+            Coord::LayoutDirection => u32::from(self.screen_layout() >> LAYOUT_DIRECTION_SHIFT),
+            Coord::SmallestWidthDp => u32::from(self.smallest_screen_width_dp()),
+            Coord::WidthDp => u32::from(self.screen_width_dp()),
+            Coord::HeightDp => u32::from(self.screen_height_dp()),
+            Coord::ScreenSize => u32::from(self.screen_layout() & SCREEN_SIZE_MASK),
+            Coord::Long => u32::from(self.screen_layout() >> LONG_SHIFT & LONG_MASK),
+            Coord::Round => u32::from(self.screen_layout2() & ROUND_MASK),
+            Coord::WideColor => u32::from(self.color_mode() & WIDE_COLOR_MASK),
+            Coord::Hdr => u32::from(self.color_mode() >> HDR_SHIFT & HDR_MASK),
+            Coord::Orientation => u32::from(self.orientation()),
+            Coord::UiType => u32::from(self.ui_mode() & UI_TYPE_MASK),
+            Coord::Night => u32::from(self.ui_mode() >> NIGHT_SHIFT & NIGHT_MASK),
+            Coord::Density => u32::from(self.density()),
+            Coord::Touchscreen => u32::from(self.touchscreen()),
+            Coord::KeysHidden => u32::from(self.input_flags() & KEYS_HIDDEN_MASK),
+            Coord::NavHidden => u32::from(self.input_flags() >> NAV_HIDDEN_SHIFT & NAV_HIDDEN_MASK),
+            Coord::Keyboard => u32::from(self.keyboard()),
+            Coord::Navigation => u32::from(self.navigation()),
+            Coord::Width => u32::from(self.screen_width()),
+            Coord::Height => u32::from(self.screen_height()),
+            Coord::Sdk => u32::from(self.sdk_version()),
+            Coord::Minor => u32::from(self.minor_version()),
         }
     }
 
@@ -151,8 +137,8 @@ impl<'a> Record<'a> {
         ensures { result ≡ locale_in (record_bytes self.now) }
     {
         Locale {
-            language: [self.byte(LANGUAGE), self.byte(LANGUAGE + 1)],
-            region: [self.byte(COUNTRY), self.byte(COUNTRY + 1)],
+            language: self.language(),
+            region: self.country(),
         }
     }
 
@@ -162,47 +148,5 @@ impl<'a> Record<'a> {
         ensures { result ≡ is_set_aside (record_bytes self.now) }
     {
         !is_zero(&self.script()) || !is_zero(&self.variant())
-    }
-
-    pub(crate) fn script(&self) -> [u8; 4]
-        ensures { result ≡ locale_script (record_bytes self.now) }
-    {
-        [
-            self.byte(LOCALE_SCRIPT),
-            self.byte(LOCALE_SCRIPT + 1),
-            self.byte(LOCALE_SCRIPT + 2),
-            self.byte(LOCALE_SCRIPT + 3),
-        ]
-    }
-
-    pub(crate) fn variant(&self) -> [u8; 8]
-        ensures { result ≡ locale_variant (record_bytes self.now) }
-    {
-        [
-            self.byte(LOCALE_VARIANT),
-            self.byte(LOCALE_VARIANT + 1),
-            self.byte(LOCALE_VARIANT + 2),
-            self.byte(LOCALE_VARIANT + 3),
-            self.byte(LOCALE_VARIANT + 4),
-            self.byte(LOCALE_VARIANT + 5),
-            self.byte(LOCALE_VARIANT + 6),
-            self.byte(LOCALE_VARIANT + 7),
-        ]
-    }
-
-    /// The byte at an offset; zero behind the end.
-    pub fn byte(&self, offset: usize) -> u8
-        ensures { result ≡ byte (record_bytes self.now) offset }
-    {
-        self.bytes.get(offset).copied().unwrap_or(0)
-    }
-
-    // The number of two bytes.
-    fn two_bytes(&self, offset: usize) -> u32
-        requires { offset < usize.MAX }
-        ensures value { result ≡ two_bytes (record_bytes self.now) offset }
-        ensures within { result ≤ 65535 }
-    {
-        u32::from(u16::from_le_bytes([self.byte(offset), self.byte(offset + 1)]))
     }
 }

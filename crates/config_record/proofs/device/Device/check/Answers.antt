@@ -1,4 +1,4 @@
-use Rattle.config_record.proofs.DeviceLemmas.{device-asked, device-locale_asked}
+use Rattle.config_record.proofs.DeviceLemmas.{device-asked, device-locale_asked, device-some_text, device-not_refused}
 use Rattle.config_record.proofs.device.Device.check.Goals as goal
 
 pub returns-clause-numbers : goal.returns-clause-numbers
@@ -6,3 +6,9 @@ returns-clause-numbers c = device-asked _ _ c.with.result c.with.ensures
 
 pub returns-clause-locale : goal.returns-clause-locale
 returns-clause-locale c = device-locale_asked _ _ _ c.with.result c.with.ensures c.of_bytes.ensures.value c.of_bytes.ensures.numbered
+
+pub returns-clause-some_text : goal.returns-clause-some_text
+returns-clause-some_text c = device-some_text _ _ _ c.with.result c.with.ensures c.of_bytes.ensures.value c.of_bytes.ensures.numbered c.of_bytes.ensures.given
+
+pub returns-clause-not_refused : goal.returns-clause-not_refused
+returns-clause-not_refused c = device-not_refused _ _ _ c.with.result c.with.ensures c.of_bytes.ensures.value
