@@ -3,3 +3,4 @@ pub mod Reordering
 pub mod Best
 pub mod AnyOrder
 pub mod Chains
+pub mod Traces

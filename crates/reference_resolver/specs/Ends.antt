@@ -33,6 +33,16 @@ abbrev pub next_of : ℕ → Option CandOf → Next
 next_of id None = EndsAt (ends.Absent (record { 0 = id }))
 next_of id (Some candidate) = next_of_cell id candidate.layer candidate.row.cell
 
+-- a reference beyond those that may still be followed leads no further
+abbrev cut_off : ℕ → Next → Next
+cut_off zero (LookUp target) = EndsAt (ends.TooLong target)
+cut_off zero (EndsAt end) = EndsAt end
+cut_off (suc left) next = next
+
+-- where the look-up of an id leads, where at most so many references may still be followed
+abbrev pub next_within : List LayerOf → ℕ → ℕ → List ℕ → Next
+next_within stack left id d = cut_off left (next_of id (selected stack id d))
+
 -- ---- the end, look-up by look-up
 
 abbrev end_by : (ResId → End) → Next → End

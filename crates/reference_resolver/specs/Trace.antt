@@ -1,5 +1,5 @@
 -- The trace of an id at a device: what each candidate of its look-ups does, and where the id ends.
-use Rattle.std.specs.Prelude.{ℕ, zero, suc, List, [], ◌∷◌, Option, None}
+use Rattle.std.specs.Prelude.{ℕ, zero, suc, ◌≡◌, List, [], ◌∷◌, map, Option, Some, None}
 use Rattle.std.specs.List.{flat_map}
 use Rattle.res_value.specs.declared.res_id.ResId.{ResId}
 use Rattle.overlay_map.specs.Layer.{LayerOf}
@@ -8,7 +8,9 @@ use Rattle.reference_resolver.specs.declared.end.End.{End}
 use Rattle.reference_resolver.specs.declared.next.Next.{Next}
 use Rattle.reference_resolver.specs.declared.next.Next.TheVariants.{LookUp, EndsAt}
 use Rattle.reference_resolver.specs.declared.step.Step.{Step}
+use Rattle.reference_resolver.specs.declared.decision.Decision.{Decision}
 use Rattle.reference_resolver.specs.Selection.{selected, step_of, scan_candidates}
+use Rattle.reference_resolver.specs.Decision.{decision_of, step_by}
 use Rattle.reference_resolver.specs.Ends.{next_of, end_of}
 
 -- ---- the look-ups
@@ -24,6 +26,11 @@ look_ups_of stack zero id d = id ∷ []
 look_ups_of stack (suc most) id d =
     id ∷ look_ups_by (λ target. look_ups_of stack most target.0 d) (next_of id (selected stack id d))
 
+-- those from an id on, none where there is none
+abbrev pub look_ups_from : List LayerOf → ℕ → Option ResId → List ℕ → List ℕ
+look_ups_from stack most None d = []
+look_ups_from stack most (Some id) d = look_ups_of stack most id.0 d
+
 -- ---- what is told of the candidates
 
 -- of those of an id, in their order
@@ -33,6 +40,14 @@ scan_look_up tell stack d id = scan_candidates tell None (candidates_of stack id
 -- of those of each id that is looked up
 abbrev pub scan_chain : {X : Type 0} → (Option CandOf → CandOf → List ℕ → X) → List LayerOf → ℕ → ℕ → List ℕ → List X
 scan_chain tell stack most id d = flat_map (scan_look_up tell stack d) (look_ups_of stack most id d)
+
+-- a candidate, and what it does to the best before it and why
+pub record TracedCandidateOf : Type 0 where
+  pub candidate : CandOf
+  pub decision : Decision
+
+abbrev pub traced : Option CandOf → CandOf → List ℕ → TracedCandidateOf
+traced best candidate d = record { candidate = candidate; decision = decision_of best candidate d }
 
 -- ---- the trace
 
@@ -44,3 +59,8 @@ pub record Trace : Type 0 where
 -- where at most so many references are followed
 abbrev pub trace_of : List LayerOf → ℕ → ℕ → List ℕ → Trace
 trace_of stack most id d = record { steps = scan_chain step_of stack most id d; end = end_of stack most id d }
+
+-- What the traced candidates of all look-ups do is the trace.
+unfoldable pub IsTraced : List LayerOf → ℕ → ℕ → List ℕ → Type 0
+IsTraced stack most id d =
+    map (λ candidate. step_by candidate.decision) (scan_chain traced stack most id d) ≡ (trace_of stack most id d).steps

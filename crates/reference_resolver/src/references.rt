@@ -2,7 +2,7 @@
 
 ghost use Rattle.std.specs.Prelude.{◌≡◌};
 ghost use Rattle.config_record.specs.DeviceSeen.{device_numbers};
-ghost use Rattle.reference_resolver.specs.Ends.{references_followed, end_of, IsTheEnd};
+ghost use Rattle.reference_resolver.specs.Ends.{references_followed, next_within, end_of, IsTheEnd};
 
 use crate::end::End;
 use crate::next::Next;
@@ -34,11 +34,20 @@ pub fn resolve_within(stack: &Stack<'_>, id: ResId, device: &Device, most: u8) -
     let mut id = id;
     let mut left = most;
     'chain: loop {
-        match Next::of(id, &select(stack, id, device)) {
+        match next_within(stack, id, device, left) {
             Next::EndsAt(end) => return end,
-            Next::LookUp(target) if left == 0 => return End::TooLong { id: target },
             Next::LookUp(target) => id = target,
         }
         left -= 1;
+    }
+}
+
+/// Where the look-up of an id leads if at most `left` references may still be followed.
+pub(crate) fn next_within(stack: &Stack<'_>, id: ResId, device: &Device, left: u8) -> Next
+    ensures { result ≡ next_within stack.now left id.0 (device_numbers device.now) }
+{
+    match Next::of(id, &select(stack, id, device)) {
+        Next::LookUp(target) if left == 0 => Next::EndsAt(End::TooLong { id: target }),
+        next => next,
     }
 }

@@ -29,9 +29,7 @@ pub fn select<'a>(stack: &Stack<'a>, id: ResId, device: &Device) -> Option<Cand<
 {
     let mut best = None;
     for candidate in stack.candidates(id) {
-        if Step::of(&best, &candidate, device) == Step::TookOver {
-            best = Some(candidate);
-        }
+        best = Step::of(&best, &candidate, device).best_after(best, candidate);
     }
     best
 }

@@ -26,7 +26,7 @@ impl Step {
     ghost use Rattle.std.specs.Option.{option_map};
     ghost use Rattle.config_record.specs.DeviceSeen.{device_numbers};
     ghost use Rattle.overlay_map.specs.Candidates.{cand_of};
-    ghost use Rattle.reference_resolver.specs.Selection.{step_of};
+    ghost use Rattle.reference_resolver.specs.Selection.{step_of, best_after};
 
     /// What a candidate does to the best so far, where there is one.
     pub fn of(best: &Option<Cand<'_>>, candidate: &Cand<'_>, device: &Device) -> Step
@@ -39,6 +39,21 @@ impl Step {
             Step::TookOver
         } else {
             Step::KeptOut
+        }
+    }
+
+    /// The best after a candidate that did this, where `best` was the best before it.
+    pub(crate) fn best_after<'a>(
+        self,
+        best: Option<Cand<'a>>,
+        candidate: Cand<'a>,
+    ) -> Option<Cand<'a>>
+        ensures { option_map cand_of result ≡ best_after
+            self (option_map cand_of best.entry) (cand_of candidate.entry) }
+    {
+        match self {
+            Step::NoMatch | Step::KeptOut => best,
+            Step::TookOver => Some(candidate),
         }
     }
 }
@@ -54,9 +69,10 @@ fn beats_best(best: &Option<Cand<'_>>, candidate: &Cand<'_>, device: &Device) ->
     }
 }
 
-// A candidate of an overlay also beats one that has an equal record.
+/// Whether a candidate that matches takes over from this best: it is better, or it is of an overlay and its
+/// record is equal.
 #[tactic(auto, unfolding(crate::specs::Selection::beats))]
-fn beats(candidate: &Cand<'_>, best: &Cand<'_>, device: &Device) -> bool
+pub(crate) fn beats(candidate: &Cand<'_>, best: &Cand<'_>, device: &Device) -> bool
     ensures { result ≡ beats
         (cand_of candidate.now) (cand_of best.now) (device_numbers device.now) }
 {

@@ -1,2 +1,0 @@
-pub mod TellsTheTrace
-pub mod ExplainSteps

@@ -1,5 +1,5 @@
 -- How an id comes to its end, as text: the candidates of each look-up, what is told of each, and the end.
-use Rattle.std.specs.Prelude.{ℕ, ◌≡◌, List, [], ◌∷◌, ◌++◌, codes, map, Option, Some, None}
+use Rattle.std.specs.Prelude.{ℕ, List, [], ◌∷◌, ◌++◌, codes, Option, Some, None}
 use Rattle.std.specs.List.{flat_map, enumerate_from}
 use Rattle.std.specs.Fmt.{decimal}
 use Rattle.res_value.specs.ResId.{id_text}
@@ -7,13 +7,11 @@ use Rattle.config_record.specs.declared.coord.Coord.{Coord}
 use Rattle.config_record.specs.Coord.{name_of}
 use Rattle.config_record.specs.Qualifiers.{record_text}
 use Rattle.overlay_map.specs.Layer.{LayerOf}
-use Rattle.overlay_map.specs.Candidates.{CandOf}
+use Rattle.reference_resolver.specs.declared.decision.Decision.{Decision}
+use Rattle.reference_resolver.specs.declared.decision.Decision.TheVariants.{SetAside, NoMatch, First, TookOver, TookOverEqual, KeptOut}
 use Rattle.reference_resolver.specs.declared.end.End.{End}
 use Rattle.reference_resolver.specs.Ends.{references_followed, end_of}
-use Rattle.reference_resolver.specs.Trace.{look_ups_of, scan_look_up, scan_chain, trace_of}
-use Rattle.resource_text.specs.declared.decision.Decision.{Decision}
-use Rattle.resource_text.specs.declared.decision.Decision.TheVariants.{SetAside, NoMatch, First, TookOver, TookOverEqual, KeptOut}
-use Rattle.resource_text.specs.Decision.{decision_of, step_by}
+use Rattle.reference_resolver.specs.Trace.{look_ups_of, TracedCandidateOf, traced, scan_look_up}
 use Rattle.resource_text.specs.LayerText.{layer_text}
 use Rattle.resource_text.specs.EndText.{end_text}
 
@@ -36,20 +34,12 @@ decision_text (TookOver rule) = codes "took over" ++ rule_text rule
 decision_text TookOverEqual = codes "took over equal"
 decision_text (KeptOut rule) = codes "kept out" ++ rule_text rule
 
--- a candidate, and what is told of it
-pub record ExplainedCandidate : Type 0 where
-  pub candidate : CandOf
-  pub decision : Decision
-
-abbrev pub explained : Option CandOf → CandOf → List ℕ → ExplainedCandidate
-explained best candidate d = record { candidate = candidate; decision = decision_of best candidate d }
-
 -- `candidate K layer L`
 unfoldable pub place_text : ℕ → ℕ → List ℕ
 place_text place layer = codes "candidate " ++ decimal place ++ codes " " ++ layer_text layer
 
 -- the line `candidate K layer L RECORD DECISION`
-unfoldable pub candidate_line : (ℕ × ExplainedCandidate) → List ℕ
+unfoldable pub candidate_line : (ℕ × TracedCandidateOf) → List ℕ
 candidate_line numbered =
     place_text numbered.0 numbered.1.candidate.layer ++ codes " " ++ record_text numbered.1.candidate.row.config
     ++ codes " " ++ decision_text numbered.1.decision ++ 10 ∷ []
@@ -60,12 +50,12 @@ candidate_line numbered =
 unfoldable pub look_up_line : ℕ → List ℕ
 look_up_line id = codes "lookup " ++ id_text id ++ 10 ∷ []
 
--- the lines of the candidates of an id, which are counted from 0
-unfoldable pub candidate_lines : List LayerOf → List ℕ → ℕ → List ℕ
-candidate_lines stack d id = flat_map candidate_line (enumerate_from 0 (scan_look_up explained stack d id))
+-- the lines of candidates, which are counted from 0
+unfoldable pub candidate_lines : List TracedCandidateOf → List ℕ
+candidate_lines candidates = flat_map candidate_line (enumerate_from 0 candidates)
 
 unfoldable pub look_up_text : List LayerOf → List ℕ → ℕ → List ℕ
-look_up_text stack d id = look_up_line id ++ candidate_lines stack d id
+look_up_text stack d id = look_up_line id ++ candidate_lines (scan_look_up traced stack d id)
 
 -- ---- all look-ups
 
@@ -78,9 +68,3 @@ unfoldable pub explain_text : List LayerOf → ℕ → List ℕ → List ℕ
 explain_text stack id d =
     flat_map (look_up_text stack d) (look_ups_of stack references_followed id d)
     ++ end_line (end_of stack references_followed id d)
-
--- What is told of the candidates is what they do by the trace.
-unfoldable pub TellsTheTrace : List LayerOf → ℕ → List ℕ → Type 0
-TellsTheTrace stack id d =
-    map (λ told. step_by told.decision) (scan_chain explained stack references_followed id d)
-    ≡ (trace_of stack references_followed id d).steps

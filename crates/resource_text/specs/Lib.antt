@@ -10,5 +10,4 @@ pub mod RowsText
 pub mod DumpText
 pub mod EndText
 pub mod QueryText
-pub mod Decision
 pub mod ExplainText

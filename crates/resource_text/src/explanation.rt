@@ -1,28 +1,26 @@
 //! How an id comes to its end, written.
 
-ghost use Rattle.std.specs.Prelude.{◌≡◌, IfOk};
+ghost use Rattle.std.specs.Prelude.{◌≡◌, ◌<◌, ◌^◌, length, IfOk};
 ghost use Rattle.std.specs.List.{flat_map};
-ghost use Rattle.std.specs.Option.{option_map};
 ghost use Rattle.contract_words.specs.Writes.{Writes};
 ghost use Rattle.config_record.specs.DeviceSeen.{device_numbers};
-ghost use Rattle.overlay_map.specs.Candidates.{cand_of};
-ghost use Rattle.reference_resolver.specs.Selection.{selected};
 ghost use Rattle.reference_resolver.specs.Ends.{references_followed, end_of};
-ghost use Rattle.reference_resolver.specs.Trace.{look_ups_of};
-ghost use Rattle.resource_text.specs.ExplainText.{place_text, candidate_line, look_up_line, candidate_lines, look_up_text, end_line, explain_text, TellsTheTrace};
+ghost use Rattle.reference_resolver.specs.Trace.{look_ups_of, IsTraced};
+ghost use Rattle.reference_resolver.specs.Traced.{traced_of};
+ghost use Rattle.resource_text.specs.ExplainText.{place_text, candidate_line, look_up_line, candidate_lines, look_up_text, end_line, explain_text};
 
-use crate::decision::{Decision, write_decision};
+use crate::decision::write_decision;
 use crate::end::end_text;
 use crate::layer::write_layer;
 use config_record::Device;
-use overlay_map::{Cand, Stack};
-use reference_resolver::{End, Next, REFERENCES_FOLLOWED, Step};
+use overlay_map::Stack;
+use reference_resolver::{End, LookUps, TracedCandidate, TracedCandidates, resolve};
 use res_value::{ResId, write_id};
 use std::io::{self, Write};
 
 /// Writes how an id comes to its end at a device: a line for each id that is looked up, behind it one for
 /// each of its candidates with what it does and why, and last the end, which is also given.
-#[tactic(auto, using(crate::proofs::TellsTheTrace::tells_the_trace), unfolding(crate::specs::ExplainText::explain_text))]
+#[tactic(auto, using(reference_resolver::proofs::Traces::is_traced), unfolding(crate::specs::ExplainText::explain_text))]
 pub fn explain<W: Write + Drop>(
     stack: &Stack<'_>,
     id: ResId,
@@ -31,93 +29,74 @@ pub fn explain<W: Write + Drop>(
 ) -> io::Result<End>
     ensures text { Writes W.contents out.old out.new result (explain_text stack.now id.0 (device_numbers device.now)) }
     ensures end { IfOk result (λ end. end ≡ end_of stack.now references_followed id.0 (device_numbers device.now)) }
-    ensures trace { TellsTheTrace stack.now id.0 (device_numbers device.now) }
+    ensures trace { IsTraced stack.now references_followed id.0 (device_numbers device.now) }
 {
-    let end = write_look_ups(stack, id, device, REFERENCES_FOLLOWED, out)?;
+    write_look_ups(stack, id, device, out)?;
+    let end = resolve(stack, id, device);
     write_end_line(end, out)?;
     Ok(end)
 }
 
-// Writes the look-ups, where at most so many references are followed, and gives the end.
+#[tactic(auto, using(contract_words::proofs::TextSteps::puts))]
 fn write_look_ups<W: Write + Drop>(
     stack: &Stack<'_>,
     id: ResId,
     device: &Device,
-    most: u8,
     out: &mut W,
-) -> io::Result<End>
-    ensures text { Writes W.contents out.old out.new result (flat_map
+) -> io::Result<()>
+    ensures { Writes W.contents out.old out.new result (flat_map
         (look_up_text stack.now (device_numbers device.now))
-        (look_ups_of stack.now most id.0 (device_numbers device.now))) }
-    ensures end { IfOk result (λ end. end ≡ end_of stack.now most id.0 (device_numbers device.now)) }
+        (look_ups_of stack.now references_followed id.0 (device_numbers device.now))) }
 {
-    let mut id = id;
-    let mut left = most;
-    'chain: loop {
-        let picked = write_look_up(stack, id, device, out)?;
-        match Next::of(id, &picked) {
-            Next::EndsAt(end) => return Ok(end),
-            Next::LookUp(target) if left == 0 => return Ok(End::TooLong { id: target }),
-            Next::LookUp(target) => id = target,
-        }
-        left -= 1;
+    for id in LookUps::of(stack, id, device) {
+        write_look_up(stack, id, device, out)?;
     }
+    Ok(())
 }
 
-// Writes a look-up, and gives the candidate that is selected.
 #[tactic(auto, unfolding(crate::specs::ExplainText::look_up_text))]
-fn write_look_up<'a, W: Write + Drop>(
-    stack: &Stack<'a>,
+fn write_look_up<W: Write + Drop>(
+    stack: &Stack<'_>,
     id: ResId,
     device: &Device,
     out: &mut W,
-) -> io::Result<Option<Cand<'a>>>
-    ensures text { Writes W.contents out.old out.new result (look_up_text stack.now (device_numbers device.now) id.0) }
-    ensures picked { IfOk result (λ picked. option_map cand_of picked ≡ selected stack.now id.0 (device_numbers device.now)) }
+) -> io::Result<()>
+    ensures { Writes W.contents out.old out.new result (look_up_text stack.now (device_numbers device.now) id.0) }
 {
     write_look_up_line(id, out)?;
-    write_candidates(stack, id, device, out)
+    write_candidates(TracedCandidates::of(stack, id, device), out)
 }
 
-// Writes a line for each candidate of an id, and gives the one that is selected.
-#[tactic(auto, using(contract_words::proofs::TextSteps::puts, std::proofs::lemmas::Grind::common_steps), unfolding(crate::specs::ExplainText::candidate_lines, reference_resolver::specs::Selection::selected))]
-fn write_candidates<'a, W: Write + Drop>(
-    stack: &Stack<'a>,
-    id: ResId,
-    device: &Device,
+// Writes a line for each of these candidates, which are counted from 0.
+#[tactic(auto, using(contract_words::proofs::TextSteps::puts), unfolding(crate::specs::ExplainText::candidate_lines))]
+fn write_candidates<W: Write + Drop>(
+    candidates: TracedCandidates<'_, '_>,
     out: &mut W,
-) -> io::Result<Option<Cand<'a>>>
-    ensures text { Writes W.contents out.old out.new result (candidate_lines stack.now (device_numbers device.now) id.0) }
-    ensures picked { IfOk result (λ picked. option_map cand_of picked ≡ selected stack.now id.0 (device_numbers device.now)) }
+) -> io::Result<()>
+    requires { length candidates < 2 ^ 99 }
+    ensures { Writes W.contents out.old out.new result (candidate_lines candidates.entry) }
 {
-    let mut best = None;
     let mut place: u128 = 0;
-    for candidate in stack.candidates(id) {
-        let decision = Decision::of(&best, &candidate, device);
-        write_candidate(place, &candidate, decision, out)?;
-        if decision.step() == Step::TookOver {
-            best = Some(candidate);
-        }
+    for candidate in candidates {
+        write_candidate(place, &candidate, out)?;
         place += 1;
     }
-    Ok(best)
+    Ok(())
 }
 
 #[tactic(auto, unfolding(crate::specs::ExplainText::candidate_line))]
 fn write_candidate<W: Write + Drop>(
     place: u128,
-    candidate: &Cand<'_>,
-    decision: Decision,
+    traced: &TracedCandidate<'_>,
     out: &mut W,
 ) -> io::Result<()>
-    ensures { Writes W.contents out.old out.new result
-        (candidate_line (place, record { candidate = cand_of candidate.now; decision = decision })) }
+    ensures { Writes W.contents out.old out.new result (candidate_line (place, traced_of traced.now)) }
 {
-    write_place(place, candidate.layer, out)?;
+    write_place(place, traced.candidate.layer, out)?;
     out.write_all(b" ")?;
-    candidate.row.config.write_qualifiers(out)?;
+    traced.candidate.row.config.write_qualifiers(out)?;
     out.write_all(b" ")?;
-    write_decision(decision, out)?;
+    write_decision(traced.decision, out)?;
     out.write_all(b"\n")
 }
 

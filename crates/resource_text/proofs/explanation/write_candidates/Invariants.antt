@@ -1,22 +1,15 @@
-use Rattle.std.proofs.Common.{◌≡◌, ◌+◌, ◌^◌, ◌<◌, None, length}
+use Rattle.std.proofs.Common.{◌+◌, ◌^◌, ◌<◌, length}
 use Rattle.std.specs.List.{enumerate_from}
-use Rattle.std.specs.Option.{option_map}
 use Rattle.contract_words.proofs.TextSteps.{PutsAllBut}
-use Rattle.config_record.specs.DeviceSeen.{device_numbers}
-use Rattle.overlay_map.specs.Candidates.{cand_of, candidates_of}
-use Rattle.reference_resolver.specs.Selection.{best_of, scan_candidates}
-use Rattle.reference_resolver.specs.Trace.{scan_look_up}
-use Rattle.resource_text.specs.ExplainText.{explained, candidate_line}
+use Rattle.resource_text.specs.ExplainText.{candidate_line}
 use Rattle.resource_text.proofs.explanation.write_candidates.Given as goal
 
--- the lines of all candidates were written but of those that are left, from the place and the best so far on
+-- the lines of all candidates were written but of those that are left, from the place on
 abbrev pub invariant-loop-candidate : goal.invariant-loop-candidate
 invariant-loop-candidate g l = record {
   can : (goal.iterator-loop-candidate g).can_next l.candidate-iterator;
   ends : (goal.iterator-loop-candidate g).is_finite l.candidate-iterator;
   texts : PutsAllBut candidate_line (g.W.Write.contents l.fn.out) (g.W.Write.contents l.out)
-      (enumerate_from 0 (scan_look_up explained l.stack (device_numbers l.device) l.fn.id.0))
-      (enumerate_from l.place (scan_candidates explained (option_map cand_of l.best) l.candidate-iterator (device_numbers l.device)));
-  picked : best_of (option_map cand_of l.best) l.candidate-iterator (device_numbers l.device) ≡ best_of None (candidates_of l.stack l.fn.id.0) (device_numbers l.device);
+      (enumerate_from 0 l.fn.candidates) (enumerate_from l.place l.candidate-iterator);
   few : l.place + length l.candidate-iterator < 2 ^ 99;
 }

@@ -2,9 +2,9 @@ use Rattle.std.proofs.Common.{sym, ◌∙◌, ap}
 use Rattle.std.specs.Option.{option_map}
 use Rattle.config_record.specs.DeviceSeen.{device_numbers}
 use Rattle.overlay_map.specs.Candidates.{cand_of}
-use Rattle.resource_text.specs.Decision.{decision_by, step_by}
-use Rattle.resource_text.proofs.TellsTheTrace.{step_told}
-use Rattle.resource_text.proofs.decision.Decision.of.Goals as goal
+use Rattle.reference_resolver.specs.Decision.{decision_by, step_by}
+use Rattle.reference_resolver.proofs.Traces.{step_told}
+use Rattle.reference_resolver.proofs.decision.Decision.of.Goals as goal
 
 pub returns-in-None-clause-step : goal.returns-in-None-clause-step
 returns-in-None-clause-step c =
