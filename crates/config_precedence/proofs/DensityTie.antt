@@ -13,10 +13,11 @@ use Rattle.config_rules.specs.declared.answer.Answer.TheVariants.{Yes, No, Pass}
 use Rattle.config_rules.specs.declared.kind.Kind.TheVariants as kinds
 use Rattle.config_rules.specs.declared.rule.Rule.{Rule}
 use Rattle.config_rules.specs.Answer.{is_pass, is_yes, or_else}
+use Rattle.config_rules.specs.Comparisons.{medium_density}
 use Rattle.config_rules.specs.Kind.{kind_answer}
 use Rattle.config_rules.specs.Rule.{at, rule_answer}
 use Rattle.config_rules.specs.Table.{answer_of_table, place_of_table, decides}
-use Rattle.config_precedence.specs.Laws.{medium_density, densities_tie, density_rule, BothOrNeitherIsBetter}
+use Rattle.config_precedence.specs.Laws.{densities_tie, density_rule, BothOrNeitherIsBetter}
 use Rattle.config_precedence.specs.Precedence.{is_better, deciding_of}
 use Rattle.config_precedence.specs.Rules.{all_rules}
 use Rattle.config_precedence.proofs.Densities.{tie, tie-decides, tie-yes}

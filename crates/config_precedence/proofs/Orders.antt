@@ -3,7 +3,7 @@ use Rattle.std.proofs.Common.{◌≡◌, ℕ, ◌+◌, ◌*◌, ◌<◌, true, �
 use Rattle.std.specs.Prelude.{if◌then◌else◌}
 use Rattle.std.proofs.lemmas.Bool.Decides.{nat_tests}
 use Rattle.config_rules.specs.declared.answer.Answer.TheVariants.{Yes, No, Pass}
-use Rattle.config_rules.specs.Comparisons.{given_answer, larger_answer, always_larger_answer, screen_size_answer, counted_size, keys_answer, navigation_answer}
+use Rattle.config_rules.specs.Comparisons.{given_answer, larger_answer, always_larger_answer, screen_size_answer, normal_size, counted_size, keys_answer, navigation_answer}
 use Rattle.config_rules.specs.Conditions.{is_equal, is_at_most, keys_suit}
 use Rattle.config_precedence.proofs.Composition.{Opposes, Composes}
 
@@ -64,7 +64,7 @@ pub keys-ranked : (a b d : ℕ) → keys_suit a d ≡ true → keys_suit b d ≡
 keys-ranked a b d p q = grind (arith, nat_tests)
 
 abbrev pub size_rank : ℕ → ℕ → ℕ
-size_rank n d = if nat_lt d 2 then n else 2 * counted_size n + given_rank n
+size_rank n d = if nat_lt d normal_size then n else 2 * counted_size n + given_rank n
 
 pub size-ranked : (a b d : ℕ) → is_at_most a d ≡ true → is_at_most b d ≡ true → screen_size_answer a b d ≡ always_larger_answer (size_rank a d) (size_rank b d)
 size-ranked a b d p q = grind (arith, nat_tests)

@@ -3,6 +3,7 @@ use Rattle.std.specs.Prelude.{ℕ, ◌≡◌, ◌==◌, ◌&&◌, ◌||◌, nat_
 use Rattle.config_record.specs.declared.coord.Coord.TheVariants as coords
 use Rattle.config_record.specs.ComparedNumber.{device_number}
 use Rattle.config_record.specs.Record.{density}
+use Rattle.config_rules.specs.Comparisons.{medium_density}
 use Rattle.config_match.specs.Matching.{is_match}
 use Rattle.config_precedence.specs.Precedence.{is_better, deciding_of}
 
@@ -13,9 +14,6 @@ abbrev pub DecidesInEitherOrder : List ℕ → List ℕ → List ℕ → Type 0
 DecidesInEitherOrder a b d = deciding_of a b d ≡ deciding_of b a d
 
 -- ---- densities of 0 and 160, which count alike
-
-abbrev pub medium_density : ℕ
-medium_density = 160
 
 -- the number of the rule that compares densities
 abbrev pub density_rule : ℕ

@@ -59,15 +59,18 @@ dimensions_answer a b d = smaller_answer (rest_of_both a d) (rest_of_both b d)
 
 -- ---- the screen's size
 
+abbrev pub normal_size : ℕ
+normal_size = 2
+
 -- a size of 0 counts as normal
 abbrev pub counted_size : ℕ → ℕ
-counted_size n = if n == 0 then 2 else n
+counted_size n = if n == 0 then normal_size else n
 
 -- At a device of at least normal size: of two that count alike the one that says so is better, else the
 -- larger. At a small device the larger is better, and 0 is 0.
 abbrev pub is_better_size : ℕ → ℕ → ℕ → Bool
 is_better_size a b d =
-    if nat_lt d 2 then nat_lt b a
+    if nat_lt d normal_size then nat_lt b a
     else if counted_size a == counted_size b then is_given a
     else nat_lt (counted_size b) (counted_size a)
 
@@ -81,9 +84,12 @@ screen_size_answer a b d = answer_where (differ a b && is_given d) (is_better_si
 abbrev pub any_density : ℕ
 any_density = 65534
 
+abbrev pub medium_density : ℕ
+medium_density = 160
+
 -- a density of 0 counts as medium
 abbrev pub counted_density : ℕ → ℕ
-counted_density n = if n == 0 then 160 else n
+counted_density n = if n == 0 then medium_density else n
 
 -- Whether of two densities the larger is better, or the only one where they are equal: where the device has
 -- as much; else not where it has no more than the smaller; and between them where scaling the smaller up

@@ -10,10 +10,16 @@ is_equal a d = a == 0 || a == d
 abbrev pub is_at_most : ℕ → ℕ → Bool
 is_at_most a d = a == 0 || nat_le a d
 
--- keys that are exposed (1) suit a device with keys on its screen (3) too: "for compatibility, we count a
+abbrev pub exposed_keys : ℕ
+exposed_keys = 1
+
+abbrev pub soft_keys : ℕ
+soft_keys = 3
+
+-- keys that are exposed suit a device with keys on its screen too: "for compatibility, we count a
 -- request for KEYSHIDDEN_NO as also matching the more recent KEYSHIDDEN_SOFT"
 abbrev pub keys_suit : ℕ → ℕ → Bool
-keys_suit a d = is_equal a d || (a == 1 && d == 3)
+keys_suit a d = is_equal a d || (a == exposed_keys && d == soft_keys)
 
 -- It says nothing, or the languages are equal, and the record's region is the device's, if it has one. A
 -- region alone suits no device, since none has a region without a language.

@@ -29,7 +29,12 @@ impl Rule {
         self.kind.answer(self.of_record(a), self.of_record(b), self.of_device(device))
     }
 
-    /// What it may look at in a record.
+    /// What it may look at in a record: for callers that ask when two records differ for a rule.
+    ///
+    /// ```text
+    /// let numbers = rule.of_record(&record);
+    /// numbers.first // the record's number at rule.coord
+    /// ```
     pub fn of_record(self, stored: &Record) -> Numbers
         ensures { result ≡ numbers_at self.coord (record_number (record_bytes stored.now)) }
     {

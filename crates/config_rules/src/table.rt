@@ -26,7 +26,7 @@ pub fn table_answer<'a>(rules: &[Rule], a: &Record<'a>, b: &Record<'a>, device: 
 }
 
 /// The rule that decides.
-#[tactic(auto, using(crate::proofs::TableLemmas::no_rule))]
+#[tactic(auto, using(crate::proofs::TableLemmas::rule_there))]
 pub fn deciding_rule<'a>(
     rules: &[Rule],
     a: &Record<'a>,
@@ -39,19 +39,8 @@ pub fn deciding_rule<'a>(
         (record_number (record_bytes a.now)) (record_number (record_bytes b.now))
         (device_number (device_numbers device.now))) }
 {
-    first_rule(rules, a, b, device)
-}
-
-fn first_rule(rules: &[Rule], a: &Record, b: &Record, device: &Device) -> Option<Rule>
-    ensures { result ≡ rule_of_table rules.now (record_number (record_bytes a.now))
-        (record_number (record_bytes b.now)) (device_number (device_numbers device.now)) }
-{
-    for rule in rules {
-        if !rule.answer(a, b, device).is_pass() {
-            return Some(*rule);
-        }
-    }
-    None
+    let place = deciding_place(rules, a, b, device)?;
+    Some(rules[place])
 }
 
 /// The place of the rule that decides.
