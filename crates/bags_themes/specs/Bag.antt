@@ -27,7 +27,7 @@ pub record FoundBagOf : Type 0 where
   pub parent : ℕ
   pub rows : List BagRow
 
--- the rows of a bag of the layer at this place
+-- the rows of a bag of the layer of this index
 abbrev pub rows_in : ℕ → List (ResId × Value) → List BagRow
 rows_in layer rows = map (λ row. record { name = row.0; layer = layer; value = row.1 }) rows
 

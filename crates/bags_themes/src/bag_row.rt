@@ -7,7 +7,7 @@ use res_value::{ResId, Value};
 pub struct BagRow {
     /// An attribute in a style, an item's number in an array, a quantity in plurals.
     pub name: ResId,
-    /// The place of the layer of the bag that the row came from. If the value is a string, it is one of that
+    /// The index of the layer of the bag that the row came from. If the value is a string, it is one of that
     /// layer's table.
     pub layer: usize,
     pub value: Value,

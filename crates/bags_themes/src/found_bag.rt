@@ -11,7 +11,7 @@ use res_value::{Cell, MapRows, ResId};
 /// A bag that was selected. What it lends is lent from the bytes of its table.
 #[derive(Clone, Copy, Debug)]
 pub(crate) struct FoundBag<'a> {
-    /// The place of its layer in the stack.
+    /// The index of its layer in the stack.
     pub layer: usize,
     /// The id of its parent, or 0 where it has none.
     pub parent: ResId,

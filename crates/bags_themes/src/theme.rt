@@ -31,7 +31,7 @@ const REFERENCES_AFTER_SLOT: u8 = 19;
 
 /// What styles have set for attributes (AOSP: `ResTable::Theme`). Contracts see it as the list of attributes
 /// with their values, by look-up alone.
-#[derive(Drop)]
+#[derive(Debug, Drop)]
 pub struct Theme {
     values: IndexMap<ResId, ThemeValue>,
 }

@@ -11,7 +11,7 @@ const EMPTY: u32 = 1;
 /// A value that is set for an attribute (AOSP: `ResTable::Theme::theme_entry`).
 #[derive(Clone, Copy, Debug)]
 pub(crate) struct ThemeValue {
-    /// The place of the layer that it came from.
+    /// The index of the layer that it came from.
     pub layer: usize,
     pub value: Value,
 }

@@ -4,7 +4,7 @@ use Rattle.std.specs.List.{filter}
 use Rattle.std.proofs.lemmas.List.{length-map}
 use Rattle.std.proofs.lemmas.List.Elements.{All-head, All-tail, All-push}
 use Rattle.type_chunks.specs.Table.{rows_of}
-use Rattle.overlay_map.specs.Layer.{LayerOf, HasFewRows, own_id, rows_with, rows_for}
+use Rattle.overlay_map.specs.Layer.{LayerOf, most_layers, HasFewRows, own_id, rows_with, rows_for}
 use Rattle.overlay_map.specs.Candidates.{candidates_at, candidates_from}
 
 first_kept : {X : Type 0} (kept : Bool) (x : X) (xs ys : List X) → length xs ≤ length ys → length (cond kept (x ∷ xs) xs) ≤ length (x ∷ ys)
@@ -36,9 +36,15 @@ length-candidates_from place (layer ∷ layers) id few =
       length-candidates_from (place + 1) layers id (All-tail HasFewRows layer layers few),
     )
 
--- one layer more
-pub few-push : (old new : List LayerOf) (layer : LayerOf) → new ≡ old ++ layer ∷ [] → All HasFewRows old → HasFewRows layer → All HasFewRows new
+few-push : (old new : List LayerOf) (layer : LayerOf) → new ≡ old ++ layer ∷ [] → All HasFewRows old → HasFewRows layer → All HasFewRows new
 few-push old new layer pushed before few = subst (λ (layers : List LayerOf). All HasFewRows layers) (sym pushed) (All-push HasFewRows old layer before few)
 
-pub length-push : (old new : List LayerOf) (layer : LayerOf) → new ≡ old ++ layer ∷ [] → length new ≡ length old + 1
+length-push : (old new : List LayerOf) (layer : LayerOf) → new ≡ old ++ layer ∷ [] → length new ≡ length old + 1
 length-push old new layer pushed = ap (λ (layers : List LayerOf). length layers) pushed ∙ length-append old (layer ∷ [])
+
+-- one layer more, with few rows, over fewer than may stand
+pub few-layers : (old same new : List LayerOf) (layer : LayerOf) → same ≡ old → new ≡ same ++ layer ∷ [] → length old < most_layers → All HasFewRows old → HasFewRows layer
+    → (length new ≤ most_layers) × (All HasFewRows new × Unit {0})
+few-layers old same new layer unchanged pushed below before few =
+    let over = subst (λ (layers : List LayerOf). new ≡ layers ++ layer ∷ []) unchanged pushed in
+    (omega (arith, below, length-push old new layer over), (few-push old new layer over before few, tt))

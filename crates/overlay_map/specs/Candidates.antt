@@ -6,7 +6,7 @@ use Rattle.overlay_map.specs.Layer.{LayerOf, rows_for}
 
 -- A candidate, without where it lies in memory.
 pub record CandOf : Type 0 where
-  -- the place of its layer, from 0
+  -- the index of its layer, from 0
   pub layer : ℕ
   -- whether that layer is an overlay
   pub overlay : Bool
@@ -15,14 +15,14 @@ pub record CandOf : Type 0 where
 abbrev pub cand_of : Cand → CandOf
 cand_of candidate = record { layer = candidate.layer; overlay = candidate.overlay; row = row_of candidate.row }
 
--- these rows as candidates of the layer at this place
+-- these rows as candidates of the layer of this index
 abbrev pub candidates_at : ℕ → Bool → List RowOf → List CandOf
-candidates_at place overlay rows = map (λ row. record { layer = place; overlay = overlay; row = row }) rows
+candidates_at index overlay rows = map (λ row. record { layer = index; overlay = overlay; row = row }) rows
 
--- layer by layer; `place` layers stand before these
+-- layer by layer; the first of these has this index
 abbrev pub candidates_from : ℕ → List LayerOf → ℕ → List CandOf
-candidates_from place [] id = []
-candidates_from place (layer ∷ layers) id = candidates_at place (is_some layer.map) (rows_for layer id) ++ candidates_from (place + 1) layers id
+candidates_from index [] id = []
+candidates_from index (layer ∷ layers) id = candidates_at index (is_some layer.map) (rows_for layer id) ++ candidates_from (index + 1) layers id
 
 -- those of a whole stack
 unfoldable pub candidates_of : List LayerOf → ℕ → List CandOf

@@ -1,11 +1,9 @@
 //! The candidates of an id, one after the other.
 
-ghost use Rattle.std.specs.Prelude.{◌≡◌, ◌+◌, ◌≤◌, length, is_some};
-ghost use Rattle.std.specs.Iterator.{YieldsFirstBy};
+ghost use Rattle.std.specs.Prelude.{◌≡◌, ◌+◌, ◌≤◌, length};
 ghost use Rattle.std.specs.Slice.Iter.{iter_rest};
-ghost use Rattle.overlay_map.specs.Layer.{most_layers, rows_for};
-ghost use Rattle.overlay_map.specs.Candidates.{cand_of, candidates_at, candidates_from};
-ghost use Rattle.overlay_map.specs.LeftCandidates.{left_candidates};
+ghost use Rattle.overlay_map.specs.Layer.{most_layers};
+ghost use Rattle.overlay_map.specs.Candidates.{candidates_from};
 
 use crate::candidate::Cand;
 use crate::layer::Layer;
@@ -29,22 +27,6 @@ impl<'s, 'a> Model for LayerCands<'s, 'a> {
     ghost Value = { List CandOf };
 
     ghost view = { λ s. candidates_at s.layer s.overlay s.rows };
-}
-
-impl<'s, 'a> LayerCands<'s, 'a> {
-    // Those of a layer, which stands at this place; none where it has no id for this one.
-    fn of_layer(place: usize, layer: &'s Layer<'a>, id: ResId) -> Option<LayerCands<'s, 'a>>
-        ensures { left_candidates result ≡ candidates_at place (is_some layer.now.map) (rows_for layer.now id.0) }
-    {
-        match layer.own_id(id) {
-            Some(own_id) => Some(LayerCands {
-                layer: place,
-                overlay: layer.is_overlay(),
-                rows: layer.table.rows(own_id),
-            }),
-            None => None,
-        }
-    }
 }
 
 impl<'s, 'a> Iterator for LayerCands<'s, 'a> {
@@ -72,24 +54,23 @@ impl<'s, 'a> Iterator for LayerCands<'s, 'a> {
 /// The candidates of an id that are left, layer by layer and in the order of each file.
 #[derive(Drop)]
 pub struct Cands<'s, 'a> {
-    /// Those of the layer that stands before `layers`, once there is one.
-    left: Option<LayerCands<'s, 'a>>,
+    /// Those of the layer that stands before `layers`; none before the first.
+    left: LayerCands<'s, 'a>,
     layers: Iter<'s, Layer<'a>>,
-    /// The place of the first of `layers`.
-    place: usize,
+    /// The index of the first of `layers`.
+    index: usize,
     id: ResId,
-    ghost few: { place + length (iter_rest layers) ≤ most_layers },
+    ghost few: { index + length (iter_rest layers) ≤ most_layers },
 }
 
 impl<'s, 'a> Model for Cands<'s, 'a> {
     ghost use Rattle.std.specs.Prelude.{List, ◌++◌};
     ghost use Rattle.std.specs.Slice.Iter.{iter_rest};
     ghost use Rattle.overlay_map.specs.Candidates.{CandOf, candidates_from};
-    ghost use Rattle.overlay_map.specs.LeftCandidates.{left_candidates};
 
     ghost Value = { List CandOf };
 
-    ghost view = { λ s. left_candidates s.left ++ candidates_from s.place (iter_rest s.layers) s.id.0 };
+    ghost view = { λ s. s.left ++ candidates_from s.index (iter_rest s.layers) s.id.0 };
 }
 
 impl<'s, 'a> Cands<'s, 'a> {
@@ -98,9 +79,13 @@ impl<'s, 'a> Cands<'s, 'a> {
         ensures { result ≡ candidates_from 0 layers.now id.0 }
     {
         Cands {
-            left: None,
+            left: LayerCands {
+                layer: 0,
+                overlay: false,
+                rows: IndexedRows::none(),
+            },
             layers: layers.iter(),
-            place: 0,
+            index: 0,
             id,
         }
     }
@@ -118,24 +103,18 @@ impl<'s, 'a> Iterator for Cands<'s, 'a> {
 
     fn next(&mut self) -> Option<Cand<'a>> {
         'layers: loop {
-            if let Some(candidate) = next_of(&mut self.left) {
+            if let Some(candidate) = self.left.next() {
                 return Some(candidate);
             }
             let Some(layer) = self.layers.next() else {
                 return None;
             };
-            self.left = LayerCands::of_layer(self.place, layer, self.id);
-            self.place += 1;
+            self.left = LayerCands {
+                layer: self.index,
+                overlay: layer.is_overlay(),
+                rows: layer.rows_for(self.id),
+            };
+            self.index += 1;
         }
-    }
-}
-
-// The next candidate of a layer, where there is one.
-fn next_of<'a>(left: &mut Option<LayerCands<'_, 'a>>) -> Option<Cand<'a>>
-    ensures { YieldsFirstBy cand_of left_candidates left.old result left.new }
-{
-    match left {
-        Some(candidates) => candidates.next(),
-        None => None,
     }
 }

@@ -18,7 +18,7 @@ use std::marker::Model;
 
 /// Which id of an overlay stands for which id of the stack (AOSP: `IdmapEntries`). Contracts see it as
 /// its pairs, in the order of its text.
-#[derive(Drop)]
+#[derive(Debug, Drop)]
 pub struct IdMap {
     entries: IndexMap<ResId, ResId>,
 }

@@ -2,16 +2,16 @@
 
 ghost use Rattle.std.specs.Prelude.{◌≡◌, ◌<◌, ◌^◌, is_some};
 ghost use Rattle.std.specs.Option.{option_map};
-ghost use Rattle.overlay_map.specs.Layer.{own_id};
+ghost use Rattle.overlay_map.specs.Layer.{own_id, rows_for};
 ghost use Rattle.overlay_map.specs.SetAside.{set_aside_in_layer};
 
 use crate::id_map::IdMap;
 use res_value::ResId;
-use row_index::IndexedTable;
+use row_index::{IndexedRows, IndexedTable};
 use std::marker::Model;
 
 /// A table in a stack, as a base or as an overlay.
-#[derive(Drop)]
+#[derive(Debug, Drop)]
 pub(crate) struct Layer<'a> {
     pub table: IndexedTable<'a>,
     /// None at a base.
@@ -33,8 +33,18 @@ impl<'a> Layer<'a> {
         self.map.is_some()
     }
 
-    /// The id under which its table has the rows that stand for an id of the stack.
-    pub fn own_id(&self, id: ResId) -> Option<ResId>
+    /// The rows of its table that stand for an id of the stack, in the order of the file.
+    pub fn rows_for(&self, id: ResId) -> IndexedRows<'_, 'a>
+        ensures { result ≡ rows_for self.now id.0 }
+    {
+        let Some(own_id) = self.own_id(id) else {
+            return IndexedRows::none();
+        };
+        self.table.rows(own_id)
+    }
+
+    // The id under which its table has them; none where there is no such id.
+    fn own_id(&self, id: ResId) -> Option<ResId>
         ensures { option_map (λ own. own.0) result ≡ own_id self.now id.0 }
     {
         match &self.map {

@@ -1,6 +1,7 @@
 //! Stacks.
 
-ghost use Rattle.std.specs.Prelude.{◌≡◌, ◌≤◌, ◌<◌, ◌^◌, [], ◌∷◌, ◌++◌, All, length, slice_get, vec_len, vec_capacity, nat_eq, OnOk, IfErr};
+ghost use Rattle.std.specs.Prelude.{◌≡◌, ◌≤◌, ◌<◌, ◌^◌, [], ◌∷◌, ◌++◌, All, length, slice_get, vec_len, vec_capacity, nat_eq, OnOk, IfOk, IfErr};
+ghost use Rattle.type_chunks.specs.Table.{rows_of};
 ghost use Rattle.std.specs.Option.{option_map};
 ghost use Rattle.overlay_map.specs.Layer.{most_layers, HasFewRows};
 ghost use Rattle.overlay_map.specs.Pushing.{RefusesLayer, PushesLayer, base_of, overlay_of};
@@ -22,10 +23,10 @@ pub const MOST_LAYERS: usize = 64;
 
 /// Layers, the later over the earlier (AOSP: the packages of a `ResTable`, each with the tables that were
 /// added to it). Contracts see them as a list.
-#[derive(Drop)]
+#[derive(Debug, Drop)]
 pub struct Stack<'a> {
     layers: Vec<Layer<'a>>,
-    ghost few: { vec_len layers ≤ most_layers },
+    ghost few: { length layers.items ≤ most_layers },
     ghost few_rows: { All HasFewRows layers.items },
 }
 
@@ -54,16 +55,9 @@ impl<'a> Stack<'a> {
         ensures pushed { PushesLayer (λ refused. refused.0) (base_of table.entry) self.old self.new result }
         ensures back { IfErr result (λ refused. refused.1 ≡ table.entry) }
     {
-        if let Err(fault) = make_room(&mut self.layers) {
-            return Err((fault, table));
-        }
-        match IndexedTable::new(*self.layers.allocator(), table) {
-            Ok(table) => {
-                push_layer(&mut self.layers, Layer { table, map: None });
-                Ok(())
-            }
-            Err(table) => Err((StackFault::OutOfMemory, table)),
-        }
+        let table = indexed_with_room(&mut self.layers, table)?;
+        push_layer(&mut self.layers, Layer { table, map: None });
+        Ok(())
     }
 
     /// Puts a table over all layers, as an overlay with its id map. Where 64 layers stand or memory runs
@@ -76,22 +70,13 @@ impl<'a> Stack<'a> {
         ensures pushed { PushesLayer (λ refused. refused.0) (overlay_of table.entry map) self.old self.new result }
         ensures back { IfErr result (λ refused. (refused.1 ≡ table.entry) × (refused.2 ≡ map)) }
     {
-        if let Err(fault) = make_room(&mut self.layers) {
-            return Err((fault, table, map));
-        }
-        match IndexedTable::new(*self.layers.allocator(), table) {
-            Ok(table) => {
-                push_layer(
-                    &mut self.layers,
-                    Layer {
-                        table,
-                        map: Some(map),
-                    },
-                );
-                Ok(())
-            }
-            Err(table) => Err((StackFault::OutOfMemory, table, map)),
-        }
+        let table = match indexed_with_room(&mut self.layers, table) {
+            Ok(table) => table,
+            Err((fault, table)) => return Err((fault, table, map)),
+        };
+        let map = Some(map);
+        push_layer(&mut self.layers, Layer { table, map });
+        Ok(())
     }
 
     /// How many layers it has, 64 at most.
@@ -108,11 +93,11 @@ impl<'a> Stack<'a> {
         self.layers.is_empty()
     }
 
-    /// The table of the layer at a place, counted from 0.
-    pub fn layer_table(&self, place: usize) -> Option<&Table<'a>>
-        ensures { option_map (λ table. table.now) result ≡ option_map (λ layer. layer.table) (slice_get self.now place) }
+    /// The table of the layer of an index, counted from 0.
+    pub fn layer_table(&self, index: usize) -> Option<&Table<'a>>
+        ensures { option_map (λ table. table.now) result ≡ option_map (λ layer. layer.table) (slice_get self.now index) }
     {
-        match self.layers.get(place) {
+        match self.layers.get(index) {
             Some(layer) => Some(layer.table.table()),
             None => None,
         }
@@ -139,6 +124,30 @@ impl<'a> Stack<'a> {
         ensures few { length result < 2 ^ 99 }
     {
         Cands::new(&self.layers, id)
+    }
+}
+
+// Indexes a table and makes room for one layer more, where one may stand. Else the layers are unchanged and the
+// table is handed back.
+fn indexed_with_room<'a>(
+    layers: &mut Vec<Layer<'a>>,
+    table: Table<'a>,
+) -> Result<IndexedTable<'a>, (StackFault, Table<'a>)>
+    requires { length layers.old.items ≤ most_layers }
+    ensures same { layers.new.items ≡ layers.old.items }
+    ensures room { OnOk result (vec_len layers.new < vec_capacity layers.new) }
+    ensures below { OnOk result (length layers.old.items < most_layers) }
+    ensures indexed { IfOk result (λ indexed. indexed ≡ table.entry) }
+    ensures few_rows { IfOk result (λ indexed. length (rows_of indexed) < 2 ^ 92) }
+    ensures refused { IfErr result (λ refused. RefusesLayer layers.old.items layers.new.items refused.0) }
+    ensures back { IfErr result (λ refused. refused.1 ≡ table.entry) }
+{
+    if let Err(fault) = make_room(layers) {
+        return Err((fault, table));
+    }
+    match IndexedTable::new(*layers.allocator(), table) {
+        Ok(table) => Ok(table),
+        Err(table) => Err((StackFault::OutOfMemory, table)),
     }
 }
 

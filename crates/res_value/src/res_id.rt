@@ -59,7 +59,7 @@ impl ResId {
     /// the last four digits of the id's text.
     ///
     /// ```text
-    /// let same_place = first.entry() == second.entry(); // 0x7f010002 and 0x7f020002
+    /// let same_index = first.entry() == second.entry(); // 0x7f010002 and 0x7f020002
     /// ```
     pub fn entry(self) -> u16
         ensures { result ≡ entry_of self }
