@@ -1,6 +1,7 @@
 //! The conditions, in the order of the coordinates.
 
 ghost use Rattle.std.specs.Prelude.{◌≡◌};
+ghost use Rattle.config_rules.specs.Reads.{AreReadInOrder};
 ghost use Rattle.config_match.specs.Conditions.{all_conditions};
 
 use config_record::Coord;
@@ -109,10 +110,11 @@ const CONDITIONS: [Rule; 25] = [
     },
 ];
 
-/// The condition at each coordinate.
+/// The condition at each coordinate, in the order in which they are read.
 #[tactic(auto, unfolding(crate::specs::Conditions::all_conditions))]
 pub fn conditions() -> &'static [Rule]
-    ensures { result.now ≡ all_conditions }
+    ensures value { result.now ≡ all_conditions }
+    ensures in_order { AreReadInOrder result.now }
 {
     &CONDITIONS
 }

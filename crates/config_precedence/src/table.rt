@@ -1,6 +1,7 @@
 //! The rules of precedence, in their order.
 
 ghost use Rattle.std.specs.Prelude.{◌≡◌, length};
+ghost use Rattle.config_rules.specs.Reads.{AreReadInOrder};
 ghost use Rattle.config_precedence.specs.Rules.{all_rules};
 
 use config_record::Coord;
@@ -106,6 +107,7 @@ const RULES: [Rule; 23] = [
 pub fn rules() -> &'static [Rule]
     ensures value { result.now ≡ all_rules }
     ensures count { length result.now ≡ 23 }
+    ensures in_order { AreReadInOrder result.now }
 {
     &RULES
 }

@@ -5,3 +5,4 @@ pub mod Comparisons
 pub mod Kind
 pub mod Rule
 pub mod Table
+pub mod Reads

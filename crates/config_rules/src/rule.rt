@@ -1,6 +1,6 @@
 //! Rules: a question at a coordinate.
 
-ghost use Rattle.std.specs.Prelude.{◌≡◌};
+ghost use Rattle.std.specs.Prelude.{◌≡◌, ◌∷◌, option_to_list};
 ghost use Rattle.config_rules.specs.Rule.{beside};
 
 use crate::answer::Answer;
@@ -19,6 +19,7 @@ impl Rule {
     ghost use Rattle.config_record.specs.ComparedNumber.{record_number, device_number};
     ghost use Rattle.config_record.specs.DeviceSeen.{device_numbers};
     ghost use Rattle.config_rules.specs.Rule.{numbers_at, rule_answer};
+    ghost use Rattle.config_rules.specs.Reads.{reads, DependsOnReads};
 
     /// What the rule says of two records at a device.
     #[tactic(auto, unfolding(crate::specs::Rule::rule_answer))]
@@ -27,6 +28,18 @@ impl Rule {
             (record_number (record_bytes b.now)) (device_number (device_numbers device.now)) }
     {
         self.kind.answer(self.of_record(a), self.of_record(b), self.of_device(device))
+    }
+
+    /// The coordinate that it reads beside its own; only dimensions have one. What it says depends on the
+    /// numbers at these alone.
+    pub fn second_read(self) -> Option<Coord>
+        ensures value { reads self ≡ self.coord ∷ option_to_list result }
+        ensures depends { DependsOnReads self }
+    {
+        match self.kind {
+            Kind::Dimensions => Some(beside(self.coord)),
+            _ => None,
+        }
     }
 
     /// What it may look at in a record: for callers that ask when two records differ for a rule.

@@ -1,0 +1,7 @@
+pub mod Coords
+pub mod Monotone
+pub mod Dimensions
+pub mod Covers
+pub mod Sets
+pub mod SearchSteps
+pub mod Sides

@@ -1,0 +1,37 @@
+use Rattle.std.proofs.Common.{◌≡◌, ℕ, List, subst, ap, sym, ◌∙◌}
+use Rattle.config_record.specs.declared.device.Device.{Device}
+use Rattle.config_record.specs.Record.{record_bytes}
+use Rattle.config_record.specs.ComparedNumber.{record_number, device_number}
+use Rattle.config_record.specs.DeviceSeen.{device_numbers}
+use Rattle.box_answers.specs.NumberSet.{SetOf, set_of, IsIn, IsLeastIn, IsGreatestIn}
+use Rattle.box_answers.specs.Members.{sets_of, set_at}
+use Rattle.box_answers.specs.Changes.{answer_at}
+use Rattle.box_answers.proofs.Sets.{member-changed, change-twice}
+use Rattle.box_answers.proofs.SearchSteps.{both-none, none_by, some_by}
+use Rattle.box_answers.proofs.search.change_both.Goals as goal
+
+pub returns-in-Some-clause-found : goal.returns-in-Some-clause-found
+returns-in-Some-clause-found c = change-twice _ c.args.rule _ _ _ _ _ c.args.want c.changed-least.ensures.others c.in-Some.ensures.found
+
+pub change_second-requires-2-clause-member : goal.change_second-requires-2-clause-member
+change_second-requires-2-clause-member c =
+    member-changed _ _ _ c.args.rule.coord c.greatest.result c.requires.member
+    (subst (λ (s : SetOf). IsIn s c.greatest.result) c.set_at-set.ensures c.greatest.ensures.is_in)
+    c.changed-greatest.ensures.same c.changed-greatest.ensures.others
+
+pub returns-clause-found : goal.returns-clause-found
+returns-clause-found c =
+    some_by c.change_second-2.result c.change_second-2.ensures.found
+    (λ (device : Device). λ found. change-twice _ c.args.rule _ _ _ _ _ c.args.want c.changed-greatest.ensures.others found)
+
+pub returns-clause-none : goal.returns-clause-none
+returns-clause-none c =
+    let rule = c.args.rule in
+    let a = record_number (record_bytes c.args.a.now) in
+    let b = record_number (record_bytes c.args.b.now) in
+    none_by c.change_second-2.result c.change_second-2.ensures.none
+    (λ none. both-none (sets_of c.args.sets.now) rule c.args.second a b c.args.want c.least.result c.greatest.result c.requires.two
+    (subst (λ (s : SetOf). IsLeastIn s c.least.result) c.set_at-set.ensures c.least.ensures)
+    (subst (λ (s : SetOf). IsGreatestIn s c.greatest.result) c.set_at-set.ensures c.greatest.ensures)
+    (λ n is e. c.in_default.ensures.none n is (ap (λ (m : ℕ). answer_at rule a b m n) c.changed-least.ensures.same ∙ e))
+    (λ n is e. none n is (ap (λ (m : ℕ). answer_at rule a b m n) c.changed-greatest.ensures.same ∙ e)))

@@ -1,0 +1,22 @@
+use Rattle.std.proofs.lemmas.List.{drop_more}
+use Rattle.box_answers.proofs.SearchSteps.{Reaches-found, Reaches-alone, Reaches-stops, Reaches-next}
+use Rattle.box_answers.proofs.search.member_of_answer.Goals as goal
+
+pub returns-in-Some-clause-found : goal.returns-in-Some-clause-found
+returns-in-Some-clause-found c =
+    Reaches-found _ _ _ _ _ _ _ c.args.want _ _ c.loop-rule.invariant (drop_more c.args.question.now.rules.now c.loop-rule.rule-index _ c.loop-rule-test.true)
+    c.in-Some.ensures.found.0 c.in-Some.ensures.found.1
+
+pub change_where-requires-clause-in_order : goal.change_where-requires-clause-in_order
+change_where-requires-clause-in_order c =
+    Reaches-alone _ _ _ _ _ _ _ c.args.want _ c.loop-rule.invariant (drop_more c.args.question.now.rules.now c.loop-rule.rule-index _ c.loop-rule-test.true)
+
+pub returns-in-None-clause-none : goal.returns-in-None-clause-none
+returns-in-None-clause-none c =
+    Reaches-stops _ _ _ _ _ _ _ c.args.want _ c.loop-rule.invariant (drop_more c.args.question.now.rules.now c.loop-rule.rule-index _ c.loop-rule-test.true)
+    c.in-None.ensures.none c.in_default.ensures.none
+
+pub loop-rule-preserved : goal.loop-rule-preserved
+loop-rule-preserved c =
+    Reaches-next _ _ _ _ _ _ _ c.args.want _ _ c.loop-rule.invariant (drop_more c.args.question.now.rules.now c.loop-rule.rule-index _ c.loop-rule-test.true)
+    c.in-Some-change_where.ensures.found c.in_default.ensures.none

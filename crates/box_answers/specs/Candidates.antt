@@ -1,0 +1,17 @@
+-- Where a rule is tried: at few numbers of a set, so chosen that a rule which says something anywhere in the set says it at
+-- one of them.
+use Rattle.std.specs.Prelude.{ℕ, ◌+◌, List, [], ◌∷◌, min, max}
+use Rattle.box_answers.specs.NumberSet.{SetOf, RangeOf, NumbersOf, LocalesOf, locale_numbers}
+
+-- the number itself, or the end of the range that is nearer
+abbrev pub clamped : ℕ → ℕ → ℕ → ℕ
+clamped low high n = max low (min n high)
+
+-- Of a range the ends, the two numbers behind the first, and the numbers of which a rule may speak: those of the two
+-- records, a and b, and soft keys. Of a choice all numbers.
+abbrev pub candidates : SetOf → ℕ → ℕ → List ℕ
+candidates (RangeOf low high) a b =
+    low ∷ high ∷ clamped low high (low + 1) ∷ clamped low high (low + 2)
+    ∷ clamped low high a ∷ clamped low high b ∷ clamped low high 3 ∷ []
+candidates (NumbersOf numbers) a b = numbers
+candidates (LocalesOf locales) a b = locale_numbers locales

@@ -1,0 +1,6 @@
+pub mod NumberSet
+pub mod Members
+pub mod Candidates
+pub mod Changes
+pub mod Question
+pub mod Sameness

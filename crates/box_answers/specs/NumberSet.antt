@@ -1,0 +1,54 @@
+-- The numbers that a box allows at a coordinate.
+use Rattle.std.specs.Prelude.{ℕ, ◌<◌, ◌≤◌, List, [], ◌∷◌, map, length, Contains}
+use Rattle.std.specs.List.Sorted.{IsStrictlyIncreasing}
+use Rattle.config_record.specs.declared.locale.Locale.{Locale}
+use Rattle.config_record.specs.ComparedNumber.{locale_number}
+use Rattle.box_answers.specs.declared.number_set.NumberSet.{NumberSet}
+use Rattle.box_answers.specs.declared.number_set.NumberSet.TheVariants.{Range, Numbers, Locales}
+
+-- a range, or a choice of numbers or of locales
+pub data SetOf : Type 0 where
+  -- all from the first to the second
+  RangeOf : ℕ → ℕ → SetOf
+  NumbersOf : List ℕ → SetOf
+  LocalesOf : List Locale → SetOf
+
+-- without where its list lies in memory
+abbrev pub set_of : NumberSet → SetOf
+set_of (Range low high) = RangeOf low high
+set_of (Numbers numbers) = NumbersOf numbers.value.items
+set_of (Locales locales) = LocalesOf locales.value.items
+
+-- locales are compared by their numbers
+abbrev pub locale_numbers : List Locale → List ℕ
+locale_numbers locales = map locale_number locales
+
+-- a number is one of the set
+abbrev pub IsIn : SetOf → ℕ → Type 0
+IsIn (RangeOf low high) n = (low ≤ n) × (n ≤ high)
+IsIn (NumbersOf numbers) n = Contains numbers n
+IsIn (LocalesOf locales) n = Contains (locale_numbers locales) n
+
+-- the two ends of a range, all numbers of a choice
+abbrev pub listed : SetOf → List ℕ
+listed (RangeOf low high) = low ∷ high ∷ []
+listed (NumbersOf numbers) = numbers
+listed (LocalesOf locales) = locale_numbers locales
+
+abbrev pub Rises : SetOf → Type 0
+Rises (RangeOf low high) = low ≤ high
+Rises (NumbersOf numbers) = IsStrictlyIncreasing numbers
+Rises (LocalesOf locales) = IsStrictlyIncreasing (locale_numbers locales)
+
+-- it is not empty, and a choice stands in rising order, each number once
+pub record IsProper (set : SetOf) : Type 0 where
+  pub nonempty : 0 < length (listed set)
+  pub rises : Rises set
+
+pub record IsLeastIn (set : SetOf) (n : ℕ) : Type 0 where
+  pub is_in : IsIn set n
+  pub below : (m : ℕ) → IsIn set m → n ≤ m
+
+pub record IsGreatestIn (set : SetOf) (n : ℕ) : Type 0 where
+  pub is_in : IsIn set n
+  pub above : (m : ℕ) → IsIn set m → m ≤ n

@@ -1,0 +1,58 @@
+//! Where a rule is tried in a set.
+
+ghost use Rattle.std.specs.Prelude.{◌≡◌, ℕ, ◌<◌, ◌≤◌, length, slice_index};
+ghost use Rattle.box_answers.specs.NumberSet.{SetOf, RangeOf, set_of};
+ghost use Rattle.box_answers.specs.Candidates.{clamped, candidates};
+
+use crate::number_set::NumberSet;
+
+/// The number by which keys on the screen are asked for: exposed keys suit them too.
+const SOFT_KEYS: u32 = 3;
+
+/// How many numbers of a range are tried.
+const OF_A_RANGE: usize = 7;
+
+impl NumberSet {
+    /// At how many numbers a rule is tried: at a few of a range, at all of a choice.
+    pub(crate) fn candidate_count(&self) -> usize
+        ensures { (a b : ℕ) → result ≡ length (candidates (set_of self.now) a b) }
+    {
+        match self {
+            NumberSet::Range(_, _) => OF_A_RANGE,
+            _ => self.listed_count(),
+        }
+    }
+
+    /// One of these numbers; `a` and `b` are the numbers of the two records.
+    pub(crate) fn candidate(&self, place: usize, a: u32, b: u32) -> u32
+        requires { place < length (candidates (set_of self.now) a b) }
+        ensures { result ≡ slice_index (candidates (set_of self.now) a b) place }
+    {
+        match self {
+            NumberSet::Range(low, high) => candidate_between(*low, *high, place, a, b),
+            _ => self.listed(place),
+        }
+    }
+}
+
+fn candidate_between(low: u32, high: u32, place: usize, a: u32, b: u32) -> u32
+    requires { place < 7 }
+    ensures { result ≡ slice_index (candidates (RangeOf low high) a b) place }
+{
+    match place {
+        0 => low,
+        1 => high,
+        2 => clamped(low, high, low.saturating_add(1)),
+        3 => clamped(low, high, low.saturating_add(2)),
+        4 => clamped(low, high, a),
+        5 => clamped(low, high, b),
+        _ => clamped(low, high, SOFT_KEYS),
+    }
+}
+
+/// The number itself, or the end of the range that is nearer.
+fn clamped(low: u32, high: u32, number: u32) -> u32
+    ensures { result ≡ clamped low high number }
+{
+    low.max(number.min(high))
+}

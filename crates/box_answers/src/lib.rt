@@ -1,0 +1,22 @@
+//! Boxes of devices, and what all their members answer. A box gives each of the 25 coordinates a set
+//! of numbers: a range, or a choice. Two questions are asked of all members at once, "does this record
+//! match" and "is this record better than that one", and are answered exactly, without a walk over the
+//! members.
+//!
+//! For the crates above: a slice of 25 sets is seen as the list of them (`sets_of`), a device is a
+//! member where each of its numbers lies in the set at its coordinate (`IsMember`), and an answer is
+//! `IsExact`: yes of all members, no of all, or else two members that differ in one coordinate alone
+//! and answer yes and no.
+#![tactic(auto)]
+
+mod candidates;
+mod members;
+mod neighbours;
+mod number_set;
+mod question;
+mod sameness;
+mod search;
+
+pub use members::{corner, is_member, set_at};
+pub use number_set::NumberSet;
+pub use sameness::{Sameness, better_all, match_all};

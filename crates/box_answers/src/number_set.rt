@@ -1,0 +1,78 @@
+//! The numbers that a box allows at a coordinate.
+
+ghost use Rattle.std.specs.Prelude.{◌≡◌, ◌<◌, ◌↔◌, IsTrue, Contains, length, slice_index};
+ghost use Rattle.box_answers.specs.NumberSet.{set_of, locale_numbers, IsIn, listed, IsProper, IsLeastIn, IsGreatestIn};
+
+use config_record::Locale;
+use std::rc::Rc;
+
+/// The numbers that a box allows at a coordinate. The list of a choice is shared by the boxes that have
+/// it.
+#[derive(Drop)]
+pub enum NumberSet {
+    /// All from the first to the second.
+    Range(u32, u32),
+    /// These, in rising order.
+    Numbers(Rc<Vec<u32>>),
+    /// These locales, in the order of their numbers.
+    Locales(Rc<Vec<Locale>>),
+}
+
+impl NumberSet {
+    pub fn contains(&self, number: u32) -> bool
+        ensures { IsTrue result ↔ IsIn (set_of self.now) number }
+    {
+        match self {
+            NumberSet::Range(low, high) => *low <= number && number <= *high,
+            NumberSet::Numbers(numbers) => numbers.as_ref().as_slice().contains(&number),
+            NumberSet::Locales(locales) => is_among(locales.as_ref().as_slice(), number),
+        }
+    }
+
+    /// How many numbers are listed: the two ends of a range, all numbers of a choice.
+    pub(crate) fn listed_count(&self) -> usize
+        ensures { result ≡ length (listed (set_of self.now)) }
+    {
+        match self {
+            NumberSet::Range(_, _) => 2,
+            NumberSet::Numbers(numbers) => numbers.as_ref().len(),
+            NumberSet::Locales(locales) => locales.as_ref().len(),
+        }
+    }
+
+    pub(crate) fn listed(&self, place: usize) -> u32
+        requires { place < length (listed (set_of self.now)) }
+        ensures { result ≡ slice_index (listed (set_of self.now)) place }
+    {
+        match self {
+            NumberSet::Range(low, high) => if place == 0 { *low } else { *high },
+            NumberSet::Numbers(numbers) => numbers.as_ref().as_slice()[place],
+            NumberSet::Locales(locales) => locales.as_ref().as_slice()[place].number(),
+        }
+    }
+
+    pub(crate) fn least(&self) -> u32
+        requires { IsProper (set_of self.now) }
+        ensures { IsLeastIn (set_of self.now) result }
+    {
+        self.listed(0)
+    }
+
+    pub(crate) fn greatest(&self) -> u32
+        requires { IsProper (set_of self.now) }
+        ensures { IsGreatestIn (set_of self.now) result }
+    {
+        self.listed(self.listed_count() - 1)
+    }
+}
+
+fn is_among(locales: &[Locale], number: u32) -> bool
+    ensures { IsTrue result ↔ Contains (locale_numbers locales.now) number }
+{
+    for locale in locales {
+        if locale.number() == number {
+            return true;
+        }
+    }
+    false
+}

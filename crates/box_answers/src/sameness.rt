@@ -1,0 +1,78 @@
+//! The two questions, asked of all members of a box at once.
+
+ghost use Rattle.config_record.specs.Record.{record_bytes};
+ghost use Rattle.config_match.specs.Matching.{is_match};
+ghost use Rattle.config_precedence.specs.Precedence.{is_better};
+ghost use Rattle.config_rules.specs.Reads.{AreReadInOrder};
+ghost use Rattle.box_answers.specs.Members.{sets_of, IsBox};
+ghost use Rattle.box_answers.specs.Question.{answered};
+
+use crate::neighbours::neighbours;
+use crate::number_set::NumberSet;
+use crate::question::{Asked, Question};
+use crate::search::member_where;
+use config_match::conditions;
+use config_precedence::rules;
+use config_record::{Coord, Device, Record};
+
+/// What all members of a box answer.
+#[derive(Clone, Copy, Debug, PartialEq, Eq)]
+pub enum Sameness {
+    /// All answer yes.
+    Always,
+    /// All answer no.
+    Never,
+    /// Two members that differ in this coordinate alone, and by one where it is a range; the first answers
+    /// yes, the second no.
+    Mixed(Device, Device, Coord),
+}
+
+ghost use Rattle.box_answers.specs.Sameness.{IsExact};
+
+/// Does a record match all members, none, or some?
+#[tactic(auto, unfolding(config_match::specs::Matching::is_match))]
+pub fn match_all(sets: &[NumberSet], stored: &Record) -> Sameness
+    requires { IsBox (sets_of sets.now) }
+    ensures { IsExact result (sets_of sets.now) (is_match (record_bytes stored.now)) }
+{
+    if stored.set_aside() {
+        return Sameness::Never;
+    }
+    let question = Question {
+        asked: Asked::Matches,
+        rules: conditions(),
+        a: *stored,
+        b: *stored,
+    };
+    answer_of_all(sets, &question)
+}
+
+/// Is the first of two records better than the second for all members, for none, or for some?
+#[tactic(auto, unfolding(config_precedence::specs::Precedence::is_better))]
+pub fn better_all(sets: &[NumberSet], a: &Record, b: &Record) -> Sameness
+    requires { IsBox (sets_of sets.now) }
+    ensures { IsExact result (sets_of sets.now) (is_better (record_bytes a.now) (record_bytes b.now)) }
+{
+    let question = Question {
+        asked: Asked::IsBetter,
+        rules: rules(),
+        a: *a,
+        b: *b,
+    };
+    answer_of_all(sets, &question)
+}
+
+fn answer_of_all(sets: &[NumberSet], question: &Question) -> Sameness
+    requires sets { IsBox (sets_of sets.now) }
+    requires in_order { AreReadInOrder question.now.rules.now }
+    ensures { IsExact result (sets_of sets.now) (answered question.now) }
+{
+    let Some(yes) = member_where(sets, question, true) else {
+        return Sameness::Never;
+    };
+    let Some(no) = member_where(sets, question, false) else {
+        return Sameness::Always;
+    };
+    let (first, second, coord) = neighbours(sets, question, &yes, &no);
+    Sameness::Mixed(first, second, coord)
+}
