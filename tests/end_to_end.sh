@@ -218,22 +218,56 @@ line memory.err 'out of memory'
 truncate -s 200000000 wide
 ends "no memory" 4 "ulimit -v 60000; exec \"\$0\" rows wide"
 
+# The first bytes are taken, and no more.
+ends "an output that fails on its way" 5 "trap '' XFSZ; ulimit -f 1; exec \"\$0\" rows '$tables/plain.arsc' >begun 2>told"
+ends "an output that fails on its way prints no line" 0 "[ -s begun ] && [ ! -s told ]"
+
+# ---- the least table: no strings and no package
+cp "$here/crates/restool/stdin" whole
+head -c 4 whole >cut
+line no-rows.out 'rows 0 set-aside 0'
+check "rows of a table without rows" 0 no-rows.out $none rows whole
+check "dump of a table without packages" 0 $none $none dump whole
+check "rows of four bytes" 3 $none short.err rows cut
+check "dump of four bytes" 3 $none short.err dump cut
+line layers '[{"table":"whole"}]'
+line device '{"density":160}'
+printf '%s\n' '0x7f010000 absent 0x7f010000' '0x7f010001 absent 0x7f010001' 'set-aside 0' >absent.out
+check "ids that no table has, one in capital digits" 1 absent.out $none query layers device 0x7f010000 0x7F010001
+printf '%s\n' 'lookup 0x7f010000' 'end absent 0x7f010000' >explained.out
+check "an explanation of an id that no table has" 1 explained.out $none explain layers device 0x7f010000
+check "a bag that no table has" 1 bagless.out $none bag layers device 0x7f010000
+check "an attribute after a style that no table has" 1 bagless.out $none attr layers device --keep 0x01010000 0x7f010000
+
+# ---- what comes first: bad ids, then the list of layers, then its files, then the device
+line no-id.err 'command: bad id 0x'
+check "a bad id comes before files" 2 $none no-id.err attr absent device 0x01010000 0x7f010000 0x
+line no-id.err 'command: bad id 0x7f01'
+check "a bad id to explain comes before files" 2 $none no-id.err explain absent device 0x7f01
+line no-id.err 'command: bad id 7'
+check "the first of two bad ids" 2 $none no-id.err query absent device 0x7f010000 7 0x7
+line shape.err 'refused: layers: Shape'
+check "a wrong list of layers comes before an absent device" 3 $none shape.err query device absent 0x7f010000
+line far '[{"table":"whole","map":"nowhere"}]'
+check "an absent id map comes before an absent device" 5 $none nowhere.err query far absent 0x7f010000
+
 # ---- words
-ends "help that was asked for" 0 '"$0" --help >help && grep -q rows help'
-ends "help tells the limit of files" 0 '"$0" --help | grep -q "268,435,456"'
-ends "help of a command" 0 '"$0" rows --help >help && grep -q TABLE help'
-ends "help that names dump" 0 '"$0" --help >help && grep -q dump help'
-ends "help of dump" 0 '"$0" dump --help >help && grep -q TABLE help'
-ends "no such command" 2 '"$0" bogus'
-ends "too few words" 2 '"$0" rows'
+for command in rows dump query explain bag attr; do
+    check "help of $command" 0 "$here/tests/helps/$command.txt" $none "$command" --help
+done
+check "help" 0 "$here/tests/helps/restool.txt" $none --help
+line version.out "restool 0.1.0, proved with $(rt version)"
+check "the version, and the toolchain's" 0 version.out $none --version
+printf '%s\n' "error: unrecognized subcommand 'tables'" '' 'Usage: restool <COMMAND>' '' \
+    "For more information, try '--help'." >tables.err
+check "no such command" 2 $none tables.err tables
+printf '%s\n' 'error: the following required arguments were not provided:' '  <TABLE>' '' \
+    'Usage: restool rows <TABLE>' '' "For more information, try '--help'." >tableless.err
+check "rows without a table" 2 $none tableless.err rows
 ends "dump without a table" 2 '"$0" dump'
-ends "help of query" 0 '"$0" query --help >help && grep -q LAYERS help'
-ends "help of explain" 0 '"$0" explain --help >help && grep -q LAYERS help'
 ends "explain with two ids" 2 '"$0" explain layers device 0x7f010000 0x7f010001'
 ends "explain of a word that is no id" 2 '"$0" explain layers device 0x7f'
 ends "query without an id" 2 '"$0" query layers device'
-ends "help of bag" 0 '"$0" bag --help >help && grep -q LAYERS help'
-ends "help of attr" 0 '"$0" attr --help >help && grep -q -e --keep help'
 ends "bag with two ids" 2 '"$0" bag layers device 0x7f010000 0x7f010001'
 ends "attr without a style" 2 '"$0" attr layers device 0x01010000'
 line attr.err 'command: bad id 0x0101'

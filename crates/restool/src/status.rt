@@ -5,17 +5,17 @@ use resource_tool::ToolFault;
 /// How the program ends.
 #[derive(Clone, Copy, Debug, PartialEq, Eq)]
 pub enum ExitStatus {
-    /// All was done, or help was printed that was asked for.
+    /// All was done, or help or the version was printed that was asked for.
     Done = 0,
-    /// Something that was asked for is not there, or has too many references or parents.
+    /// Something that was asked for does not exist, or has too many references or parents.
     Negative = 1,
-    /// The words are no command line, or one of them is no id.
+    /// A bad command line, or an argument that is not a resource id.
     Command = 2,
-    /// An input is refused.
+    /// An input was rejected.
     Refused = 3,
     /// Memory ran out.
     Memory = 4,
-    /// A file or the output failed, or an input is too large.
+    /// A file could not be read, the output could not be written, or an input is too large.
     Failed = 5,
 }
 

@@ -3,9 +3,13 @@
 ghost use Rattle.std.specs.Prelude.{◌≤◌, length, codes, IsOkAnd};
 ghost use Rattle.restool.specs.Request.{AsksForRows};
 
+use crate::command_line::{
+    ATTRIBUTE, Argument, BAG, BAG_ID, DEVICE, DUMP, EXPLAIN, ID, IDS, KEEP, LAYERS, QUERY, ROWS,
+    STYLES, TABLE, command_line,
+};
 use crate::ids::{read_id, read_ids};
 use crate::stop::Stop;
-use clap::{Arg, ArgAction, ArgMatches, Command};
+use clap::ArgMatches;
 use res_value::ResId;
 use resource_tool::ToolFault;
 use std::alloc::Global;
@@ -16,33 +20,8 @@ use std::rt::Env;
 /// The path that means the standard input where a table is read.
 pub const STANDARD_INPUT: &str = "-";
 
-const TABLE: &str = "TABLE";
-
-const LAYERS: &str = "LAYERS";
-
-const DEVICE: &str = "DEVICE";
-
-const ID: &str = "ID";
-
-const ATTRIBUTE: &str = "ATTR";
-
-const STYLE: &str = "STYLE";
-
-const KEEP: &str = "keep";
-
-const AFTER_HELP: &str = "\
-With no words at all, restool prints the rows of the table on its standard input.
-
-Exit status:
-  0  done
-  1  something that was asked for is not there, or has too many references or parents
-  2  the words are no command line, or one of them is no id
-  3  an input is refused
-  4  out of memory
-  5  a file or the output failed, or an input is larger than 268,435,456 bytes";
-
 /// What the words ask for.
-#[derive(Debug, Drop)]
+#[derive(Drop)]
 pub enum Request<'a> {
     /// The rows of the table at a path.
     Rows {
@@ -61,7 +40,7 @@ pub enum Request<'a> {
 }
 
 /// What is asked of a device.
-#[derive(Debug, Drop)]
+#[derive(Drop)]
 pub enum Question {
     /// What it has for each of some ids.
     Query {
@@ -103,137 +82,85 @@ pub fn read_words<'a>(alloc: Global, words: &'a [String]) -> Result<Request<'a>,
             table: STANDARD_INPUT,
         });
     }
-    let matches = command(alloc)?.try_get_matches_from(words)?;
+    read_command(alloc, words)
+}
+
+fn read_command<'a>(alloc: Global, words: &'a [String]) -> Result<Request<'a>, Stop<'a>> {
+    let matches = command_line(alloc)?.try_get_matches_from(words)?;
     match matches.subcommand() {
-        Some(("rows", given)) => Ok(Request::Rows {
-            table: word(given, TABLE),
-        }),
-        Some(("dump", given)) => Ok(Request::Dump {
-            table: word(given, TABLE),
-        }),
-        Some(("query", given)) => Ok(of_device(given, query(alloc, given)?)),
-        Some(("explain", given)) => Ok(of_device(given, explain(given)?)),
-        Some(("bag", given)) => Ok(of_device(given, bag(given)?)),
-        Some(("attr", given)) => Ok(of_device(given, attr(alloc, given)?)),
-        // There is no other command, and one is required.
-        _ => Ok(Request::Rows {
+        Some((name, given)) => request_of(alloc, name, given),
+        // A command is required, so there is one.
+        None => Ok(Request::Rows {
             table: STANDARD_INPUT,
         }),
     }
 }
 
-// What is asked of the layers and the device that are given.
-fn of_device<'a>(given: &ArgMatches<'a>, question: Question) -> Request<'a> {
-    Request::OfDevice {
-        layers: word(given, LAYERS),
-        device: word(given, DEVICE),
-        question,
+// What a command asks for that has these arguments.
+fn request_of<'a>(
+    alloc: Global,
+    name: &str,
+    given: &ArgMatches<'a>,
+) -> Result<Request<'a>, Stop<'a>> {
+    match name {
+        ROWS => Ok(Request::Rows {
+            table: given_word(given, &TABLE),
+        }),
+        DUMP => Ok(Request::Dump {
+            table: given_word(given, &TABLE),
+        }),
+        _ => Ok(Request::OfDevice {
+            layers: given_word(given, &LAYERS),
+            device: given_word(given, &DEVICE),
+            question: question_of(alloc, name, given)?,
+        }),
     }
 }
 
-fn query<'a>(alloc: Global, given: &ArgMatches<'a>) -> Result<Question, Stop<'a>> {
-    Ok(Question::Query {
-        ids: read_ids(alloc, given.get_strs(ID).unwrap_or(&[]))?,
-    })
+fn question_of<'a>(
+    alloc: Global,
+    name: &str,
+    given: &ArgMatches<'a>,
+) -> Result<Question, Stop<'a>> {
+    match name {
+        QUERY => Ok(Question::Query {
+            ids: given_ids(alloc, given, &IDS)?,
+        }),
+        EXPLAIN => Ok(Question::Explain {
+            id: given_id(given, &ID)?,
+        }),
+        BAG => Ok(Question::Bag {
+            id: given_id(given, &BAG_ID)?,
+        }),
+        // ATTR, since there is no other command.
+        _ => Ok(Question::Attr {
+            attr: given_id(given, &ATTRIBUTE)?,
+            styles: given_ids(alloc, given, &STYLES)?,
+            force: !given.get_flag(KEEP.name),
+        }),
+    }
 }
 
-fn explain<'a>(given: &ArgMatches<'a>) -> Result<Question, Stop<'a>> {
-    Ok(Question::Explain {
-        id: read_id(word(given, ID))?,
-    })
+fn given_id<'a>(given: &ArgMatches<'a>, argument: &Argument) -> Result<ResId, Stop<'a>> {
+    read_id(given_word(given, argument))
 }
 
-fn bag<'a>(given: &ArgMatches<'a>) -> Result<Question, Stop<'a>> {
-    Ok(Question::Bag {
-        id: read_id(word(given, ID))?,
-    })
+fn given_ids<'a>(
+    alloc: Global,
+    given: &ArgMatches<'a>,
+    argument: &Argument,
+) -> Result<Vec<ResId>, Stop<'a>> {
+    read_ids(alloc, given_words(given, argument).unwrap_or(&[]))
 }
 
-fn attr<'a>(alloc: Global, given: &ArgMatches<'a>) -> Result<Question, Stop<'a>> {
-    Ok(Question::Attr {
-        attr: read_id(word(given, ATTRIBUTE))?,
-        styles: read_ids(alloc, given.get_strs(STYLE).unwrap_or(&[]))?,
-        force: !given.get_flag(KEEP),
-    })
+// The word of an argument, which is required.
+fn given_word<'a>(given: &ArgMatches<'a>, argument: &Argument) -> &'a str {
+    match given_words(given, argument) {
+        Some([word, ..]) => *word,
+        _ => STANDARD_INPUT,
+    }
 }
 
-// The word that is given under a name, each of which is required.
-fn word<'a>(given: &ArgMatches<'a>, name: &str) -> &'a str {
-    given.get_str(name).unwrap_or(STANDARD_INPUT)
-}
-
-// The command line that is understood.
-fn command<'a>(alloc: Global) -> Result<Command<'a>, clap::Error> {
-    let rows = Command::new(alloc, "rows")
-        .about("Prints the rows of a table, in the order of the file")
-        .arg(table(alloc))?;
-    let dump = Command::new(alloc, "dump")
-        .about("Prints the packages of a table, and their rows with names")
-        .arg(table(alloc))?;
-    let query = asking(alloc, "query")?
-        .about("Prints what a device has for each id")
-        .arg(some(alloc, ID, "Id of a resource, as 0x7f010000"))?;
-    let explain = asking(alloc, "explain")?
-        .about("Prints how a device comes by what it has for an id")
-        .arg(one(alloc, ID, "Id of a resource, as 0x7f010000"))?;
-    let bag = asking(alloc, "bag")?
-        .about("Prints the rows of a bag, such as a style, with those that it inherits")
-        .arg(one(alloc, ID, "Id of the bag, as 0x7f010000"))?;
-    let attr = asking(alloc, "attr")?
-        .about("Prints where an attribute ends after styles")
-        .arg(keep(alloc))?
-        .arg(one(alloc, ATTRIBUTE, "Id of the attribute, as 0x01010000"))?
-        .arg(some(alloc, STYLE, "Id of a style, as 0x7f010000"))?;
-    let restool = Command::new(alloc, "restool")
-        .about("Reads Android's compiled resource tables (resources.arsc)")
-        .after_help(AFTER_HELP)
-        .subcommand_required(true)
-        .subcommand(rows)?
-        .subcommand(dump)?
-        .subcommand(query)?
-        .subcommand(explain)?
-        .subcommand(bag)?
-        .subcommand(attr)?;
-    Ok(restool)
-}
-
-fn table<'a>(alloc: Global) -> Arg<'a> {
-    one(
-        alloc,
-        TABLE,
-        "Path of the table, or - for the standard input",
-    )
-}
-
-// One word.
-fn one<'a>(alloc: Global, name: &'a str, help: &'a str) -> Arg<'a> {
-    Arg::new(alloc, name)
-        .help(help)
-        .required(true)
-        .action(ArgAction::Set)
-}
-
-// One word or more.
-fn some<'a>(alloc: Global, name: &'a str, help: &'a str) -> Arg<'a> {
-    Arg::new(alloc, name)
-        .help(help)
-        .required(true)
-        .num_args(1..)
-        .action(ArgAction::Append)
-}
-
-// Whether styles are applied without force.
-fn keep<'a>(alloc: Global) -> Arg<'a> {
-    Arg::new(alloc, KEEP)
-        .long(KEEP)
-        .help("A style leaves what a style before it has set")
-        .action(ArgAction::SetTrue)
-}
-
-// A command that is asked of layers and a device.
-fn asking<'a>(alloc: Global, name: &'a str) -> Result<Command<'a>, clap::Error> {
-    let command = Command::new(alloc, name)
-        .arg(one(alloc, LAYERS, "Path of the JSON list of layers"))?
-        .arg(one(alloc, DEVICE, "Path of the device, a JSON object"))?;
-    Ok(command)
+fn given_words<'g, 'a>(given: &'g ArgMatches<'a>, argument: &Argument) -> Option<&'g [&'a str]> {
+    given.get_strs(argument.name)
 }

@@ -1,0 +1,186 @@
+//! The command line that is understood: its commands, their arguments, and the texts of their helps.
+
+use clap::{Arg, ArgAction, Command};
+use std::alloc::Global;
+
+/// What `--version` prints behind the program's name: its version, and the line of `rt version` that
+/// it was proved with.
+const VERSION: &str = "0.1.0, proved with rattle-kit-13b logic dac8208d650f15bf";
+
+const ABOUT: &str = "Reads Android's compiled resource tables (resources.arsc)";
+
+const AFTER_HELP: &str = "\
+With no arguments, restool prints the rows of the table on standard input.
+
+Exit status:
+  0  done
+  1  something you asked for does not exist, or has too many references or parents
+  2  bad command line, or an argument that is not a resource id
+  3  an input was rejected
+  4  out of memory
+  5  a file could not be read, the output could not be written, or an input is
+     larger than 268,435,456 bytes";
+
+pub const ROWS: &str = "rows";
+
+pub const DUMP: &str = "dump";
+
+pub const QUERY: &str = "query";
+
+pub const EXPLAIN: &str = "explain";
+
+pub const BAG: &str = "bag";
+
+pub const ATTR: &str = "attr";
+
+/// A command, and the arguments behind its name.
+struct Subcommand {
+    name: &'static str,
+    about: &'static str,
+    arguments: &'static [Argument],
+}
+
+const SUBCOMMANDS: &[Subcommand] = &[
+    Subcommand {
+        name: ROWS,
+        about: "Prints the rows of a table, in the order of the file",
+        arguments: &[TABLE],
+    },
+    Subcommand {
+        name: DUMP,
+        about: "Prints the packages of a table, and its rows with their names and strings",
+        arguments: &[TABLE],
+    },
+    Subcommand {
+        name: QUERY,
+        about: "Prints the value that a device loads for each id",
+        arguments: &[LAYERS, DEVICE, IDS],
+    },
+    Subcommand {
+        name: EXPLAIN,
+        about: "Prints each candidate for an id, and the rule by which it won or lost",
+        arguments: &[LAYERS, DEVICE, ID],
+    },
+    Subcommand {
+        name: BAG,
+        about: "Prints the rows of a style, an array or plurals, with those that it inherits",
+        arguments: &[LAYERS, DEVICE, BAG_ID],
+    },
+    Subcommand {
+        name: ATTR,
+        about: "Prints an attribute's value in the theme that those styles build",
+        arguments: &[KEEP, LAYERS, DEVICE, ATTRIBUTE, STYLES],
+    },
+];
+
+/// An argument of a command.
+#[derive(Clone, Copy)]
+pub struct Argument {
+    pub name: &'static str,
+    takes: Takes,
+    help: &'static str,
+}
+
+/// What an argument takes.
+#[derive(Clone, Copy)]
+enum Takes {
+    OneWord,
+    Words,
+    /// Nothing: it is a flag.
+    Nothing,
+}
+
+pub const TABLE: Argument = Argument {
+    name: "TABLE",
+    takes: Takes::OneWord,
+    help: "Path of the resources.arsc, or - for standard input",
+};
+
+pub const LAYERS: Argument = Argument {
+    name: "LAYERS",
+    takes: Takes::OneWord,
+    help: "Path of the JSON list of layers",
+};
+
+pub const DEVICE: Argument = Argument {
+    name: "DEVICE",
+    takes: Takes::OneWord,
+    help: "Path of the JSON object with the device's qualifiers",
+};
+
+pub const ID: Argument = Argument {
+    name: "ID",
+    takes: Takes::OneWord,
+    help: "Resource id, such as 0x7f010000",
+};
+
+pub const IDS: Argument = Argument {
+    name: "ID",
+    takes: Takes::Words,
+    help: "Resource id, such as 0x7f010000",
+};
+
+pub const BAG_ID: Argument = Argument {
+    name: "ID",
+    takes: Takes::OneWord,
+    help: "Resource id of the bag, such as 0x7f010000",
+};
+
+pub const ATTRIBUTE: Argument = Argument {
+    name: "ATTR",
+    takes: Takes::OneWord,
+    help: "Resource id of the attribute, such as 0x01010000",
+};
+
+pub const STYLES: Argument = Argument {
+    name: "STYLE",
+    takes: Takes::Words,
+    help: "Resource id of a style, such as 0x7f010000",
+};
+
+pub const KEEP: Argument = Argument {
+    name: "keep",
+    takes: Takes::Nothing,
+    help: "Keep what an earlier style has set, as applyStyle(style, false) does",
+};
+
+/// The command line, for a parse.
+pub fn command_line<'a>(alloc: Global) -> Result<Command<'a>, clap::Error> {
+    let mut program = Command::new(alloc, "restool")
+        .about(ABOUT)
+        .version(VERSION)
+        .after_help(AFTER_HELP)
+        .subcommand_required(true);
+    for subcommand in SUBCOMMANDS {
+        let built = built_subcommand(alloc, subcommand)?;
+        program = with_subcommand(program, built)?;
+    }
+    Ok(program)
+}
+
+fn with_subcommand<'a>(
+    program: Command<'a>,
+    subcommand: Command<'a>,
+) -> Result<Command<'a>, clap::Error> {
+    Ok(program.subcommand(subcommand)?)
+}
+
+fn built_subcommand<'a>(
+    alloc: Global,
+    subcommand: &Subcommand,
+) -> Result<Command<'a>, clap::Error> {
+    let mut command = Command::new(alloc, subcommand.name).about(subcommand.about);
+    for argument in subcommand.arguments {
+        command = command.arg(built_argument(alloc, argument))?;
+    }
+    Ok(command)
+}
+
+fn built_argument<'a>(alloc: Global, argument: &Argument) -> Arg<'a> {
+    let arg = Arg::new(alloc, argument.name).help(argument.help);
+    match argument.takes {
+        Takes::OneWord => arg.required(true).action(ArgAction::Set),
+        Takes::Words => arg.required(true).num_args(1..).action(ArgAction::Append),
+        Takes::Nothing => arg.long(argument.name).action(ArgAction::SetTrue),
+    }
+}

@@ -1,0 +1,326 @@
+#!/usr/bin/env python3
+"""Proves the crates below a crate side by side, and then proves and builds that crate.
+
+usage: tools/prove.py [CRATE]        CRATE is restool if it is left out
+
+A crate is proved once those below it are, first those with the most work behind them, each with the
+jobs that processors and memory allow. A run of rt locks its crate and all crates below it, so each
+run here works on a copy of what it reads, and what it made is then moved to the crate's out/, whole
+or not at all. What rt finds up to date is not proved again.
+"""
+import fcntl
+import glob
+import os
+import re
+import shutil
+import signal
+import subprocess
+import sys
+import time
+from concurrent.futures import FIRST_COMPLETED, ThreadPoolExecutor, wait
+
+ROOT = os.path.dirname(os.path.dirname(os.path.realpath(__file__)))
+LIST = f"{ROOT}/crates.txt"
+LOGS = f"{ROOT}/out/proofs"
+# How the name of the folder begins, in out/ of the crate that is asked for, in which the copies lie.
+ROOMS = "proofs-"
+SOURCES = ("src", "specs", "proofs")
+# What a proof leaves in out/: work that a later proof begins with, and the library.
+MADE = ("incremental", "rlib")
+# The memory that a check takes: at least so much, so much for a line of the crate and for one below,
+# and for each further job such a part of it again.
+LEAST_BYTES = 1_500_000_000
+BYTES_OF_A_LINE = 1_000_000
+BYTES_OF_A_LINE_BELOW = 100_000
+PART_OF_A_JOB = 0.6
+# More jobs than this gain little.
+MOST_JOBS = 4
+# How many last lines of a log are shown where a proof fails.
+SHOWN = 12
+# The limits of a control group on memory and what is held of it, in its two versions.
+MEMORY_LIMITS = (
+    ("/sys/fs/cgroup/memory.max", "/sys/fs/cgroup/memory.current"),
+    ("/sys/fs/cgroup/memory/memory.limit_in_bytes", "/sys/fs/cgroup/memory/memory.usage_in_bytes"),
+)
+PROCESSOR_LIMIT = "/sys/fs/cgroup/cpu.max"
+
+
+class NotProved(Exception):
+    """What to say where a crate is not proved."""
+
+
+def say(text):
+    print(f"restool: {text}", file=sys.stderr, flush=True)
+
+
+def number_in(file, pattern=r"(\d+)"):
+    """The number that stands in a file of the system, or None."""
+    try:
+        with open(file, encoding="utf-8") as it:
+            return int(re.search(pattern, it.read())[1])
+    except (OSError, TypeError):
+        return None
+
+
+def processors():
+    """How many processors there are to use."""
+    found = len(os.sched_getaffinity(0))
+    quota, period = number_in(PROCESSOR_LIMIT, r"^(\d+)"), number_in(PROCESSOR_LIMIT, r" (\d+)")
+    return max(1, min(found, quota // period)) if quota and period else found
+
+
+def free_memory():
+    """How many bytes of memory are free."""
+    found = [1024 * number_in("/proc/meminfo", r"MemAvailable:\s+(\d+)")]
+    for limit, held in MEMORY_LIMITS:
+        limit, held = number_in(limit), number_in(held)
+        if limit and held:
+            found.append(limit - held)
+    return min(found)
+
+
+class Crate:
+    """A line of crates.txt, with the crates of this repository that it stands on, lowest first."""
+
+    def __init__(self, line, known):
+        self.line = line
+        head, _, uses = line.partition(":")
+        self.name = head.split()[0]
+        self.folder = f"{ROOT}/crates/{self.name}"
+        self.uses = [known[it] for it in uses.split() if it in known]
+        self.below = []
+        for use in self.uses:
+            self.below += [it for it in [*use.below, use] if it not in self.below]
+        files = [*self.sources()]
+        self.newest = max(map(os.path.getmtime, [LIST, *files]))
+        self.lines = sum(map(lines_in, (it for it in files if it.endswith(".rt"))))
+
+    def sources(self):
+        for part in SOURCES:
+            for folder, _, names in os.walk(f"{self.folder}/{part}"):
+                yield from (f"{folder}/{it}" for it in names)
+
+    def memory(self, jobs):
+        """How many bytes of memory a check with so many jobs takes, at most."""
+        lines_below = sum(it.lines for it in self.below)
+        of_one = LEAST_BYTES + BYTES_OF_A_LINE * self.lines + BYTES_OF_A_LINE_BELOW * lines_below
+        return of_one * (1 + PART_OF_A_JOB * (jobs - 1))
+
+    def jobs_within(self, memory):
+        """How many jobs a check may have in so many bytes of memory; none, if one needs more."""
+        return max((it for it in range(1, MOST_JOBS + 1) if self.memory(it) <= memory), default=0)
+
+    def may_be_old(self):
+        """Whether its library is missing, or a source is newer. Of such crates rt says which it proves again."""
+        stamp = f"{self.folder}/out/rlib/stamp"
+        if not os.path.isfile(stamp):
+            return True
+        made = os.path.getmtime(stamp)
+        return any(it.newest > made for it in [*self.below, self])
+
+
+def lines_in(file):
+    with open(file, "rb") as it:
+        return it.read().count(b"\n")
+
+
+def read_crates():
+    """The crates of the repository by name. crates.txt has each after those that it stands on."""
+    known = {}
+    with open(LIST, encoding="utf-8") as it:
+        lines = [line.partition("#")[0].strip() for line in it]
+    for line in filter(None, lines):
+        crate = Crate(line, known)
+        known[crate.name] = crate
+    return known
+
+
+def work_behind(crates):
+    """For each crate the lines of the longest chain of crates, each standing on the one before, that begins with it."""
+    found = {}
+    for crate in reversed(crates):
+        above = [found[it] for it in crates if crate in it.uses]
+        found[crate] = crate.lines + max(above, default=0)
+    return found
+
+
+def link_tree(source, target):
+    """Copies a folder, if it is there: its files by hard links where the system has them."""
+
+    def link(file, to):
+        try:
+            os.link(file, to)
+        except OSError:
+            shutil.copy2(file, to)
+
+    if os.path.isdir(source):
+        shutil.copytree(source, target, copy_function=link)
+
+
+class Room:
+    """A copy of a crate and of the libraries below it, in which rt proves the crate."""
+
+    def __init__(self, rooms, crate):
+        self.crate, self.top = crate, f"{rooms}/{crate.name}"
+        self.folder = f"{self.top}/crates/{crate.name}"
+        for it in [*crate.below, crate]:
+            for part in SOURCES:
+                link_tree(f"{it.folder}/{part}", f"{self.top}/crates/{it.name}/{part}")
+            link_tree(f"{it.folder}/out/rlib", f"{self.top}/crates/{it.name}/out/rlib")
+        link_tree(f"{crate.folder}/out/incremental", f"{self.folder}/out/incremental")
+        with open(f"{self.top}/crates.txt", "w", encoding="utf-8") as file:
+            file.writelines(f"{it.line}\n" for it in [*crate.below, crate])
+
+    def give_back(self):
+        """Moves what was made to the crate: the library last, and by a rename, so that no half of it is ever there."""
+        os.utime(f"{self.folder}/out/rlib/stamp")
+        os.makedirs(f"{self.crate.folder}/out", exist_ok=True)
+        for part in MADE:
+            made, to = f"{self.folder}/out/{part}", f"{self.crate.folder}/out/{part}"
+            if os.path.isdir(to):
+                os.rename(to, f"{self.top}/{part}")
+            if os.path.isdir(made):
+                os.rename(made, to)
+        shutil.rmtree(self.top)
+
+
+class Prover:
+    """Proves a crate and those below it."""
+
+    def __init__(self, crate):
+        self.crate, self.rooms = crate, f"{crate.folder}/out/{ROOMS}{os.getpid()}"
+        self.left, self.count, self.started = [], 0, 0
+        self.runs, self.is_ending = {}, False
+
+    def prove(self):
+        held = self.lock()
+        for it in glob.glob(f"{self.crate.folder}/out/{ROOMS}*"):
+            shutil.rmtree(it, ignore_errors=True)  # of a run that was killed
+        try:
+            self.prove_libraries()
+        finally:
+            shutil.rmtree(self.rooms, ignore_errors=True)
+            for it in held:
+                os.close(it)
+        self.prove_top()
+
+    def lock(self):
+        """Keeps runs of rt out of the crates, as rt itself does, until what this returns is closed."""
+        held = []
+        for crate in sorted([*self.crate.below, self.crate], key=lambda it: it.folder):
+            held.append(os.open(crate.folder, os.O_RDONLY))
+            try:
+                fcntl.flock(held[-1], fcntl.LOCK_EX | fcntl.LOCK_NB)
+            except BlockingIOError:
+                say(f"waiting for another run of rt in {crate.folder}")
+                fcntl.flock(held[-1], fcntl.LOCK_EX)
+            except OSError:
+                pass  # some file systems have no locks
+        return held
+
+    def prove_libraries(self):
+        behind = work_behind([*self.crate.below, self.crate])
+        old = [it for it in self.crate.below if it.may_be_old()]
+        self.left = sorted(old, key=behind.get, reverse=True)
+        self.count = len(old) + 1
+        running = {}
+        with ThreadPoolExecutor(processors()) as pool:
+            try:
+                while self.left or running:
+                    self.start_runs(pool, running)
+                    for it in wait(running, return_when=FIRST_COMPLETED).done:
+                        running.pop(it)
+                        it.result()
+            finally:
+                self.end()
+
+    def start_runs(self, pool, running):
+        """Starts to prove the crates that can be proved now, beside those that are running."""
+        waited_for = {*self.left, *(crate for crate, _ in running.values())}
+        ready = [it for it in self.left if not waited_for & {*it.below}]
+        idle = processors() - sum(jobs for _, jobs in running.values())
+        # what the runs hold by now is no longer free, and they may come to hold the other half
+        memory = free_memory() - sum(crate.memory(jobs) for crate, jobs in running.values()) / 2
+        for at, crate in enumerate(ready):
+            within = crate.jobs_within(memory)
+            if idle > 0 and (within > 0 or not running):
+                # the first gets the processors that no other crate waits for
+                jobs = max(1, min(within, idle - (len(ready) - at - 1)))
+                idle, memory = idle - jobs, memory - crate.memory(jobs)
+                self.left.remove(crate)
+                self.tell(crate)
+                running[pool.submit(self.prove_library, crate, jobs)] = crate, jobs
+
+    def tell(self, crate):
+        self.started += 1
+        say(f"proving {self.started} of {self.count}: {crate.name}")
+
+    def prove_library(self, crate, jobs):
+        if not self.is_ending:
+            room = Room(self.rooms, crate)
+            self.run(crate, room.folder, "lib", "--jobs", str(jobs))
+        if not self.is_ending:
+            room.give_back()
+
+    def prove_top(self):
+        """Proves the crate itself in its own folder, and builds it if it is a program."""
+        self.tell(self.crate)
+        self.is_ending = False
+        jobs = ["--jobs", str(max(1, min(self.crate.jobs_within(free_memory()), processors())))]
+        if os.path.isfile(f"{self.crate.folder}/src/main.rt"):
+            self.run(self.crate, self.crate.folder, "run", *jobs, "--", "--version")
+        else:
+            self.run(self.crate, self.crate.folder, "lib", *jobs)
+
+    def run(self, crate, folder, *words):
+        """Runs rt in a folder. Its output goes to the crate's log."""
+        log = f"{LOGS}/{crate.name}.log"
+        with open(log, "w", encoding="utf-8") as out:
+            how = {"cwd": folder, "stdin": subprocess.DEVNULL, "stdout": out, "stderr": subprocess.STDOUT}
+            ran = self.runs[crate.name] = subprocess.Popen(["rt", *words], **how)
+            if self.is_ending:
+                ran.terminate()
+            status = ran.wait()
+        if status and not self.is_ending:
+            with open(log, encoding="utf-8", errors="replace") as it:
+                last = "".join(it.readlines()[-SHOWN:])
+            raise NotProved(f"{crate.name} was not proved; {log} has more\n{last.rstrip()}")
+
+    def end(self):
+        """Ends all runs. Their rooms are thrown away."""
+        self.is_ending = True
+        for ran in [*self.runs.values()]:
+            ran.terminate()
+
+
+def main(words):
+    if len(words) > 1 or any(it.startswith("-") for it in words):
+        print(__doc__, end="", file=sys.stderr)
+        return 2
+    crates, name = read_crates(), words[0] if words else "restool"
+    if name not in crates:
+        say(f"crates.txt has no crate {name}")
+        return 2
+    if not shutil.which("rt"):
+        say("rt is not on the path: it comes with the Rattle toolchain")
+        return 1
+    os.makedirs(LOGS, exist_ok=True)
+    # so that what is begun is ended and thrown away
+    for it in (signal.SIGTERM, signal.SIGHUP):
+        signal.signal(it, lambda number, _: sys.exit(128 + number))
+    start = time.monotonic()
+    try:
+        Prover(crates[name]).prove()
+    except NotProved as why:
+        say(why)
+        return 1
+    except KeyboardInterrupt:
+        say("interrupted; the crates that are proved stay proved")
+        return 130
+    took = round(time.monotonic() - start)
+    say(f"proved in {took // 60} min {took % 60} s")
+    return 0
+
+
+if __name__ == "__main__":
+    sys.exit(main(sys.argv[1:]))
