@@ -101,6 +101,3 @@ impl Device {
         Locale::of_number(self.compared_number(Coord::Locale))
     }
 }
-
-#[cfg(test)]
-mod tests;
