@@ -11,8 +11,6 @@
 mod matching;
 mod reason;
 mod table;
-#[cfg(test)]
-mod tests;
 
 pub use matching::{matches, mismatch};
 pub use reason::Mismatch;

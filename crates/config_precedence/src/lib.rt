@@ -11,8 +11,6 @@
 mod equal_record;
 mod precedence;
 mod table;
-#[cfg(test)]
-mod tests;
 
 pub use equal_record::same;
 pub use precedence::{better, deciding};

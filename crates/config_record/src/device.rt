@@ -134,6 +134,3 @@ impl Device {
         Device { numbers }
     }
 }
-
-#[cfg(test)]
-mod tests;

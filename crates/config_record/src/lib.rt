@@ -24,8 +24,6 @@ mod locale;
 mod qualifiers;
 mod record;
 mod separator;
-#[cfg(test)]
-mod tests;
 mod zero;
 
 pub use coord::Coord;

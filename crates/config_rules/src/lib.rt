@@ -22,8 +22,6 @@ mod locale;
 mod rule;
 mod screen_size;
 mod table;
-#[cfg(test)]
-mod tests;
 
 pub use answer::Answer;
 pub use kind::{Kind, Numbers};

@@ -20,8 +20,6 @@
 #![tactic(auto)]
 
 mod shape;
-#[cfg(test)]
-mod tests;
 mod value;
 
 pub use shape::has_only;

@@ -27,8 +27,6 @@ mod map_fault;
 mod pairs;
 mod stack;
 mod stack_fault;
-#[cfg(test)]
-mod tests;
 
 pub use candidate::Cand;
 pub use candidates::Cands;

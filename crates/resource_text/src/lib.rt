@@ -37,6 +37,3 @@ pub use fault::{ToolFault, fault_text};
 pub use layers_fault::LayersFault;
 pub use query::{query_line, set_aside_line};
 pub use rows::rows_text;
-
-#[cfg(test)]
-mod tests;

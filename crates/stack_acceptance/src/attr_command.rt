@@ -1,16 +1,17 @@
 //! Where attributes end, printed.
 
+use crate::row::check;
 use res_value::ResId;
 use resource_tool::{Status, attr_bytes};
 use std::alloc::Global;
-use std::process::Abort;
-use std::test::Fail;
-use test_layers::layer;
+use test_layers::{chain, layer_of_lines};
 
-/// The resources of entries 0 and 1, which are styles, and one that is not there.
+/// The resources of entries 0, 1 and 2, and one that is not there.
 const FIRST: ResId = ResId(0x7f01_0000);
 
 const SECOND: ResId = ResId(0x7f01_0001);
+
+const THIRD: ResId = ResId(0x7f01_0002);
 
 const NOWHERE: ResId = ResId(0x7f01_0009);
 
@@ -23,119 +24,144 @@ const C: ResId = ResId(0x0101_0003);
 
 const D: ResId = ResId(0x0101_0004);
 
-// What is printed of an attribute of a base at a device of density 160, behind styles.
-fn check_attribute<R: Abort + AllocGlobal>(
-    rt: &R,
-    rows: &[&str],
-    asked: (ResId, &[ResId], bool),
+/// What is asked of a base, whether styles are forced, and how the command ends.
+#[derive(Clone, Copy)]
+struct Asked<'a> {
+    attr: ResId,
+    styles: &'a [ResId],
+    force: bool,
     status: Status,
-    want: &str,
-) -> Result<(), Fail> {
-    let base = layer(rt.alloc(), rows)?;
-    let mut out = Vec::new(rt.alloc());
-    let (attr, styles, force) = asked;
-    let device = br#"{"density":160}"#;
-    let layers: [(&[u8], Option<&[u8]>); 1] = [(&base, None)];
-    let ended = attr_bytes(rt.alloc(), &layers, device, attr, styles, force, &mut out)?;
-    assert_eq!(rt; out.as_slice(), want.as_bytes());
-    assert_eq!(rt; ended, status);
-    Ok(())
 }
 
-const STYLES: [&str; 2] = [
-    "0 [] bag 0x00000000 0x01010001=1 0x01010002=empty",
-    "1 [] bag 0x00000000 0x01010001=2 0x01010002=2 0x01010003=?0x01010001",
+// Whether an attribute of a base is printed so, at a device of density 160.
+fn is_printed_as(alloc: Global, lines: &str, asked: &Asked, want: &str) -> Option<bool> {
+    let base = layer_of_lines(alloc, lines).ok()?;
+    let mut out = Vec::new(alloc);
+    let ended = attr_bytes(
+        alloc,
+        &[(&base, None)],
+        br#"{"density":160}"#,
+        asked.attr,
+        asked.styles,
+        asked.force,
+        &mut out,
+    );
+    Some(ended == Ok(asked.status) && out.as_slice() == want.as_bytes())
+}
+
+/// Two styles: without force the second leaves what the first has set.
+const STYLES: &str = "\
+0 [] bag 0x00000000 0x01010001=1 0x01010002=empty
+1 [] bag 0x00000000 0x01010001=2 0x01010002=2 0x01010003=?0x01010001";
+
+/// An attribute, whether the styles are forced, how the command ends, and what is printed.
+const ATTRIBUTES: [(ResId, bool, Status, &str); 6] = [
+    (
+        A,
+        false,
+        Status::Done,
+        "0x01010001 value layer 0 decimal 1\n",
+    ),
+    (B, false, Status::Done, "0x01010002 value layer 0 empty\n"),
+    (
+        C,
+        false,
+        Status::Done,
+        "0x01010003 value layer 0 decimal 1\n",
+    ),
+    (D, false, Status::Negative, "0x01010004 absent 0x01010004\n"),
+    (
+        A,
+        true,
+        Status::Done,
+        "0x01010001 value layer 0 decimal 2\n",
+    ),
+    (
+        B,
+        true,
+        Status::Done,
+        "0x01010002 value layer 0 decimal 2\n",
+    ),
 ];
 
-#[test]
-fn keeps_what_styles_have_set(rt: HostRuntime) -> Result<(), Fail> {
-    let cases = [
-        (A, Status::Done, "0x01010001 value layer 0 decimal 1\n"),
-        (B, Status::Done, "0x01010002 value layer 0 empty\n"),
-        (C, Status::Done, "0x01010003 value layer 0 decimal 1\n"),
-        (D, Status::Negative, "0x01010004 absent 0x01010004\n"),
-    ];
-    for (attr, status, want) in cases {
-        check_attribute(&rt, &STYLES, (attr, &[FIRST, SECOND], false), status, want)?;
+// The first text that is not printed.
+fn other_attribute(alloc: Global) -> Option<&'static str> {
+    for (attr, force, status, want) in &ATTRIBUTES {
+        let asked = Asked {
+            attr: *attr,
+            styles: &[FIRST, SECOND],
+            force: *force,
+            status: *status,
+        };
+        if is_printed_as(alloc, STYLES, &asked, want) != Some(true) {
+            return Some(*want);
+        }
     }
-    Ok(())
-}
-
-#[test]
-fn forces_styles(rt: HostRuntime) -> Result<(), Fail> {
-    let cases = [
-        (A, "0x01010001 value layer 0 decimal 2\n"),
-        (B, "0x01010002 value layer 0 decimal 2\n"),
-    ];
-    for (attr, want) in cases {
-        check_attribute(
-            &rt,
-            &STYLES,
-            (attr, &[FIRST, SECOND], true),
-            Status::Done,
-            want,
-        )?;
-    }
-    Ok(())
+    None
 }
 
 #[test]
-fn tells_of_cycles(rt: HostRuntime) -> Result<(), Fail> {
-    let rows = ["0 [] bag 0x00000000 0x01010003=?0x01010003"];
-    let want = "0x01010003 too long 0x01010003\n";
-    check_attribute(&rt, &rows, (C, &[FIRST], true), Status::Negative, want)
+fn prints_where_attributes_end(rt: HostRuntime) {
+    check(&rt, other_attribute(rt.alloc()));
+}
+
+/// A style whose attribute names itself, a value, and a style that is its own parent.
+const REFUSED: &str = "\
+0 [] bag 0x00000000 0x01010003=?0x01010003
+1 [] 5
+2 [] bag 0x7f010002";
+
+/// Styles, and what is printed.
+const NO_END: [(&[ResId], &str); 4] = [
+    (&[FIRST], "0x01010003 too long 0x01010003\n"),
+    (&[FIRST, NOWHERE, SECOND], "no bag Absent\n"),
+    (&[FIRST, SECOND, NOWHERE], "no bag Plain\n"),
+    (&[THIRD, NOWHERE], "no bag BagDepth\n"),
+];
+
+// The first text that is not printed.
+fn other_refusal(alloc: Global) -> Option<&'static str> {
+    for (styles, want) in &NO_END {
+        let asked = Asked {
+            attr: C,
+            styles: *styles,
+            force: true,
+            status: Status::Negative,
+        };
+        if is_printed_as(alloc, REFUSED, &asked, want) != Some(true) {
+            return Some(*want);
+        }
+    }
+    None
 }
 
 #[test]
-fn tells_of_the_first_style_without_rows(rt: HostRuntime) -> Result<(), Fail> {
-    let rows = [
-        "0 [] bag 0x00000000 0x01010001=1",
-        "1 [] 5",
-        "2 [] bag 0x7f010002",
-    ];
-    let deep = ResId(0x7f01_0002);
-    let cases: [(&[ResId], &str); 3] = [
-        (&[FIRST, NOWHERE, SECOND], "no bag Absent\n"),
-        (&[FIRST, SECOND, NOWHERE], "no bag Plain\n"),
-        (&[deep, NOWHERE], "no bag BagDepth\n"),
-    ];
-    for (styles, want) in cases {
-        check_attribute(&rt, &rows, (A, styles, true), Status::Negative, want)?;
-    }
-    Ok(())
+fn prints_cycles_and_the_first_style_without_rows(rt: HostRuntime) {
+    check(&rt, other_refusal(rt.alloc()));
 }
 
-// What is printed of an attribute that refers to entry 1; entries 1 to 19 refer to the next one each, and entry 20
-// holds this.
-fn check_references<R: Abort + AllocGlobal>(
-    rt: &R,
-    last: &str,
-    status: Status,
-    want: &str,
-) -> Result<(), Fail> {
-    let rows = reference_rows(rt.alloc(), last)?;
-    let mut lines = Vec::new(rt.alloc());
-    for row in &rows {
-        lines.push(row.as_str())?;
-    }
-    check_attribute(rt, &lines, (A, &[FIRST], true), status, want)
-}
-
-fn reference_rows(alloc: Global, last: &str) -> Result<Vec<String>, Fail> {
-    let mut rows = Vec::new(alloc);
-    rows.push(format!(in alloc; "0 [] bag 0x00000000 0x01010001=@0x7f010001")?)?;
-    for entry in 1_u32..20 {
-        let next = FIRST.0.saturating_add(entry).saturating_add(1);
-        rows.push(format!(in alloc; "{entry} [] @{next:#010x}")?)?;
-    }
-    rows.push(format!(in alloc; "20 [] {last}")?)?;
-    Ok(rows)
+// Whether the attribute of a style is printed so, which refers to entry 1; entries 1 to 19 refer to the next one
+// each, and entry 20 has this cell.
+fn chain_is_printed_as(alloc: Global, last: &str, status: Status, want: &str) -> Option<bool> {
+    let chain = chain(alloc, 20, "@").ok()?;
+    let (_, behind_first) = chain.split_once('\n')?;
+    let style = "0 [] bag 0x00000000 0x01010001=@0x7f010001";
+    let lines = format!(in alloc; "{style}\n{behind_first}20 [] {last}").ok()?;
+    let asked = Asked {
+        attr: A,
+        styles: &[FIRST],
+        force: true,
+        status,
+    };
+    is_printed_as(alloc, &lines, &asked, want)
 }
 
 #[test]
-fn counts_the_reference_of_an_attribute(rt: HostRuntime) -> Result<(), Fail> {
+fn counts_the_reference_of_an_attribute(rt: HostRuntime) {
     let ended = "0x01010001 value layer 0 decimal 5\n";
-    check_references(&rt, "5", Status::Done, ended)?;
+    assert!(rt; chain_is_printed_as(rt.alloc(), "5", Status::Done, ended) == Some(true));
     let too_long = "0x01010001 too long 0x7f010015\n";
-    check_references(&rt, "@0x7f010015", Status::Negative, too_long)
+    let cell = "@0x7f010015";
+    let found = chain_is_printed_as(rt.alloc(), cell, Status::Negative, too_long);
+    assert!(rt; found == Some(true));
 }

@@ -1,78 +1,83 @@
 //! Bags, printed.
 
+use crate::row::check;
 use res_value::ResId;
 use resource_tool::{Status, bag_bytes};
-use std::process::Abort;
-use std::test::Fail;
-use test_layers::layer;
+use std::alloc::Global;
+use test_layers::{layer, layer_of_lines};
 
 /// The resource of entry 0.
 const FIRST: ResId = ResId(0x7f01_0000);
 
 const MEDIUM: &[u8] = br#"{"density":160}"#;
 
-// What is printed of the bag of entry 0.
-fn check_layers<R: Abort + AllocGlobal>(
-    rt: &R,
-    layers: &[(&[u8], Option<&[u8]>)],
-    status: Status,
-    want: &str,
-) -> Result<(), Fail> {
-    let mut out = Vec::new(rt.alloc());
-    let ended = bag_bytes(rt.alloc(), layers, MEDIUM, FIRST, &mut out)?;
-    assert_eq!(rt; out.as_slice(), want.as_bytes());
-    assert_eq!(rt; ended, status);
-    Ok(())
-}
-
-fn check_base<R: Abort + AllocGlobal>(
-    rt: &R,
-    rows: &[&str],
-    status: Status,
-    want: &str,
-) -> Result<(), Fail> {
-    let base = layer(rt.alloc(), rows)?;
-    check_layers(rt, &[(&base, None)], status, want)
-}
-
-#[test]
-fn prints_inherited_rows(rt: HostRuntime) -> Result<(), Fail> {
-    let rows = [
-        "1 [] bag 0x00000000 0x01010001=9 0x01010002=2",
-        "0 [] bag 0x7f010001 0x01010001=1 0x01010003=3",
-    ];
-    let want = "\
+/// The rows of a base, how the command ends, and what is printed of the bag of entry 0.
+const PRINTED: [(&str, Status, &str); 5] = [
+    (
+        "\
+1 [] bag 0x00000000 0x01010001=9 0x01010002=2
+0 [] bag 0x7f010001 0x01010001=1 0x01010003=3",
+        Status::Done,
+        "\
 0x01010001 layer 0 decimal 1
 0x01010002 layer 0 decimal 2
 0x01010003 layer 0 decimal 3
-";
-    check_base(&rt, &rows, Status::Done, want)?;
-    check_base(&rt, &["0 [] bag 0x00000000"], Status::Done, "")
+",
+    ),
+    ("0 [] bag 0x00000000", Status::Done, ""),
+    ("1 [] 5", Status::Negative, "no bag Absent\n"),
+    ("0 [] 5", Status::Negative, "no bag Plain\n"),
+    ("0 [] bag 0x7f010000", Status::Negative, "no bag BagDepth\n"),
+];
+
+// Whether the bag of entry 0 is printed so.
+fn is_printed_as(
+    alloc: Global,
+    layers: &[(&[u8], Option<&[u8]>)],
+    status: Status,
+    want: &str,
+) -> bool {
+    let mut out = Vec::new(alloc);
+    let ended = bag_bytes(alloc, layers, MEDIUM, FIRST, &mut out);
+    ended == Ok(status) && out.as_slice() == want.as_bytes()
+}
+
+fn base_is_printed_as(alloc: Global, lines: &str, status: Status, want: &str) -> Option<bool> {
+    let base = layer_of_lines(alloc, lines).ok()?;
+    Some(is_printed_as(alloc, &[(&base, None)], status, want))
+}
+
+// The first rows of which something else is printed.
+fn other_print(alloc: Global) -> Option<&'static str> {
+    for (lines, status, want) in &PRINTED {
+        if base_is_printed_as(alloc, lines, *status, want) != Some(true) {
+            return Some(*lines);
+        }
+    }
+    None
 }
 
 #[test]
-fn prints_the_layer_of_each_row(rt: HostRuntime) -> Result<(), Fail> {
-    let base = layer(
-        rt.alloc(),
-        &[
-            "1 [] bag 0x00000000 0x01010001=9 0x01010002=2",
-            "0 [] bag 0x7f010001 0x01010001=1",
-        ],
-    )?;
-    let overlay = layer(rt.alloc(), &["0 [] bag 0x00000000 0x01010002=7"])?;
-    let map: &[u8] = br#"[["0x7f010001","0x7f010000"]]"#;
-    let layers: [(&[u8], Option<&[u8]>); 2] = [(&base, None), (&overlay, Some(map))];
-    let want = "\
-0x01010001 layer 0 decimal 1
-0x01010002 layer 1 decimal 7
-";
-    check_layers(&rt, &layers, Status::Done, want)
+fn prints_bags(rt: HostRuntime) {
+    check(&rt, other_print(rt.alloc()));
+}
+
+/// The overlay's entry 0 stands for entry 1.
+const PARENT: &[u8] = br#"[["0x7f010001","0x7f010000"]]"#;
+
+fn prints_both_layers(alloc: Global) -> Option<bool> {
+    let rows = [
+        "1 [] bag 0x00000000 0x01010001=9 0x01010002=2",
+        "0 [] bag 0x7f010001 0x01010001=1",
+    ];
+    let base = layer(alloc, &rows).ok()?;
+    let overlay = layer(alloc, &["0 [] bag 0x00000000 0x01010002=7"]).ok()?;
+    let layers = [(base.as_slice(), None), (overlay.as_slice(), Some(PARENT))];
+    let want = "0x01010001 layer 0 decimal 1\n0x01010002 layer 1 decimal 7\n";
+    Some(is_printed_as(alloc, &layers, Status::Done, want))
 }
 
 #[test]
-fn tells_what_is_no_bag(rt: HostRuntime) -> Result<(), Fail> {
-    check_base(&rt, &["1 [] 5"], Status::Negative, "no bag Absent\n")?;
-    check_base(&rt, &["0 [] 5"], Status::Negative, "no bag Plain\n")?;
-    let own_parent = ["0 [] bag 0x7f010000"];
-    check_base(&rt, &own_parent, Status::Negative, "no bag BagDepth\n")
+fn prints_the_layer_of_each_row(rt: HostRuntime) {
+    assert!(rt; prints_both_layers(rt.alloc()) == Some(true));
 }

@@ -1,5 +1,6 @@
-//! Worked rows of stacks of tables: what a device selects, how references, bags and themes end, and what
-//! the commands print of it, as tests over the public calls. Nothing stands on this crate.
+//! Worked rows of stacks of tables, as tests over the public calls: layer lists and id maps, the layers of a stack,
+//! what a device selects, how references, bags and themes end, what the commands print of it, and the lines of
+//! faults. Nothing stands on this crate.
 #![tactic(auto)]
 
 #[cfg(test)]
@@ -11,10 +12,20 @@ mod bags;
 #[cfg(test)]
 mod explain;
 #[cfg(test)]
+mod faults;
+#[cfg(test)]
+mod id_maps;
+#[cfg(test)]
+mod layer_list;
+#[cfg(test)]
 mod query;
+#[cfg(test)]
+mod row;
 #[cfg(test)]
 mod selection;
 #[cfg(test)]
 mod stack;
+#[cfg(test)]
+mod stacks;
 #[cfg(test)]
 mod themes;

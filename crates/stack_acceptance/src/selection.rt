@@ -1,16 +1,77 @@
 //! What devices select, and where the references of an id end.
 
+use crate::row::check;
+use crate::stacks::{stack_of_base, stack_of_two};
 use config_record::Device;
-use overlay_map::{IdMap, Stack};
+use overlay_map::Stack;
 use reference_resolver::{End, Next, REFERENCES_FOLLOWED, Step, resolve, resolve_within, select};
 use res_value::{ResId, Value, kind};
-use std::process::Abort;
-use std::test::Fail;
-use test_layers::layer;
-use type_chunks::Table;
+use std::alloc::Global;
+use test_layers::{chain, device_of, layer, layer_of_lines};
 
 /// The resource of entry 0.
 const FIRST: ResId = ResId(0x7f01_0000);
+
+/// The rows of a base, a device, and the number that it selects for entry 0.
+const SELECTED: [(&[&str], &str, u32); 9] = [
+    (&["0 [] 1", "0 [density=160] 2"], "", 2),
+    (&["0 [] 1", "0 [density=160] 2"], "density=120", 1),
+    (
+        &["0 [] 1", "0 [density=320] 2", "0 [density=65535] 3"],
+        "density=480",
+        2,
+    ),
+    (&["0 [] 1", "0 [density=65535] 3"], "density=480", 3),
+    (&["0 [keysHidden=1] 1", "0 [] 2"], "keysHidden=3", 1),
+    (
+        &["0 [keysHidden=1] 1", "0 [] 2", "0 [keysHidden=3] 3"],
+        "keysHidden=3",
+        3,
+    ),
+    (
+        &["0 [widthDp=600] 1", "0 [heightDp=400] 2"],
+        "widthDp=600,heightDp=400",
+        1,
+    ),
+    (
+        &["0 [widthDp=400] 1", "0 [heightDp=400] 2"],
+        "widthDp=600,heightDp=400",
+        1,
+    ),
+    // a record that is set aside
+    (
+        &["0 [] 1", "0 [locale=sr,script=4c61746e] 2"],
+        "locale=sr",
+        1,
+    ),
+];
+
+/// The rows of a base and of an overlay, a device, and the layer and the number that it selects for entry 0.
+const OVERLAID: [(&[&str], &[&str], &str, usize, u32); 4] = [
+    (
+        &["0 [locale=fr] 1"],
+        &["0 [locale=fr] 2"],
+        "locale=fr",
+        1,
+        2,
+    ),
+    (&["0 [locale=fr] 1"], &["0 [] 2"], "locale=fr", 0, 1),
+    (
+        &["0 [locale=fr] 1", "0 [] 3"],
+        &["0 [] 2"],
+        "locale=de",
+        1,
+        2,
+    ),
+    // references of overlays are followed in the stack
+    (
+        &["0 [] 1", "1 [] 7"],
+        &["0 [] @0x7f010001", "1 [] 9"],
+        "",
+        0,
+        7,
+    ),
+];
 
 // The end at a decimal number.
 fn decimal(layer: usize, word: u32) -> End {
@@ -21,236 +82,173 @@ fn decimal(layer: usize, word: u32) -> End {
     End::Value { layer, value }
 }
 
-fn push_base<'a>(stack: &mut Stack<'a>, table: Table<'a>) -> Result<(), Fail> {
-    match stack.push_base(table) {
-        Ok(()) => Ok(()),
-        Err((fault, _)) => Err(fault.into()),
+fn ends_at(stack: &Stack, device: &Device, end: End) -> bool {
+    resolve(stack, FIRST, device) == end
+}
+
+// Whether a look-up of entry 0 alone ends so.
+fn selects(stack: &Stack, device: &Device, end: End) -> bool {
+    Next::of(FIRST, &select(stack, FIRST, device)) == Next::EndsAt(end)
+}
+
+fn base_selects(alloc: Global, rows: &[&str], device: &str, word: u32) -> Option<bool> {
+    let device = device_of(device)?;
+    let base = layer(alloc, rows).ok()?;
+    let stack = stack_of_base(alloc, &base)?;
+    let end = decimal(0, word);
+    Some(selects(&stack, &device, end) && ends_at(&stack, &device, end))
+}
+
+// The first row in which the device selects another number.
+fn other_selection(alloc: Global) -> Option<&'static str> {
+    for (rows, device, word) in &SELECTED {
+        if base_selects(alloc, rows, device, *word) != Some(true) {
+            return rows.last().copied();
+        }
     }
+    None
 }
 
-fn push_overlay<'a>(stack: &mut Stack<'a>, table: Table<'a>, map: IdMap) -> Result<(), Fail> {
-    match stack.push_overlay(table, map) {
-        Ok(()) => Ok(()),
-        Err((fault, _, _)) => Err(fault.into()),
-    }
+#[test]
+fn selects_from_a_base(rt: HostRuntime) {
+    check(&rt, other_selection(rt.alloc()));
 }
 
-// What is selected for entry 0, and its end.
-fn check_end<R: Abort>(rt: &R, stack: &Stack, device: &Device, want: End) {
-    let picked = select(stack, FIRST, device);
-    assert_eq!(rt; Next::of(FIRST, &picked), Next::EndsAt(want));
-    assert_eq!(rt; resolve(stack, FIRST, device), want);
-}
-
-// The number that a device has from a base.
-fn check_base<R: Abort + AllocGlobal>(
-    rt: &R,
-    rows: &[&str],
-    device: &str,
-    want: u32,
-) -> Result<(), Fail> {
-    let base = layer(rt.alloc(), rows)?;
-    let device = Device::read(rt.alloc(), device.as_bytes())?;
-    let table = Table::open(rt.alloc(), &base)?;
-    let mut stack = Stack::new(rt.alloc());
-    push_base(&mut stack, table)?;
-    check_end(rt, &stack, &device, decimal(0, want));
-    Ok(())
-}
-
-// The end of entry 0 in a base and an overlay, whose entry 0 stands for it.
-fn check_tables<R: Abort + AllocGlobal>(
-    rt: &R,
-    base: &[u8],
-    overlay: &[u8],
-    device: &Device,
-    want: End,
-) -> Result<(), Fail> {
-    let map = IdMap::read(rt.alloc(), br#"[["0x7f010000","0x7f010000"]]"#)?;
-    let base = Table::open(rt.alloc(), base)?;
-    let overlay = Table::open(rt.alloc(), overlay)?;
-    let mut stack = Stack::new(rt.alloc());
-    push_base(&mut stack, base)?;
-    push_overlay(&mut stack, overlay, map)?;
-    assert_eq!(rt; resolve(&stack, FIRST, device), want);
-    Ok(())
-}
-
-fn check_overlay<R: Abort + AllocGlobal>(
-    rt: &R,
+// Whether entry 0 of a base, under an overlay, ends so.
+fn overlaid_ends_at(
+    alloc: Global,
     base: &[&str],
     overlay: &[&str],
     device: &str,
-    want: End,
-) -> Result<(), Fail> {
-    let base = layer(rt.alloc(), base)?;
-    let overlay = layer(rt.alloc(), overlay)?;
-    let device = Device::read(rt.alloc(), device.as_bytes())?;
-    check_tables(rt, &base, &overlay, &device, want)
+    end: End,
+) -> Option<bool> {
+    let device = device_of(device)?;
+    let base = layer(alloc, base).ok()?;
+    let overlay = layer(alloc, overlay).ok()?;
+    let stack = stack_of_two(alloc, &base, &overlay)?;
+    Some(ends_at(&stack, &device, end))
 }
 
-#[test]
-fn selects_by_density(rt: HostRuntime) -> Result<(), Fail> {
-    let rows = ["0 [] 1", "0 [density=160] 2"];
-    check_base(&rt, &rows, r#"{"density":160}"#, 2)?;
-    check_base(&rt, &rows, r#"{"density":120}"#, 1)?;
-    let none = "0 [density=65535] 3";
-    let rows = ["0 [] 1", "0 [density=320] 2", none];
-    check_base(&rt, &rows, r#"{"density":480}"#, 2)?;
-    check_base(&rt, &["0 [] 1", none], r#"{"density":480}"#, 3)
-}
-
-#[test]
-fn selects_hidden_keys(rt: HostRuntime) -> Result<(), Fail> {
-    let device = r#"{"keysHidden":3,"density":160}"#;
-    let rows = ["0 [keysHidden=1] 1", "0 [] 2", "0 [keysHidden=3] 3"];
-    check_base(&rt, &rows[..2], device, 1)?;
-    check_base(&rt, &rows, device, 3)
-}
-
-#[test]
-fn selects_by_the_sum_of_both_dimensions(rt: HostRuntime) -> Result<(), Fail> {
-    let device = r#"{"widthDp":600,"heightDp":400,"density":160}"#;
-    let rows = ["0 [widthDp=600] 1", "0 [heightDp=400] 2"];
-    check_base(&rt, &rows, device, 1)?;
-    let rows = ["0 [widthDp=400] 1", "0 [heightDp=400] 2"];
-    check_base(&rt, &rows, device, 1)
-}
-
-#[test]
-fn selects_none_that_is_set_aside(rt: HostRuntime) -> Result<(), Fail> {
-    let rows = ["0 [] 1", "0 [locale=sr,script=4c61746e] 2"];
-    check_base(&rt, &rows, r#"{"locale":"sr","density":160}"#, 1)
-}
-
-#[test]
-fn selects_from_an_overlay(rt: HostRuntime) -> Result<(), Fail> {
-    let french = r#"{"locale":"fr","density":160}"#;
-    let rows = ["0 [locale=fr] 1", "0 [] 3"];
-    check_overlay(&rt, &rows[..1], &["0 [locale=fr] 2"], french, decimal(1, 2))?;
-    check_overlay(&rt, &rows[..1], &["0 [] 2"], french, decimal(0, 1))?;
-    let german = r#"{"locale":"de","density":160}"#;
-    check_overlay(&rt, &rows, &["0 [] 2"], german, decimal(1, 2))
-}
-
-// Where entry 0 of a base ends at a device of density 160, where at most so many references are followed.
-fn end_within<R: Abort + AllocGlobal>(rt: &R, rows: &[&str], most: u8) -> Result<End, Fail> {
-    let base = layer(rt.alloc(), rows)?;
-    let device = Device::read(rt.alloc(), br#"{"density":160}"#)?;
-    let table = Table::open(rt.alloc(), &base)?;
-    let mut stack = Stack::new(rt.alloc());
-    push_base(&mut stack, table)?;
-    let end = resolve_within(&stack, FIRST, &device, most);
-    if most == REFERENCES_FOLLOWED {
-        assert_eq!(rt; resolve(&stack, FIRST, &device), end);
+// The first row in which the device selects something else.
+fn other_overlay(alloc: Global) -> Option<&'static str> {
+    for (base, overlay, device, layer, word) in &OVERLAID {
+        let end = decimal(*layer, *word);
+        if overlaid_ends_at(alloc, base, overlay, device, end) != Some(true) {
+            return overlay.last().copied();
+        }
     }
-    Ok(end)
+    None
 }
 
-// The end of entry 0 of a base is this one.
-fn check_references<R: Abort + AllocGlobal>(rt: &R, rows: &[&str], want: End) -> Result<(), Fail> {
-    assert_eq!(rt; end_within(rt, rows, 20)?, want);
-    Ok(())
-}
-
-// The end of a chain of so many references, of entry 0 and on, is this one; behind it stands a value.
-fn check_chain<R: Abort + AllocGlobal>(rt: &R, references: u32, want: End) -> Result<(), Fail> {
-    let mut rows = Vec::new(rt.alloc());
-    for entry in 0..references {
-        let next = FIRST.0.saturating_add(entry).saturating_add(1);
-        rows.push(format!(in rt.alloc(); "{entry} [] @{next:#010x}")?)?;
-    }
-    rows.push(format!(in rt.alloc(); "{references} [] 5")?)?;
-    let mut lines = Vec::new(rt.alloc());
-    for row in &rows {
-        lines.push(row.as_str())?;
-    }
-    check_references(rt, &lines, want)
-}
-
+/// The overlay's entry 1 stands for no entry of the base.
 #[test]
-fn follows_twenty_references(rt: HostRuntime) -> Result<(), Fail> {
-    check_chain(&rt, 20, decimal(0, 5))?;
-    let too_long = End::TooLong {
-        id: ResId(0x7f01_0015),
-    };
-    check_chain(&rt, 21, too_long)
+fn selects_from_an_overlay(rt: HostRuntime) {
+    check(&rt, other_overlay(rt.alloc()));
+    let overlay = ["0 [] @0x7f010001", "1 [] 9"];
+    let absent = overlaid_ends_at(rt.alloc(), &["0 [] 1"], &overlay, "", ABSENT);
+    assert!(rt; absent == Some(true));
 }
 
-#[test]
-fn ends_where_a_reference_leads_nowhere(rt: HostRuntime) -> Result<(), Fail> {
-    let to_itself = End::TooLong { id: FIRST };
-    check_references(&rt, &["0 [] @0x7f010000"], to_itself)?;
-    let absent = End::Absent {
-        id: ResId(0x7f01_0009),
-    };
-    check_references(&rt, &["0 [] @0x7f010009"], absent)
-}
+const ABSENT: End = End::Absent {
+    id: ResId(0x7f01_0001),
+};
 
-#[test]
-fn ends_at_a_reference_to_nothing(rt: HostRuntime) -> Result<(), Fail> {
-    let value = Value {
+const NO_REFERENCE: End = End::Value {
+    layer: 0,
+    value: Value {
         kind: kind::REFERENCE,
         word: 0,
-    };
-    let end = End::Value { layer: 0, value };
-    check_references(&rt, &["0 [] @0x7f010001", "1 [] @0x00000000"], end)
+    },
+};
+
+const BAG: End = End::Bag {
+    id: ResId(0x7f01_0001),
+};
+
+const SECOND_TOO_LONG: End = End::TooLong {
+    id: ResId(0x7f01_0001),
+};
+
+/// The rows of a base, how many references are followed from entry 0, and where they end.
+const REFERENCES: [(&str, u8, End); 5] = [
+    ("0 [] @0x7f010000", 20, End::TooLong { id: FIRST }),
+    ("0 [] @0x7f010001", 20, ABSENT),
+    ("0 [] @0x7f010001\n1 [] @0x00000000", 20, NO_REFERENCE),
+    ("0 [] @0x7f010001\n1 [] bag 0x00000000", 20, BAG),
+    ("0 [] @0x7f010001", 0, SECOND_TOO_LONG),
+];
+
+// Where entry 0 of a base ends, where at most so many references are followed.
+fn end_within(alloc: Global, lines: &str, most: u8) -> Option<End> {
+    let device = device_of("")?;
+    let base = layer_of_lines(alloc, lines).ok()?;
+    let stack = stack_of_base(alloc, &base)?;
+    Some(resolve_within(&stack, FIRST, &device, most))
+}
+
+// The first rows that end somewhere else.
+fn other_reference(alloc: Global) -> Option<&'static str> {
+    for (lines, most, end) in &REFERENCES {
+        if end_within(alloc, lines, *most) != Some(*end) {
+            return Some(*lines);
+        }
+    }
+    None
 }
 
 #[test]
-fn ends_at_the_id_that_selects_a_bag(rt: HostRuntime) -> Result<(), Fail> {
-    let bag = End::Bag {
-        id: ResId(0x7f01_0001),
-    };
-    check_references(&rt, &["0 [] @0x7f010001", "1 [] bag 0x00000000"], bag)
+fn follows_references(rt: HostRuntime) {
+    check(&rt, other_reference(rt.alloc()));
+}
+
+// The end of a chain of so many references, behind which stands 5.
+fn end_of_chain(alloc: Global, references: u32) -> Option<End> {
+    let chain = chain(alloc, references, "@").ok()?;
+    let lines = format!(in alloc; "{chain}{references} [] 5").ok()?;
+    end_within(alloc, &lines, REFERENCES_FOLLOWED)
 }
 
 #[test]
-fn follows_references_of_overlays_in_the_stack(rt: HostRuntime) -> Result<(), Fail> {
-    let device = r#"{"density":160}"#;
-    let overlay = ["0 [] @0x7f010001", "1 [] 9"];
-    let absent = End::Absent {
-        id: ResId(0x7f01_0001),
-    };
-    check_overlay(&rt, &["0 [] 1"], &overlay, device, absent)?;
-    let base = ["0 [] 1", "1 [] 7"];
-    check_overlay(&rt, &base, &overlay, device, decimal(0, 7))
+fn follows_twenty_references(rt: HostRuntime) {
+    assert!(rt; end_of_chain(rt.alloc(), 20) == Some(decimal(0, 5)));
+    let id = ResId(0x7f01_0015);
+    assert!(rt; end_of_chain(rt.alloc(), 21) == Some(End::TooLong { id }));
 }
 
-#[test]
-fn follows_no_reference_where_none_may_be(rt: HostRuntime) -> Result<(), Fail> {
-    let too_long = End::TooLong {
-        id: ResId(0x7f01_0001),
-    };
-    assert_eq!(rt; end_within(&rt, &["0 [] @0x7f010001"], 0)?, too_long);
-    Ok(())
-}
+/// Candidates of entry 0, in a device of density 198.
+const CANDIDATES: [&str; 4] = [
+    "0 [locale=fr] 1",
+    "0 [density=160] 1",
+    "0 [density=320] 2",
+    "0 [density=120] 3",
+];
 
-#[test]
-fn tells_what_each_candidate_does(rt: HostRuntime) -> Result<(), Fail> {
-    let base = layer(
-        rt.alloc(),
-        &[
-            "0 [locale=fr] 1",
-            "0 [density=160] 1",
-            "0 [density=320] 2",
-            "0 [density=120] 3",
-        ],
-    )?;
-    let device = Device::read(rt.alloc(), br#"{"density":198}"#)?;
-    let table = Table::open(rt.alloc(), &base)?;
-    let mut stack = Stack::new(rt.alloc());
-    push_base(&mut stack, table)?;
+const STEPS: [Step; 4] = [Step::NoMatch, Step::TookOver, Step::TookOver, Step::KeptOut];
+
+// Whether the candidates of entry 0 do this, one after the other.
+fn have_steps(stack: &Stack, device: &Device, want: &[Step]) -> bool {
     let mut best = None;
-    let mut steps = Vec::new(rt.alloc());
+    let mut left = want.iter();
     for candidate in stack.candidates(FIRST) {
-        let step = Step::of(&best, &candidate, &device);
+        let step = Step::of(&best, &candidate, device);
+        if left.next() != Some(&step) {
+            return false;
+        }
         if step == Step::TookOver {
             best = Some(candidate);
         }
-        steps.push(step)?;
     }
-    let want = [Step::NoMatch, Step::TookOver, Step::TookOver, Step::KeptOut];
-    assert_eq!(rt; steps.as_slice(), want.as_slice());
-    Ok(())
+    left.next().is_none()
+}
+
+fn candidates_have_steps(alloc: Global) -> Option<bool> {
+    let device = device_of("density=198")?;
+    let base = layer(alloc, &CANDIDATES).ok()?;
+    let stack = stack_of_base(alloc, &base)?;
+    Some(have_steps(&stack, &device, &STEPS))
+}
+
+#[test]
+fn knows_what_each_candidate_does(rt: HostRuntime) {
+    assert!(rt; candidates_have_steps(rt.alloc()) == Some(true));
 }

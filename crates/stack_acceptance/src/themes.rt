@@ -1,20 +1,21 @@
 //! Themes, and where their attributes end.
 
+use crate::row::check;
+use crate::stacks::stack_of_base;
 use bags_themes::{BagFault, Theme};
 use config_record::Device;
 use overlay_map::Stack;
 use reference_resolver::End;
 use res_value::{ResId, Value, kind};
-use std::alloc::Global;
-use std::process::Abort;
-use std::test::Fail;
-use test_layers::layer;
-use type_chunks::Table;
+use std::alloc::{AllocError, Global};
+use test_layers::{device_of, layer_of_lines};
 
-/// The resources of entries 0 and 1, which are styles.
+/// The resources of entries 0 and 1, which are styles, and of an entry that is not there.
 const FIRST: ResId = ResId(0x7f01_0000);
 
 const SECOND: ResId = ResId(0x7f01_0001);
+
+const NOWHERE: ResId = ResId(0x7f01_0009);
 
 /// Attributes.
 const A: ResId = ResId(0x0101_0001);
@@ -25,89 +26,106 @@ const C: ResId = ResId(0x0101_0003);
 
 const D: ResId = ResId(0x0101_0004);
 
-// The end at a value of layer 0.
-fn value(kind: u8, word: u32) -> End {
-    End::Value {
-        layer: 0,
-        value: Value { kind, word },
-    }
-}
+const EMPTY: End = End::Value {
+    layer: 0,
+    value: Value {
+        kind: kind::NULL,
+        word: 1,
+    },
+};
 
+// The end at a decimal number of layer 0.
 fn decimal(word: u32) -> End {
-    value(kind::INT_DEC, word)
+    let value = Value {
+        kind: kind::INT_DEC,
+        word,
+    };
+    End::Value { layer: 0, value }
 }
 
-// Where attributes of a base end at a device of density 160, behind these styles, each forced or not.
-fn check_attributes<R: Abort + AllocGlobal>(
-    rt: &R,
-    rows: &[&str],
-    styles: &[(ResId, bool)],
-    want: &[(ResId, End)],
-) -> Result<(), Fail> {
-    let base = layer(rt.alloc(), rows)?;
-    let device = Device::read(rt.alloc(), br#"{"density":160}"#)?;
-    let table = Table::open(rt.alloc(), &base)?;
-    let mut stack = Stack::new(rt.alloc());
-    if let Err((fault, _)) = stack.push_base(table) {
-        return Err(fault.into());
-    }
-    let mut theme = Theme::new(rt.alloc());
-    for (style, force) in styles {
-        theme.apply(&stack, *style, *force, &device)?;
-    }
-    let absent = theme.apply(&stack, ResId(0x7f01_0009), true, &device);
-    assert_eq!(rt; absent, Err(BagFault::Absent));
-    for (attr, end) in want {
-        assert_eq!(rt; theme.attribute(&stack, *attr, &device), *end);
-    }
-    Ok(())
+// The theme of both styles, where there are two, the second forced or not; one that is no bag changes nothing.
+fn theme_of(alloc: Global, stack: &Stack, device: &Device, force: bool) -> Option<Theme> {
+    let mut theme = Theme::new(alloc);
+    theme.apply(stack, FIRST, true, device).ok()?;
+    let _ = theme.apply(stack, SECOND, force, device);
+    let absent = theme.apply(stack, NOWHERE, true, device);
+    (absent == Err(BagFault::Absent)).then_some(theme)
+}
+
+// Where an attribute of a base ends behind its styles.
+fn end_of(alloc: Global, lines: &str, force: bool, attr: ResId) -> Option<End> {
+    let device = device_of("")?;
+    let base = layer_of_lines(alloc, lines).ok()?;
+    let stack = stack_of_base(alloc, &base)?;
+    let theme = theme_of(alloc, &stack, &device, force)?;
+    Some(theme.attribute(&stack, attr, &device))
+}
+
+const STYLES: &str = "\
+0 [] bag 0x00000000 0x01010001=1 0x01010002=empty
+1 [] bag 0x00000000 0x01010001=2 0x01010002=2 0x01010003=?0x01010001";
+
+#[test]
+fn applies_styles(rt: HostRuntime) {
+    assert!(rt; end_of(rt.alloc(), STYLES, false, A) == Some(decimal(1)));
+    assert!(rt; end_of(rt.alloc(), STYLES, false, B) == Some(EMPTY));
+    assert!(rt; end_of(rt.alloc(), STYLES, false, C) == Some(decimal(1)));
+    assert!(rt; end_of(rt.alloc(), STYLES, false, D) == Some(End::Absent { id: D }));
 }
 
 #[test]
-fn applies_styles(rt: HostRuntime) -> Result<(), Fail> {
-    let rows = [
-        "0 [] bag 0x00000000 0x01010001=1 0x01010002=empty",
-        "1 [] bag 0x00000000 0x01010001=2 0x01010002=2 0x01010003=?0x01010001",
-    ];
-    let kept = [
-        (A, decimal(1)),
-        (B, value(kind::NULL, 1)),
-        (C, decimal(1)),
-        (D, End::Absent { id: D }),
-    ];
-    check_attributes(&rt, &rows, &[(FIRST, true), (SECOND, false)], &kept)?;
-    let forced = [(A, decimal(2)), (B, decimal(2))];
-    check_attributes(&rt, &rows, &[(FIRST, true), (SECOND, true)], &forced)
+fn forces_styles(rt: HostRuntime) {
+    assert!(rt; end_of(rt.alloc(), STYLES, true, A) == Some(decimal(2)));
+    assert!(rt; end_of(rt.alloc(), STYLES, true, B) == Some(decimal(2)));
+}
+
+/// A style, an attribute, and the one that is too many to be followed.
+const CYCLES: [(&str, ResId, ResId); 2] = [
+    ("0 [] bag 0x00000000 0x01010003=?0x01010003", C, C),
+    (
+        "0 [] bag 0x00000000 0x01010001=?0x01010002 0x01010002=?0x01010001",
+        A,
+        B,
+    ),
+];
+
+// The first style in which another attribute is too many.
+fn other_cycle(alloc: Global) -> Option<&'static str> {
+    for (style, attr, id) in &CYCLES {
+        if end_of(alloc, style, true, *attr) != Some(End::TooLong { id: *id }) {
+            return Some(*style);
+        }
+    }
+    None
 }
 
 #[test]
-fn ends_cycles_of_attributes(rt: HostRuntime) -> Result<(), Fail> {
-    let rows = ["0 [] bag 0x00000000 0x01010003=?0x01010003"];
-    let too_long = [(C, End::TooLong { id: C })];
-    check_attributes(&rt, &rows, &[(FIRST, true)], &too_long)?;
-    let rows = ["0 [] bag 0x00000000 0x01010001=?0x01010002 0x01010002=?0x01010001"];
-    let too_long = [(A, End::TooLong { id: B })];
-    check_attributes(&rt, &rows, &[(FIRST, true)], &too_long)
+fn ends_cycles_of_attributes(rt: HostRuntime) {
+    check(&rt, other_cycle(rt.alloc()));
 }
 
-// A style with the attributes of these places, from 0 to 19, each naming the next; behind them stands this row.
-fn style_of_chain(alloc: Global, last: &str) -> Result<String, Fail> {
-    let mut style = format!(in alloc; "0 [] bag 0x00000000")?;
+// A style with twenty attributes, each naming the next; behind them stands this row.
+fn style_of_chain(alloc: Global, last: &str) -> Result<String, AllocError> {
+    let mut style = String::from_str(alloc, "0 [] bag 0x00000000")?;
     for place in 0_u32..20 {
         let attr = A.0.saturating_add(place);
         let next = attr.saturating_add(1);
-        style = format!(in alloc; "{style} {attr:#010x}=?{next:#010x}")?;
+        let row = format!(in alloc; " {attr:#010x}=?{next:#010x}")?;
+        style.push_str(row.as_str())?;
     }
-    Ok(format!(in alloc; "{style} {last}")?)
+    style.push_str(last)?;
+    Ok(style)
+}
+
+fn end_of_chain(alloc: Global, last: &str) -> Option<End> {
+    let style = style_of_chain(alloc, last).ok()?;
+    end_of(alloc, &style, true, A)
 }
 
 #[test]
-fn follows_so_many_attributes(rt: HostRuntime) -> Result<(), Fail> {
-    let style = style_of_chain(rt.alloc(), "0x01010015=5")?;
-    check_attributes(&rt, &[style.as_str()], &[(FIRST, true)], &[(A, decimal(5))])?;
-    let style = style_of_chain(rt.alloc(), "0x01010015=?0x01010016")?;
-    let too_long = End::TooLong {
-        id: ResId(0x0101_0016),
-    };
-    check_attributes(&rt, &[style.as_str()], &[(FIRST, true)], &[(A, too_long)])
+fn follows_so_many_attributes(rt: HostRuntime) {
+    assert!(rt; end_of_chain(rt.alloc(), " 0x01010015=5") == Some(decimal(5)));
+    let id = ResId(0x0101_0016);
+    let too_long = end_of_chain(rt.alloc(), " 0x01010015=?0x01010016");
+    assert!(rt; too_long == Some(End::TooLong { id }));
 }

@@ -17,6 +17,8 @@ const REFERENCE: u8 = 1;
 
 const ATTRIBUTE: u8 = 2;
 
+const STRING: u8 = 3;
+
 const DECIMAL: u8 = 0x10;
 
 impl<'a> Cell<'a> {
@@ -51,6 +53,12 @@ impl<'a> Cell<'a> {
 fn read_value(text: &str) -> Option<Value> {
     if text == "empty" {
         return Some(Value { kind: 0, word: 1 });
+    }
+    if text == "string" {
+        return Some(Value {
+            kind: STRING,
+            word: 0,
+        });
     }
     if let Some(id) = text.strip_prefix('@') {
         return value_of_id(REFERENCE, id);

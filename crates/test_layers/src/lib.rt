@@ -13,8 +13,8 @@
 //!
 //! The rows become one package 0x7f with one type 0x01, and each row a type chunk of its own, so
 //! entry 0 is the resource 0x7f010000. A cell is a value or a bag. A value is a decimal number, a
-//! reference `@0x..`, an attribute `?0x..`, or `empty`; a bag is `bag`, its parent, 0x00000000 where it
-//! has none, and its rows, each a name and a value.
+//! reference `@0x..`, an attribute `?0x..`, `empty`, or `string`, the first string of the table; a bag
+//! is `bag`, its parent, 0x00000000 where it has none, and its rows, each a name and a value.
 //!
 //! Beside them stand two tables byte by byte, of one entry without names (`table_a`) and with them
 //! (`table_b`), for tests that set single bytes wrong.
@@ -22,13 +22,20 @@
 
 mod bytes;
 mod cell;
+mod device;
 mod fault;
 mod named_entry;
+mod pool;
 mod qualifier;
+mod row_chain;
 mod table;
 mod unnamed_entry;
 
+pub use device::device_of;
 pub use fault::LayerFault;
 pub use named_entry::table_b;
-pub use table::layer;
+pub use pool::{pool_of_string, pool_of_style};
+pub use qualifier::record_of;
+pub use row_chain::chain;
+pub use table::{layer, layer_of_lines, layer_with_string};
 pub use unnamed_entry::{put, table_a, table_with};

@@ -3,6 +3,7 @@
 use crate::bytes::{push_chunk, push_u32};
 use crate::cell::Cell;
 use crate::fault::LayerFault;
+use crate::pool::pool_of_string;
 use crate::qualifier::record_of;
 use std::alloc::Global;
 
@@ -47,6 +48,30 @@ fn row_of(line: &str) -> Option<TestRow<'_>> {
 
 /// The bytes of a table that has these rows.
 pub fn layer(alloc: Global, rows: &[&str]) -> Result<Vec<u8>, LayerFault> {
+    let chunks = chunks_of(alloc, rows)?;
+    let mut pool = Vec::new(alloc);
+    push_chunk(&mut pool, STRING_POOL, &[0; STRING_POOL_HEADER], b"")?;
+    table_of(alloc, &pool, &chunks)
+}
+
+/// The bytes of a table that has these rows, one a line.
+pub fn layer_of_lines(alloc: Global, lines: &str) -> Result<Vec<u8>, LayerFault> {
+    let mut rows = Vec::new(alloc);
+    for line in lines.lines() {
+        rows.push(line)?;
+    }
+    layer(alloc, &rows)
+}
+
+/// The bytes of a table that has these rows and a string of one letter.
+pub fn layer_with_string(alloc: Global, letter: u8, rows: &[&str]) -> Result<Vec<u8>, LayerFault> {
+    let chunks = chunks_of(alloc, rows)?;
+    let pool = pool_of_string(alloc, true, 0, &[1, 1, letter, 0])?;
+    table_of(alloc, &pool, &chunks)
+}
+
+// The type spec and the type chunk of each row.
+fn chunks_of(alloc: Global, rows: &[&str]) -> Result<Vec<u8>, LayerFault> {
     let mut count = 0;
     for line in rows {
         let row = row_of(line).ok_or(LayerFault::Malformed)?;
@@ -58,15 +83,15 @@ pub fn layer(alloc: Global, rows: &[&str]) -> Result<Vec<u8>, LayerFault> {
         let row = row_of(line).ok_or(LayerFault::Malformed)?;
         push_type(alloc, &mut chunks, row, count)?;
     }
-    table_of(alloc, &chunks)
+    Ok(chunks)
 }
 
-// A table of one package, in which these chunks stand.
-fn table_of(alloc: Global, chunks: &[u8]) -> Result<Vec<u8>, LayerFault> {
+// A table of this pool and of one package, in which these chunks stand.
+fn table_of(alloc: Global, pool: &[u8], chunks: &[u8]) -> Result<Vec<u8>, LayerFault> {
     let mut package_header = [0; PACKAGE_HEADER];
     package_header[0] = PACKAGE_ID;
     let mut children = Vec::new(alloc);
-    push_chunk(&mut children, STRING_POOL, &[0; STRING_POOL_HEADER], b"")?;
+    children.extend_from_slice(pool)?;
     push_chunk(&mut children, PACKAGE, &package_header, chunks)?;
     let mut table = Vec::new(alloc);
     push_chunk(&mut table, TABLE, &1_u32.to_le_bytes(), &children)?;
