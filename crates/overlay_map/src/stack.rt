@@ -127,8 +127,8 @@ impl<'a> Stack<'a> {
     }
 }
 
-// Indexes a table and makes room for one layer more, where one may stand. Else the layers are unchanged and the
-// table is handed back.
+// Makes room for one layer more, where one may stand, and notes where the rows of its table stand. Refused where
+// 64 layers stand or memory runs out; then the layers are unchanged and the table is handed back.
 fn indexed_with_room<'a>(
     layers: &mut Vec<Layer<'a>>,
     table: Table<'a>,
@@ -142,28 +142,16 @@ fn indexed_with_room<'a>(
     ensures refused { IfErr result (λ refused. RefusesLayer layers.old.items layers.new.items refused.0) }
     ensures back { IfErr result (λ refused. refused.1 ≡ table.entry) }
 {
-    if let Err(fault) = make_room(layers) {
-        return Err((fault, table));
+    if layers.len() == MOST_LAYERS {
+        return Err((StackFault::TooManyLayers, table));
+    }
+    if layers.reserve(1).is_err() {
+        return Err((StackFault::OutOfMemory, table));
     }
     match IndexedTable::new(*layers.allocator(), table) {
         Ok(table) => Ok(table),
         Err(table) => Err((StackFault::OutOfMemory, table)),
     }
-}
-
-// Makes room for one layer more, where one may stand.
-fn make_room(layers: &mut Vec<Layer<'_>>) -> Result<(), StackFault>
-    requires { length layers.old.items ≤ most_layers }
-    ensures same { layers.new.items ≡ layers.old.items }
-    ensures room { OnOk result (vec_len layers.new < vec_capacity layers.new) }
-    ensures below { OnOk result (length layers.old.items < most_layers) }
-    ensures refused { IfErr result (RefusesLayer layers.old.items layers.new.items) }
-{
-    if layers.len() == MOST_LAYERS {
-        return Err(StackFault::TooManyLayers);
-    }
-    layers.reserve(1)?;
-    Ok(())
 }
 
 // Pushes a layer, for which there is room.

@@ -1,9 +1,5 @@
 //! Why a layer is refused.
 
-ghost use Rattle.std.specs.Prelude.{◌≡◌};
-ghost use Rattle.overlay_map.specs.declared.stack_fault.StackFault.TheVariants.{OutOfMemory};
-
-use std::alloc::AllocError;
 use thiserror::Error;
 
 /// Why a layer was not pushed.
@@ -14,12 +10,4 @@ pub enum StackFault {
     TooManyLayers,
     #[error("OutOfMemory")]
     OutOfMemory,
-}
-
-impl From<AllocError> for StackFault {
-    ghost from_gives = { λ _ e. e ≡ OutOfMemory };
-
-    fn from(_error: AllocError) -> StackFault {
-        StackFault::OutOfMemory
-    }
 }
