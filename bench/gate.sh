@@ -17,7 +17,7 @@ measure() {
         shift 3
         "$@" >"$printed" 2>&1 </dev/null
         ended=$?
-        # (in a pipe it would be a process of its own that tells its times)
+        # (not in a pipe, where it would print the times of a new process)
         times >"$seconds.times"
         awk '{ for (at = 1; at <= 2; at++) { split($at, it, /[ms]/); sum += 60 * it[1] + it[2] } } END { print sum }' "$seconds.times" >"$seconds"
         exit $ended
