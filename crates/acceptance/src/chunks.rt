@@ -1,32 +1,68 @@
-//! The chunk at a place, and what is wrong with one.
+//! The chunk at a place, what is wrong with one, and chunks one after the other.
 
-use chunk_walk::{ChunkFault, chunk_at};
+use chunk_walk::{Chunk, ChunkFault, Chunks, chunk_at, u16_at, u32_at};
 
-#[test]
-fn names_the_first_fault(rt: HostRuntime) {
-    let cases = [
-        ([1, 0, 8, 0, 42, 0, 0, 0], ChunkFault::Misaligned(0)),
-        ([1, 0, 8, 0, 44, 0, 0, 0], ChunkFault::Oversize(0)),
-        ([1, 0, 4, 0, 40, 0, 0, 0], ChunkFault::HeaderShort(0)),
-        ([1, 0, 16, 0, 12, 0, 0, 0], ChunkFault::HeaderLong(0)),
-    ];
-    for (header, want) in cases {
-        let mut bytes = [0; 40];
-        bytes[..8].copy_from_slice(&header);
-        assert_eq!(rt; chunk_at(&bytes, 0, 8).err(), Some(want), "at {header:?}");
+/// The first eight bytes of 40, and what is wrong with the chunk that they begin.
+const WRONG: [([u8; 8], ChunkFault); 4] = [
+    ([1, 0, 8, 0, 42, 0, 0, 0], ChunkFault::Misaligned(0)),
+    ([1, 0, 8, 0, 44, 0, 0, 0], ChunkFault::Oversize(0)),
+    ([1, 0, 4, 0, 40, 0, 0, 0], ChunkFault::HeaderShort(0)),
+    ([1, 0, 16, 0, 12, 0, 0, 0], ChunkFault::HeaderLong(0)),
+];
+
+fn fault_of(header: &[u8; 8]) -> Option<ChunkFault> {
+    let mut bytes = [0; 40];
+    bytes[..8].copy_from_slice(header);
+    chunk_at(&bytes, 0, 8).err()
+}
+
+fn has_faults() -> bool {
+    for (header, want) in &WRONG {
+        if fault_of(header) != Some(*want) {
+            return false;
+        }
     }
-    let short = [0; 7];
-    assert_eq!(rt;
-        chunk_at(&short, 0, 8).err(),
-        Some(ChunkFault::Truncated(0))
-    );
+    true
 }
 
 #[test]
-fn lends_its_parts(rt: HostRuntime) {
-    let bytes = [0, 0, 0, 0, 1, 2, 8, 0, 12, 0, 0, 0, 5, 6, 7, 8, 9, 9];
-    let chunk = chunk_at(&bytes, 4, 8).ok();
-    assert_eq!(rt; chunk.map(|c| c.kind), Some(0x0201));
-    assert_eq!(rt; chunk.map(|c| c.place), Some(4));
-    assert_eq!(rt; chunk.map(|c| c.body), Some([5, 6, 7, 8].as_slice()));
+fn names_the_first_fault(rt: HostRuntime) {
+    assert!(rt; has_faults());
+    let short = chunk_at(&[0; 7], 0, 8).err();
+    assert!(rt; short == Some(ChunkFault::Truncated(0)));
+}
+
+/// Behind four zeros a chunk of kind 0x0201 with four bytes behind its header, then two bytes.
+static BYTES: [u8; 18] = [
+    0, 0, 0, 0, // before it
+    1, 2, 8, 0, 12, 0, 0, 0, // its header
+    5, 6, 7, 8, // its body
+    9, 9, // behind it
+];
+
+fn has_parts(chunk: &Chunk) -> bool {
+    let body = [5, 6, 7, 8].as_slice();
+    let starts = (chunk.kind, chunk.place) == (0x0201, 4);
+    starts && chunk.body == body && chunk.chunk_at(8).is_err()
+}
+
+// The only chunk from a place on.
+fn only_chunk(from: usize) -> Option<Chunk<'static>> {
+    let mut chunks = Chunks::new(&BYTES, from);
+    let first = chunks.next()?.ok()?;
+    chunks.next().is_none().then_some(first)
+}
+
+#[test]
+fn lends_its_parts(rt: HostRuntime) -> Result<(), &'static str> {
+    let chunk = only_chunk(4).ok_or("no chunk, or two")?;
+    assert!(rt; has_parts(&chunk));
+    assert!(rt; chunk.children().next().is_none());
+    Ok(())
+}
+
+#[test]
+fn reads_numbers(rt: HostRuntime) {
+    assert!(rt; u16_at(&BYTES, 4) == Some(0x0201) && u16_at(&BYTES, 17).is_none());
+    assert!(rt; u32_at(&BYTES, 12) == Some(0x0807_0605) && u32_at(&BYTES, 15).is_none());
 }

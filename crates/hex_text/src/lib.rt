@@ -23,19 +23,3 @@ pub fn write_hex<W: Write + Drop>(bytes: &[u8], out: &mut W) -> io::Result<()>
     let _ = hex::encode_to_slice(bytes, digits);
     out.write_all(digits)
 }
-
-#[cfg(test)]
-mod tests {
-    use super::*;
-    use std::test::Fail;
-
-    #[test]
-    fn writes_digits(rt: HostRuntime) -> Result<(), Fail> {
-        let mut out = Vec::new(rt.alloc());
-        write_hex(&0x7f01_0a0b_u32.to_be_bytes(), &mut out)?;
-        write_hex(b"", &mut out)?;
-        write_hex(&[0x1c], &mut out)?;
-        assert_eq!(rt; out.as_slice(), b"7f010a0b1c".as_slice());
-        Ok(())
-    }
-}

@@ -127,39 +127,3 @@ impl<'a> Iterator for MapRows<'a> {
         Some((name, value))
     }
 }
-
-#[cfg(test)]
-mod tests {
-    use super::*;
-
-    const ROWS: [u8; 24] = [
-        0x01, 0x00, 0x01, 0x01, 0x08, 0x00, 0x00, 0x10, 0x09, 0x00, 0x00, 0x00, 0x02, 0x00, 0x01,
-        0x01, 0x08, 0x00, 0x00, 0x10, 0x02, 0x00, 0x00, 0x00,
-    ];
-
-    // A row whose value is a number.
-    fn row(name: u32, word: u32) -> (ResId, Value) {
-        (ResId(name), Value { kind: 0x10, word })
-    }
-
-    #[test]
-    fn gives_rows(rt: HostRuntime) -> Result<(), MapRowsFault> {
-        let mut rows = MapRows::read(2, &ROWS)?;
-        assert_eq!(rt; rows.len(), 2);
-        assert_eq!(rt; rows.next(), Some(row(0x0101_0001, 9)));
-        assert_eq!(rt; rows.next(), Some(row(0x0101_0002, 2)));
-        assert_eq!(rt; rows.next(), None);
-        assert!(rt; rows.is_empty());
-        Ok(())
-    }
-
-    #[test]
-    fn refuses_rows(rt: HostRuntime) {
-        let short = MapRows::read(2, &ROWS[..23]);
-        assert_eq!(rt; short.err(), Some(MapRowsFault::Short));
-        let mut bytes = ROWS;
-        bytes[MapRows::value_place(1)] = 7;
-        let odd = MapRows::read(2, &bytes);
-        assert_eq!(rt; odd.err(), Some(MapRowsFault::ValueSize(1)));
-    }
-}

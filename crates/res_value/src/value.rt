@@ -47,20 +47,3 @@ impl Value {
         }
     }
 }
-
-#[cfg(test)]
-mod tests {
-    use super::*;
-
-    #[test]
-    fn reads_values(rt: HostRuntime) {
-        let five = Value {
-            kind: 0x10,
-            word: 5,
-        };
-        assert_eq!(rt; Value::read(&[8, 0, 0, 0x10, 5, 0, 0, 0]), Some(five));
-        assert_eq!(rt; Value::read(&[8, 0, 0xff, 0x10, 5, 0, 0, 0, 1]), Some(five));
-        assert_eq!(rt; Value::read(&[9, 0, 0, 0x10, 5, 0, 0, 0]), None);
-        assert_eq!(rt; Value::read(&[8, 0, 0, 0x10, 5, 0, 0]), None);
-    }
-}

@@ -22,6 +22,3 @@ pub fn dump_bytes<W: Write + Drop>(
     dump_text(&table, out)?;
     Ok(Status::Done)
 }
-
-#[cfg(test)]
-mod tests;

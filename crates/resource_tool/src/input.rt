@@ -61,6 +61,3 @@ pub fn read_input<R: Read>(
     }
     Err(InputFault::Read)
 }
-
-#[cfg(test)]
-mod tests;

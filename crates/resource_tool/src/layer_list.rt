@@ -107,6 +107,3 @@ fn map_path(value: &Value) -> Result<Option<&str>, LayersFault>
         None => Ok(None),
     }
 }
-
-#[cfg(test)]
-mod tests;

@@ -22,6 +22,3 @@ pub fn rows_bytes<W: Write + Drop>(
     rows_text(&table, out)?;
     Ok(Status::Done)
 }
-
-#[cfg(test)]
-mod tests;

@@ -132,31 +132,3 @@ fn write_surrogate<W: Write + Drop>(unit: u16, out: &mut W) -> io::Result<()>
     out.write_all(b"\\u")?;
     write_hex(&unit.to_be_bytes(), out)
 }
-
-#[cfg(test)]
-mod tests {
-    use super::*;
-    use std::test::Fail;
-
-    #[test]
-    fn writes_strings(rt: HostRuntime) -> Result<(), Fail> {
-        let rows = [
-            (Ok(Text::Utf8(b"Hi")), "\"Hi\""),
-            (Ok(Text::Utf16(b"H\0i\0")), "\"Hi\""),
-            (Ok(Text::Utf8(b"a\xff\"")), r#""a\xff\"""#),
-            (Ok(Text::Utf8("é\\\n\x7f".as_bytes())), r#""é\\\x0a\x7f""#),
-            (Ok(Text::Utf8(b"\xe2\x82\xe2\x82\xac")), r#""\xe2\x82€""#),
-            (Ok(Text::Utf16(b"\x00\xd8")), r#""\ud800""#),
-            (Ok(Text::Utf16(b"\x3d\xd8\x00\xde")), "\"😀\""),
-            (Err(StringFault::NoSuch), "!NoSuch"),
-            (Err(StringFault::Cut), "!Cut"),
-            (Err(StringFault::NotEnded), "!NotEnded"),
-        ];
-        for (string, text) in rows {
-            let mut out = Vec::new(rt.alloc());
-            write_string(string, &mut out)?;
-            assert_eq!(rt; out.as_slice(), text.as_bytes());
-        }
-        Ok(())
-    }
-}

@@ -48,20 +48,3 @@ impl<'a> Text<'a> {
         out.write_all(b"\"")
     }
 }
-
-#[cfg(test)]
-mod tests {
-    use super::*;
-
-    #[test]
-    fn compares_texts(rt: HostRuntime) {
-        for (string, text, same) in [
-            (Text::Utf8(b"Hi"), "Hi", true),
-            (Text::Utf16(b"H\0i\0"), "Hi", true),
-            (Text::Utf16(b"\x3d\xd8\x00\xde"), "\u{1f600}", true),
-            (Text::Utf16(b"\x00\xd8"), "\u{fffd}", false),
-        ] {
-            assert_eq!(rt; string.is_text(text), same, "{text}");
-        }
-    }
-}
