@@ -38,11 +38,14 @@ decision_text (KeptOut rule) = codes "kept out" ++ rule_text rule
 unfoldable pub place_text : ℕ → ℕ → List ℕ
 place_text place layer = codes "candidate " ++ decimal place ++ codes " " ++ layer_text layer
 
+-- `RECORD DECISION`
+unfoldable pub traced_text : TracedCandidateOf → List ℕ
+traced_text traced = record_text traced.candidate.row.config ++ codes " " ++ decision_text traced.decision
+
 -- the line `candidate K layer L RECORD DECISION`
 unfoldable pub candidate_line : (ℕ × TracedCandidateOf) → List ℕ
 candidate_line numbered =
-    place_text numbered.0 numbered.1.candidate.layer ++ codes " " ++ record_text numbered.1.candidate.row.config
-    ++ codes " " ++ decision_text numbered.1.decision ++ 10 ∷ []
+    place_text numbered.0 numbered.1.candidate.layer ++ codes " " ++ traced_text numbered.1 ++ 10 ∷ []
 
 -- ---- a look-up
 

@@ -25,6 +25,7 @@ pub(crate) fn write_device_fault<W: Write + Drop>(fault: DeviceFault, out: &mut 
 fn write_name_and_coord<W: Write + Drop>(name: &str, coord: Coord, out: &mut W) -> io::Result<()>
     ensures { Writes W.contents out.old out.new result (name_and_coord name.now coord) }
 {
-    write!(out, "{name} ")?;
+    out.write_all(name.as_bytes())?;
+    out.write_all(b" ")?;
     out.write_all(coord.name().as_bytes())
 }

@@ -7,7 +7,7 @@ use std::io::{self, Write};
 
 /// Writes which layer it is, by its place from 0.
 #[tactic(auto, unfolding(crate::specs::LayerText::layer_text))]
-pub(crate) fn write_layer<W: Write + Drop>(layer: usize, out: &mut W) -> io::Result<()>
+pub fn write_layer<W: Write + Drop>(layer: usize, out: &mut W) -> io::Result<()>
     ensures { Writes W.contents out.old out.new result (layer_text layer) }
 {
     write!(out, "layer {layer}")

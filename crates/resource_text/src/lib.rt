@@ -34,6 +34,7 @@ pub use dump::dump_text;
 pub use end::end_text;
 pub use explanation::explain;
 pub use fault::{ToolFault, fault_text};
+pub use layer::write_layer;
 pub use layers_fault::LayersFault;
 pub use query::{query_line, set_aside_line};
 pub use rows::rows_text;

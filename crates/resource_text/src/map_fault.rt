@@ -25,6 +25,7 @@ pub(crate) fn write_map_fault<W: Write + Drop>(fault: MapFault, out: &mut W) -> 
 fn write_name_and_id<W: Write + Drop>(name: &str, id: ResId, out: &mut W) -> io::Result<()>
     ensures { Writes W.contents out.old out.new result (name_and_id name.now id.0) }
 {
-    write!(out, "{name} ")?;
+    out.write_all(name.as_bytes())?;
+    out.write_all(b" ")?;
     write_id(id, out)
 }

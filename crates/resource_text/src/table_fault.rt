@@ -2,7 +2,7 @@
 
 ghost use Rattle.std.specs.Prelude.{◌≡◌};
 ghost use Rattle.contract_words.specs.Writes.{Writes};
-ghost use Rattle.resource_text.specs.TableFaultText.{chunk_fault_text, pool_fault_name, pool_fault_text, table_fault_text};
+ghost use Rattle.resource_text.specs.TableFaultText.{name_and_place, inner_chunk_fault_text, chunk_fault_text, pool_fault_name, pool_fault_text, table_fault_text};
 
 use chunk_walk::ChunkFault;
 use std::io::{self, Write};
@@ -15,21 +15,18 @@ pub(crate) fn write_table_fault<W: Write + Drop>(fault: TableFault, out: &mut W)
     ensures { Writes W.contents out.old out.new result (table_fault_text fault) }
 {
     match fault {
-        TableFault::Chunk(fault) => {
-            out.write_all(b"Chunk ")?;
-            write_chunk_fault(fault, out)
-        }
+        TableFault::Chunk(fault) => write_chunk_fault(fault, out),
         TableFault::NotTable => out.write_all(b"NotTable"),
-        TableFault::PackageId(place) => write!(out, "PackageId {place}"),
-        TableFault::PackageHeader(place) => write!(out, "PackageHeader {place}"),
+        TableFault::PackageId(place) => write_name_and_place("PackageId", place, out),
+        TableFault::PackageHeader(place) => write_name_and_place("PackageHeader", place, out),
         TableFault::Pool(place, fault) => write_pool_fault(place, fault, out),
-        TableFault::TypeId(place) => write!(out, "TypeId {place}"),
-        TableFault::TypeWithoutSpec(place) => write!(out, "TypeWithoutSpec {place}"),
-        TableFault::SparseType(place) => write!(out, "SparseType {place}"),
-        TableFault::Config(place) => write!(out, "Config {place}"),
-        TableFault::Offsets(place) => write!(out, "Offsets {place}"),
-        TableFault::Entry(place) => write!(out, "Entry {place}"),
-        TableFault::Value(place) => write!(out, "Value {place}"),
+        TableFault::TypeId(place) => write_name_and_place("TypeId", place, out),
+        TableFault::TypeWithoutSpec(place) => write_name_and_place("TypeWithoutSpec", place, out),
+        TableFault::SparseType(place) => write_name_and_place("SparseType", place, out),
+        TableFault::Config(place) => write_name_and_place("Config", place, out),
+        TableFault::Offsets(place) => write_name_and_place("Offsets", place, out),
+        TableFault::Entry(place) => write_name_and_place("Entry", place, out),
+        TableFault::Value(place) => write_name_and_place("Value", place, out),
         TableFault::OutOfMemory => out.write_all(b"OutOfMemory"),
     }
 }
@@ -38,12 +35,20 @@ pub(crate) fn write_table_fault<W: Write + Drop>(fault: TableFault, out: &mut W)
 fn write_chunk_fault<W: Write + Drop>(fault: ChunkFault, out: &mut W) -> io::Result<()>
     ensures { Writes W.contents out.old out.new result (chunk_fault_text fault) }
 {
+    out.write_all(b"Chunk ")?;
+    write_inner_chunk_fault(fault, out)
+}
+
+#[tactic(auto, unfolding(crate::specs::TableFaultText::inner_chunk_fault_text))]
+fn write_inner_chunk_fault<W: Write + Drop>(fault: ChunkFault, out: &mut W) -> io::Result<()>
+    ensures { Writes W.contents out.old out.new result (inner_chunk_fault_text fault) }
+{
     match fault {
-        ChunkFault::Truncated(place) => write!(out, "Truncated {place}"),
-        ChunkFault::HeaderShort(place) => write!(out, "HeaderShort {place}"),
-        ChunkFault::HeaderLong(place) => write!(out, "HeaderLong {place}"),
-        ChunkFault::Misaligned(place) => write!(out, "Misaligned {place}"),
-        ChunkFault::Oversize(place) => write!(out, "Oversize {place}"),
+        ChunkFault::Truncated(place) => write_name_and_place("Truncated", place, out),
+        ChunkFault::HeaderShort(place) => write_name_and_place("HeaderShort", place, out),
+        ChunkFault::HeaderLong(place) => write_name_and_place("HeaderLong", place, out),
+        ChunkFault::Misaligned(place) => write_name_and_place("Misaligned", place, out),
+        ChunkFault::Oversize(place) => write_name_and_place("Oversize", place, out),
     }
 }
 
@@ -51,8 +56,8 @@ fn write_chunk_fault<W: Write + Drop>(fault: ChunkFault, out: &mut W) -> io::Res
 fn write_pool_fault<W: Write + Drop>(place: usize, fault: PoolFault, out: &mut W) -> io::Result<()>
     ensures { Writes W.contents out.old out.new result (pool_fault_text place fault) }
 {
-    let name = pool_fault_name(fault);
-    write!(out, "Pool {name} {place}")
+    out.write_all(b"Pool ")?;
+    write_name_and_place(pool_fault_name(fault), place, out)
 }
 
 fn pool_fault_name(fault: PoolFault) -> &'static str
@@ -63,4 +68,12 @@ fn pool_fault_name(fault: PoolFault) -> &'static str
         PoolFault::Offsets => "Offsets",
         PoolFault::Start => "Start",
     }
+}
+
+#[tactic(auto, unfolding(crate::specs::TableFaultText::name_and_place))]
+fn write_name_and_place<W: Write + Drop>(name: &str, place: usize, out: &mut W) -> io::Result<()>
+    ensures { Writes W.contents out.old out.new result (name_and_place name.now place) }
+{
+    out.write_all(name.as_bytes())?;
+    write!(out, " {place}")
 }
