@@ -13,6 +13,7 @@ use Rattle.res_value.specs.ResId.{id_text}
 use Rattle.res_value.specs.ValueText.{value_text}
 use Rattle.config_record.specs.Qualifiers.{record_text}
 use Rattle.type_chunks.specs.Row.{RowOf}
+use Rattle.resource_text.specs.NamedText.{named_id}
 use Rattle.resource_text.specs.declared.cell.RowFormat.{RowFormat}
 
 -- In what two texts of the same rows differ: what stands before each line of a row of a bag, and the
@@ -32,13 +33,9 @@ unfoldable pub value_with_string : Option PoolOf → Value → List ℕ
 value_with_string None value = value_text value
 value_with_string (Some strings) value = value_text value ++ string_behind strings value
 
--- `parent ID`
-unfoldable pub parent_text : ℕ → List ℕ
-parent_text parent = codes "parent " ++ id_text parent
-
 -- `bag parent ID count N`
 unfoldable pub bag_text : ℕ → ℕ → List ℕ
-bag_text parent count = codes "bag " ++ parent_text parent ++ codes " count " ++ decimal count
+bag_text parent count = codes "bag " ++ named_id (codes "parent") parent ++ codes " count " ++ decimal count
 
 -- what an entry holds, in the line of its row: a value, or a bag with its count of rows
 unfoldable pub cell_text : RowFormatOf → CellOf → List ℕ

@@ -7,8 +7,9 @@ ghost use Rattle.string_pool.specs.Pool.{pool_of};
 ghost use Rattle.res_value.specs.Cell.{cell_of};
 ghost use Rattle.res_value.specs.MapRows.{map_rows_of};
 ghost use Rattle.type_chunks.specs.Row.{row_of};
-ghost use Rattle.resource_text.specs.CellText.{format_of, string_behind, value_with_string, parent_text, bag_text, cell_text, named_value_text, map_row_text, map_rows_text, config_and_cell, row_end_text};
+ghost use Rattle.resource_text.specs.CellText.{format_of, string_behind, value_with_string, bag_text, cell_text, named_value_text, map_row_text, map_rows_text, config_and_cell, row_end_text};
 
+use crate::named::write_named_id;
 use res_value::{Cell, MapRows, ResId, Value, kind, write_id, write_value};
 use std::io::{self, Write};
 use string_pool::{Pool, write_string};
@@ -98,16 +99,8 @@ fn write_bag<W: Write + Drop>(parent: ResId, count: usize, out: &mut W) -> io::R
     ensures { Writes W.contents out.old out.new result (bag_text parent.0 count) }
 {
     out.write_all(b"bag ")?;
-    write_parent(parent, out)?;
+    write_named_id("parent", parent, out)?;
     write!(out, " count {count}")
-}
-
-#[tactic(auto, unfolding(crate::specs::CellText::parent_text))]
-fn write_parent<W: Write + Drop>(parent: ResId, out: &mut W) -> io::Result<()>
-    ensures { Writes W.contents out.old out.new result (parent_text parent.0) }
-{
-    out.write_all(b"parent ")?;
-    write_id(parent, out)
 }
 
 #[tactic(auto, unfolding(crate::specs::CellText::map_rows_text))]

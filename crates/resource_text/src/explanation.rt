@@ -12,10 +12,11 @@ ghost use Rattle.resource_text.specs.ExplainText.{place_text, traced_text, candi
 use crate::decision::write_decision;
 use crate::end::end_text;
 use crate::layer::write_layer;
+use crate::named::{write_named_id, write_named_number};
 use config_record::Device;
 use overlay_map::Stack;
 use reference_resolver::{End, LookUps, TracedCandidate, TracedCandidates, resolve};
-use res_value::{ResId, write_id};
+use res_value::ResId;
 use std::io::{self, Write};
 
 /// Writes how an id comes to its end at a device: a line for each id that is looked up, behind it one for
@@ -111,7 +112,7 @@ fn write_traced<W: Write + Drop>(traced: &TracedCandidate<'_>, out: &mut W) -> i
 fn write_place<W: Write + Drop>(place: u128, layer: usize, out: &mut W) -> io::Result<()>
     ensures { Writes W.contents out.old out.new result (place_text place layer) }
 {
-    write!(out, "candidate {place}")?;
+    write_named_number("candidate", place, out)?;
     out.write_all(b" ")?;
     write_layer(layer, out)
 }
@@ -120,8 +121,7 @@ fn write_place<W: Write + Drop>(place: u128, layer: usize, out: &mut W) -> io::R
 fn write_look_up_line<W: Write + Drop>(id: ResId, out: &mut W) -> io::Result<()>
     ensures { Writes W.contents out.old out.new result (look_up_line id.0) }
 {
-    out.write_all(b"lookup ")?;
-    write_id(id, out)?;
+    write_named_id("lookup", id, out)?;
     out.write_all(b"\n")
 }
 

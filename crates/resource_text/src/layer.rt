@@ -3,6 +3,7 @@
 ghost use Rattle.contract_words.specs.Writes.{Writes};
 ghost use Rattle.resource_text.specs.LayerText.{layer_text};
 
+use crate::named::write_named_number;
 use std::io::{self, Write};
 
 /// Writes which layer it is, by its place from 0.
@@ -10,5 +11,5 @@ use std::io::{self, Write};
 pub fn write_layer<W: Write + Drop>(layer: usize, out: &mut W) -> io::Result<()>
     ensures { Writes W.contents out.old out.new result (layer_text layer) }
 {
-    write!(out, "layer {layer}")
+    write_named_number("layer", layer as u128, out)
 }

@@ -26,6 +26,7 @@ mod fault;
 mod layer;
 mod layers_fault;
 mod map_fault;
+mod named;
 mod query;
 mod rows;
 mod table_fault;

@@ -2,8 +2,9 @@
 
 ghost use Rattle.std.specs.Prelude.{◌≡◌};
 ghost use Rattle.contract_words.specs.Writes.{Writes};
-ghost use Rattle.resource_text.specs.TableFaultText.{name_and_place, inner_chunk_fault_text, chunk_fault_text, pool_fault_name, pool_fault_text, table_fault_text};
+ghost use Rattle.resource_text.specs.TableFaultText.{inner_chunk_fault_text, chunk_fault_text, pool_fault_name, pool_fault_text, table_fault_text};
 
+use crate::named::write_named_number;
 use chunk_walk::ChunkFault;
 use std::io::{self, Write};
 use string_pool::PoolFault;
@@ -17,16 +18,20 @@ pub(crate) fn write_table_fault<W: Write + Drop>(fault: TableFault, out: &mut W)
     match fault {
         TableFault::Chunk(fault) => write_chunk_fault(fault, out),
         TableFault::NotTable => out.write_all(b"NotTable"),
-        TableFault::PackageId(place) => write_name_and_place("PackageId", place, out),
-        TableFault::PackageHeader(place) => write_name_and_place("PackageHeader", place, out),
+        TableFault::PackageId(place) => write_named_number("PackageId", place as u128, out),
+        TableFault::PackageHeader(place) => write_named_number("PackageHeader", place as u128, out),
         TableFault::Pool(place, fault) => write_pool_fault(place, fault, out),
-        TableFault::TypeId(place) => write_name_and_place("TypeId", place, out),
-        TableFault::TypeWithoutSpec(place) => write_name_and_place("TypeWithoutSpec", place, out),
-        TableFault::SparseType(place) => write_name_and_place("SparseType", place, out),
-        TableFault::Config(place) => write_name_and_place("Config", place, out),
-        TableFault::Offsets(place) => write_name_and_place("Offsets", place, out),
-        TableFault::Entry(place) => write_name_and_place("Entry", place, out),
-        TableFault::Value(place) => write_name_and_place("Value", place, out),
+        TableFault::TypeId(place) => write_named_number("TypeId", place as u128, out),
+        TableFault::TypeWithoutSpec(place) => write_named_number(
+            "TypeWithoutSpec",
+            place as u128,
+            out,
+        ),
+        TableFault::SparseType(place) => write_named_number("SparseType", place as u128, out),
+        TableFault::Config(place) => write_named_number("Config", place as u128, out),
+        TableFault::Offsets(place) => write_named_number("Offsets", place as u128, out),
+        TableFault::Entry(place) => write_named_number("Entry", place as u128, out),
+        TableFault::Value(place) => write_named_number("Value", place as u128, out),
         TableFault::OutOfMemory => out.write_all(b"OutOfMemory"),
     }
 }
@@ -44,11 +49,11 @@ fn write_inner_chunk_fault<W: Write + Drop>(fault: ChunkFault, out: &mut W) -> i
     ensures { Writes W.contents out.old out.new result (inner_chunk_fault_text fault) }
 {
     match fault {
-        ChunkFault::Truncated(place) => write_name_and_place("Truncated", place, out),
-        ChunkFault::HeaderShort(place) => write_name_and_place("HeaderShort", place, out),
-        ChunkFault::HeaderLong(place) => write_name_and_place("HeaderLong", place, out),
-        ChunkFault::Misaligned(place) => write_name_and_place("Misaligned", place, out),
-        ChunkFault::Oversize(place) => write_name_and_place("Oversize", place, out),
+        ChunkFault::Truncated(place) => write_named_number("Truncated", place as u128, out),
+        ChunkFault::HeaderShort(place) => write_named_number("HeaderShort", place as u128, out),
+        ChunkFault::HeaderLong(place) => write_named_number("HeaderLong", place as u128, out),
+        ChunkFault::Misaligned(place) => write_named_number("Misaligned", place as u128, out),
+        ChunkFault::Oversize(place) => write_named_number("Oversize", place as u128, out),
     }
 }
 
@@ -57,7 +62,7 @@ fn write_pool_fault<W: Write + Drop>(place: usize, fault: PoolFault, out: &mut W
     ensures { Writes W.contents out.old out.new result (pool_fault_text place fault) }
 {
     out.write_all(b"Pool ")?;
-    write_name_and_place(pool_fault_name(fault), place, out)
+    write_named_number(pool_fault_name(fault), place as u128, out)
 }
 
 fn pool_fault_name(fault: PoolFault) -> &'static str
@@ -68,12 +73,4 @@ fn pool_fault_name(fault: PoolFault) -> &'static str
         PoolFault::Offsets => "Offsets",
         PoolFault::Start => "Start",
     }
-}
-
-#[tactic(auto, unfolding(crate::specs::TableFaultText::name_and_place))]
-fn write_name_and_place<W: Write + Drop>(name: &str, place: usize, out: &mut W) -> io::Result<()>
-    ensures { Writes W.contents out.old out.new result (name_and_place name.now place) }
-{
-    out.write_all(name.as_bytes())?;
-    write!(out, " {place}")
 }
