@@ -13,6 +13,7 @@ use Rattle.res_value.specs.ResId.{id_text}
 use Rattle.res_value.specs.ValueText.{value_text}
 use Rattle.config_record.specs.Qualifiers.{record_text}
 use Rattle.type_chunks.specs.Row.{RowOf}
+use Rattle.resource_text.specs.NamedText.{named_id}
 use Rattle.resource_text.specs.declared.cell.RowFormat.{RowFormat}
 
 -- In what two texts of the same rows differ: what stands before each line of a row of a bag, and the
@@ -32,29 +33,32 @@ unfoldable pub value_with_string : Option PoolOf → Value → List ℕ
 value_with_string None value = value_text value
 value_with_string (Some strings) value = value_text value ++ string_behind strings value
 
--- `parent ID`
-unfoldable pub parent_text : ℕ → List ℕ
-parent_text parent = codes "parent " ++ id_text parent
-
 -- `bag parent ID count N`
 unfoldable pub bag_text : ℕ → ℕ → List ℕ
-bag_text parent count = codes "bag " ++ parent_text parent ++ codes " count " ++ decimal count
+bag_text parent count = codes "bag " ++ named_id (codes "parent") parent ++ codes " count " ++ decimal count
 
 -- what an entry holds, in the line of its row: a value, or a bag with its count of rows
 unfoldable pub cell_text : RowFormatOf → CellOf → List ℕ
 cell_text format (PlainOf value) = value_with_string format.strings value
 cell_text format (BagOf parent rows) = bag_text parent.0 (length rows)
 
--- the line of a row of a bag: `NAME VALUE` behind the indent
+-- `NAME VALUE`
+unfoldable pub named_value_text : Option PoolOf → ℕ → Value → List ℕ
+named_value_text strings name value = id_text name ++ codes " " ++ value_with_string strings value
+
+-- the line of a row of a bag, behind the indent
 unfoldable pub map_row_text : RowFormatOf → (ResId × Value) → List ℕ
-map_row_text format row = format.indent ++ id_text row.0.0 ++ codes " " ++ value_with_string format.strings row.1 ++ 10 ∷ []
+map_row_text format row = format.indent ++ named_value_text format.strings row.0.0 row.1 ++ 10 ∷ []
 
 -- the lines of a bag's rows
 unfoldable pub map_rows_text : RowFormatOf → CellOf → List ℕ
 map_rows_text format (PlainOf value) = []
 map_rows_text format (BagOf parent rows) = flat_map (map_row_text format) rows
 
--- how the line of a row ends, `RECORD VALUE`, and the lines of a bag
+-- `RECORD VALUE`
+unfoldable pub config_and_cell : RowFormatOf → RowOf → List ℕ
+config_and_cell format row = record_text row.config ++ codes " " ++ cell_text format row.cell
+
+-- how the line of a row ends, and the lines of a bag
 unfoldable pub row_end_text : RowFormatOf → RowOf → List ℕ
-row_end_text format row =
-    record_text row.config ++ codes " " ++ cell_text format row.cell ++ 10 ∷ [] ++ map_rows_text format row.cell
+row_end_text format row = config_and_cell format row ++ 10 ∷ [] ++ map_rows_text format row.cell

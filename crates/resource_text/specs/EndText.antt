@@ -2,9 +2,9 @@
 use Rattle.std.specs.Prelude.{ℕ, List, ◌++◌, codes, Option, None}
 use Rattle.string_pool.specs.Pool.{PoolOf}
 use Rattle.res_value.specs.declared.value.Value.{Value}
-use Rattle.res_value.specs.ResId.{id_text}
 use Rattle.reference_resolver.specs.declared.end.End.{End}
 use Rattle.reference_resolver.specs.declared.end.End.TheVariants as of_end
+use Rattle.resource_text.specs.NamedText.{named_id}
 use Rattle.resource_text.specs.LayerText.{layer_text}
 use Rattle.resource_text.specs.CellText.{value_with_string}
 
@@ -12,24 +12,12 @@ use Rattle.resource_text.specs.CellText.{value_with_string}
 unfoldable pub value_end_text : Option PoolOf → ℕ → Value → List ℕ
 value_end_text strings layer value = codes "value " ++ layer_text layer ++ codes " " ++ value_with_string strings value
 
--- `bag ID`
-unfoldable pub bag_end_text : ℕ → List ℕ
-bag_end_text id = codes "bag " ++ id_text id
-
--- `absent ID`
-unfoldable pub absent_end_text : ℕ → List ℕ
-absent_end_text id = codes "absent " ++ id_text id
-
--- `too long ID`
-unfoldable pub too_long_end_text : ℕ → List ℕ
-too_long_end_text id = codes "too long " ++ id_text id
-
 -- An end. Where strings are given, a string value is followed by its string among them.
 unfoldable pub end_with_string : Option PoolOf → End → List ℕ
 end_with_string strings (of_end.Value layer value) = value_end_text strings layer value
-end_with_string strings (of_end.Bag id) = bag_end_text id.0
-end_with_string strings (of_end.Absent id) = absent_end_text id.0
-end_with_string strings (of_end.TooLong id) = too_long_end_text id.0
+end_with_string strings (of_end.Bag id) = named_id (codes "bag") id.0
+end_with_string strings (of_end.Absent id) = named_id (codes "absent") id.0
+end_with_string strings (of_end.TooLong id) = named_id (codes "too long") id.0
 
 -- an end with its value alone
 abbrev pub end_text : End → List ℕ

@@ -2,9 +2,6 @@
 use Rattle.std.specs.Prelude.{ℕ, List, [], ◌∷◌, ◌++◌, codes, Option, Some, None}
 use Rattle.std.specs.List.{flat_map, enumerate_from}
 use Rattle.std.specs.Fmt.{decimal}
-use Rattle.res_value.specs.ResId.{id_text}
-use Rattle.config_record.specs.declared.coord.Coord.{Coord}
-use Rattle.config_record.specs.Coord.{name_of}
 use Rattle.config_record.specs.Qualifiers.{record_text}
 use Rattle.overlay_map.specs.Layer.{LayerOf}
 use Rattle.reference_resolver.specs.declared.decision.Decision.{Decision}
@@ -12,14 +9,11 @@ use Rattle.reference_resolver.specs.declared.decision.Decision.TheVariants.{SetA
 use Rattle.reference_resolver.specs.declared.end.End.{End}
 use Rattle.reference_resolver.specs.Ends.{references_followed, end_of}
 use Rattle.reference_resolver.specs.Trace.{look_ups_of, TracedCandidateOf, traced, scan_look_up}
+use Rattle.resource_text.specs.NamedText.{named_id, named_coord, named_number}
 use Rattle.resource_text.specs.LayerText.{layer_text}
 use Rattle.resource_text.specs.EndText.{end_text}
 
 -- ---- a candidate
-
--- `no match COORD`
-unfoldable pub no_match_text : Coord → List ℕ
-no_match_text coord = codes "no match " ++ name_of coord
 
 -- ` Pn`, where a rule decided
 unfoldable pub rule_text : Option ℕ → List ℕ
@@ -28,7 +22,7 @@ rule_text (Some rule) = codes " P" ++ decimal rule
 
 unfoldable pub decision_text : Decision → List ℕ
 decision_text SetAside = codes "set aside"
-decision_text (NoMatch coord) = no_match_text coord
+decision_text (NoMatch coord) = named_coord (codes "no match") coord
 decision_text First = codes "first"
 decision_text (TookOver rule) = codes "took over" ++ rule_text rule
 decision_text TookOverEqual = codes "took over equal"
@@ -36,19 +30,22 @@ decision_text (KeptOut rule) = codes "kept out" ++ rule_text rule
 
 -- `candidate K layer L`
 unfoldable pub place_text : ℕ → ℕ → List ℕ
-place_text place layer = codes "candidate " ++ decimal place ++ codes " " ++ layer_text layer
+place_text place layer = named_number (codes "candidate") place ++ codes " " ++ layer_text layer
+
+-- `RECORD DECISION`
+unfoldable pub traced_text : TracedCandidateOf → List ℕ
+traced_text traced = record_text traced.candidate.row.config ++ codes " " ++ decision_text traced.decision
 
 -- the line `candidate K layer L RECORD DECISION`
 unfoldable pub candidate_line : (ℕ × TracedCandidateOf) → List ℕ
 candidate_line numbered =
-    place_text numbered.0 numbered.1.candidate.layer ++ codes " " ++ record_text numbered.1.candidate.row.config
-    ++ codes " " ++ decision_text numbered.1.decision ++ 10 ∷ []
+    place_text numbered.0 numbered.1.candidate.layer ++ codes " " ++ traced_text numbered.1 ++ 10 ∷ []
 
 -- ---- a look-up
 
 -- the line `lookup ID`
 unfoldable pub look_up_line : ℕ → List ℕ
-look_up_line id = codes "lookup " ++ id_text id ++ 10 ∷ []
+look_up_line id = named_id (codes "lookup") id ++ 10 ∷ []
 
 -- the lines of candidates, which are counted from 0
 unfoldable pub candidate_lines : List TracedCandidateOf → List ℕ

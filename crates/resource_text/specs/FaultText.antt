@@ -14,31 +14,31 @@ use Rattle.resource_text.specs.DeviceFaultText.{device_fault_text}
 
 -- which part of the input is refused
 unfoldable pub refused_text : List ℕ → List ℕ
-refused_text part = codes "refused: " ++ part ++ codes ": "
+refused_text part = codes "refused: " ++ part
 
--- which part of a layer is refused
-unfoldable pub refused_layer_text : ℕ → List ℕ → List ℕ
-refused_layer_text layer part = codes "refused: " ++ layer_text layer ++ codes " " ++ part ++ codes ": "
+-- which layer is refused
+unfoldable pub refused_layer_text : ℕ → List ℕ
+refused_layer_text layer = codes "refused: " ++ layer_text layer
 
 -- `refused: table: FAULT`
 unfoldable pub table_line : TableFault → List ℕ
-table_line fault = refused_text (codes "table") ++ table_fault_text fault ++ 10 ∷ []
+table_line fault = refused_text (codes "table: ") ++ table_fault_text fault ++ 10 ∷ []
 
 -- `refused: layers: FAULT`
 unfoldable pub layers_line : LayersFault → List ℕ
-layers_line fault = refused_text (codes "layers") ++ layers_fault_text fault ++ 10 ∷ []
+layers_line fault = refused_text (codes "layers: ") ++ layers_fault_text fault ++ 10 ∷ []
 
 -- `refused: layer N table: FAULT`
 unfoldable pub layer_table_line : ℕ → TableFault → List ℕ
-layer_table_line layer fault = refused_layer_text layer (codes "table") ++ table_fault_text fault ++ 10 ∷ []
+layer_table_line layer fault = refused_layer_text layer ++ codes " table: " ++ table_fault_text fault ++ 10 ∷ []
 
 -- `refused: layer N map: FAULT`
 unfoldable pub layer_map_line : ℕ → MapFault → List ℕ
-layer_map_line layer fault = refused_layer_text layer (codes "map") ++ map_fault_text fault ++ 10 ∷ []
+layer_map_line layer fault = refused_layer_text layer ++ codes " map: " ++ map_fault_text fault ++ 10 ∷ []
 
 -- `refused: device: FAULT`
 unfoldable pub device_line : DeviceFault → List ℕ
-device_line fault = refused_text (codes "device") ++ device_fault_text fault ++ 10 ∷ []
+device_line fault = refused_text (codes "device: ") ++ device_fault_text fault ++ 10 ∷ []
 
 -- A line for a part that is refused, and one for memory; none for a writer that failed.
 unfoldable pub fault_line : ToolFault → List ℕ

@@ -1,3 +1,4 @@
+pub mod NamedText
 pub mod LayerText
 pub mod ToolFault
 pub mod TableFaultText

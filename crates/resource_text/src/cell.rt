@@ -7,15 +7,16 @@ ghost use Rattle.string_pool.specs.Pool.{pool_of};
 ghost use Rattle.res_value.specs.Cell.{cell_of};
 ghost use Rattle.res_value.specs.MapRows.{map_rows_of};
 ghost use Rattle.type_chunks.specs.Row.{row_of};
-ghost use Rattle.resource_text.specs.CellText.{format_of, string_behind, value_with_string, parent_text, bag_text, cell_text, map_row_text, map_rows_text, row_end_text};
+ghost use Rattle.resource_text.specs.CellText.{format_of, string_behind, value_with_string, bag_text, cell_text, named_value_text, map_row_text, map_rows_text, config_and_cell, row_end_text};
 
+use crate::named::write_named_id;
 use res_value::{Cell, MapRows, ResId, Value, kind, write_id, write_value};
 use std::io::{self, Write};
 use string_pool::{Pool, write_string};
 use type_chunks::Row;
 
 /// The two ways in which the texts of rows differ.
-#[derive(Clone, Copy, Debug)]
+#[derive(Clone, Copy)]
 pub(crate) struct RowFormat<'a> {
     /// What stands before each line of a row of a bag.
     pub indent: &'a str,
@@ -34,11 +35,22 @@ pub(crate) fn write_row_end<W: Write + Drop>(
 ) -> io::Result<()>
     ensures { Writes W.contents out.old out.new result (row_end_text (format_of format.entry) (row_of row.now)) }
 {
-    row.config.write_qualifiers(out)?;
-    out.write_all(b" ")?;
-    write_cell(format, row.cell, out)?;
+    write_config_and_cell(format, row, out)?;
     out.write_all(b"\n")?;
     write_map_rows(format, row.cell, out)
+}
+
+#[tactic(auto, unfolding(crate::specs::CellText::config_and_cell))]
+fn write_config_and_cell<W: Write + Drop>(
+    format: RowFormat<'_>,
+    row: &Row<'_>,
+    out: &mut W,
+) -> io::Result<()>
+    ensures { Writes W.contents out.old out.new result (config_and_cell (format_of format.entry) (row_of row.now)) }
+{
+    row.config.write_qualifiers(out)?;
+    out.write_all(b" ")?;
+    write_cell(format, row.cell, out)
 }
 
 #[tactic(auto, unfolding(crate::specs::CellText::cell_text))]
@@ -87,16 +99,8 @@ fn write_bag<W: Write + Drop>(parent: ResId, count: usize, out: &mut W) -> io::R
     ensures { Writes W.contents out.old out.new result (bag_text parent.0 count) }
 {
     out.write_all(b"bag ")?;
-    write_parent(parent, out)?;
+    write_named_id("parent", parent, out)?;
     write!(out, " count {count}")
-}
-
-#[tactic(auto, unfolding(crate::specs::CellText::parent_text))]
-fn write_parent<W: Write + Drop>(parent: ResId, out: &mut W) -> io::Result<()>
-    ensures { Writes W.contents out.old out.new result (parent_text parent.0) }
-{
-    out.write_all(b"parent ")?;
-    write_id(parent, out)
 }
 
 #[tactic(auto, unfolding(crate::specs::CellText::map_rows_text))]
@@ -137,8 +141,20 @@ fn write_map_row<W: Write + Drop>(
     ensures { Writes W.contents out.old out.new result (map_row_text (format_of format.entry) (name, value)) }
 {
     out.write_all(format.indent.as_bytes())?;
+    write_named_value(format.strings, name, value, out)?;
+    out.write_all(b"\n")
+}
+
+#[tactic(auto, unfolding(crate::specs::CellText::named_value_text))]
+fn write_named_value<W: Write + Drop>(
+    strings: Option<Pool<'_>>,
+    name: ResId,
+    value: Value,
+    out: &mut W,
+) -> io::Result<()>
+    ensures { Writes W.contents out.old out.new result (named_value_text (option_map pool_of strings.entry) name.0 value) }
+{
     write_id(name, out)?;
     out.write_all(b" ")?;
-    write_value_with_string(format.strings, value, out)?;
-    out.write_all(b"\n")
+    write_value_with_string(strings, value, out)
 }

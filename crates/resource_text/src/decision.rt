@@ -2,9 +2,9 @@
 
 ghost use Rattle.std.specs.Prelude.{◌++◌};
 ghost use Rattle.contract_words.specs.Writes.{Writes};
-ghost use Rattle.resource_text.specs.ExplainText.{no_match_text, rule_text, decision_text};
+ghost use Rattle.resource_text.specs.ExplainText.{rule_text, decision_text};
 
-use config_record::Coord;
+use crate::named::write_named_coord;
 use reference_resolver::Decision;
 use std::io::{self, Write};
 
@@ -15,20 +15,12 @@ pub(crate) fn write_decision<W: Write + Drop>(decision: Decision, out: &mut W) -
 {
     match decision {
         Decision::SetAside => out.write_all(b"set aside"),
-        Decision::NoMatch(coord) => write_no_match(coord, out),
+        Decision::NoMatch(coord) => write_named_coord("no match", coord, out),
         Decision::First => out.write_all(b"first"),
         Decision::TookOver(rule) => write_with_rule(b"took over", rule, out),
         Decision::TookOverEqual => out.write_all(b"took over equal"),
         Decision::KeptOut(rule) => write_with_rule(b"kept out", rule, out),
     }
-}
-
-#[tactic(auto, unfolding(crate::specs::ExplainText::no_match_text))]
-fn write_no_match<W: Write + Drop>(coord: Coord, out: &mut W) -> io::Result<()>
-    ensures { Writes W.contents out.old out.new result (no_match_text coord) }
-{
-    out.write_all(b"no match ")?;
-    out.write_all(coord.name().as_bytes())
 }
 
 // Writes the name of a decision, and the number of the rule, where one decided.

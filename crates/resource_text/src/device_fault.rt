@@ -1,9 +1,10 @@
 //! Faults of a device, written.
 
 ghost use Rattle.contract_words.specs.Writes.{Writes};
-ghost use Rattle.resource_text.specs.DeviceFaultText.{name_and_coord, device_fault_text};
+ghost use Rattle.resource_text.specs.DeviceFaultText.{device_fault_text};
 
-use config_record::{Coord, DeviceFault};
+use crate::named::write_named_coord;
+use config_record::DeviceFault;
 use std::io::{self, Write};
 
 /// Writes the name of a device's fault, and the coordinate that has it.
@@ -14,17 +15,9 @@ pub(crate) fn write_device_fault<W: Write + Drop>(fault: DeviceFault, out: &mut 
     match fault {
         DeviceFault::Syntax => out.write_all(b"Syntax"),
         DeviceFault::Shape => out.write_all(b"Shape"),
-        DeviceFault::FieldRange(coord) => write_name_and_coord("FieldRange", coord, out),
+        DeviceFault::FieldRange(coord) => write_named_coord("FieldRange", coord, out),
         DeviceFault::RegionAlone => out.write_all(b"RegionAlone"),
         DeviceFault::Density => out.write_all(b"Density"),
         DeviceFault::OutOfMemory => out.write_all(b"OutOfMemory"),
     }
-}
-
-#[tactic(auto, unfolding(crate::specs::DeviceFaultText::name_and_coord))]
-fn write_name_and_coord<W: Write + Drop>(name: &str, coord: Coord, out: &mut W) -> io::Result<()>
-    ensures { Writes W.contents out.old out.new result (name_and_coord name.now coord) }
-{
-    write!(out, "{name} ")?;
-    out.write_all(coord.name().as_bytes())
 }

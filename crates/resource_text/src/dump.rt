@@ -4,7 +4,7 @@ ghost use Rattle.std.specs.List.{flat_map};
 ghost use Rattle.contract_words.specs.Writes.{Writes};
 ghost use Rattle.type_chunks.specs.Row.{row_of};
 ghost use Rattle.type_chunks.specs.Package.{package_of};
-ghost use Rattle.resource_text.specs.DumpText.{package_line, names_text, row_text, package_text, dump_text};
+ghost use Rattle.resource_text.specs.DumpText.{package_id_text, package_line, names_text, row_front_text, flags_text, row_text, package_text, dump_text};
 
 use crate::cell::{RowFormat, write_row_end};
 use hex_text::write_hex;
@@ -43,11 +43,18 @@ fn write_package<W: Write + Drop>(
 fn write_package_line<W: Write + Drop>(owner: &Package<'_>, out: &mut W) -> io::Result<()>
     ensures { Writes W.contents out.old out.new result (package_line (package_of owner.now)) }
 {
-    out.write_all(b"package 0x")?;
-    write_hex(&[owner.id()], out)?;
+    write_package_id(owner.id(), out)?;
     out.write_all(b" ")?;
     owner.name().write_shown(out)?;
     out.write_all(b"\n")
+}
+
+#[tactic(auto, unfolding(crate::specs::DumpText::package_id_text))]
+fn write_package_id<W: Write + Drop>(id: u8, out: &mut W) -> io::Result<()>
+    ensures { Writes W.contents out.old out.new result (package_id_text id) }
+{
+    out.write_all(b"package 0x")?;
+    write_hex(&[id], out)
 }
 
 #[tactic(auto, using(contract_words::proofs::TextSteps::puts))]
@@ -72,14 +79,28 @@ fn write_row<W: Write + Drop>(table: &Table<'_>, row: &Row<'_>, out: &mut W) -> 
         indent: "    ",
         strings: Some(table.strings()),
     };
+    write_row_front(table, row, out)?;
+    write_flags(row.flags, out)?;
+    out.write_all(b" ")?;
+    write_row_end(format, row, out)
+}
+
+#[tactic(auto, unfolding(crate::specs::DumpText::row_front_text))]
+fn write_row_front<W: Write + Drop>(table: &Table<'_>, row: &Row<'_>, out: &mut W) -> io::Result<()>
+    ensures { Writes W.contents out.old out.new result (row_front_text table.now (row_of row.now)) }
+{
     out.write_all(b"  ")?;
     write_id(row.id, out)?;
     out.write_all(b" ")?;
-    write_names(table, row, out)?;
+    write_names(table, row, out)
+}
+
+#[tactic(auto, unfolding(crate::specs::DumpText::flags_text))]
+fn write_flags<W: Write + Drop>(flags: u32, out: &mut W) -> io::Result<()>
+    ensures { Writes W.contents out.old out.new result (flags_text flags) }
+{
     out.write_all(b" flags ")?;
-    write_word(row.flags, out)?;
-    out.write_all(b" ")?;
-    write_row_end(format, row, out)
+    write_word(flags, out)
 }
 
 #[tactic(auto, unfolding(crate::specs::DumpText::names_text))]

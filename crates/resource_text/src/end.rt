@@ -3,12 +3,13 @@
 ghost use Rattle.std.specs.Option.{option_map};
 ghost use Rattle.contract_words.specs.Writes.{Writes};
 ghost use Rattle.string_pool.specs.Pool.{pool_of};
-ghost use Rattle.resource_text.specs.EndText.{value_end_text, bag_end_text, absent_end_text, too_long_end_text, end_with_string, end_text};
+ghost use Rattle.resource_text.specs.EndText.{value_end_text, end_with_string, end_text};
 
 use crate::cell::write_value_with_string;
 use crate::layer::write_layer;
+use crate::named::write_named_id;
 use reference_resolver::End;
-use res_value::{ResId, Value, write_id};
+use res_value::Value;
 use std::io::{self, Write};
 use string_pool::Pool;
 
@@ -31,9 +32,9 @@ pub(crate) fn write_end_with_string<W: Write + Drop>(
 {
     match end {
         End::Value { layer, value } => write_value_end(strings, layer, value, out),
-        End::Bag { id } => write_bag_end(id, out),
-        End::Absent { id } => write_absent_end(id, out),
-        End::TooLong { id } => write_too_long_end(id, out),
+        End::Bag { id } => write_named_id("bag", id, out),
+        End::Absent { id } => write_named_id("absent", id, out),
+        End::TooLong { id } => write_named_id("too long", id, out),
     }
 }
 
@@ -50,28 +51,4 @@ fn write_value_end<W: Write + Drop>(
     write_layer(layer, out)?;
     out.write_all(b" ")?;
     write_value_with_string(strings, value, out)
-}
-
-#[tactic(auto, unfolding(crate::specs::EndText::bag_end_text))]
-fn write_bag_end<W: Write + Drop>(id: ResId, out: &mut W) -> io::Result<()>
-    ensures { Writes W.contents out.old out.new result (bag_end_text id.0) }
-{
-    out.write_all(b"bag ")?;
-    write_id(id, out)
-}
-
-#[tactic(auto, unfolding(crate::specs::EndText::absent_end_text))]
-fn write_absent_end<W: Write + Drop>(id: ResId, out: &mut W) -> io::Result<()>
-    ensures { Writes W.contents out.old out.new result (absent_end_text id.0) }
-{
-    out.write_all(b"absent ")?;
-    write_id(id, out)
-}
-
-#[tactic(auto, unfolding(crate::specs::EndText::too_long_end_text))]
-fn write_too_long_end<W: Write + Drop>(id: ResId, out: &mut W) -> io::Result<()>
-    ensures { Writes W.contents out.old out.new result (too_long_end_text id.0) }
-{
-    out.write_all(b"too long ")?;
-    write_id(id, out)
 }

@@ -7,15 +7,16 @@ ghost use Rattle.config_record.specs.DeviceSeen.{device_numbers};
 ghost use Rattle.reference_resolver.specs.Ends.{references_followed, end_of};
 ghost use Rattle.reference_resolver.specs.Trace.{look_ups_of, IsTraced};
 ghost use Rattle.reference_resolver.specs.Traced.{traced_of};
-ghost use Rattle.resource_text.specs.ExplainText.{place_text, candidate_line, look_up_line, candidate_lines, look_up_text, end_line, explain_text};
+ghost use Rattle.resource_text.specs.ExplainText.{place_text, traced_text, candidate_line, look_up_line, candidate_lines, look_up_text, end_line, explain_text};
 
 use crate::decision::write_decision;
 use crate::end::end_text;
 use crate::layer::write_layer;
+use crate::named::{write_named_id, write_named_number};
 use config_record::Device;
 use overlay_map::Stack;
 use reference_resolver::{End, LookUps, TracedCandidate, TracedCandidates, resolve};
-use res_value::{ResId, write_id};
+use res_value::ResId;
 use std::io::{self, Write};
 
 /// Writes how an id comes to its end at a device: a line for each id that is looked up, behind it one for
@@ -94,17 +95,25 @@ fn write_candidate<W: Write + Drop>(
 {
     write_place(place, traced.candidate.layer, out)?;
     out.write_all(b" ")?;
+    write_traced(traced, out)?;
+    out.write_all(b"\n")
+}
+
+#[tactic(auto, unfolding(crate::specs::ExplainText::traced_text))]
+fn write_traced<W: Write + Drop>(traced: &TracedCandidate<'_>, out: &mut W) -> io::Result<()>
+    ensures { Writes W.contents out.old out.new result (traced_text (traced_of traced.now)) }
+{
     traced.candidate.row.config.write_qualifiers(out)?;
     out.write_all(b" ")?;
-    write_decision(traced.decision, out)?;
-    out.write_all(b"\n")
+    write_decision(traced.decision, out)
 }
 
 #[tactic(auto, unfolding(crate::specs::ExplainText::place_text))]
 fn write_place<W: Write + Drop>(place: u128, layer: usize, out: &mut W) -> io::Result<()>
     ensures { Writes W.contents out.old out.new result (place_text place layer) }
 {
-    write!(out, "candidate {place} ")?;
+    write_named_number("candidate", place, out)?;
+    out.write_all(b" ")?;
     write_layer(layer, out)
 }
 
@@ -112,8 +121,7 @@ fn write_place<W: Write + Drop>(place: u128, layer: usize, out: &mut W) -> io::R
 fn write_look_up_line<W: Write + Drop>(id: ResId, out: &mut W) -> io::Result<()>
     ensures { Writes W.contents out.old out.new result (look_up_line id.0) }
 {
-    out.write_all(b"lookup ")?;
-    write_id(id, out)?;
+    write_named_id("lookup", id, out)?;
     out.write_all(b"\n")
 }
 

@@ -1,10 +1,10 @@
 //! Why a command was not carried out, and the line that says so.
 
-ghost use Rattle.std.specs.Prelude.{◌≡◌};
+ghost use Rattle.std.specs.Prelude.{◌≡◌, if◌then◌else◌};
 ghost use Rattle.contract_words.specs.Writes.{Writes};
 ghost use Rattle.resource_text.specs.FaultText.{refused_text, refused_layer_text, table_line, layers_line, layer_table_line, layer_map_line, device_line, fault_line};
 ghost use Rattle.resource_text.specs.ToolFault.{fault_of_layer_table, fault_of_layer_map};
-ghost use Rattle.resource_text.specs.declared.fault.ToolFault.TheVariants.{Write};
+ghost use Rattle.resource_text.specs.declared.fault.ToolFault.TheVariants.{OutOfMemory, Write};
 
 use crate::device_fault::write_device_fault;
 use crate::layer::write_layer;
@@ -46,20 +46,16 @@ impl ToolFault {
     pub fn of_layer_table(layer: usize, fault: TableFault) -> ToolFault
         ensures { result ≡ fault_of_layer_table layer fault }
     {
-        match fault {
-            TableFault::OutOfMemory => ToolFault::OutOfMemory,
-            _ => ToolFault::LayerTable(layer, fault),
-        }
+        let ran_out = matches!(fault, TableFault::OutOfMemory);
+        or_memory(ran_out, ToolFault::LayerTable(layer, fault))
     }
 
     /// The fault of an overlay's id map; want of memory is the command's own.
     pub fn of_layer_map(layer: usize, fault: MapFault) -> ToolFault
         ensures { result ≡ fault_of_layer_map layer fault }
     {
-        match fault {
-            MapFault::OutOfMemory => ToolFault::OutOfMemory,
-            _ => ToolFault::LayerMap(layer, fault),
-        }
+        let ran_out = matches!(fault, MapFault::OutOfMemory);
+        or_memory(ran_out, ToolFault::LayerMap(layer, fault))
     }
 }
 
@@ -69,10 +65,8 @@ impl From<TableFault> for ToolFault {
     ghost from_gives = { λ fault e. e ≡ fault_of_table fault };
 
     fn from(fault: TableFault) -> ToolFault {
-        match fault {
-            TableFault::OutOfMemory => ToolFault::OutOfMemory,
-            _ => ToolFault::Table(fault),
-        }
+        let ran_out = matches!(fault, TableFault::OutOfMemory);
+        or_memory(ran_out, ToolFault::Table(fault))
     }
 }
 
@@ -82,10 +76,8 @@ impl From<LayersFault> for ToolFault {
     ghost from_gives = { λ fault e. e ≡ fault_of_layers fault };
 
     fn from(fault: LayersFault) -> ToolFault {
-        match fault {
-            LayersFault::OutOfMemory => ToolFault::OutOfMemory,
-            _ => ToolFault::Layers(fault),
-        }
+        let ran_out = matches!(fault, LayersFault::OutOfMemory);
+        or_memory(ran_out, ToolFault::Layers(fault))
     }
 }
 
@@ -95,10 +87,8 @@ impl From<DeviceFault> for ToolFault {
     ghost from_gives = { λ fault e. e ≡ fault_of_device fault };
 
     fn from(fault: DeviceFault) -> ToolFault {
-        match fault {
-            DeviceFault::OutOfMemory => ToolFault::OutOfMemory,
-            _ => ToolFault::Device(fault),
-        }
+        let ran_out = matches!(fault, DeviceFault::OutOfMemory);
+        or_memory(ran_out, ToolFault::Device(fault))
     }
 }
 
@@ -124,6 +114,17 @@ impl From<io::Error> for ToolFault {
     }
 }
 
+// The fault of a part, or the command's own where memory ran out.
+fn or_memory(ran_out: bool, fault: ToolFault) -> ToolFault
+    ensures { result ≡ (if ran_out then OutOfMemory else fault) }
+{
+    if ran_out {
+        ToolFault::OutOfMemory
+    } else {
+        fault
+    }
+}
+
 /// Writes the line that tells of a fault: which part of the input is refused, and the names of its
 /// fault from outside in, with its place, id or coordinate. A writer that failed has no line.
 #[tactic(auto, unfolding(crate::specs::FaultText::fault_line))]
@@ -145,7 +146,7 @@ pub fn fault_text<W: Write + Drop>(fault: &ToolFault, out: &mut W) -> io::Result
 fn write_table_line<W: Write + Drop>(fault: TableFault, out: &mut W) -> io::Result<()>
     ensures { Writes W.contents out.old out.new result (table_line fault) }
 {
-    write_refused("table", out)?;
+    write_refused("table: ", out)?;
     write_table_fault(fault, out)?;
     out.write_all(b"\n")
 }
@@ -154,7 +155,7 @@ fn write_table_line<W: Write + Drop>(fault: TableFault, out: &mut W) -> io::Resu
 fn write_layers_line<W: Write + Drop>(fault: LayersFault, out: &mut W) -> io::Result<()>
     ensures { Writes W.contents out.old out.new result (layers_line fault) }
 {
-    write_refused("layers", out)?;
+    write_refused("layers: ", out)?;
     write_layers_fault(fault, out)?;
     out.write_all(b"\n")
 }
@@ -167,7 +168,8 @@ fn write_layer_table_line<W: Write + Drop>(
 ) -> io::Result<()>
     ensures { Writes W.contents out.old out.new result (layer_table_line layer fault) }
 {
-    write_refused_layer(layer, "table", out)?;
+    write_refused_layer(layer, out)?;
+    out.write_all(b" table: ")?;
     write_table_fault(fault, out)?;
     out.write_all(b"\n")
 }
@@ -180,7 +182,8 @@ fn write_layer_map_line<W: Write + Drop>(
 ) -> io::Result<()>
     ensures { Writes W.contents out.old out.new result (layer_map_line layer fault) }
 {
-    write_refused_layer(layer, "map", out)?;
+    write_refused_layer(layer, out)?;
+    out.write_all(b" map: ")?;
     write_map_fault(fault, out)?;
     out.write_all(b"\n")
 }
@@ -189,7 +192,7 @@ fn write_layer_map_line<W: Write + Drop>(
 fn write_device_line<W: Write + Drop>(fault: DeviceFault, out: &mut W) -> io::Result<()>
     ensures { Writes W.contents out.old out.new result (device_line fault) }
 {
-    write_refused("device", out)?;
+    write_refused("device: ", out)?;
     write_device_fault(fault, out)?;
     out.write_all(b"\n")
 }
@@ -198,14 +201,14 @@ fn write_device_line<W: Write + Drop>(fault: DeviceFault, out: &mut W) -> io::Re
 fn write_refused<W: Write + Drop>(part: &str, out: &mut W) -> io::Result<()>
     ensures { Writes W.contents out.old out.new result (refused_text part.now) }
 {
-    write!(out, "refused: {part}: ")
+    out.write_all(b"refused: ")?;
+    out.write_all(part.as_bytes())
 }
 
 #[tactic(auto, unfolding(crate::specs::FaultText::refused_layer_text))]
-fn write_refused_layer<W: Write + Drop>(layer: usize, part: &str, out: &mut W) -> io::Result<()>
-    ensures { Writes W.contents out.old out.new result (refused_layer_text layer part.now) }
+fn write_refused_layer<W: Write + Drop>(layer: usize, out: &mut W) -> io::Result<()>
+    ensures { Writes W.contents out.old out.new result (refused_layer_text layer) }
 {
     out.write_all(b"refused: ")?;
-    write_layer(layer, out)?;
-    write!(out, " {part}: ")
+    write_layer(layer, out)
 }

@@ -1,10 +1,10 @@
 //! Faults of an id map, written.
 
 ghost use Rattle.contract_words.specs.Writes.{Writes};
-ghost use Rattle.resource_text.specs.MapFaultText.{name_and_id, map_fault_text};
+ghost use Rattle.resource_text.specs.MapFaultText.{map_fault_text};
 
+use crate::named::write_named_id;
 use overlay_map::MapFault;
-use res_value::{ResId, write_id};
 use std::io::{self, Write};
 
 /// Writes the name of a fault of an id map, and the id that has it.
@@ -15,16 +15,8 @@ pub(crate) fn write_map_fault<W: Write + Drop>(fault: MapFault, out: &mut W) -> 
     match fault {
         MapFault::Syntax => out.write_all(b"Syntax"),
         MapFault::Shape => out.write_all(b"Shape"),
-        MapFault::Repeated(target) => write_name_and_id("Repeated", target, out),
-        MapFault::OtherPackage(target) => write_name_and_id("OtherPackage", target, out),
+        MapFault::Repeated(target) => write_named_id("Repeated", target, out),
+        MapFault::OtherPackage(target) => write_named_id("OtherPackage", target, out),
         MapFault::OutOfMemory => out.write_all(b"OutOfMemory"),
     }
-}
-
-#[tactic(auto, unfolding(crate::specs::MapFaultText::name_and_id))]
-fn write_name_and_id<W: Write + Drop>(name: &str, id: ResId, out: &mut W) -> io::Result<()>
-    ensures { Writes W.contents out.old out.new result (name_and_id name.now id.0) }
-{
-    write!(out, "{name} ")?;
-    write_id(id, out)
 }

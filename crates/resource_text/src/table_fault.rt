@@ -2,8 +2,9 @@
 
 ghost use Rattle.std.specs.Prelude.{◌≡◌};
 ghost use Rattle.contract_words.specs.Writes.{Writes};
-ghost use Rattle.resource_text.specs.TableFaultText.{chunk_fault_text, pool_fault_name, pool_fault_text, table_fault_text};
+ghost use Rattle.resource_text.specs.TableFaultText.{inner_chunk_fault_text, chunk_fault_text, pool_fault_name, pool_fault_text, table_fault_text};
 
+use crate::named::write_named_number;
 use chunk_walk::ChunkFault;
 use std::io::{self, Write};
 use string_pool::PoolFault;
@@ -15,21 +16,22 @@ pub(crate) fn write_table_fault<W: Write + Drop>(fault: TableFault, out: &mut W)
     ensures { Writes W.contents out.old out.new result (table_fault_text fault) }
 {
     match fault {
-        TableFault::Chunk(fault) => {
-            out.write_all(b"Chunk ")?;
-            write_chunk_fault(fault, out)
-        }
+        TableFault::Chunk(fault) => write_chunk_fault(fault, out),
         TableFault::NotTable => out.write_all(b"NotTable"),
-        TableFault::PackageId(place) => write!(out, "PackageId {place}"),
-        TableFault::PackageHeader(place) => write!(out, "PackageHeader {place}"),
+        TableFault::PackageId(place) => write_named_number("PackageId", place as u128, out),
+        TableFault::PackageHeader(place) => write_named_number("PackageHeader", place as u128, out),
         TableFault::Pool(place, fault) => write_pool_fault(place, fault, out),
-        TableFault::TypeId(place) => write!(out, "TypeId {place}"),
-        TableFault::TypeWithoutSpec(place) => write!(out, "TypeWithoutSpec {place}"),
-        TableFault::SparseType(place) => write!(out, "SparseType {place}"),
-        TableFault::Config(place) => write!(out, "Config {place}"),
-        TableFault::Offsets(place) => write!(out, "Offsets {place}"),
-        TableFault::Entry(place) => write!(out, "Entry {place}"),
-        TableFault::Value(place) => write!(out, "Value {place}"),
+        TableFault::TypeId(place) => write_named_number("TypeId", place as u128, out),
+        TableFault::TypeWithoutSpec(place) => write_named_number(
+            "TypeWithoutSpec",
+            place as u128,
+            out,
+        ),
+        TableFault::SparseType(place) => write_named_number("SparseType", place as u128, out),
+        TableFault::Config(place) => write_named_number("Config", place as u128, out),
+        TableFault::Offsets(place) => write_named_number("Offsets", place as u128, out),
+        TableFault::Entry(place) => write_named_number("Entry", place as u128, out),
+        TableFault::Value(place) => write_named_number("Value", place as u128, out),
         TableFault::OutOfMemory => out.write_all(b"OutOfMemory"),
     }
 }
@@ -38,12 +40,20 @@ pub(crate) fn write_table_fault<W: Write + Drop>(fault: TableFault, out: &mut W)
 fn write_chunk_fault<W: Write + Drop>(fault: ChunkFault, out: &mut W) -> io::Result<()>
     ensures { Writes W.contents out.old out.new result (chunk_fault_text fault) }
 {
+    out.write_all(b"Chunk ")?;
+    write_inner_chunk_fault(fault, out)
+}
+
+#[tactic(auto, unfolding(crate::specs::TableFaultText::inner_chunk_fault_text))]
+fn write_inner_chunk_fault<W: Write + Drop>(fault: ChunkFault, out: &mut W) -> io::Result<()>
+    ensures { Writes W.contents out.old out.new result (inner_chunk_fault_text fault) }
+{
     match fault {
-        ChunkFault::Truncated(place) => write!(out, "Truncated {place}"),
-        ChunkFault::HeaderShort(place) => write!(out, "HeaderShort {place}"),
-        ChunkFault::HeaderLong(place) => write!(out, "HeaderLong {place}"),
-        ChunkFault::Misaligned(place) => write!(out, "Misaligned {place}"),
-        ChunkFault::Oversize(place) => write!(out, "Oversize {place}"),
+        ChunkFault::Truncated(place) => write_named_number("Truncated", place as u128, out),
+        ChunkFault::HeaderShort(place) => write_named_number("HeaderShort", place as u128, out),
+        ChunkFault::HeaderLong(place) => write_named_number("HeaderLong", place as u128, out),
+        ChunkFault::Misaligned(place) => write_named_number("Misaligned", place as u128, out),
+        ChunkFault::Oversize(place) => write_named_number("Oversize", place as u128, out),
     }
 }
 
@@ -51,8 +61,8 @@ fn write_chunk_fault<W: Write + Drop>(fault: ChunkFault, out: &mut W) -> io::Res
 fn write_pool_fault<W: Write + Drop>(place: usize, fault: PoolFault, out: &mut W) -> io::Result<()>
     ensures { Writes W.contents out.old out.new result (pool_fault_text place fault) }
 {
-    let name = pool_fault_name(fault);
-    write!(out, "Pool {name} {place}")
+    out.write_all(b"Pool ")?;
+    write_named_number(pool_fault_name(fault), place as u128, out)
 }
 
 fn pool_fault_name(fault: PoolFault) -> &'static str

@@ -17,9 +17,13 @@ use Rattle.resource_tool.specs.Output.{Output}
 use Rattle.resource_tool.specs.StackBytes.{LayerBytes, stack_in}
 use Rattle.resource_tool.specs.MapErr.{map_err}
 
+-- `NAME layer L`
+unfoldable pub name_and_layer : ℕ → ℕ → List ℕ
+name_and_layer name layer = id_text name ++ codes " " ++ layer_text layer
+
 -- the line of a row, `NAME layer L VALUE`
 unfoldable pub bag_row_line : BagRow → List ℕ
-bag_row_line row = id_text row.name.0 ++ codes " " ++ layer_text row.layer ++ codes " " ++ value_text row.value ++ 10 ∷ []
+bag_row_line row = name_and_layer row.name.0 row.layer ++ codes " " ++ value_text row.value ++ 10 ∷ []
 
 -- the line `no bag FAULT`
 unfoldable pub no_bag_line : List ℕ → List ℕ

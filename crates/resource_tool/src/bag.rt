@@ -5,7 +5,7 @@ ghost use Rattle.std.specs.List.{flat_map};
 ghost use Rattle.contract_words.specs.Writes.{Writes};
 ghost use Rattle.resource_tool.specs.Output.{Prints};
 ghost use Rattle.resource_tool.specs.StackBytesSeen.{layer_bytes};
-ghost use Rattle.resource_tool.specs.BagOutput.{bag_row_line, bag_output};
+ghost use Rattle.resource_tool.specs.BagOutput.{name_and_layer, bag_row_line, bag_output};
 
 use crate::no_bag::tell_no_bag;
 use crate::stack::open_stack;
@@ -13,7 +13,7 @@ use crate::status::Status;
 use bags_themes::{BagRow, bag};
 use config_record::Device;
 use res_value::{ResId, write_id, write_value};
-use resource_text::ToolFault;
+use resource_text::{ToolFault, write_layer};
 use std::alloc::Global;
 use std::io::{self, Write};
 
@@ -51,12 +51,21 @@ fn write_rows<W: Write + Drop>(rows: &[BagRow], out: &mut W) -> io::Result<()>
     Ok(())
 }
 
-#[tactic(auto, unfolding(crate::specs::BagOutput::bag_row_line, resource_text::specs::LayerText::layer_text))]
+#[tactic(auto, unfolding(crate::specs::BagOutput::bag_row_line))]
 fn write_row<W: Write + Drop>(row: BagRow, out: &mut W) -> io::Result<()>
     ensures { Writes W.contents out.old out.new result (bag_row_line row) }
 {
-    write_id(row.name, out)?;
-    write!(out, " layer {} ", row.layer)?;
+    write_name_and_layer(row.name, row.layer, out)?;
+    out.write_all(b" ")?;
     write_value(row.value, out)?;
     out.write_all(b"\n")
+}
+
+#[tactic(auto, unfolding(crate::specs::BagOutput::name_and_layer))]
+fn write_name_and_layer<W: Write + Drop>(name: ResId, layer: usize, out: &mut W) -> io::Result<()>
+    ensures { Writes W.contents out.old out.new result (name_and_layer name.0 layer) }
+{
+    write_id(name, out)?;
+    out.write_all(b" ")?;
+    write_layer(layer, out)
 }
