@@ -12,7 +12,7 @@ use Rattle.config_rules.specs.Answer.{answer_where, answer_of_condition}
 use Rattle.config_rules.specs.Comparisons.{is_given, differ, given_answer, larger_answer, is_larger_better, any_density, counted_density, density_answer, keys_answer, navigation_answer, screen_size_answer, is_better_size}
 use Rattle.config_rules.specs.Conditions.{is_equal, is_at_most, keys_suit, locale_suits}
 use Rattle.config_rules.specs.Kind.{kind_answer}
-use Rattle.box_answers.specs.NumberSet.{SetOf, RangeOf, NumbersOf, LocalesOf, locale_numbers, IsIn, IsProper}
+use Rattle.box_answers.specs.NumberSet.{SetOf, RangeOf, NumbersOf, LocalesOf, IsIn, IsProper}
 use Rattle.box_answers.specs.Candidates.{clamped, candidates}
 use Rattle.box_answers.proofs.Sets.{get_or_same}
 use Rattle.box_answers.proofs.Monotone.{by_bool, is_larger_better-ends}
@@ -351,4 +351,4 @@ pub missed : (kind : Kind) (a b : Numbers) (m : ℕ) (set : SetOf) (want : Answe
 unfolding IsMissed
 missed kind a b m (RangeOf low high) want one h n is = range-missed kind a b m low high want one (fails_at (told kind a b m) low high a.first b.first want h) n is.0 is.1
 missed kind a b m (NumbersOf numbers) want one h n is = λ e. h is.0 is.1 (ap (told kind a b m) (sym (get_or_same numbers is.0 n is.1 is.2)) ∙ e)
-missed kind a b m (LocalesOf locales) want one h n is = λ e. h is.0 is.1 (ap (told kind a b m) (sym (get_or_same (locale_numbers locales) is.0 n is.1 is.2)) ∙ e)
+missed kind a b m (LocalesOf locales) want one h n is = λ e. h is.0 is.1 (ap (told kind a b m) (sym (get_or_same locales is.0 n is.1 is.2)) ∙ e)

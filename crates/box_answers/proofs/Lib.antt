@@ -5,3 +5,4 @@ pub mod Covers
 pub mod Sets
 pub mod SearchSteps
 pub mod Sides
+pub mod FactSteps

@@ -1,8 +1,9 @@
 -- The search along a table of rules.
-use Rattle.std.proofs.Common.{◌≡◌, ℕ, ◌+◌, ◌<◌, ◌≤◌, ◌≢◌, ◌==◌, ◌⊎◌, inl, inr, List, [], ◌∷◌, ◌++◌, map, refl, sym, ap, subst, ◌∙◌, arith, Bool, true, false, Option, Some, None, IfSome, IfNone, IsTrue}
+use Rattle.std.proofs.Common.{◌≡◌, ℕ, ◌+◌, ◌<◌, ◌≤◌, ◌≢◌, ◌==◌, ◌⊎◌, inl, inr, List, [], ◌∷◌, ◌++◌, length, get_or, map, refl, sym, ap, subst, ◌∙◌, arith, Bool, true, false, Option, Some, None, IfSome, IfNone, IsTrue}
 use Rattle.std.specs.List.{flat_map}
 use Rattle.std.proofs.lemmas.Bool.{and_parts, leb-true}
 use Rattle.std.proofs.lemmas.Bool.Decides.{nat_tests}
+use Rattle.std.proofs.lemmas.List.{get_or_default}
 use Rattle.config_record.specs.declared.coord.Coord.{Coord}
 use Rattle.config_record.specs.Coord.{place_of}
 use Rattle.config_record.specs.ComparedNumber.{device_number}
@@ -22,6 +23,7 @@ use Rattle.box_answers.specs.NumberSet.{SetOf, IsIn, IsLeastIn, IsGreatestIn}
 use Rattle.box_answers.specs.Members.{set_at, IsMember}
 use Rattle.box_answers.specs.Candidates.{candidates}
 use Rattle.box_answers.specs.Changes.{AgreeBelow, ChangesTo, IsNowhere, answer_at}
+use Rattle.box_answers.specs.Facts.{OneFails}
 use Rattle.box_answers.proofs.Covers.{IsMissedBy, missed}
 use Rattle.box_answers.proofs.Dimensions.{dimensions-alike}
 
@@ -300,3 +302,7 @@ some_by (Some x) p f = f x p
 pub none_by : {T P Q : Type 0} (r : Option T) → IfNone r P → (P → Q) → IfNone r Q
 none_by None p f = f p
 none_by (Some x) p f = tt
+
+-- a rule of the table that passes nowhere
+pub one-fails : (sets : List SetOf) (rules : List Rule) (a b : Coord → ℕ) (place : ℕ) (d : Rule) → place < length rules → IsNowhere sets (get_or rules place d) a b Pass → OneFails sets rules a b
+one-fails sets rules a b place d on none = (get_or rules place d, (place, on, get_or_default rules place (get_or rules place d) d on), none)

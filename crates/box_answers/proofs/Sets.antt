@@ -12,7 +12,7 @@ use Rattle.config_rules.specs.declared.answer.Answer.{Answer}
 use Rattle.config_rules.specs.declared.rule.Rule.{Rule}
 use Rattle.config_rules.specs.Rule.{rule_answer}
 use Rattle.box_answers.specs.declared.number_set.NumberSet.{NumberSet}
-use Rattle.box_answers.specs.NumberSet.{SetOf, RangeOf, NumbersOf, LocalesOf, set_of, locale_numbers, listed, IsIn, IsProper, IsLeastIn, IsGreatestIn}
+use Rattle.box_answers.specs.NumberSet.{SetOf, RangeOf, NumbersOf, LocalesOf, set_of, listed, IsIn, IsProper, IsLeastIn, IsGreatestIn}
 use Rattle.box_answers.specs.Members.{sets_of, set_at, IsMember}
 use Rattle.box_answers.specs.Candidates.{clamped, candidates}
 use Rattle.box_answers.specs.Changes.{AgreeBelow, ChangesTo}
@@ -57,13 +57,13 @@ last-greatest xs rises m is =
 pub least-of : (set : SetOf) → IsProper set → IsLeastIn set (get_or (listed set) 0 0)
 least-of (RangeOf low high) p = record { is_in = (omega arith, p.rises); below = λ m is. is.0 }
 least-of (NumbersOf numbers) p = record { is_in = contains-at numbers 0 p.nonempty; below = first-least numbers p.rises }
-least-of (LocalesOf locales) p = record { is_in = contains-at (locale_numbers locales) 0 p.nonempty; below = first-least (locale_numbers locales) p.rises }
+least-of (LocalesOf locales) p = record { is_in = contains-at locales 0 p.nonempty; below = first-least locales p.rises }
 
 pub greatest-of : (set : SetOf) → IsProper set → IsGreatestIn set (get_or (listed set) (length (listed set) - 1) 0)
 greatest-of (RangeOf low high) p = record { is_in = (p.rises, omega arith); above = λ m is. is.1 }
 greatest-of (NumbersOf numbers) p = record { is_in = contains-at numbers (length numbers - 1) (omega (arith, p.nonempty)); above = last-greatest numbers p.rises }
 greatest-of (LocalesOf locales) p =
-    record { is_in = contains-at (locale_numbers locales) (length (locale_numbers locales) - 1) (omega (arith, p.nonempty)); above = last-greatest (locale_numbers locales) p.rises }
+    record { is_in = contains-at locales (length locales - 1) (omega (arith, p.nonempty)); above = last-greatest locales p.rises }
 
 -- ---- candidates
 
@@ -83,7 +83,7 @@ range-candidate low high a b (suc (suc (suc (suc (suc (suc (suc k))))))) le q = 
 pub candidate-in : (set : SetOf) (a b k : ℕ) → IsProper set → k < length (candidates set a b) → IsIn set (get_or (candidates set a b) k 0)
 candidate-in (RangeOf low high) a b k p q = range-candidate low high a b k p.rises q
 candidate-in (NumbersOf numbers) a b k p q = contains-at numbers k q
-candidate-in (LocalesOf locales) a b k p q = contains-at (locale_numbers locales) k q
+candidate-in (LocalesOf locales) a b k p q = contains-at locales k q
 
 -- ---- the set at a coordinate
 

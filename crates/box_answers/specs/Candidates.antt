@@ -1,7 +1,7 @@
 -- Where a rule is tried: at few numbers of a set, so chosen that a rule which says something anywhere in the set says it at
 -- one of them.
 use Rattle.std.specs.Prelude.{ℕ, ◌+◌, List, [], ◌∷◌, min, max}
-use Rattle.box_answers.specs.NumberSet.{SetOf, RangeOf, NumbersOf, LocalesOf, locale_numbers}
+use Rattle.box_answers.specs.NumberSet.{SetOf, RangeOf, NumbersOf, LocalesOf}
 
 -- the number itself, or the end of the range that is nearer
 abbrev pub clamped : ℕ → ℕ → ℕ → ℕ
@@ -14,4 +14,4 @@ candidates (RangeOf low high) a b =
     low ∷ high ∷ clamped low high (low + 1) ∷ clamped low high (low + 2)
     ∷ clamped low high a ∷ clamped low high b ∷ clamped low high 3 ∷ []
 candidates (NumbersOf numbers) a b = numbers
-candidates (LocalesOf locales) a b = locale_numbers locales
+candidates (LocalesOf numbers) a b = numbers

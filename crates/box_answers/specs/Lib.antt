@@ -4,3 +4,4 @@ pub mod Candidates
 pub mod Changes
 pub mod Question
 pub mod Sameness
+pub mod Facts

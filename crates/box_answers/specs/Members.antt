@@ -21,9 +21,9 @@ IsMember sets d = (c : coord.Coord) → IsIn (set_at sets c) (device_number d c)
 
 -- locales stand at the locale alone, and they are always a choice
 abbrev pub IsOfKind : coord.Coord → SetOf → Type 0
-IsOfKind coords.Locale (LocalesOf locales) = Unit {0}
+IsOfKind coords.Locale (LocalesOf numbers) = Unit {0}
 IsOfKind coords.Locale set = ⊥
-IsOfKind c (LocalesOf locales) = ⊥
+IsOfKind c (LocalesOf numbers) = ⊥
 IsOfKind c set = Unit {0}
 
 -- the most values of a choice

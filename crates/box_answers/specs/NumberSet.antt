@@ -11,34 +11,35 @@ pub data SetOf : Type 0 where
   -- all from the first to the second
   RangeOf : ℕ → ℕ → SetOf
   NumbersOf : List ℕ → SetOf
-  LocalesOf : List Locale → SetOf
-
--- without where its list lies in memory
-abbrev pub set_of : NumberSet → SetOf
-set_of (Range low high) = RangeOf low high
-set_of (Numbers numbers) = NumbersOf numbers.value.items
-set_of (Locales locales) = LocalesOf locales.value.items
+  -- locales, by the numbers of their bytes
+  LocalesOf : List ℕ → SetOf
 
 -- locales are compared by their numbers
 abbrev pub locale_numbers : List Locale → List ℕ
 locale_numbers locales = map locale_number locales
 
+-- without where its list lies in memory
+abbrev pub set_of : NumberSet → SetOf
+set_of (Range low high) = RangeOf low high
+set_of (Numbers numbers) = NumbersOf numbers.value.items
+set_of (Locales locales) = LocalesOf (locale_numbers locales.value.items)
+
 -- a number is one of the set
 abbrev pub IsIn : SetOf → ℕ → Type 0
 IsIn (RangeOf low high) n = (low ≤ n) × (n ≤ high)
 IsIn (NumbersOf numbers) n = Contains numbers n
-IsIn (LocalesOf locales) n = Contains (locale_numbers locales) n
+IsIn (LocalesOf numbers) n = Contains numbers n
 
 -- the two ends of a range, all numbers of a choice
 abbrev pub listed : SetOf → List ℕ
 listed (RangeOf low high) = low ∷ high ∷ []
 listed (NumbersOf numbers) = numbers
-listed (LocalesOf locales) = locale_numbers locales
+listed (LocalesOf numbers) = numbers
 
 abbrev pub Rises : SetOf → Type 0
 Rises (RangeOf low high) = low ≤ high
 Rises (NumbersOf numbers) = IsStrictlyIncreasing numbers
-Rises (LocalesOf locales) = IsStrictlyIncreasing (locale_numbers locales)
+Rises (LocalesOf numbers) = IsStrictlyIncreasing numbers
 
 -- it is not empty, and a choice stands in rising order, each number once
 pub record IsProper (set : SetOf) : Type 0 where

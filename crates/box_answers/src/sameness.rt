@@ -1,11 +1,15 @@
 //! The two questions, asked of all members of a box at once.
 
+ghost use Rattle.std.specs.Prelude.{◌≡◌, true};
 ghost use Rattle.config_record.specs.Record.{record_bytes};
+ghost use Rattle.config_record.specs.ComparedNumber.{record_number};
+ghost use Rattle.config_rules.specs.declared.answer.Answer.TheVariants.{Pass};
 ghost use Rattle.config_match.specs.Matching.{is_match};
 ghost use Rattle.config_precedence.specs.Precedence.{is_better};
 ghost use Rattle.config_rules.specs.Reads.{AreReadInOrder};
 ghost use Rattle.box_answers.specs.Members.{sets_of, IsBox};
-ghost use Rattle.box_answers.specs.Question.{answered};
+ghost use Rattle.box_answers.specs.Question.{says_yes, answered};
+ghost use Rattle.box_answers.specs.Facts.{DensityTurnsOnce, SizesFromNormalUpAreAlike, DimensionsAskWhichAreZero, OneFails, FailsOnOneSide};
 
 use crate::neighbours::neighbours;
 use crate::number_set::NumberSet;
@@ -33,7 +37,8 @@ ghost use Rattle.box_answers.specs.Sameness.{IsExact};
 #[tactic(auto, unfolding(config_match::specs::Matching::is_match))]
 pub fn match_all(sets: &[NumberSet], stored: &Record) -> Sameness
     requires { IsBox (sets_of sets.now) }
-    ensures { IsExact result (sets_of sets.now) (is_match (record_bytes stored.now)) }
+    ensures value { IsExact result (sets_of sets.now) (is_match (record_bytes stored.now)) }
+    ensures one_side { result ≡ Sameness.Never → FailsOnOneSide (sets_of sets.now) (record_bytes stored.now) }
 {
     if stored.set_aside() {
         return Sameness::Never;
@@ -51,7 +56,10 @@ pub fn match_all(sets: &[NumberSet], stored: &Record) -> Sameness
 #[tactic(auto, unfolding(config_precedence::specs::Precedence::is_better))]
 pub fn better_all(sets: &[NumberSet], a: &Record, b: &Record) -> Sameness
     requires { IsBox (sets_of sets.now) }
-    ensures { IsExact result (sets_of sets.now) (is_better (record_bytes a.now) (record_bytes b.now)) }
+    ensures value { IsExact result (sets_of sets.now) (is_better (record_bytes a.now) (record_bytes b.now)) }
+    ensures density { DensityTurnsOnce (record_number (record_bytes a.now)) (record_number (record_bytes b.now)) }
+    ensures sizes { SizesFromNormalUpAreAlike (record_number (record_bytes a.now)) (record_number (record_bytes b.now)) }
+    ensures dimensions { DimensionsAskWhichAreZero (record_number (record_bytes a.now)) (record_number (record_bytes b.now)) }
 {
     let question = Question {
         asked: Asked::IsBetter,
@@ -65,7 +73,9 @@ pub fn better_all(sets: &[NumberSet], a: &Record, b: &Record) -> Sameness
 fn answer_of_all(sets: &[NumberSet], question: &Question) -> Sameness
     requires sets { IsBox (sets_of sets.now) }
     requires in_order { AreReadInOrder question.now.rules.now }
-    ensures { IsExact result (sets_of sets.now) (answered question.now) }
+    ensures value { IsExact result (sets_of sets.now) (answered question.now) }
+    ensures one_side { result ≡ Sameness.Never → says_yes question.now.asked Pass ≡ true → OneFails (sets_of sets.now) question.now.rules.now
+        (record_number (record_bytes question.now.a)) (record_number (record_bytes question.now.b)) }
 {
     let Some(yes) = member_where(sets, question, true) else {
         return Sameness::Never;

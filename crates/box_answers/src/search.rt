@@ -11,7 +11,8 @@ ghost use Rattle.config_rules.specs.Reads.{reads, AreReadInOrder};
 ghost use Rattle.box_answers.specs.Members.{sets_of, set_at, IsMember, IsBox};
 ghost use Rattle.box_answers.specs.Changes.{ChangesTo, IsNowhere, answer_at};
 ghost use Rattle.box_answers.specs.NumberSet.{IsIn};
-ghost use Rattle.box_answers.specs.Question.{table_says, answered};
+ghost use Rattle.box_answers.specs.Question.{says_yes, table_says, answered};
+ghost use Rattle.box_answers.specs.Facts.{OneFails};
 
 use crate::members::{corner, set_at};
 use crate::number_set::NumberSet;
@@ -25,6 +26,8 @@ pub(crate) fn member_where(sets: &[NumberSet], question: &Question, wanted: bool
     requires in_order { AreReadInOrder question.now.rules.now }
     ensures found { IfSome result (λ device. IsMember (sets_of sets.now) (device_numbers device) × (answered question.now (device_numbers device) ≡ wanted)) }
     ensures none { IfNone result ((d : List ℕ) → IsMember (sets_of sets.now) d → answered question.now d ≢ wanted) }
+    ensures fails { IfNone result (says_yes question.now.asked Pass ≡ wanted → OneFails (sets_of sets.now) question.now.rules.now
+        (record_number (record_bytes question.now.a)) (record_number (record_bytes question.now.b))) }
 {
     if let Some(device) = member_if(sets, question, wanted, Answer::Yes) {
         return Some(device);
@@ -46,6 +49,8 @@ fn member_if(
     requires in_order { AreReadInOrder question.now.rules.now }
     ensures found { IfSome result (λ device. IsMember (sets_of sets.now) (device_numbers device) × (answered question.now (device_numbers device) ≡ wanted)) }
     ensures none { IfNone result ((d : List ℕ) → IsMember (sets_of sets.now) d → table_says question.now d ≡ answer → answered question.now d ≢ wanted) }
+    ensures fails { IfNone result (says_yes question.now.asked answer ≡ wanted → answer ≡ Pass → OneFails (sets_of sets.now) question.now.rules.now
+        (record_number (record_bytes question.now.a)) (record_number (record_bytes question.now.b))) }
 {
     if question.asked.says_yes(answer) == wanted {
         member_of_answer(sets, question, answer)
@@ -61,6 +66,8 @@ fn member_of_answer(sets: &[NumberSet], question: &Question, want: Answer) -> Op
     requires in_order { AreReadInOrder question.now.rules.now }
     ensures found { IfSome result (λ device. IsMember (sets_of sets.now) (device_numbers device) × (table_says question.now (device_numbers device) ≡ want)) }
     ensures none { IfNone result ((d : List ℕ) → IsMember (sets_of sets.now) d → table_says question.now d ≢ want) }
+    ensures fails { IfNone result (want ≡ Pass → OneFails (sets_of sets.now) question.now.rules.now
+        (record_number (record_bytes question.now.a)) (record_number (record_bytes question.now.b))) }
 {
     let (a, b) = (&question.a, &question.b);
     let mut device = corner(sets);

@@ -3,8 +3,8 @@ use Rattle.config_record.specs.Record.{record_bytes, is_set_aside}
 use Rattle.config_match.specs.Matching.{is_match}
 use Rattle.box_answers.proofs.sameness.match_all.Goals as goal
 
-pub returns-then-set_aside : goal.returns-then-set_aside
+pub returns-then-set_aside-clause-value : goal.returns-then-set_aside-clause-value
 unfolding is_match
-returns-then-set_aside c =
+returns-then-set_aside-clause-value c =
     let e : is_set_aside (record_bytes c.args.stored.now) ≡ true = sym c.set_aside.ensures ∙ c.if-set_aside.true in
     λ d m. rw e refl
