@@ -238,15 +238,14 @@ class Prover:
         """Starts to prove the crates that can be proved now, beside those that are running."""
         waited_for = {*self.left, *(crate for crate, _ in running.values())}
         ready = [it for it in self.left if not waited_for & {*it.below}]
-        idle = processors() - sum(jobs for _, jobs in running.values())
         # what the runs hold by now is no longer free, and they may come to hold the other half
         memory = free_memory() - sum(crate.memory(jobs) for crate, jobs in running.values()) / 2
-        for at, crate in enumerate(ready):
+        for crate in ready:
             within = crate.jobs_within(memory)
-            if idle > 0 and (within > 0 or not running):
-                # the first gets the processors that no other crate waits for
-                jobs = max(1, min(within, idle - (len(ready) - at - 1)))
-                idle, memory = idle - jobs, memory - crate.memory(jobs)
+            if len(running) < processors() and (within > 0 or not running):
+                # a run keeps its jobs to its end, so it may use all processors, also those that others use now
+                jobs = max(1, min(within, processors()))
+                memory -= crate.memory(jobs)
                 self.left.remove(crate)
                 self.tell(crate)
                 running[pool.submit(self.prove_library, crate, jobs)] = crate, jobs
