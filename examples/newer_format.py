@@ -1,5 +1,6 @@
 """python3 newer_format.py TABLE: counts what a table has that restool reads wrong or passes over, since Android
-8.1 does not know it. The status is 1 where it has any of it."""
+8.1 does not know it. The status is 0 where it has none of it, 1 where it has any, and 2 where the file is not a
+table or cannot be read."""
 import struct
 import sys
 
@@ -54,13 +55,45 @@ def compact_entries(header, chunk):
     return sum(is_compact(chunk, at) for at in entries(header, chunk))
 
 
-found = list(types(open(sys.argv[1], "rb").read()))
-counts = {
-    "types with 16-bit offsets": sum(chunk[FLAGS] & SHORT_OFFSETS != 0 for _, chunk in found),
-    "compact entries": sum(compact_entries(*each) for each in found),
-    "types with a grammatical gender": sum(config(chunk)[GENDER] != 0 for _, chunk in found),
-    "types with other newer qualifiers": sum(any(config(chunk)[USED:]) for _, chunk in found),
-}
-for name, count in counts.items():
-    print(f"{name}: {count}")
-sys.exit(any(counts.values()))
+def counts_of(table):
+    """How often a table has each feature."""
+    found = list(types(table))
+    return {
+        "types with 16-bit offsets": sum(chunk[FLAGS] & SHORT_OFFSETS != 0 for _, chunk in found),
+        "compact entries": sum(compact_entries(*each) for each in found),
+        "types with a grammatical gender": sum(config(chunk)[GENDER] != 0 for _, chunk in found),
+        "types with other newer qualifiers": sum(any(config(chunk)[USED:]) for _, chunk in found),
+    }
+
+
+def is_table(bytes_):
+    """Whether the first chunk is a table, and whole."""
+    return len(bytes_) >= 8 and number("H", bytes_, 0) == TABLE and number("I", bytes_, 4) <= len(bytes_)
+
+
+def stop(message):
+    print(message, file=sys.stderr)
+    sys.exit(2)
+
+
+def main():
+    if len(sys.argv) != 2:
+        stop("usage: python3 newer_format.py TABLE")
+    path = sys.argv[1]
+    try:
+        with open(path, "rb") as file:
+            table = file.read()
+    except OSError as error:
+        stop(f"{path}: {error.strerror}")
+    if not is_table(table):
+        stop(f"not a resources.arsc: {path}")
+    try:
+        counts = counts_of(table)
+    except (struct.error, IndexError):
+        stop(f"a damaged resources.arsc: {path}")
+    for name, count in counts.items():
+        print(f"{name}: {count}")
+    sys.exit(any(counts.values()))
+
+
+main()
