@@ -161,15 +161,16 @@ check "an absent device" 5 $none device.err query layers device 0x7f060000
 line id.err 'command: bad id 0x7f06'
 check "a word that is no id" 2 $none id.err query layers device 0x7f060000 0x7f06 x
 
-# ---- README and the guide: each line that they show behind a command is a line of what it prints
+# ---- README and the guide: what they show behind a command is what it prints
 for page in README.md docs/GUIDE.md; do
-    rm -f shown*
-    awk '/^\$ / { n++; behind = 1; print substr($0, 3) >("shown" n ".command"); next }
-        /^```/ { behind = 0; next } behind && $0 != ".." { print >("shown" n ".lines") }' "$here/$page"
-    for shown in shown*.lines; do
+    rm -rf shown
+    mkdir shown
+    awk '/^\$ / { n++; behind = 1; print substr($0, 3) >("shown/" n ".command"); printf "" >("shown/" n ".lines"); next }
+        /^```/ { behind = 0 } behind { print >("shown/" n ".lines") }' "$here/$page"
+    for shown in shown/*.lines; do
         command=$(cat "${shown%.lines}.command")
         (cd "$here" && sh -c "$command") >printed 2>&1
-        ends "$page's output of '$command'" 0 "! grep -Fvxf printed '$shown' >missing"
+        ends "$page's output of '$command'" 0 "awk -f '$here/tests/shown.awk' '$shown' printed >&2"
     done
 done
 

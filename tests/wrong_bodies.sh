@@ -1,0 +1,136 @@
+#!/bin/sh
+# Tries the edits crates/NAME/wrong-bodies/*.edit: the prover has to refuse each, as it refuses those of must-fail/.
+#   wrong_bodies.sh [--all] [--apply] [CRATE..]
+# Without a crate it takes all. It works on a copy, so the checkout stays as it is and may be used meanwhile.
+#   --all    tries those of must-fail/ too
+#   --apply  proves nothing: checks that each edit of both folders still applies (each `old:` text stands once)
+# The last line is 'N refused, M let through' (with --apply 'N apply, M do not'), and the status is 0 only where
+# M is 0. An edit that could not be tried counts as let through.
+# The environment may give RT, the command that proves in place of rt, JOBS, how many runs go side by side, and
+# PART, how many edits of a crate are tried in one run, over one another's work.
+here=$(CDPATH='' cd "$(dirname "$0")/.." && pwd) || exit 1
+program=$(basename "$0")
+rt=${RT:-rt}
+part_size=${PART:-10}
+
+# try_part WORK LIST: tries the edits that the file LIST, CRATE.PART, names, in a copy of its own, since rt locks
+# the folders of a crate and of those below it.
+try_part() {
+    part=$(basename "$2")
+    crate=${part%.*}
+    copy=$1/copies/$part
+    # Links share the files: rt writes none of these in place.
+    cp -al "$1/base" "$copy" && mkdir "$copy/crates/$crate/must-fail" || return
+    while read -r name; do
+        cp "$1/edits/$crate/$name" "$copy/crates/$crate/must-fail/" || return
+    done <"$2"
+    (cd "$copy" && $rt must-fail "$crate") >"$1/answers/$part" 2>&1 </dev/null
+    grep "^rt: must-fail " "$1/answers/$part" || cat "$1/answers/$part"
+    rm -rf "$copy"
+}
+if [ "$1" = --part ]; then
+    try_part "$2" "$3"
+    exit 0
+fi
+
+folders=wrong-bodies
+applies=
+while :; do
+    case $1 in
+    --all) folders='must-fail wrong-bodies' ;;
+    --apply) applies=yes folders='must-fail wrong-bodies' ;;
+    -*)
+        sed -n '2,/^here=/{/^#/s/^# \{0,1\}//p;}' "$0" >&2
+        exit 2
+        ;;
+    *) break ;;
+    esac
+    shift
+done
+listed=$(sed -n 's/^\([a-z0-9_]*\).*:.*/\1/p' "$here/crates.txt")
+for crate in "$@"; do
+    echo "$listed" | grep -qx "$crate" || { echo "$program: no crate $crate" >&2; exit 2; }
+done
+
+work=$(mktemp -d) || exit 1
+trap 'rm -rf "$work"' EXIT
+trap 'exit 130' INT TERM
+mkdir "$work/base" "$work/base/crates" "$work/edits" "$work/parts" "$work/answers" "$work/copies" || exit 1
+
+# Each crate's edits, of its folders together.
+crates=${*:-$listed}
+tried=
+for crate in $crates; do
+    mkdir "$work/edits/$crate"
+    for folder in $folders; do
+        for edit in "$here/crates/$crate/$folder"/*.edit; do
+            [ -f "$edit" ] || continue
+            if [ -e "$work/edits/$crate/$(basename "$edit")" ]; then
+                echo "$program: $crate has two edits $(basename "$edit")" >&2
+                exit 1
+            fi
+            cp "$edit" "$work/edits/$crate/" || exit 1
+        done
+    done
+    if rmdir "$work/edits/$crate" 2>/dev/null; then continue; fi
+    tried="$tried $crate"
+done
+count=$(find "$work/edits" -name '*.edit' | wc -l)
+
+if [ "$applies" ]; then
+    # rt fmt notes the edits of must-fail/ that cannot be applied.
+    for crate in $tried; do
+        copy=$work/base/crates/$crate
+        mkdir "$copy"
+        for part in src specs proofs; do
+            [ -d "$here/crates/$crate/$part" ] && cp -R "$here/crates/$crate/$part" "$copy/"
+        done
+        mv "$work/edits/$crate" "$copy/must-fail"
+        (cd "$copy" && rt fmt) >"$work/answers/fmt" 2>&1 || echo "$crate cannot be read: $(tail -n 1 "$work/answers/fmt")"
+        sed -n "s|^rt: note: must-fail/\(.*\) cannot be applied, so rt ci would fail: |$crate/\1 does not apply: |p" "$work/answers/fmt"
+    done >"$work/answers/apply"
+    cat "$work/answers/apply"
+    bad=$(wc -l <"$work/answers/apply")
+    echo "$((count - bad)) apply, $bad do not"
+    [ "$bad" = 0 ]
+    exit
+fi
+
+# What the crates stand on, themselves with it, lowest first.
+needed=$(awk -v crates="$tried" '
+    BEGIN { split(crates, given, " "); for (it in given) wanted[given[it]] = 1 }
+    !/^#/ && /:/ { lines[++last] = $0 }
+    END {
+        for (at = last; at > 0; at--) {
+            split(lines[at], halves, ":"); split(halves[1], head, " "); name = head[1]
+            if (name in wanted) { split(halves[2], below, " "); for (it in below) wanted[below[it]] = 1; order = name " " order }
+        }
+        print order
+    }' "$here/crates.txt")
+[ -f "$here/HANDLES" ] && cp "$here/HANDLES" "$work/base/"
+for crate in $needed; do
+    grep "^${crate}[ :]" "$here/crates.txt" >>"$work/base/crates.txt"
+    cp -a "$here/crates/$crate" "$work/base/crates/" || exit 1
+    rm -rf "$work/base/crates/$crate/must-fail" "$work/base/crates/$crate/wrong-bodies"
+done
+
+# An edit shows something only in a crate that is proved without it.
+for crate in $tried; do
+    if (cd "$work/base/crates/$crate" && $rt check) >"$work/answers/proof" 2>&1 </dev/null; then
+        (cd "$work/edits/$crate" && ls) | split -l "$part_size" - "$work/parts/$crate."
+    else
+        echo "$crate is not proved, so its edits were not tried:"
+        tail -n 5 "$work/answers/proof"
+    fi
+done
+
+# As many runs side by side as there are processors, and 4 GB of free memory for each.
+free=$(awk '/^MemAvailable:/ { print int($2 / 4000000) }' /proc/meminfo 2>/dev/null)
+jobs=$(getconf _NPROCESSORS_ONLN)
+if [ "${free:-1}" -lt "$jobs" ]; then jobs=${free:-1}; fi
+if [ "$jobs" -lt 1 ]; then jobs=1; fi
+find "$work/parts" -type f | sort | xargs -r -P "${JOBS:-$jobs}" -n 1 sh "$0" --part "$work"
+
+refused=$(cat "$work/answers"/*.* 2>/dev/null | grep -c '^rt: must-fail .*: refused, as it must be')
+echo "$refused refused, $((count - refused)) let through"
+[ "$refused" = "$count" ]
