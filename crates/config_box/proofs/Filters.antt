@@ -1,5 +1,5 @@
 -- What a filter keeps.
-use Rattle.std.proofs.Common.{◌≡◌, ℕ, ◌+◌, ◌<◌, ◌≤◌, ◌⊎◌, inl, inr, arith, zero, suc, List, [], ◌∷◌, length, map, get_or, Bool, true, false, filter, sym, ◌∙◌, ap, refl, subst}
+use Rattle.std.proofs.Common.{◌≡◌, ℕ, ◌+◌, ◌<◌, ◌≤◌, ◌⊎◌, inl, inr, arith, zero, suc, List, [], ◌∷◌, length, map, get_or, Bool, true, false, filter, sym, ◌∙◌, ap, refl}
 use Rattle.std.specs.Prelude.{Contains, if◌then◌else◌}
 use Rattle.std.proofs.lemmas.Bool.{false≢true}
 

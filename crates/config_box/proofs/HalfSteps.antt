@@ -1,5 +1,5 @@
 -- The halves of sets and of boxes.
-use Rattle.std.proofs.Common.{◌≡◌, ◌≢◌, ℕ, ◌+◌, ◌<◌, ◌≤◌, arith, List, [], ◌∷◌, length, map, get_or, set, Bool, true, false, not, filter, nat_le, sym, ◌∙◌, ap, refl, subst, ◌↔◌}
+use Rattle.std.proofs.Common.{◌≡◌, ◌≢◌, ℕ, ◌+◌, ◌<◌, ◌≤◌, arith, List, length, set, Bool, true, false, not, filter, sym, ◌∙◌, ap, refl, subst}
 use Rattle.std.specs.Prelude.{Contains, min, max}
 use Rattle.std.proofs.lemmas.Bool.Decides.{nat_tests}
 use Rattle.std.proofs.lemmas.List.{get_or-set_same, get_or-set_other, length-map}
@@ -13,14 +13,14 @@ use Rattle.config_record.specs.ComparedNumber.{device_number, locale_number}
 use Rattle.config_record.specs.Device.{CanHave}
 use Rattle.config_record.proofs.ChangedNumber.{by_coord, place_of-injective}
 use Rattle.box_answers.specs.NumberSet.{SetOf, RangeOf, NumbersOf, LocalesOf, locale_numbers, listed, IsIn, IsProper}
-use Rattle.box_answers.specs.Members.{set_at, IsMember, IsOfKind, IsBox, most_values}
+use Rattle.box_answers.specs.Members.{set_at, IsOfKind, IsBox, most_values}
 use Rattle.box_answers.proofs.Coords.{place_of-below}
 use Rattle.box_answers.proofs.Monotone.{not_true, not_false}
 use Rattle.config_box.specs.declared.test.Test.{Test}
 use Rattle.config_box.specs.declared.test.Test.TheVariants.{AtMost, Among}
 use Rattle.config_box.specs.Marks.{AreMarkedAlike}
 use Rattle.config_box.specs.declared.test.Choice.{Choice}
-use Rattle.config_box.specs.Tests.{coord_of, passes, test_answer, is_range, is_wrong_kind}
+use Rattle.config_box.specs.Tests.{coord_of, passes, is_range, is_wrong_kind}
 use Rattle.config_box.specs.HalfSets.{gives, IsAskable, NoneAnswers, IsHalfSet}
 use Rattle.config_box.specs.Halves.{IsHalf, AllAnswer}
 use Rattle.config_box.proofs.Filters.{kept-in, kept-all, kept-few, map-filter}

@@ -1,5 +1,5 @@
 -- The sets that are read are what a box has.
-use Rattle.std.proofs.Common.{◌≡◌, ◌≢◌, ℕ, ◌+◌, ◌<◌, ◌≤◌, ◌==◌, ◌||◌, nat_lt, arith, List, [], ◌∷◌, ◌++◌, length, map, get_or, take, ◌^◌, zero-add, length-append, inl, inr, Bool, true, false, Option, Some, None, ok_or, Result, Ok, Err, refl, sym, ap, subst, ◌∙◌}
+use Rattle.std.proofs.Common.{◌≡◌, ◌≢◌, ℕ, ◌+◌, ◌<◌, ◌≤◌, ◌==◌, ◌||◌, nat_lt, arith, List, [], ◌∷◌, ◌++◌, length, map, get_or, take, ◌^◌, zero-add, length-append, inl, inr, Bool, true, false, Option, Some, ok_or, Result, Ok, refl, sym, ap, subst, ◌∙◌}
 use Rattle.std.proofs.lemmas.Bool.{ltb-false, eqb-false}
 use Rattle.std.specs.List.{list_any, range_with_len}
 use Rattle.std.specs.Borrow.{Bor}
@@ -22,11 +22,10 @@ use Rattle.config_record.specs.Coord.{all_coords, place_of, greatest_of, greates
 use Rattle.config_record.specs.ComparedNumber.{locale_of_number}
 use Rattle.config_record.specs.Device.{CanHave}
 use Rattle.config_record.specs.Locale.{IsGiven, checked_locale}
-use Rattle.config_record.proofs.ChangedNumber.{by_coord}
 use Rattle.box_answers.specs.declared.number_set.NumberSet.{NumberSet}
-use Rattle.box_answers.specs.NumberSet.{SetOf, set_of, RangeOf, NumbersOf, LocalesOf, IsIn, IsProper, listed}
-use Rattle.box_answers.specs.Members.{sets_of, set_at, IsOfKind, IsBox, most_values}
-use Rattle.box_answers.proofs.Coords.{place_of-below, next-coord, every-coord, all_coords-count}
+use Rattle.box_answers.specs.NumberSet.{SetOf, set_of, RangeOf, NumbersOf, LocalesOf}
+use Rattle.box_answers.specs.Members.{sets_of, set_at, IsOfKind, IsBox}
+use Rattle.box_answers.proofs.Coords.{next-coord, every-coord, all_coords-count}
 use Rattle.config_box.specs.BoxJson.{is_outside, number_of_text}
 use Rattle.config_box.specs.declared.box_fault.BoxFault.{BoxFault}
 use Rattle.config_box.specs.declared.box_fault.BoxFault.TheVariants.{Shape}
@@ -34,7 +33,7 @@ use Rattle.config_box.specs.Choices.{rising}
 use Rattle.config_box.specs.Written.{number_item, text_item, numbers_or_range, numbers_in, texts_in}
 use Rattle.config_box.specs.Written as written
 use Rattle.config_box.specs.HalfSets.{IsSetAt}
-use Rattle.config_box.proofs.ChoiceSteps.{rising-increases, rising-few, rising-some, rising-each, each-not, at_index, Each}
+use Rattle.config_box.proofs.ChoiceSteps.{rising-increases, rising-few, rising-some, rising-each, each-not, Each}
 
 or_false : (a b : Bool) → (a || b) ≡ false → (a ≡ false) × (b ≡ false)
 or_false false b e = (refl, e)

@@ -1,9 +1,9 @@
-use Rattle.std.proofs.Common.{◌≡◌, ℕ, ◌<◌, List, length, filter, arith, ap, sym, ◌∙◌, subst}
+use Rattle.std.proofs.Common.{◌≡◌, ℕ, ◌<◌, List, length, filter, arith, sym, ◌∙◌, subst}
 use Rattle.std.proofs.lemmas.Bool.Decides.{nat_tests}
 use Rattle.config_record.specs.declared.locale.Locale.{Locale}
 use Rattle.config_record.specs.ComparedNumber.{locale_number}
 use Rattle.box_answers.specs.declared.number_set.NumberSet.{NumberSet}
-use Rattle.box_answers.specs.NumberSet.{SetOf, NumbersOf, LocalesOf, set_of, locale_numbers, IsProper}
+use Rattle.box_answers.specs.NumberSet.{NumbersOf, LocalesOf, set_of, locale_numbers, IsProper}
 use Rattle.config_box.specs.HalfSets.{gives, NoneAnswers, IsHalfSet}
 use Rattle.config_box.proofs.HalfSteps.{numbers-half, numbers-none, locales-kept, locales-half, locales-none, same_count}
 use Rattle.config_box.proofs.half.half_of.Goals as goal

@@ -1,4 +1,4 @@
-use Rattle.std.proofs.Common.{◌≡◌, ℕ, ◌+◌, List, map, Ok, Err, sym, ap, ◌∙◌, subst, refl}
+use Rattle.std.proofs.Common.{◌+◌, List, map, sym, ap, ◌∙◌, subst}
 use Rattle.std.proofs.lemmas.Result.{err_from_is_err_and}
 use Rattle.json_input.proofs.EachSteps.{EachAllBut, EachAllBut-next_item_seen, EachAllBut-stops_item}
 use Rattle.box_answers.specs.declared.number_set.NumberSet.{NumberSet}
