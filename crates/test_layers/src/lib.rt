@@ -30,5 +30,6 @@ mod unnamed_entry;
 
 pub use fault::LayerFault;
 pub use named_entry::table_b;
+pub use qualifier::{RECORD_SIZE, record_of};
 pub use table::layer;
 pub use unnamed_entry::{put, table_a, table_with};
