@@ -9,6 +9,8 @@
 //! | `has_only` | an object without members of other names than these | `specs/Shape.antt` |
 //! | `number_of` | the number of a value, as `Value::as_u64` gives it | `specs/Shape.antt` |
 //! | `text_of` | the text of a value, as `Value::as_str` gives it | `specs/Shape.antt` |
+//! | `list_of` | the items of a value that is a list | `specs/Each.antt` |
+//! | `each` | what is read of each item, or of each coordinate in turn, or the first fault | `specs/Each.antt` |
 //!
 //! ```text
 //! let value = read_value(alloc, bytes)?;

@@ -35,7 +35,7 @@ pub use device::device_of;
 pub use fault::LayerFault;
 pub use named_entry::table_b;
 pub use pool::{pool_of_string, pool_of_style};
-pub use qualifier::record_of;
+pub use qualifier::{RECORD_SIZE, record_of};
 pub use row_chain::chain;
 pub use table::{layer, layer_of_lines, layer_with_string};
 pub use unnamed_entry::{put, table_a, table_with};

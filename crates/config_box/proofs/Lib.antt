@@ -1,0 +1,4 @@
+pub mod Filters
+pub mod HalfSteps
+pub mod ChoiceSteps
+pub mod ReadSteps

@@ -1,0 +1,248 @@
+-- The sets that are read are what a box has.
+use Rattle.std.proofs.Common.{◌≡◌, ◌≢◌, ℕ, ◌+◌, ◌<◌, ◌≤◌, ◌==◌, ◌||◌, nat_lt, arith, List, [], ◌∷◌, ◌++◌, length, map, get_or, take, ◌^◌, zero-add, length-append, inl, inr, Bool, true, false, Option, Some, ok_or, Result, Ok, refl, sym, ap, subst, ◌∙◌}
+use Rattle.std.proofs.lemmas.Bool.{ltb-false, eqb-false}
+use Rattle.std.specs.List.{list_any, range_with_len}
+use Rattle.std.specs.Borrow.{Bor}
+use Rattle.std.proofs.lemmas.Bool.{cases_eq}
+use Rattle.std.proofs.lemmas.List.{get_or-map, map-append, take_more, length-map}
+use Rattle.std.proofs.lemmas.List.FromFn.{get_or-range_with_len}
+use Rattle.std.proofs.Math.ListN.{get_or-append}
+use Rattle.std.proofs.Math.Seq.{get_or-append_seam}
+use Rattle.std.specs.Option.{option_map}
+use Rattle.contract_words.specs.Faults.{◌>>=◌}
+use Rattle.serde_json.specs.Data.{Data}
+use Rattle.serde_json.specs.Find.{as_array}
+use Rattle.serde_json.specs.View.{view, items_view}
+use Rattle.serde_json.specs.declared.value.Value.{Value}
+use Rattle.json_input.specs.Each.{list_items, list_of, each}
+use Rattle.json_input.proofs.EachSteps.{list_items-view}
+use Rattle.config_record.specs.declared.coord.Coord.{Coord}
+use Rattle.config_record.specs.declared.coord.Coord.TheVariants as coords
+use Rattle.config_record.specs.Coord.{all_coords, place_of, greatest_of, greatest_of_device}
+use Rattle.config_record.specs.ComparedNumber.{locale_of_number}
+use Rattle.config_record.specs.Device.{CanHave}
+use Rattle.config_record.specs.Locale.{IsGiven, checked_locale}
+use Rattle.box_answers.specs.declared.number_set.NumberSet.{NumberSet}
+use Rattle.box_answers.specs.NumberSet.{SetOf, set_of, RangeOf, NumbersOf, LocalesOf}
+use Rattle.box_answers.specs.Members.{sets_of, set_at, IsOfKind, IsBox}
+use Rattle.box_answers.proofs.Coords.{next-coord, every-coord, all_coords-count}
+use Rattle.config_box.specs.BoxJson.{is_outside, number_of_text}
+use Rattle.config_box.specs.declared.box_fault.BoxFault.{BoxFault}
+use Rattle.config_box.specs.declared.box_fault.BoxFault.TheVariants.{Shape}
+use Rattle.config_box.specs.Choices.{rising}
+use Rattle.config_box.specs.Written.{number_item, text_item, numbers_or_range, numbers_in, texts_in}
+use Rattle.config_box.specs.Written as written
+use Rattle.config_box.specs.HalfSets.{IsSetAt}
+use Rattle.config_box.proofs.ChoiceSteps.{rising-increases, rising-few, rising-some, rising-each, each-not, Each}
+
+or_false : (a b : Bool) → (a || b) ≡ false → (a ≡ false) × (b ≡ false)
+or_false false b e = (refl, e)
+or_false true b e = absurd cc
+
+-- ---- numbers in their range
+
+pub inside-can : (c : Coord) (n : ℕ) → c ≢ coords.Locale → is_outside c n ≡ false → CanHave c n
+unfolding is_outside
+inside-can coords.Locale n other e = absurd (other refl)
+inside-can coords.Density n other e =
+    let h = or_false (n == 0) (nat_lt (greatest_of_device coords.Density) n) e in
+    let some = eqb-false n 0 h.0 in
+    let within = ltb-false (greatest_of_device coords.Density) n h.1 in
+    (omega arith, omega arith)
+inside-can c n other e = let within = ltb-false (greatest_of_device c) n e in omega arith
+
+between-can : (c : Coord) (from to n : ℕ) → c ≢ coords.Locale → CanHave c from → CanHave c to → from ≤ n → n ≤ to → CanHave c n
+between-can coords.Locale from to n other f t p q = absurd (other refl)
+between-can coords.Density from to n other f t p q = (omega (arith, f), omega (arith, t))
+between-can c from to n other f t p q = omega (arith, t)
+
+kind-range : (c : Coord) (from to : ℕ) → c ≢ coords.Locale → IsOfKind c (RangeOf from to)
+kind-range coords.Locale from to other = absurd (other refl)
+kind-range c from to other = tt
+
+kind-numbers : (c : Coord) (numbers : List ℕ) → c ≢ coords.Locale → IsOfKind c (NumbersOf numbers)
+kind-numbers coords.Locale numbers other = absurd (other refl)
+kind-numbers c numbers other = tt
+
+pub range-fits : (c : Coord) (from to : ℕ) → c ≢ coords.Locale → from ≤ to → is_outside c from ≡ false → is_outside c to ≡ false → IsSetAt c (RangeOf from to)
+range-fits c from to other le first last = record {
+  proper = record { nonempty = omega arith; rises = le };
+  kind = kind-range c from to other;
+  few = omega arith;
+  can = λ n is. between-can c from to n other (inside-can c from other first) (inside-can c to other last) is.0 is.1;
+}
+
+pub numbers-fit : (c : Coord) (numbers : List ℕ) → c ≢ coords.Locale → 0 < length numbers → length numbers ≤ 512 → list_any (is_outside c) numbers ≡ false → IsSetAt c (NumbersOf (rising numbers))
+numbers-fit c numbers other some few inside = record {
+  proper = record { nonempty = rising-some numbers some; rises = rising-increases numbers };
+  kind = kind-numbers c (rising numbers) other;
+  few = let le = rising-few numbers in omega arith;
+  can = rising-each (CanHave c) numbers (each-can numbers (each-not (is_outside c) numbers inside));
+}
+  where
+    each-can : (ns : List ℕ) → Each (λ n. is_outside c n ≡ false) ns → Each (CanHave c) ns
+    each-can [] h = tt
+    each-can (n ∷ ns) h = (inside-can c n other h.0, each-can ns h.1)
+
+pub locales-fit : (numbers : List ℕ) → 0 < length numbers → length numbers ≤ 512 → Each (λ n. IsGiven (locale_of_number n)) numbers → IsSetAt coords.Locale (LocalesOf (rising numbers))
+locales-fit numbers some few given = record {
+  proper = record { nonempty = rising-some numbers some; rises = rising-increases numbers };
+  kind = tt;
+  few = let le = rising-few numbers in omega arith;
+  can = rising-each (λ n. IsGiven (locale_of_number n)) numbers given;
+}
+
+-- 0 stands for nothing
+nothing-can : (c : Coord) → c ≢ coords.Locale → c ≢ coords.Density → CanHave c 0
+nothing-can coords.Locale a b = absurd (a refl)
+nothing-can coords.Density a b = absurd (b refl)
+nothing-can c a b = omega arith
+
+-- ---- the whole box
+
+pub box-of_sets : (sets : List SetOf) → length sets ≡ 25 → ((c : Coord) → IsSetAt c (set_at sets c)) → IsBox sets
+box-of_sets sets count each = record {
+  count = count;
+  proper = λ c. (each c).proper;
+  kinds = λ c. (each c).kind;
+  few = λ c. (each c).few;
+  can = λ c. (each c).can;
+}
+
+-- ---- a set more
+
+place-at : (i : ℕ) (here d : Coord) (items : List Coord) → items ≡ all_coords → here ≡ get_or items i d → i < length items → place_of here ≡ i
+unfolding all_coords place_of
+place-at i here d items all is on =
+    let count : i < 25 = omega (arith, ap (λ (cs : List Coord). length cs) all) in
+    let places : map place_of all_coords ≡ range_with_len 0 25 = refl in
+    ap place_of (is ∙ ap (λ (cs : List Coord). get_or cs i d) all)
+    ∙ sym (get_or-map place_of all_coords i d 0 count)
+    ∙ ap (λ (ns : List ℕ). get_or ns i 0) places
+    ∙ get_or-range_with_len 0 25 i 0 count
+    ∙ zero-add i
+
+pub sets-next : (sets : List SetOf) (s : SetOf) (i : ℕ) (here d : Coord) (items : List Coord) → items ≡ all_coords → here ≡ get_or items i d → i < length items → length sets ≡ i
+    → IsSetAt here s → ((c : Coord) → place_of c < i → IsSetAt c (set_at sets c)) → (c : Coord) → place_of c < i + 1 → IsSetAt c (set_at (sets ++ s ∷ []) c)
+sets-next sets s i here d items all is on count new before =
+    next-coord (λ c. IsSetAt c (set_at (sets ++ s ∷ []) c)) i here items d all is on
+    (λ c q. subst (λ (t : SetOf). IsSetAt c t) (sym (get_or-append sets (s ∷ []) (RangeOf 0 0) (place_of c) (omega arith))) (before c q))
+    (subst (λ (t : SetOf). IsSetAt here t) (sym there) new)
+  where
+    there : set_at (sets ++ s ∷ []) here ≡ s
+    there = ap (λ (k : ℕ). get_or (sets ++ s ∷ []) k (RangeOf 0 0)) (place-at i here d items all is on ∙ sym count) ∙ get_or-append_seam sets s [] (RangeOf 0 0)
+
+-- ---- small numbers
+
+pub inside-small : (c : Coord) (n : ℕ) → is_outside c n ≡ false → n < 2 ^ 32
+unfolding is_outside greatest_of_device greatest_of
+inside-small coords.Density n e = let h = or_false (n == 0) (nat_lt 32767 n) e in let le = ltb-false 32767 n h.1 in omega arith
+inside-small coords.Mcc n e = let le = ltb-false 65535 n e in omega arith
+inside-small coords.Mnc n e = let le = ltb-false 65535 n e in omega arith
+inside-small coords.Locale n e = let le = ltb-false 0 n e in omega arith
+inside-small coords.LayoutDirection n e = let le = ltb-false 3 n e in omega arith
+inside-small coords.SmallestWidthDp n e = let le = ltb-false 65535 n e in omega arith
+inside-small coords.WidthDp n e = let le = ltb-false 65535 n e in omega arith
+inside-small coords.HeightDp n e = let le = ltb-false 65535 n e in omega arith
+inside-small coords.ScreenSize n e = let le = ltb-false 15 n e in omega arith
+inside-small coords.Long n e = let le = ltb-false 3 n e in omega arith
+inside-small coords.Round n e = let le = ltb-false 3 n e in omega arith
+inside-small coords.WideColor n e = let le = ltb-false 3 n e in omega arith
+inside-small coords.Hdr n e = let le = ltb-false 3 n e in omega arith
+inside-small coords.Orientation n e = let le = ltb-false 255 n e in omega arith
+inside-small coords.UiType n e = let le = ltb-false 15 n e in omega arith
+inside-small coords.Night n e = let le = ltb-false 3 n e in omega arith
+inside-small coords.Touchscreen n e = let le = ltb-false 255 n e in omega arith
+inside-small coords.KeysHidden n e = let le = ltb-false 3 n e in omega arith
+inside-small coords.NavHidden n e = let le = ltb-false 3 n e in omega arith
+inside-small coords.Keyboard n e = let le = ltb-false 255 n e in omega arith
+inside-small coords.Navigation n e = let le = ltb-false 255 n e in omega arith
+inside-small coords.Width n e = let le = ltb-false 65535 n e in omega arith
+inside-small coords.Height n e = let le = ltb-false 65535 n e in omega arith
+inside-small coords.Sdk n e = let le = ltb-false 65535 n e in omega arith
+inside-small coords.Minor n e = let le = ltb-false 65535 n e in omega arith
+
+-- no locale at all is given by a text
+pub none-given : IsGiven (locale_of_number 0)
+unfolding locale_of_number checked_locale
+none-given = refl
+
+-- ---- numbers of texts
+
+pub texts-next : (numbers new : List ℕ) (texts : List (Bor (List ℕ))) (i n : ℕ) (d : Bor (List ℕ)) → numbers ≡ map number_of_text (map (λ text. text.now) (take i texts)) → i < length texts
+    → new ≡ numbers ++ n ∷ [] → n ≡ number_of_text (get_or texts i d).now → new ≡ map number_of_text (map (λ text. text.now) (take (i + 1) texts))
+texts-next numbers new texts i n d before on pushed is =
+    let now : Bor (List ℕ) → List ℕ = λ text. text.now in
+    pushed
+    ∙ ap (λ (xs : List ℕ). xs ++ n ∷ []) before
+    ∙ ap (λ (m : ℕ). map number_of_text (map now (take i texts)) ++ m ∷ []) is
+    ∙ sym (map-append number_of_text (map now (take i texts)) (now (get_or texts i d) ∷ []))
+    ∙ ap (map number_of_text) (sym (map-append now (take i texts) (get_or texts i d ∷ [])))
+    ∙ ap (λ (xs : List (Bor (List ℕ))). map number_of_text (map now xs)) (sym (take_more texts i d on))
+
+pub each-next : (P : ℕ → Type 0) (numbers new : List ℕ) (n : ℕ) → ((k : ℕ) → k < length numbers → P (get_or numbers k 0)) → new ≡ numbers ++ n ∷ [] → P n
+    → (k : ℕ) → k < length new → P (get_or new k 0)
+each-next P numbers new n before pushed last k q =
+    subst (λ (xs : List ℕ). P (get_or xs k 0)) (sym pushed)
+    (elim (cases_eq k (length numbers)) [
+      | inl e ↦ subst P (sym (ap (λ i. get_or (numbers ++ n ∷ []) i 0) e ∙ get_or-append_seam numbers n [] 0)) last
+      | inr ne ↦ (let lt : k < length numbers = omega (arith, ap (λ (xs : List ℕ). length xs) pushed, length-append numbers (n ∷ [])) in
+          subst P (sym (get_or-append numbers (n ∷ []) 0 k lt)) (before k lt))
+    ])
+
+-- ---- what a list says
+
+list_of-some : (value : Data) (items : List Value) → Some (items_view items) ≡ as_array value → list_of value ≡ Some (map view items)
+list_of-some value items e =
+    let wrapped : List Data → Option (List Data) = λ t. Some t in
+    ap (option_map list_items) (sym e) ∙ ap wrapped (list_items-view items)
+
+pub numbers-of : (value : Data) (items : List Value) (r : Result (List ℕ) BoxFault) → Some (items_view items) ≡ as_array value → each number_item (map view items) ≡ r
+    → numbers_in value ≡ (r >>= λ numbers. Ok (written.NumbersOf numbers))
+unfolding numbers_in
+numbers-of value items r e given =
+    ap (λ (l : Option (List Data)). numbers_or_range l value) (list_of-some value items e)
+    ∙ ap (λ (s : Result (List ℕ) BoxFault). s >>= λ numbers. Ok (written.NumbersOf numbers)) given
+
+pub texts-of : (value : Data) (items : List Value) (r : Result (List (List ℕ)) BoxFault) → Some (items_view items) ≡ as_array value → each text_item (map view items) ≡ r
+    → texts_in value ≡ (r >>= λ texts. Ok (written.TextsOf texts))
+unfolding texts_in
+texts-of value items r e given =
+    ap (λ (l : Option (List Data)). ok_or l Shape >>= λ items. each text_item items >>= λ texts. Ok (written.TextsOf texts)) (list_of-some value items e)
+    ∙ ap (λ (s : Result (List (List ℕ)) BoxFault). s >>= λ texts. Ok (written.TextsOf texts)) given
+
+-- ---- a coordinate more
+
+pub firsts-next : {X : Type 0} (pairs : List (Coord × X)) (pair : Coord × X) (items : List Coord) (i : ℕ) (d : Coord) → map (λ p. p.0) pairs ≡ take i items → i < length items → pair.0 ≡ get_or items i d
+    → map (λ p. p.0) (pairs ++ pair ∷ []) ≡ take (i + 1) items
+firsts-next {X} pairs pair items i d before on is =
+    let first : (Coord × X) → Coord = λ p. p.0 in
+    map-append first pairs (pair ∷ [])
+    ∙ ap (λ (cs : List Coord). cs ++ pair.0 ∷ []) before
+    ∙ ap (λ (c : Coord). take i items ++ c ∷ []) is
+    ∙ sym (take_more items i d on)
+
+-- what is known of the sets so far
+pub record SetsSoFar (sets : List NumberSet) (place : ℕ) : Type 0 where
+  pub count : length (sets_of sets) ≡ place
+  pub fits : (c : Coord) → place_of c < place → IsSetAt c (set_at (sets_of sets) c)
+
+pub SetsSoFar-next : {X : Type 0} (sets : List NumberSet) (s : NumberSet) (pairs : List (Coord × X)) (i : ℕ) (pair : Coord × X) → SetsSoFar sets i → map (λ p. p.0) pairs ≡ all_coords → i < length pairs
+    → pair ≡ get_or pairs i pair → IsSetAt pair.0 (set_of s) → SetsSoFar (sets ++ s ∷ []) (i + 1)
+SetsSoFar-next {X} sets s pairs i pair before all on is new =
+    let first : (Coord × X) → Coord = λ p. p.0 in
+    let split : sets_of (sets ++ s ∷ []) ≡ sets_of sets ++ set_of s ∷ [] = map-append set_of sets (s ∷ []) in
+    let here : pair.0 ≡ get_or (map first pairs) i pair.0 = ap first is ∙ sym (get_or-map first pairs i pair pair.0 on) in
+    let counted : length (map first pairs) ≡ length pairs = simp length-map refl in
+    record {
+      count = ap (λ (t : List SetOf). length t) split ∙ length-append (sets_of sets) (set_of s ∷ []) ∙ ap (λ (n : ℕ). n + 1) before.count;
+      fits = λ c q. subst (λ (t : List SetOf). IsSetAt c (set_at t c)) (sym split)
+          (sets-next (sets_of sets) (set_of s) i pair.0 pair.0 (map first pairs) all here (omega arith) before.count new before.fits c q);
+    }
+
+pub SetsSoFar-end : {X : Type 0} (sets : List NumberSet) (pairs : List (Coord × X)) (i : ℕ) → SetsSoFar sets i → map (λ p. p.0) pairs ≡ all_coords → length pairs ≤ i → i ≤ length pairs → IsBox (sets_of sets)
+SetsSoFar-end {X} sets pairs i so_far all past within =
+    let first : (Coord × X) → Coord = λ p. p.0 in
+    let counted : length (map first pairs) ≡ length pairs = simp length-map refl in
+    let whole : length (map first pairs) ≡ 25 = ap (λ (cs : List Coord). length cs) all ∙ all_coords-count in
+    box-of_sets (sets_of sets) (so_far.count ∙ omega arith) (every-coord (λ c. IsSetAt c (set_at (sets_of sets) c)) i (map first pairs) all (omega arith) so_far.fits)

@@ -1,0 +1,11 @@
+use Rattle.std.proofs.Common.{◌≡◌, ◌<◌, ℕ, map, take, length, get_or}
+use Rattle.config_record.specs.ComparedNumber.{locale_of_number}
+use Rattle.config_record.specs.Locale.{IsGiven}
+use Rattle.config_box.specs.BoxJson.{number_of_text}
+use Rattle.config_box.proofs.read.numbers_of_texts.Given as goal
+
+abbrev pub invariant-loop-text : goal.invariant-loop-text
+invariant-loop-text l = record {
+  same : l.numbers.items ≡ map number_of_text (map (λ text. text.now) (take l.text-index l.texts));
+  given : (k : ℕ) → k < length l.numbers.items → IsGiven (locale_of_number (get_or l.numbers.items k 0));
+}

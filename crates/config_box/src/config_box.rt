@@ -1,0 +1,140 @@
+//! Boxes.
+
+ghost use Rattle.std.specs.Prelude.{◌≡◌, ◌↔◌, IsTrue, IfOk};
+ghost use Rattle.config_record.specs.Record.{record_bytes};
+ghost use Rattle.config_record.specs.DeviceSeen.{device_numbers};
+ghost use Rattle.config_match.specs.Matching.{is_match};
+ghost use Rattle.config_precedence.specs.Precedence.{is_better};
+ghost use Rattle.contract_words.specs.Exact.{GivesOr};
+ghost use Rattle.box_answers.specs.NumberSet.{set_of};
+ghost use Rattle.box_answers.specs.Members.{sets_of, set_at, IsMember, IsCorner, IsBox};
+ghost use Rattle.config_box.specs.Tests.{coord_of};
+ghost use Rattle.config_box.specs.HalfSets.{IsHalfSet};
+ghost use Rattle.box_answers.specs.Sameness.{IsExact};
+ghost use Rattle.config_box.specs.declared.box_fault.BoxFault.TheVariants.{OutOfMemory};
+
+use crate::box_fault::BoxFault;
+use crate::half::half_of;
+use crate::read::sets_in_value;
+use crate::split::{OutOfMemory as NoMemory, Split, is_wrong_kind, with_set};
+use crate::test::Test;
+use crate::values::{Values, values_of};
+use box_answers::{NumberSet, Sameness, set_at};
+use config_record::{Coord, Device, Record};
+use json_input::{JsonFault, read_value};
+use std::alloc::Global;
+use std::marker::Model;
+
+/// For each coordinate a range of numbers, or a choice of values; none is empty, and all its members are
+/// devices. Contracts see it as the list of its 25 sets.
+#[derive(Drop)]
+pub struct ConfigBox {
+    sets: Vec<NumberSet>,
+}
+
+impl Model for ConfigBox {
+    ghost use Rattle.std.specs.Prelude.{List};
+    ghost use Rattle.box_answers.specs.NumberSet.{SetOf};
+    ghost use Rattle.box_answers.specs.Members.{sets_of, IsBox};
+
+    ghost Value = { List SetOf };
+
+    ghost view = { λ b. sets_of b.sets.items };
+
+    ghost invariant = { λ b. IsBox (sets_of b.sets.items) };
+}
+
+impl ConfigBox {
+    ghost use Rattle.config_box.specs.BoxJson.{box_in};
+    ghost use Rattle.config_box.specs.BoxSeen.{values_seen};
+    ghost use Rattle.config_box.specs.Halves.{IsSplit};
+
+    /// The box of a JSON text: an object with a list or a range of numbers for each coordinate and a list of
+    /// texts for the locale. What is missing is 0, or no locale; the density has to be there.
+    pub fn read(alloc: Global, json: &[u8]) -> Result<ConfigBox, BoxFault>
+        ensures { GivesOr OutOfMemory (λ b. b) result (box_in json.now) }
+    {
+        match read_value(alloc, json) {
+            Ok(value) => Ok(ConfigBox {
+                sets: sets_in_value(alloc, &value)?,
+            }),
+            Err(JsonFault::Syntax) => Err(BoxFault::Syntax),
+            Err(JsonFault::OutOfMemory) => Err(BoxFault::OutOfMemory),
+        }
+    }
+
+    /// The set of a coordinate; a choice is in rising order.
+    pub fn values(&self, at: Coord) -> Values<'_>
+        ensures value { values_seen result ≡ set_at self.now at }
+        ensures sets { IsBox self.now }
+    {
+        values_of(self.sets.as_slice(), at)
+    }
+
+    /// Whether a device is a member.
+    pub fn contains(&self, device: &Device) -> bool
+        ensures { IsTrue result ↔ IsMember self.now (device_numbers device.now) }
+    {
+        box_answers::is_member(self.sets.as_slice(), device)
+    }
+
+    /// The member that has the least number of each set.
+    pub fn corner(&self) -> Device
+        ensures { IsCorner self.now (device_numbers result) }
+    {
+        box_answers::corner(self.sets.as_slice())
+    }
+
+    /// Does a record match all members, none, or some?
+    pub fn match_all(&self, stored: &Record) -> Sameness
+        ensures { IsExact result self.now (is_match (record_bytes stored.now)) }
+    {
+        box_answers::match_all(self.sets.as_slice(), stored)
+    }
+
+    /// Is the first of two records better than the second for all members, for none, or for some?
+    pub fn better_all(&self, a: &Record, b: &Record) -> Sameness
+        ensures { IsExact result self.now (is_better (record_bytes a.now) (record_bytes b.now)) }
+    {
+        box_answers::better_all(self.sets.as_slice(), a, b)
+    }
+
+    /// The halves by a test.
+    pub fn split(&self, alloc: Global, test: &Test) -> Result<Split, NoMemory>
+        ensures { IfOk result (IsSplit self.now test.now) }
+    {
+        let sets = self.sets.as_slice();
+        if is_wrong_kind(sets, test) {
+            return Ok(Split::WrongKind);
+        }
+        let set = set_at(sets, test.coord());
+        let Some(yes) = half_of(alloc, set, test, true)? else {
+            return Ok(Split::EmptyHalf);
+        };
+        let Some(no) = half_of(alloc, set, test, false)? else {
+            return Ok(Split::EmptyHalf);
+        };
+        let yes = half_box(alloc, sets, test, true, yes)?;
+        let no = half_box(alloc, sets, test, false, no)?;
+        Ok(Split::Halves(yes, no))
+    }
+}
+
+ghost use Rattle.config_box.specs.Halves.{IsHalf};
+
+/// The box with the half of the test's set that gives this answer.
+fn half_box(
+    alloc: Global,
+    sets: &[NumberSet],
+    test: &Test,
+    answer: bool,
+    half: NumberSet,
+) -> Result<ConfigBox, NoMemory>
+    requires sets { IsBox (sets_of sets.now) }
+    requires half { IsHalfSet (set_at (sets_of sets.now) (coord_of test.now)) test.now answer (set_of half) }
+    ensures { IfOk result (λ b. IsHalf (sets_of sets.now) test.now answer b) }
+{
+    Ok(ConfigBox {
+        sets: with_set(alloc, sets, test.coord(), half)?,
+    })
+}

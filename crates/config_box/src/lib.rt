@@ -1,0 +1,35 @@
+//! Boxes of devices: for each of the 25 coordinates a range of numbers, or a choice of values. A box is
+//! read from JSON, is split into halves by tests of one coordinate, and answers two questions for all
+//! its members at once: does a record match, and is one record better than another?
+//!
+//! For the crates above: a box is the list of its 25 sets, none of them empty and each in its
+//! coordinate's range; a device is a member where each of its numbers lies in the set at its
+//! coordinate (`IsMember` of `box_answers`). The halves of a split share with the box what did not
+//! change.
+//!
+//! ```text
+//! let phones = ConfigBox::read(alloc, b"{\"density\":{\"from\":120,\"to\":640}}")?;
+//! match phones.better_all(&candidate, &best) {
+//!     Sameness::Always => .., // at all densities from 120 to 640
+//!     Sameness::Never => ..,
+//!     Sameness::Mixed(yes, no, coord) => .., // two densities side by side
+//! }
+//! ```
+#![tactic(auto)]
+
+mod box_fault;
+mod choice;
+mod config_box;
+mod half;
+mod read;
+mod split;
+mod test;
+mod values;
+mod written;
+
+pub use box_answers::Sameness;
+pub use box_fault::BoxFault;
+pub use config_box::ConfigBox;
+pub use split::{OutOfMemory, Split};
+pub use test::{Choice, Test};
+pub use values::Values;

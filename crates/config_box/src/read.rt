@@ -1,0 +1,249 @@
+//! The sets of a box from what is written of each coordinate.
+
+ghost use Rattle.std.specs.Prelude.{◌≡◌, ◌≢◌, ℕ, ◌<◌, map, length, slice_index, IfOk};
+ghost use Rattle.std.specs.List.{list_any};
+ghost use Rattle.contract_words.specs.Exact.{GivesOr};
+ghost use Rattle.serde_json.specs.View.{view};
+ghost use Rattle.json_input.specs.Each.{each};
+ghost use Rattle.box_answers.specs.NumberSet.{NumbersOf, LocalesOf, set_of};
+ghost use Rattle.config_record.specs.declared.coord.Coord.TheVariants as coords;
+ghost use Rattle.config_record.specs.Coord.{all_coords};
+ghost use Rattle.config_record.specs.ComparedNumber.{locale_of_number};
+ghost use Rattle.config_record.specs.Locale.{IsGiven};
+ghost use Rattle.box_answers.specs.Members.{sets_of, IsBox};
+ghost use Rattle.config_box.specs.HalfSets.{IsSetAt};
+ghost use Rattle.config_box.specs.declared.box_fault.BoxFault.TheVariants.{OutOfMemory};
+ghost use Rattle.config_box.specs.BoxJson.{is_outside, outside_fault, set_of_range, set_of_numbers, is_malformed, is_region_alone, number_of_text, set_of_texts, set_of_nothing, set_in, box_in_value};
+ghost use Rattle.config_box.specs.Choices.{rising};
+ghost use Rattle.config_box.specs.BoxSeen.{written_seen, pair_seen};
+
+use crate::box_fault::BoxFault;
+use crate::choice::{locales_of, narrowed, rising};
+use crate::written::{Written, written_in};
+use box_answers::NumberSet;
+use config_record::{Coord, Locale, LocaleFault};
+use serde_json::Value;
+use std::alloc::{AllocError, Global};
+use std::rc::Rc;
+
+/// The most items of a list.
+const MOST_VALUES: usize = 512;
+
+/// The sets of all coordinates.
+#[tactic(auto, unfolding(crate::specs::BoxJson::box_in_value))]
+pub(crate) fn sets_in_value(alloc: Global, value: &Value) -> Result<Vec<NumberSet>, BoxFault>
+    ensures value { GivesOr OutOfMemory (λ sets. sets_of sets.items) result (box_in_value (view value.now)) }
+    ensures sets { IfOk result (λ sets. IsBox (sets_of sets.items)) }
+{
+    let written = written_in(alloc, value)?;
+    sets_of_each(alloc, written.as_slice())
+}
+
+#[tactic(auto, using(json_input::proofs::EachSteps::each_item_steps))]
+fn sets_of_each(alloc: Global, written: &[(Coord, Written)]) -> Result<Vec<NumberSet>, BoxFault>
+    requires { map (λ pair. pair.0) written.now ≡ all_coords }
+    ensures value { GivesOr OutOfMemory (λ sets. sets_of sets.items) result (each set_in (map pair_seen written.now)) }
+    ensures sets { IfOk result (λ sets. IsBox (sets_of sets.items)) }
+{
+    let mut sets = Vec::new(alloc);
+    for (coord, what) in written {
+        let set = set_in(alloc, *coord, what)?;
+        sets.push(set)?;
+    }
+    Ok(sets)
+}
+
+#[tactic(auto, unfolding(crate::specs::BoxJson::set_in))]
+fn set_in(alloc: Global, at: Coord, written: &Written) -> Result<NumberSet, BoxFault>
+    ensures value { GivesOr OutOfMemory set_of result (set_in (at, written_seen written.now)) }
+    ensures fits { IfOk result (λ set. IsSetAt at (set_of set)) }
+{
+    match (at, written) {
+        (_, Written::Nothing) => set_of_nothing(alloc, at),
+        (Coord::Locale, Written::Texts(texts)) => set_of_texts(alloc, texts.as_slice()),
+        (Coord::Locale, _) => Err(BoxFault::Shape),
+        (_, Written::Range(from, to)) => set_of_range(at, *from, *to),
+        (_, Written::Numbers(numbers)) => set_of_numbers(alloc, at, numbers.as_slice()),
+        (_, Written::Texts(_)) => Err(BoxFault::Shape),
+    }
+}
+
+// ---- numbers
+
+#[tactic(auto, unfolding(crate::specs::BoxJson::is_outside))]
+fn is_outside(at: Coord, number: u64) -> bool
+    ensures { result ≡ is_outside at number }
+{
+    match at {
+        Coord::Density => number == 0 || number > u64::from(at.greatest_of_device()),
+        _ => number > u64::from(at.greatest_of_device()),
+    }
+}
+
+fn any_outside(at: Coord, numbers: &[u64]) -> bool
+    ensures { result ≡ list_any (is_outside at) numbers.now }
+{
+    numbers.iter().any(|number| is_outside(at, *number))
+}
+
+#[tactic(auto, unfolding(crate::specs::BoxJson::outside_fault))]
+fn outside_fault(at: Coord) -> BoxFault
+    ensures { result ≡ outside_fault at }
+{
+    match at {
+        Coord::Density => BoxFault::Density,
+        _ => BoxFault::FieldRange(at),
+    }
+}
+
+#[tactic(auto, unfolding(crate::specs::BoxJson::set_of_range))]
+fn set_of_range(at: Coord, from: u64, to: u64) -> Result<NumberSet, BoxFault>
+    requires { at ≢ coords.Locale }
+    ensures value { GivesOr OutOfMemory set_of result (set_of_range at from to) }
+    ensures fits { IfOk result (λ set. IsSetAt at (set_of set)) }
+{
+    if from > to {
+        return Err(BoxFault::Empty(at));
+    }
+    if is_outside(at, from) {
+        return Err(outside_fault(at));
+    }
+    if is_outside(at, to) {
+        return Err(outside_fault(at));
+    }
+    Ok(NumberSet::Range(from as u32, to as u32))
+}
+
+#[tactic(auto, unfolding(crate::specs::BoxJson::set_of_numbers))]
+fn set_of_numbers(alloc: Global, at: Coord, numbers: &[u64]) -> Result<NumberSet, BoxFault>
+    requires { at ≢ coords.Locale }
+    ensures value { GivesOr OutOfMemory set_of result (set_of_numbers at numbers.now) }
+    ensures fits { IfOk result (λ set. IsSetAt at (set_of set)) }
+{
+    if numbers.is_empty() {
+        return Err(BoxFault::Empty(at));
+    }
+    if numbers.len() > MOST_VALUES {
+        return Err(BoxFault::TooMany(at));
+    }
+    if any_outside(at, numbers) {
+        return Err(outside_fault(at));
+    }
+    let numbers = narrowed(alloc, numbers)?;
+    Ok(numbers_set(alloc, numbers.as_slice())?)
+}
+
+fn numbers_set(alloc: Global, numbers: &[u32]) -> Result<NumberSet, AllocError>
+    ensures { IfOk result (λ set. set_of set ≡ NumbersOf (rising numbers.now)) }
+{
+    let chosen = rising(alloc, numbers)?;
+    Ok(NumberSet::Numbers(Rc::new(alloc, chosen)?))
+}
+
+// ---- locales
+
+fn is_malformed(text: &str) -> bool
+    ensures { result ≡ is_malformed text.now }
+{
+    match Locale::read(text) {
+        Err(LocaleFault::Malformed) => true,
+        Ok(_) | Err(LocaleFault::RegionAlone) => false,
+    }
+}
+
+fn is_region_alone(text: &str) -> bool
+    ensures { result ≡ is_region_alone text.now }
+{
+    match Locale::read(text) {
+        Err(LocaleFault::RegionAlone) => true,
+        Ok(_) | Err(LocaleFault::Malformed) => false,
+    }
+}
+
+fn any_malformed(texts: &[&str]) -> bool
+    ensures { result ≡ list_any is_malformed (map (λ text. text.now) texts.now) }
+{
+    for text in texts {
+        if is_malformed(text) {
+            return true;
+        }
+    }
+    false
+}
+
+fn any_region_alone(texts: &[&str]) -> bool
+    ensures { result ≡ list_any is_region_alone (map (λ text. text.now) texts.now) }
+{
+    for text in texts {
+        if is_region_alone(text) {
+            return true;
+        }
+    }
+    false
+}
+
+// The number of a text's locale, 0 where it has none.
+fn number_of_text(text: &str) -> u32
+    ensures value { result ≡ number_of_text text.now }
+    ensures given { IsGiven (locale_of_number result) }
+{
+    match Locale::read(text) {
+        Ok(locale) => locale.number(),
+        Err(_) => 0,
+    }
+}
+
+#[tactic(auto, unfolding(crate::specs::BoxJson::set_of_texts))]
+fn set_of_texts(alloc: Global, texts: &[&str]) -> Result<NumberSet, BoxFault>
+    ensures value { GivesOr OutOfMemory set_of result (set_of_texts (map (λ text. text.now) texts.now)) }
+    ensures fits { IfOk result (λ set. IsSetAt coords.Locale (set_of set)) }
+{
+    let at = Coord::Locale;
+    if texts.is_empty() {
+        return Err(BoxFault::Empty(at));
+    }
+    if texts.len() > MOST_VALUES {
+        return Err(BoxFault::TooMany(at));
+    }
+    if any_malformed(texts) {
+        return Err(BoxFault::FieldRange(at));
+    }
+    if any_region_alone(texts) {
+        return Err(BoxFault::RegionAlone);
+    }
+    let numbers = numbers_of_texts(alloc, texts)?;
+    Ok(locales_set(alloc, numbers.as_slice())?)
+}
+
+fn numbers_of_texts(alloc: Global, texts: &[&str]) -> Result<Vec<u32>, AllocError>
+    ensures value { IfOk result (λ numbers. numbers.items ≡ map number_of_text (map (λ text. text.now) texts.now)) }
+    ensures given { IfOk result (λ numbers. (k : ℕ) → k < length numbers.items → IsGiven (locale_of_number (slice_index numbers.items k))) }
+{
+    let mut numbers = Vec::new(alloc);
+    for text in texts {
+        numbers.push(number_of_text(text))?;
+    }
+    Ok(numbers)
+}
+
+fn locales_set(alloc: Global, numbers: &[u32]) -> Result<NumberSet, AllocError>
+    ensures { IfOk result (λ set. set_of set ≡ LocalesOf (rising numbers.now)) }
+{
+    let chosen = rising(alloc, numbers)?;
+    let locales = locales_of(alloc, chosen.as_slice())?;
+    Ok(NumberSet::Locales(Rc::new(alloc, locales)?))
+}
+
+// ---- a coordinate of which nothing is said
+
+#[tactic(auto, unfolding(crate::specs::BoxJson::set_of_nothing))]
+fn set_of_nothing(alloc: Global, at: Coord) -> Result<NumberSet, BoxFault>
+    ensures value { GivesOr OutOfMemory set_of result (set_of_nothing at) }
+    ensures fits { IfOk result (λ set. IsSetAt at (set_of set)) }
+{
+    match at {
+        Coord::Density => Err(BoxFault::Density),
+        Coord::Locale => Ok(locales_set(alloc, &[0])?),
+        _ => Ok(numbers_set(alloc, &[0])?),
+    }
+}

@@ -1,0 +1,74 @@
+//! Tests of one coordinate.
+
+ghost use Rattle.std.specs.Prelude.{◌≡◌, ◌==◌};
+ghost use Rattle.std.specs.List.{list_any};
+
+use config_record::{Coord, Locale};
+
+/// A test of one coordinate. It is answered by each device.
+#[derive(Debug, Drop)]
+pub enum Test {
+    /// Is the number at most this?
+    AtMost(Coord, u32),
+    /// Is the value one of these? A list of another kind than the coordinate holds none of its values.
+    Among(Coord, Choice),
+}
+
+/// Values of a coordinate, as they are written: in any order, and perhaps more than once.
+#[derive(Debug, Drop)]
+pub enum Choice {
+    Numbers(Vec<u32>),
+    Locales(Vec<Locale>),
+}
+
+impl Test {
+    ghost use Rattle.config_box.specs.Tests.{coord_of, passes};
+
+    pub fn coord(&self) -> Coord
+        ensures { result ≡ coord_of self.now }
+    {
+        match self {
+            Test::AtMost(coord, _) => *coord,
+            Test::Among(coord, _) => *coord,
+        }
+    }
+
+    /// The answer of a number at the coordinate.
+    pub(crate) fn passes(&self, number: u32) -> bool
+        ensures { result ≡ passes self.now number }
+    {
+        match self {
+            Test::AtMost(_, most) => number <= *most,
+            Test::Among(coord, choice) => choice.has(*coord, number),
+        }
+    }
+}
+
+impl Choice {
+    ghost use Rattle.config_box.specs.Tests.{is_among};
+
+    #[tactic(auto, unfolding(crate::specs::Tests::is_among))]
+    fn has(&self, at: Coord, number: u32) -> bool
+        ensures { result ≡ is_among at self.now number }
+    {
+        match (at, self) {
+            (Coord::Locale, Choice::Numbers(_)) => false,
+            (Coord::Locale, Choice::Locales(locales)) => has_locale(locales.as_slice(), number),
+            (_, Choice::Numbers(numbers)) => numbers.as_slice().contains(&number),
+            (_, Choice::Locales(_)) => false,
+        }
+    }
+}
+
+ghost use Rattle.box_answers.specs.NumberSet.{locale_numbers};
+
+fn has_locale(locales: &[Locale], number: u32) -> bool
+    ensures { result ≡ list_any (λ m. m == number) (locale_numbers locales.now) }
+{
+    for locale in locales {
+        if locale.number() == number {
+            return true;
+        }
+    }
+    false
+}
