@@ -192,6 +192,7 @@ if command -v python3 >/dev/null; then
         printf "${byte#* }" | dd of=newer bs=1 seek="${byte% *}" conv=notrunc 2>/dev/null
         ends "newer features are found at ${byte% *}" 1 "python3 '$here/examples/newer_format.py' newer"
     done
+    ends "what is no table has no newer features" 2 "python3 '$here/examples/newer_format.py' '$here/examples/porcelain/map.json'"
 else
     echo "not run, since python3 is missing: a search for newer features"
 fi
