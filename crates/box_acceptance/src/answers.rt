@@ -5,20 +5,20 @@ use std::process::Abort;
 use std::test::Fail;
 use test_layers::{LayerFault, RECORD_SIZE, record_of};
 
-/// What is told of a box: the answer of all members, or the numbers of two members at a coordinate, of
+/// What a box answers: the answer of all members, or the numbers of two members at a coordinate, of
 /// which the first answers yes.
 #[derive(Clone, Copy, Debug, PartialEq, Eq)]
-enum Told {
+enum Shown {
     Always,
     Never,
     Mixed(Coord, u32, u32),
 }
 
-fn shown(sameness: Sameness) -> Told {
+fn shown(sameness: Sameness) -> Shown {
     match sameness {
-        Sameness::Always => Told::Always,
-        Sameness::Never => Told::Never,
-        Sameness::Mixed(yes, no, coord) => Told::Mixed(
+        Sameness::Always => Shown::Always,
+        Sameness::Never => Shown::Never,
+        Sameness::Mixed(yes, no, coord) => Shown::Mixed(
             coord,
             yes.compared_number(coord),
             no.compared_number(coord),
@@ -39,7 +39,7 @@ fn expect_match<R: Abort>(
     alloc: Global,
     text: &str,
     stored: &str,
-    want: Told,
+    want: Shown,
 ) -> Result<(), Fail> {
     let bytes = record_bytes(stored)?;
     let b = read(alloc, text)?;
@@ -56,7 +56,7 @@ fn expect_better<R: Abort>(
     alloc: Global,
     text: &str,
     (a, other): (&str, &str),
-    want: Told,
+    want: Shown,
 ) -> Result<(), Fail> {
     let first = record_bytes(a)?;
     let second = record_bytes(other)?;
@@ -71,46 +71,46 @@ fn matches_all_members(rt: HostRuntime) -> Result<(), Fail> {
     let alloc = rt.alloc();
     let versions = "{\"density\":[160],\"sdk\":{\"from\":19,\"to\":25}}";
     let cases = [
-        (versions, "sdk=21", Told::Mixed(Coord::Sdk, 21, 20)),
-        (versions, "sdk=19", Told::Always),
-        (versions, "sdk=26", Told::Never),
-        (versions, "", Told::Always),
-        (versions, "density=65535", Told::Always),
-        (versions, "mcc=310,sdk=21", Told::Never),
+        (versions, "sdk=21", Shown::Mixed(Coord::Sdk, 21, 20)),
+        (versions, "sdk=19", Shown::Always),
+        (versions, "sdk=26", Shown::Never),
+        (versions, "", Shown::Always),
+        (versions, "density=65535", Shown::Always),
+        (versions, "mcc=310,sdk=21", Shown::Never),
         (
             "{\"density\":[160],\"mcc\":{\"from\":309,\"to\":310}}",
             "mcc=310",
-            Told::Mixed(Coord::Mcc, 310, 309),
+            Shown::Mixed(Coord::Mcc, 310, 309),
         ),
         (
             "{\"density\":[160],\"keysHidden\":{\"from\":2,\"to\":3}}",
             "keysHidden=1",
-            Told::Mixed(Coord::KeysHidden, 3, 2),
+            Shown::Mixed(Coord::KeysHidden, 3, 2),
         ),
         (
             "{\"density\":[160],\"keysHidden\":[1,3]}",
             "keysHidden=1",
-            Told::Always,
+            Shown::Always,
         ),
         (
             "{\"density\":[160],\"locale\":[\"fr\",\"fr-CA\"]}",
             "locale=fr",
-            Told::Always,
+            Shown::Always,
         ),
         (
             "{\"density\":[160],\"locale\":[\"fr\",\"fr-CA\"]}",
             "locale=fr-CA",
-            Told::Mixed(Coord::Locale, 0x6672_4341, 0x6672_0000),
+            Shown::Mixed(Coord::Locale, 0x6672_4341, 0x6672_0000),
         ),
         (
             "{\"density\":[160],\"locale\":[\"de\",\"fr\"]}",
             "locale=it",
-            Told::Never,
+            Shown::Never,
         ),
         (
             "{\"density\":[160],\"locale\":[\"sr\"]}",
             "locale=sr,script=4c61746e",
-            Told::Never,
+            Shown::Never,
         ),
     ];
     for (text, stored, want) in cases {
@@ -127,44 +127,44 @@ fn knows_where_densities_turn(rt: HostRuntime) -> Result<(), Fail> {
         (
             "{\"density\":{\"from\":120,\"to\":197}}",
             ("density=320", "density=160"),
-            Told::Never,
+            Shown::Never,
         ),
         (
             "{\"density\":{\"from\":120,\"to\":198}}",
             ("density=320", "density=160"),
-            Told::Mixed(Coord::Density, 198, 197),
+            Shown::Mixed(Coord::Density, 198, 197),
         ),
         (
             "{\"density\":{\"from\":198,\"to\":32767}}",
             ("density=320", "density=160"),
-            Told::Always,
+            Shown::Always,
         ),
         (
             "{\"density\":{\"from\":120,\"to\":198}}",
             ("density=160", "density=320"),
-            Told::Mixed(Coord::Density, 197, 198),
+            Shown::Mixed(Coord::Density, 197, 198),
         ),
         // none is a number like others
         (
             "{\"density\":{\"from\":120,\"to\":633}}",
             ("density=320", "density=65535"),
-            Told::Always,
+            Shown::Always,
         ),
         (
             "{\"density\":{\"from\":120,\"to\":634}}",
             ("density=320", "density=65535"),
-            Told::Mixed(Coord::Density, 633, 634),
+            Shown::Mixed(Coord::Density, 633, 634),
         ),
         // any is better
         (
             "{\"density\":{\"from\":1,\"to\":32767}}",
             ("density=65534", "density=65535"),
-            Told::Always,
+            Shown::Always,
         ),
         (
             "{\"density\":{\"from\":1,\"to\":32767}}",
             ("density=65535", "density=65534"),
-            Told::Never,
+            Shown::Never,
         ),
     ];
     for (text, records, want) in cases {
@@ -173,8 +173,8 @@ fn knows_where_densities_turn(rt: HostRuntime) -> Result<(), Fail> {
     let high = "{\"density\":{\"from\":160,\"to\":32767}}";
     let low = "{\"density\":{\"from\":1,\"to\":159}}";
     for records in [("", "density=160"), ("density=160", "")] {
-        expect_better(&rt, alloc, high, records, Told::Always)?;
-        expect_better(&rt, alloc, low, records, Told::Never)?;
+        expect_better(&rt, alloc, high, records, Shown::Always)?;
+        expect_better(&rt, alloc, low, records, Shown::Never)?;
     }
     Ok(())
 }
@@ -186,50 +186,50 @@ fn compares_for_all_members(rt: HostRuntime) -> Result<(), Fail> {
         (
             "{\"density\":[160],\"screenSize\":{\"from\":1,\"to\":2}}",
             ("", "screenSize=1"),
-            Told::Mixed(Coord::ScreenSize, 2, 1),
+            Shown::Mixed(Coord::ScreenSize, 2, 1),
         ),
         (
             "{\"density\":[160],\"screenSize\":{\"from\":2,\"to\":4}}",
             ("", "screenSize=1"),
-            Told::Always,
+            Shown::Always,
         ),
         // the sums are 400 and 600, then 600 and 600
         (
             "{\"density\":[160],\"widthDp\":[600],\"heightDp\":[400]}",
             ("widthDp=600", "heightDp=400"),
-            Told::Always,
+            Shown::Always,
         ),
         (
             "{\"density\":[160],\"widthDp\":{\"from\":1,\"to\":65535},\"heightDp\":{\"from\":0,\"to\":1}}",
             ("widthDp=5,heightDp=3", "widthDp=4"),
-            Told::Always,
+            Shown::Always,
         ),
         (
             "{\"density\":[160],\"widthDp\":[600],\"heightDp\":{\"from\":0,\"to\":900}}",
             ("widthDp=4,heightDp=9", "widthDp=5"),
-            Told::Mixed(Coord::HeightDp, 1, 0),
+            Shown::Mixed(Coord::HeightDp, 1, 0),
         ),
         (
             "{\"density\":[160],\"widthDp\":{\"from\":0,\"to\":900},\"heightDp\":[600]}",
             ("widthDp=9,heightDp=4", "heightDp=5"),
-            Told::Mixed(Coord::WidthDp, 1, 0),
+            Shown::Mixed(Coord::WidthDp, 1, 0),
         ),
         (
             "{\"density\":[160],\"keysHidden\":{\"from\":0,\"to\":3}}",
             ("keysHidden=2", "keysHidden=1"),
-            Told::Mixed(Coord::KeysHidden, 2, 1),
+            Shown::Mixed(Coord::KeysHidden, 2, 1),
         ),
         (
             "{\"density\":[160],\"locale\":[\"de\",\"fr\"]}",
             ("locale=fr", ""),
-            Told::Always,
+            Shown::Always,
         ),
         (
             "{\"density\":[160],\"mcc\":[0,310]}",
             ("mcc=310", ""),
-            Told::Mixed(Coord::Mcc, 310, 0),
+            Shown::Mixed(Coord::Mcc, 310, 0),
         ),
-        ("{\"density\":[160]}", ("sdk=21", "sdk=21"), Told::Never),
+        ("{\"density\":[160]}", ("sdk=21", "sdk=21"), Shown::Never),
     ];
     for (text, records, want) in cases {
         expect_better(&rt, alloc, text, records, want)?;

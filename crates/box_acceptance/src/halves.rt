@@ -90,7 +90,7 @@ fn splits_choices(rt: HostRuntime) -> Result<(), Fail> {
 }
 
 #[test]
-fn tells_why_it_does_not_split(rt: HostRuntime) -> Result<(), Fail> {
+fn says_why_it_does_not_split(rt: HostRuntime) -> Result<(), Fail> {
     let b = ConfigBox::read(rt.alloc(), TEXT.as_bytes())?;
     let alloc = rt.alloc();
     let wrong = [

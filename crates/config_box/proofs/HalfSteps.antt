@@ -154,6 +154,7 @@ pub half-members : (sets : List SetOf) (test : Test) (answer : Bool) (half : Set
 half-members sets test answer half b h =
     let c = coord_of test in
     record {
+      is_box = half-box sets test answer half b h;
       members = λ d. (
         λ member.
             let here : IsIn half (device_number d c) = subst (λ (s : SetOf). IsIn s (device_number d c)) (set_at-same sets c half b.count) (member c) in

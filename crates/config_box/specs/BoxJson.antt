@@ -81,7 +81,7 @@ set_of_texts texts =
     ∷ [])
     (Ok (sets.LocalesOf (rising (map number_of_text texts))))
 
--- ---- a coordinate of which nothing is said: 0, or no locale; the density has to be told
+-- ---- a coordinate of which nothing is said: 0, or no locale; the density has to be there
 
 unfoldable pub set_of_nothing : coord.Coord → Result sets.SetOf BoxFault
 set_of_nothing coords.Density = Err Density

@@ -2,15 +2,16 @@
 use Rattle.std.specs.Prelude.{◌≡◌, ◌↔◌, ◌⊎◌, ℕ, Bool, true, false, List}
 use Rattle.config_record.specs.declared.coord.Coord.{Coord}
 use Rattle.box_answers.specs.NumberSet.{SetOf}
-use Rattle.box_answers.specs.Members.{set_at, IsMember}
+use Rattle.box_answers.specs.Members.{set_at, IsMember, IsBox}
 use Rattle.config_box.specs.declared.split.Split.{Split}
 use Rattle.config_box.specs.declared.split.Split.TheVariants.{Halves, WrongKind, EmptyHalf}
 use Rattle.config_box.specs.declared.test.Test.{Test}
 use Rattle.config_box.specs.Marks.{AreMarkedAlike}
 use Rattle.config_box.specs.Tests.{test_answer, is_wrong_kind}
 
--- the members that give this answer, each coordinate marked as before
+-- a box, so never without members: those that give this answer, each coordinate marked as before
 pub record IsHalf (box : List SetOf) (test : Test) (answer : Bool) (half : List SetOf) : Type 0 where
+  pub is_box : IsBox half
   pub members : (d : List ℕ) → IsMember half d ↔ (IsMember box d × (test_answer test d ≡ answer))
   pub marks : (c : Coord) → AreMarkedAlike (set_at box c) (set_at half c)
 

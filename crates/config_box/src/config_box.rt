@@ -52,7 +52,8 @@ impl ConfigBox {
     /// The box of a JSON text: an object with a list or a range of numbers for each coordinate and a list of
     /// texts for the locale. What is missing is 0, or no locale; the density has to be there.
     pub fn read(alloc: Global, json: &[u8]) -> Result<ConfigBox, BoxFault>
-        ensures { GivesOr OutOfMemory (λ b. b) result (box_in json.now) }
+        ensures value { GivesOr OutOfMemory (λ b. b) result (box_in json.now) }
+        ensures sets { IfOk result IsBox }
     {
         match read_value(alloc, json) {
             Ok(value) => Ok(ConfigBox {

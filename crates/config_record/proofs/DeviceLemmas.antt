@@ -5,6 +5,7 @@ use Rattle.std.proofs.lemmas.Bool.{ltb-false, eqb-false}
 use Rattle.contract_words.specs.Faults.{◌>>=◌, checked_by}
 use Rattle.contract_words.specs.Sequences.{with_front}
 use Rattle.contract_words.proofs.FaultSteps.{checked_by-ok}
+use Rattle.json_input.specs.Each.{each}
 use Rattle.config_record.specs.declared.coord.Coord.{Coord}
 use Rattle.config_record.specs.declared.coord.Coord.TheVariants as coords
 use Rattle.config_record.specs.declared.locale.Locale.{Locale}
@@ -16,7 +17,6 @@ use Rattle.config_record.specs.Coord.{all_coords, place_of, number_at, greatest_
 use Rattle.config_record.specs.declared.device.Device.{Device}
 use Rattle.config_record.specs.ComparedNumber.{locale_number, locale_of_number, device_number}
 use Rattle.config_record.specs.DeviceSeen.{device_numbers, seen}
-use Rattle.config_record.specs.EachNumber.{each_number}
 use Rattle.config_record.specs.Device.{density_in, field_in, locale_number_in, number_in, device_with, device_locale}
 use Rattle.config_record.proofs.LocaleLemmas.{locale_of-gives}
 use Rattle.config_record.specs.Locale.{locale_of, locale_faults, checked_locale, IsOfSomeText, IsGiven, locale_text}
@@ -36,16 +36,16 @@ parts-of (Ok n) (Ok ns) numbers e = record { first = n; behind = ns; gives_first
 parts-of (Ok n) (Err fault) numbers e = absurd cc
 parts-of (Err fault) others numbers e = absurd cc
 
-each_number-at : (f : Coord → Result ℕ DeviceFault) (cs : List Coord) (numbers : List ℕ) (i : ℕ) (d : Coord) → each_number f cs ≡ Ok numbers → i < length cs
+each-at : (f : Coord → Result ℕ DeviceFault) (cs : List Coord) (numbers : List ℕ) (i : ℕ) (d : Coord) → each f cs ≡ Ok numbers → i < length cs
     → f (get_or cs i d) ≡ Ok (get_or numbers i 0)
-unfolding each_number
-each_number-at f [] numbers i d e on = absurd (omega arith)
-each_number-at f (c ∷ cs) numbers zero d e on =
-    let p = parts-of (f c) (each_number f cs) numbers e in
+unfolding each
+each-at f [] numbers i d e on = absurd (omega arith)
+each-at f (c ∷ cs) numbers zero d e on =
+    let p = parts-of (f c) (each f cs) numbers e in
     rw p.same p.gives_first
-each_number-at f (c ∷ cs) numbers (suc i) d e on =
-    let p = parts-of (f c) (each_number f cs) numbers e in
-    rw p.same (each_number-at f cs p.behind i d p.gives_others (omega arith))
+each-at f (c ∷ cs) numbers (suc i) d e on =
+    let p = parts-of (f c) (each f cs) numbers e in
+    rw p.same (each-at f cs p.behind i d p.gives_others (omega arith))
 
 pub coordinate-at_place : (c : Coord) → get_or all_coords (place_of c) coords.Mcc ≡ c
 unfolding all_coords place_of
@@ -57,9 +57,9 @@ unfolding all_coords place_of
 place_of-within coords.Mcc = omega arith
 place_of-within c = omega arith
 
-pub number_at-given : (f : Coord → Result ℕ DeviceFault) (numbers : List ℕ) (c : Coord) → each_number f all_coords ≡ Ok numbers → f c ≡ Ok (number_at numbers c)
+pub number_at-given : (f : Coord → Result ℕ DeviceFault) (numbers : List ℕ) (c : Coord) → each f all_coords ≡ Ok numbers → f c ≡ Ok (number_at numbers c)
 number_at-given f numbers c e =
-    ap f (sym (coordinate-at_place c)) ∙ each_number-at f all_coords numbers (place_of c) coords.Mcc e (place_of-within c)
+    ap f (sym (coordinate-at_place c)) ∙ each-at f all_coords numbers (place_of c) coords.Mcc e (place_of-within c)
 
 -- ---- and is in its range
 
@@ -97,11 +97,11 @@ number_in-within asked l coords.Locale n e other = absurd (other refl)
 number_in-within asked l coords.Density n e other = (density_in-within (number_at asked coords.Density) n e).1
 number_in-within asked l c n e other = field_in-within c (number_at asked c) n e
 
-pub device-within : (asked numbers : List ℕ) (l : Result ℕ DeviceFault) → Ok numbers ≡ each_number (number_in asked l) all_coords
+pub device-within : (asked numbers : List ℕ) (l : Result ℕ DeviceFault) → Ok numbers ≡ each (number_in asked l) all_coords
     → (c : Coord) → c ≢ coords.Locale → number_at numbers c ≤ greatest_of_device c
 device-within asked numbers l e c other = number_in-within asked l c (number_at numbers c) (number_at-given (number_in asked l) numbers c (sym e)) other
 
-pub device-with_density : (asked numbers : List ℕ) (l : Result ℕ DeviceFault) → Ok numbers ≡ each_number (number_in asked l) all_coords → 1 ≤ number_at numbers coords.Density
+pub device-with_density : (asked numbers : List ℕ) (l : Result ℕ DeviceFault) → Ok numbers ≡ each (number_in asked l) all_coords → 1 ≤ number_at numbers coords.Density
 unfolding number_in
 device-with_density asked numbers l e = (density_in-within (number_at asked coords.Density) (number_at numbers coords.Density) (number_at-given (number_in asked l) numbers coords.Density (sym e))).0
 
@@ -111,7 +111,7 @@ locale_number-given : (locale : Result ℕ DeviceFault) (n : ℕ) → locale ≡
 locale_number-given (Ok m) n e given = let same : m ≡ n = same_number m n (Ok m) refl e in rw (← same) given
 locale_number-given (Err fault) n e given = absurd cc
 
-pub device-with_locale : (asked numbers : List ℕ) (locale : Result ℕ DeviceFault) → Ok numbers ≡ each_number (number_in asked locale) all_coords
+pub device-with_locale : (asked numbers : List ℕ) (locale : Result ℕ DeviceFault) → Ok numbers ≡ each (number_in asked locale) all_coords
     → IfOk locale (λ m. IsGiven (locale_of_number m)) → IsGiven (device_locale numbers)
 unfolding number_in
 device-with_locale asked numbers locale e given =
@@ -179,10 +179,10 @@ first_or_later (Ok n) (Ok ns) fault e = absurd cc
 first_or_later (Ok n) (Err other) fault e = let same : other ≡ fault = cc in inr (rw same refl)
 first_or_later (Err other) others fault e = let same : other ≡ fault = cc in inl (rw same refl)
 
-each_number-fault : (f : Coord → Result ℕ DeviceFault) (cs : List Coord) (fault : DeviceFault) → each_number f cs ≡ Err fault → (c : Coord) × (f c ≡ Err fault)
-unfolding each_number
-each_number-fault f [] fault e = absurd cc
-each_number-fault f (c ∷ cs) fault e = elim (first_or_later (f c) (each_number f cs) fault e) [ inl here ↦ (c, here) | inr later ↦ each_number-fault f cs fault later ]
+each-fault : (f : Coord → Result ℕ DeviceFault) (cs : List Coord) (fault : DeviceFault) → each f cs ≡ Err fault → (c : Coord) × (f c ≡ Err fault)
+unfolding each
+each-fault f [] fault e = absurd cc
+each-fault f (c ∷ cs) fault e = elim (first_or_later (f c) (each f cs) fault e) [ inl here ↦ (c, here) | inr later ↦ each-fault f cs fault later ]
 
 one_fault : (test : Bool) (n : ℕ) (f fault : DeviceFault) → checked_by ((test, f) ∷ []) (Ok n) ≡ Err fault → fault ≡ f
 one_fault true n f fault e = let same : f ≡ fault = cc in sym same
@@ -208,5 +208,5 @@ unfolding device_with
 device-not_refused asked own l (Ok d) e checked some = tt
 device-not_refused asked own l (Err fault) e checked some =
     let passes : l ≡ Ok own = checked ∙ (locale_of-gives some.0 own some.1).passes in
-    let f = each_number-fault (number_in asked (Ok (locale_number own))) all_coords fault (rw passes at (sym e)) in
+    let f = each-fault (number_in asked (Ok (locale_number own))) all_coords fault (rw passes at (sym e)) in
     number_in-elsewhere asked (locale_number own) f.0 fault f.1

@@ -1,7 +1,7 @@
 pub mod LocaleLemmas
 pub mod SeparatorSteps
 pub mod QualifierLemmas
-pub mod EachNumberSteps
+pub mod FillSteps
 pub mod DeviceLemmas
 pub mod LocaleGiven
 pub mod ChangedNumber

@@ -2,6 +2,7 @@
 -- one for each coordinate, in their order.
 use Rattle.std.specs.Prelude.{ℕ, ◌≤◌, ◌==◌, nat_lt, List, [], ◌∷◌, Result, Ok, Err}
 use Rattle.contract_words.specs.Faults.{checked_by}
+use Rattle.json_input.specs.Each.{each}
 use Rattle.config_record.specs.declared.coord.Coord as coord
 use Rattle.config_record.specs.declared.coord.Coord.TheVariants as coords
 use Rattle.config_record.specs.declared.locale.Locale.{Locale}
@@ -11,7 +12,6 @@ use Rattle.config_record.specs.declared.fields.Fields.{Fields}
 use Rattle.config_record.specs.declared.fields.DeviceFault.{DeviceFault}
 use Rattle.config_record.specs.declared.fields.DeviceFault.TheVariants.{FieldRange, RegionAlone, Density}
 use Rattle.config_record.specs.Coord.{all_coords, number_at, greatest_of_device}
-use Rattle.config_record.specs.EachNumber.{each_number}
 use Rattle.config_record.specs.Locale.{checked_locale, IsGiven}
 use Rattle.config_record.specs.ComparedNumber.{locale_number, locale_of_number, device_number}
 
@@ -37,7 +37,7 @@ number_in asked locale c = field_in c (number_at asked c)
 
 -- coordinate by coordinate: the numbers, or the first fault
 unfoldable pub device_with : List ℕ → Result Locale LocaleFault → Result (List ℕ) DeviceFault
-device_with asked l = each_number (number_in asked (locale_number_in l)) all_coords
+device_with asked l = each (number_in asked (locale_number_in l)) all_coords
 
 -- a device from fields, whose number at the locale is not used
 abbrev pub device_in : Fields → Result (List ℕ) DeviceFault

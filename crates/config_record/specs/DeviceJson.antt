@@ -5,6 +5,7 @@ use Rattle.serde_json.specs.Data.{Data}
 use Rattle.serde_json.specs.Find.{get}
 use Rattle.json_input.specs.Json.{value_of}
 use Rattle.json_input.specs.Shape.{has_only, number_of, text_of}
+use Rattle.json_input.specs.Each.{each}
 use Rattle.config_record.specs.declared.coord.Coord as coord
 use Rattle.config_record.specs.declared.coord.Coord.TheVariants as coords
 use Rattle.config_record.specs.declared.fields.DeviceFault.{DeviceFault}
@@ -12,7 +13,6 @@ use Rattle.config_record.specs.declared.fields.DeviceFault.TheVariants.{Syntax, 
 use Rattle.config_record.specs.Coord.{all_coords, name_of}
 use Rattle.config_record.specs.Locale.{locale_of}
 use Rattle.config_record.specs.Device.{device_with}
-use Rattle.config_record.specs.EachNumber.{each_number}
 
 -- ---- what is asked for at a coordinate: a member of its name, or 0 or no text where there is none
 
@@ -30,7 +30,7 @@ number_asked value coords.Locale = Ok 0
 number_asked value c = ok_or (number_or_0 (get (name_of c) value)) Shape
 
 unfoldable pub numbers_asked : Data → Result (List ℕ) DeviceFault
-numbers_asked value = each_number (number_asked value) all_coords
+numbers_asked value = each (number_asked value) all_coords
 
 unfoldable pub locale_asked : Data → Result (List ℕ) DeviceFault
 locale_asked value = ok_or (text_or_empty (get (name_of coords.Locale) value)) Shape

@@ -16,3 +16,8 @@ seen (Err fault) = Err fault
 abbrev pub text_seen : Result (Bor (List ℕ)) DeviceFault → Result (List ℕ) DeviceFault
 text_seen (Ok text) = Ok text.now
 text_seen (Err fault) = Err fault
+
+-- what a call wrote, where it had no fault
+abbrev pub filled : Result (Unit {0}) DeviceFault → List ℕ → Result (List ℕ) DeviceFault
+filled (Ok done) numbers = Ok numbers
+filled (Err fault) numbers = Err fault

@@ -3,7 +3,6 @@ pub mod Coord
 pub mod Locale
 pub mod Record
 pub mod ComparedNumber
-pub mod EachNumber
 pub mod Device
 pub mod DeviceJson
 pub mod DeviceSeen

@@ -1,7 +1,8 @@
 //! What a device is asked to be, and the check of it, coordinate by coordinate.
 
 ghost use Rattle.std.specs.Prelude.{◌≡◌, length, IfOk};
-ghost use Rattle.config_record.specs.EachNumber.{each_number, filled};
+ghost use Rattle.json_input.specs.Each.{each};
+ghost use Rattle.config_record.specs.DeviceSeen.{filled};
 ghost use Rattle.config_record.specs.Device.{density_in, locale_number_in, field_in, number_in};
 ghost use Rattle.config_record.specs.ComparedNumber.{locale_of_number};
 ghost use Rattle.config_record.specs.Locale.{IsGiven};
@@ -44,7 +45,7 @@ pub enum DeviceFault {
 
 /// The numbers of a device at these coordinates, or the first fault; `locale` is the number at the locale, or
 /// its fault.
-#[tactic(auto, using(crate::proofs::EachNumberSteps::fill_steps))]
+#[tactic(auto, using(crate::proofs::FillSteps::fill_steps))]
 pub(crate) fn fill_numbers(
     asked: &[u64; 25],
     locale: Result<u32, DeviceFault>,
@@ -52,7 +53,7 @@ pub(crate) fn fill_numbers(
     numbers: &mut [u32],
 ) -> Result<(), DeviceFault>
     requires { length numbers.old ≡ length coords.now }
-    ensures { filled result numbers.new ≡ each_number (number_in asked.now locale) coords.now }
+    ensures { filled result numbers.new ≡ each (number_in asked.now locale) coords.now }
 {
     for (place, coord) in coords.iter().enumerate() {
         numbers[place] = number_in(asked, locale, *coord)?;

@@ -2,9 +2,9 @@
 
 ghost use Rattle.std.specs.Prelude.{◌≡◌, length};
 ghost use Rattle.serde_json.specs.View.{view};
-ghost use Rattle.config_record.specs.EachNumber.{each_number, filled};
+ghost use Rattle.json_input.specs.Each.{each};
 ghost use Rattle.config_record.specs.DeviceJson.{number_asked, numbers_asked, locale_asked, device_in_value};
-ghost use Rattle.config_record.specs.DeviceSeen.{seen, text_seen};
+ghost use Rattle.config_record.specs.DeviceSeen.{filled, seen, text_seen};
 
 use crate::coord::Coord;
 use crate::device::Device;
@@ -34,10 +34,10 @@ fn numbers_asked(value: &Value) -> Result<[u64; 25], DeviceFault>
     Ok(numbers)
 }
 
-#[tactic(auto, using(crate::proofs::EachNumberSteps::fill_steps))]
+#[tactic(auto, using(crate::proofs::FillSteps::fill_steps))]
 fn fill_asked(value: &Value, coords: &[Coord], numbers: &mut [u64]) -> Result<(), DeviceFault>
     requires { length numbers.old ≡ length coords.now }
-    ensures { filled result numbers.new ≡ each_number (number_asked (view value.now)) coords.now }
+    ensures { filled result numbers.new ≡ each (number_asked (view value.now)) coords.now }
 {
     for (place, coord) in coords.iter().enumerate() {
         numbers[place] = number_asked(value, *coord)?;

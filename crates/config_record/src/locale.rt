@@ -22,9 +22,8 @@ pub enum LocaleFault {
 }
 
 /// A language and a region, each as the two bytes that a record has (AOSP: `language` and `country`
-/// of `ResTable_config`). Where both bytes are zero there is none. Locales are ordered by these four
-/// bytes, as their numbers are.
-#[derive(Clone, Copy, Debug, PartialEq, Eq, PartialOrd, Ord)]
+/// of `ResTable_config`). Where both bytes are zero there is none.
+#[derive(Clone, Copy, Debug, PartialEq, Eq)]
 pub struct Locale {
     pub language: [u8; 2],
     pub region: [u8; 2],

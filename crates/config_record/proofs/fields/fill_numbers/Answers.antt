@@ -1,5 +1,5 @@
 use Rattle.std.proofs.lemmas.Result.{err_from_is_err_and}
-use Rattle.config_record.proofs.EachNumberSteps.{FillsAllBut-stops}
+use Rattle.config_record.proofs.FillSteps.{FillsAllBut-stops}
 use Rattle.config_record.proofs.fields.fill_numbers.Goals as goal
 
 pub returns-in_err-numbers : goal.returns-in_err-numbers
