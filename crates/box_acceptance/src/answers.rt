@@ -8,17 +8,17 @@ use test_layers::{LayerFault, RECORD_SIZE, record_of};
 /// What a box answers: the answer of all members, or the numbers of two members at a coordinate, of
 /// which the first answers yes.
 #[derive(Clone, Copy, Debug, PartialEq, Eq)]
-enum Shown {
+enum Seen {
     Always,
     Never,
     Mixed(Coord, u32, u32),
 }
 
-fn shown(sameness: Sameness) -> Shown {
+fn shown(sameness: Sameness) -> Seen {
     match sameness {
-        Sameness::Always => Shown::Always,
-        Sameness::Never => Shown::Never,
-        Sameness::Mixed(yes, no, coord) => Shown::Mixed(
+        Sameness::Always => Seen::Always,
+        Sameness::Never => Seen::Never,
+        Sameness::Mixed(yes, no, coord) => Seen::Mixed(
             coord,
             yes.compared_number(coord),
             no.compared_number(coord),
@@ -39,7 +39,7 @@ fn expect_match<R: Abort>(
     alloc: Global,
     text: &str,
     stored: &str,
-    want: Shown,
+    want: Seen,
 ) -> Result<(), Fail> {
     let bytes = record_bytes(stored)?;
     let b = read(alloc, text)?;
@@ -56,7 +56,7 @@ fn expect_better<R: Abort>(
     alloc: Global,
     text: &str,
     (a, other): (&str, &str),
-    want: Shown,
+    want: Seen,
 ) -> Result<(), Fail> {
     let first = record_bytes(a)?;
     let second = record_bytes(other)?;
@@ -71,46 +71,46 @@ fn matches_all_members(rt: HostRuntime) -> Result<(), Fail> {
     let alloc = rt.alloc();
     let versions = "{\"density\":[160],\"sdk\":{\"from\":19,\"to\":25}}";
     let cases = [
-        (versions, "sdk=21", Shown::Mixed(Coord::Sdk, 21, 20)),
-        (versions, "sdk=19", Shown::Always),
-        (versions, "sdk=26", Shown::Never),
-        (versions, "", Shown::Always),
-        (versions, "density=65535", Shown::Always),
-        (versions, "mcc=310,sdk=21", Shown::Never),
+        (versions, "sdk=21", Seen::Mixed(Coord::Sdk, 21, 20)),
+        (versions, "sdk=19", Seen::Always),
+        (versions, "sdk=26", Seen::Never),
+        (versions, "", Seen::Always),
+        (versions, "density=65535", Seen::Always),
+        (versions, "mcc=310,sdk=21", Seen::Never),
         (
             "{\"density\":[160],\"mcc\":{\"from\":309,\"to\":310}}",
             "mcc=310",
-            Shown::Mixed(Coord::Mcc, 310, 309),
+            Seen::Mixed(Coord::Mcc, 310, 309),
         ),
         (
             "{\"density\":[160],\"keysHidden\":{\"from\":2,\"to\":3}}",
             "keysHidden=1",
-            Shown::Mixed(Coord::KeysHidden, 3, 2),
+            Seen::Mixed(Coord::KeysHidden, 3, 2),
         ),
         (
             "{\"density\":[160],\"keysHidden\":[1,3]}",
             "keysHidden=1",
-            Shown::Always,
+            Seen::Always,
         ),
         (
             "{\"density\":[160],\"locale\":[\"fr\",\"fr-CA\"]}",
             "locale=fr",
-            Shown::Always,
+            Seen::Always,
         ),
         (
             "{\"density\":[160],\"locale\":[\"fr\",\"fr-CA\"]}",
             "locale=fr-CA",
-            Shown::Mixed(Coord::Locale, 0x6672_4341, 0x6672_0000),
+            Seen::Mixed(Coord::Locale, 0x6672_4341, 0x6672_0000),
         ),
         (
             "{\"density\":[160],\"locale\":[\"de\",\"fr\"]}",
             "locale=it",
-            Shown::Never,
+            Seen::Never,
         ),
         (
             "{\"density\":[160],\"locale\":[\"sr\"]}",
             "locale=sr,script=4c61746e",
-            Shown::Never,
+            Seen::Never,
         ),
     ];
     for (text, stored, want) in cases {
@@ -127,44 +127,44 @@ fn knows_where_densities_turn(rt: HostRuntime) -> Result<(), Fail> {
         (
             "{\"density\":{\"from\":120,\"to\":197}}",
             ("density=320", "density=160"),
-            Shown::Never,
+            Seen::Never,
         ),
         (
             "{\"density\":{\"from\":120,\"to\":198}}",
             ("density=320", "density=160"),
-            Shown::Mixed(Coord::Density, 198, 197),
+            Seen::Mixed(Coord::Density, 198, 197),
         ),
         (
             "{\"density\":{\"from\":198,\"to\":32767}}",
             ("density=320", "density=160"),
-            Shown::Always,
+            Seen::Always,
         ),
         (
             "{\"density\":{\"from\":120,\"to\":198}}",
             ("density=160", "density=320"),
-            Shown::Mixed(Coord::Density, 197, 198),
+            Seen::Mixed(Coord::Density, 197, 198),
         ),
         // none is a number like others
         (
             "{\"density\":{\"from\":120,\"to\":633}}",
             ("density=320", "density=65535"),
-            Shown::Always,
+            Seen::Always,
         ),
         (
             "{\"density\":{\"from\":120,\"to\":634}}",
             ("density=320", "density=65535"),
-            Shown::Mixed(Coord::Density, 633, 634),
+            Seen::Mixed(Coord::Density, 633, 634),
         ),
         // any is better
         (
             "{\"density\":{\"from\":1,\"to\":32767}}",
             ("density=65534", "density=65535"),
-            Shown::Always,
+            Seen::Always,
         ),
         (
             "{\"density\":{\"from\":1,\"to\":32767}}",
             ("density=65535", "density=65534"),
-            Shown::Never,
+            Seen::Never,
         ),
     ];
     for (text, records, want) in cases {
@@ -173,8 +173,8 @@ fn knows_where_densities_turn(rt: HostRuntime) -> Result<(), Fail> {
     let high = "{\"density\":{\"from\":160,\"to\":32767}}";
     let low = "{\"density\":{\"from\":1,\"to\":159}}";
     for records in [("", "density=160"), ("density=160", "")] {
-        expect_better(&rt, alloc, high, records, Shown::Always)?;
-        expect_better(&rt, alloc, low, records, Shown::Never)?;
+        expect_better(&rt, alloc, high, records, Seen::Always)?;
+        expect_better(&rt, alloc, low, records, Seen::Never)?;
     }
     Ok(())
 }
@@ -186,50 +186,50 @@ fn compares_for_all_members(rt: HostRuntime) -> Result<(), Fail> {
         (
             "{\"density\":[160],\"screenSize\":{\"from\":1,\"to\":2}}",
             ("", "screenSize=1"),
-            Shown::Mixed(Coord::ScreenSize, 2, 1),
+            Seen::Mixed(Coord::ScreenSize, 2, 1),
         ),
         (
             "{\"density\":[160],\"screenSize\":{\"from\":2,\"to\":4}}",
             ("", "screenSize=1"),
-            Shown::Always,
+            Seen::Always,
         ),
         // the sums are 400 and 600, then 600 and 600
         (
             "{\"density\":[160],\"widthDp\":[600],\"heightDp\":[400]}",
             ("widthDp=600", "heightDp=400"),
-            Shown::Always,
+            Seen::Always,
         ),
         (
             "{\"density\":[160],\"widthDp\":{\"from\":1,\"to\":65535},\"heightDp\":{\"from\":0,\"to\":1}}",
             ("widthDp=5,heightDp=3", "widthDp=4"),
-            Shown::Always,
+            Seen::Always,
         ),
         (
             "{\"density\":[160],\"widthDp\":[600],\"heightDp\":{\"from\":0,\"to\":900}}",
             ("widthDp=4,heightDp=9", "widthDp=5"),
-            Shown::Mixed(Coord::HeightDp, 1, 0),
+            Seen::Mixed(Coord::HeightDp, 1, 0),
         ),
         (
             "{\"density\":[160],\"widthDp\":{\"from\":0,\"to\":900},\"heightDp\":[600]}",
             ("widthDp=9,heightDp=4", "heightDp=5"),
-            Shown::Mixed(Coord::WidthDp, 1, 0),
+            Seen::Mixed(Coord::WidthDp, 1, 0),
         ),
         (
             "{\"density\":[160],\"keysHidden\":{\"from\":0,\"to\":3}}",
             ("keysHidden=2", "keysHidden=1"),
-            Shown::Mixed(Coord::KeysHidden, 2, 1),
+            Seen::Mixed(Coord::KeysHidden, 2, 1),
         ),
         (
             "{\"density\":[160],\"locale\":[\"de\",\"fr\"]}",
             ("locale=fr", ""),
-            Shown::Always,
+            Seen::Always,
         ),
         (
             "{\"density\":[160],\"mcc\":[0,310]}",
             ("mcc=310", ""),
-            Shown::Mixed(Coord::Mcc, 310, 0),
+            Seen::Mixed(Coord::Mcc, 310, 0),
         ),
-        ("{\"density\":[160]}", ("sdk=21", "sdk=21"), Shown::Never),
+        ("{\"density\":[160]}", ("sdk=21", "sdk=21"), Seen::Never),
     ];
     for (text, records, want) in cases {
         expect_better(&rt, alloc, text, records, want)?;
