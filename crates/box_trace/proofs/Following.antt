@@ -22,9 +22,6 @@ pub record IsFollowed (members : List ℕ → Type 0) (stack : List LayerOf) (mo
   pub steps : (d : List ℕ) → members d → scan_chain step_of stack most first d ≡ before ++ scan_chain step_of stack left id d
   pub ends : (d : List ℕ) → members d → end_of stack most first d ≡ end_of stack left id d
 
-pub follow_start : (members : List ℕ → Type 0) (stack : List LayerOf) (most first : ℕ) → IsFollowed members stack most first most first
-follow_start members stack most first = record { before = []; steps = λ d m. refl; ends = λ d m. refl }
-
 -- all members take these steps at the look-up of an id, and select this
 pub record IsSelectedBy (members : List ℕ → Type 0) (stack : List LayerOf) (id : ℕ) (taken : List Step) (picked : Option CandOf) : Type 0 where
   pub steps : (d : List ℕ) → members d → scan_look_up step_of stack d id ≡ taken

@@ -56,6 +56,7 @@ fn is_best_beaten(best: &Option<Cand<'_>>, candidate: &Cand<'_>, members: &Confi
 }
 
 // One of an overlay with an equal record beats the best at each device, whatever is better there.
+#[tactic(auto, unfolding(reference_resolver::specs::Selection::beats))]
 fn beats(candidate: &Cand<'_>, best: &Cand<'_>, members: &ConfigBox) -> Sameness
     ensures { IsExact result members.now (beats (cand_of candidate.now) (cand_of best.now)) }
 {
