@@ -120,14 +120,15 @@ def fault_of_nodes(box, nodes, trace_of):
         if not waiting:
             return Fault(place, 3)
         members = waiting.pop()
-        if "coord" in node:
+        is_test = "coord" in node
+        if is_test:
             rule = fault_of_test(box, node, members)
-            for wanted in (False, True):
-                waiting.append([device for device in members if answer(node, device) == wanted])
         else:
             rule = fault_of_leaf(node, [trace_of(device) for device in members])
         if rule is not None:
             return Fault(place, rule, members)
+        for wanted in (False, True) if is_test else ():
+            waiting.append([device for device in members if answer(node, device) == wanted])
     return Fault(len(nodes), 2) if waiting else None
 
 
