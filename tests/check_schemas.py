@@ -68,7 +68,11 @@ def refers_to(root, path):
     return root
 
 
-# `$` stands for the end of a text there, and not for a line feed at its end too.
+def has_pattern(value, pattern):
+    """`$` is the end of a text there, and here a line feed may follow it."""
+    return not isinstance(value, str) or bool(re.search(pattern.replace("$", r"\Z"), value))
+
+
 RULES = {
     "$ref": lambda root, said, schema, value: is_valid(root, refers_to(root, said), value),
     "type": lambda root, said, schema, value: TYPES[said](value),
@@ -79,7 +83,7 @@ RULES = {
     "maximum": lambda root, said, schema, value: not is_number(value) or value <= said,
     "minItems": lambda root, said, schema, value: not isinstance(value, list) or len(value) >= said,
     "maxItems": lambda root, said, schema, value: not isinstance(value, list) or len(value) <= said,
-    "pattern": lambda root, said, schema, value: not isinstance(value, str) or bool(re.search(said.replace("$", r"\Z"), value)),
+    "pattern": lambda root, said, schema, value: has_pattern(value, said),
     "required": lambda root, said, schema, value: not isinstance(value, dict) or all(name in value for name in said),
     "properties": lambda root, said, schema, value: members_are_valid(root, said, value),
     "additionalProperties": lambda root, said, schema, value: said or has_no_others(schema, value),
@@ -343,8 +347,9 @@ def fault_told(program, name, text):
     for path, content in files.items():
         with open(path, "w") as out:
             out.write(content)
-    command = ["check", "layers", "box", "certificate"] if name in ("box", "certificate") else ["query", "layers", "device"]
-    done = subprocess.run([program, *command, "0x7f010000"], capture_output=True, text=True)
+    inputs = ["box", "certificate"] if name in ("box", "certificate") else ["device"]
+    command = "query" if inputs == ["device"] else "check"
+    done = subprocess.run([program, command, "layers", *inputs, "0x7f010000"], capture_output=True, text=True)
     start = f"refused: {PARTS.get(name, name)}: "
     if done.returncode == 3 and done.stderr.startswith(start):
         return done.stderr[len(start) : -1]

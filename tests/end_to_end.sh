@@ -210,9 +210,10 @@ line box-id.err 'command: bad id 0x7f01'
 check "a bad id comes before the files" 2 $none box-id.err check absent box certificate 0x7f010000 0x7f01
 if command -v python3 >/dev/null; then
     ends "JSON Schemas" 0 "python3 '$here/tests/check_schemas.py' \"\$0\""
+    ends "worked certificates" 0 "python3 '$here/tests/worked_certificates.py' \"\$0\""
     ends "random certificates" 0 "python3 '$here/tests/check_certificates.py' \"\$0\" 400 4"
 else
-    echo "not run, since python3 is missing: JSON Schemas, random certificates"
+    echo "not run, since python3 is missing: JSON Schemas, worked and random certificates"
 fi
 
 # ---- README and the guide: what they show behind a command is what it prints

@@ -38,6 +38,9 @@ NUMBERS = {
 """What rows say of each coordinate."""
 
 
+OTHER_CELLS = ((1, 0), (2, 0x01010001), (3, 0), (0, 0), (0, 1), (0x12, 0xFFFFFFFF), (0x1C, 0xFF102030))
+
+
 class Case:
     """Layers, a box, the ids that are asked, and a certificate: a list of ids with their nodes."""
 
@@ -74,7 +77,7 @@ class Case:
         if draw < 0.3:
             return "bag"
         if draw < 0.4:
-            return self.chance.choice(((1, 0), (2, 0x01010001), (3, 0), (0, 0), (0, 1), (0x12, 0xFFFFFFFF), (0x1C, 0xFF102030)))
+            return self.chance.choice(OTHER_CELLS)
         return 0x10, self.chance.choice((1, 1, 2, 0xFFFFFFFF))
 
     def rows(self):
@@ -215,12 +218,17 @@ class Case:
             test["atMost"] = max(0, test["atMost"] + self.chance.choice((-1, 1, 200)))
         elif "in" in test and draw < 0.8:
             test["in"] = test["in"][1:] + self.random_choice(test["coord"], 2)
-        elif test["coord"] != "locale":
-            at_most = test.get("atMost", test["in"][0] if test.get("in") else 0)
-            test = {"coord": test["coord"], "in": [at_most]} if "atMost" in test else {"coord": test["coord"], "atMost": at_most}
         else:
-            test = {"coord": "locale", "atMost": 0}
+            test = self.other_kind(test)
         nodes[place] = test
+
+    @staticmethod
+    def other_kind(test):
+        """`in` in place of `atMost`, and the other way round."""
+        name = test["coord"]
+        if "atMost" in test:
+            return {"coord": name, "in": [""] if name == "locale" else [test["atMost"]]}
+        return {"coord": name, "atMost": 0 if name == "locale" else max(test["in"], default=0)}
 
     def wrong_list(self):
         nodes = self.chance.choice(self.goals)[1] if self.goals else []
