@@ -1,0 +1,69 @@
+//! One candidate more, for all members of a box.
+
+ghost use Rattle.std.specs.Prelude.{◌≡◌, ℕ, List, IsTrue};
+ghost use Rattle.std.specs.Option.{option_map};
+ghost use Rattle.config_match.specs.Matching.{is_match};
+ghost use Rattle.box_answers.specs.Members.{IsMember};
+ghost use Rattle.box_answers.specs.Sameness.{IsExact};
+ghost use Rattle.overlay_map.specs.Candidates.{cand_of};
+ghost use Rattle.reference_resolver.specs.Selection.{beats, beats_best};
+ghost use Rattle.box_trace.specs.CommonSelection.{IsCommonStep};
+
+use crate::common::CommonSelection;
+use config_box::{ConfigBox, Sameness};
+use config_precedence::same;
+use overlay_map::Cand;
+
+/// The best after a candidate, for all members. Whether it matches is asked first.
+pub(crate) fn best_after<'a>(
+    best: Option<Cand<'a>>,
+    candidate: Cand<'a>,
+    members: &ConfigBox,
+) -> CommonSelection<'a>
+    ensures { IsCommonStep result members.now (option_map cand_of best.entry) (cand_of candidate.entry) }
+{
+    match members.match_all(&candidate.row.config) {
+        Sameness::Always => best_after_match(best, candidate, members),
+        Sameness::Never => CommonSelection::One(best),
+        Sameness::Mixed(yes, no, coord) => CommonSelection::Mixed(yes, no, coord),
+    }
+}
+
+/// The same, where the candidate matches all members.
+fn best_after_match<'a>(
+    best: Option<Cand<'a>>,
+    candidate: Cand<'a>,
+    members: &ConfigBox,
+) -> CommonSelection<'a>
+    requires { (d : List ℕ) → IsMember members.now d → IsTrue (is_match (cand_of candidate).row.config d) }
+    ensures { IsCommonStep result members.now (option_map cand_of best.entry) (cand_of candidate.entry) }
+{
+    match is_best_beaten(&best, &candidate, members) {
+        Sameness::Always => CommonSelection::One(Some(candidate)),
+        Sameness::Never => CommonSelection::One(best),
+        Sameness::Mixed(yes, no, coord) => CommonSelection::Mixed(yes, no, coord),
+    }
+}
+
+// Any candidate beats a best that is not there.
+fn is_best_beaten(best: &Option<Cand<'_>>, candidate: &Cand<'_>, members: &ConfigBox) -> Sameness
+    ensures { IsExact result members.now (beats_best (option_map cand_of best.now) (cand_of candidate.now)) }
+{
+    match best {
+        Some(best) => beats(candidate, best, members),
+        None => Sameness::Always,
+    }
+}
+
+// One of an overlay with an equal record beats the best at each device, whatever is better there.
+#[tactic(auto, unfolding(reference_resolver::specs::Selection::beats))]
+fn beats(candidate: &Cand<'_>, best: &Cand<'_>, members: &ConfigBox) -> Sameness
+    ensures { IsExact result members.now (beats (cand_of candidate.now) (cand_of best.now)) }
+{
+    let (config, best) = (&candidate.row.config, &best.row.config);
+    if candidate.overlay && same(config, best) {
+        Sameness::Always
+    } else {
+        members.better_all(config, best)
+    }
+}
