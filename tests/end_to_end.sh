@@ -161,6 +161,61 @@ check "an absent device" 5 $none device.err query layers device 0x7f060000
 line id.err 'command: bad id 0x7f06'
 check "a word that is no id" 2 $none id.err query layers device 0x7f060000 0x7f06 x
 
+# ---- check
+cp "$here/crates/restool/stdin" whole
+line layers '[{"table":"whole"}]'
+line box '{"density":{"from":120,"to":640}}'
+
+# verdict NAME STATUS NODES LINE..: a check of these nodes for 0x7f010000, which no table has, ends with this status and
+# prints these lines.
+verdict() {
+    name=$1 status=$2
+    line certificate "{\"version\":1,\"goals\":[{\"id\":\"0x7f010000\",\"nodes\":[$3]}]}"
+    shift 3
+    printf '%s\n' "$@" 'set-aside 0' >verdict.out
+    check "$name" "$status" verdict.out $none check layers box certificate 0x7f010000
+}
+leaf='{"layer":0,"kind":16,"word":1}'
+verdict "no nodes" 1 '' 'rejected goal 0 node 0 N2 EndsEarly'
+verdict "a test alone" 1 '{"coord":"density","atMost":160}' 'rejected goal 0 node 1 N2 EndsEarly'
+verdict "a wrong kind of test" 1 '{"coord":"locale","atMost":0}' 'rejected goal 0 node 0 N4 TestKind'
+verdict "a test that all devices pass" 1 '{"coord":"density","atMost":640}' 'rejected goal 0 node 0 N5 EmptyHalf'
+verdict "a leaf without a value" 1 "$leaf,$leaf" 'rejected goal 0 node 0 N7 NoValue' 'device density=120' \
+    'end absent 0x7f010000'
+verdict "the first leaf comes first" 1 '{"coord":"density","atMost":160},'"$leaf,$leaf,$leaf" \
+    'rejected goal 0 node 1 N7 NoValue' 'device density=120' 'end absent 0x7f010000'
+line certificate '{"version":1,"goals":[]}'
+printf '%s\n' 'rejected goal 0 node 0 N1 GoalList' 'set-aside 0' >verdict.out
+check "a certificate without goals" 1 verdict.out $none check layers box certificate 0x7f010000
+
+# rejected NAME STATUS LINE: a check of these files ends with this status and this line on standard error.
+rejected() {
+    line rejected.err "$3"
+    check "$1" "$2" $none rejected.err check layers box certificate 0x7f010000
+}
+line certificate '{"version":1,"goals":[{"id":"0x7f010000","nodes":[{"bag":5}]}]}'
+rejected "a node that is none" 3 'refused: certificate: Shape 0 0'
+line certificate '{"goals":[{"id":"0x7f010000","nodes":[{"bag":5}]}]}'
+rejected "a certificate without a version" 3 'refused: certificate: Version'
+line box '{"density":[160],"night":[]}'
+rejected "a box comes before the certificate" 3 'refused: box: Empty night'
+head -c 4 whole >cut
+line layers '[{"table":"cut"}]'
+rejected "a table comes before the box" 3 'refused: layer 0 table: Chunk Truncated 0'
+rm certificate
+rejected "an absent certificate comes before all that is rejected" 5 'file: certificate'
+rm box
+rejected "an absent box comes before the certificate" 5 'file: box'
+line box-id.err 'command: bad id 0x7f01'
+check "a bad id comes before the files" 2 $none box-id.err check absent box certificate 0x7f010000 0x7f01
+if command -v python3 >/dev/null; then
+    ends "JSON Schemas" 0 "python3 '$here/tests/check_schemas.py' \"\$0\""
+    ends "worked certificates" 0 "python3 '$here/tests/worked_certificates.py' \"\$0\""
+    ends "random certificates" 0 "python3 '$here/tests/check_certificates.py' \"\$0\" 400 4"
+else
+    echo "not run, since python3 is missing: JSON Schemas, worked and random certificates"
+fi
+
 # ---- README and the guide: what they show behind a command is what it prints
 for page in README.md docs/GUIDE.md; do
     rm -rf shown
@@ -253,7 +308,7 @@ line far '[{"table":"whole","map":"nowhere"}]'
 check "an absent id map comes before an absent device" 5 $none nowhere.err query far absent 0x7f010000
 
 # ---- words
-for command in rows dump query explain bag attr; do
+for command in rows dump query explain bag attr check; do
     check "help of $command" 0 "$here/tests/helps/$command.txt" $none "$command" --help
 done
 check "help" 0 "$here/tests/helps/restool.txt" $none --help
@@ -270,6 +325,7 @@ ends "explain with two ids" 2 '"$0" explain layers device 0x7f010000 0x7f010001'
 ends "explain of a word that is no id" 2 '"$0" explain layers device 0x7f'
 ends "query without an id" 2 '"$0" query layers device'
 ends "bag with two ids" 2 '"$0" bag layers device 0x7f010000 0x7f010001'
+ends "check without an id" 2 '"$0" check layers box certificate'
 ends "attr without a style" 2 '"$0" attr layers device 0x01010000'
 line attr.err 'command: bad id 0x0101'
 check "the attribute is the first word that is no id" 2 $none attr.err attr layers device 0x0101 style

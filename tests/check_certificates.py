@@ -1,0 +1,152 @@
+#!/usr/bin/env python3
+"""Holds `restool check` against a plain reading of the rules, which asks every device of a box:
+
+    check_certificates.py PROGRAM CASES [JOBS [FIRST]]
+
+for so many random layers, boxes of at most some thousand devices, and certificates, of which some are true and most
+have a fault. Goal, node, rule, and what is shown have to be the same. Of two devices that are shown for a mixed leaf it
+is asked whether they stand at it, whether they differ in one coordinate alone, by one where it is a range, and whether
+at the first question that devices at the leaf answer differently the first answers yes and the second no; and what
+`restool explain` says of them, and of some other device of the box, has to be what the rules say. The cases are
+numbered from FIRST on, which is 0 if it is not given. The last line counts the certificates by their verdicts."""
+import json
+import os
+import random
+import subprocess
+import sys
+import tempfile
+from collections import Counter
+from concurrent.futures import ProcessPoolExecutor
+
+from made_layers import table_bytes
+from plain_certificates import certificate_json, verdict, verdict_lines
+from plain_rules import COORDS, step_of
+from printed import CANDIDATE
+from random_cases import Case
+
+
+def id_text(name):
+    return f"0x{name:08x}"
+
+
+class Files:
+    """The files of a case, in a folder of their own."""
+
+    def __init__(self, program, folder, case):
+        self.program = program
+        self.folder = folder
+        self.write("box", case.box.json())
+        self.write("certificate", certificate_json(case.goals))
+        layers = []
+        for place, (rows, own_of) in enumerate(zip(case.tables, case.maps)):
+            layers.append({"table": f"table{place}"})
+            with open(os.path.join(folder, f"table{place}"), "wb") as table:
+                table.write(table_bytes(rows))
+            if own_of is not None:
+                layers[-1]["map"] = f"map{place}"
+                self.write(f"map{place}", [[id_text(target), id_text(own)] for target, own in own_of.items()])
+        self.write("layers", layers)
+
+    def write(self, name, said):
+        with open(os.path.join(self.folder, name), "w") as text:
+            json.dump(said, text)
+
+    def run(self, *words):
+        """The lines that are printed, and the status. A message is a line too."""
+        done = subprocess.run([self.program, *words], cwd=self.folder, capture_output=True, text=True)
+        return done.stdout.splitlines() + done.stderr.splitlines(), done.returncode
+
+    def explain(self, name, device):
+        self.write("device", {coord: value for coord, value in device.items() if value})
+        return self.run("explain", "layers", "device", id_text(name))[0]
+
+
+def device_of(words):
+    """The device that is printed so."""
+    device = {name: "" if name == "locale" else 0 for name in COORDS}
+    for word in words.split():
+        name, _, value = word.partition("=")
+        device[name] = value if name == "locale" else int(value)
+    return device
+
+
+def check_explanation(files, case, name, device):
+    """The faults of what `restool explain` says of a device."""
+    told, wanted = files.explain(name, device), case.layers.explanation(name, device)
+    return [] if told == wanted else [f"explained: {told}", f"wanted: {wanted}"]
+
+
+def first_question(steps):
+    """The first question that lists of steps answer differently: the place of the step, and which steps are a yes."""
+    for place, told in enumerate(zip(*steps)):
+        if len(set(told)) > 1:
+            return place, ("took over",) if "no match" not in told else ("took over", "kept out")
+    return None
+
+
+def steps_of(lines):
+    return [step_of(parts[4]) for parts in map(CANDIDATE.fullmatch, lines) if parts]
+
+
+def faults_of_pair(files, case, name, members, first, second):
+    """The faults of two devices that are shown for a mixed leaf."""
+    differing = [coord for coord in COORDS if first[coord] != second[coord]]
+    faults = [] if first in members and second in members else ["a device that is not at the leaf"]
+    if len(differing) != 1:
+        return faults + [f"they differ in {differing}"]
+    if case.box.is_range(differing[0]) and abs(first[differing[0]] - second[differing[0]]) != 1:
+        faults.append(f"they are no neighbours in {differing[0]}")
+    place, yes = first_question([case.layers.trace(name, device)[0] for device in members])
+    answers = [steps_of(files.explain(name, device))[place] in yes for device in (first, second)]
+    if answers != [True, False]:
+        faults.append(f"at candidate {place} of the way they answer {answers}")
+    return faults
+
+
+def faults_of_verdict(files, case):
+    """The faults of a verdict, and what it is."""
+    rejected = verdict(case.layers, case.box, case.asked, case.goals)
+    wanted = verdict_lines(case.layers, case.asked, case.goals, rejected)
+    lines, status = files.run("check", "layers", "box", "certificate", *map(id_text, case.asked))
+    told = Counter([f"N{rejected[1].rule}" if rejected else "accepted"])
+    faults = [] if status == int(rejected is not None) else [f"status {status}"]
+    is_mixed = rejected is not None and rejected[1].rule == 6
+    seen = [line.split(" ")[0] + " " if is_mixed and place in (1, 2) else line for place, line in enumerate(lines)]
+    if seen != wanted:
+        return faults + [f"printed: {lines}", f"wanted: {wanted}"], told
+    if not is_mixed:
+        return faults, told
+    name = case.asked[rejected[0]]
+    shown = [device_of(line.split(" ", 1)[1]) for line in lines[1:3]]
+    for device in shown:
+        faults += check_explanation(files, case, name, device)
+    return faults + faults_of_pair(files, case, name, rejected[1].members, *shown), told
+
+
+def check_case(program, number):
+    chance = random.Random(number)
+    case = Case(chance)
+    with tempfile.TemporaryDirectory() as folder:
+        files = Files(program, folder, case)
+        faults, told = faults_of_verdict(files, case)
+        faults += check_explanation(files, case, chance.choice(case.asked), chance.choice(case.members))
+    return [f"case {number}: {fault}" for fault in faults], told
+
+
+def main():
+    program, cases = os.path.abspath(sys.argv[1]), int(sys.argv[2])
+    jobs, first = (int(word) for word in (sys.argv[3:] + ["1", "0"][len(sys.argv) - 3 :])[:2])
+    told = Counter()
+    wrong = 0
+    with ProcessPoolExecutor(jobs) as pool:
+        numbers = range(first, first + cases)
+        for faults, verdicts in pool.map(check_case, [program] * cases, numbers, chunksize=8):
+            told += verdicts
+            wrong += bool(faults)
+            for fault in faults:
+                print(fault)
+    print(f"{cases} certificates: {', '.join(f'{name} {told[name]}' for name in sorted(told))}")
+    sys.exit(wrong > 0)
+
+
+main()

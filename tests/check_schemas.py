@@ -1,0 +1,387 @@
+#!/usr/bin/env python3
+"""Holds the JSON Schemas of the inputs against what restool reads and rejects:
+
+    check_schemas.py PROGRAM [INPUT..]
+
+for each input, or for those that are named: layers, id-map, device, box, certificate. Texts that a schema judges
+as restool does stand in ALIKE with the fault that restool tells, none where the text is accepted. In BEYOND are texts
+that restool rejects for what a schema can't say. The last line is the number of texts."""
+import json
+import os
+import re
+import subprocess
+import sys
+import tempfile
+
+from made_layers import table_bytes
+from plain_rules import COORDS
+
+SCHEMAS = os.path.join(os.path.dirname(os.path.abspath(__file__)), "..", "schemas")
+
+GREATEST = {**COORDS, "density": 32767}
+
+# ---- the rules of JSON Schema, as far as the schemas use them
+
+
+def is_number(value):
+    return isinstance(value, (int, float)) and not isinstance(value, bool)
+
+
+def is_integer(value):
+    """A number without a fraction, however it is written."""
+    return is_number(value) and value == int(value)
+
+
+TYPES = {
+    "array": lambda value: isinstance(value, list),
+    "object": lambda value: isinstance(value, dict),
+    "string": lambda value: isinstance(value, str),
+    "integer": is_integer,
+}
+
+
+def equals(value, wanted):
+    return value == wanted and isinstance(value, bool) == isinstance(wanted, bool)
+
+
+def rest_is_valid(root, said, schema, value):
+    """The items behind those that have a schema of their own. Of items that are alike one is judged."""
+    behind = value[len(schema.get("prefixItems", [])) :] if isinstance(value, list) else []
+    return all(is_valid(root, said, item) for item in {repr(item): item for item in behind}.values())
+
+
+def has_no_others(schema, value):
+    return not isinstance(value, dict) or all(name in schema["properties"] for name in value)
+
+
+def members_are_valid(root, said, value):
+    return not isinstance(value, dict) or all(is_valid(root, said[name], value[name]) for name in value if name in said)
+
+
+def front_is_valid(root, said, value):
+    return not isinstance(value, list) or all(is_valid(root, of, item) for of, item in zip(said, value))
+
+
+def refers_to(root, path):
+    for name in path.split("/")[1:]:
+        root = root[name]
+    return root
+
+
+def has_pattern(value, pattern):
+    """`$` is the end of a text there, and here a line feed may follow it."""
+    return not isinstance(value, str) or bool(re.search(pattern.replace("$", r"\Z"), value))
+
+
+RULES = {
+    "$ref": lambda root, said, schema, value: is_valid(root, refers_to(root, said), value),
+    "type": lambda root, said, schema, value: TYPES[said](value),
+    "const": lambda root, said, schema, value: equals(value, said),
+    "enum": lambda root, said, schema, value: any(equals(value, wanted) for wanted in said),
+    "anyOf": lambda root, said, schema, value: any(is_valid(root, other, value) for other in said),
+    "minimum": lambda root, said, schema, value: not is_number(value) or value >= said,
+    "maximum": lambda root, said, schema, value: not is_number(value) or value <= said,
+    "minItems": lambda root, said, schema, value: not isinstance(value, list) or len(value) >= said,
+    "maxItems": lambda root, said, schema, value: not isinstance(value, list) or len(value) <= said,
+    "pattern": lambda root, said, schema, value: has_pattern(value, said),
+    "required": lambda root, said, schema, value: not isinstance(value, dict) or all(name in value for name in said),
+    "properties": lambda root, said, schema, value: members_are_valid(root, said, value),
+    "additionalProperties": lambda root, said, schema, value: said or has_no_others(schema, value),
+    "prefixItems": lambda root, said, schema, value: front_is_valid(root, said, value),
+    "items": lambda root, said, schema, value: rest_is_valid(root, said, schema, value),
+}
+
+WORDS_FOR_READERS = ("$schema", "$defs", "title", "description")
+
+
+def is_valid(root, schema, value):
+    return all(
+        RULES[rule](root, said, schema, value) for rule, said in schema.items() if rule not in WORDS_FOR_READERS
+    )
+
+
+# ---- texts
+
+
+def listed(item, count):
+    return "[" + ",".join([item] * count) + "]"
+
+
+def certificate(nodes):
+    return '{"version":1,"goals":[{"id":"0x7f010000","nodes":[' + nodes + "]}]}"
+
+
+def goals(text):
+    return '{"version":1,"goals":' + text + "}"
+
+
+def goal_of(count):
+    """A goal of so many nodes."""
+    return '{"id":"0x7f010000","nodes":' + listed(BAG, count) + "}"
+
+
+def node(text, fault=None):
+    return certificate(text), fault
+
+
+LAYER = '{"table":"table"}'
+BAG = '{"bag":"0x7f010000"}'
+LEAF = '{"layer":0,"kind":16,"word":1}'
+GOAL = '{"id":"0x7f010000","nodes":[]}'
+
+ALIKE = {
+    "layers": [
+        ("[]", None),
+        ('[{"table":"table"}]', None),
+        ('[{"table":"table"},{"table":"table","map":"map"}]', None),
+        ('[{"map":"map","table":"table"}]', None),
+        (listed(LAYER, 64), None),
+        (listed(LAYER, 65), "TooManyLayers"),
+        ("{}", "Shape"),
+        ("null", "Shape"),
+        ('"table"', "Shape"),
+        ('["table"]', "Shape"),
+        ("[{}]", "Shape"),
+        ('[{"map":"map"}]', "Shape"),
+        ('[{"table":1}]', "Shape"),
+        ('[{"table":"table","map":null}]', "Shape"),
+        ('[{"table":"table","maps":"map"}]', "Shape"),
+        ('[{"table":"table"},[]]', "Shape"),
+    ],
+    "id-map": [
+        ("[]", None),
+        ('[["0x7f010000","0x7f020000"]]', None),
+        ('[["0x7F01ABCD","0x7f01abcd"],["0x7f010000","0x02010000"]]', None),
+        ("{}", "Shape"),
+        ('["0x7f010000","0x7f020000"]', "Shape"),
+        ('[["0x7f010000"]]', "Shape"),
+        ('[["0x7f010000","0x7f020000","0x7f030000"]]', "Shape"),
+        ('[["0x7f01","0x7f020000"]]', "Shape"),
+        ('[["7f010000","0x7f020000"]]', "Shape"),
+        ('[["0X7f010000","0x7f020000"]]', "Shape"),
+        ('[["0x7f010000\\n","0x7f020000"]]', "Shape"),
+        ('[["0x7g010000","0x7f020000"]]', "Shape"),
+        ("[[2130771968,2130837504]]", "Shape"),
+        ("[[]]", "Shape"),
+    ],
+    "device": [
+        ('{"density":160}', None),
+        ('{"density":1,"locale":""}', None),
+        ('{"density":320,"locale":"de-DE","sdk":27}', None),
+        ('{"density":320,"locale":"es-419"}', None),
+        ('{"density":320,"locale":"fil"}', None),
+        ("{}", "Density"),
+        ('{"density":0}', "Density"),
+        ('{"night":2}', "Density"),
+        ("[]", "Shape"),
+        ("160", "Shape"),
+        ('{"density":"160"}', "Shape"),
+        ('{"density":-1}', "Shape"),
+        ('{"density":160.5}', "Shape"),
+        ('{"density":null}', "Shape"),
+        ('{"density":true}', "Shape"),
+        ('{"density":[160]}', "Shape"),
+        ('{"density":18446744073709551616}', "Shape"),
+        ('{"density":160,"dpi":1}', "Shape"),
+        ('{"density":160,"locale":5}', "Shape"),
+        ('{"density":160,"locale":"DE"}', "FieldRange locale"),
+        ('{"density":160,"locale":"de-de"}', "FieldRange locale"),
+        ('{"density":160,"locale":"de_DE"}', "FieldRange locale"),
+        ('{"density":160,"locale":"de-DEU"}', "FieldRange locale"),
+        ('{"density":160,"locale":"d"}', "FieldRange locale"),
+        ('{"density":160,"locale":"de\\n"}', "FieldRange locale"),
+        ('{"density":160,"locale":"-DE"}', "RegionAlone"),
+    ],
+    "box": [
+        ('{"density":[160]}', None),
+        ('{"density":{"from":1,"to":32767}}', None),
+        ('{"density":{"from":160,"to":160}}', None),
+        ('{"density":[640,160,320,160]}', None),
+        ('{"density":[160],"locale":["de","","fr-CA","de"]}', None),
+        ('{"density":[160],"night":' + listed("1", 512) + "}", None),
+        ("{}", "Density"),
+        ('{"locale":["fr"]}', "Density"),
+        ('{"density":[0]}', "Density"),
+        ('{"density":[160,32768]}', "Density"),
+        ('{"density":{"from":0,"to":160}}', "Density"),
+        ('{"density":{"from":160,"to":32768}}', "Density"),
+        ('{"density":[]}', "Empty density"),
+        ('{"density":[160],"locale":[]}', "Empty locale"),
+        ('{"density":' + listed("160", 513) + "}", "TooMany density"),
+        ('{"density":[160],"locale":' + listed('"de"', 513) + "}", "TooMany locale"),
+        ('{"density":[160],"locale":["de","DE"]}', "FieldRange locale"),
+        ('{"density":[160],"locale":["-FR"]}', "RegionAlone"),
+        ('{"night":[4]}', "FieldRange night"),
+        ('{"touchscreen":[256]}', "Density"),
+        ("[]", "Shape"),
+        ('{"density":160}', "Shape"),
+        ('{"density":"160"}', "Shape"),
+        ('{"density":[160],"locale":"de"}', "Shape"),
+        ('{"density":[160],"locale":{"from":"de","to":"fr"}}', "Shape"),
+        ('{"density":[160],"locale":[5]}', "Shape"),
+        ('{"density":["160"]}', "Shape"),
+        ('{"density":[-1]}', "Shape"),
+        ('{"density":{"from":160}}', "Shape"),
+        ('{"density":{"from":160,"to":320,"step":1}}', "Shape"),
+        ('{"density":{"from":160,"to":"320"}}', "Shape"),
+        ('{"density":[160],"dpi":[1]}', "Shape"),
+    ],
+    "certificate": [
+        (goals("[]"), None),
+        (goals("[" + GOAL + "]"), None),
+        (goals("[" + GOAL + "," + GOAL + "]"), None),
+        ('{"goals":[],"version":1}', None),
+        ("{}", "Version"),
+        ('{"goals":[]}', "Version"),
+        ('{"version":2,"goals":[]}', "Version"),
+        ('{"version":"1","goals":[]}', "Version"),
+        ('{"version":true,"goals":[]}', "Version"),
+        ('{"version":null,"goals":[]}', "Version"),
+        ('{"version":2,"goals":[],"more":0}', "Version"),
+        ("[]", "Shape 0 0"),
+        ("null", "Shape 0 0"),
+        ('{"version":1}', "Shape 0 0"),
+        ('{"version":1,"goals":{}}', "Shape 0 0"),
+        ('{"version":1,"goals":[],"more":0}', "Shape 0 0"),
+        (goals("[5]"), "Shape 0 0"),
+        (goals("[" + GOAL + ",{}]"), "Shape 1 0"),
+        (goals("[" + GOAL + ',{"id":"0x7f010000"}]'), "Shape 1 0"),
+        (goals('[{"id":"0x7f01","nodes":[]}]'), "Shape 0 0"),
+        (goals('[{"id":2130771968,"nodes":[]}]'), "Shape 0 0"),
+        (goals('[{"id":"0x7f010000","nodes":{}}]'), "Shape 0 0"),
+        (goals('[{"id":"0x7f010000","nodes":[],"more":0}]'), "Shape 0 0"),
+        node(LEAF),
+        node('{"word":4294967295,"kind":255,"layer":63}'),
+        node('{"bag":"0x7f010000"}'),
+        node('{"coord":"density","atMost":4294967295}'),
+        node('{"coord":"locale","atMost":0}'),
+        node('{"coord":"locale","in":["","de","es-419","de"]}'),
+        node('{"coord":"night","in":[2,1,2,4294967295]}'),
+        node('{"coord":"night","in":[]}'),
+        node('{"coord":"locale","in":[]}'),
+        node('{"coord":"night","in":' + listed("1", 512) + "}"),
+        node('{"coord":"night","in":' + listed("1", 513) + "}", "Shape 0 0"),
+        node('{"coord":"locale","in":' + listed('"de"', 513) + "}", "Shape 0 0"),
+        node("5", "Shape 0 0"),
+        node("{}", "Shape 0 0"),
+        node(LEAF + ',{"bag":5}', "Shape 0 1"),
+        node('{"bag":"7f010000"}', "Shape 0 0"),
+        node('{"layer":64,"kind":16,"word":1}', "Shape 0 0"),
+        node('{"layer":0,"kind":256,"word":1}', "Shape 0 0"),
+        node('{"layer":0,"kind":16,"word":4294967296}', "Shape 0 0"),
+        node('{"layer":0,"kind":16,"word":-1}', "Shape 0 0"),
+        node('{"layer":0,"kind":16}', "Shape 0 0"),
+        node('{"layer":0,"kind":16,"word":1,"bag":"0x7f010000"}', "Shape 0 0"),
+        node('{"coord":"dpi","atMost":1}', "Shape 0 0"),
+        node('{"coord":"density"}', "Shape 0 0"),
+        node('{"coord":"density","atMost":4294967296}', "Shape 0 0"),
+        node('{"coord":"density","atMost":1,"in":[1]}', "Shape 0 0"),
+        node('{"coord":"density","in":[4294967296]}', "Shape 0 0"),
+        node('{"coord":"density","in":["de"]}', "Shape 0 0"),
+        node('{"coord":"density","in":1}', "Shape 0 0"),
+        node('{"coord":"locale","in":[0]}', "Shape 0 0"),
+        node('{"coord":"locale","in":["DE"]}', "Shape 0 0"),
+        node('{"coord":"locale","in":["-DE"]}', "Shape 0 0"),
+        (goals(f"[{goal_of(1000001)}]"), "TooManyNodes"),
+    ],
+}
+
+# A number with a fraction of 0 or an exponent, sums over lists, and a member that is compared with others.
+BEYOND = {
+    "layers": [],
+    "id-map": [
+        ('[["0x7f010000","0x7f020000"],["0x7f010000","0x7f020001"]]', "Repeated 0x7f010000"),
+        ('[["0x7f01000a","0x7f020000"],["0x7F01000A","0x7f020001"]]', "Repeated 0x7f01000a"),
+        ('[["0x7f010000","0x7f020000"],["0x01010000","0x7f020001"]]', "OtherPackage 0x01010000"),
+    ],
+    "device": [
+        ('{"density":160.0}', "Shape"),
+        ('{"density":1e2}', "Shape"),
+        ('{"density":160,"night":-0}', "Shape"),
+    ],
+    "box": [
+        ('{"density":{"from":320,"to":160}}', "Empty density"),
+        ('{"density":[160],"sdk":{"from":27,"to":21}}', "Empty sdk"),
+        ('{"density":[160.0]}', "Shape"),
+        ('{"density":{"from":1e2,"to":160}}', "Shape"),
+    ],
+    "certificate": [
+        ('{"version":1.0,"goals":[]}', "Version"),
+        node('{"layer":0.0,"kind":16,"word":1}', "Shape 0 0"),
+        node('{"coord":"density","atMost":1e2}', "Shape 0 0"),
+        (goals(f"[{goal_of(600000)},{goal_of(400001)}]"), "TooManyNodes"),
+    ],
+}
+
+
+def at_the_limits():
+    """Texts of devices and boxes with the greatest number of each coordinate, and with the one behind it."""
+    for name, greatest in GREATEST.items():
+        if greatest is None:
+            continue
+        fault = "Density" if name == "density" else f"FieldRange {name}"
+        for number, told in ((greatest, None), (greatest + 1, fault)):
+            yield "device", (json.dumps({"density": 160, name: number}), told)
+            yield "box", (json.dumps({"density": [160], name: [number]}), told)
+            yield "box", (json.dumps({"density": [160], name: {"from": 1, "to": number}}), told)
+
+
+# ---- what restool says
+
+FILES = {
+    "layers": LAYER.join("[]"),
+    "id-map": "[]",
+    "device": '{"density":160}',
+    "box": '{"density":[160]}',
+    "certificate": goals("[]"),
+}
+
+PARTS = {"id-map": "layer 1 map"}
+
+
+def fault_told(program, name, text):
+    """What restool rejects the text for, None where it is read."""
+    files = {**FILES, name: text}
+    if name == "id-map":
+        files["layers"] = '[{"table":"table"},{"table":"table","map":"id-map"}]'
+    for path, content in files.items():
+        with open(path, "w") as out:
+            out.write(content)
+    inputs = ["box", "certificate"] if name in ("box", "certificate") else ["device"]
+    command = "query" if inputs == ["device"] else "check"
+    done = subprocess.run([program, command, "layers", *inputs, "0x7f010000"], capture_output=True, text=True)
+    start = f"refused: {PARTS.get(name, name)}: "
+    if done.returncode == 3 and done.stderr.startswith(start):
+        return done.stderr[len(start) : -1]
+    return None if done.returncode in (0, 1) else f"status {done.returncode}: {done.stderr}"
+
+
+def check(program, name, schema, text, fault, is_schema_valid):
+    told = fault_told(program, name, text)
+    valid = is_valid(schema, schema, json.loads(text))
+    if told == fault and valid == is_schema_valid:
+        return []
+    return [f"{name} {text[:120]}: told {told}, not {fault}; {'valid' if valid else 'not valid'} by the schema"]
+
+
+def main():
+    program = os.path.abspath(sys.argv[1])
+    names = sys.argv[2:] or list(ALIKE)
+    schemas = {name: json.load(open(os.path.join(SCHEMAS, f"{name}.json"))) for name in names}
+    texts = [(name, text, fault, fault is None) for name in names for text, fault in ALIKE[name]]
+    texts += [(name, text, fault, fault is None) for name, (text, fault) in at_the_limits() if name in names]
+    texts += [(name, text, fault, True) for name in names for text, fault in BEYOND[name]]
+    with tempfile.TemporaryDirectory() as folder:
+        os.chdir(folder)
+        with open("table", "wb") as table:
+            table.write(table_bytes([]))
+        with open("map", "w") as empty:
+            empty.write("[]")
+        faults = [fault for name, *text in texts for fault in check(program, name, schemas[name], *text)]
+    for fault in faults:
+        print(fault)
+    print(f"{len(texts)} texts")
+    sys.exit(bool(faults))
+
+
+main()

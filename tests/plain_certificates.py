@@ -1,0 +1,182 @@
+"""A plain reading of boxes and certificates: every device of a box is asked. For the scripts beside it.
+
+A box is a dictionary of what its JSON says: a pair of numbers for a range, a list for a choice. A node of a
+certificate is what its JSON says of it."""
+import itertools
+
+from plain_rules import COORDS, device_text, end_text, parts
+
+NOT_GIVEN = {"locale": [""]}
+
+RULES = {
+    1: "GoalList",
+    2: "EndsEarly",
+    3: "LeftOver",
+    4: "TestKind",
+    5: "EmptyHalf",
+    6: "MixedTrace",
+    7: "NoValue",
+    8: "OtherValue",
+}
+
+
+def packed(part, base):
+    """The two bytes of a language or region, by which locales are ordered."""
+    if len(part) != 3:
+        return part.encode().ljust(2, b"\0")
+    a, b, c = (ord(symbol) - ord(base) for symbol in part)
+    return bytes([0x80 | c << 2 | b >> 3, (b & 7) << 5 | a])
+
+
+def order_of(value):
+    """What numbers and locales of a set are ordered by."""
+    if isinstance(value, int):
+        return value
+    language, region = parts(value)
+    return packed(language, "a") + packed(region, "0")
+
+
+class Box:
+    def __init__(self, said):
+        self.said = said
+        self.sets = {name: self.set_of(said.get(name, NOT_GIVEN.get(name, [0]))) for name in COORDS}
+
+    @staticmethod
+    def set_of(said):
+        if isinstance(said, tuple):
+            return list(range(said[0], said[1] + 1))
+        return sorted(set(said), key=order_of)
+
+    def json(self):
+        return {
+            name: {"from": said[0], "to": said[1]} if isinstance(said, tuple) else said
+            for name, said in self.said.items()
+        }
+
+    def is_range(self, name):
+        return isinstance(self.said.get(name), tuple)
+
+    def members(self):
+        return [dict(zip(COORDS, values)) for values in itertools.product(*self.sets.values())]
+
+
+def answer(test, device):
+    value = device[test["coord"]]
+    return value <= test["atMost"] if "atMost" in test else value in test["in"]
+
+
+def corner(members):
+    """The least value of each coordinate."""
+    return {name: min((device[name] for device in members), key=order_of) for name in COORDS}
+
+
+def leaf_of(end):
+    """The leaf that says this end."""
+    if end[0] == "bag":
+        return {"bag": f"0x{end[1]:08x}"}
+    return {"layer": end[1], "kind": end[2], "word": end[3]}
+
+
+def says(leaf, end):
+    """Whether a leaf says this end, a value or a bag."""
+    if "bag" in leaf:
+        return end == ("bag", int(leaf["bag"], 16))
+    return end == ("value", leaf["layer"], leaf["kind"], leaf["word"])
+
+
+class Fault:
+    """A node that fails, its rule, and the devices that stand at it."""
+
+    def __init__(self, node, rule, members=()):
+        self.node = node
+        self.rule = rule
+        self.members = members
+
+
+def fault_of_test(box, node, members):
+    name = node["coord"]
+    if ("atMost" in node and name == "locale") or ("in" in node and box.is_range(name)):
+        return 4
+    if len({answer(node, device) for device in members}) == 1:
+        return 5
+    return None
+
+
+def fault_of_leaf(node, traces):
+    """`traces` are those of all devices at the leaf."""
+    if len(set(traces)) > 1:
+        return 6
+    end = traces[0][1]
+    if end[0] in ("absent", "too long"):
+        return 7
+    return None if says(node, end) else 8
+
+
+def fault_of_nodes(box, nodes, trace_of):
+    """The first node that fails, with the lowest rule that fails there. The devices of the open halves wait in a
+    list, the next one last."""
+    waiting = [box.members()]
+    for place, node in enumerate(nodes):
+        if not waiting:
+            return Fault(place, 3)
+        members = waiting.pop()
+        is_test = "coord" in node
+        if is_test:
+            rule = fault_of_test(box, node, members)
+        else:
+            rule = fault_of_leaf(node, [trace_of(device) for device in members])
+        if rule is not None:
+            return Fault(place, rule, members)
+        for wanted in (False, True) if is_test else ():
+            waiting.append([device for device in members if answer(node, device) == wanted])
+    return Fault(len(nodes), 2) if waiting else None
+
+
+def goal_that_differs(asked, goals):
+    """The first place where two lists of ids differ, the shorter length where one begins the other."""
+    for place in range(max(len(asked), len(goals))):
+        if asked[place : place + 1] != goals[place : place + 1]:
+            return place
+    return None
+
+
+def verdict(layers, box, asked, goals):
+    """Where a certificate, a list of ids with their nodes, is rejected: the goal and the fault. None where it is
+    accepted."""
+    place = goal_that_differs(asked, [name for name, _ in goals])
+    if place is not None:
+        return place, Fault(0, 1)
+    for goal, (name, nodes) in enumerate(goals):
+        traces = {}
+
+        def trace_of(device):
+            key = tuple(device.values())
+            if key not in traces:
+                traces[key] = layers.trace(name, device)
+            return traces[key]
+
+        fault = fault_of_nodes(box, nodes, trace_of)
+        if fault is not None:
+            return goal, fault
+    return None
+
+
+def certificate_json(goals):
+    return {"version": 1, "goals": [{"id": f"0x{name:08x}", "nodes": nodes} for name, nodes in goals]}
+
+
+def verdict_lines(layers, asked, goals, rejected):
+    """What `restool check` prints. Of the two devices that rule 6 shows only the words before them, since there may
+    be several such pairs."""
+    aside = f"set-aside {layers.set_aside()}"
+    if rejected is None:
+        return [f"accepted goals {len(goals)} nodes {sum(len(nodes) for _, nodes in goals)}", aside]
+    goal, fault = rejected
+    lines = [f"rejected goal {goal} node {fault.node} N{fault.rule} {RULES[fault.rule]}"]
+    if fault.rule == 6:
+        lines += ["first ", "second "]
+    elif fault.rule in (7, 8):
+        shown = corner(fault.members)
+        end = layers.trace(asked[goal], fault.members[0])[1]
+        lines += [f"device {device_text(shown)}", f"end {end_text(end)}"]
+    return lines + [aside]

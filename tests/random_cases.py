@@ -1,0 +1,267 @@
+"""Random layers, boxes and certificates. For check_certificates.py."""
+from plain_certificates import Box, leaf_of
+from plain_rules import COORDS, Layers, Record
+
+FIRST_ID = 0x7F010000
+ENTRIES = 5
+MOST_MEMBERS = 1500
+MOST_NODES = 40
+GREATEST_DENSITY = 32767
+
+NUMBERS = {
+    "mcc": (310, 311),
+    "mnc": (4, 65535),
+    "locale": ("de", "de-DE", "fr", "fr-CA", "es-419", "fil", "en-US"),
+    "layoutDirection": (1, 2),
+    "smallestWidthDp": (320, 600, 720),
+    "widthDp": (400, 600),
+    "heightDp": (400, 600),
+    "screenSize": (1, 2, 3, 4),
+    "long": (1, 2),
+    "round": (1, 2),
+    "wideColor": (1, 2),
+    "hdr": (1, 2),
+    "orientation": (1, 2, 3),
+    "uiType": (1, 3, 4, 7),
+    "night": (1, 2),
+    "density": (120, 160, 213, 240, 320, 480, 640, 65534, 65535),
+    "touchscreen": (1, 2, 3),
+    "keysHidden": (1, 2, 3),
+    "navHidden": (1, 2),
+    "keyboard": (1, 2, 3),
+    "navigation": (1, 2, 3, 4),
+    "width": (480, 800),
+    "height": (480, 800),
+    "sdk": (19, 21, 24),
+    "minor": (1, 2),
+}
+"""What rows say of each coordinate."""
+
+
+OTHER_CELLS = ((1, 0), (2, 0x01010001), (3, 0), (0, 0), (0, 1), (0x12, 0xFFFFFFFF), (0x1C, 0xFF102030))
+
+
+class Case:
+    """Layers, a box, the ids that are asked, and a certificate: a list of ids with their nodes."""
+
+    def __init__(self, chance):
+        self.chance = chance
+        self.focus = chance.sample(list(COORDS), chance.randint(1, 4))
+        if chance.random() < 0.3 and "density" not in self.focus:
+            self.focus.append("density")
+        self.tables = [self.rows() for _ in range(chance.randint(1, 3))]
+        self.maps = [None] + [self.id_map() for _ in self.tables[1:]]
+        self.layers = Layers([(by_id(rows), own) for rows, own in zip(self.tables, self.maps)])
+        self.box = self.random_box()
+        self.members = self.box.members()
+        self.asked = chance.choices(range(FIRST_ID, FIRST_ID + ENTRIES), k=chance.randint(1, 3))
+        self.goals = [(name, self.tree(name)) for name in self.asked]
+        for _ in range(chance.choice((0, 0, 1, 1, 2))):
+            self.mutate()
+
+    # ---- layers
+
+    def record(self):
+        given = {}
+        for name in COORDS:
+            if self.chance.random() < (0.6 if name in self.focus else 0.02):
+                given[name] = self.chance.choice(NUMBERS[name])
+        script = b"Latn" if self.chance.random() < 0.04 else b""
+        variant = b"polytoni" if self.chance.random() < 0.02 else b""
+        return Record(given, script, variant, int(self.chance.random() < 0.05))
+
+    def cell(self):
+        draw = self.chance.random()
+        if draw < 0.2:
+            return 1, FIRST_ID + self.chance.randint(0, ENTRIES)
+        if draw < 0.3:
+            return "bag"
+        if draw < 0.4:
+            return self.chance.choice(OTHER_CELLS)
+        return 0x10, self.chance.choice((1, 1, 2, 0xFFFFFFFF))
+
+    def rows(self):
+        rows = []
+        for name in range(FIRST_ID, FIRST_ID + ENTRIES):
+            if self.chance.random() < 0.95:
+                rows.append((name, Record({}), self.cell()))
+            rows += [(name, self.record(), self.cell()) for _ in range(self.chance.randint(0, 5))]
+        self.chance.shuffle(rows)
+        return rows
+
+    def id_map(self):
+        """None for a further base."""
+        if self.chance.random() < 0.3:
+            return None
+        targets = self.chance.sample(range(FIRST_ID, FIRST_ID + ENTRIES), self.chance.randint(0, ENTRIES))
+        return {target: FIRST_ID + self.chance.randrange(ENTRIES) for target in targets}
+
+    # ---- boxes
+
+    def random_range(self, name, size):
+        greatest = GREATEST_DENSITY if name == "density" else COORDS[name]
+        size = self.chance.randint(1, min(size, greatest))
+        low = self.chance.choice((0,) + NUMBERS[name]) - self.chance.randrange(size)
+        low = max(low, 1 if name == "density" else 0)
+        low = min(low, greatest - size + 1)
+        return low, low + size - 1
+
+    def random_choice(self, name, size):
+        values = list(NUMBERS[name]) + ["" if name == "locale" else 0, self.chance.choice(NUMBERS[name])]
+        if name == "locale":
+            values += ["it", "de-AT"]
+        else:
+            values += [self.chance.choice(NUMBERS[name]) + 1]
+        most = GREATEST_DENSITY if name == "density" else COORDS[name]
+        least = 1 if name == "density" else 0
+        values = [value for value in values if name == "locale" or least <= value <= most]
+        return self.chance.choices(values, k=self.chance.randint(1, size))
+
+    def random_box(self):
+        said = {}
+        left = self.chance.choice((2, 30, 300, MOST_MEMBERS))
+        for name in self.chance.sample(self.focus, len(self.focus)):
+            if name == "locale" or self.chance.random() < 0.4:
+                said[name] = self.random_choice(name, min(left, 8))
+                left //= len(set(said[name]))
+            else:
+                said[name] = self.random_range(name, left)
+                left //= said[name][1] - said[name][0] + 1
+        for name in COORDS:
+            if name not in said and (name == "density" or self.chance.random() < 0.15):
+                single = name == "locale" or self.chance.random() < 0.5
+                said[name] = self.random_choice(name, 1) if single else self.random_range(name, 1)
+        return Box(said)
+
+    # ---- certificates
+
+    def any_leaf(self):
+        if self.chance.random() < 0.2:
+            return {"bag": f"0x{FIRST_ID + self.chance.randrange(ENTRIES):08x}"}
+        return {"layer": self.chance.randrange(3), "kind": 0x10, "word": self.chance.randint(0, 3)}
+
+    def any_test(self):
+        name = self.chance.choice(self.focus)
+        if self.chance.random() < 0.5:
+            return {"coord": name, "in": self.random_choice(name, 3)}
+        most = 3 if name == "locale" else self.chance.choice(NUMBERS[name]) + self.chance.randint(-1, 1)
+        return {"coord": name, "atMost": most}
+
+    def tree(self, name):
+        """Nodes of which most are true: while devices with different traces are left, a test that parts two of them."""
+        traces = {tuple(device.values()): self.layers.trace(name, device) for device in self.members}
+        nodes, waiting = [], [self.members]
+        while waiting:
+            members = waiting.pop()
+            found = {traces[tuple(device.values())] for device in members}
+            if not members or len(found) == 1 or len(nodes) > MOST_NODES or self.chance.random() < 0.03:
+                end = found.pop()[1] if found else ("absent",)
+                nodes.append(leaf_of(end) if end[0] in ("value", "bag") else self.any_leaf())
+                continue
+            test = self.parting(members, traces)
+            values = test.get("in") or [value for value in self.box.sets[test["coord"]] if value <= test["atMost"]]
+            nodes.append(test)
+            for wanted in (False, True):
+                waiting.append([device for device in members if (device[test["coord"]] in values) == wanted])
+        return nodes
+
+    def parting(self, members, traces):
+        """A test on the coordinate in which two neighbours differ that have different traces."""
+        first = self.chance.choice(members)
+        own = traces[tuple(first.values())]
+        second = self.chance.choice([device for device in members if traces[tuple(device.values())] != own])
+        for name in self.chance.sample(list(COORDS), len(COORDS)):
+            values = [device[name] for device in members]
+            changed = {**first, name: second[name]}
+            if traces[tuple(changed.values())] != own:
+                break
+            first = changed
+        keeping = [value for value in dict.fromkeys(values) if traces[tuple({**first, name: value}.values())] == own]
+        if not self.box.is_range(name) and (name == "locale" or self.chance.random() < 0.7):
+            return {"coord": name, "in": self.chance.sample(keeping, len(keeping))}
+        among = [value for value in self.box.sets[name] if value in values]
+        turns = [low for low, high in zip(among, among[1:]) if (low in keeping) != (high in keeping)]
+        return {"coord": name, "atMost": self.chance.choice(turns)}
+
+    # ---- wrong certificates
+
+    def mutate(self):
+        wrong = (self.wrong_leaf, self.wrong_test, self.wrong_list, self.wrong_goals)
+        self.chance.choices(wrong, weights=(3, 6, 4, 1))[0]()
+
+    def wrong_node(self, is_test):
+        nodes = self.chance.choice(self.goals)[1] if self.goals else []
+        places = [place for place, node in enumerate(nodes) if ("coord" in node) == is_test]
+        return (nodes, self.chance.choice(places)) if places else (None, None)
+
+    def wrong_leaf(self):
+        nodes, place = self.wrong_node(False)
+        if nodes is None:
+            return
+        leaf = dict(nodes[place])
+        if "bag" in leaf or self.chance.random() < 0.3:
+            leaf = self.any_leaf()
+        else:
+            part = self.chance.choice(("layer", "kind", "word"))
+            leaf[part] = (leaf[part] + 1) % 64
+        nodes[place] = leaf
+
+    def wrong_test(self):
+        nodes, place = self.wrong_node(True)
+        if nodes is None:
+            return
+        test = dict(nodes[place])
+        draw = self.chance.random()
+        if draw < 0.3:
+            test = self.any_test()
+        elif "atMost" in test and draw < 0.8:
+            test["atMost"] = max(0, test["atMost"] + self.chance.choice((-1, 1, 200)))
+        elif "in" in test and draw < 0.8:
+            test["in"] = test["in"][1:] + self.random_choice(test["coord"], 2)
+        else:
+            test = self.other_kind(test)
+        nodes[place] = test
+
+    @staticmethod
+    def other_kind(test):
+        """`in` in place of `atMost`, and the other way round."""
+        name = test["coord"]
+        if "atMost" in test:
+            return {"coord": name, "in": [""] if name == "locale" else [test["atMost"]]}
+        return {"coord": name, "atMost": 0 if name == "locale" else max(test["in"], default=0)}
+
+    def wrong_list(self):
+        nodes = self.chance.choice(self.goals)[1] if self.goals else []
+        place = self.chance.randint(0, len(nodes))
+        draw = self.chance.randrange(6)
+        if draw == 0:
+            del nodes[place:]
+        elif draw == 1:
+            del nodes[place : place + 1]
+        elif draw == 2:
+            nodes.insert(place, self.any_leaf())
+        elif draw == 3:
+            nodes.insert(place, self.any_test())
+        elif draw == 4:
+            nodes[place : place + 2] = reversed(nodes[place : place + 2])
+        else:
+            nodes += nodes[place:]
+
+    def wrong_goals(self):
+        place = self.chance.randrange(len(self.goals)) if self.goals else 0
+        draw = self.chance.randrange(4)
+        if draw == 0:
+            del self.goals[place:]
+        elif draw == 1:
+            self.goals.append((FIRST_ID, [self.any_leaf()]))
+        elif draw == 2:
+            self.goals.reverse()
+        elif self.goals:
+            self.goals[place] = (self.goals[place][0] + 1, self.goals[place][1])
+
+
+def by_id(rows):
+    found = {}
+    for name, record, cell in rows:
+        found.setdefault(name, []).append((record, cell))
+    return found
