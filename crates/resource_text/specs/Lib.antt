@@ -5,6 +5,7 @@ pub mod TableFaultText
 pub mod LayersFaultText
 pub mod MapFaultText
 pub mod DeviceFaultText
+pub mod BoxFaultText
 pub mod FaultText
 pub mod CellText
 pub mod RowsText

@@ -16,6 +16,7 @@
 //! ```
 #![tactic(auto)]
 
+mod box_fault;
 mod cell;
 mod decision;
 mod device_fault;

@@ -32,7 +32,8 @@ impl ExitStatus {
             | ToolFault::Layers(_)
             | ToolFault::LayerTable(_, _)
             | ToolFault::LayerMap(_, _)
-            | ToolFault::Device(_) => ExitStatus::Refused,
+            | ToolFault::Device(_)
+            | ToolFault::Box(_) => ExitStatus::Refused,
             ToolFault::OutOfMemory => ExitStatus::Memory,
             ToolFault::Write => ExitStatus::Failed,
         }
