@@ -6,6 +6,7 @@ pub mod LayersFaultText
 pub mod MapFaultText
 pub mod DeviceFaultText
 pub mod BoxFaultText
+pub mod CertFaultText
 pub mod FaultText
 pub mod CellText
 pub mod RowsText

@@ -2,16 +2,18 @@
 
 ghost use Rattle.std.specs.Prelude.{◌≡◌, if◌then◌else◌};
 ghost use Rattle.contract_words.specs.Writes.{Writes};
-ghost use Rattle.resource_text.specs.FaultText.{refused_text, refused_layer_text, table_line, layers_line, layer_table_line, layer_map_line, device_line, box_line, fault_line};
+ghost use Rattle.resource_text.specs.FaultText.{refused_text, refused_layer_text, table_line, layers_line, layer_table_line, layer_map_line, device_line, box_line, certificate_line, fault_line};
 ghost use Rattle.resource_text.specs.ToolFault.{fault_of_layer_table, fault_of_layer_map};
 ghost use Rattle.resource_text.specs.declared.fault.ToolFault.TheVariants.{OutOfMemory, Write};
 
 use crate::box_fault::write_box_fault;
+use crate::cert_fault::write_cert_fault;
 use crate::device_fault::write_device_fault;
 use crate::layer::write_layer;
 use crate::layers_fault::{LayersFault, write_layers_fault};
 use crate::map_fault::write_map_fault;
 use crate::table_fault::write_table_fault;
+use cert_tree::CertFault;
 use config_box::BoxFault;
 use config_record::DeviceFault;
 use overlay_map::{MapFault, StackFault};
@@ -38,6 +40,8 @@ pub enum ToolFault {
     Device(DeviceFault),
     #[error("refused: box: {0}")]
     Box(BoxFault),
+    #[error("refused: certificate: {0}")]
+    Certificate(CertFault),
     #[error("out of memory")]
     OutOfMemory,
     /// The writer failed.
@@ -107,6 +111,17 @@ impl From<BoxFault> for ToolFault {
     }
 }
 
+impl From<CertFault> for ToolFault {
+    ghost use Rattle.resource_text.specs.ToolFault.{fault_of_certificate};
+
+    ghost from_gives = { λ fault e. e ≡ fault_of_certificate fault };
+
+    fn from(fault: CertFault) -> ToolFault {
+        let ran_out = matches!(fault, CertFault::OutOfMemory);
+        or_memory(ran_out, ToolFault::Certificate(fault))
+    }
+}
+
 impl From<StackFault> for ToolFault {
     ghost use Rattle.resource_text.specs.ToolFault.{fault_of_stack};
 
@@ -153,6 +168,7 @@ pub fn fault_text<W: Write + Drop>(fault: &ToolFault, out: &mut W) -> io::Result
         ToolFault::LayerMap(layer, fault) => write_layer_map_line(layer, fault, out),
         ToolFault::Device(fault) => write_device_line(fault, out),
         ToolFault::Box(fault) => write_box_line(fault, out),
+        ToolFault::Certificate(fault) => write_certificate_line(fault, out),
         ToolFault::OutOfMemory => out.write_all(b"out of memory\n"),
         ToolFault::Write => Ok(()),
     }
@@ -219,6 +235,15 @@ fn write_box_line<W: Write + Drop>(fault: BoxFault, out: &mut W) -> io::Result<(
 {
     write_refused("box: ", out)?;
     write_box_fault(fault, out)?;
+    out.write_all(b"\n")
+}
+
+#[tactic(auto, unfolding(crate::specs::FaultText::certificate_line))]
+fn write_certificate_line<W: Write + Drop>(fault: CertFault, out: &mut W) -> io::Result<()>
+    ensures { Writes W.contents out.old out.new result (certificate_line fault) }
+{
+    write_refused("certificate: ", out)?;
+    write_cert_fault(fault, out)?;
     out.write_all(b"\n")
 }
 

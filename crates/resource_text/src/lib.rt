@@ -18,6 +18,7 @@
 
 mod box_fault;
 mod cell;
+mod cert_fault;
 mod decision;
 mod device_fault;
 mod dump;

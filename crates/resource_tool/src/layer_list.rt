@@ -43,7 +43,7 @@ impl LayerList {
     }
 }
 
-#[tactic(auto, using(crate::proofs::LayerSteps::layers_of_list), unfolding(crate::specs::LayerList::layers_in_value))]
+#[tactic(auto, unfolding(crate::specs::LayerList::layers_in_value))]
 fn read_list(alloc: Global, value: &Value) -> Result<LayerList, LayersFault>
     ensures { GivesOr OutOfMemory listed result (layers_in_value (view value.now)) }
 {

@@ -33,7 +33,8 @@ impl ExitStatus {
             | ToolFault::LayerTable(_, _)
             | ToolFault::LayerMap(_, _)
             | ToolFault::Device(_)
-            | ToolFault::Box(_) => ExitStatus::Refused,
+            | ToolFault::Box(_)
+            | ToolFault::Certificate(_) => ExitStatus::Refused,
             ToolFault::OutOfMemory => ExitStatus::Memory,
             ToolFault::Write => ExitStatus::Failed,
         }
