@@ -1,0 +1,95 @@
+-- Certificates as contracts see them: goals and nodes, without where they lie in memory.
+use Rattle.std.specs.Prelude.{ℕ, ◌+◌, ◌≤◌, List, [], ◌∷◌, map, length}
+use Rattle.std.specs.List.{All}
+use Rattle.config_record.specs.declared.coord.Coord as coord
+use Rattle.config_record.specs.declared.coord.Coord.TheVariants as coords
+use Rattle.config_record.specs.declared.locale.Locale.{Locale}
+use Rattle.config_record.specs.Locale.{IsGiven}
+use Rattle.config_box.specs.declared.test.Test.{Test}
+use Rattle.config_box.specs.declared.test.Test.TheVariants as test
+use Rattle.config_box.specs.declared.test.Choice.{Choice}
+use Rattle.config_box.specs.declared.test.Choice.TheVariants as choice
+use Rattle.res_value.specs.declared.res_id.ResId.{ResId}
+use Rattle.res_value.specs.declared.value.Value.{Value}
+use Rattle.cert_tree.specs.declared.goal.Goal.{Goal}
+use Rattle.cert_tree.specs.declared.node.Node.{Node}
+use Rattle.cert_tree.specs.declared.node.Node.TheVariants as node
+use Rattle.cert_tree.specs.declared.cert.Cert.{Cert}
+use Rattle.cert_tree.specs.declared.cert.CertGoal.{CertGoal}
+
+-- listed numbers, or locales
+pub data ChoiceOf : Type 0 where
+  NumbersOf : List ℕ → ChoiceOf
+  LocalesOf : List Locale → ChoiceOf
+
+-- is the number at most this; is the value one of these
+pub data TestOf : Type 0 where
+  AtMostOf : coord.Coord → ℕ → TestOf
+  AmongOf : coord.Coord → ChoiceOf → TestOf
+
+-- a test, or where the goal ends: at a value in a layer, or at a bag
+pub data NodeOf : Type 0 where
+  TestAt : TestOf → NodeOf
+  ValueAt : ℕ → Value → NodeOf
+  BagAt : ResId → NodeOf
+
+-- a goal with its tree
+pub record GoalOf : Type 0 where
+  pub goal : Goal
+  pub nodes : List NodeOf
+
+abbrev pub choice_of : Choice → ChoiceOf
+choice_of (choice.Numbers numbers) = NumbersOf numbers.items
+choice_of (choice.Locales locales) = LocalesOf locales.items
+
+abbrev pub test_of : Test → TestOf
+test_of (test.AtMost c most) = AtMostOf c most
+test_of (test.Among c choice) = AmongOf c (choice_of choice)
+
+abbrev pub node_of : Node → NodeOf
+node_of (node.Test test) = TestAt (test_of test)
+node_of (node.Value layer value) = ValueAt layer value
+node_of (node.Bag id) = BagAt id
+
+abbrev pub goal_of : CertGoal → GoalOf
+goal_of g = record { goal = g.goal; nodes = map node_of g.nodes.items }
+
+abbrev pub goals_of : Cert → List GoalOf
+goals_of certificate = map goal_of certificate.goals.items
+
+-- how many nodes all goals have
+abbrev pub node_count : List GoalOf → ℕ
+node_count [] = 0
+node_count (g ∷ goals) = length g.nodes + node_count goals
+
+-- ---- the limits of what JSON can say
+
+-- how many nodes all goals of a certificate can have
+abbrev pub most_nodes : ℕ
+most_nodes = 1000000
+
+-- the last layer
+abbrev pub last_layer : ℕ
+last_layer = 63
+
+-- how many values a test can list
+abbrev pub most_listed : ℕ
+most_listed = 512
+
+-- numbers for a number, and for the locale locales that texts give
+abbrev pub ChoiceFits : coord.Coord → ChoiceOf → Type 0
+ChoiceFits coords.Locale (LocalesOf locales) = (length locales ≤ most_listed) × All IsGiven locales
+ChoiceFits coords.Locale (NumbersOf numbers) = ⊥
+ChoiceFits c (NumbersOf numbers) = length numbers ≤ most_listed
+ChoiceFits c (LocalesOf locales) = ⊥
+
+abbrev pub NodeFits : NodeOf → Type 0
+NodeFits (TestAt (AtMostOf c most)) = Unit {0}
+NodeFits (TestAt (AmongOf c choice)) = ChoiceFits c choice
+NodeFits (ValueAt layer value) = layer ≤ last_layer
+NodeFits (BagAt id) = Unit {0}
+
+-- a certificate within the limits, whose lists are of their coordinates' kinds
+pub record CertFits (goals : List GoalOf) : Type 0 where
+  pub few : node_count goals ≤ most_nodes
+  pub nodes : All (λ g. All NodeFits g.nodes) goals

@@ -1,0 +1,45 @@
+//! Why no certificate was read.
+
+ghost use Rattle.std.specs.Prelude.{◌≡◌};
+ghost use Rattle.cert_tree.specs.declared.cert_fault.CertFault.TheVariants.{OutOfMemory};
+
+use std::alloc::{AllocError, AllocFailed};
+use thiserror::Error;
+
+/// Why no certificate was read. A text is first read, then its version is looked at, then the shape of
+/// the whole; then goal by goal its shape, how many nodes there are with it, and its nodes. The first
+/// fault is named.
+#[derive(Clone, Copy, Debug, PartialEq, Eq, Error)]
+pub enum CertFault {
+    /// The bytes are no JSON text that `serde_json` reads.
+    #[error("Syntax")]
+    Syntax,
+    /// The version is missing, or is not the number 1.
+    #[error("Version")]
+    Version,
+    /// A goal and its node that has none of the shapes, both counted from 0. At a goal that has not
+    /// the shape of one the node is 0, and at a certificate that has not the goal is 0 too.
+    #[error("Shape {0} {1}")]
+    Shape(usize, usize),
+    /// More than 1,000,000 nodes stand in the goals up to one of them.
+    #[error("TooManyNodes")]
+    TooManyNodes,
+    #[error("OutOfMemory")]
+    OutOfMemory,
+}
+
+impl From<AllocError> for CertFault {
+    ghost from_gives = { λ _ e. e ≡ OutOfMemory };
+
+    fn from(_error: AllocError) -> CertFault {
+        CertFault::OutOfMemory
+    }
+}
+
+impl<T: Drop> From<AllocFailed<T>> for CertFault {
+    ghost from_gives = { λ _ e. e ≡ OutOfMemory };
+
+    fn from(_error: AllocFailed<T>) -> CertFault {
+        CertFault::OutOfMemory
+    }
+}
