@@ -1,0 +1,38 @@
+-- What do the traces of all members of a box have in common? They are one, or two members side by side show where they
+-- part first.
+use Rattle.std.specs.Prelude.{◌≡◌, ◌≢◌, ℕ, List}
+use Rattle.config_record.specs.declared.coord.Coord.{Coord}
+use Rattle.config_record.specs.ComparedNumber.{device_number}
+use Rattle.config_record.specs.DeviceSeen.{device_numbers}
+use Rattle.box_answers.specs.NumberSet.{SetOf}
+use Rattle.box_answers.specs.Members.{set_at, IsMember}
+use Rattle.box_answers.specs.Sameness.{AreNeighbours}
+use Rattle.reference_resolver.specs.declared.step.Step.{Step}
+use Rattle.reference_resolver.specs.Trace.{Trace}
+use Rattle.box_trace.specs.declared.common.CommonTrace.{CommonTrace}
+use Rattle.box_trace.specs.declared.common.CommonTrace.TheVariants.{One, Mixed}
+use Rattle.box_trace.specs.Division.{Divides}
+
+-- every member has this trace
+abbrev pub SharesTrace : (List ℕ → Type 0) → (List ℕ → Trace) → Trace → Type 0
+SharesTrace members trace t = (d : List ℕ) → members d → trace d ≡ t
+
+-- two members of a box that differ in this coordinate alone, and by one where it is a range
+pub record AreSideBySide (sets : List SetOf) (x y : List ℕ) (c : Coord) : Type 0 where
+  pub x_member : IsMember sets x
+  pub y_member : IsMember sets y
+  pub others : (k : Coord) → k ≢ c → device_number x k ≡ device_number y k
+  pub near : AreNeighbours (set_at sets c) (device_number x c) (device_number y c)
+
+-- one: all members have one trace, with this end; mixed: two members side by side, divided by the first question that
+-- members answer differently
+abbrev pub IsCommonTrace : CommonTrace → List SetOf → (List ℕ → Trace) → Type 0
+IsCommonTrace (One end) sets trace = (steps : List Step) × SharesTrace (IsMember sets) trace (record { steps = steps; end = end })
+IsCommonTrace (Mixed x y c) sets trace =
+    AreSideBySide sets (device_numbers x) (device_numbers y) c
+    × Divides (IsMember sets) (λ d. (trace d).steps) (device_numbers x) (device_numbers y)
+
+-- So two that are named have different traces.
+abbrev pub NamesTwoTraces : CommonTrace → (List ℕ → Trace) → Type 0
+NamesTwoTraces (One end) trace = Unit {0}
+NamesTwoTraces (Mixed x y c) trace = trace (device_numbers x) ≢ trace (device_numbers y)

@@ -1,0 +1,34 @@
+//! What all members of a box have in common, or two that differ.
+
+use config_record::{Coord, Device};
+use overlay_map::Cand;
+use reference_resolver::{End, Step};
+
+/// What the traces of all members of a box have in common.
+#[derive(Clone, Copy, Debug, PartialEq, Eq)]
+pub enum CommonTrace {
+    /// All members have one trace, and this is its end.
+    One(End),
+    /// Two members that differ in this coordinate alone, and by one where it is a range. At the first
+    /// question that members answer differently the first answers yes, the second no. The questions are, of
+    /// each candidate in turn, whether it matches, and, where it matches all, whether it takes over.
+    Mixed(Device, Device, Coord),
+}
+
+/// What all members of a box select for an id.
+#[derive(Clone, Copy, Debug)]
+pub(crate) enum CommonSelection<'a> {
+    /// All take the same steps to this candidate, or to none.
+    One(Option<Cand<'a>>),
+    /// Two members, as above.
+    Mixed(Device, Device, Coord),
+}
+
+/// What a candidate does at all members of a box.
+#[derive(Clone, Copy, Debug, PartialEq, Eq)]
+pub(crate) enum CommonStep {
+    /// The same at all.
+    One(Step),
+    /// Two members, as above.
+    Mixed(Device, Device, Coord),
+}

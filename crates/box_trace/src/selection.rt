@@ -1,0 +1,29 @@
+//! What all members of a box select for an id.
+
+ghost use Rattle.box_trace.specs.CommonSelection.{IsCommonSelection};
+
+use crate::common::{CommonSelection, CommonStep};
+use crate::step::common_step;
+use config_box::ConfigBox;
+use overlay_map::Stack;
+use reference_resolver::Step;
+use res_value::ResId;
+
+/// The candidate of an id that all members select, and by the same steps.
+pub(crate) fn common_selection<'a>(
+    stack: &Stack<'a>,
+    id: ResId,
+    members: &ConfigBox,
+) -> CommonSelection<'a>
+    ensures { IsCommonSelection result members.now stack.now id.0 }
+{
+    let mut best = None;
+    for candidate in stack.candidates(id) {
+        match common_step(&best, &candidate, members) {
+            CommonStep::One(Step::TookOver) => best = Some(candidate),
+            CommonStep::One(_) => {}
+            CommonStep::Mixed(yes, no, coord) => return CommonSelection::Mixed(yes, no, coord),
+        }
+    }
+    CommonSelection::One(best)
+}
