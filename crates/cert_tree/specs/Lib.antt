@@ -1,1 +1,4 @@
 pub mod Certificate
+pub mod ReadOn
+pub mod CertJson
+pub mod Lent

@@ -1,13 +1,15 @@
 //! Certificates: for each goal a decision tree over the coordinates of a device, whose leaves name
-//! values and bags. Nothing here says whether a certificate is true.
+//! values and bags. A certificate is read from JSON; nothing here says whether it is true.
 //!
 //! A tree is the list of its nodes, each test before what stands behind its answer yes, and that
-//! before what stands behind its answer no. So a tree of any depth is gone through node by node.
+//! before what stands behind its answer no. So a tree of any depth is read item by item.
 //!
 //! For the crates above: contracts see a certificate as the list of its goals with their nodes,
-//! without where they lie in memory (`goals_of`), and a node as `node_of` says.
+//! without where they lie in memory (`goals_of`), and a node as `node_of` says. What is read of a text
+//! is exactly what it means (`cert_in`), or its first fault.
 //!
 //! ```text
+//! let certificate = Cert::read(alloc, b"{\"version\":1,\"goals\":[]}")?;
 //! for CertGoal { goal, nodes } in &certificate.goals {
 //!     ..
 //! }
@@ -17,7 +19,10 @@
 mod cert;
 mod cert_fault;
 mod goal;
+mod members;
 mod node;
+mod read;
+mod read_nodes;
 
 pub use cert::{Cert, CertGoal, OutOfMemory};
 pub use cert_fault::CertFault;

@@ -1,0 +1,2 @@
+pub mod ReadOnSteps
+pub mod ReadSteps

@@ -1,0 +1,48 @@
+-- The goals and nodes that are read, each behind those before it.
+use Rattle.std.proofs.Common.{◌≡◌, ℕ, ◌+◌, List, [], ◌∷◌, ◌++◌, map, length, Some, ok_or, Result, Ok, sym, ap, ◌∙◌, arith}
+use Rattle.std.proofs.lemmas.List.{length-map, map-append}
+use Rattle.serde_json.specs.Data.{Data}
+use Rattle.serde_json.specs.Find.{as_array}
+use Rattle.serde_json.specs.View.{view, items_view}
+use Rattle.json_input.specs.Each.{list_of}
+use Rattle.json_input.proofs.EachSteps.{list_items-view}
+use Rattle.serde_json.specs.declared.value.Value.{Value}
+use Rattle.cert_tree.specs.declared.cert.CertGoal.{CertGoal}
+use Rattle.cert_tree.specs.declared.cert_fault.CertFault.{CertFault}
+use Rattle.cert_tree.specs.declared.cert_fault.CertFault.TheVariants.{Shape}
+use Rattle.cert_tree.specs.declared.node.Node.{Node}
+use Rattle.cert_tree.specs.Certificate.{NodeOf, GoalOf, node_of, goal_of, node_count}
+use Rattle.cert_tree.specs.CertJson.{node_in, node_after, goal_in, goal_after}
+
+-- a node whose place is the count of those before it
+pub node_after-is : (goal : ℕ) (before : List Node) (place : ℕ) (item there : Value) (r : Result NodeOf CertFault)
+    → node_in (Shape goal place) (view item) ≡ r → item ≡ there → place ≡ length before → node_after goal (map node_of before) (view there) ≡ r
+node_after-is goal before place item there r given is count =
+    ap (λ (k : ℕ). node_in (Shape goal k) (view there)) (length-map before node_of ∙ sym count)
+    ∙ ap (λ (v : Value). node_in (Shape goal place) (view v)) (sym is)
+    ∙ given
+
+-- a goal whose number is the count of those before it, and the count of their nodes
+pub goal_after-is : (before : List CertGoal) (place nodes_before : ℕ) (item there : Value) (r : Result GoalOf CertFault)
+    → goal_in place nodes_before (view item) ≡ r → item ≡ there → place ≡ length before → nodes_before ≡ node_count (map goal_of before)
+    → goal_after (map goal_of before) (view there) ≡ r
+goal_after-is before place nodes_before item there r given is count nodes =
+    ap (λ (k : ℕ). goal_in k (node_count (map goal_of before)) (view there)) (length-map before goal_of ∙ sym count)
+    ∙ ap (λ (k : ℕ). goal_in place k (view there)) (sym nodes)
+    ∙ ap (λ (v : Value). goal_in place nodes_before (view v)) (sym is)
+    ∙ given
+
+pub count-push : (goals : List GoalOf) (g : GoalOf) → node_count (goals ++ g ∷ []) ≡ node_count goals + length g.nodes
+count-push [] g = omega arith
+count-push (first ∷ goals) g = let e : node_count (goals ++ g ∷ []) ≡ node_count goals + length g.nodes = count-push goals g in omega arith
+
+pub count-next : (goals : List CertGoal) (g : CertGoal) → node_count (map goal_of (goals ++ g ∷ [])) ≡ node_count (map goal_of goals) + length g.nodes.items
+count-next goals g =
+    ap node_count (map-append goal_of goals (g ∷ []))
+    ∙ count-push (map goal_of goals) (goal_of g)
+    ∙ ap (λ (k : ℕ). node_count (map goal_of goals) + k) (length-map g.nodes.items node_of)
+
+-- the items of a list, where they are lent
+pub items-lent : (shape : CertFault) (value : Data) (items lent : List Value) → Some (items_view items) ≡ as_array value → lent ≡ items → Ok (map view lent) ≡ ok_or (list_of value) shape
+items-lent shape value items lent is same =
+    rw (same, ← is) (ap (λ (ds : List Data). Ok ds) (sym (list_items-view items)))

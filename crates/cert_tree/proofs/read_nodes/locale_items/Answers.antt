@@ -1,0 +1,12 @@
+use Rattle.std.proofs.Common.{sym, ap, ◌∙◌}
+use Rattle.std.proofs.lemmas.Result.{err_from_is_err_and}
+use Rattle.serde_json.specs.View.{view}
+use Rattle.json_input.proofs.EachSteps.{EachAllBut-stops_item}
+use Rattle.cert_tree.specs.CertJson.{locale_item}
+use Rattle.cert_tree.proofs.read_nodes.locale_items.Goals as goal
+
+pub returns-in_err-locale : goal.returns-in_err-locale
+returns-in_err-locale c =
+    let p = err_from_is_err_and c.from_residual.result c.from_residual.ensures.1 in
+    let is = ap (λ v. locale_item c.args.shape (view v)) (sym c.item-item.is) ∙ sym c.locale_item.ensures ∙ c.in_err-locale.was in
+    rw (p.1, p.2) (λ other. EachAllBut-stops_item (locale_item c.args.shape) view _ _ c.args.items.now _ _ c.loop-item.invariant c.loop-item-test.true is)

@@ -1,0 +1,147 @@
+-- The certificate that a JSON text means, or its first fault.
+use Rattle.std.specs.Prelude.{ℕ, ◌+◌, ◌==◌, nat_le, nat_lt, not, bytes_eq, Bool, false, if◌then◌else◌, List, [], ◌∷◌, codes, find, length, Option, Some, None, option_and_then, ok_or, is_some, unwrap_or, Result, Ok, Err}
+use Rattle.std.specs.Option.{option_map}
+use Rattle.std.specs.Result.{result_ok}
+use Rattle.contract_words.specs.Faults.{◌>>=◌, refuse}
+use Rattle.serde_json.specs.Data.{Data}
+use Rattle.serde_json.specs.Find.{get, as_object}
+use Rattle.json_input.specs.Each.{list_of, each}
+use Rattle.json_input.specs.Json.{value_of}
+use Rattle.json_input.specs.Shape.{has_only, number_of, text_of}
+use Rattle.config_record.specs.declared.coord.Coord as coord
+use Rattle.config_record.specs.declared.coord.Coord.TheVariants as coords
+use Rattle.config_record.specs.declared.locale.Locale.{Locale}
+use Rattle.config_record.specs.Coord.{all_coords, name_of}
+use Rattle.config_record.specs.Locale.{locale_of}
+use Rattle.res_value.specs.declared.res_id.ResId.{ResId}
+use Rattle.res_value.specs.ResId.{id_of}
+use Rattle.cert_tree.specs.declared.goal.Goal.TheVariants.{Id}
+use Rattle.cert_tree.specs.declared.cert_fault.CertFault.{CertFault}
+use Rattle.cert_tree.specs.declared.cert_fault.CertFault.TheVariants.{Syntax, Version, Shape, TooManyNodes}
+use Rattle.cert_tree.specs.Certificate.{ChoiceOf, NumbersOf, LocalesOf, AtMostOf, AmongOf, NodeOf, TestAt, ValueAt, BagAt, GoalOf, node_count, most_nodes, last_layer, most_listed}
+use Rattle.cert_tree.specs.ReadOn.{read_on}
+
+-- ---- members, and items of lists; `shape` is the fault of what has none of the shapes
+
+-- the greatest number of 32 bits, and of 8
+abbrev pub last_word : ℕ
+last_word = 4294967295
+
+abbrev pub last_kind : ℕ
+last_kind = 255
+
+-- a number, where it is at most this
+abbrev pub at_most : ℕ → ℕ → Option ℕ
+at_most most n = if nat_le n most then Some n else None
+
+unfoldable pub number_within : CertFault → ℕ → Data → Result ℕ CertFault
+number_within shape most value = ok_or (option_and_then (at_most most) (number_of value)) shape
+
+unfoldable pub number_at : CertFault → List ℕ → ℕ → Data → Result ℕ CertFault
+number_at shape name most value = ok_or (get name value) shape >>= number_within shape most
+
+unfoldable pub id_at : CertFault → List ℕ → Data → Result ResId CertFault
+id_at shape name value = ok_or (option_and_then id_of (option_and_then text_of (get name value))) shape
+
+unfoldable pub list_at : CertFault → List ℕ → Data → Result (List Data) CertFault
+list_at shape name value = ok_or (option_and_then list_of (get name value)) shape
+
+-- the coordinate of a name
+unfoldable pub coord_named : List ℕ → Option coord.Coord
+coord_named name = find (λ c. bytes_eq (name_of c) name) all_coords
+
+unfoldable pub coord_at : CertFault → Data → Result coord.Coord CertFault
+coord_at shape value = ok_or (option_and_then coord_named (option_and_then text_of (get (codes "coord") value))) shape
+
+-- ---- nodes
+
+unfoldable pub at_most_in : CertFault → Data → Result NodeOf CertFault
+at_most_in shape value = do
+  c ← coord_at shape value
+  most ← number_at shape (codes "atMost") last_word value
+  Ok (TestAt (AtMostOf c most))
+
+abbrev pub number_item : CertFault → Data → Result ℕ CertFault
+number_item shape value = number_within shape last_word value
+
+-- a text that gives a locale
+unfoldable pub locale_item : CertFault → Data → Result Locale CertFault
+locale_item shape value = ok_or (option_and_then (λ text. result_ok (locale_of text)) (text_of value)) shape
+
+-- texts at the locale, elsewhere numbers
+unfoldable pub choice_in : CertFault → coord.Coord → List Data → Result ChoiceOf CertFault
+choice_in shape coords.Locale items = each (locale_item shape) items >>= λ locales. Ok (LocalesOf locales)
+choice_in shape c items = each (number_item shape) items >>= λ numbers. Ok (NumbersOf numbers)
+
+unfoldable pub among_in : CertFault → Data → Result NodeOf CertFault
+among_in shape value = do
+  c ← coord_at shape value
+  items ← list_at shape (codes "in") value
+  _ ← refuse (nat_lt most_listed (length items)) shape
+  choice ← choice_in shape c items
+  Ok (TestAt (AmongOf c choice))
+
+unfoldable pub value_in : CertFault → Data → Result NodeOf CertFault
+value_in shape value = do
+  layer ← number_at shape (codes "layer") last_layer value
+  kind ← number_at shape (codes "kind") last_kind value
+  word ← number_at shape (codes "word") last_word value
+  Ok (ValueAt layer (record { kind = kind; word = word }))
+
+unfoldable pub bag_in : CertFault → Data → Result NodeOf CertFault
+bag_in shape value = id_at shape (codes "bag") value >>= λ id. Ok (BagAt id)
+
+-- an object with the members of one kind of node, and no other
+unfoldable pub node_in : CertFault → Data → Result NodeOf CertFault
+node_in shape value =
+    if has_only (codes "coord" ∷ codes "atMost" ∷ []) value then at_most_in shape value
+    else if has_only (codes "coord" ∷ codes "in" ∷ []) value then among_in shape value
+    else if has_only (codes "layer" ∷ codes "kind" ∷ codes "word" ∷ []) value then value_in shape value
+    else if has_only (codes "bag" ∷ []) value then bag_in shape value
+    else Err shape
+
+-- a node of a goal, behind those before it
+abbrev pub node_after : ℕ → List NodeOf → Data → Result NodeOf CertFault
+node_after goal before value = node_in (Shape goal (length before)) value
+
+-- ---- goals
+
+-- an object with an id and a list of nodes, and no other member
+unfoldable pub goal_members : CertFault → Data → Result (ResId × List Data) CertFault
+goal_members shape value = do
+  _ ← refuse (not (has_only (codes "id" ∷ codes "nodes" ∷ []) value)) shape
+  id ← id_at shape (codes "id") value
+  items ← list_at shape (codes "nodes") value
+  Ok (id, items)
+
+-- the goal of this number, where so many nodes stand in those before it: first its shape, then how
+-- many nodes there are, then the nodes
+unfoldable pub goal_in : ℕ → ℕ → Data → Result GoalOf CertFault
+goal_in goal nodes_before value = do
+  members ← goal_members (Shape goal 0) value
+  _ ← refuse (nat_lt most_nodes (nodes_before + length members.1)) TooManyNodes
+  nodes ← read_on (node_after goal) [] members.1
+  Ok (record { goal = Id members.0; nodes = nodes })
+
+abbrev pub goal_after : List GoalOf → Data → Result GoalOf CertFault
+goal_after before value = goal_in (length before) (node_count before) value
+
+-- ---- the whole
+
+-- the version is the number 1
+unfoldable pub is_version_1 : Data → Bool
+is_version_1 value = unwrap_or (option_map (λ n. n == 1) (option_and_then number_of (get (codes "version") value))) false
+
+-- an object of version 1, with a list of goals and no other member
+unfoldable pub goal_list : Data → Result (List Data) CertFault
+goal_list value = do
+  _ ← refuse (not (is_some (as_object value))) (Shape 0 0)
+  _ ← refuse (not (is_version_1 value)) Version
+  _ ← refuse (not (has_only (codes "version" ∷ codes "goals" ∷ []) value)) (Shape 0 0)
+  list_at (Shape 0 0) (codes "goals") value
+
+unfoldable pub goals_in_value : Data → Result (List GoalOf) CertFault
+goals_in_value value = goal_list value >>= read_on goal_after []
+
+abbrev pub cert_in : List ℕ → Result (List GoalOf) CertFault
+cert_in json = ok_or (value_of json) Syntax >>= goals_in_value
