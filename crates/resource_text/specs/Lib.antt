@@ -14,3 +14,4 @@ pub mod DumpText
 pub mod EndText
 pub mod QueryText
 pub mod ExplainText
+pub mod VerdictText

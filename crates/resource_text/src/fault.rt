@@ -17,6 +17,7 @@ use cert_tree::CertFault;
 use config_box::BoxFault;
 use config_record::DeviceFault;
 use overlay_map::{MapFault, StackFault};
+use std::alloc::AllocError;
 use std::io::{self, Write};
 use thiserror::Error;
 use type_chunks::TableFault;
@@ -132,6 +133,14 @@ impl From<StackFault> for ToolFault {
             StackFault::TooManyLayers => ToolFault::Layers(LayersFault::TooManyLayers),
             StackFault::OutOfMemory => ToolFault::OutOfMemory,
         }
+    }
+}
+
+impl From<AllocError> for ToolFault {
+    ghost from_gives = { λ _ e. e ≡ OutOfMemory };
+
+    fn from(_error: AllocError) -> ToolFault {
+        ToolFault::OutOfMemory
     }
 }
 
