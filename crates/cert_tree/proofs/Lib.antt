@@ -1,2 +1,5 @@
 pub mod ReadOnSteps
 pub mod ReadSteps
+pub mod TextLemmas
+pub mod ReadsBackLemmas
+pub mod WrittenSteps

@@ -4,7 +4,7 @@ use Rattle.std.specs.List.{All}
 use Rattle.config_record.specs.declared.coord.Coord as coord
 use Rattle.config_record.specs.declared.coord.Coord.TheVariants as coords
 use Rattle.config_record.specs.declared.locale.Locale.{Locale}
-use Rattle.config_record.specs.Locale.{IsGiven}
+use Rattle.config_record.specs.Locale.{IsOfSomeText}
 use Rattle.config_box.specs.declared.test.Test.{Test}
 use Rattle.config_box.specs.declared.test.Test.TheVariants as test
 use Rattle.config_box.specs.declared.test.Choice.{Choice}
@@ -76,9 +76,9 @@ last_layer = 63
 abbrev pub most_listed : ℕ
 most_listed = 512
 
--- numbers for a number, and for the locale locales that texts give
+-- numbers for a number; for the locale locales, each of which some text stands for
 abbrev pub ChoiceFits : coord.Coord → ChoiceOf → Type 0
-ChoiceFits coords.Locale (LocalesOf locales) = (length locales ≤ most_listed) × All IsGiven locales
+ChoiceFits coords.Locale (LocalesOf locales) = (length locales ≤ most_listed) × All IsOfSomeText locales
 ChoiceFits coords.Locale (NumbersOf numbers) = ⊥
 ChoiceFits c (NumbersOf numbers) = length numbers ≤ most_listed
 ChoiceFits c (LocalesOf locales) = ⊥

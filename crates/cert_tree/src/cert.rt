@@ -1,12 +1,15 @@
 //! Certificates.
 
+ghost use Rattle.std.specs.Prelude.{◌≡◌, Ok, IfOk};
 ghost use Rattle.contract_words.specs.Exact.{GivesOr};
+ghost use Rattle.serde_json.specs.Written.{compact_text};
 ghost use Rattle.cert_tree.specs.declared.cert_fault.CertFault.TheVariants.{OutOfMemory};
 
 use crate::cert_fault::CertFault;
 use crate::goal::Goal;
 use crate::node::Node;
 use crate::read::goals_in_value;
+use crate::write::cert_value;
 use json_input::{JsonFault, read_value};
 use std::alloc::{AllocError, Global};
 
@@ -27,8 +30,9 @@ pub struct CertGoal {
 }
 
 impl Cert {
-    ghost use Rattle.cert_tree.specs.Certificate.{goals_of};
+    ghost use Rattle.cert_tree.specs.Certificate.{goals_of, CertFits};
     ghost use Rattle.cert_tree.specs.CertJson.{cert_in};
+    ghost use Rattle.cert_tree.specs.WrittenJson.{cert_data};
 
     /// The certificate of a JSON text.
     pub fn read(alloc: Global, json: &[u8]) -> Result<Cert, CertFault>
@@ -42,5 +46,18 @@ impl Cert {
             Err(JsonFault::Syntax) => Err(CertFault::Syntax),
             Err(JsonFault::OutOfMemory) => Err(CertFault::OutOfMemory),
         }
+    }
+
+    /// The certificate as compact JSON, without an end of line. The members of each object stand in
+    /// the order of their names' bytes.
+    pub fn write(&self, alloc: Global) -> Result<Vec<u8>, OutOfMemory>
+        ensures text { IfOk result (λ bytes. bytes.items ≡ compact_text (cert_data (goals_of self.now))) }
+
+        // What is written is read as the same goals and nodes.
+        ensures reads_back { IfOk result (λ bytes. CertFits (goals_of self.now) → cert_in bytes.items ≡ Ok (goals_of self.now)) }
+    {
+        let value = cert_value(alloc, self)?;
+        let bytes = value.to_vec(alloc)?;
+        Ok(bytes)
     }
 }

@@ -1,12 +1,14 @@
 //! Certificates: for each goal a decision tree over the coordinates of a device, whose leaves name
-//! values and bags. A certificate is read from JSON; nothing here says whether it is true.
+//! values and bags. A certificate is read from JSON and written as JSON; nothing here says whether it
+//! is true.
 //!
 //! A tree is the list of its nodes, each test before what stands behind its answer yes, and that
-//! before what stands behind its answer no. So a tree of any depth is read item by item.
+//! before what stands behind its answer no. So a tree of any depth is read and written item by item.
 //!
 //! For the crates above: contracts see a certificate as the list of its goals with their nodes,
 //! without where they lie in memory (`goals_of`), and a node as `node_of` says. What is read of a text
-//! is exactly what it means (`cert_in`), or its first fault.
+//! is exactly what it means (`cert_in`), or its first fault. What is written of a certificate within
+//! the limits (`CertFits`) is read as the same goals and nodes.
 //!
 //! ```text
 //! let certificate = Cert::read(alloc, b"{\"version\":1,\"goals\":[]}")?;
@@ -23,6 +25,8 @@ mod members;
 mod node;
 mod read;
 mod read_nodes;
+mod texts;
+mod write;
 
 pub use cert::{Cert, CertGoal, OutOfMemory};
 pub use cert_fault::CertFault;

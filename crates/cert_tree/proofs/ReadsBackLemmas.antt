@@ -1,0 +1,227 @@
+-- What is written of a certificate is read as the same goals and nodes.
+use Rattle.std.proofs.Common.{◌≡◌, ℕ, ◌+◌, ◌≤◌, nat_le, nat_lt, true, false, List, [], ◌∷◌, ◌++◌, map, length, get_or, Option, Some, ok_or, Result, Ok, append_assoc, refl, sym, ap, ◌∙◌, arith}
+use Rattle.std.specs.List.{All}
+use Rattle.std.specs.Result.{result_ok}
+use Rattle.std.proofs.lemmas.Bool.Decides.{nat_tests}
+use Rattle.std.proofs.lemmas.List.{append-nil, length-map}
+use Rattle.std.proofs.lemmas.List.Elements.{All-head, All-tail}
+use Rattle.contract_words.specs.Faults.{◌>>=◌}
+use Rattle.contract_words.specs.Sequences.{with_front}
+use Rattle.serde_json.specs.Data.{Data, depth, items_depth}
+use Rattle.serde_json.specs.View.{items_of}
+use Rattle.serde_json.specs.Read.{max_depth}
+use Rattle.serde_json.specs.Written.{has_float, items_have_float}
+use Rattle.json_input.specs.Each.{list_items, each}
+use Rattle.json_input.specs.Json.{value_of}
+use Rattle.json_input.specs.Shape.{has_only, are_among, is_among}
+use Rattle.config_record.specs.declared.coord.Coord as coord
+use Rattle.config_record.specs.declared.coord.Coord.TheVariants as coords
+use Rattle.config_record.specs.declared.locale.Locale.{Locale}
+use Rattle.config_record.specs.declared.locale.LocaleFault.{LocaleFault}
+use Rattle.config_record.specs.Coord.{all_coords, name_of}
+use Rattle.config_record.specs.Locale.{IsOfSomeText, locale_of, locale_text}
+use Rattle.config_record.proofs.LocaleLemmas.{locale_of-gives}
+use Rattle.res_value.specs.declared.res_id.ResId.{ResId}
+use Rattle.res_value.specs.declared.value.Value.{Value}
+use Rattle.res_value.specs.ResId.{id_of, id_text}
+use Rattle.cert_tree.specs.declared.cert_fault.CertFault.{CertFault}
+use Rattle.cert_tree.specs.declared.cert_fault.CertFault.TheVariants.{Syntax, Shape}
+use Rattle.cert_tree.specs.declared.goal.Goal.{Goal}
+use Rattle.cert_tree.specs.declared.goal.Goal.TheVariants.{Id}
+use Rattle.cert_tree.specs.Certificate.{ChoiceOf, NumbersOf, LocalesOf, AtMostOf, AmongOf, NodeOf, TestAt, ValueAt, BagAt, GoalOf, ChoiceFits, NodeFits, CertFits, node_count, most_nodes, most_listed, last_layer}
+use Rattle.cert_tree.specs.ReadOn.{read_on}
+use Rattle.cert_tree.specs.CertJson.{last_word, last_kind, number_within, number_at, id_at, list_at, coord_named, coord_at, number_item, locale_item, choice_in, at_most_in, among_in, value_in, bag_in, node_in, node_after, goal_members, goal_in, goal_after, is_version_1, goal_list, goals_in_value, cert_in}
+use Rattle.cert_tree.specs.WrittenJson.{number_data, locale_data, choice_items, node_data, goal_id_data, goal_data, cert_data}
+use Rattle.cert_tree.specs.ReadsBack.{NumberReadsBack, ChoiceReadsBack, NodeReadsBack, GoalReadsBack}
+use Rattle.cert_tree.proofs.ReadOnSteps.{read_on-ok, read_on-none}
+use Rattle.cert_tree.proofs.ReadSteps.{count-push}
+
+-- ---- lists
+
+list_items-items_of : (values : List Data) → list_items (items_of values) ≡ values
+list_items-items_of [] = refl
+list_items-items_of (value ∷ values) = ap (λ (t : List Data). value ∷ t) (list_items-items_of values)
+
+each-back : {X E : Type 0} (f : Data → Result X E) (data_of : X → Data) (xs : List X) → All (λ x. f (data_of x) ≡ Ok x) xs → each f (map data_of xs) ≡ Ok xs
+unfolding each
+each-back f data_of [] back = refl
+each-back {X} {E} f data_of (x ∷ xs) back =
+    ap (λ (r : Result X E). r >>= (λ y. with_front (y ∷ []) (each f (map data_of xs)))) (All-head (λ y. f (data_of y) ≡ Ok y) x xs back)
+    ∙ ap (with_front (x ∷ [])) (each-back f data_of xs (All-tail (λ y. f (data_of y) ≡ Ok y) x xs back))
+
+-- ---- numbers and texts
+
+within : (most n : ℕ) → n ≤ most → nat_le n most ≡ true
+within most n le = grind (arith, nat_tests)
+
+pub number-back : (n : ℕ) → n ≤ last_word → NumberReadsBack n
+unfolding number_within
+number-back n le shape = rw (within last_word n le) refl
+
+locale-read : (shape : CertFault) (r : Result Locale LocaleFault) (locale : Locale) → r ≡ Ok locale → ok_or (result_ok r) shape ≡ Ok locale
+locale-read shape r locale given = rw given refl
+
+locale-back : (locale : Locale) → IsOfSomeText locale → (shape : CertFault) → locale_item shape (locale_data locale) ≡ Ok locale
+unfolding locale_item
+locale-back locale given shape =
+    locale-read shape (locale_of (locale_text locale)) locale (ap locale_of (locale_of-gives given.0 locale given.1).printed ∙ given.1)
+
+coord-back : (c : coord.Coord) → coord_named (name_of c) ≡ Some c
+unfolding coord_named all_coords name_of
+coord-back coords.Mcc = refl
+coord-back coords.Mnc = refl
+coord-back coords.Locale = refl
+coord-back coords.LayoutDirection = refl
+coord-back coords.SmallestWidthDp = refl
+coord-back coords.WidthDp = refl
+coord-back coords.HeightDp = refl
+coord-back coords.ScreenSize = refl
+coord-back coords.Long = refl
+coord-back coords.Round = refl
+coord-back coords.WideColor = refl
+coord-back coords.Hdr = refl
+coord-back coords.Orientation = refl
+coord-back coords.UiType = refl
+coord-back coords.Night = refl
+coord-back coords.Density = refl
+coord-back coords.Touchscreen = refl
+coord-back coords.KeysHidden = refl
+coord-back coords.NavHidden = refl
+coord-back coords.Keyboard = refl
+coord-back coords.Navigation = refl
+coord-back coords.Width = refl
+coord-back coords.Height = refl
+coord-back coords.Sdk = refl
+coord-back coords.Minor = refl
+
+-- ---- choices
+
+numbers-read : (numbers : List ℕ) → All NumberReadsBack numbers → (shape : CertFault) → each (number_item shape) (map number_data numbers) ≡ Ok numbers
+numbers-read numbers back shape = each-back (number_item shape) number_data numbers (λ k d on. back k d on shape)
+
+locales-read : (locales : List Locale) → All IsOfSomeText locales → (shape : CertFault) → each (locale_item shape) (map locale_data locales) ≡ Ok locales
+locales-read locales given shape = each-back (locale_item shape) locale_data locales (λ k d on. locale-back (get_or locales k d) (given k d on) shape)
+
+pub numbers-back : (numbers : List ℕ) → All NumberReadsBack numbers → ChoiceReadsBack (NumbersOf numbers)
+unfolding choice_in
+numbers-back numbers back coords.Locale fits shape = absurd fits
+numbers-back numbers back c fits shape = ap (λ (r : Result (List ℕ) CertFault). r >>= λ ns. Ok (NumbersOf ns)) (numbers-read numbers back shape)
+
+pub locales-back : (locales : List Locale) → ChoiceReadsBack (LocalesOf locales)
+unfolding choice_in
+locales-back locales coords.Locale fits shape = ap (λ (r : Result (List Locale) CertFault). r >>= λ ls. Ok (LocalesOf ls)) (locales-read locales fits.1 shape)
+locales-back locales c fits shape = absurd fits
+
+few-listed : (c : coord.Coord) (choice : ChoiceOf) → ChoiceFits c choice → length (choice_items choice) ≤ most_listed
+few-listed coords.Locale (NumbersOf numbers) fits = absurd fits
+few-listed coords.Locale (LocalesOf locales) fits = simp length-map fits.0
+few-listed c (NumbersOf numbers) fits = simp length-map fits
+few-listed c (LocalesOf locales) fits = absurd fits
+
+-- ---- nodes
+
+pub at_most-back : (c : coord.Coord) (most : ℕ) → most ≤ last_word → NodeReadsBack (TestAt (AtMostOf c most))
+unfolding node_in at_most_in coord_at number_at number_within has_only are_among is_among
+at_most-back c most le fits shape = rw (coord-back c, within last_word most le) refl
+
+not-above : (most n : ℕ) → n ≤ most → nat_lt most n ≡ false
+not-above most n le = grind (arith, nat_tests)
+
+pub among-back : (c : coord.Coord) (choice : ChoiceOf) → ChoiceReadsBack choice → NodeReadsBack (TestAt (AmongOf c choice))
+unfolding node_in among_in coord_at list_at has_only are_among is_among
+among-back c choice back fits shape =
+    rw (coord-back c, list_items-items_of (choice_items choice), not-above most_listed (length (choice_items choice)) (few-listed c choice fits))
+    (ap (λ (r : Result ChoiceOf CertFault). r >>= λ ch. Ok (TestAt (AmongOf c ch))) (back c fits shape))
+
+pub value-back : (layer : ℕ) (value : Value) → value.kind ≤ last_kind → value.word ≤ last_word → NodeReadsBack (ValueAt layer value)
+unfolding node_in value_in number_at number_within has_only are_among is_among
+value-back layer value kind word fits shape = rw (within last_layer layer fits, within last_kind value.kind kind, within last_word value.word word) refl
+
+pub bag-back : (id : ResId) → id_of (id_text id.0) ≡ Some id → NodeReadsBack (BagAt id)
+unfolding node_in bag_in id_at has_only are_among is_among
+bag-back id back fits shape = rw back refl
+
+nodes-read : (goal : ℕ) (before nodes : List NodeOf) → All NodeReadsBack nodes → All NodeFits nodes → read_on (node_after goal) before (map node_data nodes) ≡ Ok (before ++ nodes)
+nodes-read goal before [] back fits =
+    let wrapped : List NodeOf → Result (List NodeOf) CertFault = λ t. Ok t in
+    read_on-none (node_after goal) before ∙ ap wrapped (sym (append-nil before))
+nodes-read goal before (node ∷ nodes) back fits =
+    let wrapped : List NodeOf → Result (List NodeOf) CertFault = λ t. Ok t in
+    read_on-ok (node_after goal) before (node_data node) (map node_data nodes) node
+    (All-head NodeReadsBack node nodes back (All-head NodeFits node nodes fits) (Shape goal (length before)))
+    ∙ nodes-read goal (before ++ node ∷ []) nodes (All-tail NodeReadsBack node nodes back) (All-tail NodeFits node nodes fits)
+    ∙ ap wrapped (append_assoc before (node ∷ []) nodes)
+
+-- ---- goals
+
+pub goal-back : (id : ResId) (nodes : List NodeOf) → id_of (id_text id.0) ≡ Some id → All NodeReadsBack nodes → GoalReadsBack (record { goal = Id id; nodes = nodes })
+unfolding goal_in goal_members id_at list_at has_only are_among is_among
+goal-back id nodes same back fits place nodes_before few =
+    let count : length (map node_data nodes) ≡ length nodes = length-map nodes node_data in
+    rw (same, list_items-items_of (map node_data nodes), not-above most_nodes (nodes_before + length (map node_data nodes)) (omega arith))
+    (ap (λ (r : Result (List NodeOf) CertFault). r >>= λ ns. Ok (record { goal = Id id; nodes = ns })) (nodes-read place [] nodes back fits))
+
+goals-read : (before goals : List GoalOf) → All GoalReadsBack goals → All (λ g. All NodeFits g.nodes) goals → node_count before + node_count goals ≤ most_nodes
+    → read_on goal_after before (map goal_data goals) ≡ Ok (before ++ goals)
+goals-read before [] back fits few =
+    let wrapped : List GoalOf → Result (List GoalOf) CertFault = λ t. Ok t in
+    read_on-none goal_after before ∙ ap wrapped (sym (append-nil before))
+goals-read before (g ∷ goals) back fits few =
+    let wrapped : List GoalOf → Result (List GoalOf) CertFault = λ t. Ok t in
+    let pushed : node_count (before ++ g ∷ []) ≡ node_count before + length g.nodes = count-push before g in
+    read_on-ok goal_after before (goal_data g) (map goal_data goals) g
+    (All-head GoalReadsBack g goals back (All-head (λ h. All NodeFits h.nodes) g goals fits) (length before) (node_count before) (omega arith))
+    ∙ goals-read (before ++ g ∷ []) goals (All-tail GoalReadsBack g goals back) (All-tail (λ h. All NodeFits h.nodes) g goals fits) (omega arith)
+    ∙ ap wrapped (append_assoc before (g ∷ []) goals)
+
+pub cert-back : (goals : List GoalOf) → All GoalReadsBack goals → CertFits goals → goals_in_value (cert_data goals) ≡ Ok goals
+unfolding goals_in_value goal_list is_version_1 list_at has_only are_among is_among
+cert-back goals back fits =
+    rw (list_items-items_of (map goal_data goals)) (goals-read [] goals back fits.nodes (omega (arith, fits.few)))
+
+pub cert_in-back : (json : List ℕ) (value : Data) (goals : List GoalOf) → value_of json ≡ Some value → value ≡ cert_data goals → goals_in_value (cert_data goals) ≡ Ok goals → cert_in json ≡ Ok goals
+cert_in-back json value goals was is back = ap (λ (o : Option Data). ok_or o Syntax >>= goals_in_value) was ∙ ap goals_in_value is ∙ back
+
+-- ---- what is written has no float, and nests six deep at most
+
+record Plain (most : ℕ) (value : Data) : Type 0 where
+  no_float : has_float value ≡ false
+  shallow : depth value ≤ most
+
+record PlainItems (most : ℕ) (values : List Data) : Type 0 where
+  no_float : items_have_float (items_of values) ≡ false
+  shallow : items_depth (items_of values) ≤ most
+
+plain-items : {X : Type 0} (data_of : X → Data) (most : ℕ) → ((x : X) → Plain most (data_of x)) → (xs : List X) → PlainItems most (map data_of xs)
+plain-items data_of most plain [] = record { no_float = refl; shallow = omega arith }
+plain-items data_of most plain (x ∷ xs) =
+    let first = plain x in
+    let others = plain-items data_of most plain xs in
+    record { no_float = rw first.no_float others.no_float; shallow = omega (arith, first.shallow, others.shallow) }
+
+plain-choice : (choice : ChoiceOf) → PlainItems 0 (choice_items choice)
+plain-choice (NumbersOf numbers) = plain-items number_data 0 (λ n. record { no_float = refl; shallow = omega arith }) numbers
+plain-choice (LocalesOf locales) = plain-items locale_data 0 (λ l. record { no_float = refl; shallow = omega arith }) locales
+
+plain-node : (node : NodeOf) → Plain 2 (node_data node)
+plain-node (TestAt (AtMostOf c most)) = record { no_float = refl; shallow = omega arith }
+plain-node (TestAt (AmongOf c choice)) = let items = plain-choice choice in record { no_float = rw items.no_float refl; shallow = omega (arith, items.shallow) }
+plain-node (ValueAt layer value) = record { no_float = refl; shallow = omega arith }
+plain-node (BagAt id) = record { no_float = refl; shallow = omega arith }
+
+plain-id : (goal : Goal) → Plain 0 (goal_id_data goal)
+plain-id (Id id) = record { no_float = refl; shallow = omega arith }
+
+plain-goal : (g : GoalOf) → Plain 4 (goal_data g)
+plain-goal g =
+    let id = plain-id g.goal in
+    let items = plain-items node_data 2 plain-node g.nodes in
+    record { no_float = rw (id.no_float, items.no_float) refl; shallow = omega (arith, id.shallow, items.shallow) }
+
+pub cert-no_float : (goals : List GoalOf) → has_float (cert_data goals) ≡ false
+cert-no_float goals = let items = plain-items goal_data 4 plain-goal goals in rw items.no_float refl
+
+pub cert-shallow : (goals : List GoalOf) → depth (cert_data goals) ≤ max_depth
+cert-shallow goals = let items = plain-items goal_data 4 plain-goal goals in omega (arith, items.shallow)
+
+pub ruleset parts_back = (number-back, at_most-back, among-back, value-back, bag-back, numbers-back, locales-back, goal-back, cert-back)

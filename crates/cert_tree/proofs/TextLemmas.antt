@@ -1,0 +1,97 @@
+-- The texts of ids and locales are UTF-8.
+use Rattle.std.proofs.Common.{◌≡◌, ℕ, ◌<◌, Bool, true, false, ◌&&◌, ◌||◌, cond, nat_lt, List, [], ◌∷◌, ◌++◌, Some, None, is_some, IsUtf8, refl, arith}
+use Rattle.std.specs.Str.{IsAscii}
+use Rattle.std.specs.List.{list_all}
+use Rattle.std.specs.Int.{w32, to_be_bytes}
+use Rattle.std.proofs.lemmas.Bool.{ltb-true}
+use Rattle.std.proofs.lemmas.Str.{IsUtf8-from_ascii, IsAscii-append}
+use Rattle.std.proofs.lemmas.Str.Ascii.{IsAscii-nil, IsAscii-cons}
+use Rattle.hex.specs.Hex.{encode_lower, lower_digits}
+use Rattle.hex.proofs.HexLemmas.{IsAscii-encode_with}
+use Rattle.config_record.specs.declared.locale.Locale.{Locale}
+use Rattle.config_record.specs.Locale.{first_letter, first_digit, is_small_letter, is_capital_letter, is_digit, packed, part_of, language_of, region_of, unpacked, is_spelled, language_text, region_text, locale_text}
+use Rattle.config_record.specs.Zero.{is_zero}
+use Rattle.config_record.proofs.LocaleLemmas.{both, of_languages, of_regions}
+use Rattle.res_value.specs.Word.{word_text, eight_digits}
+use Rattle.res_value.specs.ResId.{id_text}
+
+ascii-from_test : (bytes : List ℕ) → list_all (λ b. nat_lt b 128) bytes ≡ true → IsAscii bytes
+ascii-from_test [] e = IsAscii-nil
+ascii-from_test (b ∷ bytes) e =
+    let h = both (nat_lt b 128) (list_all (λ c. nat_lt c 128) bytes) e in
+    IsAscii-cons b bytes (ltb-true b 128 h.0) (ascii-from_test bytes h.1)
+
+digits-ascii : (bytes : List ℕ) → IsAscii (encode_lower bytes)
+digits-ascii bytes = IsAscii-encode_with lower_digits bytes (ascii-from_test lower_digits refl)
+
+-- ---- ids
+
+pub id_text-utf8 : (n : ℕ) → IsUtf8 (id_text n)
+unfolding word_text eight_digits
+id_text-utf8 n =
+    IsUtf8-from_ascii (id_text n)
+    (IsAscii-cons 48 (120 ∷ encode_lower (to_be_bytes w32 n)) (omega arith) (IsAscii-cons 120 (encode_lower (to_be_bytes w32 n)) (omega arith) (digits-ascii (to_be_bytes w32 n))))
+
+-- ---- locales
+
+chosen : (c : Bool) (part : List ℕ) → is_some (cond c (Some part) None) ≡ true → c ≡ true
+chosen true part e = refl
+chosen false part e = absurd cc
+
+-- the symbols of a part
+symbols-ascii : (two three : ℕ → Bool) (base : ℕ) → ((b : ℕ) → two b ≡ true → b < 128) → ((b : ℕ) → three b ≡ true → b < 128)
+    → (symbols : List ℕ) → is_some (part_of two three base symbols) ≡ true → IsAscii symbols
+symbols-ascii two three base p q [] e = IsAscii-nil
+symbols-ascii two three base p q (a ∷ []) e = absurd cc
+symbols-ascii two three base p q (a ∷ b ∷ []) e =
+    let h = both (two a) (two b) (chosen (two a && two b) (a ∷ b ∷ []) e) in
+    IsAscii-cons a (b ∷ []) (p a h.0) (IsAscii-cons b [] (p b h.1) IsAscii-nil)
+symbols-ascii two three base p q (a ∷ b ∷ c ∷ []) e =
+    let h = both (three a && three b) (three c) (chosen (three a && three b && three c) (packed base a b c) e) in
+    let k = both (three a) (three b) h.0 in
+    IsAscii-cons a (b ∷ c ∷ []) (q a k.0) (IsAscii-cons b (c ∷ []) (q b k.1) (IsAscii-cons c [] (q c h.1) IsAscii-nil))
+symbols-ascii two three base p q (a ∷ b ∷ c ∷ d ∷ symbols) e = absurd cc
+
+small-ascii : (b : ℕ) → is_small_letter b ≡ true → b < 128
+small-ascii b e = (of_languages.one_of_two b e).1
+
+capital-ascii : (b : ℕ) → is_capital_letter b ≡ true → b < 128
+capital-ascii b e = (of_regions.one_of_two b e).1
+
+digit-ascii : (b : ℕ) → is_digit b ≡ true → b < 128
+digit-ascii b e = let r = of_regions.one_of_three b e in omega (arith, r.1)
+
+language-ascii : (symbols : List ℕ) → is_some (language_of symbols) ≡ true → IsAscii symbols
+language-ascii symbols e = symbols-ascii is_small_letter is_small_letter first_letter small-ascii small-ascii symbols e
+
+region-ascii : (symbols : List ℕ) → is_some (region_of symbols) ≡ true → IsAscii symbols
+region-ascii symbols e = symbols-ascii is_capital_letter is_digit first_digit capital-ascii digit-ascii symbols e
+
+-- a part that is there, or none
+part-ascii : (zero some : Bool) (text : List ℕ) → (zero || some) ≡ true → (some ≡ true → IsAscii text) → IsAscii (cond zero [] text)
+part-ascii true some text e there = IsAscii-nil
+part-ascii false some text e there = there e
+
+spelled-ascii : (language region : List ℕ)
+    → (is_zero language || is_some (language_of (unpacked 97 language))) ≡ true → (is_zero region || is_some (region_of (unpacked 48 region))) ≡ true
+    → IsAscii (language_text language ++ region_text region)
+spelled-ascii language region l r =
+    IsAscii-append (language_text language) (region_text region)
+    (part-ascii (is_zero language) (is_some (language_of (unpacked 97 language))) (unpacked 97 language) l (language-ascii (unpacked 97 language)))
+    (part-ascii (is_zero region) (is_some (region_of (unpacked 48 region))) (45 ∷ unpacked 48 region) r
+    (λ e. IsAscii-cons 45 (unpacked 48 region) (omega arith) (region-ascii (unpacked 48 region) e)))
+
+other-ascii : (language region : List ℕ) → IsAscii (120 ∷ (encode_lower language ++ encode_lower region))
+other-ascii language region =
+    IsAscii-cons 120 (encode_lower language ++ encode_lower region) (omega arith)
+    (IsAscii-append (encode_lower language) (encode_lower region) (digits-ascii language) (digits-ascii region))
+
+either-ascii : (spelled : Bool) (l : Locale) → is_spelled l ≡ spelled → IsAscii (cond spelled (language_text l.language ++ region_text l.region) (120 ∷ (encode_lower l.language ++ encode_lower l.region)))
+either-ascii true l e =
+    let h = both (is_zero l.language || is_some (language_of (unpacked 97 l.language))) (is_zero l.region || is_some (region_of (unpacked 48 l.region))) e in
+    spelled-ascii l.language l.region h.0 h.1
+either-ascii false l e = other-ascii l.language l.region
+
+pub locale_text-utf8 : (l : Locale) → IsUtf8 (locale_text l)
+unfolding locale_text
+locale_text-utf8 l = IsUtf8-from_ascii (locale_text l) (either-ascii (is_spelled l) l refl)

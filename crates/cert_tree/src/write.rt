@@ -1,0 +1,136 @@
+//! Certificates as JSON values.
+
+ghost use Rattle.std.specs.Prelude.{◌≡◌, Ok, map, IfOk};
+ghost use Rattle.std.specs.List.{All};
+ghost use Rattle.serde_json.specs.View.{view};
+ghost use Rattle.cert_tree.specs.WrittenJson.{number_data, locale_data, choice_items, test_data, node_data, goal_data, cert_data};
+ghost use Rattle.cert_tree.specs.Certificate.{choice_of, test_of, TestAt, node_of, goal_of, goals_of, CertFits};
+ghost use Rattle.cert_tree.specs.CertJson.{goals_in_value};
+ghost use Rattle.cert_tree.specs.ReadsBack.{NumberReadsBack, ChoiceReadsBack, NodeReadsBack, GoalReadsBack};
+
+use crate::cert::{Cert, CertGoal};
+use crate::goal::Goal;
+use crate::node::Node;
+use crate::texts::{id_value, locale_value};
+use config_box::{Choice, Test};
+use config_record::Locale;
+use serde_json::{Value, json};
+use std::alloc::{AllocError, Global};
+
+/// The value that a certificate is written as.
+#[tactic(auto, using(crate::proofs::ReadsBackLemmas::parts_back))]
+pub(crate) fn cert_value(alloc: Global, cert: &Cert) -> Result<Value, AllocError>
+    ensures data { IfOk result (λ value. view value ≡ cert_data (goals_of cert.now)) }
+    ensures reads_back { IfOk result (λ _. CertFits (goals_of cert.now) → goals_in_value (cert_data (goals_of cert.now)) ≡ Ok (goals_of cert.now)) }
+{
+    let goals = Value::Array(goal_values(alloc, cert.goals.as_slice())?);
+    json!(in alloc; {"goals": goals, "version": 1})
+}
+
+#[tactic(auto, using(crate::proofs::WrittenSteps::written_steps))]
+fn goal_values(alloc: Global, goals: &[CertGoal]) -> Result<Vec<Value>, AllocError>
+    ensures data { IfOk result (λ values. map view values.items ≡ map goal_data (map goal_of goals.now)) }
+    ensures reads_back { IfOk result (λ _. All GoalReadsBack (map goal_of goals.now)) }
+{
+    let mut values = Vec::with_capacity(alloc, goals.len())?;
+    for goal in goals {
+        let value = goal_value(alloc, goal)?;
+        values.push(value)?;
+    }
+    Ok(values)
+}
+
+#[tactic(auto, using(crate::proofs::ReadsBackLemmas::parts_back))]
+fn goal_value(alloc: Global, goal: &CertGoal) -> Result<Value, AllocError>
+    ensures data { IfOk result (λ value. view value ≡ goal_data (goal_of goal.now)) }
+    ensures reads_back { IfOk result (λ _. GoalReadsBack (goal_of goal.now)) }
+{
+    let Goal::Id(id) = &goal.goal;
+    let id = id_value(alloc, *id)?;
+    let nodes = Value::Array(node_values(alloc, goal.nodes.as_slice())?);
+    json!(in alloc; {"id": id, "nodes": nodes})
+}
+
+#[tactic(auto, using(crate::proofs::WrittenSteps::written_steps))]
+fn node_values(alloc: Global, nodes: &[Node]) -> Result<Vec<Value>, AllocError>
+    ensures data { IfOk result (λ values. map view values.items ≡ map node_data (map node_of nodes.now)) }
+    ensures reads_back { IfOk result (λ _. All NodeReadsBack (map node_of nodes.now)) }
+{
+    let mut values = Vec::with_capacity(alloc, nodes.len())?;
+    for node in nodes {
+        let value = node_value(alloc, node)?;
+        values.push(value)?;
+    }
+    Ok(values)
+}
+
+#[tactic(auto, using(crate::proofs::ReadsBackLemmas::parts_back))]
+fn node_value(alloc: Global, node: &Node) -> Result<Value, AllocError>
+    ensures data { IfOk result (λ value. view value ≡ node_data (node_of node.now)) }
+    ensures reads_back { IfOk result (λ _. NodeReadsBack (node_of node.now)) }
+{
+    match node {
+        Node::Test(test) => test_value(alloc, test),
+        Node::Value { layer, value } => {
+            let (layer, kind, word) = (*layer, value.kind, value.word);
+            json!(in alloc; {"kind": kind, "layer": layer, "word": word})
+        }
+        Node::Bag { id } => {
+            let id = id_value(alloc, *id)?;
+            json!(in alloc; {"bag": id})
+        }
+    }
+}
+
+#[tactic(auto, using(crate::proofs::ReadsBackLemmas::parts_back))]
+fn test_value(alloc: Global, test: &Test) -> Result<Value, AllocError>
+    ensures data { IfOk result (λ value. view value ≡ test_data (test_of test.now)) }
+    ensures reads_back { IfOk result (λ _. NodeReadsBack (TestAt (test_of test.now))) }
+{
+    match test {
+        Test::AtMost(coord, most) => {
+            let (coord, most) = (coord.name(), *most);
+            json!(in alloc; {"atMost": most, "coord": coord})
+        }
+        Test::Among(coord, choice) => {
+            let coord = coord.name();
+            let listed = Value::Array(choice_values(alloc, choice)?);
+            json!(in alloc; {"coord": coord, "in": listed})
+        }
+    }
+}
+
+#[tactic(auto, using(crate::proofs::ReadsBackLemmas::parts_back))]
+fn choice_values(alloc: Global, choice: &Choice) -> Result<Vec<Value>, AllocError>
+    ensures data { IfOk result (λ values. map view values.items ≡ choice_items (choice_of choice.now)) }
+    ensures reads_back { IfOk result (λ _. ChoiceReadsBack (choice_of choice.now)) }
+{
+    match choice {
+        Choice::Numbers(numbers) => number_values(alloc, numbers.as_slice()),
+        Choice::Locales(locales) => locale_values(alloc, locales.as_slice()),
+    }
+}
+
+#[tactic(auto, using(crate::proofs::WrittenSteps::written_steps, crate::proofs::ReadsBackLemmas::parts_back))]
+fn number_values(alloc: Global, numbers: &[u32]) -> Result<Vec<Value>, AllocError>
+    ensures data { IfOk result (λ values. map view values.items ≡ map number_data numbers.now) }
+    ensures reads_back { IfOk result (λ _. All NumberReadsBack numbers.now) }
+{
+    let mut values = Vec::with_capacity(alloc, numbers.len())?;
+    for number in numbers {
+        values.push(Value::from(*number))?;
+    }
+    Ok(values)
+}
+
+#[tactic(auto, using(crate::proofs::WrittenSteps::written_steps))]
+fn locale_values(alloc: Global, locales: &[Locale]) -> Result<Vec<Value>, AllocError>
+    ensures { IfOk result (λ values. map view values.items ≡ map locale_data locales.now) }
+{
+    let mut values = Vec::with_capacity(alloc, locales.len())?;
+    for locale in locales {
+        let value = locale_value(alloc, *locale)?;
+        values.push(value)?;
+    }
+    Ok(values)
+}
