@@ -16,7 +16,7 @@ ghost use Rattle.config_box.specs.declared.box_fault.BoxFault.TheVariants.{OutOf
 use crate::box_fault::BoxFault;
 use crate::half::half_of;
 use crate::read::sets_in_value;
-use crate::split::{OutOfMemory as NoMemory, Split, is_wrong_kind, with_set};
+use crate::split::{OutOfMemory as NoMemory, Split, is_wrong_kind, shared_sets, with_set};
 use crate::test::Test;
 use crate::values::{Values, values_of};
 use box_answers::{NumberSet, Sameness, set_at};
@@ -62,6 +62,16 @@ impl ConfigBox {
             Err(JsonFault::Syntax) => Err(BoxFault::Syntax),
             Err(JsonFault::OutOfMemory) => Err(BoxFault::OutOfMemory),
         }
+    }
+
+    /// The same box. Its lists are not copied.
+    pub fn shared(&self, alloc: Global) -> Result<ConfigBox, NoMemory>
+        ensures value { IfOk result (λ b. b ≡ self.now) }
+        ensures sets { IfOk result IsBox }
+    {
+        Ok(ConfigBox {
+            sets: shared_sets(alloc, self.sets.as_slice())?,
+        })
     }
 
     /// The set of a coordinate; a choice is in rising order.

@@ -63,7 +63,8 @@ pub(crate) fn with_set(
     Ok(copy)
 }
 
-fn shared_sets(alloc: Global, sets: &[NumberSet]) -> Result<Vec<NumberSet>, AllocError>
+/// The same sets. Their lists are shared.
+pub(crate) fn shared_sets(alloc: Global, sets: &[NumberSet]) -> Result<Vec<NumberSet>, AllocError>
     ensures { IfOk result (λ copy. sets_of copy.items ≡ sets_of sets.now) }
 {
     let mut copy = Vec::with_capacity(alloc, sets.len())?;

@@ -1,5 +1,5 @@
 -- Ends of references as text.
-use Rattle.std.specs.Prelude.{ℕ, List, ◌++◌, codes, Option, None}
+use Rattle.std.specs.Prelude.{ℕ, List, [], ◌∷◌, ◌++◌, codes, Option, None}
 use Rattle.string_pool.specs.Pool.{PoolOf}
 use Rattle.res_value.specs.declared.value.Value.{Value}
 use Rattle.reference_resolver.specs.declared.end.End.{End}
@@ -22,3 +22,7 @@ end_with_string strings (of_end.TooLong id) = named_id (codes "too long") id.0
 -- an end with its value alone
 abbrev pub end_text : End → List ℕ
 end_text end = end_with_string None end
+
+-- the line `end END`
+unfoldable pub end_line : End → List ℕ
+end_line end = codes "end " ++ end_text end ++ 10 ∷ []

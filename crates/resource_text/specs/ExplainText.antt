@@ -6,12 +6,11 @@ use Rattle.config_record.specs.Qualifiers.{record_text}
 use Rattle.overlay_map.specs.Layer.{LayerOf}
 use Rattle.reference_resolver.specs.declared.decision.Decision.{Decision}
 use Rattle.reference_resolver.specs.declared.decision.Decision.TheVariants.{SetAside, NoMatch, First, TookOver, TookOverEqual, KeptOut}
-use Rattle.reference_resolver.specs.declared.end.End.{End}
 use Rattle.reference_resolver.specs.Ends.{references_followed, end_of}
 use Rattle.reference_resolver.specs.Trace.{look_ups_of, TracedCandidateOf, traced, scan_look_up}
 use Rattle.resource_text.specs.NamedText.{named_id, named_coord, named_number}
 use Rattle.resource_text.specs.LayerText.{layer_text}
-use Rattle.resource_text.specs.EndText.{end_text}
+use Rattle.resource_text.specs.EndText.{end_line}
 
 -- ---- a candidate
 
@@ -55,10 +54,6 @@ unfoldable pub look_up_text : List LayerOf → List ℕ → ℕ → List ℕ
 look_up_text stack d id = look_up_line id ++ candidate_lines (scan_look_up traced stack d id)
 
 -- ---- all look-ups
-
--- the line `end END`
-unfoldable pub end_line : End → List ℕ
-end_line end = codes "end " ++ end_text end ++ 10 ∷ []
 
 -- the lines of each look-up, also of one without candidates, and that of the end
 unfoldable pub explain_text : List LayerOf → ℕ → List ℕ → List ℕ

@@ -1,16 +1,20 @@
 -- The line that tells of a fault.
 use Rattle.std.specs.Prelude.{ℕ, List, [], ◌∷◌, ◌++◌, codes}
 use Rattle.config_record.specs.declared.fields.DeviceFault.{DeviceFault}
+use Rattle.config_box.specs.declared.box_fault.BoxFault.{BoxFault}
+use Rattle.cert_tree.specs.declared.cert_fault.CertFault.{CertFault}
 use Rattle.type_chunks.specs.declared.fault.TableFault.{TableFault}
 use Rattle.overlay_map.specs.declared.map_fault.MapFault.{MapFault}
 use Rattle.resource_text.specs.declared.layers_fault.LayersFault.{LayersFault}
 use Rattle.resource_text.specs.declared.fault.ToolFault.{ToolFault}
-use Rattle.resource_text.specs.declared.fault.ToolFault.TheVariants.{Table, Layers, LayerTable, LayerMap, Device, OutOfMemory, Write}
+use Rattle.resource_text.specs.declared.fault.ToolFault.TheVariants.{Table, Layers, LayerTable, LayerMap, Device, Box, Certificate, OutOfMemory, Write}
 use Rattle.resource_text.specs.LayerText.{layer_text}
 use Rattle.resource_text.specs.TableFaultText.{table_fault_text}
 use Rattle.resource_text.specs.LayersFaultText.{layers_fault_text}
 use Rattle.resource_text.specs.MapFaultText.{map_fault_text}
 use Rattle.resource_text.specs.DeviceFaultText.{device_fault_text}
+use Rattle.resource_text.specs.BoxFaultText.{box_fault_text}
+use Rattle.resource_text.specs.CertFaultText.{cert_fault_text}
 
 -- which part of the input is refused
 unfoldable pub refused_text : List ℕ → List ℕ
@@ -40,6 +44,14 @@ layer_map_line layer fault = refused_layer_text layer ++ codes " map: " ++ map_f
 unfoldable pub device_line : DeviceFault → List ℕ
 device_line fault = refused_text (codes "device: ") ++ device_fault_text fault ++ 10 ∷ []
 
+-- `refused: box: FAULT`
+unfoldable pub box_line : BoxFault → List ℕ
+box_line fault = refused_text (codes "box: ") ++ box_fault_text fault ++ 10 ∷ []
+
+-- `refused: certificate: FAULT`
+unfoldable pub certificate_line : CertFault → List ℕ
+certificate_line fault = refused_text (codes "certificate: ") ++ cert_fault_text fault ++ 10 ∷ []
+
 -- A line for a part that is refused, and one for memory; none for a writer that failed.
 unfoldable pub fault_line : ToolFault → List ℕ
 fault_line (Table fault) = table_line fault
@@ -47,5 +59,7 @@ fault_line (Layers fault) = layers_line fault
 fault_line (LayerTable layer fault) = layer_table_line layer fault
 fault_line (LayerMap layer fault) = layer_map_line layer fault
 fault_line (Device fault) = device_line fault
+fault_line (Box fault) = box_line fault
+fault_line (Certificate fault) = certificate_line fault
 fault_line OutOfMemory = codes "out of memory" ++ 10 ∷ []
 fault_line Write = []

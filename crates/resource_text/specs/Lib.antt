@@ -5,6 +5,8 @@ pub mod TableFaultText
 pub mod LayersFaultText
 pub mod MapFaultText
 pub mod DeviceFaultText
+pub mod BoxFaultText
+pub mod CertFaultText
 pub mod FaultText
 pub mod CellText
 pub mod RowsText
@@ -12,3 +14,4 @@ pub mod DumpText
 pub mod EndText
 pub mod QueryText
 pub mod ExplainText
+pub mod VerdictText

@@ -2,6 +2,10 @@
 use Rattle.std.specs.Prelude.{ℕ}
 use Rattle.config_record.specs.declared.fields.DeviceFault.{DeviceFault}
 use Rattle.config_record.specs.declared.fields.DeviceFault.TheVariants as of_device
+use Rattle.config_box.specs.declared.box_fault.BoxFault.{BoxFault}
+use Rattle.config_box.specs.declared.box_fault.BoxFault.TheVariants as of_box
+use Rattle.cert_tree.specs.declared.cert_fault.CertFault.{CertFault}
+use Rattle.cert_tree.specs.declared.cert_fault.CertFault.TheVariants as of_certificate
 use Rattle.type_chunks.specs.declared.fault.TableFault.{TableFault}
 use Rattle.type_chunks.specs.declared.fault.TableFault.TheVariants as of_table
 use Rattle.overlay_map.specs.declared.map_fault.MapFault.{MapFault}
@@ -42,3 +46,13 @@ fault_of_stack of_stack.OutOfMemory = of_tool.OutOfMemory
 abbrev pub fault_of_device : DeviceFault → ToolFault
 fault_of_device of_device.OutOfMemory = of_tool.OutOfMemory
 fault_of_device fault = of_tool.Device fault
+
+-- of the box
+abbrev pub fault_of_box : BoxFault → ToolFault
+fault_of_box of_box.OutOfMemory = of_tool.OutOfMemory
+fault_of_box fault = of_tool.Box fault
+
+-- of the certificate
+abbrev pub fault_of_certificate : CertFault → ToolFault
+fault_of_certificate of_certificate.OutOfMemory = of_tool.OutOfMemory
+fault_of_certificate fault = of_tool.Certificate fault

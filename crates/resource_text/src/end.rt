@@ -3,7 +3,7 @@
 ghost use Rattle.std.specs.Option.{option_map};
 ghost use Rattle.contract_words.specs.Writes.{Writes};
 ghost use Rattle.string_pool.specs.Pool.{pool_of};
-ghost use Rattle.resource_text.specs.EndText.{value_end_text, end_with_string, end_text};
+ghost use Rattle.resource_text.specs.EndText.{value_end_text, end_with_string, end_text, end_line};
 
 use crate::cell::write_value_with_string;
 use crate::layer::write_layer;
@@ -51,4 +51,14 @@ fn write_value_end<W: Write + Drop>(
     write_layer(layer, out)?;
     out.write_all(b" ")?;
     write_value_with_string(strings, value, out)
+}
+
+/// Writes the line of an end.
+#[tactic(auto, unfolding(crate::specs::EndText::end_line))]
+pub(crate) fn write_end_line<W: Write + Drop>(end: End, out: &mut W) -> io::Result<()>
+    ensures { Writes W.contents out.old out.new result (end_line end) }
+{
+    out.write_all(b"end ")?;
+    end_text(end, out)?;
+    out.write_all(b"\n")
 }

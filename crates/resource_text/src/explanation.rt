@@ -7,10 +7,10 @@ ghost use Rattle.config_record.specs.DeviceSeen.{device_numbers};
 ghost use Rattle.reference_resolver.specs.Ends.{references_followed, end_of};
 ghost use Rattle.reference_resolver.specs.Trace.{look_ups_of, IsTraced};
 ghost use Rattle.reference_resolver.specs.Traced.{traced_of};
-ghost use Rattle.resource_text.specs.ExplainText.{place_text, traced_text, candidate_line, look_up_line, candidate_lines, look_up_text, end_line, explain_text};
+ghost use Rattle.resource_text.specs.ExplainText.{place_text, traced_text, candidate_line, look_up_line, candidate_lines, look_up_text, explain_text};
 
 use crate::decision::write_decision;
-use crate::end::end_text;
+use crate::end::write_end_line;
 use crate::layer::write_layer;
 use crate::named::{write_named_id, write_named_number};
 use config_record::Device;
@@ -122,14 +122,5 @@ fn write_look_up_line<W: Write + Drop>(id: ResId, out: &mut W) -> io::Result<()>
     ensures { Writes W.contents out.old out.new result (look_up_line id.0) }
 {
     write_named_id("lookup", id, out)?;
-    out.write_all(b"\n")
-}
-
-#[tactic(auto, unfolding(crate::specs::ExplainText::end_line))]
-fn write_end_line<W: Write + Drop>(end: End, out: &mut W) -> io::Result<()>
-    ensures { Writes W.contents out.old out.new result (end_line end) }
-{
-    out.write_all(b"end ")?;
-    end_text(end, out)?;
     out.write_all(b"\n")
 }

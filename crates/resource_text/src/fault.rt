@@ -2,17 +2,22 @@
 
 ghost use Rattle.std.specs.Prelude.{◌≡◌, if◌then◌else◌};
 ghost use Rattle.contract_words.specs.Writes.{Writes};
-ghost use Rattle.resource_text.specs.FaultText.{refused_text, refused_layer_text, table_line, layers_line, layer_table_line, layer_map_line, device_line, fault_line};
+ghost use Rattle.resource_text.specs.FaultText.{refused_text, refused_layer_text, table_line, layers_line, layer_table_line, layer_map_line, device_line, box_line, certificate_line, fault_line};
 ghost use Rattle.resource_text.specs.ToolFault.{fault_of_layer_table, fault_of_layer_map};
 ghost use Rattle.resource_text.specs.declared.fault.ToolFault.TheVariants.{OutOfMemory, Write};
 
+use crate::box_fault::write_box_fault;
+use crate::cert_fault::write_cert_fault;
 use crate::device_fault::write_device_fault;
 use crate::layer::write_layer;
 use crate::layers_fault::{LayersFault, write_layers_fault};
 use crate::map_fault::write_map_fault;
 use crate::table_fault::write_table_fault;
+use cert_tree::CertFault;
+use config_box::BoxFault;
 use config_record::DeviceFault;
 use overlay_map::{MapFault, StackFault};
+use std::alloc::AllocError;
 use std::io::{self, Write};
 use thiserror::Error;
 use type_chunks::TableFault;
@@ -34,6 +39,10 @@ pub enum ToolFault {
     LayerMap(usize, MapFault),
     #[error("refused: device: {0}")]
     Device(DeviceFault),
+    #[error("refused: box: {0}")]
+    Box(BoxFault),
+    #[error("refused: certificate: {0}")]
+    Certificate(CertFault),
     #[error("out of memory")]
     OutOfMemory,
     /// The writer failed.
@@ -92,6 +101,28 @@ impl From<DeviceFault> for ToolFault {
     }
 }
 
+impl From<BoxFault> for ToolFault {
+    ghost use Rattle.resource_text.specs.ToolFault.{fault_of_box};
+
+    ghost from_gives = { λ fault e. e ≡ fault_of_box fault };
+
+    fn from(fault: BoxFault) -> ToolFault {
+        let ran_out = matches!(fault, BoxFault::OutOfMemory);
+        or_memory(ran_out, ToolFault::Box(fault))
+    }
+}
+
+impl From<CertFault> for ToolFault {
+    ghost use Rattle.resource_text.specs.ToolFault.{fault_of_certificate};
+
+    ghost from_gives = { λ fault e. e ≡ fault_of_certificate fault };
+
+    fn from(fault: CertFault) -> ToolFault {
+        let ran_out = matches!(fault, CertFault::OutOfMemory);
+        or_memory(ran_out, ToolFault::Certificate(fault))
+    }
+}
+
 impl From<StackFault> for ToolFault {
     ghost use Rattle.resource_text.specs.ToolFault.{fault_of_stack};
 
@@ -102,6 +133,14 @@ impl From<StackFault> for ToolFault {
             StackFault::TooManyLayers => ToolFault::Layers(LayersFault::TooManyLayers),
             StackFault::OutOfMemory => ToolFault::OutOfMemory,
         }
+    }
+}
+
+impl From<AllocError> for ToolFault {
+    ghost from_gives = { λ _ e. e ≡ OutOfMemory };
+
+    fn from(_error: AllocError) -> ToolFault {
+        ToolFault::OutOfMemory
     }
 }
 
@@ -137,6 +176,8 @@ pub fn fault_text<W: Write + Drop>(fault: &ToolFault, out: &mut W) -> io::Result
         ToolFault::LayerTable(layer, fault) => write_layer_table_line(layer, fault, out),
         ToolFault::LayerMap(layer, fault) => write_layer_map_line(layer, fault, out),
         ToolFault::Device(fault) => write_device_line(fault, out),
+        ToolFault::Box(fault) => write_box_line(fault, out),
+        ToolFault::Certificate(fault) => write_certificate_line(fault, out),
         ToolFault::OutOfMemory => out.write_all(b"out of memory\n"),
         ToolFault::Write => Ok(()),
     }
@@ -194,6 +235,24 @@ fn write_device_line<W: Write + Drop>(fault: DeviceFault, out: &mut W) -> io::Re
 {
     write_refused("device: ", out)?;
     write_device_fault(fault, out)?;
+    out.write_all(b"\n")
+}
+
+#[tactic(auto, unfolding(crate::specs::FaultText::box_line))]
+fn write_box_line<W: Write + Drop>(fault: BoxFault, out: &mut W) -> io::Result<()>
+    ensures { Writes W.contents out.old out.new result (box_line fault) }
+{
+    write_refused("box: ", out)?;
+    write_box_fault(fault, out)?;
+    out.write_all(b"\n")
+}
+
+#[tactic(auto, unfolding(crate::specs::FaultText::certificate_line))]
+fn write_certificate_line<W: Write + Drop>(fault: CertFault, out: &mut W) -> io::Result<()>
+    ensures { Writes W.contents out.old out.new result (certificate_line fault) }
+{
+    write_refused("certificate: ", out)?;
+    write_cert_fault(fault, out)?;
     out.write_all(b"\n")
 }
 

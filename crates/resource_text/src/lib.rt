@@ -13,10 +13,13 @@
 //!                                          // candidate 0 layer 0 [] first
 //!                                          // candidate 1 layer 0 [sdk=21] took over P22
 //!                                          // end value layer 0 decimal 5
+//! verdict_text(&verdict, &certificate, &mut out)?; // accepted goals 1 nodes 3
 //! ```
 #![tactic(auto)]
 
+mod box_fault;
 mod cell;
+mod cert_fault;
 mod decision;
 mod device_fault;
 mod dump;
@@ -30,6 +33,7 @@ mod named;
 mod query;
 mod rows;
 mod table_fault;
+mod verdict;
 
 pub use dump::dump_text;
 pub use end::end_text;
@@ -39,3 +43,4 @@ pub use layer::write_layer;
 pub use layers_fault::LayersFault;
 pub use query::{query_line, set_aside_line};
 pub use rows::rows_text;
+pub use verdict::verdict_text;

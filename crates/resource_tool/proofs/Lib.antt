@@ -2,3 +2,4 @@ pub mod LayerSteps
 pub mod StackSteps
 pub mod LineSteps
 pub mod QuerySteps
+pub mod CheckSteps

@@ -2,9 +2,9 @@
 use Rattle.std.specs.Prelude.{ℕ, List, [], ◌∷◌, codes, length, nat_lt, not, Option, Some, None, option_and_then, ok_or, Result, Ok}
 use Rattle.std.specs.Option.{option_map}
 use Rattle.contract_words.specs.Faults.{◌>>=◌, refuse}
-use Rattle.contract_words.specs.Sequences.{with_front}
-use Rattle.serde_json.specs.Data.{Data, Items, no_items, item}
-use Rattle.serde_json.specs.Find.{get, as_array}
+use Rattle.serde_json.specs.Data.{Data}
+use Rattle.serde_json.specs.Find.{get}
+use Rattle.json_input.specs.Each.{list_of, each}
 use Rattle.json_input.specs.Json.{value_of}
 use Rattle.json_input.specs.Shape.{has_only, text_of}
 use Rattle.overlay_map.specs.Layer.{most_layers}
@@ -42,18 +42,11 @@ layer_paths_in value = do
 
 -- ---- all layers
 
--- the layers of these items, or the first fault
-unfoldable pub each_layer : Items → Result (List LayerPaths) LayersFault
-each_layer no_items = Ok []
-each_layer (item value values) = do
-  layer ← layer_paths_in value
-  with_front (layer ∷ []) (each_layer values)
-
 -- A list, and each of its items is a layer. Then it has no more than 64.
 unfoldable pub layers_in_value : Data → Result (List LayerPaths) LayersFault
 layers_in_value value = do
-  items ← ok_or (as_array value) Shape
-  layers ← each_layer items
+  items ← ok_or (list_of value) Shape
+  layers ← each layer_paths_in items
   _ ← refuse (nat_lt most_layers (length layers)) TooManyLayers
   Ok layers
 

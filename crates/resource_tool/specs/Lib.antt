@@ -11,3 +11,6 @@ pub mod QueryOutput
 pub mod ExplainOutput
 pub mod BagOutput
 pub mod AttrOutput
+pub mod CheckOutput
+pub mod CheckHeadline
+pub mod CheckInputsSeen

@@ -20,6 +20,15 @@ Prints contents old new (Err OutOfMemory) meant = Unit {0}
 Prints contents old new (Err Write) meant = IsOk meant
 Prints contents old new (Err fault) meant = (meant ≡ Err fault) × (new ≡ old)
 
+-- The same where one of several answers may be given: it is one that the input allows, which is what is meant.
+abbrev pub PrintsOneOf : {W X : Type 0} → (X → Output → Type 0) → (W → Option (List ℕ)) → W → W → Result Status ToolFault → Result X ToolFault → Type 0
+PrintsOneOf {W} {X} Allows contents old new (Ok status) meant =
+    (input : X) × (text : List ℕ) × (meant ≡ Ok input) × Allows input (record { status = status; text = text })
+    × Appends (contents old) (contents new) text
+PrintsOneOf Allows contents old new (Err OutOfMemory) meant = Unit {0}
+PrintsOneOf Allows contents old new (Err Write) meant = IsOk meant
+PrintsOneOf Allows contents old new (Err fault) meant = (meant ≡ Err fault) × (new ≡ old)
+
 -- A call that reads an input writes nothing, so no writer failed in it.
 abbrev pub IsOfInput : {X : Type 0} → Result X ToolFault → Type 0
 IsOfInput result = IfErr result (λ fault. fault ≢ Write)

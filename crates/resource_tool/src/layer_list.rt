@@ -1,10 +1,11 @@
 //! Lists of layers: which files the layers of a stack are.
 
-ghost use Rattle.std.specs.Prelude.{◌≡◌};
+ghost use Rattle.std.specs.Prelude.{◌≡◌, map};
 ghost use Rattle.contract_words.specs.Exact.{GivesOr};
-ghost use Rattle.serde_json.specs.View.{view, items_view};
+ghost use Rattle.serde_json.specs.View.{view};
+ghost use Rattle.json_input.specs.Each.{each};
 ghost use Rattle.resource_text.specs.declared.layers_fault.LayersFault.TheVariants.{OutOfMemory};
-ghost use Rattle.resource_tool.specs.LayerList.{table_path, map_path, layer_paths_in, each_layer, layers_in_value};
+ghost use Rattle.resource_tool.specs.LayerList.{table_path, map_path, layer_paths_in, layers_in_value};
 ghost use Rattle.resource_tool.specs.LayerListSeen.{path_seen, optional_path_seen, paths_of, all_paths_of, listed};
 
 use json_input::{JsonFault, has_only, read_value};
@@ -56,13 +57,14 @@ fn read_list(alloc: Global, value: &Value) -> Result<LayerList, LayersFault>
     Ok(LayerList { paths })
 }
 
-#[tactic(auto, using(crate::proofs::LayerSteps::layer_steps))]
+#[tactic(auto, using(json_input::proofs::EachSteps::each_item_steps))]
 fn read_each(alloc: Global, items: &[Value]) -> Result<Vec<(String, Option<String>)>, LayersFault>
-    ensures { GivesOr OutOfMemory all_paths_of result (each_layer (items_view items.now)) }
+    ensures { GivesOr OutOfMemory all_paths_of result (each layer_paths_in (map view items.now)) }
 {
     let mut paths = Vec::new(alloc);
     for item in items {
-        paths.push(read_layer(alloc, item)?)?;
+        let layer = read_layer(alloc, item)?;
+        paths.push(layer)?;
     }
     Ok(paths)
 }

@@ -21,11 +21,15 @@
 //!
 //! bag_bytes(alloc, &layers, &device, id, &mut out)?; // 0x01010000 layer 0 decimal 5
 //! attr_bytes(alloc, &layers, &device, attr, &styles, true, &mut out)?; // 0x01010000 value layer 0 decimal 5
+//!
+//! check_bytes(alloc, &layers, &box_json, &certificate, &ids, &mut out)?; // accepted goals 1 nodes 3
+//!                                                                        // set-aside 0
 //! ```
 #![tactic(auto)]
 
 mod attr;
 mod bag;
+mod check;
 mod dump;
 mod end_status;
 mod explain;
@@ -39,6 +43,7 @@ mod status;
 
 pub use attr::attr_bytes;
 pub use bag::bag_bytes;
+pub use check::check_bytes;
 pub use dump::dump_bytes;
 pub use explain::explain_bytes;
 pub use input::{InputFault, read_input};

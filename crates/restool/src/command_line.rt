@@ -14,7 +14,8 @@ With no arguments, restool prints the rows of the table on standard input.
 
 Exit status:
   0  done
-  1  something you asked for does not exist, or has too many references or parents
+  1  something you asked for does not exist, or has too many references or parents,
+     or a certificate is rejected
   2  bad command line, or an argument that is not a resource id
   3  an input was rejected
   4  out of memory
@@ -32,6 +33,8 @@ pub const EXPLAIN: &str = "explain";
 pub const BAG: &str = "bag";
 
 pub const ATTR: &str = "attr";
+
+pub const CHECK: &str = "check";
 
 /// A command, and the arguments behind its name.
 struct Subcommand {
@@ -71,6 +74,11 @@ const SUBCOMMANDS: &[Subcommand] = &[
         about: "Prints an attribute's value in the theme that those styles build",
         arguments: &[KEEP, LAYERS, DEVICE, ATTRIBUTE, STYLES],
     },
+    Subcommand {
+        name: CHECK,
+        about: "Checks whether a certificate is true for every device of a box",
+        arguments: &[LAYERS, BOX, CERTIFICATE, IDS],
+    },
 ];
 
 /// An argument of a command.
@@ -106,6 +114,18 @@ pub const DEVICE: Argument = Argument {
     name: "DEVICE",
     takes: Takes::OneWord,
     help: "Path of the JSON object with the device's qualifiers",
+};
+
+pub const BOX: Argument = Argument {
+    name: "BOX",
+    takes: Takes::OneWord,
+    help: "Path of the JSON object with the devices' qualifiers, each a list or a range",
+};
+
+pub const CERTIFICATE: Argument = Argument {
+    name: "CERT",
+    takes: Takes::OneWord,
+    help: "Path of the JSON certificate",
 };
 
 pub const ID: Argument = Argument {

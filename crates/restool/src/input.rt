@@ -75,6 +75,34 @@ impl LayerFiles {
     }
 }
 
+/// The bytes of the files of a check.
+#[derive(Drop)]
+pub struct CheckFiles {
+    pub layers: LayerFiles,
+    /// Those of the box.
+    pub members: Vec<u8>,
+    pub certificate: Vec<u8>,
+}
+
+impl CheckFiles {
+    /// Reads a list of layers with the files that it names, and then a box and a certificate.
+    pub fn read<'a, R: Files + AllocGlobal>(
+        rt: &R,
+        layers: &'a str,
+        members: &'a str,
+        certificate: &'a str,
+    ) -> Result<CheckFiles, Stop<'a>> {
+        let layers = LayerFiles::read(rt, layers)?;
+        let members = file_bytes(rt, members)?;
+        let certificate = file_bytes(rt, certificate)?;
+        Ok(CheckFiles {
+            layers,
+            members,
+            certificate,
+        })
+    }
+}
+
 fn layer_file<R: Files + AllocGlobal>(rt: &R, path: String) -> Result<Vec<u8>, Stop<'static>> {
     match read_file(rt, path.as_str()) {
         Ok(bytes) => Ok(bytes),

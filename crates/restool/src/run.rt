@@ -1,11 +1,13 @@
 //! From words to the exit status.
 
-use crate::input::{LayerFiles, file_bytes, table_bytes};
+use crate::input::{CheckFiles, LayerFiles, file_bytes, table_bytes};
 use crate::status::ExitStatus;
 use crate::stop::Stop;
 use crate::words::{Question, Request, read_words};
+use res_value::ResId;
 use resource_tool::{
-    Status, ToolFault, attr_bytes, bag_bytes, dump_bytes, explain_bytes, query_bytes, rows_bytes,
+    Status, ToolFault, attr_bytes, bag_bytes, check_bytes, dump_bytes, explain_bytes, query_bytes,
+    rows_bytes,
 };
 use std::alloc::Global;
 use std::io::{BufWriter, Write};
@@ -63,6 +65,15 @@ fn answer<'a, R: Input + Files + AllocGlobal, O: Write + Drop>(
             let device = file_bytes(rt, device)?;
             answer_question(alloc, &files.layers(alloc)?, &device, question, out)?
         }
+        Request::Check {
+            layers,
+            members,
+            certificate,
+            ids,
+        } => {
+            let files = CheckFiles::read(rt, layers, members, certificate)?;
+            check_files(alloc, &files, &ids, out)?
+        }
     };
     Ok(status)
 }
@@ -85,4 +96,15 @@ fn answer_question<O: Write + Drop>(
             force,
         } => attr_bytes(alloc, layers, device, attr, &styles, force, out),
     }
+}
+
+// Checks a certificate for these ids.
+fn check_files<O: Write + Drop>(
+    alloc: Global,
+    files: &CheckFiles,
+    ids: &[ResId],
+    out: &mut O,
+) -> Result<Status, ToolFault> {
+    let layers = files.layers.layers(alloc)?;
+    check_bytes(alloc, &layers, &files.members, &files.certificate, ids, out)
 }

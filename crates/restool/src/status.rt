@@ -7,7 +7,8 @@ use resource_tool::ToolFault;
 pub enum ExitStatus {
     /// All was done, or help or the version was printed that was asked for.
     Done = 0,
-    /// Something that was asked for does not exist, or has too many references or parents.
+    /// Something that was asked for does not exist, or has too many references or parents; or a certificate
+    /// is rejected.
     Negative = 1,
     /// A bad command line, or an argument that is not a resource id.
     Command = 2,
@@ -32,7 +33,9 @@ impl ExitStatus {
             | ToolFault::Layers(_)
             | ToolFault::LayerTable(_, _)
             | ToolFault::LayerMap(_, _)
-            | ToolFault::Device(_) => ExitStatus::Refused,
+            | ToolFault::Device(_)
+            | ToolFault::Box(_)
+            | ToolFault::Certificate(_) => ExitStatus::Refused,
             ToolFault::OutOfMemory => ExitStatus::Memory,
             ToolFault::Write => ExitStatus::Failed,
         }

@@ -4,8 +4,8 @@ ghost use Rattle.std.specs.Prelude.{◌≤◌, length, codes, IsOkAnd};
 ghost use Rattle.restool.specs.Request.{AsksForRows};
 
 use crate::command_line::{
-    ATTRIBUTE, Argument, BAG, BAG_ID, DEVICE, DUMP, EXPLAIN, ID, IDS, KEEP, LAYERS, QUERY, ROWS,
-    STYLES, TABLE, command_line,
+    ATTRIBUTE, Argument, BAG, BAG_ID, BOX, CERTIFICATE, CHECK, DEVICE, DUMP, EXPLAIN, ID, IDS, KEEP,
+    LAYERS, QUERY, ROWS, STYLES, TABLE, command_line,
 };
 use crate::ids::{read_id, read_ids};
 use crate::stop::Stop;
@@ -36,6 +36,14 @@ pub enum Request<'a> {
         layers: &'a str,
         device: &'a str,
         question: Question,
+    },
+    /// Whether a certificate is true of some ids for all devices of a box; the layers, the box and the
+    /// certificate are at these paths.
+    Check {
+        layers: &'a str,
+        members: &'a str,
+        certificate: &'a str,
+        ids: Vec<ResId>,
     },
 }
 
@@ -108,6 +116,12 @@ fn request_of<'a>(
         }),
         DUMP => Ok(Request::Dump {
             table: given_word(given, &TABLE),
+        }),
+        CHECK => Ok(Request::Check {
+            layers: given_word(given, &LAYERS),
+            members: given_word(given, &BOX),
+            certificate: given_word(given, &CERTIFICATE),
+            ids: given_ids(alloc, given, &IDS)?,
         }),
         _ => Ok(Request::OfDevice {
             layers: given_word(given, &LAYERS),

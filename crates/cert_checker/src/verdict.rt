@@ -1,0 +1,33 @@
+//! What a check says.
+
+use crate::rule::Rule;
+use config_record::Device;
+use reference_resolver::End;
+
+/// What a check says of a certificate.
+#[derive(Clone, Copy, Debug, PartialEq, Eq)]
+pub enum Verdict {
+    /// No rule fails.
+    Accepted,
+    /// The first node of the first goal at which a rule fails, both counted from 0, and of the rules that fail
+    /// there the one of the lowest number. Where the goals are not those that are asked, the goal is the first
+    /// place at which they differ, and the node is 0.
+    Rejected {
+        goal: usize,
+        node: usize,
+        rule: Rule,
+        shown: Shown,
+    },
+}
+
+/// The devices that show why a rule fails.
+#[derive(Clone, Copy, Debug, PartialEq, Eq)]
+pub enum Shown {
+    /// Where the certificate itself shows it.
+    Nothing,
+    /// Two devices at the leaf that differ in one coordinate alone, and by one where the box has a range. At the
+    /// first question that devices at the leaf answer differently the first answers yes, the second no.
+    Two(Device, Device),
+    /// The device of the least numbers at the leaf, and where the goal ends for it.
+    One(Device, End),
+}

@@ -1,0 +1,18 @@
+//! Worked rows of certificates, as tests over the public calls: what `check` prints of layers, a box and a
+//! certificate, and which fault of its inputs it names. Nothing stands on this crate.
+#![tactic(auto)]
+
+#[cfg(test)]
+mod accepted;
+#[cfg(test)]
+mod command;
+#[cfg(test)]
+mod fault_lines;
+#[cfg(test)]
+mod goals;
+#[cfg(test)]
+mod refused;
+#[cfg(test)]
+mod rejected;
+#[cfg(test)]
+mod row;

@@ -1,0 +1,40 @@
+-- The verdict on a certificate as text.
+use Rattle.std.specs.Prelude.{ℕ, List, [], ◌∷◌, ◌++◌, codes, length}
+use Rattle.std.specs.Fmt.{decimal}
+use Rattle.config_record.specs.DeviceSeen.{device_numbers}
+use Rattle.config_record.specs.Qualifiers.{device_text}
+use Rattle.cert_tree.specs.Certificate.{GoalOf, node_count}
+use Rattle.cert_checker.specs.declared.verdict.Shown.{Shown}
+use Rattle.cert_checker.specs.declared.verdict.Shown.TheVariants.{Nothing, Two, One}
+use Rattle.cert_checker.specs.declared.verdict.Verdict.{Verdict}
+use Rattle.cert_checker.specs.declared.verdict.Verdict.TheVariants.{Accepted, Rejected}
+use Rattle.cert_checker.specs.Rule.{number_of, name_of}
+use Rattle.resource_text.specs.EndText.{end_line}
+
+-- the line `accepted goals G nodes N`
+unfoldable pub accepted_line : ℕ → ℕ → List ℕ
+accepted_line goals nodes = codes "accepted goals " ++ decimal goals ++ codes " nodes " ++ decimal nodes ++ 10 ∷ []
+
+-- how many goals there are, and how many nodes they have in all
+abbrev pub accepted_text : List GoalOf → List ℕ
+accepted_text goals = accepted_line (length goals) (node_count goals)
+
+-- the line `rejected goal G node N RULE NAME`; goals and nodes are counted from 0, and RULE is `N` and the rule's number
+unfoldable pub rejected_line : ℕ → ℕ → ℕ → List ℕ → List ℕ
+rejected_line goal node rule name =
+    codes "rejected goal " ++ decimal goal ++ codes " node " ++ decimal node ++ codes " N" ++ decimal rule ++ codes " " ++ name ++ 10 ∷ []
+
+-- the line `NAME DEVICE`
+unfoldable pub named_device_line : List ℕ → List ℕ → List ℕ
+named_device_line name d = name ++ codes " " ++ device_text d ++ 10 ∷ []
+
+-- the devices that show why a node fails: two that are decided in different ways, or one with its end
+unfoldable pub shown_text : Shown → List ℕ
+shown_text Nothing = []
+shown_text (Two first second) =
+    named_device_line (codes "first") (device_numbers first) ++ named_device_line (codes "second") (device_numbers second)
+shown_text (One device end) = named_device_line (codes "device") (device_numbers device) ++ end_line end
+
+unfoldable pub verdict_text : Verdict → List GoalOf → List ℕ
+verdict_text Accepted goals = accepted_text goals
+verdict_text (Rejected goal node rule shown) goals = rejected_line goal node (number_of rule) (name_of rule) ++ shown_text shown

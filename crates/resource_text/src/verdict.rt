@@ -1,0 +1,105 @@
+//! The verdict on a certificate, written.
+
+ghost use Rattle.std.specs.Prelude.{◌≡◌};
+ghost use Rattle.contract_words.specs.Writes.{Writes};
+ghost use Rattle.config_record.specs.DeviceSeen.{device_numbers};
+ghost use Rattle.cert_tree.specs.Certificate.{goals_of, node_count};
+ghost use Rattle.resource_text.specs.VerdictText.{accepted_line, accepted_text, rejected_line, named_device_line, shown_text, verdict_text};
+
+use crate::end::write_end_line;
+use cert_checker::{Shown, Verdict};
+use cert_tree::Cert;
+use config_record::Device;
+use std::io::{self, Write};
+
+/// Writes whether a certificate is accepted, with the number of its goals and nodes; or the first node that
+/// fails with its rule, and the devices that show it.
+#[tactic(auto, unfolding(crate::specs::VerdictText::verdict_text))]
+pub fn verdict_text<W: Write + Drop>(
+    verdict: &Verdict,
+    certificate: &Cert,
+    out: &mut W,
+) -> io::Result<()>
+    ensures { Writes W.contents out.old out.new result (verdict_text verdict.now (goals_of certificate.now)) }
+{
+    match verdict {
+        Verdict::Accepted => write_accepted(certificate, out),
+        Verdict::Rejected {
+            goal,
+            node,
+            rule,
+            shown,
+        } => {
+            write_rejected(*goal, *node, rule.number(), rule.name(), out)?;
+            write_shown(shown, out)
+        }
+    }
+}
+
+fn write_accepted<W: Write + Drop>(certificate: &Cert, out: &mut W) -> io::Result<()>
+    ensures { Writes W.contents out.old out.new result (accepted_text (goals_of certificate.now)) }
+{
+    write_counts(certificate.goals.len(), node_count(certificate), out)
+}
+
+#[tactic(auto, unfolding(crate::specs::VerdictText::accepted_line))]
+fn write_counts<W: Write + Drop>(goals: usize, nodes: u128, out: &mut W) -> io::Result<()>
+    ensures { Writes W.contents out.old out.new result (accepted_line goals nodes) }
+{
+    writeln!(out, "accepted goals {goals} nodes {nodes}")
+}
+
+// How many nodes all goals have.
+fn node_count(certificate: &Cert) -> u128
+    ensures { result ≡ node_count (goals_of certificate.now) }
+{
+    let mut count = 0;
+    for goal in &certificate.goals {
+        count += goal.nodes.len() as u128;
+    }
+    count
+}
+
+#[tactic(auto, unfolding(crate::specs::VerdictText::rejected_line))]
+fn write_rejected<W: Write + Drop>(
+    goal: usize,
+    node: usize,
+    rule: u8,
+    name: &str,
+    out: &mut W,
+) -> io::Result<()>
+    ensures { Writes W.contents out.old out.new result (rejected_line goal node rule name.now) }
+{
+    writeln!(out, "rejected goal {goal} node {node} N{rule} {name}")
+}
+
+#[tactic(auto, unfolding(crate::specs::VerdictText::shown_text))]
+fn write_shown<W: Write + Drop>(shown: &Shown, out: &mut W) -> io::Result<()>
+    ensures { Writes W.contents out.old out.new result (shown_text shown.now) }
+{
+    match shown {
+        Shown::Nothing => Ok(()),
+        Shown::Two(first, second) => {
+            write_named_device("first", first, out)?;
+            write_named_device("second", second, out)
+        }
+        Shown::One(device, end) => {
+            write_named_device("device", device, out)?;
+            write_end_line(*end, out)
+        }
+    }
+}
+
+#[tactic(auto, unfolding(crate::specs::VerdictText::named_device_line))]
+fn write_named_device<W: Write + Drop>(
+    name: &str,
+    device: &Device,
+    out: &mut W,
+) -> io::Result<()>
+    ensures { Writes W.contents out.old out.new result (named_device_line name.now (device_numbers device.now)) }
+{
+    out.write_all(name.as_bytes())?;
+    out.write_all(b" ")?;
+    device.write_qualifiers(out)?;
+    out.write_all(b"\n")
+}

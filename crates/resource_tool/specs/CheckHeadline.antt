@@ -1,0 +1,30 @@
+-- What a verdict on a certificate promises, from the bytes of all inputs.
+use Rattle.std.specs.Prelude.{◌≡◌, ℕ, List, Option, Some, slice_get, Result, Ok}
+use Rattle.std.specs.Io.KnownBytes.{Appends}
+use Rattle.res_value.specs.declared.res_id.ResId.{ResId}
+use Rattle.box_answers.specs.NumberSet.{SetOf}
+use Rattle.config_box.specs.BoxJson.{box_in}
+use Rattle.overlay_map.specs.Layer.{LayerOf}
+use Rattle.cert_tree.specs.Certificate.{GoalOf}
+use Rattle.cert_tree.specs.CertJson.{cert_in}
+use Rattle.cert_checker.specs.declared.verdict.Verdict.{Verdict}
+use Rattle.cert_checker.specs.Headline.{Headline}
+use Rattle.resource_tool.specs.declared.status.Status.{Status}
+use Rattle.resource_tool.specs.StackBytes.{LayerBytes, stack_in}
+use Rattle.resource_tool.specs.CheckOutput.{CheckInputs, goals_asked, status_of_verdict, check_text}
+
+-- The bytes mean layers, a box and a certificate, and a verdict was printed. If it is that the certificate is accepted, then
+-- for every device of the box and every id that was asked, in its order, the selection, overlay and reference rules end
+-- within twenty references at the value or the bag of the leaf that the device reaches in the id's tree. If it is that the
+-- certificate is rejected, the node that is named is the first whose named rule fails.
+pub record HeadlineHolds (layers : List LayerBytes) (box_json cert_json : List ℕ) (ids : List ResId) (old new : Option (List ℕ)) (status : Status) : Type 0 where
+  pub stack : List LayerOf
+  pub sets : List SetOf
+  pub trees : List GoalOf
+  pub verdict : Verdict
+  pub means_stack : stack_in layers ≡ Ok stack
+  pub means_box : box_in box_json ≡ Ok sets
+  pub means_certificate : cert_in cert_json ≡ Ok trees
+  pub ends : status ≡ status_of_verdict verdict
+  pub printed : Appends old new (check_text (record { stack = stack; sets = sets; trees = trees }) verdict)
+  pub holds : Headline stack sets (goals_asked ids) trees verdict

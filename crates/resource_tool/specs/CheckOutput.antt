@@ -1,0 +1,66 @@
+-- What the command `check` prints.
+use Rattle.std.specs.Prelude.{◌≡◌, ℕ, ◌++◌, List, map, Result, Ok}
+use Rattle.contract_words.specs.Faults.{◌>>=◌}
+use Rattle.res_value.specs.declared.res_id.ResId.{ResId}
+use Rattle.box_answers.specs.NumberSet.{SetOf}
+use Rattle.config_box.specs.BoxJson.{box_in}
+use Rattle.overlay_map.specs.Layer.{LayerOf}
+use Rattle.overlay_map.specs.SetAside.{set_aside_in_stack}
+use Rattle.cert_tree.specs.declared.goal.Goal.{Goal}
+use Rattle.cert_tree.specs.declared.goal.Goal.TheVariants.{Id}
+use Rattle.cert_tree.specs.Certificate.{GoalOf}
+use Rattle.cert_tree.specs.CertJson.{cert_in}
+use Rattle.cert_checker.specs.declared.verdict.Verdict.{Verdict}
+use Rattle.cert_checker.specs.declared.verdict.Verdict.TheVariants.{Accepted, Rejected}
+use Rattle.cert_checker.specs.Verdict.{IsVerdict}
+use Rattle.cert_checker.specs.Headline.{Headline}
+use Rattle.resource_text.specs.declared.fault.ToolFault.{ToolFault}
+use Rattle.resource_text.specs.ToolFault.{fault_of_box, fault_of_certificate}
+use Rattle.resource_text.specs.QueryText.{set_aside_line}
+use Rattle.resource_text.specs.VerdictText.{verdict_text}
+use Rattle.resource_tool.specs.declared.status.Status.{Status}
+use Rattle.resource_tool.specs.declared.status.Status.TheVariants.{Done, Negative}
+use Rattle.resource_tool.specs.Output.{Output}
+use Rattle.resource_tool.specs.StackBytes.{LayerBytes, stack_in}
+use Rattle.resource_tool.specs.MapErr.{map_err}
+
+-- ---- the inputs
+
+-- layers, the sets of a box, and a certificate's goals with their trees
+pub record CheckInputs : Type 0 where
+  pub stack : List LayerOf
+  pub sets : List SetOf
+  pub trees : List GoalOf
+
+-- What these layers, a box's text and a certificate's text mean, or the first fault. The layers are read before the
+-- box, and that before the certificate.
+unfoldable pub check_inputs : List LayerBytes → List ℕ → List ℕ → Result CheckInputs ToolFault
+check_inputs layers box_json cert_json = do
+  stack ← stack_in layers
+  sets ← map_err fault_of_box (box_in box_json)
+  trees ← map_err fault_of_certificate (cert_in cert_json)
+  Ok (record { stack = stack; sets = sets; trees = trees })
+
+-- what ids ask for: where each of them ends
+abbrev pub goals_asked : List ResId → List Goal
+goals_asked ids = map (λ id. Id id) ids
+
+-- ---- the output
+
+-- it is done where the certificate is accepted
+abbrev pub status_of_verdict : Verdict → Status
+status_of_verdict Accepted = Done
+status_of_verdict (Rejected goal node rule shown) = Negative
+
+-- the verdict, and a line with the number of rows of all layers that are set aside
+unfoldable pub check_text : CheckInputs → Verdict → List ℕ
+check_text inputs verdict = verdict_text verdict inputs.trees ++ set_aside_line (set_aside_in_stack inputs.stack)
+
+-- A verdict is printed that is right: accepted where no rule fails at any node; else the first fault, and devices that show
+-- it. What it says of all devices of the box holds.
+pub record IsCheckOutput (ids : List ResId) (inputs : CheckInputs) (output : Output) : Type 0 where
+  pub verdict : Verdict
+  pub right : IsVerdict inputs.stack inputs.sets (goals_asked ids) inputs.trees verdict
+  pub headline : Headline inputs.stack inputs.sets (goals_asked ids) inputs.trees verdict
+  pub status : output.status ≡ status_of_verdict verdict
+  pub text : output.text ≡ check_text inputs verdict

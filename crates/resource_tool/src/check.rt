@@ -1,0 +1,113 @@
+//! The command `check`.
+
+ghost use Rattle.std.specs.Prelude.{◌≡◌, map, Ok, IfOk};
+ghost use Rattle.contract_words.specs.Exact.{GivesOr};
+ghost use Rattle.contract_words.specs.Writes.{Writes};
+ghost use Rattle.resource_text.specs.declared.fault.ToolFault.TheVariants.{OutOfMemory};
+ghost use Rattle.resource_tool.specs.Output.{PrintsOneOf, IsOfInput};
+ghost use Rattle.resource_tool.specs.StackBytesSeen.{layer_bytes};
+ghost use Rattle.resource_tool.specs.CheckOutput.{IsCheckOutput, check_inputs, check_text, goals_asked, status_of_verdict};
+ghost use Rattle.resource_tool.specs.CheckHeadline.{HeadlineHolds};
+
+use crate::stack::open_stack;
+use crate::status::Status;
+use cert_checker::{Verdict, check};
+use cert_tree::{Cert, Goal};
+use config_box::ConfigBox;
+use overlay_map::Stack;
+use res_value::ResId;
+use resource_text::{ToolFault, set_aside_line, verdict_text};
+use std::alloc::{AllocError, Global};
+use std::io::{self, Write};
+
+/// Prints whether a certificate is true of some ids for every device of a box, or the first of its nodes that
+/// fails with the devices that show it; and a line with the number of rows of all layers that are set aside.
+/// The certificate has to have a tree for each of the ids, in their order. The status is Negative where it is
+/// rejected. A layer is the bytes of a table and, at an overlay, those of an id map.
+pub fn check_bytes<W: Write + Drop>(
+    alloc: Global,
+    layers: &[(&[u8], Option<&[u8]>)],
+    box_json: &[u8],
+    cert: &[u8],
+    goals: &[ResId],
+    out: &mut W,
+) -> Result<Status, ToolFault>
+    ensures verdict { PrintsOneOf (IsCheckOutput goals.now) W.contents out.old out.new result
+        (check_inputs (map layer_bytes layers.now) box_json.now cert.now) }
+    ensures headline { IfOk result (HeadlineHolds (map layer_bytes layers.now) box_json.now cert.now goals.now
+        (W.contents out.old) (W.contents out.new)) }
+{
+    let inputs = read_inputs(alloc, layers, box_json, cert)?;
+    Ok(answer(alloc, &inputs, goals, out)?)
+}
+
+/// What is checked.
+#[derive(Drop)]
+struct Inputs<'a> {
+    stack: Stack<'a>,
+    members: ConfigBox,
+    certificate: Cert,
+}
+
+ghost use Rattle.resource_tool.specs.CheckInputsSeen.{inputs_of};
+
+#[tactic(auto, unfolding(crate::specs::CheckOutput::check_inputs))]
+fn read_inputs<'a>(
+    alloc: Global,
+    layers: &[(&'a [u8], Option<&[u8]>)],
+    box_json: &[u8],
+    cert: &[u8],
+) -> Result<Inputs<'a>, ToolFault>
+    ensures value { GivesOr OutOfMemory inputs_of result (check_inputs (map layer_bytes layers.now) box_json.now cert.now) }
+    ensures of_input { IsOfInput result }
+{
+    let stack = open_stack(alloc, layers)?;
+    let members = ConfigBox::read(alloc, box_json)?;
+    let certificate = Cert::read(alloc, cert)?;
+    Ok(Inputs {
+        stack,
+        members,
+        certificate,
+    })
+}
+
+fn answer<W: Write + Drop>(
+    alloc: Global,
+    inputs: &Inputs<'_>,
+    goals: &[ResId],
+    out: &mut W,
+) -> Result<Status, ToolFault>
+    ensures { PrintsOneOf (IsCheckOutput goals.now) W.contents out.old out.new result (Ok (inputs_of inputs.now)) }
+{
+    let goals = goals_asked(alloc, goals)?;
+    let verdict = check(alloc, &inputs.stack, &inputs.members, &goals, &inputs.certificate)?;
+    write_verdict(&verdict, inputs, out)?;
+    Ok(status_of_verdict(verdict))
+}
+
+fn goals_asked(alloc: Global, ids: &[ResId]) -> Result<Vec<Goal>, AllocError>
+    ensures { IfOk result (λ goals. goals.items ≡ goals_asked ids.now) }
+{
+    ids.iter().map(|id| Goal::Id(*id)).collect(alloc)
+}
+
+#[tactic(auto, unfolding(crate::specs::CheckOutput::check_text))]
+fn write_verdict<W: Write + Drop>(
+    verdict: &Verdict,
+    inputs: &Inputs<'_>,
+    out: &mut W,
+) -> io::Result<()>
+    ensures { Writes W.contents out.old out.new result (check_text (inputs_of inputs.now) verdict.now) }
+{
+    verdict_text(verdict, &inputs.certificate, out)?;
+    set_aside_line(inputs.stack.set_aside(), out)
+}
+
+fn status_of_verdict(verdict: Verdict) -> Status
+    ensures { result ≡ status_of_verdict verdict }
+{
+    match verdict {
+        Verdict::Accepted => Status::Done,
+        Verdict::Rejected { .. } => Status::Negative,
+    }
+}
