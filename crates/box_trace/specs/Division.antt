@@ -12,7 +12,8 @@ has_matched KeptOut = true
 has_matched TookOver = true
 
 -- One question about a candidate divides two members; `step d` is what the candidate does at a device. The first
--- answers yes, the second no: it matches the first alone; or it matches all members, and takes over at the first alone.
+-- answers yes, the second no: it matches the first and not the second; or it matches all members, and takes over at the
+-- first and not at the second.
 abbrev pub DividesAt : (List ℕ → Type 0) → (List ℕ → Step) → List ℕ → List ℕ → Type 0
 DividesAt members step x y =
     (IsTrue (has_matched (step x)) × (step y ≡ NoMatch))

@@ -17,11 +17,11 @@ pub enum CertFault {
     /// The version is missing, or is not the number 1.
     #[error("Version")]
     Version,
-    /// A goal and its node that has none of the shapes, both counted from 0. At a goal that has not
-    /// the shape of one the node is 0, and at a certificate that has not the goal is 0 too.
+    /// A goal, and its node that has none of the shapes, both counted from 0. Where the goal itself has
+    /// not its shape the node is 0; where the certificate has not, both are.
     #[error("Shape {0} {1}")]
     Shape(usize, usize),
-    /// More than 1,000,000 nodes stand in the goals up to one of them.
+    /// The goals up to one of them have more than 1,000,000 nodes together.
     #[error("TooManyNodes")]
     TooManyNodes,
     #[error("OutOfMemory")]

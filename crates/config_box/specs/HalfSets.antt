@@ -9,7 +9,7 @@ use Rattle.config_box.specs.declared.test.Test.TheVariants.{AtMost, Among}
 use Rattle.config_box.specs.Marks.{AreMarkedAlike}
 use Rattle.config_box.specs.Tests.{passes}
 
--- a range is asked for numbers up to one alone
+-- a range is asked only whether its numbers are at most a bound
 abbrev pub IsAskable : SetOf → Test → Type 0
 IsAskable (RangeOf low high) (AtMost c most) = Unit {0}
 IsAskable (RangeOf low high) (Among c choice) = ⊥

@@ -36,7 +36,7 @@ is_range (RangeOf low high) = true
 is_range (NumbersOf numbers) = false
 is_range (LocalesOf numbers) = false
 
--- numbers up to one are asked for where there are numbers, those of a list where the box has a choice
+-- whether a number is at most a bound can be asked wherever there are numbers, whether it is listed where the box has a choice
 unfoldable pub is_wrong_kind : List SetOf → Test → Bool
 is_wrong_kind box (AtMost coords.Locale most) = true
 is_wrong_kind box (AtMost c most) = false

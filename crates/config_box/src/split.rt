@@ -20,7 +20,7 @@ pub type OutOfMemory = AllocError;
 pub enum Split {
     /// The members that answer yes, and those that answer no.
     Halves(ConfigBox, ConfigBox),
-    /// A test of numbers up to one at the locale, or of listed values where the box has a range.
+    /// An `at most` test of the locale, or a test of listed values where the box has a range.
     WrongKind,
     /// All members answer alike, so one half would have none.
     EmptyHalf,
