@@ -1,5 +1,5 @@
 -- What follows for two members that are divided, and for predicates that hold of fewer devices.
-use Rattle.std.proofs.Common.{◌≡◌, ◌≢◌, inl, inr, ℕ, Bool, true, false, List, [], ◌∷◌, ◌++◌, refl, sym, ◌∙◌, ap, append_assoc}
+use Rattle.std.proofs.Common.{◌≡◌, ◌≢◌, inl, inr, ℕ, true, false, List, [], ◌∷◌, ◌++◌, sym, ◌∙◌, ap, append_assoc}
 use Rattle.reference_resolver.specs.declared.step.Step.{Step}
 use Rattle.reference_resolver.specs.Trace.{Trace}
 use Rattle.box_trace.specs.Division.{has_matched, DividesAt, Divides}

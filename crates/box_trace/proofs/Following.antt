@@ -10,7 +10,7 @@ use Rattle.reference_resolver.specs.declared.next.Next.TheVariants.{LookUp, Ends
 use Rattle.reference_resolver.specs.declared.step.Step.{Step}
 use Rattle.reference_resolver.specs.Selection.{selected, step_of}
 use Rattle.reference_resolver.specs.Ends.{next_of, next_within, end_of}
-use Rattle.reference_resolver.specs.Trace.{look_ups_of, scan_look_up, scan_chain, Trace, trace_of}
+use Rattle.reference_resolver.specs.Trace.{look_ups_of, scan_look_up, scan_chain, trace_of}
 use Rattle.reference_resolver.proofs.Chains.{ends_within, goes_on_within}
 use Rattle.box_trace.specs.Division.{Divides}
 use Rattle.box_trace.specs.CommonTrace.{SharesTrace}
@@ -67,14 +67,17 @@ follow_more members stack most first left id taken picked target followed select
 last_look_up : (members : List ℕ → Type 0) (stack : List LayerOf) (most first left id : ℕ) (taken : List Step) (picked : Option CandOf) (end : End)
     → IsFollowed members stack most first left id → IsSelectedBy members stack id taken picked → ((d : List ℕ) → members d → next_within stack left id d ≡ EndsAt end)
     → (steps : List Step) × SharesTrace members (trace_of stack most first) (record { steps = steps; end = end })
-last_look_up members stack most first left id taken picked end followed selects last = (followed.before ++ (taken ++ []), λ d m.
-    let ends = ends_within stack left id d end (last d m) in
-    let steps : scan_chain step_of stack most first d ≡ followed.before ++ (taken ++ []) =
-        followed.steps d m
-        ∙ ap (λ (ids : List ℕ). followed.before ++ flat_map (scan_look_up step_of stack d) ids) ends.1
-        ∙ ap (λ (steps : List Step). followed.before ++ (steps ++ [])) (selects.steps d m) in
-    let end_is : end_of stack most first d ≡ end = followed.ends d m ∙ ends.0 in
-    rw (steps, end_is) refl)
+last_look_up members stack most first left id taken picked end followed selects last = (
+  followed.before ++ (taken ++ []),
+  λ d m.
+      let ends = ends_within stack left id d end (last d m) in
+      let steps : scan_chain step_of stack most first d ≡ followed.before ++ (taken ++ []) =
+      followed.steps d m
+      ∙ ap (λ (ids : List ℕ). followed.before ++ flat_map (scan_look_up step_of stack d) ids) ends.1
+      ∙ ap (λ (steps : List Step). followed.before ++ (steps ++ [])) (selects.steps d m) in
+      let end_is : end_of stack most first d ≡ end = followed.ends d m ∙ ends.0 in
+      rw (steps, end_is) refl,
+)
 
 pub follow_end : (members : List ℕ → Type 0) (stack : List LayerOf) (most first left id : ℕ) (taken : List Step) (picked : Option CandOf) (end : End)
     → IsFollowed members stack most first left id → IsSelectedBy members stack id taken picked → next_of id picked ≡ EndsAt end

@@ -1,7 +1,9 @@
 -- One look-up for all members of a box, candidate by candidate.
-use Rattle.std.proofs.Common.{◌≡◌, inl, inr, ℕ, Bool, true, false, List, [], ◌∷◌, ◌++◌, Option, None, refl, sym, ◌∙◌, ap, append_assoc}
-use Rattle.std.specs.Prelude.{◌||◌, if◌then◌else◌}
+use Rattle.std.proofs.Common.{◌≡◌, inl, inr, ℕ, Bool, true, false, List, [], ◌∷◌, ◌++◌, Option, None, refl, sym, ◌∙◌, ap, subst, append_assoc}
+use Rattle.std.specs.Prelude.{◌||◌, ◌&&◌, if◌then◌else◌}
 use Rattle.config_match.specs.Matching.{is_match}
+use Rattle.config_precedence.specs.Precedence.{is_better}
+use Rattle.config_precedence.specs.EqualRecord.{is_same}
 use Rattle.box_answers.specs.NumberSet.{SetOf}
 use Rattle.box_answers.specs.Members.{IsMember}
 use Rattle.box_answers.specs.Sameness.{IsExact, Separates}
@@ -11,7 +13,7 @@ use Rattle.config_record.specs.declared.coord.Coord.{Coord}
 use Rattle.overlay_map.specs.Candidates.{CandOf}
 use Rattle.reference_resolver.specs.declared.step.Step.{Step}
 use Rattle.reference_resolver.specs.declared.step.Step.TheVariants.{NoMatch, KeptOut, TookOver}
-use Rattle.reference_resolver.specs.Selection.{beats_best, step_of, best_after, scan_candidates, best_of}
+use Rattle.reference_resolver.specs.Selection.{beats, beats_best, step_of, best_after, scan_candidates, best_of}
 use Rattle.box_trace.specs.Division.{has_matched, DividesAt, Divides}
 use Rattle.box_trace.specs.CommonTrace.{AreSideBySide}
 
@@ -32,13 +34,37 @@ exact_alike (same.Mixed x y c) sets asks other alike exact = record {
   near = exact.near;
 }
 
-pub or_false : (a b : Bool) → b ≡ false → (a || b) ≡ a
+or_false : (a b : Bool) → b ≡ false → (a || b) ≡ a
 or_false false b e = e
 or_false true b e = refl
 
-pub or_true : (a b : Bool) → b ≡ true → (a || b) ≡ true
+or_true : (a b : Bool) → b ≡ true → (a || b) ≡ true
 or_true false b e = e
 or_true true b e = refl
+
+and_true : (a b : Bool) → a ≡ true → b ≡ true → (a && b) ≡ true
+and_true a b e f = rw (e, f) refl
+
+and_false : (a b : Bool) → b ≡ false → (a && b) ≡ false
+and_false false b e = refl
+and_false true b e = e
+
+-- an overlay's candidate with an equal record beats the best at each device
+pub beats_by_equal_record : (candidate best : CandOf) (d : List ℕ) → candidate.overlay ≡ true → is_same candidate.row.config best.row.config ≡ true → beats candidate best d ≡ true
+unfolding beats
+beats_by_equal_record candidate best d overlay equal =
+    or_true (is_better candidate.row.config best.row.config d) (candidate.overlay && is_same candidate.row.config best.row.config) (and_true candidate.overlay (is_same candidate.row.config best.row.config) overlay equal)
+
+-- any other only where it is better
+pub beats_of_base : (candidate best : CandOf) (d : List ℕ) → candidate.overlay ≡ false → beats candidate best d ≡ is_better candidate.row.config best.row.config d
+unfolding beats
+beats_of_base candidate best d base =
+    or_false (is_better candidate.row.config best.row.config d) (candidate.overlay && is_same candidate.row.config best.row.config) (rw base refl)
+
+pub beats_of_other_record : (candidate best : CandOf) (d : List ℕ) → is_same candidate.row.config best.row.config ≡ false → beats candidate best d ≡ is_better candidate.row.config best.row.config d
+unfolding beats
+beats_of_other_record candidate best d other =
+    or_false (is_better candidate.row.config best.row.config d) (candidate.overlay && is_same candidate.row.config best.row.config) (and_false candidate.overlay (is_same candidate.row.config best.row.config) other)
 
 pub side_by_side : (sets : List SetOf) (asks : List ℕ → Bool) (x y : List ℕ) (c : Coord) → Separates sets asks x y c → AreSideBySide sets x y c
 side_by_side sets asks x y c apart = record { x_member = apart.parts.yes_member; y_member = apart.parts.no_member; others = apart.parts.others; near = apart.near }
@@ -68,12 +94,14 @@ divided_by_match sets best candidate x y c apart =
 -- all members match, and two of them of which the candidate takes over at the first alone
 pub divided_by_taking_over : (sets : List SetOf) (best : Option CandOf) (candidate : CandOf) (x y : List ℕ) (c : Coord) → ((d : List ℕ) → IsMember sets d → is_match candidate.row.config d ≡ true)
     → Separates sets (beats_best best candidate) x y c → AreSideBySide sets x y c × DividesAt (IsMember sets) (step_of best candidate) x y
-divided_by_taking_over sets best candidate x y c match apart =
-    (side_by_side sets (beats_best best candidate) x y c apart, inr (
-      (λ d m. step_has_matched best candidate d (match d m)),
-      step_took_over best candidate x (match x apart.parts.yes_member) apart.parts.yes_answer,
-      step_kept_out best candidate y (match y apart.parts.no_member) apart.parts.no_answer,
-    ))
+divided_by_taking_over sets best candidate x y c match apart = (
+  side_by_side sets (beats_best best candidate) x y c apart,
+  inr (
+    (λ d m. step_has_matched best candidate d (match d m)),
+    step_took_over best candidate x (match x apart.parts.yes_member) apart.parts.yes_answer,
+    step_kept_out best candidate y (match y apart.parts.no_member) apart.parts.no_answer,
+  ),
+)
 
 -- ---- candidate by candidate
 
@@ -86,17 +114,21 @@ pub record IsScanned (members : List ℕ → Type 0) (all : List CandOf) (best :
 pub scan_start : (members : List ℕ → Type 0) (all : List CandOf) → IsScanned members all None all
 scan_start members all = record { before = []; steps = λ d m. refl; picked = λ d m. refl }
 
--- one candidate more, which does this at all members
-pub scan_more : (members : List ℕ → Type 0) (all left : List CandOf) (best : Option CandOf) (candidate : CandOf) (step : Step) → IsScanned members all best (candidate ∷ left)
-    → ((d : List ℕ) → members d → step_of best candidate d ≡ step) → IsScanned members all (best_after step best candidate) left
-scan_more members all left best candidate step scanned does = record {
+-- these are the ones that are left
+pub scan_at : (members : List ℕ → Type 0) (all left now : List CandOf) (best : Option CandOf) → IsScanned members all best left → left ≡ now → IsScanned members all best now
+scan_at members all left now best scanned is_now = subst (λ (candidates : List CandOf). IsScanned members all best candidates) is_now scanned
+
+-- one candidate more, which does this at all members, and the best after it
+pub scan_more : (members : List ℕ → Type 0) (all left : List CandOf) (best after : Option CandOf) (candidate : CandOf) (step : Step) → IsScanned members all best (candidate ∷ left)
+    → ((d : List ℕ) → members d → step_of best candidate d ≡ step) → after ≡ best_after step best candidate → IsScanned members all after left
+scan_more members all left best after candidate step scanned does is_after = subst (λ (o : Option CandOf). IsScanned members all o left) (sym is_after) (record {
   before = scanned.before ++ step ∷ [];
   steps = λ d m.
       scanned.steps d m
       ∙ ap (λ (z : Step). scanned.before ++ z ∷ scan_candidates step_of (best_after z best candidate) left d) (does d m)
       ∙ sym (append_assoc scanned.before (step ∷ []) (scan_candidates step_of (best_after step best candidate) left d));
   picked = λ d m. scanned.picked d m ∙ ap (λ (z : Step). best_of (best_after z best candidate) left d) (does d m);
-}
+})
 
 -- one that divides two of them
 pub scan_divided : (members : List ℕ → Type 0) (all left : List CandOf) (best : Option CandOf) (candidate : CandOf) (x y : List ℕ) → IsScanned members all best (candidate ∷ left)
@@ -108,3 +140,8 @@ scan_divided members all left best candidate x y scanned divides = record {
   same = scanned.steps;
   divides = divides;
 }
+
+-- none is left
+pub scan_end : (members : List ℕ → Type 0) (all : List CandOf) (best : Option CandOf) → IsScanned members all best []
+    → (steps : List Step) × ((d : List ℕ) → members d → scan_candidates step_of None all d ≡ steps) × ((d : List ℕ) → members d → best_of None all d ≡ best)
+scan_end members all best scanned = (scanned.before ++ [], scanned.steps, scanned.picked)

@@ -2,7 +2,7 @@
 
 use config_record::{Coord, Device};
 use overlay_map::Cand;
-use reference_resolver::{End, Step};
+use reference_resolver::End;
 
 /// What the traces of all members of a box have in common.
 #[derive(Clone, Copy, Debug, PartialEq, Eq)]
@@ -15,20 +15,11 @@ pub enum CommonTrace {
     Mixed(Device, Device, Coord),
 }
 
-/// What all members of a box select for an id.
-#[derive(Clone, Copy, Debug)]
+/// What all members of a box select, among the candidates so far.
+#[derive(Clone, Copy)]
 pub(crate) enum CommonSelection<'a> {
     /// All take the same steps to this candidate, or to none.
     One(Option<Cand<'a>>),
-    /// Two members, as above.
-    Mixed(Device, Device, Coord),
-}
-
-/// What a candidate does at all members of a box.
-#[derive(Clone, Copy, Debug, PartialEq, Eq)]
-pub(crate) enum CommonStep {
-    /// The same at all.
-    One(Step),
     /// Two members, as above.
     Mixed(Device, Device, Coord),
 }

@@ -2,11 +2,10 @@
 
 ghost use Rattle.box_trace.specs.CommonSelection.{IsCommonSelection};
 
-use crate::common::{CommonSelection, CommonStep};
-use crate::step::common_step;
+use crate::common::CommonSelection;
+use crate::step::best_after;
 use config_box::ConfigBox;
 use overlay_map::Stack;
-use reference_resolver::Step;
 use res_value::ResId;
 
 /// The candidate of an id that all members select, and by the same steps.
@@ -19,10 +18,9 @@ pub(crate) fn common_selection<'a>(
 {
     let mut best = None;
     for candidate in stack.candidates(id) {
-        match common_step(&best, &candidate, members) {
-            CommonStep::One(Step::TookOver) => best = Some(candidate),
-            CommonStep::One(_) => {}
-            CommonStep::Mixed(yes, no, coord) => return CommonSelection::Mixed(yes, no, coord),
+        match best_after(best, candidate, members) {
+            CommonSelection::One(picked) => best = picked,
+            CommonSelection::Mixed(yes, no, coord) => return CommonSelection::Mixed(yes, no, coord),
         }
     }
     CommonSelection::One(best)
