@@ -91,11 +91,7 @@ fn write_shown<W: Write + Drop>(shown: &Shown, out: &mut W) -> io::Result<()>
 }
 
 #[tactic(auto, unfolding(crate::specs::VerdictText::named_device_line))]
-fn write_named_device<W: Write + Drop>(
-    name: &str,
-    device: &Device,
-    out: &mut W,
-) -> io::Result<()>
+fn write_named_device<W: Write + Drop>(name: &str, device: &Device, out: &mut W) -> io::Result<()>
     ensures { Writes W.contents out.old out.new result (named_device_line name.now (device_numbers device.now)) }
 {
     out.write_all(name.as_bytes())?;

@@ -80,7 +80,13 @@ fn answer<W: Write + Drop>(
     ensures { PrintsOneOf (IsCheckOutput goals.now) W.contents out.old out.new result (Ok (inputs_of inputs.now)) }
 {
     let goals = goals_asked(alloc, goals)?;
-    let verdict = check(alloc, &inputs.stack, &inputs.members, &goals, &inputs.certificate)?;
+    let verdict = check(
+        alloc,
+        &inputs.stack,
+        &inputs.members,
+        &goals,
+        &inputs.certificate,
+    )?;
     write_verdict(&verdict, inputs, out)?;
     Ok(status_of_verdict(verdict))
 }

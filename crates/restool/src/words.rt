@@ -4,8 +4,8 @@ ghost use Rattle.std.specs.Prelude.{◌≤◌, length, codes, IsOkAnd};
 ghost use Rattle.restool.specs.Request.{AsksForRows};
 
 use crate::command_line::{
-    ATTRIBUTE, Argument, BAG, BAG_ID, BOX, CERTIFICATE, CHECK, DEVICE, DUMP, EXPLAIN, ID, IDS, KEEP,
-    LAYERS, QUERY, ROWS, STYLES, TABLE, command_line,
+    ATTRIBUTE, Argument, BAG, BAG_ID, BOX, CERTIFICATE, CHECK, DEVICE, DUMP, EXPLAIN, ID, IDS,
+    KEEP, LAYERS, QUERY, ROWS, STYLES, TABLE, command_line,
 };
 use crate::ids::{read_id, read_ids};
 use crate::stop::Stop;
