@@ -23,10 +23,6 @@ steps_differ members steps x y parts mx my same =
 pub traces_differ : (members : List ℕ → Type 0) (trace : List ℕ → Trace) (x y : List ℕ) → Divides members (λ d. (trace d).steps) x y → members x → members y → trace x ≢ trace y
 traces_differ members trace x y parts mx my same = steps_differ members (λ d. (trace d).steps) x y parts mx my (ap (λ (t : Trace). t.steps) same)
 
--- so they share no trace
-pub divided_share_none : (members : List ℕ → Type 0) (trace : List ℕ → Trace) (t : Trace) (x y : List ℕ) → Divides members (λ d. (trace d).steps) x y → members x → members y → SharesTrace members trace t → ⊥
-divided_share_none members trace t x y parts mx my shared = traces_differ members trace x y parts mx my (shared x mx ∙ sym (shared y my))
-
 -- ---- of fewer devices
 
 pub shares_trace_over : (members fewer : List ℕ → Type 0) (trace : List ℕ → Trace) (t : Trace) → ((d : List ℕ) → fewer d → members d) → SharesTrace members trace t → SharesTrace fewer trace t
