@@ -17,15 +17,17 @@ use Rattle.cert_checker.specs.FirstFault.{IsFirstFault}
 abbrev pub RulesEndAt : List LayerOf → Goal → List ℕ → End → Type 0
 RulesEndAt stack (Id id) d end = IsTheEnd stack id.0 d references_followed end
 
--- The device reaches a leaf, and the rules end at what its leaf says.
+-- The device reaches a leaf, and the rules end at what each leaf says that it reaches; so there is one such end.
 pub record EndsAtItsLeaf (stack : List LayerOf) (goal : Goal) (nodes : List NodeOf) (d : List ℕ) : Type 0 where
   pub said : End
   pub reaches : Reaches nodes d said
   pub ends : (end : End) → Reaches nodes d end → RulesEndAt stack goal d end
 
--- If a certificate is accepted, then for every device of the box and every goal that is asked, the rules end within twenty
--- references at the value or the bag of the leaf that the device reaches in the goal's tree. If it is rejected, the named
--- node is the first whose named rule fails.
+-- If the checker accepts a certificate for a stack of tables and overlays, a box and named goals, then for every
+-- configuration in the box and every goal, the selection, overlay and reference rules end within twenty references at the
+-- value of the leaf that the configuration reaches; if it rejects, the node it names is the first whose stated rule fails.
+-- (The value, or the bag. The first is meant goal by goal and node by node, another list of goals before all; and of the
+-- rules that fail at one node the one of the lowest number. A box is never empty: `ConfigBox::read` promises `IsBox`.)
 abbrev pub Headline : List LayerOf → List SetOf → List Goal → List GoalOf → Verdict → Type 0
 Headline stack sets asked trees Accepted =
     (g : ℕ) (goal : Goal) → slice_get asked g ≡ Some goal

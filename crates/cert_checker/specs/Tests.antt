@@ -21,7 +21,7 @@ abbrev pub answers : TestOf → List ℕ → Bool
 answers (AtMostOf c most) d = nat_le (device_number d c) most
 answers (AmongOf c choice) d = is_listed c choice (device_number d c)
 
--- numbers up to one are asked for where there are numbers, those of a list where the box has a choice
+-- whether a number is at most a bound can be asked wherever there are numbers, whether it is listed where the box has a choice
 unfoldable pub has_wrong_kind : List SetOf → TestOf → Bool
 has_wrong_kind sets (AtMostOf coords.Locale most) = true
 has_wrong_kind sets (AtMostOf c most) = false

@@ -13,7 +13,7 @@ pub enum Rule {
     EndsEarly,
     /// A node stands behind the whole tree.
     LeftOver,
-    /// A test of numbers up to one at the locale, or of listed values where the box has a range.
+    /// An `at most` test of the locale, or a test of listed values where the box has a range.
     TestKind,
     /// All devices at a test answer alike.
     EmptyHalf,

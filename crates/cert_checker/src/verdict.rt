@@ -26,8 +26,10 @@ pub enum Shown {
     /// Where the certificate itself shows it.
     Nothing,
     /// Two devices at the leaf that differ in one coordinate alone, and by one where the box has a range. At the
-    /// first question that devices at the leaf answer differently the first answers yes, the second no.
+    /// first question that devices at the leaf answer differently (does a candidate match; where it matches all
+    /// of them, does it take over) the first answers yes, the second no.
     Two(Device, Device),
-    /// The device of the least numbers at the leaf, and where the goal ends for it.
+    /// The device that has at each coordinate the least value of all devices at the leaf, and where the goal ends
+    /// for it.
     One(Device, End),
 }

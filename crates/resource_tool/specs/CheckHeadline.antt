@@ -13,10 +13,11 @@ use Rattle.resource_tool.specs.declared.status.Status.{Status}
 use Rattle.resource_tool.specs.StackBytes.{LayerBytes, stack_in}
 use Rattle.resource_tool.specs.CheckOutput.{CheckInputs, goals_asked, status_of_verdict, check_text}
 
--- The bytes mean layers, a box and a certificate, and a verdict was printed. If it is that the certificate is accepted, then
--- for every device of the box and every id that was asked, in its order, the selection, overlay and reference rules end
--- within twenty references at the value or the bag of the leaf that the device reaches in the id's tree. If it is that the
--- certificate is rejected, the node that is named is the first whose named rule fails.
+-- The bytes mean layers, a box and a certificate, and a verdict was printed, of which the headline holds: if the checker
+-- accepts a certificate for a stack of tables and overlays, a box and named goals, then for every configuration in the box
+-- and every goal, the selection, overlay and reference rules end within twenty references at the value of the leaf that the
+-- configuration reaches; if it rejects, the node it names is the first whose stated rule fails. (The goals are the ids that
+-- are asked, in their order. A box is never empty: `ConfigBox::read` promises `IsBox` of what the bytes mean.)
 pub record HeadlineHolds (layers : List LayerBytes) (box_json cert_json : List ℕ) (ids : List ResId) (old new : Option (List ℕ)) (status : Status) : Type 0 where
   pub stack : List LayerOf
   pub sets : List SetOf
