@@ -2,9 +2,10 @@
 use Rattle.std.specs.Prelude.{ℕ, not, List, [], ◌∷◌, map, ◌==◌, Option, Some, None, option_and_then, ok_or, Result, Ok, if◌then◌else◌}
 use Rattle.std.specs.List.{list_any}
 use Rattle.contract_words.specs.Faults.{◌>>=◌, refuse}
-use Rattle.contract_words.specs.Sequences.{with_front, joined_each, with_before}
+use Rattle.contract_words.specs.Sequences.{joined_each, with_before}
 use Rattle.serde_json.specs.Data.{Data, Items, no_items, item}
 use Rattle.serde_json.specs.Find.{as_array}
+use Rattle.json_input.specs.Each.{list_of, each}
 use Rattle.json_input.specs.Json.{value_of}
 use Rattle.json_input.specs.Shape.{text_of}
 use Rattle.res_value.specs.declared.res_id.ResId.{ResId}
@@ -48,15 +49,12 @@ pair_of_items _ = None
 abbrev pub pair_in : Data → Option IdPair
 pair_in value = option_and_then pair_of_items (as_array value)
 
--- each item is a pair
-unfoldable pub pairs_of_items : Items → Result (List IdPair) MapFault
-pairs_of_items no_items = Ok []
-pairs_of_items (item value items) = do
-  pair ← ok_or (pair_in value) Shape
-  with_front (pair ∷ []) (pairs_of_items items)
+abbrev pub pair_item : Data → Result IdPair MapFault
+pair_item value = ok_or (pair_in value) Shape
 
+-- each item of the list is a pair
 unfoldable pub pairs_in : Data → Result (List IdPair) MapFault
-pairs_in value = ok_or (as_array value) Shape >>= pairs_of_items
+pairs_in value = ok_or (list_of value) Shape >>= each pair_item
 
 -- ---- the pairs, one after the other
 

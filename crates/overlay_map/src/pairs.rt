@@ -1,9 +1,10 @@
 //! The pairs of ids that a JSON value is.
 
-ghost use Rattle.std.specs.Prelude.{◌≡◌};
-ghost use Rattle.serde_json.specs.View.{view, items_view};
+ghost use Rattle.std.specs.Prelude.{◌≡◌, map};
+ghost use Rattle.serde_json.specs.View.{view};
 ghost use Rattle.contract_words.specs.Exact.{GivesOr};
-ghost use Rattle.overlay_map.specs.IdMap.{id_in, pair_in, pairs_of_items, pairs_in};
+ghost use Rattle.json_input.specs.Each.{each};
+ghost use Rattle.overlay_map.specs.IdMap.{id_in, pair_in, pair_item, pairs_in};
 ghost use Rattle.overlay_map.specs.declared.map_fault.MapFault.TheVariants.{OutOfMemory};
 
 use crate::map_fault::MapFault;
@@ -22,8 +23,9 @@ pub(crate) fn pairs_in(alloc: Global, value: &Value) -> Result<Vec<(ResId, ResId
     }
 }
 
+#[tactic(auto, using(json_input::proofs::EachSteps::each_item_steps))]
 fn pairs_of_items(alloc: Global, items: &[Value]) -> Result<Vec<(ResId, ResId)>, MapFault>
-    ensures { GivesOr OutOfMemory (λ pairs. pairs.items) result (pairs_of_items (items_view items.now)) }
+    ensures { GivesOr OutOfMemory (λ pairs. pairs.items) result (each pair_item (map view items.now)) }
 {
     let mut pairs = Vec::new(alloc);
     for item in items {
