@@ -1,0 +1,9 @@
+pub mod SameTrace
+pub mod Law
+pub mod TestSteps
+pub mod BoxSteps
+pub mod LeafSteps
+pub mod NodeSteps
+pub mod TreeSteps
+pub mod GoalSteps
+pub mod HeadlineSteps

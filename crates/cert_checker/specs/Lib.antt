@@ -6,3 +6,4 @@ pub mod FirstFault
 pub mod Shown
 pub mod Verdict
 pub mod Headline
+pub mod OpenBoxes

@@ -46,9 +46,13 @@ abbrev pub FollowsFirst : List ℕ → List Path → Type 0
 FollowsFirst d [] = ⊥
 FollowsFirst d (path ∷ paths) = Follows d path
 
+-- the members of a box at the first of open paths
+abbrev pub IsAtFirst : List SetOf → List Path → List ℕ → Type 0
+IsAtFirst sets paths d = IsMember sets d × FollowsFirst d paths
+
 -- the members of a box that come to a node
 abbrev pub ComesTo : List SetOf → List NodeOf → ℕ → List ℕ → Type 0
-ComesTo sets nodes k d = IsMember sets d × FollowsFirst d (open_at nodes k)
+ComesTo sets nodes k d = IsAtFirst sets (open_at nodes k) d
 
 -- where a leaf says that the goal ends; a test says nothing
 abbrev pub leaf_end : NodeOf → Option End

@@ -5,7 +5,10 @@ ghost use Rattle.cert_tree.specs.Certificate.{goals_of};
 ghost use Rattle.cert_checker.specs.Verdict.{IsVerdict};
 ghost use Rattle.cert_checker.specs.Headline.{Headline};
 
-use crate::verdict::Verdict;
+use crate::goals::first_difference;
+use crate::rule::Rule;
+use crate::tree::check_tree;
+use crate::verdict::{Shown, Verdict};
 use cert_tree::{Cert, Goal, OutOfMemory};
 use config_box::ConfigBox;
 use overlay_map::Stack;
@@ -23,5 +26,23 @@ pub fn check(
     ensures verdict { IfOk result (IsVerdict stack.now members.now asked.now (goals_of certificate.now)) }
     ensures headline { IfOk result (Headline stack.now members.now asked.now (goals_of certificate.now)) }
 {
+    if let Some(goal) = first_difference(certificate.goals.as_slice(), asked) {
+        return Ok(Verdict::Rejected {
+            goal,
+            node: 0,
+            rule: Rule::GoalList,
+            shown: Shown::Nothing,
+        });
+    }
+    for (goal, tree) in certificate.goals.iter().enumerate() {
+        if let Some((node, failure)) = check_tree(alloc, stack, members, tree)? {
+            return Ok(Verdict::Rejected {
+                goal,
+                node,
+                rule: failure.rule,
+                shown: failure.shown,
+            });
+        }
+    }
     Ok(Verdict::Accepted)
 }

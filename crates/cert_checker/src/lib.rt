@@ -1,8 +1,26 @@
-//! Is a certificate true for every device of a box?
+//! Is a certificate true for every device of a box? Its trees are gone through node by node, with a list of the
+//! boxes of those paths that are still open; no device is tried by itself.
+//!
+//! For the crates above: `check` answers `Accepted` exactly where no rule fails, and else names the first goal, its
+//! first node and the first rule that fails, with the devices that show it. Where a certificate is accepted, the
+//! rules of the platform end, for every device of the box and every goal that was asked, at the value or the bag of
+//! the leaf that the device reaches.
+//!
+//! ```text
+//! match check(alloc, &stack, &phones, &asked, &certificate)? {
+//!     Verdict::Accepted => ..,
+//!     Verdict::Rejected { goal, node, rule, shown } => .., // rule.number(), rule.name()
+//! }
+//! ```
 #![tactic(auto)]
 
 mod checking;
+mod failure;
+mod goals;
+mod leaf;
+mod node;
 mod rule;
+mod tree;
 mod verdict;
 
 pub use checking::check;

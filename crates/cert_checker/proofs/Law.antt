@@ -1,0 +1,95 @@
+-- Where no rule fails in a tree, each member of the box reaches a leaf, and its trace ends at what each leaf says that it
+-- reaches.
+use Rattle.std.proofs.Common.{◌≡◌, ℕ, ◌⊎◌, inl, inr, suc, List, [], ◌∷◌, Option, Some, take, sym, ◌∙◌, refl, subst}
+use Rattle.std.specs.Prelude.{slice_get}
+use Rattle.std.proofs.lemmas.Bool.{cases_Bool}
+use Rattle.reference_resolver.specs.declared.end.End.{End}
+use Rattle.reference_resolver.specs.declared.end.End.TheVariants as ends
+use Rattle.reference_resolver.specs.Trace.{Trace}
+use Rattle.box_answers.specs.NumberSet.{SetOf}
+use Rattle.box_answers.specs.Members.{IsMember}
+use Rattle.box_trace.specs.CommonTrace.{SharesTrace}
+use Rattle.cert_tree.specs.Certificate.{TestOf, NodeOf, TestAt, ValueAt, BagAt}
+use Rattle.cert_checker.specs.declared.rule.Rule.{Rule}
+use Rattle.cert_checker.specs.declared.rule.Rule.TheVariants.{EndsEarly, MixedTrace, NoValue, OtherValue}
+use Rattle.cert_checker.specs.Tests.{answers}
+use Rattle.cert_checker.specs.Paths.{Path, Follows, IsAt, after, after_all, root, open_at, FollowsFirst, leaf_end, Reaches}
+use Rattle.cert_checker.specs.Fails.{is_value, FailsAtLeaf, FailsAt, Fails, NoRuleFails}
+use Rattle.cert_checker.proofs.SameTrace.{told_end, told_trace}
+
+-- ---- each device that follows an open path reaches a leaf
+
+abbrev FollowsSome : List ℕ → List Path → Type 0
+FollowsSome d [] = ⊥
+FollowsSome d (path ∷ paths) = Follows d path ⊎ FollowsSome d paths
+
+-- a leaf among nodes before which these paths are open
+record ReachesFrom (nodes : List NodeOf) (paths : List Path) (d : List ℕ) : Type 0 where
+  said : End
+  place : ℕ
+  leaf : NodeOf
+  stands : slice_get nodes place ≡ Some leaf
+  says : leaf_end leaf ≡ Some said
+  follows : FollowsFirst d (after_all (take place nodes) paths)
+
+-- one behind a node
+later : (node : NodeOf) (nodes : List NodeOf) (path : Path) (paths : List Path) (d : List ℕ) → ReachesFrom nodes (after node path paths) d → ReachesFrom (node ∷ nodes) (path ∷ paths) d
+later node nodes path paths d r = record { said = r.said; place = suc r.place; leaf = r.leaf; stands = r.stands; says = r.says; follows = r.follows }
+
+abbrev NoneFailsFrom : (List ℕ → Trace) → List SetOf → List NodeOf → List Path → Type 0
+NoneFailsFrom trace sets nodes paths = (k : ℕ) (rule : Rule) → FailsAt trace sets (slice_get nodes k) (after_all (take k nodes) paths) rule → ⊥
+
+-- a device goes on with its own answer
+goes_on : (test : TestOf) (path : Path) (paths : List Path) (d : List ℕ) → Follows d path → FollowsSome d (after (TestAt test) path paths)
+goes_on test path paths d f = elim (cases_Bool (answers test d)) [ inl e ↦ inl (e, f) | inr e ↦ inr (inl (e, f)) ]
+
+reach : (trace : List ℕ → Trace) (sets : List SetOf) (d : List ℕ) (nodes : List NodeOf) (paths : List Path) → NoneFailsFrom trace sets nodes paths → FollowsSome d paths → ReachesFrom nodes paths d
+reach trace sets d [] [] ok f = absurd f
+reach trace sets d [] (path ∷ paths) ok f = absurd (ok 0 EndsEarly refl)
+reach trace sets d (node ∷ nodes) [] ok f = absurd f
+reach trace sets d (TestAt test ∷ nodes) (path ∷ paths) ok (inl f) =
+    later (TestAt test) nodes path paths d (reach trace sets d nodes (after (TestAt test) path paths) (λ k. ok (suc k)) (goes_on test path paths d f))
+reach trace sets d (TestAt test ∷ nodes) (path ∷ paths) ok (inr f) =
+    later (TestAt test) nodes path paths d (reach trace sets d nodes (after (TestAt test) path paths) (λ k. ok (suc k)) (inr (inr f)))
+reach trace sets d (ValueAt layer value ∷ nodes) (path ∷ paths) ok (inl f) =
+    record { said = ends.Value layer value; place = 0; leaf = ValueAt layer value; stands = refl; says = refl; follows = f }
+reach trace sets d (ValueAt layer value ∷ nodes) (path ∷ paths) ok (inr f) =
+    later (ValueAt layer value) nodes path paths d (reach trace sets d nodes paths (λ k. ok (suc k)) f)
+reach trace sets d (BagAt id ∷ nodes) (path ∷ paths) ok (inl f) =
+    record { said = ends.Bag id; place = 0; leaf = BagAt id; stands = refl; says = refl; follows = f }
+reach trace sets d (BagAt id ∷ nodes) (path ∷ paths) ok (inr f) =
+    later (BagAt id) nodes path paths d (reach trace sets d nodes paths (λ k. ok (suc k)) f)
+
+pub reaches : (trace : List ℕ → Trace) (sets : List SetOf) (nodes : List NodeOf) (d : List ℕ) → NoRuleFails trace sets nodes → (said : End) × Reaches nodes d said
+unfolding Fails open_at
+reaches trace sets nodes d ok =
+    let r = reach trace sets d nodes root ok (inl tt) in
+    (r.said, record { place = r.place; leaf = r.leaf; stands = r.stands; says = r.says; follows = r.follows })
+
+-- ---- the trace ends there
+
+-- where no rule fails at a leaf, the trace of each member ends at what it says
+at_leaf : (trace : List ℕ → Trace) (members : List ℕ → Type 0) (said : End) (d : List ℕ) → members d → ((rule : Rule) → FailsAtLeaf trace members said rule → ⊥) → (trace d).end ≡ said
+at_leaf trace members said d m ok =
+    elim (told_end (trace d).end said) [
+      | inl e ↦ e
+      | inr n ↦ absurd (elim (cases_Bool (is_value (trace d).end)) [ inl e ↦ ok OtherValue (trace d, shared, e, n) | inr e ↦ ok NoValue (trace d, shared, e) ])
+    ]
+  where
+    shared : SharesTrace members trace (trace d)
+    shared x other = elim (told_trace (trace x) (trace d)) [ inl e ↦ e | inr n ↦ absurd (ok MixedTrace (x, d, other, m, n)) ]
+
+at_node : (trace : List ℕ → Trace) (sets : List SetOf) (node : NodeOf) (paths : List Path) (said : End) (d : List ℕ) → IsMember sets d → FollowsFirst d paths → leaf_end node ≡ Some said
+    → ((rule : Rule) → FailsAt trace sets (Some node) paths rule → ⊥) → (trace d).end ≡ said
+at_node trace sets node [] said d m f e ok = absurd f
+at_node trace sets (TestAt test) (path ∷ paths) said d m f e ok = absurd cc
+at_node trace sets (ValueAt layer value) (path ∷ paths) said d m f e ok =
+    at_leaf trace (IsAt sets path) (ends.Value layer value) d (m, f) ok ∙ cc
+at_node trace sets (BagAt id) (path ∷ paths) said d m f e ok =
+    at_leaf trace (IsAt sets path) (ends.Bag id) d (m, f) ok ∙ cc
+
+pub ends_at_leaf : (trace : List ℕ → Trace) (sets : List SetOf) (nodes : List NodeOf) (d : List ℕ) (said : End) → NoRuleFails trace sets nodes → IsMember sets d → Reaches nodes d said → (trace d).end ≡ said
+unfolding Fails
+ends_at_leaf trace sets nodes d said ok m r =
+    at_node trace sets r.leaf (open_at nodes r.place) said d m r.follows r.says
+    (λ rule h. ok r.place rule (subst (λ (o : Option NodeOf). FailsAt trace sets o (open_at nodes r.place) rule) (sym r.stands) h))

@@ -1,0 +1,152 @@
+-- The rules of a leaf, told of the box of its path.
+use Rattle.std.proofs.Common.{◌≡◌, ◌≢◌, ℕ, ◌<◌, arith, true, false, List, Some, None, sym, ◌∙◌, ap, refl, subst}
+use Rattle.config_record.specs.declared.coord.Coord.{Coord}
+use Rattle.config_record.specs.declared.device.Device.{Device}
+use Rattle.config_record.specs.ComparedNumber.{device_number}
+use Rattle.config_record.specs.DeviceSeen.{device_numbers}
+use Rattle.reference_resolver.specs.declared.end.End.{End}
+use Rattle.reference_resolver.specs.declared.end.End.TheVariants as ends
+use Rattle.reference_resolver.specs.Trace.{Trace}
+use Rattle.box_answers.specs.NumberSet.{SetOf}
+use Rattle.box_answers.specs.Members.{set_at, IsMember, IsCorner}
+use Rattle.box_trace.specs.CommonTrace.{SharesTrace, AreSideBySide}
+use Rattle.box_trace.specs.Division.{Divides}
+use Rattle.box_trace.proofs.Divisions.{divides_over}
+use Rattle.cert_checker.specs.declared.rule.Rule.{Rule}
+use Rattle.cert_checker.specs.declared.rule.Rule.TheVariants.{GoalList, EndsEarly, LeftOver, TestKind, EmptyHalf, MixedTrace, NoValue, OtherValue}
+use Rattle.cert_checker.specs.declared.verdict.Shown.TheVariants.{Two, One}
+use Rattle.cert_checker.specs.Rule.{number_of}
+use Rattle.cert_checker.specs.Paths.{Path, IsAt}
+use Rattle.cert_checker.specs.Fails.{is_value, FailsAtLeaf}
+use Rattle.cert_checker.specs.Shown.{ShowsEnd}
+use Rattle.cert_checker.specs.OpenBoxes.{IsBoxAt, rule_of_end, TakesLeaf}
+use Rattle.cert_checker.proofs.TestSteps.{alike-near}
+use Rattle.cert_checker.proofs.BoxSteps.{some_member}
+
+-- ---- several traces
+
+pub two_traces : (trace : List ℕ → Trace) (said : End) (part : List SetOf) (x y : Device) (c : Coord) → AreSideBySide part (device_numbers x) (device_numbers y) c
+    → Divides (IsMember part) (λ d. (trace d).steps) (device_numbers x) (device_numbers y) → trace (device_numbers x) ≢ trace (device_numbers y)
+    → TakesLeaf trace said part (Some (record { rule = MixedTrace; shown = Two x y }))
+two_traces trace said part x y c beside divided differ sets path b = (
+  (device_numbers x, device_numbers y, first, second, differ),
+  none_before,
+  record {
+    first = first;
+    second = second;
+    coord = c;
+    side_by_side = record {
+      x_member = first.0;
+      y_member = second.0;
+      others = beside.others;
+      near = alike-near (set_at sets c) (set_at part c) (device_number (device_numbers x) c) (device_number (device_numbers y) c) (b.marks c) beside.near;
+    };
+    divided = divides_over (IsMember part) (IsAt sets path) (λ d. (trace d).steps) (device_numbers x) (device_numbers y) (λ d. (b.members d).1) divided;
+  },
+)
+  where
+    first : IsAt sets path (device_numbers x)
+    first = (b.members (device_numbers x)).0 beside.x_member
+
+    second : IsAt sets path (device_numbers y)
+    second = (b.members (device_numbers y)).0 beside.y_member
+
+    none_before : (other : Rule) → number_of other < 6 → FailsAtLeaf trace (IsAt sets path) said other → ⊥
+    none_before GoalList p h = h
+    none_before EndsEarly p h = h
+    none_before LeftOver p h = h
+    none_before TestKind p h = h
+    none_before EmptyHalf p h = h
+    none_before MixedTrace p h = omega arith
+    none_before NoValue p h = omega arith
+    none_before OtherValue p h = omega arith
+
+-- ---- one trace
+
+-- all at the end of the path have the trace that all members of the box have
+at_path : (trace : List ℕ → Trace) (t : Trace) (sets : List SetOf) (path : Path) (part : List SetOf) → IsBoxAt sets path part → SharesTrace (IsMember part) trace t → SharesTrace (IsAt sets path) trace t
+at_path trace t sets path part b shared d a = shared d ((b.members d).1 a)
+
+-- it is the only one that they have
+only : (trace : List ℕ → Trace) (t other : Trace) (sets : List SetOf) (path : Path) (part : List SetOf) → IsBoxAt sets path part → SharesTrace (IsMember part) trace t → SharesTrace (IsAt sets path) trace other → other ≡ t
+only trace t other sets path part b shared others =
+    let m = some_member part b.is_box in
+    sym (others m.0 ((b.members m.0).0 m.1)) ∙ shared m.0 m.1
+
+not_mixed : (trace : List ℕ → Trace) (t : Trace) (said : End) (sets : List SetOf) (path : Path) (part : List SetOf) → IsBoxAt sets path part → SharesTrace (IsMember part) trace t
+    → FailsAtLeaf trace (IsAt sets path) said MixedTrace → ⊥
+not_mixed trace t said sets path part b shared h =
+    let all = at_path trace t sets path part b shared in h.4 (all h.0 h.2 ∙ sym (all h.1 h.3))
+
+pub as_said : (trace : List ℕ → Trace) (t : Trace) (said : End) (part : List SetOf) → is_value said ≡ true → SharesTrace (IsMember part) trace t → t.end ≡ said → TakesLeaf trace said part None
+as_said trace t said part value shared e sets path b = none
+  where
+    none : (rule : Rule) → FailsAtLeaf trace (IsAt sets path) said rule → ⊥
+    none GoalList h = h
+    none EndsEarly h = h
+    none LeftOver h = h
+    none TestKind h = h
+    none EmptyHalf h = h
+    none MixedTrace h = not_mixed trace t said sets path part b shared h
+    none NoValue h =
+        let same : h.0.end ≡ said = ap (λ (x : Trace). x.end) (only trace t h.0 sets path part b shared h.1) ∙ e in
+        let no : false ≡ true = sym h.2 ∙ ap is_value same ∙ value in cc
+    none OtherValue h = h.3 (ap (λ (x : Trace). x.end) (only trace t h.0 sets path part b shared h.1) ∙ e)
+
+shows_end : (trace : List ℕ → Trace) (t : Trace) (sets : List SetOf) (path : Path) (part : List SetOf) (corner : List ℕ) → IsBoxAt sets path part → SharesTrace (IsMember part) trace t → IsCorner part corner
+    → ShowsEnd trace (IsAt sets path) corner t.end
+shows_end trace t sets path part corner b shared is = record {
+  member = (b.members corner).0 member;
+  least = λ d c a. (is c).below (device_number d c) ((b.members d).1 a c);
+  ends = ap (λ (x : Trace). x.end) (shared corner member);
+}
+  where
+    member : IsMember part corner
+    member c = (is c).is_in
+
+-- a value or a bag
+other_value : (trace : List ℕ → Trace) (t : Trace) (said end : End) (part : List SetOf) (corner : Device) → is_value end ≡ true → t.end ≡ end → end ≢ said → SharesTrace (IsMember part) trace t
+    → IsCorner part (device_numbers corner) → TakesLeaf trace said part (Some (record { rule = OtherValue; shown = One corner end }))
+other_value trace t said end part corner value e ne shared is sets path b = (
+  (t, at_path trace t sets path part b shared, ap is_value e ∙ value, λ f. ne (sym e ∙ f)),
+  none_before,
+  subst (λ (x : End). ShowsEnd trace (IsAt sets path) (device_numbers corner) x) e (shows_end trace t sets path part (device_numbers corner) b shared is),
+)
+  where
+    none_before : (other : Rule) → number_of other < 8 → FailsAtLeaf trace (IsAt sets path) said other → ⊥
+    none_before GoalList p h = h
+    none_before EndsEarly p h = h
+    none_before LeftOver p h = h
+    none_before TestKind p h = h
+    none_before EmptyHalf p h = h
+    none_before MixedTrace p h = not_mixed trace t said sets path part b shared h
+    none_before NoValue p h =
+        let same : h.0.end ≡ end = ap (λ (x : Trace). x.end) (only trace t h.0 sets path part b shared h.1) ∙ e in
+        let no : false ≡ true = sym h.2 ∙ ap is_value same ∙ value in cc
+    none_before OtherValue p h = omega arith
+
+-- neither
+no_value : (trace : List ℕ → Trace) (t : Trace) (said end : End) (part : List SetOf) (corner : Device) → is_value end ≡ false → t.end ≡ end → SharesTrace (IsMember part) trace t
+    → IsCorner part (device_numbers corner) → TakesLeaf trace said part (Some (record { rule = NoValue; shown = One corner end }))
+no_value trace t said end part corner value e shared is sets path b = (
+  (t, at_path trace t sets path part b shared, ap is_value e ∙ value),
+  none_before,
+  subst (λ (x : End). ShowsEnd trace (IsAt sets path) (device_numbers corner) x) e (shows_end trace t sets path part (device_numbers corner) b shared is),
+)
+  where
+    none_before : (other : Rule) → number_of other < 7 → FailsAtLeaf trace (IsAt sets path) said other → ⊥
+    none_before GoalList p h = h
+    none_before EndsEarly p h = h
+    none_before LeftOver p h = h
+    none_before TestKind p h = h
+    none_before EmptyHalf p h = h
+    none_before MixedTrace p h = not_mixed trace t said sets path part b shared h
+    none_before NoValue p h = omega arith
+    none_before OtherValue p h = omega arith
+
+pub not_as_said : (trace : List ℕ → Trace) (t : Trace) (said end : End) (part : List SetOf) (corner : Device) → t.end ≡ end → end ≢ said → SharesTrace (IsMember part) trace t → IsCorner part (device_numbers corner)
+    → TakesLeaf trace said part (Some (record { rule = rule_of_end end; shown = One corner end }))
+not_as_said trace t said (ends.Value layer value) part corner e ne shared is = other_value trace t said (ends.Value layer value) part corner refl e ne shared is
+not_as_said trace t said (ends.Bag id) part corner e ne shared is = other_value trace t said (ends.Bag id) part corner refl e ne shared is
+not_as_said trace t said (ends.Absent id) part corner e ne shared is = no_value trace t said (ends.Absent id) part corner refl e shared is
+not_as_said trace t said (ends.TooLong id) part corner e ne shared is = no_value trace t said (ends.TooLong id) part corner refl e shared is

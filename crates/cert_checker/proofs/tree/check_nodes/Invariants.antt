@@ -1,0 +1,9 @@
+use Rattle.std.proofs.Common.{map}
+use Rattle.reference_resolver.specs.Ends.{references_followed}
+use Rattle.reference_resolver.specs.Trace.{trace_of}
+use Rattle.cert_tree.specs.Certificate.{node_of}
+use Rattle.cert_checker.proofs.TreeSteps.{PassedTo}
+use Rattle.cert_checker.proofs.tree.check_nodes.Given as goal
+
+abbrev pub invariant-loop-place : goal.invariant-loop-place
+invariant-loop-place l = PassedTo (trace_of l.stack references_followed l.id.0) l.members (map node_of l.nodes) l.place l.open_boxes.items

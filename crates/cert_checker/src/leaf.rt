@@ -1,0 +1,58 @@
+//! The rules of leaves.
+
+ghost use Rattle.std.specs.Prelude.{◌≡◌, ◌≢◌, true, MatchBool};
+ghost use Rattle.reference_resolver.specs.Ends.{references_followed};
+ghost use Rattle.reference_resolver.specs.Trace.{trace_of};
+ghost use Rattle.cert_checker.specs.Fails.{is_value};
+ghost use Rattle.cert_checker.specs.OpenBoxes.{TakesLeaf};
+
+use crate::failure::Failure;
+use crate::rule::Rule;
+use crate::verdict::Shown;
+use box_trace::{CommonTrace, common_trace};
+use config_box::ConfigBox;
+use overlay_map::Stack;
+use reference_resolver::End;
+use res_value::ResId;
+
+/// Why a leaf fails to which the members of this box come, if it does: they have several traces, or one that
+/// ends elsewhere than the leaf says.
+pub(crate) fn take_leaf(
+    stack: &Stack<'_>,
+    id: ResId,
+    members: &ConfigBox,
+    said: End,
+) -> Option<Failure>
+    requires { is_value said ≡ true }
+    ensures { TakesLeaf (trace_of stack.now references_followed id.0) said members.now result }
+{
+    match common_trace(stack, id, members) {
+        CommonTrace::Mixed(first, second, _) => Some(Failure {
+            rule: Rule::MixedTrace,
+            shown: Shown::Two(first, second),
+        }),
+        CommonTrace::One(end) if is_same(end, said) => None,
+        CommonTrace::One(end) => Some(Failure {
+            rule: rule_of(end),
+            shown: Shown::One(members.corner(), end),
+        }),
+    }
+}
+
+ghost use Rattle.cert_checker.specs.OpenBoxes.{rule_of_end};
+
+/// The rule that fails where all members end here, and the leaf says another end.
+fn rule_of(end: End) -> Rule
+    ensures { result ≡ rule_of_end end }
+{
+    match end {
+        End::Absent { .. } | End::TooLong { .. } => Rule::NoValue,
+        End::Value { .. } | End::Bag { .. } => Rule::OtherValue,
+    }
+}
+
+fn is_same(a: End, b: End) -> bool
+    ensures { MatchBool result (a ≡ b) (a ≢ b) }
+{
+    a == b
+}
