@@ -2,6 +2,7 @@ pub mod Coords
 pub mod Monotone
 pub mod Dimensions
 pub mod Covers
+pub mod Everywhere
 pub mod Sets
 pub mod SearchSteps
 pub mod Sides

@@ -22,7 +22,7 @@ use Rattle.config_rules.proofs.ReadsLemmas.{depends}
 use Rattle.box_answers.specs.NumberSet.{SetOf, IsIn, IsLeastIn, IsGreatestIn}
 use Rattle.box_answers.specs.Members.{set_at, IsMember}
 use Rattle.box_answers.specs.Candidates.{candidates}
-use Rattle.box_answers.specs.Changes.{AgreeBelow, ChangesTo, IsNowhere, answer_at}
+use Rattle.box_answers.specs.Changes.{PassesEverywhere, AgreeBelow, ChangesTo, IsNowhere, answer_at}
 use Rattle.box_answers.specs.Facts.{OneFails}
 use Rattle.box_answers.proofs.Covers.{IsMissedBy, missed}
 use Rattle.box_answers.proofs.Dimensions.{dimensions-alike}
@@ -145,6 +145,11 @@ same_there : (rule : Rule) (a b : Coord → ℕ) (x y : List ℕ) → AgreeAt (r
     → rule_answer rule a b (device_number x) ≡ rule_answer rule a b (device_number y)
 same_there rule a b x y h = depends rule a b (device_number x) a b (device_number y) (agree-same (reads rule) a) (agree-same (reads rule) b) h
 
+not_pass : (want : Answer) → is_pass want ≡ false → want ≢ Pass
+not_pass Pass decides e = cc
+not_pass Yes decides e = cc
+not_pass No decides e = cc
+
 pub Reaches-next : (sets : List SetOf) (rules left rest : List Rule) (rule : Rule) (a b : Coord → ℕ) (want : Answer) (device next : List ℕ)
     → Reaches sets rules a b want device left → left ≡ rule ∷ rest → ChangesTo sets rule a b device Pass next → (is_pass want ≡ false → IsNowhere sets rule a b want)
     → Reaches sets rules a b want next rest
@@ -161,6 +166,13 @@ Reaches-next sets rules left rest rule a b want device next so_far split change 
       missed = λ d m e. goes_on (rule_answer rule a b (device_number d)) (answer_of_table rest a b (device_number d)) want (λ decides. skipped decides d m)
           (ap (λ (rs : List Rule). answer_of_table rs a b (device_number d)) (sym split) ∙ so_far.missed d m e);
     }
+
+pub Reaches-passing : (sets : List SetOf) (rules left rest : List Rule) (rule : Rule) (a b : Coord → ℕ) (want : Answer) (device : List ℕ)
+    → Reaches sets rules a b want device left → left ≡ rule ∷ rest → PassesEverywhere rule a b → Reaches sets rules a b want device rest
+Reaches-passing sets rules left rest rule a b want device so_far split passes =
+    Reaches-next sets rules left rest rule a b want device device so_far split
+    (record { member = so_far.member; answer = passes (device_number device); before = λ c q. refl })
+    (λ decides d m e. not_pass want decides (sym e ∙ passes (device_number d)))
 
 no_way : (x rest want : Answer) → (is_pass want ≡ false → x ≢ want) → x ≢ Pass → or_else x rest ≢ want
 no_way Pass rest want other passes h = passes refl

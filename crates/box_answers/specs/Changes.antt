@@ -4,6 +4,7 @@ use Rattle.config_record.specs.declared.coord.Coord.{Coord}
 use Rattle.config_record.specs.Coord.{place_of}
 use Rattle.config_record.specs.ComparedNumber.{device_number}
 use Rattle.config_rules.specs.declared.answer.Answer.{Answer}
+use Rattle.config_rules.specs.declared.answer.Answer.TheVariants.{Pass}
 use Rattle.config_rules.specs.declared.rule.Rule.{Rule}
 use Rattle.config_rules.specs.Kind.{kind_answer}
 use Rattle.config_rules.specs.Rule.{numbers_at, rule_answer}
@@ -13,6 +14,10 @@ use Rattle.box_answers.specs.Members.{IsMember}
 -- what a rule says where these are the device's numbers at what it reads
 abbrev pub answer_at : Rule → (Coord → ℕ) → (Coord → ℕ) → ℕ → ℕ → Answer
 answer_at rule a b n m = kind_answer rule.kind (numbers_at rule.coord a) (numbers_at rule.coord b) (record { first = n; second = m })
+
+-- the rule says nothing, whatever the device
+abbrev pub PassesEverywhere : Rule → (Coord → ℕ) → (Coord → ℕ) → Type 0
+PassesEverywhere rule a b = (d : Coord → ℕ) → rule_answer rule a b d ≡ Pass
 
 -- two devices have the same numbers at all coordinates before a place
 abbrev pub AgreeBelow : ℕ → List ℕ → List ℕ → Type 0

@@ -13,6 +13,7 @@ mod candidates;
 mod members;
 mod neighbours;
 mod number_set;
+mod passing;
 mod question;
 mod sameness;
 mod search;

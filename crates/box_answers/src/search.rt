@@ -16,6 +16,7 @@ ghost use Rattle.box_answers.specs.Facts.{OneFails};
 
 use crate::members::{corner, set_at};
 use crate::number_set::NumberSet;
+use crate::passing::passes_everywhere;
 use crate::question::Question;
 use config_record::{Coord, Device, Record};
 use config_rules::{Answer, Rule};
@@ -60,7 +61,8 @@ fn member_if(
 }
 
 /// A member at which the table says this. Rule by rule the member so far is changed into one at which
-/// that rule passes, until one says what is wanted.
+/// that rule passes, until one says what is wanted. Most rules pass at every device, since records say
+/// little, and are not looked at further.
 fn member_of_answer(sets: &[NumberSet], question: &Question, want: Answer) -> Option<Device>
     requires sets { IsBox (sets_of sets.now) }
     requires in_order { AreReadInOrder question.now.rules.now }
@@ -72,6 +74,9 @@ fn member_of_answer(sets: &[NumberSet], question: &Question, want: Answer) -> Op
     let (a, b) = (&question.a, &question.b);
     let mut device = corner(sets);
     for rule in question.rules {
+        if passes_everywhere(*rule, a, b) {
+            continue;
+        }
         if let Some(found) = change_deciding(sets, *rule, a, b, &device, want) {
             return Some(found);
         }

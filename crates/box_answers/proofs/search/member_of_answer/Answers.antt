@@ -1,5 +1,5 @@
 use Rattle.std.proofs.lemmas.List.{drop_more}
-use Rattle.box_answers.proofs.SearchSteps.{Reaches-found, Reaches-alone, Reaches-stops, Reaches-next, one-fails}
+use Rattle.box_answers.proofs.SearchSteps.{Reaches-found, Reaches-alone, Reaches-stops, Reaches-next, Reaches-passing, one-fails}
 use Rattle.box_answers.proofs.search.member_of_answer.Goals as goal
 
 pub returns-in-Some-clause-found : goal.returns-in-Some-clause-found
@@ -23,3 +23,12 @@ loop-rule-preserved c =
 
 pub returns-in-None-clause-fails : goal.returns-in-None-clause-fails
 returns-in-None-clause-fails c = λ _. one-fails _ c.args.question.now.rules.now _ _ c.loop-rule.rule-index _ c.loop-rule-test.true c.in-None.ensures.none
+
+pub loop-rule-preserved-then-passes_everywhere : goal.loop-rule-preserved-then-passes_everywhere
+loop-rule-preserved-then-passes_everywhere c =
+    Reaches-passing _ _ _ _ _ _ _ c.args.want _ c.loop-rule.invariant (drop_more c.args.question.now.rules.now c.loop-rule.rule-index _ c.loop-rule-test.true)
+    (c.passes_everywhere.ensures c.if-passes_everywhere.true)
+
+pub change_deciding-requires-clause-in_order : goal.change_deciding-requires-clause-in_order
+change_deciding-requires-clause-in_order c =
+    Reaches-alone _ _ _ _ _ _ _ c.args.want _ c.loop-rule.invariant (drop_more c.args.question.now.rules.now c.loop-rule.rule-index _ c.loop-rule-test.true)

@@ -1,0 +1,79 @@
+-- A comparison of two records that say the same passes at every device.
+use Rattle.std.proofs.Common.{◌≡◌, ◌≢◌, ℕ, refl, ap, sym, subst, ◌∙◌, arith, Bool, true, false}
+use Rattle.std.proofs.lemmas.Bool.{and_parts}
+use Rattle.std.proofs.lemmas.Bool.Decides.{nat_tests}
+use Rattle.std.proofs.lemmas.Int.{ints}
+use Rattle.std.specs.Prelude.{ℤ, int_lt, ◌==◌, ◌&&◌, IsTrue}
+use Rattle.config_record.specs.declared.coord.Coord.{Coord}
+use Rattle.config_rules.specs.declared.answer.Answer.{Answer}
+use Rattle.config_rules.specs.declared.answer.Answer.TheVariants.{Yes, No, Pass}
+use Rattle.config_rules.specs.declared.kind.Kind.{Kind}
+use Rattle.config_rules.specs.declared.kind.Kind.TheVariants as kinds
+use Rattle.config_rules.specs.declared.kind.Numbers.{Numbers}
+use Rattle.config_rules.specs.declared.rule.Rule.{Rule}
+use Rattle.config_rules.specs.Comparisons.{given_answer, larger_answer, always_larger_answer, locale_answer, locale_rank, smaller_answer, dimensions_answer, rest_of_both, screen_size_answer, is_better_size, density_answer, is_better_density, keys_answer, navigation_answer}
+use Rattle.config_rules.specs.Kind.{kind_answer}
+use Rattle.config_rules.specs.Rule.{numbers_at, rule_answer}
+use Rattle.box_answers.specs.Changes.{PassesEverywhere}
+
+given-same : (n d : ℕ) → given_answer n n d ≡ Pass
+given-same n d = grind (arith, nat_tests)
+
+larger-same : (n d : ℕ) → larger_answer n n d ≡ Pass
+larger-same n d = grind (arith, nat_tests)
+
+always_larger-same : (n : ℕ) → always_larger_answer n n ≡ Pass
+always_larger-same n = grind (arith, nat_tests)
+
+screen_size-same : (n d : ℕ) → screen_size_answer n n d ≡ Pass
+screen_size-same n d = grind (arith, nat_tests)
+
+density-same : (n d : ℕ) → density_answer n n d ≡ Pass
+density-same n d = grind (arith, nat_tests)
+
+keys-same : (n d : ℕ) → keys_answer n n d ≡ Pass
+keys-same n d = grind (arith, nat_tests)
+
+navigation-same : (n d : ℕ) → navigation_answer n n d ≡ Pass
+navigation-same n d = grind (arith, nat_tests)
+
+smaller-same : (x : ℤ) → smaller_answer x x ≡ Pass
+unfolding smaller_answer
+smaller-same x = grind (arith, ints)
+
+dimensions-same : (x d : Numbers) → dimensions_answer x x d ≡ Pass
+unfolding dimensions_answer
+dimensions-same x d = smaller-same (rest_of_both x d)
+
+kind-same : (kind : Kind) (x d : Numbers) → kind ≢ kinds.Equal → kind ≢ kinds.AtMost → kind ≢ kinds.KeysSuit → kind ≢ kinds.LocaleSuits → kind_answer kind x x d ≡ Pass
+unfolding kind_answer
+kind-same kinds.Given x d e m k l = given-same x.first d.first
+kind-same kinds.Larger x d e m k l = larger-same x.first d.first
+kind-same kinds.AlwaysLarger x d e m k l = always_larger-same x.first
+kind-same kinds.LocaleRank x d e m k l = always_larger-same (locale_rank x.first)
+kind-same kinds.Dimensions x d e m k l = dimensions-same x d
+kind-same kinds.ScreenSize x d e m k l = screen_size-same x.first d.first
+kind-same kinds.Density x d e m k l = density-same x.first d.first
+kind-same kinds.KeysHidden x d e m k l = keys-same x.first d.first
+kind-same kinds.NavHidden x d e m k l = navigation-same x.first d.first
+kind-same kinds.Equal x d e m k l = absurd (e refl)
+kind-same kinds.AtMost x d e m k l = absurd (m refl)
+kind-same kinds.KeysSuit x d e m k l = absurd (k refl)
+kind-same kinds.LocaleSuits x d e m k l = absurd (l refl)
+kind-same kinds.Always x d e m k l = refl
+
+pub same-passes : (rule : Rule) (a b : Coord → ℕ) → rule.kind ≢ kinds.Equal → rule.kind ≢ kinds.AtMost → rule.kind ≢ kinds.KeysSuit → rule.kind ≢ kinds.LocaleSuits
+    → numbers_at rule.coord a ≡ numbers_at rule.coord b → PassesEverywhere rule a b
+unfolding rule_answer
+same-passes rule a b e m k l same d =
+    ap (λ (y : Numbers). kind_answer rule.kind (numbers_at rule.coord a) y (numbers_at rule.coord d)) (sym same)
+    ∙ kind-same rule.kind (numbers_at rule.coord a) (numbers_at rule.coord d) e m k l
+
+equal-numbers : (n m : ℕ) → (n == m) ≡ true → n ≡ m
+equal-numbers n m e = grind (arith, nat_tests, e)
+
+pub numbers-same : (x y : Numbers) (same : Bool) → same ≡ (x.first == y.first && x.second == y.second) → IsTrue same → x ≡ y
+numbers-same x y same is holds =
+    let parts = and_parts (x.first == y.first) (x.second == y.second) (sym is ∙ holds) in
+    ap (λ (n : ℕ). record { first = n; second = x.second }) (equal-numbers x.first y.first parts.0)
+    ∙ ap (λ (n : ℕ). record { first = y.first; second = n }) (equal-numbers x.second y.second parts.1)
