@@ -23,6 +23,21 @@ use Rattle.cert_checker.specs.OpenBoxes.{IsBoxAt, rule_of_end, TakesLeaf}
 use Rattle.cert_checker.proofs.TestSteps.{alike-near}
 use Rattle.cert_checker.proofs.BoxSteps.{some_member}
 
+-- ---- the rules of leaves
+
+-- Of rules of which Q holds none fails, where these three do not.
+leaf_rules : (trace : List ℕ → Trace) (members : List ℕ → Type 0) (said : End) (Q : Rule → Type 0) → (Q MixedTrace → FailsAtLeaf trace members said MixedTrace → ⊥)
+    → (Q NoValue → FailsAtLeaf trace members said NoValue → ⊥) → (Q OtherValue → FailsAtLeaf trace members said OtherValue → ⊥)
+    → (rule : Rule) → Q rule → FailsAtLeaf trace members said rule → ⊥
+leaf_rules trace members said Q mixed none other GoalList q h = h
+leaf_rules trace members said Q mixed none other EndsEarly q h = h
+leaf_rules trace members said Q mixed none other LeftOver q h = h
+leaf_rules trace members said Q mixed none other TestKind q h = h
+leaf_rules trace members said Q mixed none other EmptyHalf q h = h
+leaf_rules trace members said Q mixed none other MixedTrace q h = mixed q h
+leaf_rules trace members said Q mixed none other NoValue q h = none q h
+leaf_rules trace members said Q mixed none other OtherValue q h = other q h
+
 -- ---- several traces
 
 pub two_traces : (trace : List ℕ → Trace) (said : End) (part : List SetOf) (x y : Device) (c : Coord) → AreSideBySide part (device_numbers x) (device_numbers y) c
@@ -30,7 +45,7 @@ pub two_traces : (trace : List ℕ → Trace) (said : End) (part : List SetOf) (
     → TakesLeaf trace said part (Some (record { rule = MixedTrace; shown = Two x y }))
 two_traces trace said part x y c beside divided differ sets path b = (
   (device_numbers x, device_numbers y, first, second, differ),
-  none_before,
+  leaf_rules trace (IsAt sets path) said (λ (rule : Rule). number_of rule < 6) (λ p h. omega arith) (λ p h. omega arith) (λ p h. omega arith),
   record {
     first = first;
     second = second;
@@ -51,16 +66,6 @@ two_traces trace said part x y c beside divided differ sets path b = (
     second : IsAt sets path (device_numbers y)
     second = (b.members (device_numbers y)).0 beside.y_member
 
-    none_before : (other : Rule) → number_of other < 6 → FailsAtLeaf trace (IsAt sets path) said other → ⊥
-    none_before GoalList p h = h
-    none_before EndsEarly p h = h
-    none_before LeftOver p h = h
-    none_before TestKind p h = h
-    none_before EmptyHalf p h = h
-    none_before MixedTrace p h = omega arith
-    none_before NoValue p h = omega arith
-    none_before OtherValue p h = omega arith
-
 -- ---- one trace
 
 -- all at the end of the path have the trace that all members of the box have
@@ -78,20 +83,20 @@ not_mixed : (trace : List ℕ → Trace) (t : Trace) (said : End) (sets : List S
 not_mixed trace t said sets path part b shared h =
     let all = at_path trace t sets path part b shared in h.4 (all h.0 h.2 ∙ sym (all h.1 h.3))
 
+-- it ends at a value or a bag
+not_without : (trace : List ℕ → Trace) (t : Trace) (said end : End) (sets : List SetOf) (path : Path) (part : List SetOf) → IsBoxAt sets path part → is_value end ≡ true → t.end ≡ end → SharesTrace (IsMember part) trace t
+    → FailsAtLeaf trace (IsAt sets path) said NoValue → ⊥
+not_without trace t said end sets path part b value e shared h =
+    let same : h.0.end ≡ end = ap (λ (x : Trace). x.end) (only trace t h.0 sets path part b shared h.1) ∙ e in
+    let no : false ≡ true = sym h.2 ∙ ap is_value same ∙ value in cc
+
 pub as_said : (trace : List ℕ → Trace) (t : Trace) (said : End) (part : List SetOf) → is_value said ≡ true → SharesTrace (IsMember part) trace t → t.end ≡ said → TakesLeaf trace said part None
-as_said trace t said part value shared e sets path b = none
-  where
-    none : (rule : Rule) → FailsAtLeaf trace (IsAt sets path) said rule → ⊥
-    none GoalList h = h
-    none EndsEarly h = h
-    none LeftOver h = h
-    none TestKind h = h
-    none EmptyHalf h = h
-    none MixedTrace h = not_mixed trace t said sets path part b shared h
-    none NoValue h =
-        let same : h.0.end ≡ said = ap (λ (x : Trace). x.end) (only trace t h.0 sets path part b shared h.1) ∙ e in
-        let no : false ≡ true = sym h.2 ∙ ap is_value same ∙ value in cc
-    none OtherValue h = h.3 (ap (λ (x : Trace). x.end) (only trace t h.0 sets path part b shared h.1) ∙ e)
+as_said trace t said part value shared e sets path b rule =
+    leaf_rules trace (IsAt sets path) said (λ (r : Rule). Unit {0})
+    (λ q h. not_mixed trace t said sets path part b shared h)
+    (λ q h. not_without trace t said said sets path part b value e shared h)
+    (λ q h. h.3 (ap (λ (x : Trace). x.end) (only trace t h.0 sets path part b shared h.1) ∙ e))
+    rule tt
 
 shows_end : (trace : List ℕ → Trace) (t : Trace) (sets : List SetOf) (path : Path) (part : List SetOf) (corner : List ℕ) → IsBoxAt sets path part → SharesTrace (IsMember part) trace t → IsCorner part corner
     → ShowsEnd trace (IsAt sets path) corner t.end
@@ -109,40 +114,24 @@ other_value : (trace : List ℕ → Trace) (t : Trace) (said end : End) (part : 
     → IsCorner part (device_numbers corner) → TakesLeaf trace said part (Some (record { rule = OtherValue; shown = One corner end }))
 other_value trace t said end part corner value e ne shared is sets path b = (
   (t, at_path trace t sets path part b shared, ap is_value e ∙ value, λ f. ne (sym e ∙ f)),
-  none_before,
+  leaf_rules trace (IsAt sets path) said (λ (rule : Rule). number_of rule < 8)
+      (λ p h. not_mixed trace t said sets path part b shared h)
+      (λ p h. not_without trace t said end sets path part b value e shared h)
+      (λ p h. omega arith),
   subst (λ (x : End). ShowsEnd trace (IsAt sets path) (device_numbers corner) x) e (shows_end trace t sets path part (device_numbers corner) b shared is),
 )
-  where
-    none_before : (other : Rule) → number_of other < 8 → FailsAtLeaf trace (IsAt sets path) said other → ⊥
-    none_before GoalList p h = h
-    none_before EndsEarly p h = h
-    none_before LeftOver p h = h
-    none_before TestKind p h = h
-    none_before EmptyHalf p h = h
-    none_before MixedTrace p h = not_mixed trace t said sets path part b shared h
-    none_before NoValue p h =
-        let same : h.0.end ≡ end = ap (λ (x : Trace). x.end) (only trace t h.0 sets path part b shared h.1) ∙ e in
-        let no : false ≡ true = sym h.2 ∙ ap is_value same ∙ value in cc
-    none_before OtherValue p h = omega arith
 
 -- neither
 no_value : (trace : List ℕ → Trace) (t : Trace) (said end : End) (part : List SetOf) (corner : Device) → is_value end ≡ false → t.end ≡ end → SharesTrace (IsMember part) trace t
     → IsCorner part (device_numbers corner) → TakesLeaf trace said part (Some (record { rule = NoValue; shown = One corner end }))
 no_value trace t said end part corner value e shared is sets path b = (
   (t, at_path trace t sets path part b shared, ap is_value e ∙ value),
-  none_before,
+  leaf_rules trace (IsAt sets path) said (λ (rule : Rule). number_of rule < 7)
+      (λ p h. not_mixed trace t said sets path part b shared h)
+      (λ p h. omega arith)
+      (λ p h. omega arith),
   subst (λ (x : End). ShowsEnd trace (IsAt sets path) (device_numbers corner) x) e (shows_end trace t sets path part (device_numbers corner) b shared is),
 )
-  where
-    none_before : (other : Rule) → number_of other < 7 → FailsAtLeaf trace (IsAt sets path) said other → ⊥
-    none_before GoalList p h = h
-    none_before EndsEarly p h = h
-    none_before LeftOver p h = h
-    none_before TestKind p h = h
-    none_before EmptyHalf p h = h
-    none_before MixedTrace p h = not_mixed trace t said sets path part b shared h
-    none_before NoValue p h = omega arith
-    none_before OtherValue p h = omega arith
 
 pub not_as_said : (trace : List ℕ → Trace) (t : Trace) (said end : End) (part : List SetOf) (corner : Device) → t.end ≡ end → end ≢ said → SharesTrace (IsMember part) trace t → IsCorner part (device_numbers corner)
     → TakesLeaf trace said part (Some (record { rule = rule_of_end end; shown = One corner end }))

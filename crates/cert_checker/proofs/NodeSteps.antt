@@ -9,7 +9,7 @@ use Rattle.box_answers.specs.NumberSet.{SetOf}
 use Rattle.config_box.specs.declared.test.Test.{Test}
 use Rattle.config_box.specs.Tests.{is_wrong_kind}
 use Rattle.config_box.specs.Halves.{IsHalf, AllAnswer as AllAnswerOf}
-use Rattle.cert_tree.specs.Certificate.{NodeOf, TestAt, ValueAt, BagAt, test_of}
+use Rattle.cert_tree.specs.Certificate.{TestOf, NodeOf, TestAt, ValueAt, BagAt, test_of}
 use Rattle.cert_checker.specs.declared.rule.Rule.{Rule}
 use Rattle.cert_checker.specs.declared.rule.Rule.TheVariants.{GoalList, EndsEarly, LeftOver, TestKind, EmptyHalf, MixedTrace, NoValue, OtherValue}
 use Rattle.cert_checker.specs.declared.verdict.Shown.TheVariants.{Nothing}
@@ -24,22 +24,29 @@ use Rattle.cert_checker.proofs.BoxSteps.{some_member, half, popped}
 
 -- ---- a test
 
+-- Of rules of which Q holds none fails, where these two do not.
+test_rules : (sets : List SetOf) (members : List ℕ → Type 0) (test : TestOf) (Q : Rule → Type 0) → (Q TestKind → FailsAtTest sets members test TestKind → ⊥) → (Q EmptyHalf → FailsAtTest sets members test EmptyHalf → ⊥)
+    → (rule : Rule) → Q rule → FailsAtTest sets members test rule → ⊥
+test_rules sets members test Q kind empty GoalList q h = h
+test_rules sets members test Q kind empty EndsEarly q h = h
+test_rules sets members test Q kind empty LeftOver q h = h
+test_rules sets members test Q kind empty TestKind q h = kind q h
+test_rules sets members test Q kind empty EmptyHalf q h = empty q h
+test_rules sets members test Q kind empty MixedTrace q h = h
+test_rules sets members test Q kind empty NoValue q h = h
+test_rules sets members test Q kind empty OtherValue q h = h
+
 -- of a wrong kind for the whole box where it is so for the part
 kind : (sets : List SetOf) (path : Path) (part : List SetOf) (test : Test) (wrong : Bool) → IsBoxAt sets path part → is_wrong_kind part test ≡ wrong → has_wrong_kind sets (test_of test) ≡ wrong
 kind sets path part test wrong b e = alike-kind sets part (test_of test) b.marks ∙ has_wrong_kind-test_of part test ∙ e
 
 pub wrong_kind : (part : List SetOf) (test : Test) (before after : List (List SetOf)) → is_wrong_kind part test ≡ true → TakesTest (test_of test) part before after (Some (record { rule = TestKind; shown = Nothing }))
-wrong_kind part test before after wrong trace sets path paths b stand = ((kind sets path part test true b wrong, none_before, refl), tt)
-  where
-    none_before : (other : Rule) → number_of other < 4 → FailsAtTest sets (IsAt sets path) (test_of test) other → ⊥
-    none_before GoalList p h = h
-    none_before EndsEarly p h = h
-    none_before LeftOver p h = h
-    none_before TestKind p h = omega arith
-    none_before EmptyHalf p h = omega arith
-    none_before MixedTrace p h = h
-    none_before NoValue p h = h
-    none_before OtherValue p h = h
+wrong_kind part test before after wrong trace sets path paths b stand =
+    ((kind sets path part test true b wrong, test_rules sets (IsAt sets path) (test_of test) (λ (rule : Rule). number_of rule < 4) (λ p h. omega arith) (λ p h. omega arith), refl), tt)
+
+-- of a right one
+right_kind : (sets : List SetOf) (path : Path) (part : List SetOf) (test : Test) → IsBoxAt sets path part → is_wrong_kind part test ≡ false → FailsAtTest sets (IsAt sets path) (test_of test) TestKind → ⊥
+right_kind sets path part test b right h = let no : true ≡ false = sym h ∙ kind sets path part test false b right in cc
 
 all : (sets : List SetOf) (path : Path) (part : List SetOf) (test : Test) (answer : Bool) → IsBoxAt sets path part → AllAnswerOf part test answer → AllAnswer (IsAt sets path) (test_of test) answer
 all sets path part test answer b h d a = answers-test_of test d ∙ h d ((b.members d).1 a)
@@ -50,17 +57,8 @@ alike sets path part test b (inr h) = inr (all sets path part test false b h)
 
 pub empty_half : (part : List SetOf) (test : Test) (before after : List (List SetOf)) → is_wrong_kind part test ≡ false → AllAnswerOf part test true ⊎ AllAnswerOf part test false
     → TakesTest (test_of test) part before after (Some (record { rule = EmptyHalf; shown = Nothing }))
-empty_half part test before after right h trace sets path paths b stand = ((alike sets path part test b h, none_before, refl), tt)
-  where
-    none_before : (other : Rule) → number_of other < 5 → FailsAtTest sets (IsAt sets path) (test_of test) other → ⊥
-    none_before GoalList p h = h
-    none_before EndsEarly p h = h
-    none_before LeftOver p h = h
-    none_before TestKind p h = let no : true ≡ false = sym h ∙ kind sets path part test false b right in cc
-    none_before EmptyHalf p h = omega arith
-    none_before MixedTrace p h = h
-    none_before NoValue p h = h
-    none_before OtherValue p h = h
+empty_half part test before after right h trace sets path paths b stand =
+    ((alike sets path part test b h, test_rules sets (IsAt sets path) (test_of test) (λ (rule : Rule). number_of rule < 5) (λ p f. right_kind sets path part test b right f) (λ p f. omega arith), refl), tt)
 
 -- a half has a member, so not all answer otherwise
 not_all : (sets : List SetOf) (path : Path) (part halved : List SetOf) (test : Test) (answer other : Bool) → answer ≢ other → IsBoxAt sets path part → IsHalf part test answer halved
@@ -73,21 +71,14 @@ not_all sets path part halved test answer other ne b h all =
 pub halves : (part yes_half no_half : List SetOf) (test : Test) (before after : List (List SetOf)) → is_wrong_kind part test ≡ false → IsHalf part test true yes_half → IsHalf part test false no_half
     → reverse after ≡ yes_half ∷ no_half ∷ reverse before → TakesTest (test_of test) part before after None
 halves part yes_half no_half test before after right y n e trace sets path paths b stand = (
-  none,
+  (λ rule. test_rules sets (IsAt sets path) (test_of test) (λ (r : Rule). Unit {0}) (λ q h. right_kind sets path part test b right h) (λ q h. split h) rule tt),
   subst (λ (parts : List (List SetOf)). Stand sets parts (((test_of test, true) ∷ path) ∷ ((test_of test, false) ∷ path) ∷ paths)) (sym e)
       (half sets part yes_half path test true b y, (half sets part no_half path test false b n, stand)),
 )
   where
-    none : (rule : Rule) → FailsAtTest sets (IsAt sets path) (test_of test) rule → ⊥
-    none GoalList h = h
-    none EndsEarly h = h
-    none LeftOver h = h
-    none TestKind h = let no : true ≡ false = sym h ∙ kind sets path part test false b right in cc
-    none EmptyHalf (inl h) = not_all sets path part no_half test false true (λ f. cc) b n h
-    none EmptyHalf (inr h) = not_all sets path part yes_half test true false (λ f. cc) b y h
-    none MixedTrace h = h
-    none NoValue h = h
-    none OtherValue h = h
+    split : FailsAtTest sets (IsAt sets path) (test_of test) EmptyHalf → ⊥
+    split (inl h) = not_all sets path part no_half test false true (λ f. cc) b n h
+    split (inr h) = not_all sets path part yes_half test true false (λ f. cc) b y h
 
 -- ---- a node
 
