@@ -1,18 +1,18 @@
 -- A rule that says something anywhere in a set says it at one of the set's candidates.
-use Rattle.std.proofs.Common.{◌≡◌, ℕ, zero, suc, ◌+◌, ◌-◌, ◌*◌, ◌/◌, ◌%◌, ◌<◌, ◌≤◌, ◌≢◌, true, false, arith, nat_lt, nat_le, ◌==◌, refl, Bool, ◌⊎◌, inl, inr, sym, ◌∙◌, ap, subst, not, ◌&&◌, ◌||◌, List, length, get_or, lit<}
+use Rattle.std.proofs.Common.{◌≡◌, ℕ, ◌+◌, ◌*◌, ◌/◌, ◌%◌, ◌<◌, ◌≤◌, ◌≢◌, true, false, arith, nat_lt, nat_le, ◌==◌, refl, Bool, ◌⊎◌, inl, inr, sym, ◌∙◌, ap, not, ◌&&◌, ◌||◌, List, length, get_or, lit<}
 use Rattle.std.proofs.lemmas.Bool.Decides.{nat_tests}
 use Rattle.std.proofs.lemmas.Bool.{cases_eq}
-use Rattle.std.specs.Prelude.{if◌then◌else◌, min, max, Contains}
+use Rattle.std.specs.Prelude.{if◌then◌else◌}
 use Rattle.config_rules.specs.declared.answer.Answer.{Answer}
-use Rattle.config_rules.specs.declared.answer.Answer.TheVariants.{Yes, No, Pass}
+use Rattle.config_rules.specs.declared.answer.Answer.TheVariants.{Pass}
 use Rattle.config_rules.specs.declared.kind.Kind.{Kind}
 use Rattle.config_rules.specs.declared.kind.Kind.TheVariants as kinds
 use Rattle.config_rules.specs.declared.kind.Numbers.{Numbers}
 use Rattle.config_rules.specs.Answer.{answer_where, answer_of_condition}
-use Rattle.config_rules.specs.Comparisons.{is_given, differ, given_answer, larger_answer, is_larger_better, any_density, counted_density, density_answer, keys_answer, navigation_answer, screen_size_answer, is_better_size}
+use Rattle.config_rules.specs.Comparisons.{is_given, differ, given_answer, larger_answer, is_larger_better, any_density, counted_density, density_answer, keys_answer, navigation_answer, screen_size_answer}
 use Rattle.config_rules.specs.Conditions.{is_equal, is_at_most, keys_suit, locale_suits}
 use Rattle.config_rules.specs.Kind.{kind_answer}
-use Rattle.box_answers.specs.NumberSet.{SetOf, RangeOf, NumbersOf, LocalesOf, IsIn, IsProper}
+use Rattle.box_answers.specs.NumberSet.{SetOf, RangeOf, NumbersOf, LocalesOf, IsIn}
 use Rattle.box_answers.specs.Candidates.{clamped, candidates}
 use Rattle.box_answers.proofs.Sets.{get_or_same}
 use Rattle.box_answers.proofs.Monotone.{by_bool, is_larger_better-ends}

@@ -1,17 +1,16 @@
 -- A comparison of two records that say the same passes at every device.
-use Rattle.std.proofs.Common.{◌≡◌, ◌≢◌, ℕ, refl, ap, sym, subst, ◌∙◌, arith, Bool, true, false}
+use Rattle.std.proofs.Common.{◌≡◌, ◌≢◌, ℕ, refl, ap, sym, ◌∙◌, arith, Bool, true}
 use Rattle.std.proofs.lemmas.Bool.{and_parts}
 use Rattle.std.proofs.lemmas.Bool.Decides.{nat_tests}
 use Rattle.std.proofs.lemmas.Int.{ints}
-use Rattle.std.specs.Prelude.{ℤ, int_lt, ◌==◌, ◌&&◌, IsTrue}
+use Rattle.std.specs.Prelude.{ℤ, ◌==◌, ◌&&◌, IsTrue}
 use Rattle.config_record.specs.declared.coord.Coord.{Coord}
-use Rattle.config_rules.specs.declared.answer.Answer.{Answer}
-use Rattle.config_rules.specs.declared.answer.Answer.TheVariants.{Yes, No, Pass}
+use Rattle.config_rules.specs.declared.answer.Answer.TheVariants.{Pass}
 use Rattle.config_rules.specs.declared.kind.Kind.{Kind}
 use Rattle.config_rules.specs.declared.kind.Kind.TheVariants as kinds
 use Rattle.config_rules.specs.declared.kind.Numbers.{Numbers}
 use Rattle.config_rules.specs.declared.rule.Rule.{Rule}
-use Rattle.config_rules.specs.Comparisons.{given_answer, larger_answer, always_larger_answer, locale_answer, locale_rank, smaller_answer, dimensions_answer, rest_of_both, screen_size_answer, is_better_size, density_answer, is_better_density, keys_answer, navigation_answer}
+use Rattle.config_rules.specs.Comparisons.{given_answer, larger_answer, always_larger_answer, locale_rank, smaller_answer, dimensions_answer, rest_of_both, screen_size_answer, density_answer, keys_answer, navigation_answer}
 use Rattle.config_rules.specs.Kind.{kind_answer}
 use Rattle.config_rules.specs.Rule.{numbers_at, rule_answer}
 use Rattle.box_answers.specs.Changes.{PassesEverywhere}

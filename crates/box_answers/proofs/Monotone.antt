@@ -1,5 +1,5 @@
 -- The density rule turns once.
-use Rattle.std.proofs.Common.{◌≡◌, ℕ, ◌+◌, ◌-◌, ◌*◌, ◌<◌, ◌≤◌, true, false, arith, nat_lt, refl, Bool, ◌⊎◌, inl, inr, sym, ◌∙◌}
+use Rattle.std.proofs.Common.{◌≡◌, ℕ, ◌-◌, ◌*◌, ◌≤◌, true, false, arith, refl, Bool, ◌⊎◌, inl, inr, sym, ◌∙◌}
 use Rattle.std.proofs.lemmas.Bool.Decides.{nat_tests}
 use Rattle.std.proofs.Math.Nat.{mul-le-mul_right, mul-le-mul}
 use Rattle.config_rules.specs.Comparisons.{is_larger_better}

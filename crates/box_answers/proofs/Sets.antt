@@ -1,8 +1,7 @@
 -- What is listed of a set, and what is tried in it, lies in it.
-use Rattle.std.proofs.Common.{◌≡◌, ℕ, zero, suc, ◌+◌, ◌-◌, ◌<◌, ◌≤◌, ◌≢◌, List, length, get_or, set, refl, sym, ap, subst, ◌∙◌, arith, ◌⊎◌, inl, inr, IsTrue}
-use Rattle.std.specs.Prelude.{Contains, min, max, AllPairs, slice_index_or}
+use Rattle.std.proofs.Common.{◌≡◌, ℕ, zero, suc, ◌+◌, ◌-◌, ◌<◌, ◌≤◌, ◌≢◌, List, length, get_or, set, sym, ap, subst, ◌∙◌, arith}
+use Rattle.std.specs.Prelude.{Contains}
 use Rattle.std.specs.List.Sorted.{IsStrictlyIncreasing}
-use Rattle.std.proofs.lemmas.Bool.{cases_eq}
 use Rattle.std.proofs.lemmas.List.{get_or_default, get_or-map}
 use Rattle.config_record.specs.declared.coord.Coord.{Coord}
 use Rattle.config_record.specs.Coord.{all_coords, place_of, number_at}
@@ -15,7 +14,7 @@ use Rattle.box_answers.specs.declared.number_set.NumberSet.{NumberSet}
 use Rattle.box_answers.specs.NumberSet.{SetOf, RangeOf, NumbersOf, LocalesOf, set_of, listed, IsIn, IsProper, IsLeastIn, IsGreatestIn}
 use Rattle.box_answers.specs.Members.{sets_of, set_at, IsMember}
 use Rattle.box_answers.specs.Candidates.{clamped, candidates}
-use Rattle.box_answers.specs.Changes.{AgreeBelow, ChangesTo}
+use Rattle.box_answers.specs.Changes.{ChangesTo}
 use Rattle.box_answers.proofs.Coords.{next-coord}
 
 -- ---- lists

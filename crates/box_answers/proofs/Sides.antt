@@ -1,5 +1,5 @@
 -- Two members that answer differently, and those between them.
-use Rattle.std.proofs.Common.{◌≡◌, ℕ, ◌+◌, ◌-◌, ◌<◌, ◌≤◌, ◌≢◌, ◌⊎◌, inl, inr, List, [], ◌∷◌, length, get_or, refl, sym, ap, subst, ◌∙◌, arith, Bool, true, false}
+use Rattle.std.proofs.Common.{◌≡◌, ℕ, ◌+◌, ◌<◌, ◌≤◌, ◌≢◌, inl, inr, List, [], ◌∷◌, length, get_or, refl, sym, ap, ◌∙◌, arith, Bool, true, false}
 use Rattle.std.specs.Prelude.{min, max}
 use Rattle.std.proofs.lemmas.Bool.{cases_eq}
 use Rattle.config_record.specs.declared.coord.Coord.{Coord}
@@ -7,7 +7,6 @@ use Rattle.config_record.specs.Coord.{all_coords, place_of}
 use Rattle.config_record.specs.ComparedNumber.{device_number, record_number}
 use Rattle.config_record.specs.Record.{record_bytes}
 use Rattle.config_record.proofs.ChangedNumber.{by_coord}
-use Rattle.config_rules.specs.declared.answer.Answer.{Answer}
 use Rattle.config_rules.specs.declared.rule.Rule.{Rule}
 use Rattle.config_rules.specs.Answer.{or_else}
 use Rattle.config_rules.specs.Rule.{rule_answer}
@@ -16,9 +15,9 @@ use Rattle.config_rules.specs.Table.{answer_of_table}
 use Rattle.config_rules.proofs.ReadsLemmas.{depends}
 use Rattle.box_answers.specs.declared.question.Question.{Question}
 use Rattle.box_answers.specs.NumberSet.{SetOf, RangeOf, NumbersOf, LocalesOf, IsIn}
-use Rattle.box_answers.specs.Members.{set_at, IsMember}
-use Rattle.box_answers.specs.Question.{says_yes, table_says, answered}
-use Rattle.box_answers.specs.Sameness.{Parts, DifferByOne, AreNeighbours, IsConvex, Separates}
+use Rattle.box_answers.specs.Members.{IsMember}
+use Rattle.box_answers.specs.Question.{says_yes, answered}
+use Rattle.box_answers.specs.Sameness.{Parts, DifferByOne, AreNeighbours, IsConvex}
 use Rattle.box_answers.proofs.Coords.{place_of-below, next-coord}
 use Rattle.box_answers.proofs.Sets.{member-changed}
 

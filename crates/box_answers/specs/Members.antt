@@ -6,7 +6,7 @@ use Rattle.config_record.specs.Coord.{place_of}
 use Rattle.config_record.specs.ComparedNumber.{device_number}
 use Rattle.config_record.specs.Device.{CanHave}
 use Rattle.box_answers.specs.declared.number_set.NumberSet.{NumberSet}
-use Rattle.box_answers.specs.NumberSet.{SetOf, RangeOf, NumbersOf, LocalesOf, set_of, listed, IsIn, IsProper, IsLeastIn}
+use Rattle.box_answers.specs.NumberSet.{SetOf, RangeOf, LocalesOf, set_of, listed, IsIn, IsProper, IsLeastIn}
 
 abbrev pub sets_of : List NumberSet → List SetOf
 sets_of sets = map set_of sets

@@ -5,7 +5,7 @@ use Rattle.config_record.specs.ComparedNumber.{device_number}
 use Rattle.config_record.specs.DeviceSeen.{device_numbers}
 use Rattle.box_answers.specs.declared.sameness.Sameness.{Sameness}
 use Rattle.box_answers.specs.declared.sameness.Sameness.TheVariants.{Always, Never, Mixed}
-use Rattle.box_answers.specs.NumberSet.{SetOf, RangeOf, NumbersOf, LocalesOf, IsIn}
+use Rattle.box_answers.specs.NumberSet.{SetOf, RangeOf, IsIn}
 use Rattle.box_answers.specs.Members.{set_at, IsMember}
 
 -- two members that differ in this coordinate alone, of which the first answers yes and the second no

@@ -1,5 +1,5 @@
 -- What a verdict on a certificate promises, from the bytes of all inputs.
-use Rattle.std.specs.Prelude.{◌≡◌, ℕ, List, Option, Some, slice_get, Result, Ok}
+use Rattle.std.specs.Prelude.{◌≡◌, ℕ, List, Option, Ok}
 use Rattle.std.specs.Io.KnownBytes.{Appends}
 use Rattle.res_value.specs.declared.res_id.ResId.{ResId}
 use Rattle.box_answers.specs.NumberSet.{SetOf}
@@ -11,7 +11,7 @@ use Rattle.cert_checker.specs.declared.verdict.Verdict.{Verdict}
 use Rattle.cert_checker.specs.Headline.{Headline}
 use Rattle.resource_tool.specs.declared.status.Status.{Status}
 use Rattle.resource_tool.specs.StackBytes.{LayerBytes, stack_in}
-use Rattle.resource_tool.specs.CheckOutput.{CheckInputs, goals_asked, status_of_verdict, check_text}
+use Rattle.resource_tool.specs.CheckOutput.{goals_asked, status_of_verdict, check_text}
 
 -- The bytes mean layers, a box and a certificate, and a verdict was printed, of which the headline holds: if the checker
 -- accepts a certificate for a stack of tables and overlays, a box and named goals, then for every configuration in the box

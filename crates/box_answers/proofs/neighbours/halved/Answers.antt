@@ -1,6 +1,4 @@
 use Rattle.std.proofs.Common.{sym, ◌∙◌, arith}
-use Rattle.config_record.specs.ComparedNumber.{device_number}
-use Rattle.config_record.specs.DeviceSeen.{device_numbers}
 use Rattle.box_answers.specs.NumberSet.{IsIn}
 use Rattle.box_answers.specs.Members.{sets_of, set_at}
 use Rattle.box_answers.proofs.Sets.{member-changed}

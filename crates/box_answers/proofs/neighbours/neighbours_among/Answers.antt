@@ -1,4 +1,4 @@
-use Rattle.std.proofs.Common.{rules, ◌≡◌, true, false, refl, sym, ap, ◌∙◌, arith, List, length}
+use Rattle.std.proofs.Common.{rules, ◌≡◌, true, refl, sym, ap, ◌∙◌, arith, List, length}
 use Rattle.config_record.specs.declared.coord.Coord.{Coord}
 use Rattle.box_answers.proofs.Coords.{all_coords-count}
 use Rattle.box_answers.proofs.Sides.{Approaches-next, Approaches-end}

@@ -1,5 +1,5 @@
 use Rattle.config_record.specs.declared.locale.Locale.{Locale}
-use Rattle.std.proofs.Common.{List, ◌≡◌, ◌≢◌, ℕ, ◌<◌, false, true, IsTrue, get_or, arith, sym, ◌∙◌, map, length, refl}
+use Rattle.std.proofs.Common.{List, ◌≡◌, ◌≢◌, false, true, get_or, arith, sym, ◌∙◌, length, refl}
 use Rattle.std.proofs.lemmas.List.{get_or-map, length-map}
 use borrow.Author.Count.{below_more}
 use Rattle.config_record.specs.ComparedNumber.{locale_number}

@@ -1,4 +1,4 @@
-use Rattle.std.proofs.Common.{◌≡◌, ℕ, ◌<◌, ◌≢◌, get_or}
+use Rattle.std.proofs.Common.{ℕ, ◌<◌, ◌≢◌, get_or}
 use Rattle.box_answers.specs.NumberSet.{locale_numbers}
 use Rattle.box_answers.proofs.number_set.is_among.Given as goal
 

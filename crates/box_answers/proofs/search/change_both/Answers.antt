@@ -1,10 +1,9 @@
-use Rattle.std.proofs.Common.{◌≡◌, ℕ, List, subst, ap, sym, ◌∙◌}
+use Rattle.std.proofs.Common.{ℕ, subst, ap, ◌∙◌}
 use Rattle.config_record.specs.declared.device.Device.{Device}
 use Rattle.config_record.specs.Record.{record_bytes}
-use Rattle.config_record.specs.ComparedNumber.{record_number, device_number}
-use Rattle.config_record.specs.DeviceSeen.{device_numbers}
-use Rattle.box_answers.specs.NumberSet.{SetOf, set_of, IsIn, IsLeastIn, IsGreatestIn}
-use Rattle.box_answers.specs.Members.{sets_of, set_at}
+use Rattle.config_record.specs.ComparedNumber.{record_number}
+use Rattle.box_answers.specs.NumberSet.{SetOf, IsIn, IsLeastIn, IsGreatestIn}
+use Rattle.box_answers.specs.Members.{sets_of}
 use Rattle.box_answers.specs.Changes.{answer_at}
 use Rattle.box_answers.proofs.Sets.{member-changed, change-twice}
 use Rattle.box_answers.proofs.SearchSteps.{both-none, none_by, some_by}

@@ -1,6 +1,5 @@
-use Rattle.std.proofs.Common.{rules, ◌≡◌, ◌≢◌, ℕ, ◌<◌, ◌≤◌, get_or, length, arith, sym, ◌∙◌, ap, refl, subst}
+use Rattle.std.proofs.Common.{◌≡◌, ◌≢◌, ℕ, ◌<◌, get_or, length, arith, sym, ◌∙◌, ap, subst}
 use borrow.Author.Count.{below_more}
-use Rattle.config_record.specs.Coord.{place_of}
 use Rattle.config_record.specs.Record.{record_bytes}
 use Rattle.config_record.specs.ComparedNumber.{record_number, device_number}
 use Rattle.config_record.specs.DeviceSeen.{device_numbers}

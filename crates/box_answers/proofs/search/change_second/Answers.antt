@@ -1,12 +1,11 @@
-use Rattle.std.proofs.Common.{◌≡◌, ◌≢◌, ℕ, arith, sym, ap, ◌∙◌, subst}
-use Rattle.config_record.specs.declared.coord.Coord.{Coord}
+use Rattle.std.proofs.Common.{◌≡◌, ◌≢◌, ℕ, arith, ap, ◌∙◌, subst}
 use Rattle.config_record.specs.Coord.{place_of}
 use Rattle.config_record.specs.Record.{record_bytes}
 use Rattle.config_record.specs.ComparedNumber.{record_number, device_number}
 use Rattle.config_record.specs.DeviceSeen.{device_numbers}
 use Rattle.config_rules.specs.Rule.{rule_answer}
-use Rattle.box_answers.specs.NumberSet.{SetOf, set_of, IsIn, IsLeastIn, IsGreatestIn}
-use Rattle.box_answers.specs.Members.{sets_of, set_at}
+use Rattle.box_answers.specs.NumberSet.{SetOf, IsIn, IsLeastIn, IsGreatestIn}
+use Rattle.box_answers.specs.Members.{sets_of}
 use Rattle.box_answers.specs.Changes.{answer_at}
 use Rattle.box_answers.proofs.Sets.{change-found}
 use Rattle.box_answers.proofs.SearchSteps.{two_answer, second-none, second-behind}
