@@ -1,7 +1,7 @@
 -- A trace asks a device for its numbers alone.
-use Rattle.std.proofs.Common.{◌≡◌, ℕ, zero, suc, Bool, true, false, not, List, [], ◌∷◌, ◌++◌, Option, Some, None, refl, sym, ◌∙◌, ap}
+use Rattle.std.proofs.Common.{◌≡◌, ℕ, zero, suc, not, List, [], ◌∷◌, Option, Some, None, refl, ◌∙◌, ap}
 use Rattle.std.proofs.Math.Path.{fun_ext}
-use Rattle.std.specs.Prelude.{◌&&◌, ◌||◌, if◌then◌else◌}
+use Rattle.std.specs.Prelude.{◌&&◌}
 use Rattle.std.specs.List.{flat_map}
 use Rattle.config_record.specs.declared.coord.Coord.{Coord}
 use Rattle.config_record.specs.ComparedNumber.{record_number, device_number}
@@ -15,11 +15,10 @@ use Rattle.config_precedence.specs.Precedence.{is_better}
 use Rattle.overlay_map.specs.Layer.{LayerOf}
 use Rattle.overlay_map.specs.Candidates.{CandOf, candidates_of}
 use Rattle.reference_resolver.specs.declared.step.Step.{Step}
-use Rattle.reference_resolver.specs.declared.step.Step.TheVariants.{NoMatch, KeptOut, TookOver}
 use Rattle.reference_resolver.specs.declared.end.End.{End}
 use Rattle.reference_resolver.specs.Selection.{beats, beats_best, step_of, best_after, scan_candidates, best_of, selected}
 use Rattle.reference_resolver.specs.Ends.{next_of, end_of}
-use Rattle.reference_resolver.specs.Trace.{Trace, look_ups_of, scan_look_up, scan_chain, trace_of}
+use Rattle.reference_resolver.specs.Trace.{Trace, look_ups_of, scan_look_up, scan_chain}
 use Rattle.cert_tree.specs.declared.goal.Goal.{Goal}
 use Rattle.cert_tree.specs.declared.goal.Goal.TheVariants.{Id}
 use Rattle.cert_checker.specs.FirstFault.{goal_trace}

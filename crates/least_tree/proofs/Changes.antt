@@ -1,5 +1,5 @@
 -- The changes of a trace along a range.
-use Rattle.std.proofs.Common.{◌≡◌, ◌≢◌, ℕ, zero, suc, ◌+◌, ◌-◌, ◌<◌, ◌≤◌, ◌⊎◌, inl, inr, arith, sym, ◌∙◌, ap, refl}
+use Rattle.std.proofs.Common.{◌≡◌, ◌≢◌, ℕ, zero, suc, ◌+◌, ◌-◌, ◌<◌, ◌≤◌, inl, inr, arith, sym, ◌∙◌, ap, refl}
 use Rattle.std.specs.Prelude.{if◌then◌else◌}
 use Rattle.reference_resolver.specs.Trace.{Trace}
 use Rattle.least_tree.specs.SameTrace.{same_trace}

@@ -1,6 +1,6 @@
 -- The different traces that the numbers of a list have, and how many there are on the two sides of a test.
 use Rattle.std.proofs.Common.{◌≡◌, ◌≢◌, ℕ, zero, suc, ◌+◌, ◌<◌, ◌≤◌, ◌⊎◌, inl, inr, arith, List, [], ◌∷◌, length, map, Bool, true, false, not, sym, ◌∙◌, ap, refl, subst, get_or}
-use Rattle.std.specs.Prelude.{Contains, ◌||◌}
+use Rattle.std.specs.Prelude.{Contains}
 use Rattle.std.specs.List.{list_any}
 use Rattle.reference_resolver.specs.Trace.{Trace}
 use Rattle.least_tree.specs.SameTrace.{same_trace}
@@ -72,9 +72,9 @@ find q (n ∷ ns) =
     elim (bool_cases (q n)) [
       | inl e ↦ inl (n, inl refl, e)
       | inr f ↦ elim (find q ns) [
-          | inl h ↦ inl (h.0, inr h.1, h.2)
-          | inr none ↦ inr (λ m a. elim a [ inl e ↦ (ap q (sym e) ∙ f) | inr b ↦ none m b ])
-        ]
+        | inl h ↦ inl (h.0, inr h.1, h.2)
+        | inr none ↦ inr (λ m a. elim a [ inl e ↦ (ap q (sym e) ∙ f) | inr b ↦ none m b ])
+      ]
     ]
 
 -- ---- their traces
@@ -95,9 +95,9 @@ has w (t ∷ ts) =
     elim (trace-cases w t) [
       | inl same ↦ inl (rw same.0, inl (sym same.1))
       | inr other ↦ elim (has w ts) [
-          | inl h ↦ inl (rw (other.0, h.0), inr h.1)
-          | inr h ↦ inr (rw (other.0, h.0), λ a. elim a [ inl e ↦ other.1 (sym e) | inr b ↦ h.1 b ])
-        ]
+        | inl h ↦ inl (rw (other.0, h.0), inr h.1)
+        | inr h ↦ inr (rw (other.0, h.0), λ a. elim a [ inl e ↦ other.1 (sym e) | inr b ↦ h.1 b ])
+      ]
     ]
 
 -- a trace counts where it is not in the rest

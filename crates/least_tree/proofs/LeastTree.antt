@@ -1,5 +1,5 @@
 -- The law of the least tree.
-use Rattle.std.proofs.Common.{ℕ, ◌+◌, ◌≤◌, length, arith}
+use Rattle.std.proofs.Common.{arith}
 use Rattle.cert_checker.specs.FirstFault.{goal_trace}
 use Rattle.least_tree.specs.Least.{NeededIsSmall, AcceptedIsLarge, NeededIsLeast}
 use Rattle.least_tree.proofs.Passing.{passes-walk}

@@ -1,5 +1,5 @@
 -- The numbers that are left at one coordinate behind tests of it, and the runs along them.
-use Rattle.std.proofs.Common.{◌≡◌, ◌≢◌, ℕ, ◌+◌, ◌-◌, ◌*◌, ◌<◌, ◌≤◌, ◌⊎◌, inl, inr, arith, List, [], ◌∷◌, length, map, Bool, true, false, not, sym, ◌∙◌, ap, refl, subst}
+use Rattle.std.proofs.Common.{◌≡◌, ◌≢◌, ℕ, ◌+◌, ◌-◌, ◌<◌, ◌≤◌, ◌⊎◌, inl, inr, arith, List, [], ◌∷◌, map, Bool, true, false, not, sym, ◌∙◌, ap, refl}
 use Rattle.std.specs.Prelude.{nat_le}
 use Rattle.std.proofs.lemmas.Bool.{cases_lt}
 use Rattle.std.proofs.lemmas.Bool.Decides.{nat_tests}
@@ -12,7 +12,6 @@ use Rattle.cert_checker.specs.Tests.{answers, is_listed}
 use Rattle.cert_checker.specs.Paths.{Path}
 use Rattle.least_tree.specs.Needed.{coord_of}
 use Rattle.least_tree.specs.Runs.{changes, different, runs}
-use Rattle.least_tree.proofs.SameTraces.{trace-cases}
 use Rattle.least_tree.proofs.Different.{Among, among, contained, pick, picked, pick-all, fails, find, map-among, different-le, different-eq, different-some, different-one}
 use Rattle.least_tree.proofs.Changes.{change-most, change-one, changes-at, changes-same}
 

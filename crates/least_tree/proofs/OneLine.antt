@@ -1,12 +1,12 @@
 -- Trees of a box whose members differ at one coordinate alone.
-use Rattle.std.proofs.Common.{◌≡◌, ◌≢◌, ℕ, ◌+◌, ◌*◌, ◌<◌, ◌≤◌, ◌⊎◌, inl, inr, arith, List, [], ◌∷◌, length, Bool, true, false, sym, ◌∙◌, ap, refl, subst, set}
+use Rattle.std.proofs.Common.{◌≡◌, ◌≢◌, ℕ, ◌+◌, ◌*◌, ◌<◌, ◌≤◌, inl, inr, arith, List, [], ◌∷◌, length, Bool, true, false, sym, ◌∙◌, ap, subst, set}
 use Rattle.std.proofs.lemmas.Bool.{cases_lt}
 use Rattle.config_record.specs.declared.coord.Coord.{Coord}
 use Rattle.config_record.specs.Coord.{place_of}
 use Rattle.config_record.specs.ComparedNumber.{device_number}
 use Rattle.config_record.proofs.ChangedNumber.{by_coord, number_at-set_same, number_at-set_other}
 use Rattle.reference_resolver.specs.Trace.{Trace}
-use Rattle.box_answers.specs.NumberSet.{SetOf, IsIn}
+use Rattle.box_answers.specs.NumberSet.{SetOf}
 use Rattle.box_answers.specs.Members.{set_at, IsMember}
 use Rattle.box_answers.proofs.Sets.{member-changed}
 use Rattle.config_box.specs.Tests.{is_range}
@@ -15,13 +15,13 @@ use Rattle.cert_checker.specs.declared.rule.Rule.TheVariants.{TestKind, EmptyHal
 use Rattle.cert_checker.specs.Tests.{answers, has_wrong_kind}
 use Rattle.cert_checker.specs.Paths.{Path, IsAt, root}
 use Rattle.least_tree.specs.Needed.{coord_of, AgreeBut, IsNeededTest, IsNeededAt, IsNeeded}
-use Rattle.least_tree.specs.Runs.{runs, trace_with, runs_along, IsOnLine}
+use Rattle.least_tree.specs.Runs.{trace_with, runs_along, IsOnLine}
 use Rattle.least_tree.specs.Walk.{Walk}
 use Rattle.least_tree.proofs.SameTraces.{bool_cases, trace-cases}
 use Rattle.least_tree.proofs.Different.{Among}
-use Rattle.least_tree.proofs.Lines.{Kept, between, chosen, kept, In, in-set, set-in, takes, answers-takes, le-takes, gt-takes, is_between, half, at_path, mark-path, Fits, Both, half-in, in-half, some-takes, some-fails, spread, spread-runs, spread-le, Cuts, spread-eq, spread-some, spread-one}
-use Rattle.least_tree.proofs.Counting.{Each, IsLeaf, Shrinks, at-most, Grows, at-least}
-use Rattle.least_tree.proofs.Passing.{Passes, passes-walk}
+use Rattle.least_tree.proofs.Lines.{Kept, between, chosen, kept, In, in-set, set-in, takes, answers-takes, le-takes, gt-takes, is_between, half, at_path, mark-path, Fits, Both, half-in, in-half, some-takes, some-fails, spread-runs, spread-le, Cuts, spread-eq, spread-some, spread-one}
+use Rattle.least_tree.proofs.Counting.{IsLeaf, Shrinks, at-most, Grows, at-least}
+use Rattle.least_tree.proofs.Passing.{Passes}
 use Rattle.least_tree.proofs.ByNumbers.{GoesByNumbers}
 
 -- members differ at c alone, and their number there tells their trace
@@ -75,9 +75,9 @@ needed-coord : (trace : List ℕ → Trace) (sets : List SetOf) (c : Coord) (t :
 needed-coord trace sets c t path test line s =
     by_coord (coord_of test) c (λ e. e)
     (λ other. let alike = answers-alike trace sets c t test line other s.x s.y s.x_member.0 s.y_member.0 in
-        let told_yes = s.x_answers in
-        let told_no = s.y_answers in
-        absurd cc)
+    let told_yes = s.x_answers in
+    let told_no = s.y_answers in
+    absurd cc)
 
 needed-both : (trace : List ℕ → Trace) (sets : List SetOf) (c : Coord) (path : Path) (k : Kept) (test : TestOf) → coord_of test ≡ c
     → IsNeededTest trace sets (IsAt sets path) test → Spans sets c path k → Both k test
@@ -102,9 +102,9 @@ cut-at trace sets c t path low high m line s sp eq =
     let xi = sp.within s.x s.x_member in
     let yi = sp.within s.y s.y_member in
     let none : (n : ℕ) → low ≤ n → n ≤ high → x < n → n < y → ⊥ =
-        λ n a b f g.
-            let z = sp.inside n (a, b) in
-            s.near z.0 z.1 (subst (λ (v : ℕ). x < v) (sym z.2) f) (subst (λ (v : ℕ). v < y) (sym z.2) g) in
+    λ n a b f g.
+    let z = sp.inside n (a, b) in
+    s.near z.0 z.1 (subst (λ (v : ℕ). x < v) (sym z.2) f) (subst (λ (v : ℕ). v < y) (sym z.2) g) in
     let xm : x ≡ m = elim (cases_lt x m) [ inl lt ↦ absurd (none m (omega (arith, xi.0)) (omega (arith, yi.1)) lt yl) | inr le ↦ omega arith ] in
     let ym : y ≡ m + 1 = elim (cases_lt (m + 1) y) [ inl lt ↦ absurd (none (m + 1) (omega (arith, xi.0)) (omega (arith, yi.1)) (omega arith) lt) | inr le ↦ omega arith ] in
     s.differ (line.told s.x s.x_member.0 ∙ ap t xm ∙ eq ∙ sym (line.told s.y s.y_member.0 ∙ ap t ym))
@@ -140,10 +140,11 @@ shrinks trace sets c t line =
           let k = at_path (kept (set_at sets c)) path in
           let e = needed-coord trace sets c t path test line s in
           let fit = fits sets c path test e (λ wrong. s.passes TestKind wrong) in
-          let both = needed-both trace sets c path k test e s sp in
-          (half-spans sets c path k test true fit sp e both both.low both.low_in both.low_takes,
+          let both = needed-both trace sets c path k test e s sp in (
+            half-spans sets c path k test true fit sp e both both.low both.low_in both.low_takes,
             half-spans sets c path k test false fit sp e both both.high both.high_in both.high_fails,
-            eq-le _ _ (spread-eq t k test fit both (needed-cuts trace sets c t path k test e line (mark-path (set_at sets c) path) s sp)));
+            eq-le _ _ (spread-eq t k test fit both (needed-cuts trace sets c t path k test e line (mark-path (set_at sets c) path) s sp)),
+          );
       leaf = λ node path is sp s. spread-some t (at_path (kept (set_at sets c)) path) sp.some sp.some_in;
     }
 
@@ -164,9 +165,9 @@ passed-both trace sets c path k test fit e ok sp =
     elim (some-takes k test fit sp.some sp.some_in) [
       | inr none ↦ absurd (ok EmptyHalf (inr (λ x a. answers-here c test x e ∙ none (device_number x c) (sp.within x a))))
       | inl y ↦ elim (some-fails k test fit sp.some sp.some_in) [
-          | inr none ↦ absurd (ok EmptyHalf (inl (λ x a. answers-here c test x e ∙ none (device_number x c) (sp.within x a))))
-          | inl f ↦ record { low = y.0; high = f.0; low_in = y.1; high_in = f.1; low_takes = y.2; high_fails = f.2 }
-        ]
+        | inr none ↦ absurd (ok EmptyHalf (inl (λ x a. answers-here c test x e ∙ none (device_number x c) (sp.within x a))))
+        | inl f ↦ record { low = y.0; high = f.0; low_in = y.1; high_in = f.1; low_takes = y.2; high_fails = f.2 }
+      ]
     ]
 
 mixed : (trace : List ℕ → Trace) (sets : List SetOf) (node : NodeOf) (path : Path) → IsLeaf node → Passes trace sets node path
@@ -195,10 +196,11 @@ grows trace sets c t line =
           let d = sp.inside sp.some sp.some_in in
           let e = passed-coord trace sets c t path test d.0 line d.1 ok in
           let fit = fits sets c path test e (λ wrong. ok TestKind wrong) in
-          let both = passed-both trace sets c path k test fit e ok sp in
-          (half-spans sets c path k test true fit sp e both both.low both.low_in both.low_takes,
+          let both = passed-both trace sets c path k test fit e ok sp in (
+            half-spans sets c path k test true fit sp e both both.low both.low_in both.low_takes,
             half-spans sets c path k test false fit sp e both both.high both.high_in both.high_fails,
-            spread-le t k test fit both);
+            spread-le t k test fit both,
+          );
       leaf = λ node path is sp ok.
           spread-one t (at_path (kept (set_at sets c)) path) (t sp.some)
           (λ n i. one-trace trace sets c t node path (at_path (kept (set_at sets c)) path) line is ok sp n sp.some i sp.some_in)
@@ -216,19 +218,20 @@ line-of trace sets c d by l =
       alone = λ x y mx my k other. other-member sets c d l x mx k other ∙ sym (other-member sets c d l y my k other);
       told = λ x m. by x (set d (place_of c) (device_number x c))
           (λ k. by_coord k c
-              (λ e. let here : device_number (set d (place_of c) (device_number x c)) c ≡ device_number x c = number_at-set_same d c (device_number x c) l.count in
-                  ap (device_number x) e ∙ sym here ∙ ap (device_number (set d (place_of c) (device_number x c))) (sym e))
-              (λ other. other-member sets c d l x m k other ∙ sym (number_at-set_other d c k (device_number x c) other)));
+          (λ e. let here : device_number (set d (place_of c) (device_number x c)) c ≡ device_number x c = number_at-set_same d c (device_number x c) l.count in
+          ap (device_number x) e ∙ sym here ∙ ap (device_number (set d (place_of c) (device_number x c))) (sym e))
+          (λ other. other-member sets c d l x m k other ∙ sym (number_at-set_other d c k (device_number x c) other)));
     }
 
 root-spans : (sets : List SetOf) (c : Coord) (d : List ℕ) → IsOnLine sets c d → Spans sets c [] (kept (set_at sets c))
 root-spans sets c d l =
     record {
       inside = λ n is.
-          let here = number_at-set_same d c n l.count in
-          (set d (place_of c) n,
+          let here = number_at-set_same d c n l.count in (
+            set d (place_of c) n,
             (member-changed sets d (set d (place_of c) n) c n l.member (in-set (set_at sets c) n is) here (λ k other. number_at-set_other d c k n other), tt),
-            here);
+            here,
+          );
       within = λ x a. set-in (set_at sets c) (device_number x c) (a.0 c);
       some = device_number d c;
       some_in = set-in (set_at sets c) (device_number d c) (l.member c);

@@ -1,5 +1,5 @@
 -- Trees without a test too many. A trace tells for each device what the rules of the platform do.
-use Rattle.std.specs.Prelude.{◌≡◌, ◌≢◌, ℕ, ◌<◌, Bool, true, false, List}
+use Rattle.std.specs.Prelude.{◌≡◌, ◌≢◌, ℕ, ◌<◌, true, false, List}
 use Rattle.config_record.specs.declared.coord.Coord.{Coord}
 use Rattle.config_record.specs.ComparedNumber.{device_number}
 use Rattle.reference_resolver.specs.Trace.{Trace}

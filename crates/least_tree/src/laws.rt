@@ -6,8 +6,7 @@ ghost use Rattle.least_tree.specs.Least.{NeededIsSmall, AcceptedIsLarge, NeededI
 /// Traces are compared part by part, and that tells which are equal.
 pub fn same_trace()
     ensures { TellsEqualTraces }
-{
-}
+{}
 
 /// Where at most one coordinate of a box has several values, a tree whose tests are needed has the fewest nodes
 /// that an accepted one has.
@@ -15,5 +14,4 @@ pub fn least_tree()
     ensures needed { NeededIsSmall }
     ensures accepted { AcceptedIsLarge }
     ensures least { NeededIsLeast }
-{
-}
+{}
