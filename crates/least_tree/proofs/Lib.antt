@@ -1,0 +1,9 @@
+pub mod SameTraces
+pub mod Different
+pub mod Changes
+pub mod Lines
+pub mod Counting
+pub mod Passing
+pub mod ByNumbers
+pub mod OneLine
+pub mod LeastTree

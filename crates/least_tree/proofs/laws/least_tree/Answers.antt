@@ -1,0 +1,11 @@
+use Rattle.least_tree.proofs.LeastTree.{small, large, least}
+use Rattle.least_tree.proofs.laws.least_tree.Goals as goal
+
+pub returns-clause-needed : goal.returns-clause-needed
+returns-clause-needed c = small
+
+pub returns-clause-accepted : goal.returns-clause-accepted
+returns-clause-accepted c = large
+
+pub returns-clause-least : goal.returns-clause-least
+returns-clause-least c = least

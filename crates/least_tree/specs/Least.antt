@@ -1,0 +1,29 @@
+-- The law of the least tree. It speaks of boxes of which at most one coordinate has several values.
+use Rattle.std.specs.Prelude.{ℕ, ◌+◌, ◌*◌, ◌≤◌, List, length}
+use Rattle.config_record.specs.declared.coord.Coord.{Coord}
+use Rattle.overlay_map.specs.Layer.{LayerOf}
+use Rattle.box_answers.specs.NumberSet.{SetOf}
+use Rattle.cert_tree.specs.declared.goal.Goal.{Goal}
+use Rattle.cert_tree.specs.Certificate.{NodeOf}
+use Rattle.cert_checker.specs.Fails.{NoRuleFails}
+use Rattle.cert_checker.specs.FirstFault.{goal_trace}
+use Rattle.least_tree.specs.Needed.{IsNeeded}
+use Rattle.least_tree.specs.Runs.{runs_along, IsOnLine}
+
+-- a tree whose tests are needed has at most twice as many nodes as there are runs, less one
+abbrev pub NeededIsSmall : Type 0
+NeededIsSmall =
+    (stack : List LayerOf) (goal : Goal) (sets : List SetOf) (c : Coord) (d : List ℕ) (nodes : List NodeOf) → IsOnLine sets c d
+    → IsNeeded (goal_trace stack goal) sets nodes → length nodes + 1 ≤ 2 * runs_along (goal_trace stack goal) sets c d
+
+-- and a tree of which no rule fails has at least as many
+abbrev pub AcceptedIsLarge : Type 0
+AcceptedIsLarge =
+    (stack : List LayerOf) (goal : Goal) (sets : List SetOf) (c : Coord) (d : List ℕ) (nodes : List NodeOf) → IsOnLine sets c d
+    → NoRuleFails (goal_trace stack goal) sets nodes → 2 * runs_along (goal_trace stack goal) sets c d ≤ length nodes + 1
+
+-- so no tree that is accepted has fewer nodes than one whose tests are needed
+abbrev pub NeededIsLeast : Type 0
+NeededIsLeast =
+    (stack : List LayerOf) (goal : Goal) (sets : List SetOf) (c : Coord) (d : List ℕ) (needed accepted : List NodeOf) → IsOnLine sets c d
+    → IsNeeded (goal_trace stack goal) sets needed → NoRuleFails (goal_trace stack goal) sets accepted → length needed ≤ length accepted

@@ -1,0 +1,5 @@
+pub mod SameTrace
+pub mod Walk
+pub mod Needed
+pub mod Runs
+pub mod Least

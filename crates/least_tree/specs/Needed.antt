@@ -1,0 +1,63 @@
+-- Trees without a test too many. A trace tells for each device what the rules of the platform do.
+use Rattle.std.specs.Prelude.{◌≡◌, ◌≢◌, ℕ, ◌<◌, true, false, List}
+use Rattle.config_record.specs.declared.coord.Coord.{Coord}
+use Rattle.config_record.specs.ComparedNumber.{device_number}
+use Rattle.reference_resolver.specs.Trace.{Trace}
+use Rattle.box_answers.specs.NumberSet.{SetOf}
+use Rattle.box_answers.specs.Members.{set_at}
+use Rattle.config_box.specs.Tests.{is_range}
+use Rattle.cert_tree.specs.Certificate.{TestOf, AtMostOf, AmongOf, NodeOf, TestAt, ValueAt, BagAt}
+use Rattle.cert_checker.specs.declared.rule.Rule.{Rule}
+use Rattle.cert_checker.specs.Tests.{answers}
+use Rattle.cert_checker.specs.Paths.{Path, IsAt}
+use Rattle.cert_checker.specs.Fails.{FailsAtTest}
+use Rattle.least_tree.specs.Walk.{HoldsOfTree}
+
+-- the coordinate that a test asks for
+abbrev pub coord_of : TestOf → Coord
+coord_of (AtMostOf c most) = c
+coord_of (AmongOf c choice) = c
+
+-- two devices have the same number at each coordinate but this one
+abbrev pub AgreeBut : Coord → List ℕ → List ℕ → Type 0
+AgreeBut c x y = (k : Coord) → k ≢ c → device_number x k ≡ device_number y k
+
+-- Numbers up to one are asked for: no member has a number there that lies between those of the two.
+abbrev pub NoneBetween : (List ℕ → Type 0) → TestOf → List ℕ → List ℕ → Type 0
+NoneBetween members (AtMostOf c most) x y =
+    (d : List ℕ) → members d → device_number x c < device_number d c → device_number d c < device_number y c → ⊥
+NoneBetween members (AmongOf c choice) x y = Unit {0}
+
+-- no trace stands on both sides of a test
+abbrev pub PartsTraces : (List ℕ → Trace) → (List ℕ → Type 0) → TestOf → Type 0
+PartsTraces trace members test =
+    (x y : List ℕ) → members x → members y → answers test x ≡ true → answers test y ≡ false → trace x ≢ trace y
+
+abbrev pub VariesOnlyAt : Coord → (List ℕ → Type 0) → Type 0
+VariesOnlyAt c members = (x y : List ℕ) → members x → members y → AgreeBut c x y
+
+-- No rule fails at the test, and it separates two of the members that come to it: they differ in its coordinate alone, and
+-- have different traces. Numbers up to one are asked for between neighbours alone. Where the coordinate is a choice, and
+-- is all in which members differ, no trace stands on both sides.
+pub record IsNeededTest (trace : List ℕ → Trace) (sets : List SetOf) (members : List ℕ → Type 0) (test : TestOf) : Type 0 where
+  pub passes : (rule : Rule) → FailsAtTest sets members test rule → ⊥
+  pub x : List ℕ
+  pub y : List ℕ
+  pub x_member : members x
+  pub y_member : members y
+  pub x_answers : answers test x ≡ true
+  pub y_answers : answers test y ≡ false
+  pub others : AgreeBut (coord_of test) x y
+  pub differ : trace x ≢ trace y
+  pub near : NoneBetween members test x y
+  pub parts : is_range (set_at sets (coord_of test)) ≡ false → VariesOnlyAt (coord_of test) members → PartsTraces trace members test
+
+-- nothing is said of leaves
+abbrev pub IsNeededAt : (List ℕ → Trace) → List SetOf → NodeOf → Path → Type 0
+IsNeededAt trace sets (TestAt test) path = IsNeededTest trace sets (IsAt sets path) test
+IsNeededAt trace sets (ValueAt layer value) path = Unit {0}
+IsNeededAt trace sets (BagAt id) path = Unit {0}
+
+-- one whole tree, each of whose tests is needed
+abbrev pub IsNeeded : (List ℕ → Trace) → List SetOf → List NodeOf → Type 0
+IsNeeded trace sets nodes = HoldsOfTree (IsNeededAt trace sets) nodes

@@ -1,0 +1,40 @@
+-- How often does the trace change, where at most one coordinate of a box has several values?
+use Rattle.std.specs.Prelude.{◌≡◌, ◌≢◌, ℕ, zero, suc, ◌+◌, ◌-◌, List, [], ◌∷◌, map, length, slice_set, if◌then◌else◌}
+use Rattle.std.specs.List.{list_any}
+use Rattle.config_record.specs.declared.coord.Coord.{Coord}
+use Rattle.config_record.specs.Coord.{place_of}
+use Rattle.reference_resolver.specs.Trace.{Trace}
+use Rattle.box_answers.specs.NumberSet.{SetOf, RangeOf, NumbersOf, LocalesOf, IsIn}
+use Rattle.box_answers.specs.Members.{set_at, IsMember}
+use Rattle.least_tree.specs.SameTrace.{same_trace}
+
+-- of so many pairs of neighbours from a number on, how many have different traces
+abbrev pub changes : (ℕ → Trace) → ℕ → ℕ → ℕ
+changes trace_at low zero = 0
+changes trace_at low (suc n) =
+    changes trace_at low n + (if same_trace (trace_at (low + n)) (trace_at (low + n + 1)) then 0 else 1)
+
+-- how many different traces a list has
+abbrev pub different : List Trace → ℕ
+different [] = 0
+different (t ∷ traces) = (if list_any (same_trace t) traces then 0 else 1) + different traces
+
+-- along a range one more than changes; of a choice how many different ones
+abbrev pub runs : (ℕ → Trace) → SetOf → ℕ
+runs trace_at (RangeOf low high) = 1 + changes trace_at low (high - low)
+runs trace_at (NumbersOf numbers) = different (map trace_at numbers)
+runs trace_at (LocalesOf numbers) = different (map trace_at numbers)
+
+-- the trace of a device with another number at one coordinate
+abbrev pub trace_with : (List ℕ → Trace) → List ℕ → Coord → ℕ → Trace
+trace_with trace d c n = trace (slice_set d (place_of c) n)
+
+-- the runs along one coordinate, where the other numbers are those of a device
+abbrev pub runs_along : (List ℕ → Trace) → List SetOf → Coord → List ℕ → ℕ
+runs_along trace sets c d = runs (trace_with trace d c) (set_at sets c)
+
+-- a member of a box of which no coordinate but this one has several values
+pub record IsOnLine (sets : List SetOf) (c : Coord) (d : List ℕ) : Type 0 where
+  pub count : length d ≡ 25
+  pub member : IsMember sets d
+  pub others : (k : Coord) (m n : ℕ) → k ≢ c → IsIn (set_at sets k) m → IsIn (set_at sets k) n → m ≡ n
