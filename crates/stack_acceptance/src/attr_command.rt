@@ -105,6 +105,45 @@ fn prints_where_attributes_end(rt: HostRuntime) {
     check(&rt, other_attribute(rt.alloc()));
 }
 
+/// A style without a row, and one with a row.
+const EMPTY: &str = "0 [] bag 0x00000000\n1 [] bag 0x00000000 0x01010001=1";
+
+/// Styles, how the command ends, and what is printed of the attribute of the second.
+const WITH_EMPTY: [(&[ResId], Status, &str); 3] = [
+    (&[FIRST], Status::Negative, "0x01010001 absent 0x01010001\n"),
+    (
+        &[FIRST, SECOND],
+        Status::Done,
+        "0x01010001 value layer 0 decimal 1\n",
+    ),
+    (
+        &[SECOND, FIRST],
+        Status::Done,
+        "0x01010001 value layer 0 decimal 1\n",
+    ),
+];
+
+// The first text that is not printed.
+fn other_of_empty(alloc: Global) -> Option<&'static str> {
+    for (styles, status, want) in &WITH_EMPTY {
+        let asked = Asked {
+            attr: A,
+            styles: *styles,
+            force: true,
+            status: *status,
+        };
+        if is_printed_as(alloc, EMPTY, &asked, want) != Some(true) {
+            return Some(*want);
+        }
+    }
+    None
+}
+
+#[test]
+fn applies_a_style_without_rows(rt: HostRuntime) {
+    check(&rt, other_of_empty(rt.alloc()));
+}
+
 /// A style whose attribute names itself, a value, and a style that is its own parent.
 const REFUSED: &str = "\
 0 [] bag 0x00000000 0x01010003=?0x01010003
