@@ -108,40 +108,24 @@ fn prints_where_attributes_end(rt: HostRuntime) {
 /// A style without a row, and one with a row.
 const EMPTY: &str = "0 [] bag 0x00000000\n1 [] bag 0x00000000 0x01010001=1";
 
-/// Styles, how the command ends, and what is printed of the attribute of the second.
-const WITH_EMPTY: [(&[ResId], Status, &str); 3] = [
-    (&[FIRST], Status::Negative, "0x01010001 absent 0x01010001\n"),
-    (
-        &[FIRST, SECOND],
-        Status::Done,
-        "0x01010001 value layer 0 decimal 1\n",
-    ),
-    (
-        &[SECOND, FIRST],
-        Status::Done,
-        "0x01010001 value layer 0 decimal 1\n",
-    ),
-];
-
-// The first text that is not printed.
-fn other_of_empty(alloc: Global) -> Option<&'static str> {
-    for (styles, status, want) in &WITH_EMPTY {
-        let asked = Asked {
-            attr: A,
-            styles: *styles,
-            force: true,
-            status: *status,
-        };
-        if is_printed_as(alloc, EMPTY, &asked, want) != Some(true) {
-            return Some(*want);
-        }
-    }
-    None
+// Whether the attribute of the second is printed so behind some of them.
+fn is_printed_behind(alloc: Global, styles: &[ResId], status: Status, want: &str) -> bool {
+    let asked = Asked {
+        attr: A,
+        styles,
+        force: true,
+        status,
+    };
+    is_printed_as(alloc, EMPTY, &asked, want) == Some(true)
 }
 
 #[test]
 fn applies_a_style_without_rows(rt: HostRuntime) {
-    check(&rt, other_of_empty(rt.alloc()));
+    let absent = "0x01010001 absent 0x01010001\n";
+    assert!(rt; is_printed_behind(rt.alloc(), &[FIRST], Status::Negative, absent));
+    let set = "0x01010001 value layer 0 decimal 1\n";
+    assert!(rt; is_printed_behind(rt.alloc(), &[FIRST, SECOND], Status::Done, set));
+    assert!(rt; is_printed_behind(rt.alloc(), &[SECOND, FIRST], Status::Done, set));
 }
 
 /// A style whose attribute names itself, a value, and a style that is its own parent.
