@@ -20,6 +20,7 @@ judge() {
         failed=$((failed + 1))
         echo "failed: $1 (status $3, wanted $2)"
         head -c 300 "$work/out" "$work/err"
+        echo
     fi
 }
 
@@ -202,7 +203,7 @@ of_first="$attribute value layer 0 argb8 #ff0277bd" of_second="$attribute value 
 french='rich.layers.json phone-fr.device.json'
 prints "styles in another order" 0 "$of_first" attr $french $attribute $second $first
 prints "a style twice" 0 "$of_first" attr $french $attribute $first $second $first
-prints "a style twice, kept" 0 "$of_second" attr --keep $french $attribute $second $first $second
+prints "styles in another order, kept" 0 "$of_second" attr --keep $french $attribute $second $second $first
 prints "--keep behind the words" 0 "$of_first" attr $french $attribute $first $second --keep
 cd "$here" || exit 1
 porcelain='examples/porcelain/layers.json examples/porcelain/phone.json'
