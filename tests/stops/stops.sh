@@ -71,18 +71,20 @@ end absent $id"
 rejected='rejected goal 0 node 0 N1 GoalList
 set-aside 0'
 
-# asks LAYERS DEVICE BOX CERTIFICATE NAME STATUS LINE: each command that reads such files stops like this. An empty
-# word for the device or the box leaves out the commands that read one.
+# asks LAYERS DEVICE BOX NAME STATUS LINE: each command that reads such files stops like this. An empty word for the
+# device or the box leaves out the commands that read one. The certificate is there.
 asks() {
-    of_layers=$1 of_device=$2 of_box=$3 of_certificate=$4
-    shift 4
+    of_layers=$1 of_device=$2 of_box=$3
+    shift 3
     if [ "$of_device" ]; then
         stops "query: $1" "$2" "$3" query "$of_layers" "$of_device" $id
         stops "explain: $1" "$2" "$3" explain "$of_layers" "$of_device" $id
         stops "bag: $1" "$2" "$3" bag "$of_layers" "$of_device" $id
         stops "attr: $1" "$2" "$3" attr "$of_layers" "$of_device" 0x01010000 $id
     fi
-    if [ "$of_box" ]; then stops "check: $1" "$2" "$3" check "$of_layers" "$of_box" "$of_certificate" $id; fi
+    if [ "$of_box" ]; then
+        stops "check: $1" "$2" "$3" check "$of_layers" "$of_box" certificate $id
+    fi
 }
 
 # ---- the size of an input: at most 268,435,456 bytes
@@ -114,18 +116,18 @@ rm most large
 line of-table '[{"table":"-"}]'
 line of-map '[{"table":"whole","map":"-"}]'
 input=layers
-asks - device box certificate "no list of layers named -" 5 'file: -'
+asks - device box "no list of layers named -" 5 'file: -'
 input=device
-asks layers - '' '' "no device named -" 5 'file: -'
+asks layers - '' "no device named -" 5 'file: -'
 input=box
-asks layers '' - certificate "no box named -" 5 'file: -'
+asks layers '' - "no box named -" 5 'file: -'
 input=certificate
-asks layers '' box - "no certificate named -" 5 'file: -'
+stops "no certificate named -" 5 'file: -' check layers box - $id
 input=whole
-asks of-table device box certificate "no layer's table named -" 5 'file: -'
+asks of-table device box "no layer's table named -" 5 'file: -'
 printf '[]' >no-pairs
 input=no-pairs
-asks of-map device box certificate "no layer's map named -" 5 'file: -'
+asks of-map device box "no layer's map named -" 5 'file: -'
 input=/dev/null
 cp layers ./-
 prints "a list of layers named -" 1 "$absent" query - device $id
@@ -149,31 +151,31 @@ rm ./-
 
 # ---- files without a byte
 : >empty
-asks empty device box certificate "an empty list of layers" 3 'refused: layers: Syntax'
-asks layers empty '' '' "an empty device" 3 'refused: device: Syntax'
-asks layers '' empty certificate "an empty box" 3 'refused: box: Syntax'
-asks layers '' box empty "an empty certificate" 3 'refused: certificate: Syntax'
+asks empty device box "an empty list of layers" 3 'refused: layers: Syntax'
+asks layers empty '' "an empty device" 3 'refused: device: Syntax'
+asks layers '' empty "an empty box" 3 'refused: box: Syntax'
+stops "an empty certificate" 3 'refused: certificate: Syntax' check layers box empty $id
 line of-empty '[{"table":"whole"},{"table":"whole","map":"empty"}]'
-asks of-empty device box certificate "an empty map" 3 'refused: layer 1 map: Syntax'
+asks of-empty device box "an empty map" 3 'refused: layer 1 map: Syntax'
 line of-empty '[{"table":"whole"},{"table":"empty"}]'
-asks of-empty device box certificate "an empty table" 3 'refused: layer 1 table: Chunk Truncated 0'
+asks of-empty device box "an empty table" 3 'refused: layer 1 table: Chunk Truncated 0'
 
 # ---- the order of files, and of what is in them
 line of-absent '[{"table":"no-table","map":"no-map"}]'
-asks of-absent no-device no-box no-certificate "a layer without its table and its map" 5 'file: no-table'
+asks of-absent no-device no-box "a layer without its table and its map" 5 'file: no-table'
 line of-absent '[{"table":"whole","map":"no-map"},{"table":"no-table"}]'
-asks of-absent no-device no-box no-certificate "a layer without its map" 5 'file: no-map'
+asks of-absent no-device no-box "a layer without its map" 5 'file: no-map'
 line of-absent '[{"table":"whole"},{"table":"no-table"}]'
-asks of-absent no-device no-box no-certificate "a later layer without its table" 5 'file: no-table'
-asks no-layers no-device no-box no-certificate "no list of layers" 5 'file: no-layers'
-asks layers no-device '' '' "no device" 5 'file: no-device'
-asks layers '' no-box no-certificate "no box" 5 'file: no-box'
-asks layers '' box no-certificate "no certificate" 5 'file: no-certificate'
+asks of-absent no-device no-box "a later layer without its table" 5 'file: no-table'
+asks no-layers no-device no-box "no list of layers" 5 'file: no-layers'
+asks layers no-device '' "no device" 5 'file: no-device'
+asks layers '' no-box "no box" 5 'file: no-box'
+stops "no certificate" 5 'file: no-certificate' check layers box no-certificate $id
 head -c 4 whole >cut
 line of-cut '[{"table":"cut"}]'
-asks of-cut no-device no-device no-certificate "a file comes before what is in a table" 5 'file: no-device'
+asks of-cut no-device no-device "a file comes before what is in a table" 5 'file: no-device'
 line not-a-box '{"density":[]}'
-asks layers '' not-a-box no-certificate "a file comes before what is in a box" 5 'file: no-certificate'
+stops "a file comes before what is in a box" 5 'file: no-certificate' check layers not-a-box no-certificate $id
 
 # ---- ids: each word in its place
 id2=0x7f010001
