@@ -75,10 +75,12 @@ def faults_of_files(refuser, run):
 
 
 def faults_of_reads(refuser, run):
-    """The files in their order, each named where it cannot be read to its end."""
-    order = without_repeats([ended for _, ended in refuser.each(run, "read")])
-    if order != without_repeats([file_fault(path) for path in run.files if run.has(path)]):
-        yield f"failed reads: {order}"
+    """The files in their order, each named where it cannot be read to its end, or would have to be waited for."""
+    wanted = without_repeats([file_fault(path) for path in run.files if run.has(path)])
+    for kind in ("read", "block-read"):
+        order = without_repeats([ended for _, ended in refuser.each(run, kind)])
+        if order != wanted:
+            yield f"{kind}: {order}"
 
 
 def faults_of_writes(refuser, run):
@@ -86,7 +88,8 @@ def faults_of_writes(refuser, run):
     status = 5 if run.ended.out else run.ended.status
     for name, ended in refuser.each(run, "write"):
         is_begun = run.ended.out.startswith(ended.out) and run.ended.err.startswith(ended.err)
-        if ended.status != status or not is_begun or ended.err == run.ended.err != b"":
+        is_whole = run.ended.err != b"" and ended.err == run.ended.err
+        if ended.status != status or is_whole or not is_begun:
             yield f"{name}: {ended}"
 
 

@@ -1,6 +1,6 @@
 /* Preloaded into a program, it refuses calls of one kind, and counts them.
- *   REFUSED   grow: memory; open: a file; read and write: bytes, with EIO. Or it hinders bytes: interrupt-read and
- *             interrupt-write (EINTR), short-read and short-write (one byte is moved)
+ *   REFUSED   grow: memory; open: a file; read, write: bytes (EIO); block-read: bytes that are not there yet (EAGAIN);
+ *             or it hinders bytes: interrupt-read, interrupt-write (EINTR), short-read, short-write (one is moved)
  *   FROM, TO  the first and the last call that is refused; the first of all is 1
  *   COUNT     the file that gets how many calls there were, in decimal digits */
 #define _GNU_SOURCE
@@ -39,7 +39,7 @@ int open(const char *path, int flags, ...) {
 }
 
 ssize_t read(int file, void *bytes, size_t size) {
-    if (refuses("read", EIO) || refuses("interrupt-read", EINTR)) return -1;
+    if (refuses("read", EIO) || refuses("block-read", EAGAIN) || refuses("interrupt-read", EINTR)) return -1;
     return syscall(SYS_read, file, bytes, size && refuses("short-read", 0) ? 1 : size);
 }
 
