@@ -14,9 +14,11 @@ from concurrent.futures import ThreadPoolExecutor
 
 from runs import STANDARD_INPUT, Ended, long_answer, runs
 
-ALWAYS = 1 << 40
+NEVER_MADE = 1 << 40
+"""A call that no run comes to."""
 MOST_READS = 268_435_457
 MOST_SHOWN = 400
+MOST_SECONDS = 120
 MEMORY = Ended(4, b"", b"out of memory\n")
 
 
@@ -26,7 +28,7 @@ class Refuser:
     def __init__(self, program, library):
         self.program, self.library = program, library
 
-    def run(self, run, kind, first=ALWAYS, last=ALWAYS):
+    def run(self, run, kind, first=NEVER_MADE, last=NEVER_MADE):
         """How a run ends where the calls of a kind from the first to the last are refused, and how many were made."""
         with tempfile.NamedTemporaryFile() as count, open(run.given, "rb") as given:
             said = {"REFUSED": kind, "FROM": str(first), "TO": str(last), "COUNT": count.name}
@@ -37,6 +39,7 @@ class Refuser:
                 stdin=given,
                 stdout=subprocess.PIPE,
                 stderr=subprocess.PIPE,
+                timeout=MOST_SECONDS,
             )
             return Ended(ended.returncode, ended.stdout, ended.stderr), int(count.read() or b"0")
 
@@ -60,8 +63,8 @@ def faults_of_memory(refuser, run):
     """Either the answer of ample memory, or that memory ran out and nothing else."""
     ends = list(refuser.each(run, "grow"))
     yield from (f"{name}: {ended}" for name, ended in ends if ended not in (run.ended, MEMORY))
-    if ends[0][1] != MEMORY:
-        yield f"the first growth is no want of memory: {ends[0][1]}"
+    if not ends or ends[0][1] != MEMORY:
+        yield f"the first growth is no want of memory: {ends[:1]}"
 
 
 def faults_of_files(refuser, run):
