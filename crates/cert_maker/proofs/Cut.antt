@@ -1,9 +1,5 @@
 -- The test that parts two members with different traces is needed.
-use Rattle.std.proofs.Common.{◌≡◌, ◌≢◌, ℕ, ◌+◌, ◌<◌, ◌≤◌, ◌⊎◌, inl, inr, arith, List, [], ◌∷◌, length, filter, map, min, Bool, true, false, sym, ◌∙◌, ap, refl, subst, set}
-use Rattle.std.specs.Prelude.{Contains, ◌==◌, nat_le, if◌then◌else◌}
-use Rattle.std.specs.List.{list_any}
-use Rattle.std.proofs.lemmas.Bool.{cases_eq, cases_lt, false≢true}
-use Rattle.std.proofs.lemmas.Bool.Decides.{nat_tests}
+use Rattle.std.proofs.Common.{◌≡◌, ◌≢◌, ℕ, ◌+◌, ◌⊎◌, inl, inr, arith, List, length, min, true, false, sym, ◌∙◌, ap, refl, set}
 use Rattle.config_record.specs.declared.coord.Coord as coord
 use Rattle.config_record.specs.declared.coord.Coord.TheVariants as coords
 use Rattle.std.proofs.lemmas.List.{get_or-map, length-map}
@@ -16,15 +12,12 @@ use Rattle.reference_resolver.specs.Trace.{Trace}
 use Rattle.box_answers.specs.NumberSet.{SetOf, RangeOf, NumbersOf, LocalesOf, IsIn}
 use Rattle.box_answers.specs.Members.{set_at, IsMember}
 use Rattle.box_answers.specs.Sameness.{AreNeighbours}
-use Rattle.box_trace.specs.CommonTrace.{AreSideBySide}
 use Rattle.config_box.specs.Tests.{is_range}
-use Rattle.cert_tree.specs.Certificate.{ChoiceOf, TestOf, AtMostOf, AmongOf}
+use Rattle.cert_tree.specs.Certificate.{ChoiceOf, AtMostOf, AmongOf}
 use Rattle.cert_checker.specs.Tests.{answers, is_listed, has_wrong_kind}
-use Rattle.least_tree.specs.SameTrace.{same_trace}
 use Rattle.least_tree.specs.Needed.{AgreeBut, IsNeededTest}
 use Rattle.least_tree.specs.Runs.{trace_with}
 use Rattle.least_tree.proofs.SameTraces.{bool_cases, trace-cases}
-use Rattle.least_tree.proofs.Different.{Among, among}
 use Rattle.least_tree.proofs.Lines.{takes-le, takes-gt}
 use Rattle.least_tree.proofs.ByNumbers.{GoesByNumbers}
 use Rattle.cert_maker.specs.Pair.{ArePair, numbers_of, keeps}

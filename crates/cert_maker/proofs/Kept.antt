@@ -1,20 +1,23 @@
 -- The values of a choice with which a device keeps its trace.
-use Rattle.std.proofs.Common.{◌≡◌, ◌≢◌, ℕ, ◌⊎◌, inl, inr, arith, ◌<◌, List, [], ◌∷◌, ◌++◌, length, filter, map, get_or, Bool, true, false, sym, ◌∙◌, ap, refl, subst}
-use Rattle.std.specs.Prelude.{Contains, ◌==◌, ◌||◌, if◌then◌else◌}
-use Rattle.std.specs.List.{list_any}
-use Rattle.std.proofs.lemmas.Bool.{cases_eq, false≢true}
+use Rattle.std.proofs.Common.{◌≡◌, ◌≢◌, ℕ, ◌⊎◌, inl, inr, arith, ◌≤◌, List, [], ◌∷◌, length, filter, get_or, Bool, true, false, sym, ◌∙◌, ap, refl, subst}
+use Rattle.std.specs.Prelude.{◌==◌, if◌then◌else◌}
+use Rattle.std.specs.List.{All, list_any}
+use Rattle.std.proofs.lemmas.Bool.{false≢true}
 use Rattle.std.proofs.lemmas.Bool.Decides.{nat_tests}
 use Rattle.std.proofs.lemmas.List.{get_or-map, length-map}
+use Rattle.std.proofs.lemmas.List.Sums.{length-filter, count_by-le-length}
 use Rattle.config_record.specs.declared.coord.Coord as coord
 use Rattle.config_record.specs.declared.coord.Coord.TheVariants as coords
 use Rattle.config_record.specs.declared.locale.Locale.{Locale}
-use Rattle.config_record.specs.ComparedNumber.{device_number, locale_number}
+use Rattle.config_record.specs.ComparedNumber.{device_number, locale_number, locale_of_number}
+use Rattle.config_record.specs.Locale.{IsGiven, IsOfSomeText, locale_text}
+use Rattle.config_record.proofs.LocaleGiven.{TwoBytes, given, numbered}
 use Rattle.config_record.specs.Device.{CanHave}
 use Rattle.res_value.specs.declared.res_id.ResId.{ResId}
 use Rattle.overlay_map.specs.Layer.{LayerOf}
 use Rattle.reference_resolver.specs.Ends.{references_followed}
 use Rattle.reference_resolver.specs.Trace.{Trace, trace_of}
-use Rattle.box_answers.specs.NumberSet.{SetOf, RangeOf, NumbersOf, LocalesOf, IsIn, locale_numbers}
+use Rattle.box_answers.specs.NumberSet.{SetOf, RangeOf, NumbersOf, LocalesOf, IsIn, listed, locale_numbers}
 use Rattle.box_answers.specs.Members.{set_at, IsOfKind, IsBox}
 use Rattle.config_box.specs.Tests.{is_range}
 use Rattle.cert_tree.specs.Certificate as seen
@@ -25,8 +28,8 @@ use Rattle.least_tree.specs.Needed.{AgreeBut}
 use Rattle.least_tree.specs.Runs.{trace_with}
 use Rattle.least_tree.proofs.SameTraces.{bool_cases}
 use Rattle.least_tree.proofs.Different.{Among, among}
-use Rattle.least_tree.proofs.ByNumbers.{GoesByNumbers, goal-by-numbers}
-use Rattle.cert_maker.specs.Pair.{numbers_of, keeps}
+use Rattle.least_tree.proofs.ByNumbers.{goal-by-numbers}
+use Rattle.cert_maker.specs.Pair.{numbers_of, keeps, keeps_locale}
 use Rattle.cert_maker.proofs.Cut.{on-line, ListsKept}
 
 -- a changed device tells whether the trace is kept
@@ -120,20 +123,49 @@ only-locales : (c : coord.Coord) (numbers : List ℕ) → IsOfKind c (LocalesOf 
 only-locales coords.Locale numbers kind = refl
 only-locales c numbers kind = absurd kind
 
+at-locale : (sets : List SetOf) (c : coord.Coord) (numbers : List ℕ) → IsOfKind c (set_at sets c) → set_at sets c ≡ LocalesOf numbers → c ≡ coords.Locale
+at-locale sets c numbers kind e = only-locales c numbers (subst (λ (s : SetOf). IsOfKind c s) e kind)
+
 pub lists-locales : (trace : List ℕ → Trace) (sets : List SetOf) (x : List ℕ) (c : coord.Coord) (locales kept : List Locale) → IsOfKind c (set_at sets c) → set_at sets c ≡ LocalesOf (locale_numbers locales)
-    → kept ≡ filter (λ locale. keeps trace x c (locale_number locale)) locales → ListsKept trace sets x c (seen.LocalesOf kept)
+    → kept ≡ filter (keeps_locale trace x) locales → ListsKept trace sets x c (seen.LocalesOf kept)
 lists-locales trace sets x c locales kept kind e is n in_set =
     let a = among n (locale_numbers locales) (subst (λ (s : SetOf). IsIn s n) e in_set) in
-    let at : c ≡ coords.Locale = only-locales c (locale_numbers locales) (subst (λ (s : SetOf). IsOfKind c s) e kind) in
+    let at = at-locale sets c (locale_numbers locales) kind e in
     ap (λ k. is_listed k (seen.LocalesOf kept) n) at ∙ locales-listed kept n ∙ ap (λ ls. list_any (λ m. m == n) (locale_numbers ls)) is
-    ∙ ap (list_any (λ m. m == n)) (map-filter (keeps trace x c) locales) ∙ listed-filter (keeps trace x c) n (locale_numbers locales) a
+    ∙ ap (list_any (λ m. m == n)) (map-filter (keeps trace x coords.Locale) locales) ∙ listed-filter (keeps trace x coords.Locale) n (locale_numbers locales) a
+    ∙ ap (λ k. keeps trace x k n) (sym at)
 
-pub can-locale : (sets : List SetOf) (c : coord.Coord) (locales : List Locale) → IsBox sets → LocalesOf (locale_numbers locales) ≡ set_at sets c → (k : ℕ) (locale : Locale) → k < length locales
-    → CanHave c (locale_number (get_or locales k locale))
-can-locale sets c locales b e k locale q =
+-- ---- they can be written
+
+pub can-locales : (sets : List SetOf) (c : coord.Coord) (locales : List Locale) → IsBox sets → LocalesOf (locale_numbers locales) ≡ set_at sets c
+    → All (λ locale. IsGiven (locale_of_number (locale_number locale))) locales
+can-locales sets c locales b e k locale q =
     let n = locale_number (get_or locales k locale) in
     let count = length-map locales locale_number in
-    b.can c n (subst (λ (s : SetOf). IsIn s n) e (k, omega (arith, count, q), get_or-map locale_number locales k locale n q))
+    let can = b.can c n (subst (λ (s : SetOf). IsIn s n) e (k, omega (arith, count, q), get_or-map locale_number locales k locale n q)) in
+    subst (λ (k : coord.Coord). CanHave k n) (at-locale sets c (locale_numbers locales) (b.kinds c) (sym e)) can
+
+pub of-some-text : (locale : Locale) → TwoBytes locale.language → TwoBytes locale.region → IsGiven (locale_of_number (locale_number locale)) → IsOfSomeText locale
+of-some-text locale language region is =
+    (locale_text locale, given locale language region (subst (λ (l : Locale). IsGiven l) (numbered locale language region) is))
+
+pub numbers-fit : (sets : List SetOf) (c : coord.Coord) (f : ℕ → Bool) (numbers kept : List ℕ) → IsBox sets → NumbersOf numbers ≡ set_at sets c → kept ≡ filter f numbers → seen.ChoiceFits c (seen.NumbersOf kept)
+numbers-fit sets c f numbers kept b e is =
+    let few : length numbers ≤ 512 = subst (λ (s : SetOf). length (listed s) ≤ 512) (sym e) (b.few c) in
+    let count : length kept ≤ length numbers = omega (arith, ap length is, length-filter f numbers, count_by-le-length f numbers) in
+    at c (no-numbers c (set_at sets c) numbers (sym e) (b.kinds c)) (omega (arith, few, count))
+  where
+    at : (k : coord.Coord) → k ≢ coords.Locale → length kept ≤ 512 → seen.ChoiceFits k (seen.NumbersOf kept)
+    at coords.Locale other h = absurd (other refl)
+    at k other h = h
+
+pub locales-fit : (sets : List SetOf) (c : coord.Coord) (f : Locale → Bool) (locales kept : List Locale) → IsBox sets → LocalesOf (locale_numbers locales) ≡ set_at sets c → kept ≡ filter f locales → All IsOfSomeText kept
+    → seen.ChoiceFits c (seen.LocalesOf kept)
+locales-fit sets c f locales kept b e is texts =
+    let few : length (locale_numbers locales) ≤ 512 = subst (λ (s : SetOf). length (listed s) ≤ 512) (sym e) (b.few c) in
+    let of_numbers = length-map locales locale_number in
+    let count : length kept ≤ length locales = omega (arith, ap length is, length-filter f locales, count_by-le-length f locales) in
+    subst (λ (k : coord.Coord). seen.ChoiceFits k (seen.LocalesOf kept)) (sym (at-locale sets c (locale_numbers locales) (b.kinds c) (sym e))) (omega (arith, few, of_numbers, count), texts)
 
 -- ---- the tests are of the right kind
 

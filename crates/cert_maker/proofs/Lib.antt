@@ -1,3 +1,4 @@
+pub mod Layers
 pub mod Parts
 pub mod Steps
 pub mod Loop

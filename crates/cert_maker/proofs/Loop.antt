@@ -1,10 +1,11 @@
 -- A tree that grows until no path is open, or it is too large.
-use Rattle.std.proofs.Common.{◌≡◌, ℕ, ◌+◌, ◌<◌, ◌≤◌, arith, List, [], ◌∷◌, ◌++◌, length, length-append, reverse, sym, ◌∙◌, ap, refl, subst}
+use Rattle.std.proofs.Common.{◌≡◌, ℕ, ◌+◌, ◌<◌, arith, List, [], ◌∷◌, ◌++◌, length, length-append, reverse, sym, ap, refl, subst}
+use Rattle.std.specs.List.{All}
 use Rattle.std.proofs.lemmas.List.{length-reverse}
 use Rattle.reference_resolver.specs.Trace.{Trace}
 use Rattle.box_answers.specs.NumberSet.{SetOf}
 use Rattle.box_answers.specs.Members.{IsMember, IsBox}
-use Rattle.cert_tree.specs.Certificate.{NodeOf}
+use Rattle.cert_tree.specs.Certificate.{NodeOf, NodeFits}
 use Rattle.cert_checker.specs.Paths.{Path, after, root}
 use Rattle.cert_checker.specs.Fails.{NoRuleFails}
 use Rattle.cert_checker.specs.OpenBoxes.{Stand}
@@ -12,8 +13,8 @@ use Rattle.cert_checker.proofs.BoxSteps.{whole, popped}
 use Rattle.least_tree.specs.Walk.{Walk}
 use Rattle.least_tree.specs.Needed.{IsNeeded, IsNeededAt}
 use Rattle.least_tree.proofs.Passing.{Passes, walk-passes}
-use Rattle.cert_maker.specs.Growth.{IsGood, AddsNode, Grows}
-use Rattle.cert_maker.proofs.Parts.{Part, part-more, part-walk, walk-map, part-map, leaves, length-leaves, part-leaves, stand-length}
+use Rattle.cert_maker.specs.Growth.{IsGood, Grows}
+use Rattle.cert_maker.proofs.Parts.{Part, part-more, part-walk, walk-map, walk-all, part-map, leaves, length-leaves, part-leaves, stand-length}
 
 -- the nodes so far are the first of a tree, and the open paths have these boxes
 pub record Going (trace : List ℕ → Trace) (sets : List SetOf) (nodes : List NodeOf) (boxes : List (List SetOf)) : Type 0 where
@@ -62,6 +63,9 @@ done-passes trace sets nodes boxes e going =
 pub done-needed : (trace : List ℕ → Trace) (sets : List SetOf) (nodes : List NodeOf) (boxes : List (List SetOf)) → boxes ≡ [] → Going trace sets nodes (reverse boxes) → IsNeeded trace sets nodes
 done-needed trace sets nodes boxes e going =
     walk-map (IsGood trace sets) (IsNeededAt trace sets) (λ node path g. g.needed) nodes root (done trace sets nodes boxes e going)
+
+pub done-fits : (trace : List ℕ → Trace) (sets : List SetOf) (nodes : List NodeOf) (boxes : List (List SetOf)) → boxes ≡ [] → Going trace sets nodes (reverse boxes) → All NodeFits nodes
+done-fits trace sets nodes boxes e going = walk-all (IsGood trace sets) NodeFits (λ node path g. g.fits) nodes root (done trace sets nodes boxes e going)
 
 -- with a bare leaf at each open path it is a tree of needed tests
 pub too-large : (trace : List ℕ → Trace) (sets : List SetOf) (nodes : List NodeOf) (boxes : List (List SetOf)) (most : ℕ) → Going trace sets nodes (reverse boxes) → most < length nodes + length boxes

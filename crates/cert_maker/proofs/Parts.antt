@@ -1,6 +1,7 @@
 -- The first nodes of a tree, and how it is made whole.
-use Rattle.std.proofs.Common.{◌≡◌, ℕ, zero, suc, ◌+◌, arith, List, [], ◌∷◌, ◌++◌, length, sym, refl, subst}
-use Rattle.res_value.specs.declared.res_id.ResId.{ResId}
+use Rattle.std.proofs.Common.{◌≡◌, ℕ, zero, suc, arith, List, [], ◌∷◌, ◌++◌, length, sym, refl, subst}
+use Rattle.std.specs.List.{All}
+use Rattle.std.proofs.lemmas.List.Elements.{All-nil, All-cons}
 use Rattle.box_answers.specs.NumberSet.{SetOf}
 use Rattle.cert_tree.specs.Certificate.{NodeOf, BagAt}
 use Rattle.cert_checker.specs.Paths.{Path, after}
@@ -35,8 +36,13 @@ part-map holds says f [] paths left h = h
 part-map holds says f (node ∷ nodes) [] left h = absurd h
 part-map holds says f (node ∷ nodes) (path ∷ paths) left h = (f node path h.0, part-map holds says f nodes (after node path paths) left h.1)
 
--- ---- bare leaves
+-- what holds of each node on its own
+pub walk-all : (holds : NodeOf → Path → Type 0) (says : NodeOf → Type 0) → ((node : NodeOf) (path : Path) → holds node path → says node) → (nodes : List NodeOf) (paths : List Path) → Walk holds nodes paths → All says nodes
+walk-all holds says f [] paths h = All-nil says
+walk-all holds says f (node ∷ nodes) [] h = absurd h
+walk-all holds says f (node ∷ nodes) (path ∷ paths) h = All-cons says node nodes (f node path h.0) (walk-all holds says f nodes (after node path paths) h.1)
 
+-- ---- bare leaves
 
 pub leaves : ℕ → List NodeOf
 leaves zero = []
@@ -46,7 +52,6 @@ pub length-leaves : (n : ℕ) → length (leaves n) ≡ n
 unfolding leaves
 length-leaves zero = refl
 length-leaves (suc n) = let h = length-leaves n in omega (arith, h)
-
 
 walk-leaves : (holds : NodeOf → Path → Type 0) → ((path : Path) → holds (BagAt (record { 0 = 0 })) path) → (left : List Path) → Walk holds (leaves (length left)) left
 unfolding leaves

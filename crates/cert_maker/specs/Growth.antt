@@ -1,5 +1,5 @@
 -- How a tree grows: node by node, with the boxes of its open paths. (Cited by contracts of this crate alone.)
-use Rattle.std.specs.Prelude.{◌≡◌, ℕ, ◌<◌, ◌≤◌, Bool, true, false, List, [], ◌∷◌, ◌++◌, map, reverse, length}
+use Rattle.std.specs.Prelude.{◌≡◌, ℕ, ◌<◌, ◌≤◌, false, List, [], ◌∷◌, ◌++◌, map, reverse, length}
 use Rattle.std.specs.List.{All}
 use Rattle.config_record.specs.DeviceSeen.{device_numbers}
 use Rattle.reference_resolver.specs.declared.end.End.{End}

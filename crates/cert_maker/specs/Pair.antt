@@ -3,7 +3,9 @@ use Rattle.std.specs.Prelude.{◌≡◌, ◌≢◌, ◌⊎◌, ℕ, Bool, List, 
 use Rattle.std.specs.Option.{option_map}
 use Rattle.config_record.specs.declared.coord.Coord.{Coord}
 use Rattle.config_record.specs.Coord.{all_coords}
-use Rattle.config_record.specs.ComparedNumber.{device_number}
+use Rattle.config_record.specs.declared.coord.Coord.TheVariants.{Locale as at_locale}
+use Rattle.config_record.specs.declared.locale.Locale.{Locale}
+use Rattle.config_record.specs.ComparedNumber.{device_number, locale_number}
 use Rattle.box_answers.specs.NumberSet.{SetOf}
 use Rattle.box_trace.specs.CommonTrace.{AreSideBySide}
 use Rattle.box_trace.specs.Division.{Divides}
@@ -29,6 +31,9 @@ numbers_of d = map (device_number d) all_coords
 -- the device keeps its trace with this number
 abbrev pub keeps : (List ℕ → Trace) → List ℕ → Coord → ℕ → Bool
 keeps trace x c n = same_trace (trace x) (trace_with trace (numbers_of x) c n)
+
+abbrev pub keeps_locale : (List ℕ → Trace) → List ℕ → Locale → Bool
+keeps_locale trace x locale = keeps trace x at_locale (locale_number locale)
 
 abbrev pub IsOneOf : List ℕ → List ℕ → List ℕ → Type 0
 IsOneOf x y d = (d ≡ x) ⊎ (d ≡ y)

@@ -5,7 +5,7 @@ ghost use Rattle.config_record.specs.DeviceSeen.{device_numbers};
 ghost use Rattle.reference_resolver.specs.Ends.{references_followed};
 ghost use Rattle.reference_resolver.specs.Trace.{Trace, trace_of};
 ghost use Rattle.box_answers.specs.Members.{IsMember};
-ghost use Rattle.cert_tree.specs.Certificate.{test_of, node_of};
+ghost use Rattle.cert_tree.specs.Certificate.{TestAt, NodeFits, test_of, node_of};
 ghost use Rattle.cert_checker.specs.Paths.{leaf_end};
 ghost use Rattle.cert_checker.specs.Fails.{is_value};
 ghost use Rattle.least_tree.specs.Needed.{IsNeededTest};
@@ -16,7 +16,7 @@ use box_trace::{CommonTrace, common_trace};
 use cert_tree::{Node, OutOfMemory};
 use config_box::{ConfigBox, Split, Test};
 use config_record::Device;
-use overlay_map::Stack;
+use overlay_map::{MOST_LAYERS, Stack};
 use reference_resolver::End;
 use res_value::ResId;
 use std::alloc::Global;
@@ -38,6 +38,8 @@ pub(crate) fn add_node(
     match common_trace(stack, id, members) {
         CommonTrace::One(end) => match leaf_of(end) {
             Some(leaf) => {
+                let layers = stack.len();
+                prove!(layers <= MOST_LAYERS);
                 nodes.push(leaf)?;
                 Ok(None)
             }
@@ -59,7 +61,8 @@ fn add_test(
     nodes: &mut Vec<Node>,
     open_boxes: &mut Vec<ConfigBox>,
 ) -> Result<(), OutOfMemory>
-    requires { CanBeAsked members.now (test_of test) }
+    requires asked { CanBeAsked members.now (test_of test) }
+    requires fits { NodeFits (TestAt (test_of test)) }
     ensures grows { IfOk result (λ _. (trace : List ℕ → Trace) → IsNeededTest trace members.now (IsMember members.now) (test_of test) → Grows trace members.now (map node_of nodes.old.items) (map node_of nodes.new.items) open_boxes.old.items open_boxes.new.items) }
     ensures one_more { IfOk result (λ _. length nodes.new.items ≡ length nodes.old.items + 1) }
 {

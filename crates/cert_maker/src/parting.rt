@@ -1,16 +1,16 @@
 //! The test that parts two members of a box.
 
-ghost use Rattle.std.specs.Prelude.{◌≡◌, ℕ, ◌<◌, length, filter, slice_index, slice_index_or, IfOk};
-ghost use Rattle.config_record.specs.declared.locale.Locale.{Locale as AnyLocale};
-ghost use Rattle.config_record.specs.ComparedNumber.{locale_number};
+ghost use Rattle.std.specs.Prelude.{◌≡◌, ℕ, ◌<◌, All, length, filter, slice_index, IfOk};
+ghost use Rattle.config_record.specs.Locale.{IsGiven, IsOfSomeText};
+ghost use Rattle.config_record.specs.ComparedNumber.{locale_number, locale_of_number};
 ghost use Rattle.config_record.specs.Device.{CanHave};
 ghost use Rattle.config_record.specs.DeviceSeen.{device_numbers};
 ghost use Rattle.reference_resolver.specs.Ends.{references_followed};
 ghost use Rattle.reference_resolver.specs.Trace.{trace_of};
 ghost use Rattle.box_answers.specs.Members.{IsMember};
-ghost use Rattle.cert_tree.specs.Certificate.{test_of};
+ghost use Rattle.cert_tree.specs.Certificate.{TestAt, NodeFits, test_of};
 ghost use Rattle.least_tree.specs.Needed.{IsNeededTest};
-ghost use Rattle.cert_maker.specs.Pair.{ArePair, keeps};
+ghost use Rattle.cert_maker.specs.Pair.{ArePair, keeps, keeps_locale};
 
 use crate::alike::have_one_trace;
 use cert_tree::OutOfMemory;
@@ -32,7 +32,8 @@ pub(crate) fn parting_test(
     at: Coord,
 ) -> Result<Test, OutOfMemory>
     requires { ArePair (trace_of stack.now references_followed id.0) members.now (device_numbers first.now) (device_numbers second.now) at }
-    ensures { IfOk result (λ test. IsNeededTest (trace_of stack.now references_followed id.0) members.now (IsMember members.now) (test_of test)) }
+    ensures needed { IfOk result (λ test. IsNeededTest (trace_of stack.now references_followed id.0) members.now (IsMember members.now) (test_of test)) }
+    ensures fits { IfOk result (λ test. NodeFits (TestAt (test_of test))) }
 {
     match members.values(at) {
         Values::Range(_, _) => {
@@ -44,7 +45,7 @@ pub(crate) fn parting_test(
             Ok(Test::Among(at, Choice::Numbers(kept)))
         }
         Values::Locales(locales) => {
-            let kept = kept_locales(alloc, stack, id, first, at, locales)?;
+            let kept = kept_locales(alloc, stack, id, first, locales)?;
             Ok(Test::Among(at, Choice::Locales(kept)))
         }
     }
@@ -77,15 +78,15 @@ fn kept_locales(
     stack: &Stack<'_>,
     id: ResId,
     device: &Device,
-    at: Coord,
     locales: &[Locale],
 ) -> Result<Vec<Locale>, OutOfMemory>
-    requires { (k : ℕ) (locale : AnyLocale) → k < length locales.now → CanHave at (locale_number (slice_index_or locales.now k locale)) }
-    ensures { IfOk result (λ kept. kept.items ≡ filter (λ locale. keeps (trace_of stack.now references_followed id.0) (device_numbers device.now) at (locale_number locale)) locales.now) }
+    requires { All (λ locale. IsGiven (locale_of_number (locale_number locale))) locales.now }
+    ensures kept { IfOk result (λ kept. kept.items ≡ filter (keeps_locale (trace_of stack.now references_followed id.0) (device_numbers device.now)) locales.now) }
+    ensures of_text { IfOk result (λ kept. All IsOfSomeText kept.items) }
 {
     let mut kept = Vec::new(alloc);
     for locale in locales {
-        if keeps_trace_in(stack, id, device, at, *locale) {
+        if keeps_trace_in(stack, id, device, *locale) {
             kept.push(*locale)?;
         }
     }
@@ -101,15 +102,10 @@ fn keeps_trace(stack: &Stack<'_>, id: ResId, device: &Device, at: Coord, number:
 }
 
 /// The same with another locale.
-fn keeps_trace_in(
-    stack: &Stack<'_>,
-    id: ResId,
-    device: &Device,
-    at: Coord,
-    locale: Locale,
-) -> bool
-    requires { CanHave at (locale_number locale) }
-    ensures { result ≡ keeps (trace_of stack.now references_followed id.0) (device_numbers device.now) at (locale_number locale) }
+fn keeps_trace_in(stack: &Stack<'_>, id: ResId, device: &Device, locale: Locale) -> bool
+    requires { IsGiven (locale_of_number (locale_number locale)) }
+    ensures value { result ≡ keeps_locale (trace_of stack.now references_followed id.0) (device_numbers device.now) locale }
+    ensures of_text { IsOfSomeText locale }
 {
-    keeps_trace(stack, id, device, at, locale.number())
+    keeps_trace(stack, id, device, Coord::Locale, locale.number())
 }

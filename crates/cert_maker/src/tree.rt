@@ -1,8 +1,18 @@
 //! The tree of one goal.
 
-use cert_tree::Node;
+ghost use Rattle.std.specs.Prelude.{IfOk};
+ghost use Rattle.reference_resolver.specs.Ends.{references_followed};
+ghost use Rattle.reference_resolver.specs.Trace.{trace_of};
+ghost use Rattle.cert_maker.specs.Growth.{IsGrown};
+
+use crate::growth::add_node;
+use cert_tree::{Node, OutOfMemory};
+use config_box::ConfigBox;
 use config_record::Device;
+use overlay_map::Stack;
 use reference_resolver::End;
+use res_value::ResId;
+use std::alloc::Global;
 
 /// How a tree came out.
 #[derive(Debug, Drop)]
@@ -14,18 +24,6 @@ pub(crate) enum Grown {
     /// The tree has more nodes than allowed.
     TooLarge,
 }
-
-ghost use Rattle.std.specs.Prelude.{IfOk};
-ghost use Rattle.reference_resolver.specs.Ends.{references_followed};
-ghost use Rattle.reference_resolver.specs.Trace.{trace_of};
-ghost use Rattle.cert_maker.specs.Growth.{IsGrown};
-
-use crate::growth::add_node;
-use cert_tree::OutOfMemory;
-use config_box::ConfigBox;
-use overlay_map::Stack;
-use res_value::ResId;
-use std::alloc::Global;
 
 /// The tree of an id for a box, of at most so many nodes. The boxes of the paths that are open lie in a list, the
 /// next one last; at least one node comes for each.

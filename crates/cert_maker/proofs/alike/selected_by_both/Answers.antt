@@ -1,4 +1,4 @@
-use Rattle.std.proofs.Common.{◌≡◌, Some, true, false, sym, ◌∙◌}
+use Rattle.std.proofs.Common.{sym, ◌∙◌}
 use Rattle.std.specs.Option.{option_map}
 use Rattle.overlay_map.specs.Candidates.{cand_of}
 use Rattle.reference_resolver.specs.Selection.{selected, step_of}

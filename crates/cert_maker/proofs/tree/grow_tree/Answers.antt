@@ -1,4 +1,4 @@
-use Rattle.std.proofs.Common.{◌≡◌, ℕ, List, [], ◌∷◌, ◌++◌, length, map, arith, sym, ◌∙◌, ap, subst}
+use Rattle.std.proofs.Common.{◌≡◌, ℕ, List, [], ◌∷◌, ◌++◌, length, map, arith, ◌∙◌, ap, subst}
 use Rattle.std.proofs.lemmas.List.{length-map}
 use Rattle.std.proofs.lemmas.Grind.{common_steps}
 use Rattle.config_record.specs.DeviceSeen.{device_numbers}
@@ -7,8 +7,8 @@ use Rattle.reference_resolver.specs.Trace.{Trace, trace_of}
 use Rattle.box_answers.specs.NumberSet.{SetOf}
 use Rattle.box_answers.specs.Members.{IsBox}
 use Rattle.cert_tree.specs.Certificate.{node_of}
-use Rattle.cert_maker.proofs.Steps.{when-none}
-use Rattle.cert_maker.proofs.Loop.{started, goes-on, done-passes, done-needed, too-large, member-of-whole}
+use Rattle.cert_maker.proofs.Steps.{when-none, when-some}
+use Rattle.cert_maker.proofs.Loop.{started, goes-on, done-passes, done-needed, done-fits, too-large, member-of-whole}
 use Rattle.cert_maker.proofs.tree.grow_tree.Goals as goal
 
 pub boxes-init : goal.boxes-init
@@ -24,7 +24,7 @@ boxes-init c =
 pub returns-in-Some-2 : goal.returns-in-Some-2
 returns-in-Some-2 c =
     let trace : List ℕ → Trace = trace_of c.args.stack.now references_followed c.args.id.0 in
-    let found = c.in-Some-2.ensures.nowhere in
+    let found = when-some _ (c.in-Some-2.device, c.in-Some-2.end) _ c.in-Some-2.is c.in_ok-device.ensures.nowhere in
     record {
       member = member-of-whole trace c.args.members.now c.in-Some.part (map node_of c.boxes.nodes.items) c.boxes.open_boxes.items c.pop.new.self.items (device_numbers c.in-Some-2.device) c.in-Some.ensures.items c.boxes.invariant.going found.member;
       ends = found.ends;
@@ -55,4 +55,5 @@ returns c =
     let e : c.boxes.open_boxes.items ≡ [] = grind (arith, common_steps, c.in_default.ensures) in
     (done-passes trace c.args.members.now (map node_of c.boxes.nodes.items) c.boxes.open_boxes.items e c.boxes.invariant.going,
       done-needed trace c.args.members.now (map node_of c.boxes.nodes.items) c.boxes.open_boxes.items e c.boxes.invariant.going,
-      c.boxes.invariant.within)
+      c.boxes.invariant.within,
+      done-fits trace c.args.members.now (map node_of c.boxes.nodes.items) c.boxes.open_boxes.items e c.boxes.invariant.going)

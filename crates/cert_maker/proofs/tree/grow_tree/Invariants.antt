@@ -1,4 +1,4 @@
-use Rattle.std.proofs.Common.{ℕ, ◌-◌, ◌≤◌, length, map, reverse}
+use Rattle.std.proofs.Common.{◌-◌, ◌≤◌, length, map, reverse}
 use Rattle.reference_resolver.specs.Ends.{references_followed}
 use Rattle.reference_resolver.specs.Trace.{trace_of}
 use Rattle.cert_tree.specs.Certificate.{node_of}
