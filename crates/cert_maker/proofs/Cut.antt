@@ -79,9 +79,9 @@ pub on-line : (trace : List ℕ → Trace) (c : coord.Coord) (x z : List ℕ) �
 on-line trace c x z by others =
     by z (set (numbers_of x) (place_of c) (device_number z c))
     (λ k. by_coord k c
-        (λ e. let here : device_number (set (numbers_of x) (place_of c) (device_number z c)) c ≡ device_number z c = number_at-set_same (numbers_of x) c (device_number z c) (numbers-count x) in
-            ap (device_number z) e ∙ sym here ∙ ap (device_number (set (numbers_of x) (place_of c) (device_number z c))) (sym e))
-        (λ other. others k other ∙ sym (number-kept x k) ∙ sym (number_at-set_other (numbers_of x) c k (device_number z c) other)))
+    (λ e. let here : device_number (set (numbers_of x) (place_of c) (device_number z c)) c ≡ device_number z c = number_at-set_same (numbers_of x) c (device_number z c) (numbers-count x) in
+    ap (device_number z) e ∙ sym here ∙ ap (device_number (set (numbers_of x) (place_of c) (device_number z c))) (sym e))
+    (λ other. others k other ∙ sym (number-kept x k) ∙ sym (number_at-set_other (numbers_of x) c k (device_number z c) other)))
 
 keeps-same : (trace : List ℕ → Trace) (c : coord.Coord) (x z : List ℕ) → GoesByNumbers trace → AgreeBut c z x → keeps trace x c (device_number z c) ≡ true → trace x ≡ trace z
 keeps-same trace c x z by others is =
@@ -108,8 +108,9 @@ cut-choice trace sets x y c choice by pair right lists =
     let of_member : (z : List ℕ) → IsMember sets z → answers (AmongOf c choice) z ≡ keeps trace x c (device_number z c) = λ z m. lists (device_number z c) (m c) in
     let x_is : answers (AmongOf c choice) x ≡ true = of_member x p.x_member ∙ same-keeps trace c x x by (λ k other. refl) refl in
     let y_is : answers (AmongOf c choice) y ≡ false = elim (bool_cases (keeps trace x c (device_number y c))) [
-          inl is ↦ absurd (pair.differ (keeps-same trace c x y by (turned c x y p.others) is))
-        | inr isnt ↦ of_member y p.y_member ∙ isnt ] in
+      | inl is ↦ absurd (pair.differ (keeps-same trace c x y by (turned c x y p.others) is))
+      | inr isnt ↦ of_member y p.y_member ∙ isnt
+    ] in
     record {
       passes = test-passes sets (IsMember sets) (AmongOf c choice) x y right p.x_member p.y_member x_is y_is;
       x = x;

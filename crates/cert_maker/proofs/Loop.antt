@@ -1,5 +1,5 @@
 -- A tree that grows until no path is open, or it is too large.
-use Rattle.std.proofs.Common.{◌≡◌, ℕ, ◌+◌, ◌<◌, arith, List, [], ◌∷◌, ◌++◌, length, length-append, reverse, sym, ap, refl, subst}
+use Rattle.std.proofs.Common.{◌≡◌, ℕ, ◌+◌, ◌<◌, arith, List, [], ◌∷◌, ◌++◌, length, length-append, reverse, sym, ◌∙◌, ap, refl, subst}
 use Rattle.std.specs.List.{All}
 use Rattle.std.proofs.lemmas.List.{length-reverse}
 use Rattle.reference_resolver.specs.Trace.{Trace}
@@ -21,6 +21,9 @@ pub record Going (trace : List ℕ → Trace) (sets : List SetOf) (nodes : List 
   pub paths : List Path
   pub part : Part (IsGood trace sets) nodes root paths
   pub stand : Stand sets boxes paths
+
+pub only-box : (before after : List (List SetOf)) (part sets : List SetOf) → before ≡ [] → after ≡ before ++ part ∷ [] → part ≡ sets → after ≡ sets ∷ []
+only-box before after part sets none pushed same = pushed ∙ ap (λ (boxes : List (List SetOf)). boxes ++ part ∷ []) none ∙ ap (λ (s : List SetOf). s ∷ []) same
 
 pub started : (trace : List ℕ → Trace) (sets : List SetOf) (nodes : List NodeOf) (boxes : List (List SetOf)) → IsBox sets → nodes ≡ [] → boxes ≡ sets ∷ [] → Going trace sets nodes (reverse boxes)
 started trace sets nodes boxes b e f =

@@ -40,7 +40,14 @@ pub(crate) fn grow_tree(
     let mut open_boxes = Vec::new(alloc);
     open_boxes.push(members.shared(alloc)?)?;
     'boxes: while let Some(part) = open_boxes.pop() {
-        if let Some((device, end)) = add_node(alloc, stack, id, &part, &mut nodes, &mut open_boxes)? {
+        if let Some((device, end)) = add_node(
+            alloc,
+            stack,
+            id,
+            &part,
+            &mut nodes,
+            &mut open_boxes,
+        )? {
             return Ok(Grown::Nowhere(device, end));
         }
         if nodes.len() + open_boxes.len() > most {
