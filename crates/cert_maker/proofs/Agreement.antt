@@ -9,14 +9,14 @@ use Rattle.reference_resolver.specs.Trace.{Trace, trace_of, scan_look_up}
 use Rattle.box_trace.specs.Division.{has_matched, DividesAt, Divides}
 use Rattle.box_trace.specs.CommonTrace.{SharesTrace}
 use Rattle.box_trace.proofs.Divisions.{traces_differ}
-use Rattle.box_trace.proofs.Scans.{IsScanned, scan_divided}
+use Rattle.box_trace.proofs.Scans.{IsScanned, scan_more, scan_divided}
 use Rattle.box_trace.proofs.Following.{IsFollowed, follow_divided}
 use Rattle.least_tree.specs.SameTrace.{same_trace}
 use Rattle.least_tree.proofs.SameTraces.{trace-cases}
 use Rattle.cert_maker.specs.Pair.{IsOneOf}
 
 -- both do the same
-pub both-do : (step_at : List ℕ → Step) (step : Step) (x y : List ℕ) → step ≡ step_at x → step_at y ≡ step → (d : List ℕ) → IsOneOf x y d → step_at d ≡ step
+both-do : (step_at : List ℕ → Step) (step : Step) (x y : List ℕ) → step ≡ step_at x → step_at y ≡ step → (d : List ℕ) → IsOneOf x y d → step_at d ≡ step
 both-do step_at step x y e f d (inl is) = ap step_at is ∙ sym e
 both-do step_at step x y e f d (inr is) = ap step_at is ∙ f
 
@@ -48,6 +48,12 @@ divided-by step_at x y KeptOut NoMatch e f ne = inl (inl (matched-by (step_at x)
 divided-by step_at x y TookOver NoMatch e f ne = inl (inl (matched-by (step_at x) TookOver e refl, f))
 divided-by step_at x y TookOver KeptOut e f ne = inl (inr (all-matched step_at x y (matched-by (step_at x) TookOver e refl) (matched-by (step_at y) KeptOut f refl), e, f))
 divided-by step_at x y KeptOut TookOver e f ne = inr (inr (all-matched step_at x y (matched-by (step_at x) KeptOut e refl) (matched-by (step_at y) TookOver f refl), f, e))
+
+-- one candidate more, which does the same at both
+pub scan-alike : (x y : List ℕ) (all left : List CandOf) (best next : Option CandOf) (candidate : CandOf) (step other : Step) → IsScanned (IsOneOf x y) all best (candidate ∷ left) → step ≡ step_of best candidate x
+    → other ≡ step_of best candidate y → step ≡ other → next ≡ best_after step best candidate → IsScanned (IsOneOf x y) all next left
+scan-alike x y all left best next candidate step other scanned e f same is =
+    scan_more (IsOneOf x y) all left best next candidate step scanned (both-do (step_of best candidate) step x y e (sym f ∙ sym same)) is
 
 -- a candidate that does different things divides them
 pub scan-apart : (x y : List ℕ) (all left : List CandOf) (best : Option CandOf) (candidate : CandOf) → IsScanned (IsOneOf x y) all best (candidate ∷ left) → step_of best candidate x ≢ step_of best candidate y

@@ -18,21 +18,21 @@ use Rattle.overlay_map.specs.Layer.{LayerOf}
 use Rattle.reference_resolver.specs.Ends.{references_followed}
 use Rattle.reference_resolver.specs.Trace.{Trace, trace_of}
 use Rattle.box_answers.specs.NumberSet.{SetOf, RangeOf, NumbersOf, LocalesOf, IsIn, listed, locale_numbers}
-use Rattle.box_answers.specs.Members.{set_at, IsOfKind, IsBox}
+use Rattle.box_answers.specs.Members.{set_at, IsMember, IsOfKind, IsBox}
 use Rattle.config_box.specs.Tests.{is_range}
 use Rattle.cert_tree.specs.Certificate as seen
 use Rattle.cert_tree.specs.declared.goal.Goal.TheVariants.{Id}
 use Rattle.cert_checker.specs.Tests.{is_listed, has_wrong_kind}
 use Rattle.least_tree.specs.SameTrace.{same_trace}
-use Rattle.least_tree.specs.Needed.{AgreeBut}
+use Rattle.least_tree.specs.Needed.{AgreeBut, IsNeededTest}
 use Rattle.least_tree.specs.Runs.{trace_with}
 use Rattle.least_tree.proofs.SameTraces.{bool_cases}
 use Rattle.least_tree.proofs.Different.{Among, among}
-use Rattle.least_tree.proofs.ByNumbers.{goal-by-numbers}
-use Rattle.cert_maker.specs.Pair.{numbers_of, keeps, keeps_locale}
-use Rattle.cert_maker.proofs.Cut.{on-line, ListsKept}
+use Rattle.least_tree.proofs.ByNumbers.{GoesByNumbers, goal-by-numbers}
+use Rattle.cert_maker.specs.Pair.{ArePair, numbers_of, keeps, keeps_locale}
+use Rattle.cert_maker.proofs.Cut.{on-line, ListsKept, cut-choice}
 
--- a changed device tells whether the trace is kept
+-- a changed device has the trace of x just where x keeps it
 pub changed-keeps : (stack : List LayerOf) (id : ResId) (x z : List ℕ) (c : coord.Coord) (n : ℕ) → device_number z c ≡ n → AgreeBut c z x
     → same_trace (trace_of stack references_followed id.0 x) (trace_of stack references_followed id.0 z) ≡ keeps (trace_of stack references_followed id.0) x c n
 changed-keeps stack id x z c n here others =
@@ -113,7 +113,7 @@ locales-listed : (kept : List Locale) (n : ℕ) → is_listed coords.Locale (see
 unfolding is_listed
 locales-listed kept n = refl
 
-pub lists-numbers : (trace : List ℕ → Trace) (sets : List SetOf) (x : List ℕ) (c : coord.Coord) (numbers kept : List ℕ) → IsOfKind c (set_at sets c) → set_at sets c ≡ NumbersOf numbers → kept ≡ filter (keeps trace x c) numbers
+lists-numbers : (trace : List ℕ → Trace) (sets : List SetOf) (x : List ℕ) (c : coord.Coord) (numbers kept : List ℕ) → IsOfKind c (set_at sets c) → set_at sets c ≡ NumbersOf numbers → kept ≡ filter (keeps trace x c) numbers
     → ListsKept trace sets x c (seen.NumbersOf kept)
 lists-numbers trace sets x c numbers kept kind e is n in_set =
     let a = among n numbers (subst (λ (s : SetOf). IsIn s n) e in_set) in
@@ -126,7 +126,7 @@ only-locales c numbers kind = absurd kind
 at-locale : (sets : List SetOf) (c : coord.Coord) (numbers : List ℕ) → IsOfKind c (set_at sets c) → set_at sets c ≡ LocalesOf numbers → c ≡ coords.Locale
 at-locale sets c numbers kind e = only-locales c numbers (subst (λ (s : SetOf). IsOfKind c s) e kind)
 
-pub lists-locales : (trace : List ℕ → Trace) (sets : List SetOf) (x : List ℕ) (c : coord.Coord) (locales kept : List Locale) → IsOfKind c (set_at sets c) → set_at sets c ≡ LocalesOf (locale_numbers locales)
+lists-locales : (trace : List ℕ → Trace) (sets : List SetOf) (x : List ℕ) (c : coord.Coord) (locales kept : List Locale) → IsOfKind c (set_at sets c) → set_at sets c ≡ LocalesOf (locale_numbers locales)
     → kept ≡ filter (keeps_locale trace x) locales → ListsKept trace sets x c (seen.LocalesOf kept)
 lists-locales trace sets x c locales kept kind e is n in_set =
     let a = among n (locale_numbers locales) (subst (λ (s : SetOf). IsIn s n) e in_set) in
@@ -179,6 +179,20 @@ unfolding has_wrong_kind
 right-range sets coords.Locale m kind range = absurd (no-range (set_at sets coords.Locale) kind range)
 right-range sets c m kind range = refl
 
-pub right-choice : (sets : List SetOf) (c : coord.Coord) (choice : seen.ChoiceOf) → is_range (set_at sets c) ≡ false → has_wrong_kind sets (seen.AmongOf c choice) ≡ false
+right-choice : (sets : List SetOf) (c : coord.Coord) (choice : seen.ChoiceOf) → is_range (set_at sets c) ≡ false → has_wrong_kind sets (seen.AmongOf c choice) ≡ false
 unfolding has_wrong_kind
 right-choice sets c choice no_range = no_range
+
+-- ---- so the tests are needed
+
+pub needed-numbers : (trace : List ℕ → Trace) (sets : List SetOf) (x y : List ℕ) (c : coord.Coord) (numbers kept : List ℕ) → GoesByNumbers trace → ArePair trace sets x y c → IsBox sets → NumbersOf numbers ≡ set_at sets c
+    → kept ≡ filter (keeps trace x c) numbers → IsNeededTest trace sets (IsMember sets) (seen.AmongOf c (seen.NumbersOf kept))
+needed-numbers trace sets x y c numbers kept by pair b e is =
+    let choice = seen.NumbersOf kept in
+    cut-choice trace sets x y c choice by pair (right-choice sets c choice (ap is_range (sym e))) (lists-numbers trace sets x c numbers kept (b.kinds c) (sym e) is)
+
+pub needed-locales : (trace : List ℕ → Trace) (sets : List SetOf) (x y : List ℕ) (c : coord.Coord) (locales kept : List Locale) → GoesByNumbers trace → ArePair trace sets x y c → IsBox sets
+    → LocalesOf (locale_numbers locales) ≡ set_at sets c → kept ≡ filter (keeps_locale trace x) locales → IsNeededTest trace sets (IsMember sets) (seen.AmongOf c (seen.LocalesOf kept))
+needed-locales trace sets x y c locales kept by pair b e is =
+    let choice = seen.LocalesOf kept in
+    cut-choice trace sets x y c choice by pair (right-choice sets c choice (ap is_range (sym e))) (lists-locales trace sets x c locales kept (b.kinds c) (sym e) is)

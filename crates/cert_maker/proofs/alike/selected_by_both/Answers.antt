@@ -1,10 +1,10 @@
 use Rattle.std.proofs.Common.{sym, ◌∙◌}
 use Rattle.std.specs.Option.{option_map}
 use Rattle.overlay_map.specs.Candidates.{cand_of}
-use Rattle.reference_resolver.specs.Selection.{selected, step_of}
+use Rattle.reference_resolver.specs.Selection.{selected}
 use Rattle.config_record.specs.DeviceSeen.{device_numbers}
-use Rattle.box_trace.proofs.Scans.{scan_at, scan_more, scan_end}
-use Rattle.cert_maker.proofs.Agreement.{both-do, stays-best, new-best, scan-apart}
+use Rattle.box_trace.proofs.Scans.{scan_at, scan_end}
+use Rattle.cert_maker.proofs.Agreement.{scan-alike, stays-best, new-best, scan-apart}
 use Rattle.cert_maker.proofs.alike.selected_by_both.Goals as goal
 
 pub returns-then-not-alike : goal.returns-then-not-alike
@@ -20,9 +20,8 @@ loop-candidate-preserved c =
     record {
       can = tt;
       ends = tt;
-      scanned = scan_more _ _ _ _ _ (cand_of c.in-Some.candidate) c.of-step.result (scan_at _ _ _ _ _ c.loop-candidate.invariant.scanned c.in-Some.ensures.steps)
-          (both-do (step_of (option_map cand_of c.loop-candidate.best) (cand_of c.in-Some.candidate)) c.of-step.result (device_numbers c.args.first.now) (device_numbers c.args.second.now) c.of-step.ensures (sym c.of-other.ensures ∙ sym same))
-          (stays-best c.of-step.result (option_map cand_of c.loop-candidate.best) (cand_of c.in-Some.candidate) other);
+      scanned = scan-alike (device_numbers c.args.first.now) (device_numbers c.args.second.now) _ _ _ _ (cand_of c.in-Some.candidate) c.of-step.result c.of-other.result
+          (scan_at _ _ _ _ _ c.loop-candidate.invariant.scanned c.in-Some.ensures.steps) c.of-step.ensures c.of-other.ensures same (stays-best c.of-step.result (option_map cand_of c.loop-candidate.best) (cand_of c.in-Some.candidate) other);
     }
 
 pub loop-candidate-preserved-then-takes_over : goal.loop-candidate-preserved-then-takes_over
@@ -32,9 +31,8 @@ loop-candidate-preserved-then-takes_over c =
     record {
       can = tt;
       ends = tt;
-      scanned = scan_more _ _ _ _ _ (cand_of c.in-Some.candidate) c.of-step.result (scan_at _ _ _ _ _ c.loop-candidate.invariant.scanned c.in-Some.ensures.steps)
-          (both-do (step_of (option_map cand_of c.loop-candidate.best) (cand_of c.in-Some.candidate)) c.of-step.result (device_numbers c.args.first.now) (device_numbers c.args.second.now) c.of-step.ensures (sym c.of-other.ensures ∙ sym same))
-          (new-best c.of-step.result (option_map cand_of c.loop-candidate.best) (cand_of c.in-Some.candidate) takes);
+      scanned = scan-alike (device_numbers c.args.first.now) (device_numbers c.args.second.now) _ _ _ _ (cand_of c.in-Some.candidate) c.of-step.result c.of-other.result
+          (scan_at _ _ _ _ _ c.loop-candidate.invariant.scanned c.in-Some.ensures.steps) c.of-step.ensures c.of-other.ensures same (new-best c.of-step.result (option_map cand_of c.loop-candidate.best) (cand_of c.in-Some.candidate) takes);
     }
 
 pub returns : goal.returns
