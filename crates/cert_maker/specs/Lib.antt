@@ -1,0 +1,4 @@
+pub mod Made
+pub mod Least
+pub mod Growth
+pub mod Pair
