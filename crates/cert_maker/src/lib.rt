@@ -1,9 +1,13 @@
 //! A certificate for goals and a box, with trees that have no test too many.
 #![tactic(auto)]
 
+mod alike;
+mod growth;
 mod made;
 mod making;
+mod parting;
 mod progress;
+mod tree;
 
 pub use made::Made;
 pub use making::{make, make_watched};
