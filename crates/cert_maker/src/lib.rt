@@ -8,6 +8,7 @@ mod making;
 mod parting;
 mod progress;
 mod tree;
+mod trees;
 
 pub use made::Made;
 pub use making::{make, make_watched};

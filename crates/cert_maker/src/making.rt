@@ -1,4 +1,4 @@
-//! The trees of all goals.
+//! A certificate for all goals.
 
 ghost use Rattle.std.specs.Prelude.{IfOk};
 ghost use Rattle.cert_maker.specs.Made.{IsMade, CanBeWritten};
@@ -6,13 +6,14 @@ ghost use Rattle.cert_maker.specs.Least.{IsLeast};
 
 use crate::made::Made;
 use crate::progress::{Progress, Unwatched};
-use cert_tree::{Goal, OutOfMemory};
+use crate::trees::Trees;
+use cert_tree::{Cert, Goal, OutOfMemory};
 use config_box::ConfigBox;
 use overlay_map::Stack;
-use std::alloc::{AllocError, Global};
+use std::alloc::Global;
 
-/// A certificate for goals and a box, with at most so many nodes in all; or a device for which one of the goals ends at no
-/// value; or that it would have more nodes.
+/// A certificate for goals and a box, with at most so many nodes in all; or a device for which one of the goals
+/// ends at no value; or that it would have more nodes.
 pub fn make(
     alloc: Global,
     stack: &Stack<'_>,
@@ -27,18 +28,32 @@ pub fn make(
     make_watched(alloc, stack, members, asked, max_nodes, &mut Unwatched)
 }
 
-/// The same. Each time when a goal has its tree, the caller comes to know it.
+/// The same, where the caller comes to know after each goal how far the work is.
 pub fn make_watched<P: Progress>(
-    _alloc: Global,
+    alloc: Global,
     stack: &Stack<'_>,
     members: &ConfigBox,
     asked: &[Goal],
     max_nodes: u32,
-    _progress: &mut P,
+    progress: &mut P,
 ) -> Result<Made, OutOfMemory>
     ensures made { IfOk result (IsMade stack.now members.now asked.now max_nodes) }
     ensures least { IfOk result (IsLeast stack.now members.now asked.now max_nodes) }
     ensures fits { IfOk result CanBeWritten }
 {
-    Err(AllocError)
+    let Some(spare) = (max_nodes as usize).checked_sub(asked.len()) else {
+        return Ok(Made::NodeLimit);
+    };
+    let mut trees = Trees {
+        grown: Vec::new(alloc),
+        spare,
+    };
+    for (place, goal) in asked.iter().enumerate() {
+        let Goal::Id(id) = goal;
+        if let Some(made) = trees.add(alloc, stack, members, *id)? {
+            return Ok(made);
+        }
+        progress.goals_done(place + 1, asked.len());
+    }
+    Ok(Made::Cert(Cert { goals: trees.grown }))
 }
