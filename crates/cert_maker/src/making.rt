@@ -12,8 +12,9 @@ use config_box::ConfigBox;
 use overlay_map::Stack;
 use std::alloc::Global;
 
-/// A certificate for goals and a box, with at most so many nodes in all; or a device for which one of the goals
-/// ends at no value; or that it would have more nodes.
+/// A certificate for goals and all devices of a box, with at most so many nodes in all; or a device for which one of
+/// the goals ends at no value and no bag; or that there would be more nodes. Where both of these hold, either may be
+/// the answer.
 pub fn make(
     alloc: Global,
     stack: &Stack<'_>,
