@@ -3,7 +3,7 @@ use Rattle.std.proofs.Common.{◌≡◌, ℕ, ◌+◌, ◌-◌, ◌<◌, ◌≤�
 use Rattle.std.specs.Prelude.{slice_get}
 use Rattle.std.specs.List.{All}
 use Rattle.std.proofs.lemmas.List.{map-append, length-map}
-use Rattle.std.proofs.lemmas.List.Elements.{All-get_or, All-nil, All-cons, All-push, All-append, All-map, All-weaker}
+use Rattle.std.proofs.lemmas.List.Elements.{All-get_or, All-cons, All-push, All-append, All-map, All-weaker}
 use Rattle.std.proofs.lemmas.Option.{slice_get_within, get_or_from_slice_get}
 use Rattle.res_value.specs.declared.res_id.ResId.{ResId}
 use Rattle.reference_resolver.specs.declared.end.End.{End}
@@ -34,9 +34,6 @@ node_count-append [] others = omega arith
 node_count-append (tree ∷ trees) others = let e = node_count-append trees others in omega (arith, e)
 
 -- ---- goal by goal
-
-pub started : (stack : List LayerOf) (sets : List SetOf) (asked : List Goal) (most : ℕ) → length asked ≤ most → AreDone stack sets asked asked most [] (most - length asked)
-started stack sets asked most few = record { goals = refl; good = All-nil _; room = omega arith }
 
 -- the next goal has its tree
 pub one-more : (stack : List LayerOf) (sets : List SetOf) (asked left : List Goal) (most spare : ℕ) (trees : List GoalOf) (tree : GoalOf) → AreDone stack sets asked (tree.goal ∷ left) most trees spare → IsGoodTree stack sets tree

@@ -23,6 +23,7 @@ pub record AreDone (stack : List LayerOf) (sets : List SetOf) (asked left : List
   pub good : All (IsGoodTree stack sets) trees
   pub room : node_count trees + length left + spare ≡ most
 
+-- the same of trees in the making
 abbrev pub AreGrown : List LayerOf → List SetOf → List Goal → List Goal → ℕ → Trees → Type 0
 AreGrown stack sets asked left most trees = AreDone stack sets asked left most (map goal_of trees.grown.items) trees.spare
 

@@ -2,9 +2,12 @@ use Rattle.std.proofs.Common.{◌≡◌, ℕ, ◌+◌, ◌<◌, arith, suc, add-
 use Rattle.std.proofs.lemmas.List.{drop_all}
 use borrow.Enum.Total.{values_d}
 use Rattle.cert_tree.specs.contracts.goal.Goal.{enum}
+use Rattle.overlay_map.specs.Layer.{LayerOf}
+use Rattle.box_answers.specs.NumberSet.{SetOf}
 use Rattle.cert_tree.specs.declared.goal.Goal.{Goal}
 use Rattle.cert_tree.specs.declared.goal.Goal.TheVariants.{Id}
 use Rattle.cert_tree.specs.Certificate.{goal_of}
+use Rattle.cert_maker.specs.declared.trees.Trees.{Trees}
 use Rattle.cert_maker.specs.declared.made.Made.TheVariants.{Cert, NodeLimit}
 use Rattle.cert_maker.specs.Made.{IsMade, CanBeWritten}
 use Rattle.cert_maker.specs.Trees.{AreGrown, TakesGoal}
@@ -30,19 +33,23 @@ next-is asked place within =
     drop-cons asked place (Id (record { 0 = 0 })) within ∙ ap (λ (next : Goal). next ∷ drop (suc place) asked) (goal-is goal)
     ∙ ap (λ (n : ℕ). Id (values_d enum 0 (record { 0 = 0 }, tt) goal).0 ∷ drop n asked) (sym (add-one place))
 
+at-turn : (stack : List LayerOf) (sets : List SetOf) (asked : List Goal) (place most : ℕ) (trees : Trees) → place < length asked → AreGrown stack sets asked (drop place asked) most trees
+    → AreGrown stack sets asked (Id (values_d enum 0 (record { 0 = 0 }, tt) (get_or asked place (Id (record { 0 = 0 })))).0 ∷ drop (place + 1) asked) most trees
+at-turn stack sets asked place most trees within h = subst (λ (left : List Goal). AreGrown stack sets asked left most trees) (next-is asked place within) h
+
 pub loop-place-preserved : goal.loop-place-preserved
 loop-place-preserved g c =
     let asked = c.args.asked.now in
     let l = c.loop-place in
-    let before = subst (λ (left : List Goal). AreGrown c.args.stack.now c.args.members.now asked left c.args.max_nodes l.trees) (next-is asked l.place c.loop-place-test.true) l.invariant in
-    subst (TakesGoal _ _ _ l.trees c.add.new.self) c.in_default-2.is c.in_ok-made.ensures asked (drop (l.place + 1) asked) c.args.max_nodes before
+    subst (TakesGoal _ _ _ l.trees c.add.new.self) c.in_default-2.is c.in_ok-made.ensures asked (drop (l.place + 1) asked) c.args.max_nodes
+    (at-turn c.args.stack.now c.args.members.now asked l.place c.args.max_nodes l.trees c.loop-place-test.true l.invariant)
 
 answer : (g : Over) (c : goal.After-drop-trees-in-Some-2 g) → IsMade c.args.stack.now c.args.members.now c.args.asked.now c.args.max_nodes c.in-Some-2.made × CanBeWritten c.in-Some-2.made
 answer g c =
     let asked = c.args.asked.now in
     let l = c.loop-place in
-    let before = subst (λ (left : List Goal). AreGrown c.args.stack.now c.args.members.now asked left c.args.max_nodes l.trees) (next-is asked l.place c.loop-place-test.true) l.invariant in
-    subst (TakesGoal _ _ _ l.trees c.add.new.self) c.in-Some-2.is c.in_ok-made.ensures asked (drop (l.place + 1) asked) c.args.max_nodes before
+    subst (TakesGoal _ _ _ l.trees c.add.new.self) c.in-Some-2.is c.in_ok-made.ensures asked (drop (l.place + 1) asked) c.args.max_nodes
+    (at-turn c.args.stack.now c.args.members.now asked l.place c.args.max_nodes l.trees c.loop-place-test.true l.invariant)
 
 pub returns-in-Some-2-clause-made : goal.returns-in-Some-2-clause-made
 returns-in-Some-2-clause-made g c = (answer g c).0
