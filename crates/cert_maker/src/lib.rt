@@ -26,4 +26,4 @@ mod trees;
 
 pub use made::Made;
 pub use making::{make, make_watched};
-pub use progress::Progress;
+pub use progress::{Progress, Unwatched};
