@@ -1,13 +1,13 @@
 -- What is made is the least, where at most one coordinate of the box has several values.
-use Rattle.std.proofs.Common.{◌≡◌, ℕ, zero, suc, ◌+◌, ◌*◌, ◌<◌, ◌≤◌, List, [], ◌∷◌, Some, None, arith, length, map, sym, ◌∙◌, ap, refl, subst}
+use Rattle.std.proofs.Common.{◌≡◌, ℕ, suc, ◌≤◌, List, [], ◌∷◌, Some, arith, length, sym, ◌∙◌, ap, refl, subst}
 use Rattle.std.specs.Prelude.{slice_get}
 use Rattle.config_record.specs.declared.coord.Coord.{Coord}
 use Rattle.overlay_map.specs.Layer.{LayerOf}
 use Rattle.box_answers.specs.NumberSet.{SetOf}
 use Rattle.cert_tree.specs.declared.goal.Goal.{Goal}
-use Rattle.cert_tree.specs.Certificate.{NodeOf, GoalOf, goals_of, node_count}
+use Rattle.cert_tree.specs.Certificate.{GoalOf, node_count}
 use Rattle.cert_checker.specs.Fails.{NoRuleFails}
-use Rattle.cert_checker.specs.FirstFault.{goal_trace, goals_in, IsAccepted, NoRuleFailsIn}
+use Rattle.cert_checker.specs.FirstFault.{goal_trace, goals_in, NoRuleFailsIn}
 use Rattle.least_tree.specs.Needed.{IsNeeded}
 use Rattle.least_tree.specs.Runs.{IsOnLine}
 use Rattle.least_tree.proofs.LeastTree.{small, large, least}

@@ -1,12 +1,13 @@
 -- What the maker promises of its answers.
 use Rattle.std.specs.Prelude.{◌≡◌, ℕ, ◌<◌, ◌≤◌, false, List, Some, slice_get}
+use Rattle.std.specs.List.{All}
 use Rattle.config_record.specs.DeviceSeen.{device_numbers}
 use Rattle.reference_resolver.specs.declared.end.End.{End}
 use Rattle.overlay_map.specs.Layer.{LayerOf}
 use Rattle.box_answers.specs.NumberSet.{SetOf}
 use Rattle.box_answers.specs.Members.{IsMember}
 use Rattle.cert_tree.specs.declared.goal.Goal.{Goal}
-use Rattle.cert_tree.specs.Certificate.{GoalOf, goals_of, node_count}
+use Rattle.cert_tree.specs.Certificate.{GoalOf, NodeFits, goals_of, node_count}
 use Rattle.cert_checker.specs.Fails.{is_value}
 use Rattle.cert_checker.specs.FirstFault.{goal_trace, goals_in, IsAccepted}
 use Rattle.cert_checker.specs.Headline.{RulesEndAt}
@@ -33,3 +34,9 @@ IsMade stack sets asked most (Counter g device end) =
     (goal : Goal) × (slice_get asked g ≡ Some goal) × IsCounter stack sets goal (device_numbers device) end
 IsMade stack sets asked most NodeLimit =
     (trees : List GoalOf) × (goals_in trees ≡ asked) × AreNeeded stack sets trees × (most < node_count trees)
+
+-- what a certificate says is within the limits of what JSON can say, if the number of its nodes is
+abbrev pub CanBeWritten : Made → Type 0
+CanBeWritten (Cert certificate) = All (λ tree. All NodeFits tree.nodes) (goals_of certificate)
+CanBeWritten (Counter g device end) = Unit {0}
+CanBeWritten NodeLimit = Unit {0}

@@ -7,14 +7,14 @@ use reference_resolver::End;
 /// What the maker answers.
 #[derive(Debug, Drop)]
 pub enum Made {
-    /// A certificate that is accepted. Its trees have no test too many.
+    /// A certificate that is accepted, within the limit. Its trees have no test too many.
     Cert(Cert),
-    /// A device of the box for which a goal, counted from 0, ends at no value and no bag.
+    /// A device of the box for which a goal, counted from 0, ends at no value and no bag, and where it ends.
     Counter {
         goal: usize,
         device: Device,
         ending: End,
     },
-    /// The trees would have more nodes than the limit.
+    /// Trees without a test too many can have more nodes, all goals together, than the limit.
     NodeLimit,
 }
