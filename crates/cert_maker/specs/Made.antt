@@ -35,7 +35,7 @@ IsMade stack sets asked most (Counter g device end) =
 IsMade stack sets asked most NodeLimit =
     (trees : List GoalOf) × (goals_in trees ≡ asked) × AreNeeded stack sets trees × (most < node_count trees)
 
--- what a certificate says is within the limits of what JSON can say, if the number of its nodes is
+-- what each node says is within the limits of the format, so that the certificate reads back if it has not too many nodes
 abbrev pub CanBeWritten : Made → Type 0
 CanBeWritten (Cert certificate) = All (λ tree. All NodeFits tree.nodes) (goals_of certificate)
 CanBeWritten (Counter g device end) = Unit {0}

@@ -1,10 +1,10 @@
 //! Makes certificates. The tree of a goal grows node by node over the boxes of its open paths: a leaf where all
 //! devices of one have the same trace, else a test that parts two of them which differ in one coordinate alone.
 //!
-//! For the crate above: `make` answers a certificate that `check` accepts, with no test that parts nothing and at
-//! most so many nodes as are allowed; or a device of the box for which a goal ends at no value and no bag; or, where
-//! such trees have more nodes together, `NodeLimit`. Where at most one coordinate of the box has several values, no
-//! certificate with fewer nodes is accepted. `make_watched` does the same, and says after each goal how far it is.
+//! For the crate above: `make` answers a certificate that `check` accepts, whose tests are all needed (each parts two
+//! such devices) and whose nodes are within the limit; or a device of the box for which a goal ends at no value and no
+//! bag; or `NodeLimit`, where trees of needed tests have more nodes together. Where at most one coordinate of the box
+//! has several values, no certificate with fewer nodes is accepted. `make_watched` does the same, and says after each goal how far it is.
 //!
 //! ```text
 //! match make(alloc, &stack, &phones, &asked, 1_000_000)? {
