@@ -7,4 +7,4 @@ mod progress;
 
 pub use made::Made;
 pub use making::{make, make_watched};
-pub use progress::Progress;
+pub use progress::{Progress, Unwatched};

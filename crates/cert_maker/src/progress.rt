@@ -8,7 +8,7 @@ pub trait Progress {
 
 /// Nobody asks how far the work is.
 #[derive(Drop)]
-pub(crate) struct Unwatched;
+pub struct Unwatched;
 
 impl Progress for Unwatched {
     fn goals_done(&mut self, _done: usize, _all: usize) {}
