@@ -18,3 +18,5 @@ mod refused;
 mod rejected;
 #[cfg(test)]
 mod row;
+#[cfg(test)]
+mod watched;

@@ -9,65 +9,61 @@ use std::alloc::Global;
 /// The resource of entry 1.
 const SECOND: ResId = ResId(0x7f01_0001);
 
-/// Two values that the density parts.
-const TWO_DENSITIES: &str = "0 [density=160] 1\n0 [density=320] 2";
+/// A value that is best up to density 197, and one at 198.
+const BY_DENSITY: Order<'static> = Order {
+    rows: "0 [density=160] 1\n0 [density=320] 2",
+    members: r#"{"density":{"from":120,"to":198}}"#,
+    goals: &[FIRST],
+    max_nodes: 10,
+};
 
-/// A box of the densities up to 198, at which the second value is better.
-const TO_198: &str = r#"{"density":{"from":120,"to":198}}"#;
+/// A value in French, and one elsewhere.
+const BY_LOCALE: Order<'static> = Order {
+    rows: "0 [locale=fr] 1\n0 [] 2",
+    members: r#"{"density":[160],"locale":["fr","de"]}"#,
+    goals: &[FIRST],
+    max_nodes: 10,
+};
+
+/// One value, and one device.
+const PLAIN: Order<'static> = Order {
+    rows: "0 [] 1",
+    members: r#"{"density":[160]}"#,
+    goals: &[FIRST],
+    max_nodes: 10,
+};
 
 /// What is asked, and what a check prints of the certificate that is made.
 const ACCEPTED: [(Order, &str); 8] = [
+    (BY_LOCALE, "accepted goals 1 nodes 3\nset-aside 0\n"),
     (
         Order {
-            rows: "0 [locale=fr] 1\n0 [] 2",
-            members: r#"{"density":[160],"locale":["fr","de"]}"#,
-            goals: &[FIRST],
-            max_nodes: 10,
-        },
-        "accepted goals 1 nodes 3\nset-aside 0\n",
-    ),
-    (
-        Order {
-            rows: TWO_DENSITIES,
-            members: TO_198,
-            goals: &[FIRST],
             max_nodes: 3,
+            ..BY_DENSITY
         },
         "accepted goals 1 nodes 3\nset-aside 0\n",
     ),
+    (BY_DENSITY, "accepted goals 1 nodes 3\nset-aside 0\n"),
     (
         Order {
-            rows: TWO_DENSITIES,
-            members: TO_198,
-            goals: &[FIRST],
-            max_nodes: 10,
-        },
-        "accepted goals 1 nodes 3\nset-aside 0\n",
-    ),
-    (
-        Order {
-            rows: TWO_DENSITIES,
-            members: TO_198,
             goals: &[FIRST, FIRST],
             max_nodes: 6,
+            ..BY_DENSITY
         },
         "accepted goals 2 nodes 6\nset-aside 0\n",
     ),
     (
         Order {
-            rows: "0 [locale=fr] 1\n0 [] 2",
             members: r#"{"density":[160],"locale":["fr","fr-CA","de","it"]}"#,
-            goals: &[FIRST],
             max_nodes: 3,
+            ..BY_LOCALE
         },
         "accepted goals 1 nodes 3\nset-aside 0\n",
     ),
     (
         Order {
-            rows: TWO_DENSITIES,
             members: r#"{"density":{"from":120,"to":197}}"#,
-            goals: &[FIRST],
-            max_nodes: 10,
+            ..BY_DENSITY
         },
         "accepted goals 1 nodes 1\nset-aside 0\n",
     ),
@@ -110,20 +106,17 @@ fn makes_what_is_accepted(rt: HostRuntime) {
 const PRINTED: [(Order, Status, &str); 8] = [
     (
         Order {
-            rows: "0 [] 1",
-            members: r#"{"density":[160]}"#,
-            goals: &[FIRST],
             max_nodes: 1,
+            ..PLAIN
         },
         Status::Done,
         "{\"goals\":[{\"id\":\"0x7f010000\",\"nodes\":[{\"kind\":16,\"layer\":0,\"word\":1}]}],\"version\":1}\n",
     ),
     (
         Order {
-            rows: "0 [] 1",
-            members: r#"{"density":[160]}"#,
             goals: &[],
             max_nodes: 1,
+            ..PLAIN
         },
         Status::Done,
         "{\"goals\":[],\"version\":1}\n",
@@ -131,19 +124,15 @@ const PRINTED: [(Order, Status, &str); 8] = [
     (
         Order {
             rows: "0 [locale=fr] 1",
-            members: r#"{"density":[160],"locale":["fr","de"]}"#,
-            goals: &[FIRST],
-            max_nodes: 10,
+            ..BY_LOCALE
         },
         Status::Negative,
         "counter goal 0\ndevice locale=de density=160\nend absent 0x7f010000\n",
     ),
     (
         Order {
-            rows: "0 [] 1",
-            members: r#"{"density":[160]}"#,
             goals: &[FIRST, SECOND],
-            max_nodes: 10,
+            ..PLAIN
         },
         Status::Negative,
         "counter goal 1\ndevice density=160\nend absent 0x7f010001\n",
@@ -151,39 +140,32 @@ const PRINTED: [(Order, Status, &str); 8] = [
     (
         Order {
             rows: "0 [] @0x7f010000",
-            members: r#"{"density":[160]}"#,
-            goals: &[FIRST],
-            max_nodes: 10,
+            ..PLAIN
         },
         Status::Negative,
         "counter goal 0\ndevice density=160\nend too long 0x7f010000\n",
     ),
     (
         Order {
-            rows: TWO_DENSITIES,
-            members: TO_198,
-            goals: &[FIRST],
             max_nodes: 1,
+            ..BY_DENSITY
         },
         Status::Negative,
         "node limit\n",
     ),
     (
         Order {
-            rows: TWO_DENSITIES,
-            members: TO_198,
-            goals: &[FIRST],
             max_nodes: 2,
+            ..BY_DENSITY
         },
         Status::Negative,
         "node limit\n",
     ),
     (
         Order {
-            rows: TWO_DENSITIES,
-            members: TO_198,
             goals: &[FIRST, FIRST],
             max_nodes: 5,
+            ..BY_DENSITY
         },
         Status::Negative,
         "node limit\n",
