@@ -1,11 +1,11 @@
 //! The command `make`.
 
-ghost use Rattle.std.specs.Prelude.{◌∷◌, ◌++◌, [], map, Ok, IfOk, OnOk};
+ghost use Rattle.std.specs.Prelude.{◌≡◌, ◌∷◌, ◌++◌, [], map, Ok, IfOk, OnOk};
 ghost use Rattle.contract_words.specs.Writes.{Writes};
 ghost use Rattle.config_record.specs.DeviceSeen.{device_numbers};
 ghost use Rattle.resource_tool.specs.Output.{Prints, PrintsOneOf};
 ghost use Rattle.resource_tool.specs.StackBytesSeen.{layer_bytes};
-ghost use Rattle.resource_tool.specs.MakeOutput.{IsMakeOutput, make_inputs, counter_line, counter_text, made_output};
+ghost use Rattle.resource_tool.specs.MakeOutput.{IsMakeOutput, make_inputs, counter_line, counter_text, status_of_made, made_output};
 ghost use Rattle.resource_tool.specs.MakeReadsBack.{IsAcceptedWhereDone, LineReadsBack, ReadsBack};
 
 use crate::goals::goals_asked;
@@ -99,20 +99,24 @@ fn print_made<W: Write + Drop>(alloc: Global, made: &Made, out: &mut W) -> Resul
         Made::Cert(certificate) => {
             let text = certificate.write(alloc)?;
             write_line(text.as_slice(), out)?;
-            Ok(Status::Done)
         }
         Made::Counter {
             goal,
             device,
             ending,
-        } => {
-            write_counter(*goal, device, *ending, out)?;
-            Ok(Status::Negative)
-        }
-        Made::NodeLimit => {
-            out.write_all(b"node limit\n")?;
-            Ok(Status::Negative)
-        }
+        } => write_counter(*goal, device, *ending, out)?,
+        Made::NodeLimit => out.write_all(b"node limit\n")?,
+    }
+    Ok(status_of_made(made))
+}
+
+fn status_of_made(made: &Made) -> Status
+    ensures { result ≡ status_of_made made.now }
+{
+    match made {
+        Made::Cert(_) => Status::Done,
+        Made::Counter { .. } => Status::Negative,
+        Made::NodeLimit => Status::Negative,
     }
 }
 
