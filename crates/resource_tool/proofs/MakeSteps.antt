@@ -12,7 +12,8 @@ use Rattle.resource_tool.specs.declared.status.Status.TheVariants.{Done, Negativ
 use Rattle.resource_tool.specs.Output.{Output, Prints}
 use Rattle.resource_tool.specs.CheckOutput.{goals_asked}
 use Rattle.resource_tool.specs.MakeOutput.{MakeInputs, made_output, made_text, certificate_line}
-use Rattle.resource_tool.specs.MakeReadsBack.{LineReadsBack, IsAcceptedWhereDone}
+use Rattle.resource_tool.specs.MakeReadsBack.{IsAcceptedWhereDone}
+use Rattle.resource_tool.specs.LineReadsBack.{LineReadsBack}
 
 abbrev output_or : Output → Result Output ToolFault → Output
 output_or other (Ok output) = output

@@ -16,3 +16,4 @@ pub mod CheckHeadline
 pub mod CheckInputsSeen
 pub mod MakeOutput
 pub mod MakeReadsBack
+pub mod LineReadsBack

@@ -2,16 +2,14 @@
 use Rattle.std.specs.Prelude.{◌≡◌, ℕ, ◌≤◌, List, Option, Ok}
 use Rattle.std.specs.Io.KnownBytes.{Appends}
 use Rattle.res_value.specs.declared.res_id.ResId.{ResId}
-use Rattle.cert_tree.specs.Certificate.{GoalOf, CertFits, goals_of, most_nodes}
+use Rattle.cert_tree.specs.Certificate.{GoalOf, most_nodes}
 use Rattle.cert_tree.specs.CertJson.{cert_in}
 use Rattle.cert_checker.specs.FirstFault.{IsAccepted}
-use Rattle.cert_maker.specs.declared.made.Made.{Made}
-use Rattle.cert_maker.specs.declared.made.Made.TheVariants.{Cert, Counter, NodeLimit}
 use Rattle.resource_tool.specs.declared.status.Status.{Status}
 use Rattle.resource_tool.specs.declared.status.Status.TheVariants.{Done}
 use Rattle.resource_tool.specs.StackBytes.{LayerBytes}
 use Rattle.resource_tool.specs.CheckOutput.{goals_asked}
-use Rattle.resource_tool.specs.MakeOutput.{MakeInputs, make_inputs, certificate_line}
+use Rattle.resource_tool.specs.MakeOutput.{MakeInputs, make_inputs}
 
 -- what was printed is read as a certificate that is accepted
 pub record IsReadAccepted (ids : List ResId) (inputs : MakeInputs) (old new : Option (List ℕ)) : Type 0 where
@@ -30,11 +28,3 @@ pub record ReadsBack (layers : List LayerBytes) (box_json : List ℕ) (ids : Lis
   pub inputs : MakeInputs
   pub means : make_inputs layers box_json ≡ Ok inputs
   pub accepted : IsAcceptedWhereDone ids most inputs old new status
-
--- ---- for private clauses
-
--- the line of a certificate within the limits is read as the same
-abbrev pub LineReadsBack : Made → Type 0
-LineReadsBack (Cert certificate) = CertFits (goals_of certificate) → cert_in (certificate_line (goals_of certificate)) ≡ Ok (goals_of certificate)
-LineReadsBack (Counter goal device end) = Unit {0}
-LineReadsBack NodeLimit = Unit {0}

@@ -6,7 +6,8 @@ ghost use Rattle.config_record.specs.DeviceSeen.{device_numbers};
 ghost use Rattle.resource_tool.specs.Output.{Prints, PrintsOneOf};
 ghost use Rattle.resource_tool.specs.StackBytesSeen.{layer_bytes};
 ghost use Rattle.resource_tool.specs.MakeOutput.{IsMakeOutput, make_inputs, counter_line, counter_text, status_of_made, made_output};
-ghost use Rattle.resource_tool.specs.MakeReadsBack.{IsAcceptedWhereDone, LineReadsBack, ReadsBack};
+ghost use Rattle.resource_tool.specs.MakeReadsBack.{IsAcceptedWhereDone, ReadsBack};
+ghost use Rattle.resource_tool.specs.LineReadsBack.{LineReadsBack};
 
 use crate::goals::goals_asked;
 use crate::stack::open_stack;
