@@ -1,21 +1,20 @@
 -- A line feed behind a JSON text changes nothing.
-use Rattle.std.proofs.Common.{◌≡◌, ℕ, suc, ◌+◌, ◌-◌, ◌≤◌, Bool, true, false, cond, ◌&&◌, ◌||◌, ◌==◌, nat_eq, nat_lt, List, [], ◌∷◌, ◌++◌, length, take, drop, Option, Some, None, option_map, option_and_then, refl, ap, ap₂, ◌∙◌, arith, length-append}
+use Rattle.std.proofs.Common.{◌≡◌, ℕ, suc, ◌+◌, ◌-◌, ◌≤◌, Bool, true, false, cond, ◌&&◌, ◌||◌, ◌==◌, nat_eq, nat_lt, List, [], ◌∷◌, ◌++◌, length, take, drop, Option, Some, None, option_map, option_and_then, Ok, ok_or, if◌then◌else◌, refl, ap, ap₂, ◌∙◌, arith, length-append}
 use Rattle.std.proofs.lemmas.List.{take-append-le, drop-append-le}
+use Rattle.std.proofs.lemmas.Str.{IsUtf8-append, IsUtf8-from_is_utf8, IsUtf8-from_ascii}
+use Rattle.std.proofs.lemmas.Str.Ascii.{IsAscii-nil, IsAscii-cons}
 use Rattle.std.specs.Char.{is_digit, encode_utf8, is_ascii_digit}
 use Rattle.std.specs.List.{prefix_len, starts_with}
+use Rattle.std.specs.Str.{is_utf8}
 use Rattle.json.specs.Ascii as ascii
 use Rattle.json.specs.Token.{Token, boolean, null, bad, number}
 use Rattle.json.specs.Text.{Within, plain, after_backslash, after_u, after_high, content, code_unit, short_escape, prepend, is_high_surrogate, is_low_surrogate, surrogate_pair}
 use Rattle.json.specs.Word.{ends_word, after_digits, after_minus, after_sign, after_whole, after_fraction, after_exponent, after_number, number_before, literal, word}
 use Rattle.json.specs.Lex.{Lexeme, token, string_token, operator_lexeme, Class, quote, backslash, operator, space, other, class, Mode, between, in_word, in_string, in_escape, lex_byte, lex, fresh, punctuate}
-use Rattle.serde_json.specs.Read.{read, of_json, max_depth}
 use Rattle.json.specs.Json as json
-use Rattle.std.proofs.Common.{Ok, ok_or, if◌then◌else◌}
-use Rattle.std.specs.Str.{is_utf8}
-use Rattle.std.proofs.lemmas.Str.{IsUtf8-append, IsUtf8-from_is_utf8, IsUtf8-from_ascii}
-use Rattle.std.proofs.lemmas.Str.Ascii.{IsAscii-nil, IsAscii-cons}
-use Rattle.contract_words.specs.Faults.{◌>>=◌}
 use Rattle.serde_json.specs.Data.{Data}
+use Rattle.serde_json.specs.Read.{read, of_json, max_depth}
+use Rattle.contract_words.specs.Faults.{◌>>=◌}
 use Rattle.json_input.specs.Json.{value_of}
 use Rattle.json_input.proofs.ValueLemmas.{value_of-read}
 use Rattle.cert_tree.specs.Certificate.{GoalOf}
@@ -38,9 +37,9 @@ not_four_digits : (a b c : ℕ) → code_unit a b c 10 ≡ None
 unfolding code_unit
 not_four_digits a b c = last_fails (is_digit a 16) (is_digit b 16) (is_digit c 16) (is_digit 10 16) _ refl
 
-either_none : {X : Type 0} (b : Bool) (o : Option X) → o ≡ None → cond b o None ≡ None
-either_none true o e = e
-either_none false o e = refl
+cond_none : {X : Type 0} (b : Bool) (o : Option X) → o ≡ None → cond b o None ≡ None
+cond_none true o e = e
+cond_none false o e = refl
 
 content-line : (w : Within) (xs : List ℕ) → content w (line xs) ≡ content w xs
 unfolding content short_escape
@@ -61,7 +60,7 @@ content-line (after_high h) (s ∷ []) = refl
 content-line (after_high h) (s ∷ u ∷ []) = refl
 content-line (after_high h) (s ∷ u ∷ a ∷ []) = refl
 content-line (after_high h) (s ∷ u ∷ a ∷ b ∷ []) = refl
-content-line (after_high h) (s ∷ u ∷ a ∷ b ∷ c ∷ []) = either_none ((s == ascii.backslash) && (u == ascii.lower_u)) _ (ap (option_and_then _) (not_four_digits a b c))
+content-line (after_high h) (s ∷ u ∷ a ∷ b ∷ c ∷ []) = cond_none ((s == ascii.backslash) && (u == ascii.lower_u)) _ (ap (option_and_then _) (not_four_digits a b c))
 content-line (after_high h) (s ∷ u ∷ a ∷ b ∷ c ∷ d ∷ xs) = λ i.
     cond ((s == ascii.backslash) && (u == ascii.lower_u)) (option_and_then (λ l. cond (is_low_surrogate l) (prepend (encode_utf8 (surrogate_pair h l)) (content-line plain xs i)) None) (code_unit a b c d)) None
 
@@ -83,40 +82,40 @@ digits_len-within (x ∷ t) = one_more (is_ascii_digit x) (prefix_len is_ascii_d
     one_more true n m h = omega arith
     one_more false n m h = omega arith
 
-either-line : (b : Bool) (o p o' p' : Option (List ℕ)) → o' ≡ option_map line o → p' ≡ option_map line p → cond b o' p' ≡ option_map line (cond b o p)
-either-line true o p o' p' e f = e
-either-line false o p o' p' e f = f
+cond-parts : (b : Bool) (o p o' p' : Option (List ℕ)) → o' ≡ option_map line o → p' ≡ option_map line p → cond b o' p' ≡ option_map line (cond b o p)
+cond-parts true o p o' p' e f = e
+cond-parts false o p o' p' e f = f
 
 after_digits-line : PassesLine after_digits
 after_digits-line t =
     let n = prefix_len is_ascii_digit t in
     ap (λ k. cond (k == 0) None (Some (drop k (line t)))) (digits_len-line t)
-    ∙ either-line (n == 0) None (Some (drop n t)) None (Some (drop n (line t))) refl (ap (λ rest. Some rest) (drop-append-le n t (10 ∷ []) (digits_len-within t)))
+    ∙ cond-parts (n == 0) None (Some (drop n t)) None (Some (drop n (line t))) refl (ap (λ rest. Some rest) (drop-append-le n t (10 ∷ []) (digits_len-within t)))
 
-line-either : (b : Bool) (s t : List ℕ) → cond b (line s) (line t) ≡ line (cond b s t)
-line-either true s t = refl
-line-either false s t = refl
+cond-line : (b : Bool) (s t : List ℕ) → cond b (line s) (line t) ≡ line (cond b s t)
+cond-line true s t = refl
+cond-line false s t = refl
 
 after_minus-line : (t : List ℕ) → after_minus (line t) ≡ line (after_minus t)
 after_minus-line [] = refl
-after_minus-line (x ∷ t) = line-either (x == ascii.minus) t (x ∷ t)
+after_minus-line (x ∷ t) = cond-line (x == ascii.minus) t (x ∷ t)
 
 after_sign-line : (t : List ℕ) → after_sign (line t) ≡ line (after_sign t)
 after_sign-line [] = refl
-after_sign-line (x ∷ t) = line-either ((x == ascii.minus) || (x == ascii.plus)) t (x ∷ t)
+after_sign-line (x ∷ t) = cond-line ((x == ascii.minus) || (x == ascii.plus)) t (x ∷ t)
 
 after_whole-line : PassesLine after_whole
 after_whole-line [] = refl
-after_whole-line (x ∷ t) = either-line (x == ascii.zero) (Some t) (after_digits (x ∷ t)) _ _ refl (after_digits-line (x ∷ t))
+after_whole-line (x ∷ t) = cond-parts (x == ascii.zero) (Some t) (after_digits (x ∷ t)) _ _ refl (after_digits-line (x ∷ t))
 
 after_fraction-line : PassesLine after_fraction
 after_fraction-line [] = refl
-after_fraction-line (x ∷ t) = either-line (x == ascii.dot) (after_digits t) (Some (x ∷ t)) _ _ (after_digits-line t) refl
+after_fraction-line (x ∷ t) = cond-parts (x == ascii.dot) (after_digits t) (Some (x ∷ t)) _ _ (after_digits-line t) refl
 
 after_exponent-line : PassesLine after_exponent
 after_exponent-line [] = refl
 after_exponent-line (x ∷ t) =
-    either-line ((x == ascii.lower_e) || (x == ascii.upper_e)) (after_digits (after_sign t)) (Some (x ∷ t)) _ _ (ap after_digits (after_sign-line t) ∙ after_digits-line (after_sign t)) refl
+    cond-parts ((x == ascii.lower_e) || (x == ascii.upper_e)) (after_digits (after_sign t)) (Some (x ∷ t)) _ _ (ap after_digits (after_sign-line t) ∙ after_digits-line (after_sign t)) refl
 
 then-line : (part : List ℕ → Option (List ℕ)) → PassesLine part → (o : Option (List ℕ)) → option_and_then part (option_map line o) ≡ option_map line (option_and_then part o)
 then-line part passes None = refl
