@@ -1,12 +1,11 @@
 //! The command `make`.
 
-ghost use Rattle.std.specs.Prelude.{◌≡◌, ◌∷◌, ◌++◌, [], map, Ok, IfOk, OnOk};
+ghost use Rattle.std.specs.Prelude.{◌≡◌, ◌∷◌, ◌++◌, [], map, Ok, OnOk};
 ghost use Rattle.contract_words.specs.Writes.{Writes};
 ghost use Rattle.config_record.specs.DeviceSeen.{device_numbers};
 ghost use Rattle.resource_tool.specs.Output.{Prints, PrintsOneOf};
 ghost use Rattle.resource_tool.specs.StackBytesSeen.{layer_bytes};
 ghost use Rattle.resource_tool.specs.MakeOutput.{IsMakeOutput, make_inputs, counter_line, counter_text, status_of_made, made_output};
-ghost use Rattle.resource_tool.specs.MakeReadsBack.{IsAcceptedWhereDone, ReadsBack};
 ghost use Rattle.resource_tool.specs.LineReadsBack.{LineReadsBack};
 
 use crate::goals::goals_asked;
@@ -34,10 +33,8 @@ pub fn make_bytes<W: Write + Drop>(
     max_nodes: u32,
     out: &mut W,
 ) -> Result<Status, ToolFault>
-    ensures answer { PrintsOneOf (IsMakeOutput goals.now max_nodes) W.contents out.old out.new result
+    ensures { PrintsOneOf (IsMakeOutput goals.now max_nodes) W.contents out.old out.new result
         (make_inputs (map layer_bytes layers.now) box_json.now) }
-    ensures reads_back { IfOk result (ReadsBack (map layer_bytes layers.now) box_json.now goals.now max_nodes
-        (W.contents out.old) (W.contents out.new)) }
 {
     make_bytes_watched(
         alloc,
@@ -61,10 +58,8 @@ pub fn make_bytes_watched<W: Write + Drop, P: Progress>(
     progress: &mut P,
     out: &mut W,
 ) -> Result<Status, ToolFault>
-    ensures answer { PrintsOneOf (IsMakeOutput goals.now max_nodes) W.contents out.old out.new result
+    ensures { PrintsOneOf (IsMakeOutput goals.now max_nodes) W.contents out.old out.new result
         (make_inputs (map layer_bytes layers.now) box_json.now) }
-    ensures reads_back { IfOk result (ReadsBack (map layer_bytes layers.now) box_json.now goals.now max_nodes
-        (W.contents out.old) (W.contents out.new)) }
 {
     let stack = open_stack(alloc, layers)?;
     let members = ConfigBox::read(alloc, box_json)?;
@@ -80,10 +75,8 @@ fn answer<W: Write + Drop, P: Progress>(
     progress: &mut P,
     out: &mut W,
 ) -> Result<Status, ToolFault>
-    ensures answer { PrintsOneOf (IsMakeOutput goals.now max_nodes) W.contents out.old out.new result
+    ensures { PrintsOneOf (IsMakeOutput goals.now max_nodes) W.contents out.old out.new result
         (Ok (record { stack = stack.now; sets = members.now })) }
-    ensures reads_back { IfOk result (IsAcceptedWhereDone goals.now max_nodes (record { stack = stack.now; sets = members.now })
-        (W.contents out.old) (W.contents out.new)) }
 {
     let goals = goals_asked(alloc, goals)?;
     let made = make_watched(alloc, stack, members, &goals, max_nodes, progress)?;
