@@ -22,8 +22,8 @@ use std::alloc::Global;
 use std::io::{self, Write};
 
 /// Prints a certificate that `check_bytes` accepts for the same layers, box and ids, in one line of JSON; then the status is
-/// Done. Or it prints one of the ids by its place, a device of the box for which that id ends at no value and no bag, and
-/// where it ends; or `node limit`, where the trees of all ids would have more than `max_nodes` nodes together. A certificate
+/// Done. Or it prints the place of an id, from 0, with a device of the box for which that id ends at no value and no bag, and
+/// where it ends; or `node limit`, where the trees of all ids can have more than `max_nodes` nodes together. A certificate
 /// of more than 1,000,000 nodes is not read again. A layer is the bytes of a table and, at an overlay, those of an id map.
 pub fn make_bytes<W: Write + Drop>(
     alloc: Global,
@@ -47,7 +47,7 @@ pub fn make_bytes<W: Write + Drop>(
     )
 }
 
-/// The same; each time when an id has its tree, `progress` comes to know it.
+/// The same, where `progress` comes to know after each id how many have their tree.
 #[tactic(auto, unfolding(crate::specs::MakeOutput::make_inputs))]
 pub fn make_bytes_watched<W: Write + Drop, P: Progress>(
     alloc: Global,
