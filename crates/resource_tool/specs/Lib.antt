@@ -14,3 +14,5 @@ pub mod AttrOutput
 pub mod CheckOutput
 pub mod CheckHeadline
 pub mod CheckInputsSeen
+pub mod MakeOutput
+pub mod LineReadsBack
