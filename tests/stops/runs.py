@@ -89,6 +89,17 @@ REJECTED = lines(
     f"second {DEVICE_198.replace('198', '197')}",
     "set-aside 1",
 )
+MADE = lines(
+    '{"goals":[{"id":"0x7f050000","nodes":[{"coord":"locale","in":["de-AT","de-CH","de-DE"]},'
+    '{"kind":3,"layer":1,"word":1},{"kind":3,"layer":1,"word":0}]},'
+    '{"id":"0x7f030000","nodes":[{"atMost":197,"coord":"density"},'
+    '{"kind":5,"layer":1,"word":4097},{"kind":5,"layer":0,"word":3329}]}],"version":1}',
+)
+COUNTER = lines(
+    "counter goal 0",
+    "device locale=de-AT smallestWidthDp=320 screenSize=2 orientation=1 night=1 density=120 sdk=21",
+    "end absent 0x7f050009",
+)
 TABLELESS = lines(
     "error: the following required arguments were not provided:",
     "  <TABLE>",
@@ -113,6 +124,17 @@ def device_runs():
     value = "0x7f010000 value layer 0 argb8 #"
     yield Run("attr", ["attr", *FRENCH, *styles], OF_FRENCH, out=f"{value}ff000000\n", folder=TABLES)
     yield Run("attr --keep", ["attr", "--keep", *FRENCH, *styles], OF_FRENCH, out=f"{value}ff0277bd\n", folder=TABLES)
+
+
+def box_runs():
+    """Runs of the commands that ask about all devices of a box."""
+    of_box = [*LAYER_FILES, PHONES]
+    accepted = lines("accepted goals 2 nodes 6", "set-aside 1")
+    yield Run("check", ["check", LAYERS, PHONES, CERTIFICATE, *GOALS], [*of_box, CERTIFICATE], out=accepted)
+    yield Run("rejected", ["check", LAYERS, PHONES, WRONG, *GOALS], [*of_box, WRONG], 1, REJECTED)
+    yield Run("make", ["make", LAYERS, PHONES, *GOALS], of_box, out=MADE)
+    yield Run("counter", ["make", LAYERS, PHONES, "0x7f050009"], of_box, 1, COUNTER)
+    yield Run("node limit", ["make", "--max-nodes", "1", LAYERS, PHONES, GOALS[0]], of_box, 1, "node limit\n")
 
 
 def stopped_runs():
@@ -147,10 +169,7 @@ def runs(folder):
     yield Run("no words", [], [STANDARD_INPUT], out=ROWS, given=os.path.join(HERE, PORCELAIN))
     yield Run("dump", ["dump", PORCELAIN], [PORCELAIN], out=DUMP)
     yield from device_runs()
-    accepted = lines("accepted goals 2 nodes 6", "set-aside 1")
-    check = [*LAYER_FILES, PHONES]
-    yield Run("check", ["check", LAYERS, PHONES, CERTIFICATE, *GOALS], [*check, CERTIFICATE], out=accepted)
-    yield Run("rejected", ["check", LAYERS, PHONES, WRONG, *GOALS], [*check, WRONG], 1, REJECTED)
+    yield from box_runs()
     yield Run("help", ["query", "--help"], out=text_of("tests", "helps", "query.txt"))
     yield from stopped_runs()
     yield from made_runs(folder)

@@ -83,6 +83,7 @@ asks() {
         stops "attr: $1" "$2" "$3" attr "$of_layers" "$of_device" 0x01010000 $id
     fi
     if [ "$of_box" ]; then
+        stops "make: $1" "$2" "$3" make "$of_layers" "$of_box" $id
         stops "check: $1" "$2" "$3" check "$of_layers" "$of_box" certificate $id
     fi
 }
@@ -198,6 +199,10 @@ goals "a goal twice, asked twice" 'rejected goal 0 node 0 N2 EndsEarly' "$id $id
 goals "goals in another order" 'rejected goal 0 node 0 N1 GoalList' "$id $id2" $id2 $id
 goals "another goal between" 'rejected goal 1 node 0 N1 GoalList' "$id $id2 $id" $id $id $id2
 
+prints "the first goal without a value" 1 "counter goal 0
+device density=160
+end absent $id2" make layers box $id2 $id $id2
+
 cd "$here/tests/tables" || exit 1
 attribute=0x7f010000
 first=0x7f0c0000 second=0x7f0c0001
@@ -220,6 +225,7 @@ stops "no word is no id" 2 'command: bad id ' query layers device ''
 stops "- is no id" 2 'command: bad id -' query layers device $id -
 stops "a bad id before two others" 2 'command: bad id 1' query no-layers no-device $id 1 2 1
 stops "a bad goal" 2 'command: bad id 1' check no-layers no-box no-certificate $id 1 2
+stops "a bad goal of a certificate to be made" 2 'command: bad id 1' make no-layers no-box $id 1 2
 stops "a bad attribute before a bad style" 2 'command: bad id 1' attr no-layers no-device 1 2
 
 # ---- words
@@ -229,6 +235,22 @@ stops "--keep twice" 2 "error: the argument '--keep' cannot be used multiple tim
 Usage: restool attr [OPTIONS] <LAYERS> <DEVICE> <ATTR> <STYLE>...
 
 $usage" attr --keep --keep layers device 0x01010000 $id
+stops "--max-nodes twice" 2 "error: the argument '--max-nodes <N>' cannot be used multiple times
+
+Usage: restool make [OPTIONS] <LAYERS> <BOX> <ID>...
+
+$usage" make --max-nodes 1 --max-nodes 1 layers box $id
+for number in 0 1000001 4294967296; do
+    stops "--max-nodes $number" 2 "error: invalid value '$number' for '--max-nodes <N>': $number is not in 1..=1000000
+
+$usage" make --max-nodes $number layers box 7
+done
+prints "--max-nodes 1000000" 1 "counter goal 0
+device density=160
+end absent $id" make --max-nodes 1000000 layers box $id
+stops "--max-nodes is no number" 2 "error: invalid value '1x' for '--max-nodes <N>': invalid digit found in string
+
+$usage" make --max-nodes 1x layers box 7
 no_command="error: unrecognized subcommand ''
 
 Usage: restool <COMMAND>
@@ -274,7 +296,8 @@ shell "a closed standard input beside a file" 0 '' '[ "$("$0" rows whole <&-)" =
 unwritten() {
     for words in --help --version 'rows --help' 'check --help' 'query layers device 0x7f010000' \
         'explain layers device 0x7f010000' 'bag layers device 0x7f010000' \
-        'attr layers device 0x01010000 0x7f010000' 'check layers box certificate 0x7f010000'; do
+        'attr layers device 0x01010000 0x7f010000' 'make layers box 0x7f010000' \
+        'check layers box certificate 0x7f010000'; do
         shell "$1: $words" 5 '' "\"\$0\" $words >$2"
     done
     for stop in '2 tables' '2 rows' '2 query layers device 7' '3 rows cut' '3 check layers not-a-box certificate 0x7f010000' \
