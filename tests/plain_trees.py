@@ -1,0 +1,113 @@
+"""A plain reading of needed trees: which tests of a tree are needed, and how many nodes the least tree has. For
+check_made.py.
+
+A node is what its JSON says of it, and members are the devices that stand at it."""
+from plain_certificates import answer, order_of
+from plain_rules import COORDS
+
+
+class Traces:
+    """The traces of an id. Each device is asked once."""
+
+    def __init__(self, layers, name):
+        self.layers = layers
+        self.name = name
+        self.found = {}
+
+    def of(self, device):
+        key = tuple(device.values())
+        if key not in self.found:
+            self.found[key] = self.layers.trace(self.name, device)
+        return self.found[key]
+
+
+def places(members, nodes):
+    """Each node of a whole tree with the members that stand at it."""
+    waiting = [members]
+    for node in nodes:
+        at_node = waiting.pop()
+        yield node, at_node
+        for wanted in (False, True) if "coord" in node else ():
+            waiting.append([device for device in at_node if answer(node, device) == wanted])
+
+
+def values_of(members, name):
+    """The values of a coordinate, in their order."""
+    return sorted({device[name] for device in members}, key=order_of)
+
+
+def lines_along(members, name):
+    """The members in groups that differ in one coordinate alone."""
+    lines = {}
+    for device in members:
+        lines.setdefault(tuple(value for other, value in device.items() if other != name), []).append(device)
+    return list(lines.values())
+
+
+def varying(members):
+    return [name for name in COORDS if len(values_of(members, name)) > 1]
+
+
+def beside(test, members):
+    """The members that a test may part: of a number, those with the two values next to it on both sides."""
+    if "in" in test:
+        return members
+    values = values_of(members, test["coord"])
+    near = [*[value for value in values if value <= test["atMost"]][-1:]]
+    near += [value for value in values if value > test["atMost"]][:1]
+    return [device for device in members if device[test["coord"]] in near]
+
+
+def parts_two(test, line, traces):
+    """Whether a test parts two members of a line that have different traces."""
+    sides = [{traces.of(device) for device in line if answer(test, device) == wanted} for wanted in (True, False)]
+    return all(sides) and len(sides[0] | sides[1]) > 1
+
+
+def fault_of_need(box, test, members, traces):
+    """Why a test is not needed, None where it is."""
+    name = test["coord"]
+    near = beside(test, members)
+    if not any(parts_two(test, line, traces) for line in lines_along(near, name)):
+        return "it parts no two devices"
+    if not box.is_range(name) and varying(members) == [name]:
+        sides = [{traces.of(device) for device in members if answer(test, device) == wanted} for wanted in (True, False)]
+        if sides[0] & sides[1]:
+            return "a trace stands on both of its sides"
+    return None
+
+
+def runs(box, members, traces):
+    """How many leaves the least tree has, where at most one coordinate varies."""
+    names = varying(members)
+    if not names:
+        return 1
+    if not box.is_range(names[0]):
+        return len({traces.of(device) for device in members})
+    along = sorted(members, key=lambda device: device[names[0]])
+    return 1 + sum(traces.of(first) != traces.of(second) for first, second in zip(along, along[1:]))
+
+
+def any_needed_test(box, members, traces, chance):
+    """A test that is needed, None where all members have one trace."""
+    for name in chance.sample(varying(members), len(varying(members))):
+        for line in chance.sample(lines := lines_along(members, name), len(lines)):
+            line.sort(key=lambda device: order_of(device[name]))
+            turns = [(a, b) for a, b in zip(line, line[1:]) if traces.of(a) != traces.of(b)]
+            if turns:
+                first, _ = chance.choice(turns)
+                keeping = [device[name] for device in line if traces.of(device) == traces.of(first)]
+                return {"coord": name, **({"atMost": first[name]} if box.is_range(name) else {"in": keeping})}
+    return None
+
+
+def needed_size(box, members, traces, chance):
+    """The number of nodes of some tree whose tests are all needed."""
+    size, waiting = 0, [members]
+    while waiting:
+        at_node = waiting.pop()
+        size += 1
+        test = any_needed_test(box, at_node, traces, chance)
+        for wanted in (False, True) if test else ():
+            waiting.append([device for device in at_node if answer(test, device) == wanted])
+    return size
