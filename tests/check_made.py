@@ -71,7 +71,7 @@ def faults_of_device(files, case, goals, device):
     lines = files.ask("query", device, *case.asked)
     faults = []
     for name, goal, line in zip(case.asked, goals, lines):
-        leaf = next(node for node, members in places(case.members, goal["nodes"]) if "coord" not in node and device in members)
+        leaf = next(node for node, here in places([device], goal["nodes"]) if here and "coord" not in node)
         end = case.layers.trace(name, device)[1]
         if not says(leaf, end) or not f"{line} ".startswith(f"{id_text(name)} {end_text(end)} "):
             faults.append(f"{line}, where the leaf says {leaf}, and the rules {end_text(end)}")

@@ -58,10 +58,18 @@ def beside(test, members):
     return [device for device in members if device[test["coord"]] in near]
 
 
+def sides_of(test, members, traces):
+    """The traces of the members that answer yes, and of those that answer no."""
+    sides = {True: set(), False: set()}
+    for device in members:
+        sides[answer(test, device)].add(traces.of(device))
+    return sides[True], sides[False]
+
+
 def parts_two(test, line, traces):
     """Whether a test parts two members of a line that have different traces."""
-    sides = [{traces.of(device) for device in line if answer(test, device) == wanted} for wanted in (True, False)]
-    return all(sides) and len(sides[0] | sides[1]) > 1
+    yes, no = sides_of(test, line, traces)
+    return bool(yes and no) and len(yes | no) > 1
 
 
 def fault_of_need(box, test, members, traces):
@@ -71,8 +79,8 @@ def fault_of_need(box, test, members, traces):
     if not any(parts_two(test, line, traces) for line in lines_along(near, name)):
         return "it parts no two devices"
     if not box.is_range(name) and varying(members) == [name]:
-        sides = [{traces.of(device) for device in members if answer(test, device) == wanted} for wanted in (True, False)]
-        if sides[0] & sides[1]:
+        yes, no = sides_of(test, members, traces)
+        if yes & no:
             return "a trace stands on both of its sides"
     return None
 

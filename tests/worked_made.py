@@ -3,8 +3,9 @@
 
     worked_made.py PROGRAM
 
-Each case has the rows of one table, a box, the most nodes (None where no limit is given), how often the id 0x7f010000 is
-asked, and what is due: the text that is printed, or the number of nodes of a certificate that `restool check` accepts.
+Each case has the rows of one table, a box, the most nodes (None where no limit is given), how often the id 0x7f010000
+is asked, and what is due: the text that is printed, or the number of nodes of a certificate that `restool check`
+accepts.
 The last line is the number of cases."""
 import json
 import os
