@@ -53,8 +53,8 @@ def beside(test, members):
     if "in" in test:
         return members
     values = values_of(members, test["coord"])
-    near = [*[value for value in values if value <= test["atMost"]][-1:]]
-    near += [value for value in values if value > test["atMost"]][:1]
+    below = [value for value in values if value <= test["atMost"]]
+    near = below[-1:] + values[len(below) :][:1]
     return [device for device in members if device[test["coord"]] in near]
 
 
@@ -96,16 +96,27 @@ def runs(box, members, traces):
     return 1 + sum(traces.of(first) != traces.of(second) for first, second in zip(along, along[1:]))
 
 
+def neighbours_apart(line, name, traces):
+    """The first of each two neighbours along a line that have different traces."""
+    along = sorted(line, key=lambda device: order_of(device[name]))
+    return [first for first, second in zip(along, along[1:]) if traces.of(first) != traces.of(second)]
+
+
+def parting_test(box, name, line, first, traces):
+    """A test that parts a device from its neighbour on a line; of a choice, all that have its trace from the others."""
+    if box.is_range(name):
+        return {"coord": name, "atMost": first[name]}
+    return {"coord": name, "in": [device[name] for device in line if traces.of(device) == traces.of(first)]}
+
+
 def any_needed_test(box, members, traces, chance):
     """A test that is needed, None where all members have one trace."""
-    for name in chance.sample(varying(members), len(varying(members))):
-        for line in chance.sample(lines := lines_along(members, name), len(lines)):
-            line.sort(key=lambda device: order_of(device[name]))
-            turns = [(a, b) for a, b in zip(line, line[1:]) if traces.of(a) != traces.of(b)]
-            if turns:
-                first, _ = chance.choice(turns)
-                keeping = [device[name] for device in line if traces.of(device) == traces.of(first)]
-                return {"coord": name, **({"atMost": first[name]} if box.is_range(name) else {"in": keeping})}
+    lines = [(name, line) for name in varying(members) for line in lines_along(members, name)]
+    chance.shuffle(lines)
+    for name, line in lines:
+        apart = neighbours_apart(line, name, traces)
+        if apart:
+            return parting_test(box, name, line, chance.choice(apart), traces)
     return None
 
 
