@@ -75,31 +75,24 @@ impl LayerFiles {
     }
 }
 
-/// The bytes of the files of a check.
+/// The bytes of layers and of a box.
 #[derive(Drop)]
-pub struct CheckFiles {
+pub struct BoxFiles {
     pub layers: LayerFiles,
     /// Those of the box.
     pub members: Vec<u8>,
-    pub certificate: Vec<u8>,
 }
 
-impl CheckFiles {
-    /// Reads a list of layers with the files that it names, and then a box and a certificate.
+impl BoxFiles {
+    /// Reads a list of layers with the files that it names, and then a box.
     pub fn read<'a, R: Files + AllocGlobal>(
         rt: &R,
         layers: &'a str,
         members: &'a str,
-        certificate: &'a str,
-    ) -> Result<CheckFiles, Stop<'a>> {
+    ) -> Result<BoxFiles, Stop<'a>> {
         let layers = LayerFiles::read(rt, layers)?;
         let members = file_bytes(rt, members)?;
-        let certificate = file_bytes(rt, certificate)?;
-        Ok(CheckFiles {
-            layers,
-            members,
-            certificate,
-        })
+        Ok(BoxFiles { layers, members })
     }
 }
 

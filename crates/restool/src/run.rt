@@ -1,45 +1,53 @@
 //! From words to the exit status.
 
-use crate::input::{CheckFiles, LayerFiles, file_bytes, table_bytes};
+use crate::input::{BoxFiles, LayerFiles, file_bytes, table_bytes};
+use crate::progress::ProgressLine;
 use crate::status::ExitStatus;
 use crate::stop::Stop;
-use crate::words::{Question, Request, read_words};
+use crate::words::{Question, Request, Task, read_words};
 use res_value::ResId;
 use resource_tool::{
-    Status, ToolFault, attr_bytes, bag_bytes, check_bytes, dump_bytes, explain_bytes, query_bytes,
-    rows_bytes,
+    Status, ToolFault, attr_bytes, bag_bytes, check_bytes, dump_bytes, explain_bytes,
+    make_bytes_watched, query_bytes, rows_bytes,
 };
 use std::alloc::Global;
-use std::io::{BufWriter, Write};
+use std::io::{BufWriter, IsTerminal, Write};
 use std::rt::Files;
+use std::time::Clock;
 
 /// How many bytes of the output are kept back before they are written.
 const OUTPUT_BUFFER: usize = 65_536;
 
 /// Does what the words ask for; the first word is the program's name.
-pub fn run_words<R: Input + Files + AllocGlobal, O: Write + Drop, E: Write + Drop>(
-    rt: &R,
-    words: &[String],
-    out: &mut O,
-    errors: &mut E,
-) -> ExitStatus {
-    match carry_out(rt, words, out) {
+pub fn run_words<R, O, E>(rt: &R, words: &[String], out: &mut O, errors: &mut E) -> ExitStatus
+where
+    R: Input + Files + Clock + AllocGlobal,
+    O: Write + Drop,
+    E: Write + IsTerminal + Drop,
+{
+    match carry_out(rt, words, out, errors) {
         Ok(Status::Done) => ExitStatus::Done,
         Ok(Status::Negative) => ExitStatus::Negative,
         Err(stop) => stop.tell(out, errors),
     }
 }
 
-fn carry_out<'a, R: Input + Files + AllocGlobal, O: Write + Drop>(
+fn carry_out<'a, R, O, E>(
     rt: &R,
     words: &'a [String],
     out: &mut O,
-) -> Result<Status, Stop<'a>> {
+    errors: &mut E,
+) -> Result<Status, Stop<'a>>
+where
+    R: Input + Files + Clock + AllocGlobal,
+    O: Write + Drop,
+    E: Write + IsTerminal,
+{
     let request = read_words(rt.alloc(), words)?;
     let Ok(mut out) = BufWriter::with_capacity(rt.alloc(), OUTPUT_BUFFER, out) else {
         return Err(Stop::Tool(ToolFault::OutOfMemory));
     };
-    let status = answer(rt, request, &mut out)?;
+    let status = answer(rt, request, &mut out, errors)?;
     match out.flush() {
         Ok(()) => Ok(status),
         Err(_) => Err(Stop::Tool(ToolFault::Write)),
@@ -47,11 +55,17 @@ fn carry_out<'a, R: Input + Files + AllocGlobal, O: Write + Drop>(
 }
 
 // Reads the files that a request names, in the order of its words, and answers it.
-fn answer<'a, R: Input + Files + AllocGlobal, O: Write + Drop>(
+fn answer<'a, R, O, E>(
     rt: &R,
     request: Request<'a>,
     out: &mut O,
-) -> Result<Status, Stop<'a>> {
+    errors: &mut E,
+) -> Result<Status, Stop<'a>>
+where
+    R: Input + Files + Clock + AllocGlobal,
+    O: Write + Drop,
+    E: Write + IsTerminal,
+{
     let alloc = rt.alloc();
     let status = match request {
         Request::Rows { table } => rows_bytes(alloc, &table_bytes(rt, table)?, out)?,
@@ -65,14 +79,13 @@ fn answer<'a, R: Input + Files + AllocGlobal, O: Write + Drop>(
             let device = file_bytes(rt, device)?;
             answer_question(alloc, &files.layers(alloc)?, &device, question, out)?
         }
-        Request::Check {
+        Request::OfBox {
             layers,
             members,
-            certificate,
-            ids,
+            task,
         } => {
-            let files = CheckFiles::read(rt, layers, members, certificate)?;
-            check_files(alloc, &files, &ids, out)?
+            let files = BoxFiles::read(rt, layers, members)?;
+            carry_out_task(rt, &files, task, out, errors)?
         }
     };
     Ok(status)
@@ -98,13 +111,46 @@ fn answer_question<O: Write + Drop>(
     }
 }
 
-// Checks a certificate for these ids.
-fn check_files<O: Write + Drop>(
+// Reads what a task names beside the layers and the box, and carries it out.
+fn carry_out_task<'a, R, O, E>(
+    rt: &R,
+    files: &BoxFiles,
+    task: Task<'a>,
+    out: &mut O,
+    errors: &mut E,
+) -> Result<Status, Stop<'a>>
+where
+    R: Files + Clock + AllocGlobal,
+    O: Write + Drop,
+    E: Write + IsTerminal,
+{
+    let alloc = rt.alloc();
+    match task {
+        Task::Make { max_nodes, ids } => {
+            let mut progress = ProgressLine::new(errors, rt);
+            Ok(make_certificate(alloc, files, &ids, max_nodes, &mut progress, out)?)
+        }
+        Task::Check { certificate, ids } => {
+            let certificate = file_bytes(rt, certificate)?;
+            let layers = files.layers.layers(alloc)?;
+            Ok(check_bytes(alloc, &layers, &files.members, &certificate, &ids, out)?)
+        }
+    }
+}
+
+// Makes a certificate for these ids, of at most so many nodes. The line of progress is gone before the
+// answer is printed.
+fn make_certificate<O: Write + Drop, E: Write + IsTerminal, C: Clock>(
     alloc: Global,
-    files: &CheckFiles,
+    files: &BoxFiles,
     ids: &[ResId],
+    max_nodes: u32,
+    progress: &mut ProgressLine<'_, E, C>,
     out: &mut O,
 ) -> Result<Status, ToolFault> {
     let layers = files.layers.layers(alloc)?;
-    check_bytes(alloc, &layers, &files.members, &files.certificate, ids, out)
+    let members = &files.members;
+    let made = make_bytes_watched(alloc, &layers, members, ids, max_nodes, progress, out);
+    progress.clear();
+    made
 }

@@ -8,7 +8,7 @@ pub enum ExitStatus {
     /// All was done, or help or the version was printed that was asked for.
     Done = 0,
     /// Something that was asked for does not exist, or has too many references or parents; or a certificate
-    /// is rejected.
+    /// is rejected, or cannot be made.
     Negative = 1,
     /// A bad command line, or an argument that is not a resource id.
     Command = 2,
