@@ -1,3 +1,4 @@
 pub mod ExitStatus
+pub mod Stop
 pub mod Request
 pub mod Ids

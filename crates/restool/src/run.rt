@@ -26,9 +26,8 @@ where
     E: Write + IsTerminal + Drop,
 {
     match carry_out(rt, words, out, errors) {
-        Ok(Status::Done) => ExitStatus::Done,
-        Ok(Status::Negative) => ExitStatus::Negative,
-        Err(stop) => stop.tell(out, errors),
+        Ok(status) => ExitStatus::after_status(status),
+        Err(stop) => stop.tell(out, errors).status,
     }
 }
 

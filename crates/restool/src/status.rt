@@ -1,6 +1,6 @@
 //! The exit status.
 
-use resource_tool::ToolFault;
+use resource_tool::{Status, ToolFault};
 
 /// How the program ends.
 #[derive(Clone, Copy, Debug, PartialEq, Eq)]
@@ -22,7 +22,7 @@ pub enum ExitStatus {
 
 impl ExitStatus {
     ghost use Rattle.std.specs.Prelude.{◌≡◌};
-    ghost use Rattle.restool.specs.ExitStatus.{number_of, after_fault};
+    ghost use Rattle.restool.specs.ExitStatus.{number_of, after_fault, after_status};
 
     /// How the program ends after a fault of a command.
     pub fn after_fault(fault: &ToolFault) -> ExitStatus
@@ -38,6 +38,16 @@ impl ExitStatus {
             | ToolFault::Certificate(_) => ExitStatus::Refused,
             ToolFault::OutOfMemory => ExitStatus::Memory,
             ToolFault::Write => ExitStatus::Failed,
+        }
+    }
+
+    /// How the program ends where a command was carried out.
+    pub fn after_status(status: Status) -> ExitStatus
+        ensures { result ≡ after_status status }
+    {
+        match status {
+            Status::Done => ExitStatus::Done,
+            Status::Negative => ExitStatus::Negative,
         }
     }
 
