@@ -1,5 +1,5 @@
 -- Why the program stops, and what it says then.
-use Rattle.std.specs.Prelude.{ℕ, Bool, true, false, List, [], ◌∷◌, ◌++◌, codes, Option, Some, None, string_bytes, if◌then◌else◌}
+use Rattle.std.specs.Prelude.{◌≡◌, ◌≢◌, ℕ, Bool, true, false, List, [], ◌∷◌, ◌++◌, codes, Option, Some, None, Result, Ok, Err, string_bytes, if◌then◌else◌}
 use Rattle.clap.specs.Values.{kind_of}
 use Rattle.clap.specs.declared.error.Error.{Error}
 use Rattle.clap.specs.declared.error.kind.ErrorKind.{ErrorKind}
@@ -30,6 +30,11 @@ stop_of (stops.BadId word) = bad_id word.now
 stop_of (stops.File path) = file path.now
 stop_of (stops.LayerFile path) = file (string_bytes path)
 stop_of (stops.Tool fault) = tool fault
+
+-- a call gave what is meant, seen by view, or stops as is meant, or memory ran out
+abbrev pub GivesOrStops : {X Y : Type 0} → (X → Y) → Result X Stop → Result Y StopOf → Type 0
+GivesOrStops view (Ok x) meant = meant ≡ Ok (view x)
+GivesOrStops view (Err stop) meant = stop_of stop ≢ tool faults.OutOfMemory → meant ≡ Err (stop_of stop)
 
 -- ---- faults of the command line
 

@@ -1,45 +1,90 @@
-//! Files and the standard input.
+//! The bytes of inputs: which are read, in which order, and which stop it is where they are not.
 
+ghost use Rattle.std.specs.Prelude.{◌≡◌, ◌<◌, ◌≤◌, ℕ, List, Option, None, map, vec_len, IfOk, IfSome, OnOk, IsErrOf, string_bytes};
+ghost use Rattle.std.specs.Io.KnownBytes.{IsAtEnd};
+ghost use Rattle.resource_tool.specs.Input.{Gave};
+ghost use Rattle.resource_tool.specs.StackBytesSeen.{layer_bytes};
+ghost use Rattle.resource_tool.specs.declared.input.InputFault.TheVariants as input_faults;
+ghost use Rattle.contract_words.specs.Exact.{GivesOr};
+ghost use Rattle.restool.specs.Place.{place_of};
+ghost use Rattle.restool.specs.Inputs.{Places, file_of, layer_of, layers_of, table_of};
+ghost use Rattle.restool.specs.FilesSeen.{bytes_of};
+ghost use Rattle.restool.specs.Stop.{GivesOrStops};
+
+use crate::source::Source;
 use crate::stop::Stop;
-use crate::words::STANDARD_INPUT;
 use resource_tool::{InputFault, LayerList, ToolFault, read_input};
 use std::alloc::{AllocError, Global};
 use std::fs;
-use std::io::ErrorKind;
+use std::io::{ErrorKind, Read};
 use std::rt::Files;
 
 /// How many bytes an input has at most.
 const INPUT_LIMIT: usize = 268_435_456;
 
-/// The bytes of the table at a path.
-pub fn table_bytes<'a, R: Input + Files + AllocGlobal>(
-    rt: &R,
-    path: &'a str,
-) -> Result<Vec<u8>, Stop<'a>> {
-    if path == STANDARD_INPUT {
-        read_input(rt.alloc(), &mut rt.reader(), INPUT_LIMIT).map_err(|fault| stop_at(fault, path))
-    } else {
-        file_bytes(rt, path)
+/// What gives the bytes of inputs.
+pub trait Inputs {
+    /// What each place has, where that is known.
+    ghost places: { Self → Option Places } = { λ _. None };
+
+    fn read(&self, source: Source<'_>) -> Result<Vec<u8>, InputFault>
+        ensures { IfSome (places self.now)
+            (λ places. GivesOr input_faults.OutOfMemory bytes_of result (places (place_of source.entry))) };
+}
+
+/// The files and the standard input of the process.
+#[derive(Drop)]
+pub struct ProcessInputs<'a, R> {
+    pub rt: &'a R,
+}
+
+impl<R: Input + Files + AllocGlobal> Inputs for ProcessInputs<'_, R> {
+    fn read(&self, source: Source<'_>) -> Result<Vec<u8>, InputFault> {
+        let alloc = self.rt.alloc();
+        match source {
+            Source::StandardInput => read_within_limit(alloc, &mut self.rt.reader()),
+            Source::File(path) => match fs::open(self.rt, path) {
+                Ok(mut file) => read_within_limit(alloc, &mut file),
+                Err(error) if error.kind() == ErrorKind::OutOfMemory => {
+                    Err(InputFault::OutOfMemory)
+                }
+                Err(_) => Err(InputFault::Read),
+            },
+        }
+    }
+}
+
+fn read_within_limit<R: Read>(alloc: Global, reader: &mut R) -> Result<Vec<u8>, InputFault>
+    ensures whole { IfOk result (λ input. IfSome (R.remaining reader.old) (λ bytes. input.items ≡ bytes)) }
+    ensures end { OnOk result (IsAtEnd (R.remaining reader.new)) }
+    ensures within { IfOk result (λ input. vec_len input ≤ 268_435_456) }
+    ensures too_large { IsErrOf result InputFault.TooLarge
+        → Gave (R.remaining reader.old) (R.remaining reader.new) (λ count. 268_435_456 < count) }
+    ensures read { IsErrOf result InputFault.Read
+        → Gave (R.remaining reader.old) (R.remaining reader.new) (λ count. count ≤ 268_435_456) }
+{
+    read_input(alloc, reader, INPUT_LIMIT)
+}
+
+/// The bytes of the table at a path, or on the standard input.
+pub fn table_bytes<'a, I: Inputs>(inputs: &I, path: &'a str) -> Result<Vec<u8>, Stop<'a>>
+    ensures { IfSome (I.places inputs.now) (λ places. GivesOrStops bytes_of result (table_of places path.entry.now)) }
+{
+    match inputs.read(Source::of_table(path)) {
+        Ok(bytes) => Ok(bytes),
+        Err(InputFault::OutOfMemory) => Err(Stop::Tool(ToolFault::OutOfMemory)),
+        Err(InputFault::Read | InputFault::TooLarge) => Err(Stop::File(path)),
     }
 }
 
 /// The bytes of the file at a path.
-pub fn file_bytes<'a, R: Files + AllocGlobal>(rt: &R, path: &'a str) -> Result<Vec<u8>, Stop<'a>> {
-    read_file(rt, path).map_err(|fault| stop_at(fault, path))
-}
-
-fn stop_at<'a>(fault: InputFault, path: &'a str) -> Stop<'a> {
-    match fault {
-        InputFault::OutOfMemory => Stop::Tool(ToolFault::OutOfMemory),
-        InputFault::Read | InputFault::TooLarge => Stop::File(path),
-    }
-}
-
-fn read_file<R: Files + AllocGlobal>(rt: &R, path: &str) -> Result<Vec<u8>, InputFault> {
-    match fs::open(rt, path) {
-        Ok(mut file) => read_input(rt.alloc(), &mut file, INPUT_LIMIT),
-        Err(error) if error.kind() == ErrorKind::OutOfMemory => Err(InputFault::OutOfMemory),
-        Err(_) => Err(InputFault::Read),
+pub fn file_bytes<'a, I: Inputs>(inputs: &I, path: &'a str) -> Result<Vec<u8>, Stop<'a>>
+    ensures { IfSome (I.places inputs.now) (λ places. GivesOrStops bytes_of result (file_of places path.entry.now)) }
+{
+    match inputs.read(Source::File(path)) {
+        Ok(bytes) => Ok(bytes),
+        Err(InputFault::OutOfMemory) => Err(Stop::Tool(ToolFault::OutOfMemory)),
+        Err(InputFault::Read | InputFault::TooLarge) => Err(Stop::File(path)),
     }
 }
 
@@ -50,28 +95,80 @@ pub struct LayerFiles {
 }
 
 impl LayerFiles {
+    ghost use Rattle.restool.specs.FilesSeen.{layers_held};
+
     /// Reads a list of layers, and then the files that it names, each table before its id map.
-    pub fn read<'a, R: Files + AllocGlobal>(rt: &R, path: &'a str) -> Result<LayerFiles, Stop<'a>> {
-        let list = LayerList::read(rt.alloc(), &file_bytes(rt, path)?)?;
-        let mut files = Vec::new(rt.alloc());
-        for (table, map) in list.paths {
-            let table = layer_file(rt, table)?;
-            let map = match map {
-                Some(path) => Some(layer_file(rt, path)?),
-                None => None,
-            };
-            files.push((table, map))?;
-        }
+    #[tactic(auto, unfolding(crate::specs::Inputs::layers_of))]
+    pub fn read<'a, I: Inputs>(
+        alloc: Global,
+        inputs: &I,
+        path: &'a str,
+    ) -> Result<LayerFiles, Stop<'a>>
+        ensures { IfSome (I.places inputs.now) (λ places. GivesOrStops layers_held result (layers_of places path.entry.now)) }
+    {
+        let json = file_bytes(inputs, path)?;
+        let list = LayerList::read(alloc, &json)?;
+        let files = read_each_layer(alloc, inputs, list.paths)?;
         Ok(LayerFiles { files })
     }
 
     /// The layers, lent.
-    pub fn layers(&self, alloc: Global) -> Result<Vec<(&[u8], Option<&[u8]>)>, AllocError> {
+    pub fn layers(&self, alloc: Global) -> Result<Vec<(&[u8], Option<&[u8]>)>, AllocError>
+        ensures { IfOk result (λ layers. map layer_bytes layers.items ≡ layers_held self.now) }
+    {
         let mut layers = Vec::new(alloc);
         for (table, map) in &self.files {
             layers.push((table.as_slice(), map.as_deref()))?;
         }
         Ok(layers)
+    }
+}
+
+ghost use Rattle.restool.specs.FilesSeen.{layer_held, all_held};
+ghost use Rattle.resource_tool.specs.LayerListSeen.{paths_of, all_paths_of};
+ghost use Rattle.json_input.specs.Each.{each};
+
+fn read_each_layer<I: Inputs>(
+    alloc: Global,
+    inputs: &I,
+    paths: Vec<(String, Option<String>)>,
+) -> Result<Vec<(Vec<u8>, Option<Vec<u8>>)>, Stop<'static>>
+    ensures { IfSome (I.places inputs.now) (λ places. GivesOrStops all_held result (each (layer_of places) (all_paths_of paths))) }
+{
+    let mut files = Vec::new(alloc);
+    for layer in paths {
+        let read = read_layer(inputs, layer)?;
+        files.push(read)?;
+    }
+    Ok(files)
+}
+
+#[tactic(auto, unfolding(crate::specs::Inputs::layer_of))]
+fn read_layer<I: Inputs>(
+    inputs: &I,
+    paths: (String, Option<String>),
+) -> Result<(Vec<u8>, Option<Vec<u8>>), Stop<'static>>
+    ensures { IfSome (I.places inputs.now) (λ places. GivesOrStops layer_held result (layer_of places (paths_of paths))) }
+{
+    let (table, map) = paths;
+    let table = layer_file(inputs, table)?;
+    match map {
+        Some(path) => {
+            let map = layer_file(inputs, path)?;
+            Ok((table, Some(map)))
+        }
+        None => Ok((table, None)),
+    }
+}
+
+// The bytes of the file at a path that a list of layers names.
+fn layer_file<I: Inputs>(inputs: &I, path: String) -> Result<Vec<u8>, Stop<'static>>
+    ensures { IfSome (I.places inputs.now) (λ places. GivesOrStops bytes_of result (file_of places (string_bytes path))) }
+{
+    match inputs.read(Source::File(path.as_str())) {
+        Ok(bytes) => Ok(bytes),
+        Err(InputFault::OutOfMemory) => Err(Stop::Tool(ToolFault::OutOfMemory)),
+        Err(InputFault::Read | InputFault::TooLarge) => Err(Stop::LayerFile(path)),
     }
 }
 
@@ -85,21 +182,14 @@ pub struct BoxFiles {
 
 impl BoxFiles {
     /// Reads a list of layers with the files that it names, and then a box.
-    pub fn read<'a, R: Files + AllocGlobal>(
-        rt: &R,
+    pub fn read<'a, I: Inputs>(
+        alloc: Global,
+        inputs: &I,
         layers: &'a str,
         members: &'a str,
     ) -> Result<BoxFiles, Stop<'a>> {
-        let layers = LayerFiles::read(rt, layers)?;
-        let members = file_bytes(rt, members)?;
+        let layers = LayerFiles::read(alloc, inputs, layers)?;
+        let members = file_bytes(inputs, members)?;
         Ok(BoxFiles { layers, members })
-    }
-}
-
-fn layer_file<R: Files + AllocGlobal>(rt: &R, path: String) -> Result<Vec<u8>, Stop<'static>> {
-    match read_file(rt, path.as_str()) {
-        Ok(bytes) => Ok(bytes),
-        Err(InputFault::OutOfMemory) => Err(Stop::Tool(ToolFault::OutOfMemory)),
-        Err(InputFault::Read | InputFault::TooLarge) => Err(Stop::LayerFile(path)),
     }
 }

@@ -1,6 +1,6 @@
 //! From words to the exit status.
 
-use crate::input::{BoxFiles, LayerFiles, file_bytes, table_bytes};
+use crate::input::{BoxFiles, Inputs, LayerFiles, ProcessInputs, file_bytes, table_bytes};
 use crate::progress::ProgressLine;
 use crate::status::ExitStatus;
 use crate::stop::Stop;
@@ -66,16 +66,17 @@ where
     E: Write + IsTerminal,
 {
     let alloc = rt.alloc();
+    let inputs = &ProcessInputs { rt };
     let status = match request {
-        Request::Rows { table } => rows_bytes(alloc, &table_bytes(rt, table)?, out)?,
-        Request::Dump { table } => dump_bytes(alloc, &table_bytes(rt, table)?, out)?,
+        Request::Rows { table } => rows_bytes(alloc, &table_bytes(inputs, table)?, out)?,
+        Request::Dump { table } => dump_bytes(alloc, &table_bytes(inputs, table)?, out)?,
         Request::OfDevice {
             layers,
             device,
             question,
         } => {
-            let files = LayerFiles::read(rt, layers)?;
-            let device = file_bytes(rt, device)?;
+            let files = LayerFiles::read(alloc, inputs, layers)?;
+            let device = file_bytes(inputs, device)?;
             answer_question(alloc, &files.layers(alloc)?, &device, question, out)?
         }
         Request::OfBox {
@@ -83,7 +84,7 @@ where
             members,
             task,
         } => {
-            let files = BoxFiles::read(rt, layers, members)?;
+            let files = BoxFiles::read(alloc, inputs, layers, members)?;
             carry_out_task(rt, &files, task, out, errors)?
         }
     };
@@ -119,7 +120,7 @@ fn carry_out_task<'a, R, O, E>(
     errors: &mut E,
 ) -> Result<Status, Stop<'a>>
 where
-    R: Files + Clock + AllocGlobal,
+    R: Input + Files + Clock + AllocGlobal,
     O: Write + Drop,
     E: Write + IsTerminal,
 {
@@ -130,7 +131,7 @@ where
             Ok(make_certificate(alloc, files, &ids, max_nodes, &mut progress, out)?)
         }
         Task::Check { certificate, ids } => {
-            let certificate = file_bytes(rt, certificate)?;
+            let certificate = file_bytes(&ProcessInputs { rt }, certificate)?;
             let layers = files.layers.layers(alloc)?;
             Ok(check_bytes(alloc, &layers, &files.members, &certificate, &ids, out)?)
         }

@@ -8,6 +8,7 @@ use crate::command_line::{
     KEEP, LAYERS, MAKE, MAX_NODES, MOST_NODES, QUERY, ROWS, STYLES, TABLE, command_line,
 };
 use crate::ids::{read_id, read_ids};
+use crate::source::STANDARD_INPUT;
 use crate::stop::Stop;
 use clap::ArgMatches;
 use res_value::ResId;
@@ -16,9 +17,6 @@ use std::alloc::Global;
 use std::env;
 use std::io::ErrorKind;
 use std::rt::Env;
-
-/// The path that means the standard input where a table is read.
-pub const STANDARD_INPUT: &str = "-";
 
 /// How many nodes a certificate may have where the words name no number.
 const NODES_IF_LEFT_OUT: u32 = 100_000;
