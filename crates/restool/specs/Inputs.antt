@@ -54,3 +54,42 @@ layers_of places path = do
   json ← file_of places path
   layers ← or_stop (λ fault. tool (fault_of_layers fault)) (layers_in json)
   each (layer_of places) layers
+
+-- ---- the files of a request
+
+pub record DeviceInputs : Type 0 where
+  pub layers : List LayerBytes
+  pub device : List ℕ
+
+-- layers and then a device
+unfoldable pub device_files : Places → List ℕ → List ℕ → Result DeviceInputs StopOf
+device_files places layers device = do
+  layers ← layers_of places layers
+  device ← file_of places device
+  Ok (record { layers = layers; device = device })
+
+pub record BoxInputs : Type 0 where
+  pub layers : List LayerBytes
+  -- the bytes of the box
+  pub members : List ℕ
+
+-- layers and then a box
+unfoldable pub box_files : Places → List ℕ → List ℕ → Result BoxInputs StopOf
+box_files places layers members = do
+  layers ← layers_of places layers
+  members ← file_of places members
+  Ok (record { layers = layers; members = members })
+
+pub record CheckInputs : Type 0 where
+  pub layers : List LayerBytes
+  -- the bytes of the box
+  pub members : List ℕ
+  pub certificate : List ℕ
+
+-- layers, then a box and then a certificate
+unfoldable pub check_files : Places → List ℕ → List ℕ → List ℕ → Result CheckInputs StopOf
+check_files places layers members certificate = do
+  layers ← layers_of places layers
+  members ← file_of places members
+  certificate ← file_of places certificate
+  Ok (record { layers = layers; members = members; certificate = certificate })

@@ -5,3 +5,4 @@ pub mod Ids
 pub mod Place
 pub mod Inputs
 pub mod FilesSeen
+pub mod Answers

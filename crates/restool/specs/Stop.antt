@@ -7,11 +7,12 @@ use Rattle.clap.specs.declared.error.kind.ErrorKind.TheVariants as kinds
 use Rattle.resource_text.specs.declared.fault.ToolFault.{ToolFault}
 use Rattle.resource_text.specs.declared.fault.ToolFault.TheVariants as faults
 use Rattle.resource_text.specs.FaultText.{fault_line}
+use Rattle.resource_tool.specs.declared.status.Status.{Status}
 use Rattle.restool.specs.declared.stop.Stop.{Stop}
 use Rattle.restool.specs.declared.stop.Stop.TheVariants as stops
 use Rattle.restool.specs.declared.status.ExitStatus.{ExitStatus}
 use Rattle.restool.specs.declared.status.ExitStatus.TheVariants.{Done, Command, Failed}
-use Rattle.restool.specs.ExitStatus.{after_fault}
+use Rattle.restool.specs.ExitStatus.{after_fault, after_status}
 
 -- why the program stops, without the memory that holds it
 pub data StopOf : Type 0 where
@@ -72,3 +73,8 @@ status_of_stop was_written not_text = Command
 status_of_stop was_written (bad_id word) = Command
 status_of_stop was_written (file path) = Failed
 status_of_stop was_written (tool fault) = after_fault fault
+
+-- how the program ends: as the command was done, or as it stopped
+abbrev pub EndsAs : Result Status Stop → ExitStatus → Type 0
+EndsAs (Ok status) ended = ended ≡ after_status status
+EndsAs (Err stop) ended = (was_written : Bool) × (ended ≡ status_of_stop was_written (stop_of stop))

@@ -1,20 +1,19 @@
-//! The bytes of inputs: which are read, in which order, and which stop it is where they are not.
+//! What gives the bytes of inputs.
 
-ghost use Rattle.std.specs.Prelude.{◌≡◌, ◌<◌, ◌≤◌, ℕ, List, Option, None, map, vec_len, IfOk, IfSome, OnOk, IsErrOf, string_bytes};
+ghost use Rattle.std.specs.Prelude.{◌≡◌, ◌<◌, ◌≤◌, Option, None, vec_len, IfOk, IfSome, OnOk, IsErrOf, string_bytes};
 ghost use Rattle.std.specs.Io.KnownBytes.{IsAtEnd};
 ghost use Rattle.resource_tool.specs.Input.{Gave};
-ghost use Rattle.resource_tool.specs.StackBytesSeen.{layer_bytes};
 ghost use Rattle.resource_tool.specs.declared.input.InputFault.TheVariants as input_faults;
 ghost use Rattle.contract_words.specs.Exact.{GivesOr};
 ghost use Rattle.restool.specs.Place.{place_of};
-ghost use Rattle.restool.specs.Inputs.{Places, file_of, layer_of, layers_of, table_of};
+ghost use Rattle.restool.specs.Inputs.{Places, file_of, table_of};
 ghost use Rattle.restool.specs.FilesSeen.{bytes_of};
 ghost use Rattle.restool.specs.Stop.{GivesOrStops};
 
 use crate::source::Source;
 use crate::stop::Stop;
-use resource_tool::{InputFault, LayerList, ToolFault, read_input};
-use std::alloc::{AllocError, Global};
+use resource_tool::{InputFault, ToolFault, read_input};
+use std::alloc::Global;
 use std::fs;
 use std::io::{ErrorKind, Read};
 use std::rt::Files;
@@ -88,108 +87,13 @@ pub fn file_bytes<'a, I: Inputs>(inputs: &I, path: &'a str) -> Result<Vec<u8>, S
     }
 }
 
-/// The bytes of the files of layers: each table with its id map, if it is an overlay.
-#[derive(Drop)]
-pub struct LayerFiles {
-    files: Vec<(Vec<u8>, Option<Vec<u8>>)>,
-}
-
-impl LayerFiles {
-    ghost use Rattle.restool.specs.FilesSeen.{layers_held};
-
-    /// Reads a list of layers, and then the files that it names, each table before its id map.
-    #[tactic(auto, unfolding(crate::specs::Inputs::layers_of))]
-    pub fn read<'a, I: Inputs>(
-        alloc: Global,
-        inputs: &I,
-        path: &'a str,
-    ) -> Result<LayerFiles, Stop<'a>>
-        ensures { IfSome (I.places inputs.now) (λ places. GivesOrStops layers_held result (layers_of places path.entry.now)) }
-    {
-        let json = file_bytes(inputs, path)?;
-        let list = LayerList::read(alloc, &json)?;
-        let files = read_each_layer(alloc, inputs, list.paths)?;
-        Ok(LayerFiles { files })
-    }
-
-    /// The layers, lent.
-    pub fn layers(&self, alloc: Global) -> Result<Vec<(&[u8], Option<&[u8]>)>, AllocError>
-        ensures { IfOk result (λ layers. map layer_bytes layers.items ≡ layers_held self.now) }
-    {
-        let mut layers = Vec::new(alloc);
-        for (table, map) in &self.files {
-            layers.push((table.as_slice(), map.as_deref()))?;
-        }
-        Ok(layers)
-    }
-}
-
-ghost use Rattle.restool.specs.FilesSeen.{layer_held, all_held};
-ghost use Rattle.resource_tool.specs.LayerListSeen.{paths_of, all_paths_of};
-ghost use Rattle.json_input.specs.Each.{each};
-
-fn read_each_layer<I: Inputs>(
-    alloc: Global,
-    inputs: &I,
-    paths: Vec<(String, Option<String>)>,
-) -> Result<Vec<(Vec<u8>, Option<Vec<u8>>)>, Stop<'static>>
-    ensures { IfSome (I.places inputs.now) (λ places. GivesOrStops all_held result (each (layer_of places) (all_paths_of paths))) }
-{
-    let mut files = Vec::new(alloc);
-    for layer in paths {
-        let read = read_layer(inputs, layer)?;
-        files.push(read)?;
-    }
-    Ok(files)
-}
-
-#[tactic(auto, unfolding(crate::specs::Inputs::layer_of))]
-fn read_layer<I: Inputs>(
-    inputs: &I,
-    paths: (String, Option<String>),
-) -> Result<(Vec<u8>, Option<Vec<u8>>), Stop<'static>>
-    ensures { IfSome (I.places inputs.now) (λ places. GivesOrStops layer_held result (layer_of places (paths_of paths))) }
-{
-    let (table, map) = paths;
-    let table = layer_file(inputs, table)?;
-    match map {
-        Some(path) => {
-            let map = layer_file(inputs, path)?;
-            Ok((table, Some(map)))
-        }
-        None => Ok((table, None)),
-    }
-}
-
-// The bytes of the file at a path that a list of layers names.
-fn layer_file<I: Inputs>(inputs: &I, path: String) -> Result<Vec<u8>, Stop<'static>>
+/// The bytes of the file at a path that a list of layers names.
+pub fn layer_file<I: Inputs>(inputs: &I, path: String) -> Result<Vec<u8>, Stop<'static>>
     ensures { IfSome (I.places inputs.now) (λ places. GivesOrStops bytes_of result (file_of places (string_bytes path))) }
 {
     match inputs.read(Source::File(path.as_str())) {
         Ok(bytes) => Ok(bytes),
         Err(InputFault::OutOfMemory) => Err(Stop::Tool(ToolFault::OutOfMemory)),
         Err(InputFault::Read | InputFault::TooLarge) => Err(Stop::LayerFile(path)),
-    }
-}
-
-/// The bytes of layers and of a box.
-#[derive(Drop)]
-pub struct BoxFiles {
-    pub layers: LayerFiles,
-    /// Those of the box.
-    pub members: Vec<u8>,
-}
-
-impl BoxFiles {
-    /// Reads a list of layers with the files that it names, and then a box.
-    pub fn read<'a, I: Inputs>(
-        alloc: Global,
-        inputs: &I,
-        layers: &'a str,
-        members: &'a str,
-    ) -> Result<BoxFiles, Stop<'a>> {
-        let layers = LayerFiles::read(alloc, inputs, layers)?;
-        let members = file_bytes(inputs, members)?;
-        Ok(BoxFiles { layers, members })
     }
 }

@@ -1,7 +1,7 @@
 //! How far the making of a certificate has come.
 
 use resource_tool::Progress;
-use std::io::{IsTerminal, Write};
+use std::io::Write;
 use std::time::{Clock, Duration, Instant};
 
 /// Work that ends within so many milliseconds shows nothing.
@@ -10,8 +10,16 @@ const BEFORE_THE_FIRST: u64 = 1_000;
 /// A line stands for at least so many milliseconds before it is rewritten.
 const BETWEEN_TWO: u64 = 250;
 
-/// A line on a terminal that says how many goals are done, and is rewritten in place. A stream that is
-/// no terminal gets nothing, and a failure of the stream or the clock is passed over.
+/// Where there is no terminal, nobody sees how many goals are done.
+#[derive(Drop)]
+pub struct Unseen;
+
+impl Progress for Unseen {
+    fn goals_done(&mut self, _done: usize, _all: usize) {}
+}
+
+/// A line on a terminal that says how many goals are done, and is rewritten in place. A failure of the
+/// stream or the clock is passed over.
 #[derive(Drop)]
 pub struct ProgressLine<'a, E, C> {
     errors: &'a mut E,
@@ -22,18 +30,13 @@ pub struct ProgressLine<'a, E, C> {
     is_shown: bool,
 }
 
-impl<'a, E: Write + IsTerminal, C: Clock> ProgressLine<'a, E, C> {
+impl<'a, E: Write, C: Clock> ProgressLine<'a, E, C> {
     /// Begins to count the time; writes nothing yet.
     pub fn new(errors: &'a mut E, clock: &'a C) -> Self {
-        let due = if errors.is_terminal() {
-            after(BEFORE_THE_FIRST, clock)
-        } else {
-            None
-        };
         ProgressLine {
             errors,
             clock,
-            due,
+            due: after(BEFORE_THE_FIRST, clock),
             is_shown: false,
         }
     }
@@ -54,7 +57,7 @@ impl<'a, E: Write + IsTerminal, C: Clock> ProgressLine<'a, E, C> {
     }
 }
 
-impl<E: Write + IsTerminal, C: Clock> Progress for ProgressLine<'_, E, C> {
+impl<E: Write, C: Clock> Progress for ProgressLine<'_, E, C> {
     fn goals_done(&mut self, done: usize, all: usize) {
         if done == all {
             self.clear();

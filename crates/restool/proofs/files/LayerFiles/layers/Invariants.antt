@@ -1,7 +1,7 @@
 use Rattle.std.proofs.Common.{◌≡◌, map, take}
 use Rattle.resource_tool.specs.StackBytesSeen.{layer_bytes}
 use Rattle.restool.specs.FilesSeen.{layer_held}
-use Rattle.restool.proofs.input.LayerFiles.layers.Given as goal
+use Rattle.restool.proofs.files.LayerFiles.layers.Given as goal
 
 -- the layers so far are lent
 abbrev pub invariant-loop-table : goal.invariant-loop-table

@@ -1,5 +1,5 @@
 use Rattle.restool.proofs.LayersLeft.{LayersLeft}
-use Rattle.restool.proofs.input.read_each_layer.Given as goal
+use Rattle.restool.proofs.files.read_each_layer.Given as goal
 
 -- the layers so far, and those that are left, are all layers
 abbrev pub invariant-loop-layer : goal.invariant-loop-layer
