@@ -50,7 +50,7 @@ alike-next (LocalesOf xs) (RangeOf m i) c first next = absurd first
 alike-next (LocalesOf xs) (NumbersOf ys) c first next = absurd first
 alike-next (LocalesOf xs) (LocalesOf ys) c first next = elim c as (λ s. AreMarkedAlike (LocalesOf ys) s → AreMarkedAlike (LocalesOf xs) s) [ RangeOf x y ↦ λ n. n | NumbersOf x ↦ λ n. n | LocalesOf x ↦ λ n. tt ] next
 
-alike-range : (a b : SetOf) → AreMarkedAlike a b → is_range a ≡ is_range b
+pub alike-range : (a b : SetOf) → AreMarkedAlike a b → is_range a ≡ is_range b
 alike-range (RangeOf l h) (RangeOf m i) alike = refl
 alike-range (RangeOf l h) (NumbersOf ys) alike = absurd alike
 alike-range (RangeOf l h) (LocalesOf ys) alike = absurd alike

@@ -1,7 +1,7 @@
-//! The command over a table of a few rows.
+//! The commands over a table of a few rows.
 
 use res_value::ResId;
-use resource_tool::{Status, check_bytes};
+use resource_tool::{Status, ToolFault, check_bytes, make_bytes};
 use std::alloc::{AllocError, Global};
 use test_layers::layer_of_lines;
 
@@ -44,4 +44,52 @@ pub(crate) fn is_printed_of(
         &mut out,
     );
     Some(ended == Ok(want.0) && out.as_slice() == want.1.as_bytes())
+}
+
+/// What is asked of `make`.
+#[derive(Clone, Copy)]
+pub(crate) struct Order<'a> {
+    /// The rows of the only table.
+    pub(crate) rows: &'a str,
+    pub(crate) members: &'a str,
+    pub(crate) goals: &'a [ResId],
+    pub(crate) max_nodes: u32,
+}
+
+/// How `make` ends; what it prints goes to a list of bytes.
+fn made(alloc: Global, table: &[u8], order: Order, out: &mut Vec<u8>) -> Result<Status, ToolFault> {
+    make_bytes(
+        alloc,
+        &[(table, None)],
+        order.members.as_bytes(),
+        order.goals,
+        order.max_nodes,
+        out,
+    )
+}
+
+/// Whether `make` ends so and prints this; None where there are no such rows.
+pub(crate) fn is_made_as(alloc: Global, order: Order, want: (Status, &str)) -> Option<bool> {
+    let table = layer_of_lines(alloc, order.rows).ok()?;
+    let mut out = Vec::new(alloc);
+    let ended = made(alloc, table.as_slice(), order, &mut out);
+    Some(ended == Ok(want.0) && out.as_slice() == want.1.as_bytes())
+}
+
+/// Whether `make` prints a certificate, of which a check of the same prints this; None where there are no such rows.
+pub(crate) fn is_accepted_as(alloc: Global, order: Order, want: &str) -> Option<bool> {
+    let table = layer_of_lines(alloc, order.rows).ok()?;
+    let mut certificate = Vec::new(alloc);
+    let ended = made(alloc, table.as_slice(), order, &mut certificate);
+    let mut out = Vec::new(alloc);
+    let checked = check_bytes(
+        alloc,
+        &[(table.as_slice(), None)],
+        order.members.as_bytes(),
+        certificate.as_slice(),
+        order.goals,
+        &mut out,
+    );
+    let is_done = ended == Ok(Status::Done) && checked == Ok(Status::Done);
+    Some(is_done && out.as_slice() == want.as_bytes())
 }

@@ -4,7 +4,7 @@ use crate::command::FIRST;
 use cert_tree::CertFault;
 use config_box::BoxFault;
 use config_record::Coord;
-use resource_tool::{LayersFault, ToolFault, check_bytes};
+use resource_tool::{LayersFault, ToolFault, check_bytes, make_bytes};
 use std::alloc::Global;
 use test_layers::{layer, table_with};
 use type_chunks::TableFault;
@@ -30,6 +30,13 @@ fn is_refused(
         &[FIRST],
         &mut out,
     );
+    found == Err(fault) && out.is_empty()
+}
+
+// The same of `make`.
+fn is_not_made(alloc: Global, layers: &[Layer], members: &str, fault: ToolFault) -> bool {
+    let mut out = Vec::new(alloc);
+    let found = make_bytes(alloc, layers, members.as_bytes(), &[FIRST], 10, &mut out);
     found == Err(fault) && out.is_empty()
 }
 
@@ -98,10 +105,19 @@ fn layers_come_first(alloc: Global) -> Option<bool> {
     let bad = table_with(alloc, 0, &[1]).ok()?;
     let layers = [(good.as_slice(), None), (bad.as_slice(), None)];
     let many: [Layer; 65] = [(bad.as_slice(), None); 65];
-    Some(is_refused(alloc, &layers, "", "", NO_TABLE) && is_refused(alloc, &many, "", "", TOO_MANY))
+    let are_refused = is_refused(alloc, &layers, "", "", NO_TABLE)
+        && is_refused(alloc, &many, "", "", TOO_MANY);
+    let are_not_made = is_not_made(alloc, &layers, "", NO_TABLE)
+        && is_not_made(alloc, &many, "", TOO_MANY);
+    Some(are_refused && are_not_made)
 }
 
 #[test]
 fn the_layers_come_before_the_box(rt: HostRuntime) {
     assert!(rt; layers_come_first(rt.alloc()) == Some(true));
+}
+
+#[test]
+fn a_box_is_read_to_make(rt: HostRuntime) {
+    assert!(rt; is_not_made(rt.alloc(), &[], "", ToolFault::Box(BoxFault::Syntax)));
 }

@@ -7,3 +7,4 @@ pub mod Passing
 pub mod ByNumbers
 pub mod OneLine
 pub mod LeastTree
+pub mod OneMember

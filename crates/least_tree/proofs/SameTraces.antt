@@ -9,7 +9,7 @@ use Rattle.reference_resolver.specs.declared.step.Step.TheVariants.{NoMatch, Kep
 use Rattle.reference_resolver.specs.declared.end.End.{End}
 use Rattle.reference_resolver.specs.declared.end.End.TheVariants.{Value, Bag, Absent, TooLong}
 use Rattle.reference_resolver.specs.Trace.{Trace}
-use Rattle.least_tree.specs.SameTrace.{same_step, same_steps, same_end, same_trace, TellsEqualTraces}
+use Rattle.least_tree.specs.SameTrace.{same_step, same_steps, same_end, same_trace, IsTrueOfEqualTraces}
 
 pub bool_cases : (b : Bool) → (b ≡ true) ⊎ (b ≡ false)
 bool_cases true = inl refl
@@ -99,7 +99,7 @@ trace-cases t u =
       | inr other ↦ inr (other, λ e. let same : same_trace t u ≡ true = sym (ap (same_trace t) e) ∙ trace-same t in cc)
     ]
 
-pub tells-equal : TellsEqualTraces
+pub tells-equal : IsTrueOfEqualTraces
 tells-equal t u =
     (λ is. trace-equal t u (true-of (same_trace t u) is), λ e. of-true (same_trace t u) (sym (ap (same_trace t) e) ∙ trace-same t))
   where

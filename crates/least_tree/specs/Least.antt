@@ -3,12 +3,17 @@ use Rattle.std.specs.Prelude.{ℕ, ◌+◌, ◌*◌, ◌≤◌, List, length}
 use Rattle.config_record.specs.declared.coord.Coord.{Coord}
 use Rattle.overlay_map.specs.Layer.{LayerOf}
 use Rattle.box_answers.specs.NumberSet.{SetOf}
+use Rattle.box_answers.specs.Members.{IsBox}
 use Rattle.cert_tree.specs.declared.goal.Goal.{Goal}
 use Rattle.cert_tree.specs.Certificate.{NodeOf}
 use Rattle.cert_checker.specs.Fails.{NoRuleFails}
 use Rattle.cert_checker.specs.FirstFault.{goal_trace}
 use Rattle.least_tree.specs.Needed.{IsNeeded}
-use Rattle.least_tree.specs.Runs.{runs_along, IsOnLine}
+use Rattle.least_tree.specs.Runs.{runs_along, VariesAlone, IsOnLine}
+
+-- each such box has a member of which the laws speak
+abbrev pub HasMember : Type 0
+HasMember = (sets : List SetOf) (c : Coord) → IsBox sets → VariesAlone sets c → (d : List ℕ) × IsOnLine sets c d
 
 -- a tree whose tests are needed has at most twice as many nodes as there are runs, less one
 abbrev pub NeededIsSmall : Type 0

@@ -1,4 +1,5 @@
--- Trees without a test too many. A trace tells for each device what the rules of the platform do.
+-- Trees each of whose tests separates two devices that have different traces. A trace says for each device what the rules of
+-- the platform do.
 use Rattle.std.specs.Prelude.{◌≡◌, ◌≢◌, ℕ, ◌<◌, true, false, List}
 use Rattle.config_record.specs.declared.coord.Coord.{Coord}
 use Rattle.config_record.specs.ComparedNumber.{device_number}
@@ -22,7 +23,8 @@ coord_of (AmongOf c choice) = c
 abbrev pub AgreeBut : Coord → List ℕ → List ℕ → Type 0
 AgreeBut c x y = (k : Coord) → k ≢ c → device_number x k ≡ device_number y k
 
--- Numbers up to one are asked for: no member has a number there that lies between those of the two.
+-- Where a test asks for numbers up to a bound, no member has a number that lies between those of the two, the first of which
+-- is the lower.
 abbrev pub NoneBetween : (List ℕ → Type 0) → TestOf → List ℕ → List ℕ → Type 0
 NoneBetween members (AtMostOf c most) x y =
     (d : List ℕ) → members d → device_number x c < device_number d c → device_number d c < device_number y c → ⊥
@@ -37,8 +39,8 @@ abbrev pub VariesOnlyAt : Coord → (List ℕ → Type 0) → Type 0
 VariesOnlyAt c members = (x y : List ℕ) → members x → members y → AgreeBut c x y
 
 -- No rule fails at the test, and it separates two of the members that come to it: they differ in its coordinate alone, and
--- have different traces. Numbers up to one are asked for between neighbours alone. Where the coordinate is a choice, and
--- is all in which members differ, no trace stands on both sides.
+-- have different traces. Of a test for numbers up to a bound the two are neighbours: no member's number lies between theirs.
+-- Where the coordinate is a choice, and is all in which members differ, no trace stands on both sides.
 pub record IsNeededTest (trace : List ℕ → Trace) (sets : List SetOf) (members : List ℕ → Type 0) (test : TestOf) : Type 0 where
   pub passes : (rule : Rule) → FailsAtTest sets members test rule → ⊥
   pub x : List ℕ

@@ -1,4 +1,5 @@
--- How often does the trace change, where at most one coordinate of a box has several values?
+-- The runs of traces, where at most one coordinate of a box has several values: along a range a run is a stretch of numbers
+-- with one trace, of a choice all values with one trace.
 use Rattle.std.specs.Prelude.{◌≡◌, ◌≢◌, ℕ, zero, suc, ◌+◌, ◌-◌, List, [], ◌∷◌, map, length, slice_set, if◌then◌else◌}
 use Rattle.std.specs.List.{list_any}
 use Rattle.config_record.specs.declared.coord.Coord.{Coord}
@@ -33,8 +34,12 @@ trace_with trace d c n = trace (slice_set d (place_of c) n)
 abbrev pub runs_along : (List ℕ → Trace) → List SetOf → Coord → List ℕ → ℕ
 runs_along trace sets c d = runs (trace_with trace d c) (set_at sets c)
 
--- a member of a box of which no coordinate but this one has several values
+-- no coordinate of a box but this one has several values
+abbrev pub VariesAlone : List SetOf → Coord → Type 0
+VariesAlone sets c = (k : Coord) (m n : ℕ) → k ≢ c → IsIn (set_at sets k) m → IsIn (set_at sets k) n → m ≡ n
+
+-- a member of such a box, as the list of its 25 numbers
 pub record IsOnLine (sets : List SetOf) (c : Coord) (d : List ℕ) : Type 0 where
   pub count : length d ≡ 25
   pub member : IsMember sets d
-  pub others : (k : Coord) (m n : ℕ) → k ≢ c → IsIn (set_at sets k) m → IsIn (set_at sets k) n → m ≡ n
+  pub others : VariesAlone sets c

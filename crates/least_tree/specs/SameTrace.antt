@@ -28,6 +28,6 @@ same_end end other = false
 unfoldable pub same_trace : Trace → Trace → Bool
 same_trace t u = same_steps t.steps u.steps && same_end t.end u.end
 
--- it tells which traces are equal
-abbrev pub TellsEqualTraces : Type 0
-TellsEqualTraces = (t u : Trace) → IsTrue (same_trace t u) ↔ (t ≡ u)
+-- it is true of equal traces alone
+abbrev pub IsTrueOfEqualTraces : Type 0
+IsTrueOfEqualTraces = (t u : Trace) → IsTrue (same_trace t u) ↔ (t ≡ u)

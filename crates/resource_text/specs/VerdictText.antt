@@ -3,6 +3,7 @@ use Rattle.std.specs.Prelude.{ℕ, List, [], ◌∷◌, ◌++◌, codes, length}
 use Rattle.std.specs.Fmt.{decimal}
 use Rattle.config_record.specs.DeviceSeen.{device_numbers}
 use Rattle.config_record.specs.Qualifiers.{device_text}
+use Rattle.reference_resolver.specs.declared.end.End.{End}
 use Rattle.cert_tree.specs.Certificate.{GoalOf, node_count}
 use Rattle.cert_checker.specs.declared.verdict.Shown.{Shown}
 use Rattle.cert_checker.specs.declared.verdict.Shown.TheVariants.{Nothing, Two, One}
@@ -28,12 +29,16 @@ rejected_line goal node rule name =
 unfoldable pub named_device_line : List ℕ → List ℕ → List ℕ
 named_device_line name d = name ++ codes " " ++ device_text d ++ 10 ∷ []
 
+-- a device, and in a line behind it where a goal ends for it
+unfoldable pub device_with_end : List ℕ → End → List ℕ
+device_with_end d end = named_device_line (codes "device") d ++ end_line end
+
 -- the devices that show why a node fails: two that are decided in different ways, or one with its end
 unfoldable pub shown_text : Shown → List ℕ
 shown_text Nothing = []
 shown_text (Two first second) =
     named_device_line (codes "first") (device_numbers first) ++ named_device_line (codes "second") (device_numbers second)
-shown_text (One device end) = named_device_line (codes "device") (device_numbers device) ++ end_line end
+shown_text (One device end) = device_with_end (device_numbers device) end
 
 unfoldable pub verdict_text : Verdict → List GoalOf → List ℕ
 verdict_text Accepted goals = accepted_text goals

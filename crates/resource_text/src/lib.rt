@@ -43,4 +43,4 @@ pub use layer::write_layer;
 pub use layers_fault::LayersFault;
 pub use query::{query_line, set_aside_line};
 pub use rows::rows_text;
-pub use verdict::verdict_text;
+pub use verdict::{device_with_end, verdict_text};

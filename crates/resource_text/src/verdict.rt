@@ -4,12 +4,13 @@ ghost use Rattle.std.specs.Prelude.{◌≡◌};
 ghost use Rattle.contract_words.specs.Writes.{Writes};
 ghost use Rattle.config_record.specs.DeviceSeen.{device_numbers};
 ghost use Rattle.cert_tree.specs.Certificate.{goals_of, node_count};
-ghost use Rattle.resource_text.specs.VerdictText.{accepted_line, accepted_text, rejected_line, named_device_line, shown_text, verdict_text};
+ghost use Rattle.resource_text.specs.VerdictText.{accepted_line, accepted_text, rejected_line, named_device_line, device_with_end, shown_text, verdict_text};
 
 use crate::end::write_end_line;
 use cert_checker::{Shown, Verdict};
 use cert_tree::Cert;
 use config_record::Device;
+use reference_resolver::End;
 use std::io::{self, Write};
 
 /// Writes whether a certificate is accepted, with the number of its goals and nodes; or the first node that
@@ -83,11 +84,17 @@ fn write_shown<W: Write + Drop>(shown: &Shown, out: &mut W) -> io::Result<()>
             write_named_device("first", first, out)?;
             write_named_device("second", second, out)
         }
-        Shown::One(device, end) => {
-            write_named_device("device", device, out)?;
-            write_end_line(*end, out)
-        }
+        Shown::One(device, end) => device_with_end(device, *end, out),
     }
+}
+
+/// Writes a line of a device and one of where a goal ends for it.
+#[tactic(auto, unfolding(crate::specs::VerdictText::device_with_end))]
+pub fn device_with_end<W: Write + Drop>(device: &Device, end: End, out: &mut W) -> io::Result<()>
+    ensures { Writes W.contents out.old out.new result (device_with_end (device_numbers device.now) end) }
+{
+    write_named_device("device", device, out)?;
+    write_end_line(end, out)
 }
 
 #[tactic(auto, unfolding(crate::specs::VerdictText::named_device_line))]

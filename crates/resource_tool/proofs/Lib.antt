@@ -3,3 +3,5 @@ pub mod StackSteps
 pub mod LineSteps
 pub mod QuerySteps
 pub mod CheckSteps
+pub mod LineFeed
+pub mod MakeSteps

@@ -14,3 +14,6 @@ pub mod AttrOutput
 pub mod CheckOutput
 pub mod CheckHeadline
 pub mod CheckInputsSeen
+pub mod MakeOutput
+pub mod MakeReadsBack
+pub mod LineReadsBack

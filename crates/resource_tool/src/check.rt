@@ -6,18 +6,19 @@ ghost use Rattle.contract_words.specs.Writes.{Writes};
 ghost use Rattle.resource_text.specs.declared.fault.ToolFault.TheVariants.{OutOfMemory};
 ghost use Rattle.resource_tool.specs.Output.{PrintsOneOf, IsOfInput};
 ghost use Rattle.resource_tool.specs.StackBytesSeen.{layer_bytes};
-ghost use Rattle.resource_tool.specs.CheckOutput.{IsCheckOutput, check_inputs, check_text, goals_asked, status_of_verdict};
+ghost use Rattle.resource_tool.specs.CheckOutput.{IsCheckOutput, check_inputs, check_text, status_of_verdict};
 ghost use Rattle.resource_tool.specs.CheckHeadline.{HeadlineHolds};
 
+use crate::goals::goals_asked;
 use crate::stack::open_stack;
 use crate::status::Status;
 use cert_checker::{Verdict, check};
-use cert_tree::{Cert, Goal};
+use cert_tree::Cert;
 use config_box::ConfigBox;
 use overlay_map::Stack;
 use res_value::ResId;
 use resource_text::{ToolFault, set_aside_line, verdict_text};
-use std::alloc::{AllocError, Global};
+use std::alloc::Global;
 use std::io::{self, Write};
 
 /// Prints whether a certificate is true of some ids for every device of a box, or the first of its nodes that
@@ -89,12 +90,6 @@ fn answer<W: Write + Drop>(
     )?;
     write_verdict(&verdict, inputs, out)?;
     Ok(status_of_verdict(verdict))
-}
-
-fn goals_asked(alloc: Global, ids: &[ResId]) -> Result<Vec<Goal>, AllocError>
-    ensures { IfOk result (λ goals. goals.items ≡ goals_asked ids.now) }
-{
-    ids.iter().map(|id| Goal::Id(*id)).collect(alloc)
 }
 
 #[tactic(auto, unfolding(crate::specs::CheckOutput::check_text))]

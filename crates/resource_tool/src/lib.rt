@@ -22,6 +22,7 @@
 //! bag_bytes(alloc, &layers, &device, id, &mut out)?; // 0x01010000 layer 0 decimal 5
 //! attr_bytes(alloc, &layers, &device, attr, &styles, true, &mut out)?; // 0x01010000 value layer 0 decimal 5
 //!
+//! make_bytes(alloc, &layers, &box_json, &ids, 100_000, &mut out)?; // {"goals":[{"id":"0x7f010000","nodes":[{"kind":16, ..
 //! check_bytes(alloc, &layers, &box_json, &certificate, &ids, &mut out)?; // accepted goals 1 nodes 3
 //!                                                                        // set-aside 0
 //! ```
@@ -33,8 +34,10 @@ mod check;
 mod dump;
 mod end_status;
 mod explain;
+mod goals;
 mod input;
 mod layer_list;
+mod make;
 mod no_bag;
 mod query;
 mod rows;
@@ -43,11 +46,13 @@ mod status;
 
 pub use attr::attr_bytes;
 pub use bag::bag_bytes;
+pub use cert_maker::Progress;
 pub use check::check_bytes;
 pub use dump::dump_bytes;
 pub use explain::explain_bytes;
 pub use input::{InputFault, read_input};
 pub use layer_list::LayerList;
+pub use make::{make_bytes, make_bytes_watched};
 pub use query::query_bytes;
 pub use resource_text::{LayersFault, ToolFault, fault_text};
 pub use rows::rows_bytes;

@@ -1,3 +1,4 @@
+use Rattle.least_tree.proofs.OneMember.{has-member}
 use Rattle.least_tree.proofs.LeastTree.{small, large, least}
 use Rattle.least_tree.proofs.laws.least_tree.Goals as goal
 
@@ -9,3 +10,6 @@ returns-clause-accepted c = large
 
 pub returns-clause-least : goal.returns-clause-least
 returns-clause-least c = least
+
+pub returns-clause-member : goal.returns-clause-member
+returns-clause-member c = has-member

@@ -1,0 +1,83 @@
+-- Two devices, candidate by candidate and look-up by look-up.
+use Rattle.std.proofs.Common.{◌≡◌, ◌≢◌, ℕ, ◌⊎◌, inl, inr, List, ◌∷◌, Option, Some, None, true, false, IsTrue, sym, ◌∙◌, ap, refl, subst}
+use Rattle.overlay_map.specs.Candidates.{CandOf}
+use Rattle.overlay_map.specs.Layer.{LayerOf}
+use Rattle.reference_resolver.specs.declared.step.Step.{Step}
+use Rattle.reference_resolver.specs.declared.step.Step.TheVariants.{NoMatch, KeptOut, TookOver}
+use Rattle.reference_resolver.specs.Selection.{step_of, best_after, scan_candidates}
+use Rattle.reference_resolver.specs.Trace.{Trace, trace_of, scan_look_up}
+use Rattle.box_trace.specs.Division.{has_matched, DividesAt, Divides}
+use Rattle.box_trace.specs.CommonTrace.{SharesTrace}
+use Rattle.box_trace.proofs.Divisions.{traces_differ}
+use Rattle.box_trace.proofs.Scans.{IsScanned, scan_more, scan_divided}
+use Rattle.box_trace.proofs.Following.{IsFollowed, follow_divided}
+use Rattle.least_tree.specs.SameTrace.{same_trace}
+use Rattle.least_tree.proofs.SameTraces.{trace-cases}
+use Rattle.cert_maker.specs.Pair.{IsOneOf}
+
+-- both do the same
+both-do : (step_at : List ℕ → Step) (step : Step) (x y : List ℕ) → step ≡ step_at x → step_at y ≡ step → (d : List ℕ) → IsOneOf x y d → step_at d ≡ step
+both-do step_at step x y e f d (inl is) = ap step_at is ∙ sym e
+both-do step_at step x y e f d (inr is) = ap step_at is ∙ f
+
+-- the best stays where the candidate does not take over
+pub stays-best : (step : Step) (best : Option CandOf) (candidate : CandOf) → step ≢ TookOver → best ≡ best_after step best candidate
+stays-best NoMatch best candidate other = refl
+stays-best KeptOut best candidate other = refl
+stays-best TookOver best candidate other = absurd (other refl)
+
+pub new-best : (step : Step) (best : Option CandOf) (candidate : CandOf) → step ≡ TookOver → Some candidate ≡ best_after step best candidate
+new-best NoMatch best candidate e = absurd cc
+new-best KeptOut best candidate e = absurd cc
+new-best TookOver best candidate e = refl
+
+all-matched : (step_at : List ℕ → Step) (x y : List ℕ) → IsTrue (has_matched (step_at x)) → IsTrue (has_matched (step_at y)) → (d : List ℕ) → IsOneOf x y d → IsTrue (has_matched (step_at d))
+all-matched step_at x y mx my d (inl is) = subst (λ (z : List ℕ). IsTrue (has_matched (step_at z))) (sym is) mx
+all-matched step_at x y mx my d (inr is) = subst (λ (z : List ℕ). IsTrue (has_matched (step_at z))) (sym is) my
+
+matched-by : (step other : Step) → step ≡ other → IsTrue (has_matched other) → IsTrue (has_matched step)
+matched-by step other e is = subst (λ (s : Step). IsTrue (has_matched s)) (sym e) is
+
+divided-by : (step_at : List ℕ → Step) (x y : List ℕ) (a b : Step) → step_at x ≡ a → step_at y ≡ b → a ≢ b → DividesAt (IsOneOf x y) step_at x y ⊎ DividesAt (IsOneOf x y) step_at y x
+divided-by step_at x y NoMatch NoMatch e f ne = absurd (ne refl)
+divided-by step_at x y KeptOut KeptOut e f ne = absurd (ne refl)
+divided-by step_at x y TookOver TookOver e f ne = absurd (ne refl)
+divided-by step_at x y NoMatch KeptOut e f ne = inr (inl (matched-by (step_at y) KeptOut f refl, e))
+divided-by step_at x y NoMatch TookOver e f ne = inr (inl (matched-by (step_at y) TookOver f refl, e))
+divided-by step_at x y KeptOut NoMatch e f ne = inl (inl (matched-by (step_at x) KeptOut e refl, f))
+divided-by step_at x y TookOver NoMatch e f ne = inl (inl (matched-by (step_at x) TookOver e refl, f))
+divided-by step_at x y TookOver KeptOut e f ne = inl (inr (all-matched step_at x y (matched-by (step_at x) TookOver e refl) (matched-by (step_at y) KeptOut f refl), e, f))
+divided-by step_at x y KeptOut TookOver e f ne = inr (inr (all-matched step_at x y (matched-by (step_at x) KeptOut e refl) (matched-by (step_at y) TookOver f refl), f, e))
+
+-- one candidate more, which does the same at both
+pub scan-alike : (x y : List ℕ) (all left : List CandOf) (best next : Option CandOf) (candidate : CandOf) (step other : Step) → IsScanned (IsOneOf x y) all best (candidate ∷ left) → step ≡ step_of best candidate x
+    → other ≡ step_of best candidate y → step ≡ other → next ≡ best_after step best candidate → IsScanned (IsOneOf x y) all next left
+scan-alike x y all left best next candidate step other scanned e f same is =
+    scan_more (IsOneOf x y) all left best next candidate step scanned (both-do (step_of best candidate) step x y e (sym f ∙ sym same)) is
+
+-- a candidate that does different things divides them
+pub scan-apart : (x y : List ℕ) (all left : List CandOf) (best : Option CandOf) (candidate : CandOf) → IsScanned (IsOneOf x y) all best (candidate ∷ left) → step_of best candidate x ≢ step_of best candidate y
+    → Divides (IsOneOf x y) (λ d. scan_candidates step_of None all d) x y ⊎ Divides (IsOneOf x y) (λ d. scan_candidates step_of None all d) y x
+scan-apart x y all left best candidate scanned ne =
+    elim (divided-by (step_of best candidate) x y (step_of best candidate x) (step_of best candidate y) refl refl ne) [
+      | inl divides ↦ inl (scan_divided (IsOneOf x y) all left best candidate x y scanned divides)
+      | inr divides ↦ inr (scan_divided (IsOneOf x y) all left best candidate y x scanned divides)
+    ]
+
+same-of : (t u : Trace) → t ≡ u → same_trace t u ≡ true
+same-of t u e = elim (trace-cases t u) [ inl same ↦ same.0 | inr other ↦ absurd (other.1 e) ]
+
+other-of : (t u : Trace) → t ≢ u → same_trace t u ≡ false
+other-of t u ne = elim (trace-cases t u) [ inl same ↦ absurd (ne same.1) | inr other ↦ other.0 ]
+
+pub follow-apart : (stack : List LayerOf) (most first left id : ℕ) (x y : List ℕ) → IsFollowed (IsOneOf x y) stack most first left id
+    → Divides (IsOneOf x y) (λ d. scan_look_up step_of stack d id) x y ⊎ Divides (IsOneOf x y) (λ d. scan_look_up step_of stack d id) y x
+    → false ≡ same_trace (trace_of stack most first x) (trace_of stack most first y)
+follow-apart stack most first left id x y followed (inl divides) =
+    sym (other-of _ _ (traces_differ (IsOneOf x y) (trace_of stack most first) x y (follow_divided (IsOneOf x y) stack most first left id x y followed divides) (inl refl) (inr refl)))
+follow-apart stack most first left id x y followed (inr divides) =
+    sym (other-of _ _ (λ e. traces_differ (IsOneOf x y) (trace_of stack most first) y x (follow_divided (IsOneOf x y) stack most first left id y x followed divides) (inr refl) (inl refl) (sym e)))
+
+pub share-same : (stack : List LayerOf) (most first : ℕ) (x y : List ℕ) (t : Trace) → SharesTrace (IsOneOf x y) (trace_of stack most first) t
+    → true ≡ same_trace (trace_of stack most first x) (trace_of stack most first y)
+share-same stack most first x y t shared = sym (same-of _ _ (shared x (inl refl) ∙ sym (shared y (inr refl))))

@@ -1,0 +1,129 @@
+-- From goal to goal.
+use Rattle.std.proofs.Common.{◌≡◌, ℕ, ◌+◌, ◌-◌, ◌<◌, ◌≤◌, arith, List, [], ◌∷◌, ◌++◌, append_assoc, append-nil, length, map, Some, sym, ◌∙◌, ap, refl, subst}
+use Rattle.std.specs.Prelude.{slice_get}
+use Rattle.std.specs.List.{All}
+use Rattle.std.proofs.lemmas.List.{map-append, length-map}
+use Rattle.std.proofs.lemmas.List.Elements.{All-get_or, All-cons, All-push, All-append, All-map, All-weaker}
+use Rattle.std.proofs.lemmas.Option.{slice_get_within, get_or_from_slice_get}
+use Rattle.res_value.specs.declared.res_id.ResId.{ResId}
+use Rattle.reference_resolver.specs.declared.end.End.{End}
+use Rattle.reference_resolver.specs.Ends.{references_followed}
+use Rattle.reference_resolver.specs.Trace.{trace_of}
+use Rattle.reference_resolver.proofs.Chains.{is_the_end}
+use Rattle.overlay_map.specs.Layer.{LayerOf}
+use Rattle.box_answers.specs.NumberSet.{SetOf}
+use Rattle.cert_tree.specs.declared.goal.Goal.{Goal}
+use Rattle.cert_tree.specs.declared.goal.Goal.TheVariants.{Id}
+use Rattle.cert_tree.specs.Certificate.{BagAt, GoalOf, NodeFits, node_count}
+use Rattle.cert_checker.specs.FirstFault.{goal_trace, goals_in, IsAccepted}
+use Rattle.least_tree.specs.Needed.{IsNeeded}
+use Rattle.cert_maker.specs.Made.{AreNeeded, IsCounter}
+use Rattle.cert_maker.specs.Growth.{EndsNowhere}
+use Rattle.cert_maker.specs.Trees.{IsGoodTree, AreDone}
+
+-- what holds of all holds of the one at a place
+all-at : {A : Type 0} (P : A → Type 0) (xs : List A) (k : ℕ) (x : A) → All P xs → slice_get xs k ≡ Some x → P x
+all-at P xs k x all is = subst P (get_or_from_slice_get xs k x x is) (All-get_or P xs k x (slice_get_within xs k x is) all)
+
+slice_get-middle : {A : Type 0} (xs ys : List A) (y : A) → slice_get (xs ++ y ∷ ys) (length xs) ≡ Some y
+slice_get-middle [] ys y = refl
+slice_get-middle (x ∷ xs) ys y = slice_get-middle xs ys y
+
+node_count-append : (trees others : List GoalOf) → node_count (trees ++ others) ≡ node_count trees + node_count others
+node_count-append [] others = omega arith
+node_count-append (tree ∷ trees) others = let e = node_count-append trees others in omega (arith, e)
+
+-- ---- goal by goal
+
+-- the next goal has its tree
+pub one-more : (stack : List LayerOf) (sets : List SetOf) (asked left : List Goal) (most spare : ℕ) (trees : List GoalOf) (tree : GoalOf) → AreDone stack sets asked (tree.goal ∷ left) most trees spare → IsGoodTree stack sets tree
+    → length tree.nodes ≤ spare + 1 → AreDone stack sets asked left most (trees ++ tree ∷ []) (spare + 1 - length tree.nodes)
+one-more stack sets asked left most spare trees tree h good few =
+    let count = node_count-append trees (tree ∷ []) in
+    let room = h.room in
+    record {
+      goals = ap (λ (goals : List Goal). goals ++ left) (map-append (λ (t : GoalOf). t.goal) trees (tree ∷ [])) ∙ append_assoc (goals_in trees) (tree.goal ∷ []) left ∙ h.goals;
+      good = All-push (IsGoodTree stack sets) trees tree h.good good;
+      room = omega (arith, count, room);
+    }
+
+-- the tests of a tree are needed
+abbrev HasNeeded : List LayerOf → List SetOf → GoalOf → Type 0
+HasNeeded stack sets tree = IsNeeded (goal_trace stack tree.goal) sets tree.nodes
+
+have-needed : (stack : List LayerOf) (sets : List SetOf) (trees : List GoalOf) → All (IsGoodTree stack sets) trees → All (HasNeeded stack sets) trees
+have-needed stack sets trees good = All-weaker (IsGoodTree stack sets) (HasNeeded stack sets) (λ tree is. is.needed) trees good
+
+-- ---- all goals have their trees
+
+pub accepted : (stack : List LayerOf) (sets : List SetOf) (asked : List Goal) (most spare : ℕ) (trees : List GoalOf) → AreDone stack sets asked [] most trees spare
+    → IsAccepted stack sets asked trees × AreNeeded stack sets trees × (node_count trees ≤ most)
+accepted stack sets asked most spare trees h =
+    let room = h.room in (
+      record {
+        goals = sym (append-nil (goals_in trees)) ∙ h.goals;
+        passes = λ g tree is. (all-at (IsGoodTree stack sets) trees g tree h.good is).passes;
+      },
+      (λ g tree is. all-at (HasNeeded stack sets) trees g tree (have-needed stack sets trees h.good) is),
+      omega (arith, room),
+    )
+
+pub written : (stack : List LayerOf) (sets : List SetOf) (trees : List GoalOf) → All (IsGoodTree stack sets) trees → All (λ (tree : GoalOf). All NodeFits tree.nodes) trees
+written stack sets trees good = All-weaker (IsGoodTree stack sets) (λ (tree : GoalOf). All NodeFits tree.nodes) (λ tree is. is.fits) trees good
+
+-- ---- the trees have more nodes than the limit
+
+-- a goal with a bare leaf
+abbrev bare : Goal → GoalOf
+bare goal = record { goal = goal; nodes = BagAt (record { 0 = 0 }) ∷ [] }
+
+goals_in-bare : (goals : List Goal) → goals_in (map bare goals) ≡ goals
+goals_in-bare [] = refl
+goals_in-bare (goal ∷ goals) = ap (λ (others : List Goal). goal ∷ others) (goals_in-bare goals)
+
+node_count-bare : (goals : List Goal) → node_count (map bare goals) ≡ length goals
+node_count-bare [] = refl
+node_count-bare (goal ∷ goals) = let e = node_count-bare goals in omega (arith, e)
+
+-- nothing is said of leaves
+have-needed-bare : (stack : List LayerOf) (sets : List SetOf) (goals : List Goal) → All (HasNeeded stack sets) (map bare goals)
+have-needed-bare stack sets goals = All-map (HasNeeded stack sets) bare goals (λ k d within. (tt, tt))
+
+pub more-goals : (stack : List LayerOf) (sets : List SetOf) (asked : List Goal) (most : ℕ) → most < length asked
+    → (trees : List GoalOf) × (goals_in trees ≡ asked) × AreNeeded stack sets trees × (most < node_count trees)
+more-goals stack sets asked most more =
+    let count = node_count-bare asked in
+    (map bare asked, goals_in-bare asked, (λ g tree is. all-at (HasNeeded stack sets) (map bare asked) g tree (have-needed-bare stack sets asked) is), omega (arith, count))
+
+-- the trees so far, a large one, and a leaf for each goal behind it
+pub too-large : (stack : List LayerOf) (sets : List SetOf) (asked left : List Goal) (most spare : ℕ) (done : List GoalOf) (tree : GoalOf) → AreDone stack sets asked (tree.goal ∷ left) most done spare
+    → HasNeeded stack sets tree → spare + 1 < length tree.nodes → (trees : List GoalOf) × (goals_in trees ≡ asked) × AreNeeded stack sets trees × (most < node_count trees)
+too-large stack sets asked left most spare done tree h needed more =
+    let trees = done ++ tree ∷ map bare left in
+    let all = All-append (HasNeeded stack sets) done (tree ∷ map bare left) (have-needed stack sets done h.good) (All-cons (HasNeeded stack sets) tree (map bare left) needed (have-needed-bare stack sets left)) in
+    let count = node_count-append done (tree ∷ map bare left) in
+    let bare_count = node_count-bare left in
+    let room = h.room in (
+      trees,
+      map-append (λ (t : GoalOf). t.goal) done (tree ∷ map bare left) ∙ ap (λ (others : List Goal). goals_in done ++ (tree.goal ∷ others)) (goals_in-bare left) ∙ h.goals,
+      (λ g t is. all-at (HasNeeded stack sets) trees g t all is),
+      omega (arith, count, bare_count, room),
+    )
+
+-- ---- the next goal ends at no value
+
+next-goal : (stack : List LayerOf) (sets : List SetOf) (asked left : List Goal) (most spare : ℕ) (done : List GoalOf) (goal : Goal) → AreDone stack sets asked (goal ∷ left) most done spare → slice_get asked (length done) ≡ Some goal
+next-goal stack sets asked left most spare done goal h =
+    ap (λ (goals : List Goal). slice_get goals (length done)) (sym h.goals) ∙ ap (slice_get (goals_in done ++ goal ∷ left)) (sym (length-map done (λ (t : GoalOf). t.goal))) ∙ slice_get-middle (goals_in done) left goal
+
+pub no-value : (stack : List LayerOf) (sets : List SetOf) (asked left : List Goal) (most spare : ℕ) (done : List GoalOf) (id : ResId) (d : List ℕ) (end : End) → AreDone stack sets asked (Id id ∷ left) most done spare
+    → EndsNowhere (trace_of stack references_followed id.0) sets d end → (goal : Goal) × (slice_get asked (length done) ≡ Some goal) × IsCounter stack sets goal d end
+no-value stack sets asked left most spare done id d end h e = (
+  Id id,
+  next-goal stack sets asked left most spare done (Id id) h,
+  record {
+    member = e.member;
+    ends = is_the_end stack references_followed id.0 d end (sym e.ends);
+    no_value = e.no_value;
+  },
+)

@@ -1,0 +1,198 @@
+-- The values of a choice with which a device keeps its trace.
+use Rattle.std.proofs.Common.{◌≡◌, ◌≢◌, ℕ, ◌⊎◌, inl, inr, arith, ◌≤◌, List, [], ◌∷◌, length, filter, get_or, Bool, true, false, sym, ◌∙◌, ap, refl, subst}
+use Rattle.std.specs.Prelude.{◌==◌, if◌then◌else◌}
+use Rattle.std.specs.List.{All, list_any}
+use Rattle.std.proofs.lemmas.Bool.{false≢true}
+use Rattle.std.proofs.lemmas.Bool.Decides.{nat_tests}
+use Rattle.std.proofs.lemmas.List.{get_or-map, length-map}
+use Rattle.std.proofs.lemmas.List.Sums.{length-filter, count_by-le-length}
+use Rattle.config_record.specs.declared.coord.Coord as coord
+use Rattle.config_record.specs.declared.coord.Coord.TheVariants as coords
+use Rattle.config_record.specs.declared.locale.Locale.{Locale}
+use Rattle.config_record.specs.ComparedNumber.{device_number, locale_number, locale_of_number}
+use Rattle.config_record.specs.Locale.{IsGiven, IsOfSomeText, locale_text}
+use Rattle.config_record.proofs.LocaleGiven.{TwoBytes, given, numbered}
+use Rattle.config_record.specs.Device.{CanHave}
+use Rattle.res_value.specs.declared.res_id.ResId.{ResId}
+use Rattle.overlay_map.specs.Layer.{LayerOf}
+use Rattle.reference_resolver.specs.Ends.{references_followed}
+use Rattle.reference_resolver.specs.Trace.{Trace, trace_of}
+use Rattle.box_answers.specs.NumberSet.{SetOf, RangeOf, NumbersOf, LocalesOf, IsIn, listed, locale_numbers}
+use Rattle.box_answers.specs.Members.{set_at, IsMember, IsOfKind, IsBox}
+use Rattle.config_box.specs.Tests.{is_range}
+use Rattle.cert_tree.specs.Certificate as seen
+use Rattle.cert_tree.specs.declared.goal.Goal.TheVariants.{Id}
+use Rattle.cert_checker.specs.Tests.{is_listed, has_wrong_kind}
+use Rattle.least_tree.specs.SameTrace.{same_trace}
+use Rattle.least_tree.specs.Needed.{AgreeBut, IsNeededTest}
+use Rattle.least_tree.specs.Runs.{trace_with}
+use Rattle.least_tree.proofs.SameTraces.{bool_cases}
+use Rattle.least_tree.proofs.Different.{Among, among}
+use Rattle.least_tree.proofs.ByNumbers.{GoesByNumbers, goal-by-numbers}
+use Rattle.cert_maker.specs.Pair.{ArePair, numbers_of, keeps, keeps_locale}
+use Rattle.cert_maker.proofs.Cut.{on-line, ListsKept, cut-choice}
+
+-- a changed device has the trace of x just where x keeps it
+pub changed-keeps : (stack : List LayerOf) (id : ResId) (x z : List ℕ) (c : coord.Coord) (n : ℕ) → device_number z c ≡ n → AgreeBut c z x
+    → same_trace (trace_of stack references_followed id.0 x) (trace_of stack references_followed id.0 z) ≡ keeps (trace_of stack references_followed id.0) x c n
+changed-keeps stack id x z c n here others =
+    let trace : List ℕ → Trace = trace_of stack references_followed id.0 in
+    ap (same_trace (trace x)) (on-line trace c x z (goal-by-numbers stack (Id id)) others ∙ ap (trace_with trace (numbers_of x) c) here)
+
+-- ---- which are listed
+
+any-among : (n : ℕ) (ms : List ℕ) → Among n ms → list_any (λ m. m == n) ms ≡ true
+any-among n [] a = absurd a
+any-among n (m ∷ ms) (inl e) = let is : (m == n) ≡ true = grind (arith, nat_tests) in rw is
+any-among n (m ∷ ms) (inr a) =
+    let rest = any-among n ms a in
+    elim (bool_cases (m == n)) [ inl is ↦ rw is | inr isnt ↦ rw (isnt, rest) ]
+
+none-among : (n : ℕ) (ms : List ℕ) → (Among n ms → ⊥) → list_any (λ m. m == n) ms ≡ false
+none-among n [] none = refl
+none-among n (m ∷ ms) none =
+    let rest = none-among n ms (λ a. none (inr a)) in
+    elim (bool_cases (m == n)) [
+      | inl is ↦ (let e : m ≡ n = grind (arith, nat_tests) in absurd (none (inl e)))
+      | inr isnt ↦ rw (isnt, rest)
+    ]
+
+filter-first : (b : Bool) (f : ℕ → Bool) (m n : ℕ) (ms : List ℕ) → f m ≡ b → Among n (if b then m ∷ filter f ms else filter f ms) → ((m ≡ n) × (f m ≡ true)) ⊎ Among n (filter f ms)
+filter-first true f m n ms e (inl same) = inl (same, e)
+filter-first true f m n ms e (inr a) = inr a
+filter-first false f m n ms e a = inr a
+
+passed : (f : ℕ → Bool) (n : ℕ) (ms : List ℕ) → Among n (filter f ms) → f n ≡ true
+passed f n [] a = absurd a
+passed f n (m ∷ ms) a =
+    elim (filter-first (f m) f m n ms refl a) [
+      | inl h ↦ ap f (sym h.0) ∙ h.1
+      | inr h ↦ passed f n ms h
+    ]
+
+first-kept : (b : Bool) (m n : ℕ) (ms : List ℕ) → m ≡ n → b ≡ true → Among n (if b then m ∷ ms else ms)
+first-kept true m n ms e is = inl e
+first-kept false m n ms e is = absurd (false≢true is)
+
+rest-kept : (b : Bool) (m n : ℕ) (ms : List ℕ) → Among n ms → Among n (if b then m ∷ ms else ms)
+rest-kept true m n ms a = inr a
+rest-kept false m n ms a = a
+
+passes-on : (f : ℕ → Bool) (n : ℕ) (ms : List ℕ) → Among n ms → f n ≡ true → Among n (filter f ms)
+passes-on f n [] a is = absurd a
+passes-on f n (m ∷ ms) (inl e) is = first-kept (f m) m n (filter f ms) e (ap f e ∙ is)
+passes-on f n (m ∷ ms) (inr a) is = rest-kept (f m) m n (filter f ms) (passes-on f n ms a is)
+
+listed-filter : (f : ℕ → Bool) (n : ℕ) (ms : List ℕ) → Among n ms → list_any (λ m. m == n) (filter f ms) ≡ f n
+listed-filter f n ms a =
+    elim (bool_cases (f n)) [
+      | inl is ↦ any-among n (filter f ms) (passes-on f n ms a is) ∙ sym is
+      | inr isnt ↦ none-among n (filter f ms) (λ b. let is = passed f n ms b in absurd cc) ∙ sym isnt
+    ]
+
+map-filter : (f : ℕ → Bool) (locales : List Locale) → locale_numbers (filter (λ locale. f (locale_number locale)) locales) ≡ filter f (locale_numbers locales)
+map-filter f [] = refl
+map-filter f (locale ∷ locales) =
+    let rest = map-filter f locales in
+    elim (bool_cases (f (locale_number locale))) [
+      | inl is ↦ rw (is, rest)
+      | inr isnt ↦ rw (isnt, rest)
+    ]
+
+-- ---- numbers stand anywhere but at the locale, and locales there
+
+no-numbers : (c : coord.Coord) (set : SetOf) (numbers : List ℕ) → set ≡ NumbersOf numbers → IsOfKind c set → c ≢ coords.Locale
+no-numbers c set numbers e kind is = subst (λ (s : SetOf). IsOfKind coords.Locale s) e (subst (λ (k : coord.Coord). IsOfKind k set) is kind)
+
+numbers-listed : (c : coord.Coord) (kept : List ℕ) (n : ℕ) → c ≢ coords.Locale → is_listed c (seen.NumbersOf kept) n ≡ list_any (λ m. m == n) kept
+unfolding is_listed
+numbers-listed coords.Locale kept n other = absurd (other refl)
+numbers-listed c kept n other = refl
+
+locales-listed : (kept : List Locale) (n : ℕ) → is_listed coords.Locale (seen.LocalesOf kept) n ≡ list_any (λ m. m == n) (locale_numbers kept)
+unfolding is_listed
+locales-listed kept n = refl
+
+lists-numbers : (trace : List ℕ → Trace) (sets : List SetOf) (x : List ℕ) (c : coord.Coord) (numbers kept : List ℕ) → IsOfKind c (set_at sets c) → set_at sets c ≡ NumbersOf numbers → kept ≡ filter (keeps trace x c) numbers
+    → ListsKept trace sets x c (seen.NumbersOf kept)
+lists-numbers trace sets x c numbers kept kind e is n in_set =
+    let a = among n numbers (subst (λ (s : SetOf). IsIn s n) e in_set) in
+    numbers-listed c kept n (no-numbers c (set_at sets c) numbers e kind) ∙ ap (list_any (λ m. m == n)) is ∙ listed-filter (keeps trace x c) n numbers a
+
+only-locales : (c : coord.Coord) (numbers : List ℕ) → IsOfKind c (LocalesOf numbers) → c ≡ coords.Locale
+only-locales coords.Locale numbers kind = refl
+only-locales c numbers kind = absurd kind
+
+at-locale : (sets : List SetOf) (c : coord.Coord) (numbers : List ℕ) → IsOfKind c (set_at sets c) → set_at sets c ≡ LocalesOf numbers → c ≡ coords.Locale
+at-locale sets c numbers kind e = only-locales c numbers (subst (λ (s : SetOf). IsOfKind c s) e kind)
+
+lists-locales : (trace : List ℕ → Trace) (sets : List SetOf) (x : List ℕ) (c : coord.Coord) (locales kept : List Locale) → IsOfKind c (set_at sets c) → set_at sets c ≡ LocalesOf (locale_numbers locales)
+    → kept ≡ filter (keeps_locale trace x) locales → ListsKept trace sets x c (seen.LocalesOf kept)
+lists-locales trace sets x c locales kept kind e is n in_set =
+    let a = among n (locale_numbers locales) (subst (λ (s : SetOf). IsIn s n) e in_set) in
+    let at = at-locale sets c (locale_numbers locales) kind e in
+    ap (λ k. is_listed k (seen.LocalesOf kept) n) at ∙ locales-listed kept n ∙ ap (λ ls. list_any (λ m. m == n) (locale_numbers ls)) is
+    ∙ ap (list_any (λ m. m == n)) (map-filter (keeps trace x coords.Locale) locales) ∙ listed-filter (keeps trace x coords.Locale) n (locale_numbers locales) a
+    ∙ ap (λ k. keeps trace x k n) (sym at)
+
+-- ---- they can be written
+
+pub can-locales : (sets : List SetOf) (c : coord.Coord) (locales : List Locale) → IsBox sets → LocalesOf (locale_numbers locales) ≡ set_at sets c
+    → All (λ locale. IsGiven (locale_of_number (locale_number locale))) locales
+can-locales sets c locales b e k locale q =
+    let n = locale_number (get_or locales k locale) in
+    let count = length-map locales locale_number in
+    let can = b.can c n (subst (λ (s : SetOf). IsIn s n) e (k, omega (arith, count, q), get_or-map locale_number locales k locale n q)) in
+    subst (λ (k : coord.Coord). CanHave k n) (at-locale sets c (locale_numbers locales) (b.kinds c) (sym e)) can
+
+pub of-some-text : (locale : Locale) → TwoBytes locale.language → TwoBytes locale.region → IsGiven (locale_of_number (locale_number locale)) → IsOfSomeText locale
+of-some-text locale language region is =
+    (locale_text locale, given locale language region (subst (λ (l : Locale). IsGiven l) (numbered locale language region) is))
+
+pub numbers-fit : (sets : List SetOf) (c : coord.Coord) (f : ℕ → Bool) (numbers kept : List ℕ) → IsBox sets → NumbersOf numbers ≡ set_at sets c → kept ≡ filter f numbers → seen.ChoiceFits c (seen.NumbersOf kept)
+numbers-fit sets c f numbers kept b e is =
+    let few : length numbers ≤ 512 = subst (λ (s : SetOf). length (listed s) ≤ 512) (sym e) (b.few c) in
+    let count : length kept ≤ length numbers = omega (arith, ap length is, length-filter f numbers, count_by-le-length f numbers) in
+    at c (no-numbers c (set_at sets c) numbers (sym e) (b.kinds c)) (omega (arith, few, count))
+  where
+    at : (k : coord.Coord) → k ≢ coords.Locale → length kept ≤ 512 → seen.ChoiceFits k (seen.NumbersOf kept)
+    at coords.Locale other h = absurd (other refl)
+    at k other h = h
+
+pub locales-fit : (sets : List SetOf) (c : coord.Coord) (f : Locale → Bool) (locales kept : List Locale) → IsBox sets → LocalesOf (locale_numbers locales) ≡ set_at sets c → kept ≡ filter f locales → All IsOfSomeText kept
+    → seen.ChoiceFits c (seen.LocalesOf kept)
+locales-fit sets c f locales kept b e is texts =
+    let few : length (locale_numbers locales) ≤ 512 = subst (λ (s : SetOf). length (listed s) ≤ 512) (sym e) (b.few c) in
+    let of_numbers = length-map locales locale_number in
+    let count : length kept ≤ length locales = omega (arith, ap length is, length-filter f locales, count_by-le-length f locales) in
+    subst (λ (k : coord.Coord). seen.ChoiceFits k (seen.LocalesOf kept)) (sym (at-locale sets c (locale_numbers locales) (b.kinds c) (sym e))) (omega (arith, few, of_numbers, count), texts)
+
+-- ---- the tests are of the right kind
+
+no-range : (set : SetOf) → IsOfKind coords.Locale set → is_range set ≡ true → ⊥
+no-range (RangeOf low high) kind range = kind
+no-range (NumbersOf numbers) kind range = kind
+no-range (LocalesOf numbers) kind range = cc
+
+pub right-range : (sets : List SetOf) (c : coord.Coord) (m : ℕ) → IsOfKind c (set_at sets c) → is_range (set_at sets c) ≡ true → has_wrong_kind sets (seen.AtMostOf c m) ≡ false
+unfolding has_wrong_kind
+right-range sets coords.Locale m kind range = absurd (no-range (set_at sets coords.Locale) kind range)
+right-range sets c m kind range = refl
+
+right-choice : (sets : List SetOf) (c : coord.Coord) (choice : seen.ChoiceOf) → is_range (set_at sets c) ≡ false → has_wrong_kind sets (seen.AmongOf c choice) ≡ false
+unfolding has_wrong_kind
+right-choice sets c choice no_range = no_range
+
+-- ---- so the tests are needed
+
+pub needed-numbers : (trace : List ℕ → Trace) (sets : List SetOf) (x y : List ℕ) (c : coord.Coord) (numbers kept : List ℕ) → GoesByNumbers trace → ArePair trace sets x y c → IsBox sets → NumbersOf numbers ≡ set_at sets c
+    → kept ≡ filter (keeps trace x c) numbers → IsNeededTest trace sets (IsMember sets) (seen.AmongOf c (seen.NumbersOf kept))
+needed-numbers trace sets x y c numbers kept by pair b e is =
+    let choice = seen.NumbersOf kept in
+    cut-choice trace sets x y c choice by pair (right-choice sets c choice (ap is_range (sym e))) (lists-numbers trace sets x c numbers kept (b.kinds c) (sym e) is)
+
+pub needed-locales : (trace : List ℕ → Trace) (sets : List SetOf) (x y : List ℕ) (c : coord.Coord) (locales kept : List Locale) → GoesByNumbers trace → ArePair trace sets x y c → IsBox sets
+    → LocalesOf (locale_numbers locales) ≡ set_at sets c → kept ≡ filter (keeps_locale trace x) locales → IsNeededTest trace sets (IsMember sets) (seen.AmongOf c (seen.LocalesOf kept))
+needed-locales trace sets x y c locales kept by pair b e is =
+    let choice = seen.LocalesOf kept in
+    cut-choice trace sets x y c choice by pair (right-choice sets c choice (ap is_range (sym e))) (lists-locales trace sets x c locales kept (b.kinds c) (sym e) is)

@@ -1,0 +1,9 @@
+pub mod Layers
+pub mod Parts
+pub mod Steps
+pub mod Loop
+pub mod Cut
+pub mod GoalSteps
+pub mod Least
+pub mod Agreement
+pub mod Kept

@@ -1,0 +1,129 @@
+-- One node more.
+use Rattle.std.proofs.Common.{◌≡◌, ℕ, arith, inl, inr, true, false, List, [], ◌∷◌, ◌++◌, Option, Some, None, map, reverse, sym, ◌∙◌, ap, refl, subst}
+use Rattle.std.specs.Prelude.{IfNone, IfSome}
+use Rattle.std.proofs.lemmas.List.{map-append}
+use Rattle.res_value.specs.declared.res_id.ResId.{ResId}
+use Rattle.res_value.specs.declared.value.Value.{Value}
+use Rattle.reference_resolver.specs.declared.end.End.TheVariants as ends
+use Rattle.overlay_map.specs.Layer.{most_layers}
+use Rattle.reference_resolver.specs.Trace.{Trace}
+use Rattle.box_answers.specs.NumberSet.{SetOf}
+use Rattle.box_answers.specs.Members.{set_at, IsMember}
+use Rattle.config_box.specs.declared.test.Test.{Test}
+use Rattle.config_box.specs.Tests.{is_wrong_kind}
+use Rattle.config_box.specs.Halves.{IsHalf}
+use Rattle.box_trace.specs.CommonTrace.{SharesTrace}
+use Rattle.cert_tree.specs.Certificate.{TestOf, AtMostOf, AmongOf, NodeOf, TestAt, ValueAt, BagAt, NodeFits, test_of}
+use Rattle.cert_checker.specs.declared.rule.Rule.{Rule}
+use Rattle.cert_checker.specs.declared.rule.Rule.TheVariants.{TestKind, EmptyHalf}
+use Rattle.cert_checker.specs.Tests.{answers, has_wrong_kind}
+use Rattle.cert_checker.specs.Paths.{Path, IsAt, leaf_end}
+use Rattle.cert_checker.specs.Fails.{FailsAtTest}
+use Rattle.cert_checker.specs.OpenBoxes.{IsBoxAt}
+use Rattle.cert_checker.proofs.TestSteps.{alike-kind, alike-range}
+use Rattle.cert_checker.proofs.LeafSteps.{as_said}
+use Rattle.cert_checker.proofs.NodeSteps.{halves}
+use Rattle.cert_checker.proofs.BoxSteps.{some_member}
+use Rattle.least_tree.specs.Needed.{coord_of, NoneBetween, IsNeededTest}
+use Rattle.least_tree.proofs.SameTraces.{bool_cases}
+use Rattle.cert_maker.specs.Growth.{Grows}
+use Rattle.cert_maker.proofs.Layers.{EndBelow}
+
+-- ---- what is needed in the box at a node is needed at the node
+
+none-between : (sets part : List SetOf) (path : Path) (test : TestOf) (x y : List ℕ) → IsBoxAt sets path part → NoneBetween (IsMember part) test x y → NoneBetween (IsAt sets path) test x y
+none-between sets part path (AtMostOf c most) x y b h = λ d a. h d ((b.members d).1 a)
+none-between sets part path (AmongOf c choice) x y b h = tt
+
+right-kind : (sets part : List SetOf) (path : Path) (members : List ℕ → Type 0) (test : TestOf) → IsBoxAt sets path part → ((rule : Rule) → FailsAtTest part members test rule → ⊥) → has_wrong_kind sets test ≡ false
+right-kind sets part path members test b passes =
+    elim (bool_cases (has_wrong_kind part test)) [
+      | inl wrong ↦ absurd (passes TestKind wrong)
+      | inr right ↦ alike-kind sets part test b.marks ∙ right
+    ]
+
+-- a test of the right kind passes that has answers of both kinds
+pub test-passes : (sets : List SetOf) (members : List ℕ → Type 0) (test : TestOf) (x y : List ℕ) → has_wrong_kind sets test ≡ false → members x → members y → answers test x ≡ true → answers test y ≡ false
+    → (rule : Rule) → FailsAtTest sets members test rule → ⊥
+test-passes sets members test x y right mx my is isnt TestKind f = cc
+test-passes sets members test x y right mx my is isnt EmptyHalf (inl all) = let e = all y my in cc
+test-passes sets members test x y right mx my is isnt EmptyHalf (inr all) = let e = all x mx in cc
+test-passes sets members test x y right mx my is isnt rule f = f
+
+pub moved : (trace : List ℕ → Trace) (sets part : List SetOf) (path : Path) (test : TestOf) → IsBoxAt sets path part → IsNeededTest trace part (IsMember part) test → IsNeededTest trace sets (IsAt sets path) test
+moved trace sets part path test b s =
+    let x_at = (b.members s.x).0 s.x_member in
+    let y_at = (b.members s.y).0 s.y_member in
+    record {
+      passes = test-passes sets (IsAt sets path) test s.x s.y (right-kind sets part path (IsMember part) test b s.passes) x_at y_at s.x_answers s.y_answers;
+      x = s.x;
+      y = s.y;
+      x_member = x_at;
+      y_member = y_at;
+      x_answers = s.x_answers;
+      y_answers = s.y_answers;
+      others = s.others;
+      differ = s.differ;
+      near = none-between sets part path test s.x s.y b s.near;
+      parts = λ choice alone u v ua va.
+          s.parts (sym (alike-range (set_at sets (coord_of test)) (set_at part (coord_of test)) (b.marks (coord_of test))) ∙ choice)
+          (λ m n mm nm. alone m n ((b.members m).0 mm) ((b.members n).0 nm)) u v ((b.members u).1 ua) ((b.members v).1 va);
+    }
+
+-- ---- leaves
+
+pub grows-value : (trace : List ℕ → Trace) (part : List SetOf) (t : Trace) (layer : ℕ) (value : Value) (old new : List NodeOf) (boxes : List (List SetOf)) → new ≡ old ++ ValueAt layer value ∷ []
+    → SharesTrace (IsMember part) trace t → t.end ≡ ends.Value layer value → ((d : List ℕ) → EndBelow most_layers (trace d).end) → Grows trace part old new boxes boxes
+grows-value trace part t layer value old new boxes e shared ends_at low sets path paths b stand =
+    let d = some_member part b.is_box in
+    let below : EndBelow most_layers (ends.Value layer value) = subst (EndBelow most_layers) (ap (λ (u : Trace). u.end) (shared d.0 d.1) ∙ ends_at) (low d.0) in
+    record {
+      node = ValueAt layer value;
+      added = e;
+      good = record { passes = as_said trace t (ends.Value layer value) part refl shared ends_at sets path b; needed = tt; fits = omega (arith, below) };
+      stand = stand;
+    }
+
+pub grows-bag : (trace : List ℕ → Trace) (part : List SetOf) (t : Trace) (id : ResId) (old new : List NodeOf) (boxes : List (List SetOf)) → new ≡ old ++ BagAt id ∷ []
+    → SharesTrace (IsMember part) trace t → t.end ≡ ends.Bag id → Grows trace part old new boxes boxes
+grows-bag trace part t id old new boxes e shared ends_at sets path paths b stand =
+    record {
+      node = BagAt id;
+      added = e;
+      good = record { passes = as_said trace t (ends.Bag id) part refl shared ends_at sets path b; needed = tt; fits = tt };
+      stand = stand;
+    }
+
+pub grows-leaf : (trace : List ℕ → Trace) (part : List SetOf) (t : Trace) (node : NodeOf) (old new : List NodeOf) (boxes : List (List SetOf)) → new ≡ old ++ node ∷ []
+    → SharesTrace (IsMember part) trace t → leaf_end node ≡ Some t.end → ((d : List ℕ) → EndBelow most_layers (trace d).end) → Grows trace part old new boxes boxes
+grows-leaf trace part t (TestAt test) old new boxes e shared says low = absurd cc
+grows-leaf trace part t (ValueAt layer value) old new boxes e shared says low =
+    let is : t.end ≡ ends.Value layer value = cc in
+    grows-value trace part t layer value old new boxes e shared is low
+grows-leaf trace part t (BagAt id) old new boxes e shared says low =
+    let is : t.end ≡ ends.Bag id = cc in
+    grows-bag trace part t id old new boxes e shared is
+
+-- ---- tests
+
+pub grows-test : (trace : List ℕ → Trace) (part yes_half no_half : List SetOf) (test : Test) (old new : List NodeOf) (before after_it : List (List SetOf)) → new ≡ old ++ TestAt (test_of test) ∷ []
+    → reverse after_it ≡ yes_half ∷ no_half ∷ reverse before → is_wrong_kind part test ≡ false → IsHalf part test true yes_half → IsHalf part test false no_half
+    → IsNeededTest trace part (IsMember part) (test_of test) → NodeFits (TestAt (test_of test)) → Grows trace part old new before after_it
+grows-test trace part yes_half no_half test old new before after_it e f right is isnt s fits sets path paths b stand =
+    let taken = halves part yes_half no_half test before after_it right is isnt f trace sets path paths b stand in
+    record {
+      node = TestAt (test_of test);
+      added = e;
+      good = record { passes = taken.0; needed = moved trace sets part path (test_of test) b s; fits = fits };
+      stand = taken.1;
+    }
+
+-- what is pushed, as contracts see it
+pub map-push : {A B : Type 0} (f : A → B) (xs ys : List A) (x : A) → ys ≡ xs ++ x ∷ [] → map f ys ≡ map f xs ++ f x ∷ []
+map-push f xs ys x e = ap (map f) e ∙ map-append f xs (x ∷ [])
+
+pub when-none : {A : Type 0} (o : Option A) (P : Type 0) → o ≡ None → IfNone o P → P
+when-none o P e h = subst (λ x. IfNone x P) e h
+
+pub when-some : {A : Type 0} (o : Option A) (x : A) (P : A → Type 0) → o ≡ Some x → IfSome o P → P x
+when-some o x P e h = subst (λ y. IfSome y P) e h

@@ -1,0 +1,10 @@
+use Rattle.config_record.specs.DeviceSeen.{device_numbers}
+use Rattle.box_trace.proofs.Following.{IsFollowed}
+use Rattle.cert_maker.specs.Pair.{IsOneOf}
+use Rattle.cert_maker.proofs.alike.have_one_trace_within.Given as goal
+
+abbrev pub invariant-chain : goal.invariant-chain
+invariant-chain l = IsFollowed (IsOneOf (device_numbers l.first) (device_numbers l.second)) l.stack l.most l.fn.id.0 l.left l.id.0
+
+abbrev pub decreases-chain : goal.decreases-chain
+decreases-chain l = l.left

@@ -1,0 +1,52 @@
+-- How a tree grows: node by node, with the boxes of its open paths. (Cited by contracts of this crate alone.)
+use Rattle.std.specs.Prelude.{◌≡◌, ℕ, ◌<◌, ◌≤◌, false, List, [], ◌∷◌, ◌++◌, map, reverse, length}
+use Rattle.std.specs.List.{All}
+use Rattle.config_record.specs.DeviceSeen.{device_numbers}
+use Rattle.reference_resolver.specs.declared.end.End.{End}
+use Rattle.reference_resolver.specs.Trace.{Trace}
+use Rattle.box_answers.specs.NumberSet.{SetOf}
+use Rattle.box_answers.specs.Members.{IsMember}
+use Rattle.cert_tree.specs.Certificate.{TestOf, NodeOf, NodeFits, node_of}
+use Rattle.cert_checker.specs.declared.rule.Rule.{Rule}
+use Rattle.cert_checker.specs.Paths.{Path, IsAt, after}
+use Rattle.cert_checker.specs.Fails.{FailsAtTest, FailsAtNode, NoRuleFails, is_value}
+use Rattle.cert_checker.specs.OpenBoxes.{IsBoxAt, Stand}
+use Rattle.least_tree.specs.Needed.{IsNeededAt, IsNeeded}
+use Rattle.cert_maker.specs.declared.tree.Grown.{Grown}
+use Rattle.cert_maker.specs.declared.tree.Grown.TheVariants.{Tree, Nowhere, TooLarge}
+
+-- no rule fails at the node, if it is a test it is needed, and it is within what JSON can say
+pub record IsGood (trace : List ℕ → Trace) (sets : List SetOf) (node : NodeOf) (path : Path) : Type 0 where
+  pub passes : (rule : Rule) → FailsAtNode trace sets (IsAt sets path) node rule → ⊥
+  pub needed : IsNeededAt trace sets node path
+  pub fits : NodeFits node
+
+-- one good node more, and these boxes stand for the open paths after it
+pub record AddsNode (trace : List ℕ → Trace) (sets : List SetOf) (path : Path) (paths : List Path) (old new : List NodeOf) (boxes : List (List SetOf)) : Type 0 where
+  pub node : NodeOf
+  pub added : new ≡ old ++ node ∷ []
+  pub good : IsGood trace sets node path
+  pub stand : Stand sets boxes (after node path paths)
+
+-- whatever the whole box is, and the open paths: the last of the boxes is that of the first path
+abbrev pub Grows : (List ℕ → Trace) → List SetOf → List NodeOf → List NodeOf → List (List SetOf) → List (List SetOf) → Type 0
+Grows trace part old new before after_it =
+    (sets : List SetOf) (path : Path) (paths : List Path) → IsBoxAt sets path part → Stand sets (reverse before) paths
+    → AddsNode trace sets path paths old new (reverse after_it)
+
+-- a member for which the goal ends at no value
+pub record EndsNowhere (trace : List ℕ → Trace) (sets : List SetOf) (d : List ℕ) (end : End) : Type 0 where
+  pub member : IsMember sets d
+  pub ends : (trace d).end ≡ end
+  pub no_value : is_value end ≡ false
+
+-- no rule fails in the tree, its tests are needed, it is within the limit, and its nodes within what JSON can say; or a
+-- member ends at no value; or there is a tree of needed tests above the limit
+abbrev pub IsGrown : (List ℕ → Trace) → List SetOf → ℕ → Grown → Type 0
+IsGrown trace sets most (Tree nodes) = NoRuleFails trace sets (map node_of nodes.items) × IsNeeded trace sets (map node_of nodes.items) × (length nodes.items ≤ most) × All NodeFits (map node_of nodes.items)
+IsGrown trace sets most (Nowhere device end) = EndsNowhere trace sets (device_numbers device) end
+IsGrown trace sets most TooLarge = (nodes : List NodeOf) × IsNeeded trace sets nodes × (most < length nodes)
+
+-- no rule fails at a test to which the members of a box come
+abbrev pub CanBeAsked : List SetOf → TestOf → Type 0
+CanBeAsked sets test = (rule : Rule) → FailsAtTest sets (IsMember sets) test rule → ⊥

@@ -1,0 +1,42 @@
+-- What the maker promises of its answers.
+use Rattle.std.specs.Prelude.{◌≡◌, ℕ, ◌<◌, ◌≤◌, false, List, Some, slice_get}
+use Rattle.std.specs.List.{All}
+use Rattle.config_record.specs.DeviceSeen.{device_numbers}
+use Rattle.reference_resolver.specs.declared.end.End.{End}
+use Rattle.overlay_map.specs.Layer.{LayerOf}
+use Rattle.box_answers.specs.NumberSet.{SetOf}
+use Rattle.box_answers.specs.Members.{IsMember}
+use Rattle.cert_tree.specs.declared.goal.Goal.{Goal}
+use Rattle.cert_tree.specs.Certificate.{GoalOf, NodeFits, goals_of, node_count}
+use Rattle.cert_checker.specs.Fails.{is_value}
+use Rattle.cert_checker.specs.FirstFault.{goal_trace, goals_in, IsAccepted}
+use Rattle.cert_checker.specs.Headline.{RulesEndAt}
+use Rattle.least_tree.specs.Needed.{IsNeeded}
+use Rattle.cert_maker.specs.declared.made.Made.{Made}
+use Rattle.cert_maker.specs.declared.made.Made.TheVariants.{Cert, Counter, NodeLimit}
+
+-- each tree is one whose tests are needed
+abbrev pub AreNeeded : List LayerOf → List SetOf → List GoalOf → Type 0
+AreNeeded stack sets trees = (g : ℕ) (tree : GoalOf) → slice_get trees g ≡ Some tree → IsNeeded (goal_trace stack tree.goal) sets tree.nodes
+
+-- a member of the box for which the goal ends here, at no value and no bag
+pub record IsCounter (stack : List LayerOf) (sets : List SetOf) (goal : Goal) (d : List ℕ) (end : End) : Type 0 where
+  pub member : IsMember sets d
+  pub ends : RulesEndAt stack goal d end
+  pub no_value : is_value end ≡ false
+
+-- a certificate that is accepted, of needed tests and within the limit; or a device for which one of the goals ends at no
+-- value; or there are trees of needed tests for the goals that have together more nodes than the limit
+abbrev pub IsMade : List LayerOf → List SetOf → List Goal → ℕ → Made → Type 0
+IsMade stack sets asked most (Cert certificate) =
+    IsAccepted stack sets asked (goals_of certificate) × AreNeeded stack sets (goals_of certificate) × (node_count (goals_of certificate) ≤ most)
+IsMade stack sets asked most (Counter g device end) =
+    (goal : Goal) × (slice_get asked g ≡ Some goal) × IsCounter stack sets goal (device_numbers device) end
+IsMade stack sets asked most NodeLimit =
+    (trees : List GoalOf) × (goals_in trees ≡ asked) × AreNeeded stack sets trees × (most < node_count trees)
+
+-- what each node says is within the limits of the format, so that the certificate reads back if it has not too many nodes
+abbrev pub CanBeWritten : Made → Type 0
+CanBeWritten (Cert certificate) = All (λ tree. All NodeFits tree.nodes) (goals_of certificate)
+CanBeWritten (Counter g device end) = Unit {0}
+CanBeWritten NodeLimit = Unit {0}

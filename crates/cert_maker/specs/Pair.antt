@@ -1,0 +1,48 @@
+-- Two devices with the same trace, or with different ones. (Cited by contracts of this crate alone.)
+use Rattle.std.specs.Prelude.{◌≡◌, ◌≢◌, ◌⊎◌, ℕ, Bool, List, map}
+use Rattle.std.specs.Option.{option_map}
+use Rattle.config_record.specs.declared.coord.Coord.{Coord}
+use Rattle.config_record.specs.Coord.{all_coords}
+use Rattle.config_record.specs.declared.coord.Coord.TheVariants.{Locale as at_locale}
+use Rattle.config_record.specs.declared.locale.Locale.{Locale}
+use Rattle.config_record.specs.ComparedNumber.{device_number, locale_number}
+use Rattle.box_answers.specs.NumberSet.{SetOf}
+use Rattle.box_trace.specs.CommonTrace.{AreSideBySide}
+use Rattle.box_trace.specs.Division.{Divides}
+use Rattle.overlay_map.specs.Layer.{LayerOf}
+use Rattle.overlay_map.specs.Candidates.{cand_of}
+use Rattle.reference_resolver.specs.declared.step.Step.{Step}
+use Rattle.reference_resolver.specs.Selection.{selected, step_of}
+use Rattle.reference_resolver.specs.Trace.{Trace, scan_look_up}
+use Rattle.least_tree.specs.SameTrace.{same_trace}
+use Rattle.least_tree.specs.Runs.{trace_with}
+use Rattle.cert_maker.specs.declared.alike.Agreed.{Agreed}
+use Rattle.cert_maker.specs.declared.alike.Agreed.TheVariants.{One, Apart}
+
+-- two members side by side with different traces
+pub record ArePair (trace : List ℕ → Trace) (sets : List SetOf) (x y : List ℕ) (c : Coord) : Type 0 where
+  pub beside : AreSideBySide sets x y c
+  pub differ : trace x ≢ trace y
+
+-- the numbers of a device, in the order of the coordinates
+abbrev pub numbers_of : List ℕ → List ℕ
+numbers_of d = map (device_number d) all_coords
+
+-- the device keeps its trace with this number
+abbrev pub keeps : (List ℕ → Trace) → List ℕ → Coord → ℕ → Bool
+keeps trace x c n = same_trace (trace x) (trace_with trace (numbers_of x) c n)
+
+abbrev pub keeps_locale : (List ℕ → Trace) → List ℕ → Locale → Bool
+keeps_locale trace x locale = keeps trace x at_locale (locale_number locale)
+
+abbrev pub IsOneOf : List ℕ → List ℕ → List ℕ → Type 0
+IsOneOf x y d = (d ≡ x) ⊎ (d ≡ y)
+
+-- both select this for an id by the same steps; or a candidate divides them
+abbrev pub IsAgreed : Agreed → List LayerOf → ℕ → List ℕ → List ℕ → Type 0
+IsAgreed (One picked) stack id x y =
+    (taken : List Step)
+    × ((d : List ℕ) → IsOneOf x y d → scan_look_up step_of stack d id ≡ taken)
+    × ((d : List ℕ) → IsOneOf x y d → selected stack id d ≡ option_map cand_of picked)
+IsAgreed Apart stack id x y =
+    Divides (IsOneOf x y) (λ d. scan_look_up step_of stack d id) x y ⊎ Divides (IsOneOf x y) (λ d. scan_look_up step_of stack d id) y x

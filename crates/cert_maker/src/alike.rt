@@ -1,0 +1,90 @@
+//! Have two devices the same trace?
+
+ghost use Rattle.std.specs.Prelude.{◌≡◌, ◌≢◌, true, false};
+ghost use Rattle.config_record.specs.DeviceSeen.{device_numbers};
+ghost use Rattle.reference_resolver.specs.Ends.{references_followed};
+ghost use Rattle.reference_resolver.specs.Trace.{trace_of};
+ghost use Rattle.least_tree.specs.SameTrace.{same_trace};
+ghost use Rattle.cert_maker.specs.Pair.{IsAgreed};
+
+use config_record::Device;
+use overlay_map::{Cand, Stack};
+use reference_resolver::{Next, REFERENCES_FOLLOWED, Step};
+use res_value::ResId;
+
+/// What two devices select for an id.
+#[derive(Clone, Copy, Debug)]
+pub(crate) enum Agreed<'a> {
+    /// Both this candidate, or none, by the same steps.
+    One(Option<Cand<'a>>),
+    /// A candidate does one thing at the first, another at the second.
+    Apart,
+}
+
+/// Whether two devices have the same trace for an id.
+pub(crate) fn have_one_trace(stack: &Stack<'_>, id: ResId, first: &Device, second: &Device) -> bool
+    ensures { result ≡ same_trace
+        (trace_of stack.now references_followed id.0 (device_numbers first.now))
+        (trace_of stack.now references_followed id.0 (device_numbers second.now)) }
+{
+    have_one_trace_within(stack, id, first, second, REFERENCES_FOLLOWED)
+}
+
+/// The same, where at most so many references are followed.
+fn have_one_trace_within(
+    stack: &Stack<'_>,
+    id: ResId,
+    first: &Device,
+    second: &Device,
+    most: u8,
+) -> bool
+    ensures { result ≡ same_trace
+        (trace_of stack.now most id.0 (device_numbers first.now))
+        (trace_of stack.now most id.0 (device_numbers second.now)) }
+{
+    let mut id = id;
+    let mut left = most;
+    'chain: loop {
+        let picked = match selected_by_both(stack, id, first, second) {
+            Agreed::One(picked) => picked,
+            Agreed::Apart => return false,
+        };
+        match Next::of(id, &picked) {
+            Next::EndsAt(_) => return true,
+            Next::LookUp(_) if left == 0 => return true,
+            Next::LookUp(target) => id = target,
+        }
+        left -= 1;
+    }
+}
+
+/// What both select for an id.
+fn selected_by_both<'a>(stack: &Stack<'a>, id: ResId, first: &Device, second: &Device) -> Agreed<'a>
+    ensures { IsAgreed result stack.now id.0 (device_numbers first.now) (device_numbers second.now) }
+{
+    let mut best = None;
+    for candidate in stack.candidates(id) {
+        let step = Step::of(&best, &candidate, first);
+        let other = Step::of(&best, &candidate, second);
+        let alike = is_same(step, other);
+        if !alike {
+            return Agreed::Apart;
+        }
+        let takes_over = is_same(step, Step::TookOver);
+        if takes_over {
+            best = Some(candidate);
+        }
+    }
+    Agreed::One(best)
+}
+
+fn is_same(step: Step, other: Step) -> bool
+    ensures alike { result ≡ true → step ≡ other }
+    ensures apart { result ≡ false → step ≢ other }
+{
+    match step {
+        Step::NoMatch => matches!(other, Step::NoMatch),
+        Step::KeptOut => matches!(other, Step::KeptOut),
+        Step::TookOver => matches!(other, Step::TookOver),
+    }
+}

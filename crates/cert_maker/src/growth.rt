@@ -1,0 +1,90 @@
+//! One node more.
+
+ghost use Rattle.std.specs.Prelude.{◌≡◌, ℕ, List, ◌+◌, map, length, IfOk, IfNone, IfSome, MatchOption, false};
+ghost use Rattle.config_record.specs.DeviceSeen.{device_numbers};
+ghost use Rattle.reference_resolver.specs.Ends.{references_followed};
+ghost use Rattle.reference_resolver.specs.Trace.{Trace, trace_of};
+ghost use Rattle.box_answers.specs.Members.{IsMember};
+ghost use Rattle.cert_tree.specs.Certificate.{TestAt, NodeFits, test_of, node_of};
+ghost use Rattle.cert_checker.specs.Paths.{leaf_end};
+ghost use Rattle.cert_checker.specs.Fails.{is_value};
+ghost use Rattle.least_tree.specs.Needed.{IsNeededTest};
+ghost use Rattle.cert_maker.specs.Growth.{Grows, EndsNowhere, CanBeAsked};
+
+use crate::parting::parting_test;
+use box_trace::{CommonTrace, common_trace};
+use cert_tree::{Node, OutOfMemory};
+use config_box::{ConfigBox, Split, Test};
+use config_record::Device;
+use overlay_map::{MOST_LAYERS, Stack};
+use reference_resolver::End;
+use res_value::ResId;
+use std::alloc::Global;
+
+/// Adds the node at which these members stand, and opens the boxes behind it; or gives a member that ends at no value
+/// and no bag, with its end.
+pub(crate) fn add_node(
+    alloc: Global,
+    stack: &Stack<'_>,
+    id: ResId,
+    members: &ConfigBox,
+    nodes: &mut Vec<Node>,
+    open_boxes: &mut Vec<ConfigBox>,
+) -> Result<Option<(Device, End)>, OutOfMemory>
+    ensures grows { IfOk result (λ nowhere. IfNone nowhere (Grows (trace_of stack.now references_followed id.0) members.now (map node_of nodes.old.items) (map node_of nodes.new.items) open_boxes.old.items open_boxes.new.items)) }
+    ensures one_more { IfOk result (λ nowhere. IfNone nowhere (length nodes.new.items ≡ length nodes.old.items + 1)) }
+    ensures nowhere { IfOk result (λ nowhere. IfSome nowhere (λ found. EndsNowhere (trace_of stack.now references_followed id.0) members.now (device_numbers found.0) found.1)) }
+{
+    match common_trace(stack, id, members) {
+        CommonTrace::One(end) => match leaf_of(end) {
+            Some(leaf) => {
+                let layers = stack.len();
+                prove!(layers <= MOST_LAYERS);
+                nodes.push(leaf)?;
+                Ok(None)
+            }
+            None => Ok(Some((members.corner(), end))),
+        },
+        CommonTrace::Mixed(first, second, at) => {
+            let test = parting_test(alloc, stack, id, members, &first, &second, at)?;
+            add_test(alloc, members, test, nodes, open_boxes)?;
+            Ok(None)
+        }
+    }
+}
+
+/// Adds a test, and opens its halves, the one with yes last.
+fn add_test(
+    alloc: Global,
+    members: &ConfigBox,
+    test: Test,
+    nodes: &mut Vec<Node>,
+    open_boxes: &mut Vec<ConfigBox>,
+) -> Result<(), OutOfMemory>
+    requires asked { CanBeAsked members.now (test_of test) }
+    requires fits { NodeFits (TestAt (test_of test)) }
+    ensures grows { IfOk result (λ _. (trace : List ℕ → Trace) → IsNeededTest trace members.now (IsMember members.now) (test_of test) → Grows trace members.now (map node_of nodes.old.items) (map node_of nodes.new.items) open_boxes.old.items open_boxes.new.items) }
+    ensures one_more { IfOk result (λ _. length nodes.new.items ≡ length nodes.old.items + 1) }
+{
+    match members.split(alloc, &test)? {
+        Split::Halves(yes, no) => {
+            open_boxes.push(no)?;
+            open_boxes.push(yes)?;
+            nodes.push(Node::Test(test))?;
+            Ok(())
+        }
+        Split::WrongKind => unreachable!(),
+        Split::EmptyHalf => unreachable!(),
+    }
+}
+
+/// The leaf that says an end, where it is a value or a bag.
+fn leaf_of(end: End) -> Option<Node>
+    ensures { MatchOption result (is_value end ≡ false) (λ leaf. leaf_end (node_of leaf) ≡ Some end) }
+{
+    match end {
+        End::Value { layer, value } => Some(Node::Value { layer, value }),
+        End::Bag { id } => Some(Node::Bag { id }),
+        End::Absent { .. } | End::TooLong { .. } => None,
+    }
+}

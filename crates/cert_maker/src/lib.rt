@@ -1,0 +1,29 @@
+//! Makes certificates. The tree of a goal grows node by node over the boxes of its open paths: a leaf where all
+//! devices of one have the same trace, else a test that parts two of them which differ in one coordinate alone.
+//!
+//! For the crate above: `make` answers a certificate that `check` accepts, whose tests are all needed (each parts two
+//! such devices) and whose nodes are within the limit; or a device of the box for which a goal ends at no value and no
+//! bag; or `NodeLimit`, where trees of needed tests have more nodes together. Where at most one coordinate of the box
+//! has several values, no certificate with fewer nodes is accepted. `make_watched` does the same, and says after each goal how far it is.
+//!
+//! ```text
+//! match make(alloc, &stack, &phones, &asked, 1_000_000)? {
+//!     Made::Cert(certificate) => .., // certificate.write(alloc)?
+//!     Made::Counter { goal, device, ending } => .., // asked[goal] ends there
+//!     Made::NodeLimit => ..,
+//! }
+//! ```
+#![tactic(auto)]
+
+mod alike;
+mod growth;
+mod made;
+mod making;
+mod parting;
+mod progress;
+mod tree;
+mod trees;
+
+pub use made::Made;
+pub use making::{make, make_watched};
+pub use progress::{Progress, Unwatched};

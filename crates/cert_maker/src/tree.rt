@@ -1,0 +1,58 @@
+//! The tree of one goal.
+
+ghost use Rattle.std.specs.Prelude.{IfOk};
+ghost use Rattle.reference_resolver.specs.Ends.{references_followed};
+ghost use Rattle.reference_resolver.specs.Trace.{trace_of};
+ghost use Rattle.cert_maker.specs.Growth.{IsGrown};
+
+use crate::growth::add_node;
+use cert_tree::{Node, OutOfMemory};
+use config_box::ConfigBox;
+use config_record::Device;
+use overlay_map::Stack;
+use reference_resolver::End;
+use res_value::ResId;
+use std::alloc::Global;
+
+/// How a tree came out.
+#[derive(Debug, Drop)]
+pub(crate) enum Grown {
+    /// A tree of which no rule fails.
+    Tree(Vec<Node>),
+    /// A device that ends at no value and no bag.
+    Nowhere(Device, End),
+    /// The tree has more nodes than allowed.
+    TooLarge,
+}
+
+/// The tree of an id for a box, of at most so many nodes. The boxes of the paths that are open lie in a list, the
+/// next one last; at least one node comes for each.
+pub(crate) fn grow_tree(
+    alloc: Global,
+    stack: &Stack<'_>,
+    id: ResId,
+    members: &ConfigBox,
+    most: usize,
+) -> Result<Grown, OutOfMemory>
+    ensures { IfOk result (IsGrown (trace_of stack.now references_followed id.0) members.now most) }
+{
+    let mut nodes = Vec::new(alloc);
+    let mut open_boxes = Vec::new(alloc);
+    open_boxes.push(members.shared(alloc)?)?;
+    'boxes: while let Some(part) = open_boxes.pop() {
+        if let Some((device, end)) = add_node(
+            alloc,
+            stack,
+            id,
+            &part,
+            &mut nodes,
+            &mut open_boxes,
+        )? {
+            return Ok(Grown::Nowhere(device, end));
+        }
+        if nodes.len() + open_boxes.len() > most {
+            return Ok(Grown::TooLarge);
+        }
+    }
+    Ok(Grown::Tree(nodes))
+}

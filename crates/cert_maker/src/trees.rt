@@ -1,0 +1,54 @@
+//! The trees of all goals.
+
+ghost use Rattle.std.specs.Prelude.{◌<◌, ◌^◌, IfOk};
+ghost use Rattle.cert_maker.specs.Trees.{TakesGoal};
+
+use crate::made::Made;
+use crate::tree::{Grown, grow_tree};
+use cert_tree::{CertGoal, Goal, OutOfMemory};
+use config_box::ConfigBox;
+use overlay_map::Stack;
+use res_value::ResId;
+use std::alloc::Global;
+
+/// The trees of the first goals.
+#[derive(Drop)]
+pub(crate) struct Trees {
+    pub(crate) grown: Vec<CertGoal>,
+    /// How many nodes the trees of the other goals may have together, above one each.
+    pub(crate) spare: usize,
+}
+
+impl Trees {
+    /// Adds the tree of the next goal, an id; or gives the answer where it has none.
+    pub(crate) fn add(
+        &mut self,
+        alloc: Global,
+        stack: &Stack<'_>,
+        members: &ConfigBox,
+        id: ResId,
+    ) -> Result<Option<Made>, OutOfMemory>
+        requires { self.old.spare < 2 ^ 32 }
+        ensures { IfOk result (TakesGoal stack.now members.now (Goal.Id id) self.old self.new) }
+    {
+        match grow_tree(alloc, stack, id, members, self.spare + 1)? {
+            Grown::Tree(nodes) => {
+                self.spare = self.spare + 1 - nodes.len();
+                self.grown.push(CertGoal {
+                    goal: Goal::Id(id),
+                    nodes,
+                })?;
+                Ok(None)
+            }
+            Grown::Nowhere(device, ending) => {
+                let goal = self.grown.len();
+                Ok(Some(Made::Counter {
+                    goal,
+                    device,
+                    ending,
+                }))
+            }
+            Grown::TooLarge => Ok(Some(Made::NodeLimit)),
+        }
+    }
+}

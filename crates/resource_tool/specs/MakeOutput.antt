@@ -1,0 +1,75 @@
+-- What the command `make` prints.
+use Rattle.std.specs.Prelude.{◌≡◌, ℕ, List, [], ◌∷◌, ◌++◌, codes, Result, Ok}
+use Rattle.std.specs.Fmt.{decimal}
+use Rattle.serde_json.specs.Written.{compact_text}
+use Rattle.contract_words.specs.Faults.{◌>>=◌}
+use Rattle.res_value.specs.declared.res_id.ResId.{ResId}
+use Rattle.config_record.specs.DeviceSeen.{device_numbers}
+use Rattle.box_answers.specs.NumberSet.{SetOf}
+use Rattle.config_box.specs.BoxJson.{box_in}
+use Rattle.overlay_map.specs.Layer.{LayerOf}
+use Rattle.reference_resolver.specs.declared.end.End.{End}
+use Rattle.cert_tree.specs.Certificate.{GoalOf, goals_of}
+use Rattle.cert_tree.specs.WrittenJson.{cert_data}
+use Rattle.cert_maker.specs.declared.made.Made.{Made}
+use Rattle.cert_maker.specs.declared.made.Made.TheVariants.{Cert, Counter, NodeLimit}
+use Rattle.cert_maker.specs.Made.{IsMade}
+use Rattle.cert_maker.specs.Least.{IsLeast}
+use Rattle.resource_text.specs.declared.fault.ToolFault.{ToolFault}
+use Rattle.resource_text.specs.ToolFault.{fault_of_box}
+use Rattle.resource_text.specs.VerdictText.{device_with_end}
+use Rattle.resource_tool.specs.declared.status.Status.{Status}
+use Rattle.resource_tool.specs.declared.status.Status.TheVariants.{Done, Negative}
+use Rattle.resource_tool.specs.Output.{Output}
+use Rattle.resource_tool.specs.StackBytes.{LayerBytes, stack_in}
+use Rattle.resource_tool.specs.MapErr.{map_err}
+use Rattle.resource_tool.specs.CheckOutput.{goals_asked}
+
+-- ---- the inputs
+
+-- layers, and the sets of a box
+pub record MakeInputs : Type 0 where
+  pub stack : List LayerOf
+  pub sets : List SetOf
+
+-- What these layers and a box's text mean, or the first fault. The layers are read before the box.
+unfoldable pub make_inputs : List LayerBytes → List ℕ → Result MakeInputs ToolFault
+make_inputs layers box_json = do
+  stack ← stack_in layers
+  sets ← map_err fault_of_box (box_in box_json)
+  Ok (record { stack = stack; sets = sets })
+
+-- ---- the output
+
+-- it is done where there is a certificate
+abbrev pub status_of_made : Made → Status
+status_of_made (Cert certificate) = Done
+status_of_made (Counter goal device end) = Negative
+status_of_made NodeLimit = Negative
+
+-- a certificate in one line
+unfoldable pub certificate_line : List GoalOf → List ℕ
+certificate_line trees = compact_text (cert_data trees) ++ 10 ∷ []
+
+-- the line `counter goal G`; goals are counted from 0
+unfoldable pub counter_line : ℕ → List ℕ
+counter_line goal = codes "counter goal " ++ decimal goal ++ 10 ∷ []
+
+-- a goal, a device for which it ends at no value, and that end
+unfoldable pub counter_text : ℕ → List ℕ → End → List ℕ
+counter_text goal d end = counter_line goal ++ device_with_end d end
+
+unfoldable pub made_text : Made → List ℕ
+made_text (Cert certificate) = certificate_line (goals_of certificate)
+made_text (Counter goal device end) = counter_text goal (device_numbers device) end
+made_text NodeLimit = codes "node limit" ++ 10 ∷ []
+
+abbrev pub made_output : Made → Output
+made_output made = record { status = status_of_made made; text = made_text made }
+
+-- An answer is printed that the maker may give for the layers, the box, the ids and the limit of nodes.
+pub record IsMakeOutput (ids : List ResId) (most : ℕ) (inputs : MakeInputs) (output : Output) : Type 0 where
+  pub made : Made
+  pub right : IsMade inputs.stack inputs.sets (goals_asked ids) most made
+  pub least : IsLeast inputs.stack inputs.sets (goals_asked ids) most made
+  pub printed : output ≡ made_output made

@@ -1,0 +1,149 @@
+//! The command `make`.
+
+ghost use Rattle.std.specs.Prelude.{◌≡◌, ◌∷◌, ◌++◌, [], map, Ok, IfOk, OnOk};
+ghost use Rattle.contract_words.specs.Writes.{Writes};
+ghost use Rattle.config_record.specs.DeviceSeen.{device_numbers};
+ghost use Rattle.resource_tool.specs.Output.{Prints, PrintsOneOf};
+ghost use Rattle.resource_tool.specs.StackBytesSeen.{layer_bytes};
+ghost use Rattle.resource_tool.specs.MakeOutput.{IsMakeOutput, make_inputs, counter_line, counter_text, status_of_made, made_output};
+ghost use Rattle.resource_tool.specs.MakeReadsBack.{IsAcceptedWhereDone, ReadsBack};
+ghost use Rattle.resource_tool.specs.LineReadsBack.{LineReadsBack};
+
+use crate::goals::goals_asked;
+use crate::stack::open_stack;
+use crate::status::Status;
+use cert_maker::{Made, Progress, Unwatched, make_watched};
+use config_box::ConfigBox;
+use config_record::Device;
+use overlay_map::Stack;
+use reference_resolver::End;
+use res_value::ResId;
+use resource_text::{ToolFault, device_with_end};
+use std::alloc::Global;
+use std::io::{self, Write};
+
+/// Prints a certificate that `check_bytes` accepts for the same layers, box and ids, in one line of JSON; then the status is
+/// Done. Or it prints one of the ids by its place, a device of the box for which that id ends at no value and no bag, and
+/// where it ends; or `node limit`, where the trees of all ids would have more than `max_nodes` nodes together. A certificate
+/// of more than 1,000,000 nodes is not read again. A layer is the bytes of a table and, at an overlay, those of an id map.
+pub fn make_bytes<W: Write + Drop>(
+    alloc: Global,
+    layers: &[(&[u8], Option<&[u8]>)],
+    box_json: &[u8],
+    goals: &[ResId],
+    max_nodes: u32,
+    out: &mut W,
+) -> Result<Status, ToolFault>
+    ensures answer { PrintsOneOf (IsMakeOutput goals.now max_nodes) W.contents out.old out.new result
+        (make_inputs (map layer_bytes layers.now) box_json.now) }
+    ensures reads_back { IfOk result (ReadsBack (map layer_bytes layers.now) box_json.now goals.now max_nodes
+        (W.contents out.old) (W.contents out.new)) }
+{
+    make_bytes_watched(
+        alloc,
+        layers,
+        box_json,
+        goals,
+        max_nodes,
+        &mut Unwatched,
+        out,
+    )
+}
+
+/// The same; each time when an id has its tree, `progress` comes to know it.
+#[tactic(auto, unfolding(crate::specs::MakeOutput::make_inputs))]
+pub fn make_bytes_watched<W: Write + Drop, P: Progress>(
+    alloc: Global,
+    layers: &[(&[u8], Option<&[u8]>)],
+    box_json: &[u8],
+    goals: &[ResId],
+    max_nodes: u32,
+    progress: &mut P,
+    out: &mut W,
+) -> Result<Status, ToolFault>
+    ensures answer { PrintsOneOf (IsMakeOutput goals.now max_nodes) W.contents out.old out.new result
+        (make_inputs (map layer_bytes layers.now) box_json.now) }
+    ensures reads_back { IfOk result (ReadsBack (map layer_bytes layers.now) box_json.now goals.now max_nodes
+        (W.contents out.old) (W.contents out.new)) }
+{
+    let stack = open_stack(alloc, layers)?;
+    let members = ConfigBox::read(alloc, box_json)?;
+    answer(alloc, &stack, &members, goals, max_nodes, progress, out)
+}
+
+fn answer<W: Write + Drop, P: Progress>(
+    alloc: Global,
+    stack: &Stack<'_>,
+    members: &ConfigBox,
+    goals: &[ResId],
+    max_nodes: u32,
+    progress: &mut P,
+    out: &mut W,
+) -> Result<Status, ToolFault>
+    ensures answer { PrintsOneOf (IsMakeOutput goals.now max_nodes) W.contents out.old out.new result
+        (Ok (record { stack = stack.now; sets = members.now })) }
+    ensures reads_back { IfOk result (IsAcceptedWhereDone goals.now max_nodes (record { stack = stack.now; sets = members.now })
+        (W.contents out.old) (W.contents out.new)) }
+{
+    let goals = goals_asked(alloc, goals)?;
+    let made = make_watched(alloc, stack, members, &goals, max_nodes, progress)?;
+    print_made(alloc, &made, out)
+}
+
+// What is printed of a certificate is read as the same.
+#[tactic(auto, unfolding(crate::specs::MakeOutput::made_text, crate::specs::MakeOutput::certificate_line))]
+fn print_made<W: Write + Drop>(alloc: Global, made: &Made, out: &mut W) -> Result<Status, ToolFault>
+    ensures output { Prints W.contents out.old out.new result (Ok (made_output made.now)) }
+    ensures reads_back { OnOk result (LineReadsBack made.now) }
+{
+    match made {
+        Made::Cert(certificate) => {
+            let text = certificate.write(alloc)?;
+            write_line(text.as_slice(), out)?;
+        }
+        Made::Counter {
+            goal,
+            device,
+            ending,
+        } => write_counter(*goal, device, *ending, out)?,
+        Made::NodeLimit => out.write_all(b"node limit\n")?,
+    }
+    Ok(status_of_made(made))
+}
+
+fn status_of_made(made: &Made) -> Status
+    ensures { result ≡ status_of_made made.now }
+{
+    match made {
+        Made::Cert(_) => Status::Done,
+        Made::Counter { .. } => Status::Negative,
+        Made::NodeLimit => Status::Negative,
+    }
+}
+
+fn write_line<W: Write + Drop>(text: &[u8], out: &mut W) -> io::Result<()>
+    ensures { Writes W.contents out.old out.new result (text.now ++ 10 ∷ []) }
+{
+    out.write_all(text)?;
+    out.write_all(b"\n")
+}
+
+#[tactic(auto, unfolding(crate::specs::MakeOutput::counter_text))]
+fn write_counter<W: Write + Drop>(
+    goal: usize,
+    device: &Device,
+    end: End,
+    out: &mut W,
+) -> io::Result<()>
+    ensures { Writes W.contents out.old out.new result (counter_text goal (device_numbers device.now) end) }
+{
+    write_counter_line(goal, out)?;
+    device_with_end(device, end, out)
+}
+
+#[tactic(auto, unfolding(crate::specs::MakeOutput::counter_line))]
+fn write_counter_line<W: Write + Drop>(goal: usize, out: &mut W) -> io::Result<()>
+    ensures { Writes W.contents out.old out.new result (counter_line goal) }
+{
+    writeln!(out, "counter goal {goal}")
+}
