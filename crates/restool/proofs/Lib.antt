@@ -1,1 +1,3 @@
 pub mod IdSteps
+pub mod LayersLeft
+pub mod CarriedOut

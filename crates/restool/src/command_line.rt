@@ -1,6 +1,6 @@
 //! The command line that is understood: its commands, their arguments, and the texts of their helps.
 
-use clap::{Arg, ArgAction, Command};
+use clap::{Arg, ArgAction, Command, value_parser};
 use std::alloc::Global;
 
 /// What `--version` prints behind the program's name: its version, and the line of `rt version` that
@@ -15,7 +15,7 @@ With no arguments, restool prints the rows of the table on standard input.
 Exit status:
   0  done
   1  something you asked for does not exist, or has too many references or parents,
-     or a certificate is rejected
+     or a certificate is rejected or cannot be made
   2  bad command line, or an argument that is not a resource id
   3  an input was rejected
   4  out of memory
@@ -33,6 +33,8 @@ pub const EXPLAIN: &str = "explain";
 pub const BAG: &str = "bag";
 
 pub const ATTR: &str = "attr";
+
+pub const MAKE: &str = "make";
 
 pub const CHECK: &str = "check";
 
@@ -75,6 +77,11 @@ const SUBCOMMANDS: &[Subcommand] = &[
         arguments: &[KEEP, LAYERS, DEVICE, ATTRIBUTE, STYLES],
     },
     Subcommand {
+        name: MAKE,
+        about: "Prints a certificate for every device of a box, or a device without a value",
+        arguments: &[MAX_NODES, LAYERS, BOX, IDS],
+    },
+    Subcommand {
         name: CHECK,
         about: "Checks whether a certificate is true for every device of a box",
         arguments: &[LAYERS, BOX, CERTIFICATE, IDS],
@@ -96,7 +103,12 @@ enum Takes {
     Words,
     /// Nothing: it is a flag.
     Nothing,
+    /// A number of nodes, behind the argument's name.
+    Nodes,
 }
+
+/// How many nodes may be asked for at most.
+pub const MOST_NODES: u32 = 1_000_000;
 
 pub const TABLE: Argument = Argument {
     name: "TABLE",
@@ -164,6 +176,12 @@ pub const KEEP: Argument = Argument {
     help: "Keep what an earlier style has set, as applyStyle(style, false) does",
 };
 
+pub const MAX_NODES: Argument = Argument {
+    name: "max-nodes",
+    takes: Takes::Nodes,
+    help: "Most nodes of all trees together, 1 to 1000000 [default: 100000]",
+};
+
 /// The command line, for a parse.
 pub fn command_line<'a>(alloc: Global) -> Result<Command<'a>, clap::Error> {
     let mut program = Command::new(alloc, "restool")
@@ -202,5 +220,9 @@ fn built_argument<'a>(alloc: Global, argument: &Argument) -> Arg<'a> {
         Takes::OneWord => arg.required(true).action(ArgAction::Set),
         Takes::Words => arg.required(true).num_args(1..).action(ArgAction::Append),
         Takes::Nothing => arg.long(argument.name).action(ArgAction::SetTrue),
+        Takes::Nodes => {
+            let number = value_parser!(u32).range(1..=i64::from(MOST_NODES));
+            arg.long(argument.name).value_name("N").value_parser(number)
+        }
     }
 }

@@ -5,9 +5,10 @@ ghost use Rattle.restool.specs.Request.{AsksForRows};
 
 use crate::command_line::{
     ATTRIBUTE, Argument, BAG, BAG_ID, BOX, CERTIFICATE, CHECK, DEVICE, DUMP, EXPLAIN, ID, IDS,
-    KEEP, LAYERS, QUERY, ROWS, STYLES, TABLE, command_line,
+    KEEP, LAYERS, MAKE, MAX_NODES, MOST_NODES, QUERY, ROWS, STYLES, TABLE, command_line,
 };
 use crate::ids::{read_id, read_ids};
+use crate::source::STANDARD_INPUT;
 use crate::stop::Stop;
 use clap::ArgMatches;
 use res_value::ResId;
@@ -17,8 +18,8 @@ use std::env;
 use std::io::ErrorKind;
 use std::rt::Env;
 
-/// The path that means the standard input where a table is read.
-pub const STANDARD_INPUT: &str = "-";
+/// How many nodes a certificate may have where the words name no number.
+const NODES_IF_LEFT_OUT: u32 = 100_000;
 
 /// What the words ask for.
 #[derive(Drop)]
@@ -37,13 +38,11 @@ pub enum Request<'a> {
         device: &'a str,
         question: Question,
     },
-    /// Whether a certificate is true of some ids for all devices of a box; the layers, the box and the
-    /// certificate are at these paths.
-    Check {
+    /// What is asked of all devices of a box; the layers and the box are at these paths.
+    OfBox {
         layers: &'a str,
         members: &'a str,
-        certificate: &'a str,
-        ids: Vec<ResId>,
+        task: Task<'a>,
     },
 }
 
@@ -67,6 +66,21 @@ pub enum Question {
         attr: ResId,
         styles: Vec<ResId>,
         force: bool,
+    },
+}
+
+/// What is asked of all devices of a box.
+#[derive(Drop)]
+pub enum Task<'a> {
+    /// A certificate for some ids, of at most so many nodes.
+    Make {
+        max_nodes: u32,
+        ids: Vec<ResId>,
+    },
+    /// Whether the certificate at a path is true of some ids.
+    Check {
+        certificate: &'a str,
+        ids: Vec<ResId>,
     },
 }
 
@@ -117,11 +131,10 @@ fn request_of<'a>(
         DUMP => Ok(Request::Dump {
             table: given_word(given, &TABLE),
         }),
-        CHECK => Ok(Request::Check {
+        MAKE | CHECK => Ok(Request::OfBox {
             layers: given_word(given, &LAYERS),
             members: given_word(given, &BOX),
-            certificate: given_word(given, &CERTIFICATE),
-            ids: given_ids(alloc, given, &IDS)?,
+            task: task_of(alloc, name, given)?,
         }),
         _ => Ok(Request::OfDevice {
             layers: given_word(given, &LAYERS),
@@ -152,6 +165,30 @@ fn question_of<'a>(
             styles: given_ids(alloc, given, &STYLES)?,
             force: !given.get_flag(KEEP.name),
         }),
+    }
+}
+
+fn task_of<'a>(alloc: Global, name: &str, given: &ArgMatches<'a>) -> Result<Task<'a>, Stop<'a>> {
+    match name {
+        MAKE => Ok(Task::Make {
+            max_nodes: given_nodes(given),
+            ids: given_ids(alloc, given, &IDS)?,
+        }),
+        // CHECK, since there is no other command.
+        _ => Ok(Task::Check {
+            certificate: given_word(given, &CERTIFICATE),
+            ids: given_ids(alloc, given, &IDS)?,
+        }),
+    }
+}
+
+// How many nodes a certificate may have.
+fn given_nodes(given: &ArgMatches<'_>) -> u32
+    ensures { (1 ≤ result) × (result ≤ MOST_NODES) }
+{
+    match given.get_one::<u32>(MAX_NODES.name) {
+        Some(nodes) if 1 <= nodes && nodes <= MOST_NODES => nodes,
+        _ => NODES_IF_LEFT_OUT,
     }
 }
 
