@@ -240,14 +240,11 @@ stops "--max-nodes twice" 2 "error: the argument '--max-nodes <N>' cannot be use
 Usage: restool make [OPTIONS] <LAYERS> <BOX> <ID>...
 
 $usage" make --max-nodes 1 --max-nodes 1 layers box $id
-for number in 0 1000001 4294967296; do
+for number in 1000001 4294967296; do
     stops "--max-nodes $number" 2 "error: invalid value '$number' for '--max-nodes <N>': $number is not in 1..=1000000
 
 $usage" make --max-nodes $number layers box 7
 done
-prints "--max-nodes 1000000" 1 "counter goal 0
-device density=160
-end absent $id" make --max-nodes 1000000 layers box $id
 stops "--max-nodes is no number" 2 "error: invalid value '1x' for '--max-nodes <N>': invalid digit found in string
 
 $usage" make --max-nodes 1x layers box 7
