@@ -12,12 +12,12 @@ use Rattle.resource_tool.specs.AttrOutput.{attr_output}
 use Rattle.resource_tool.specs.MakeOutput.{IsMakeOutput, make_inputs}
 use Rattle.resource_tool.specs.CheckOutput as check
 use Rattle.restool.specs.declared.stop.Stop.{Stop}
-use Rattle.restool.specs.declared.words.Request.{Request}
-use Rattle.restool.specs.declared.words.Request.TheVariants.{Rows, Dump, OfDevice, OfBox}
-use Rattle.restool.specs.declared.words.Question.{Question}
-use Rattle.restool.specs.declared.words.Question.TheVariants.{Query, Explain, Bag, Attr}
-use Rattle.restool.specs.declared.words.Task.{Task}
-use Rattle.restool.specs.declared.words.Task.TheVariants.{Make, Check}
+use Rattle.restool.specs.declared.request.Request.{Request}
+use Rattle.restool.specs.declared.request.Request.TheVariants.{Rows, Dump, OfDevice, OfBox}
+use Rattle.restool.specs.declared.request.Question.{Question}
+use Rattle.restool.specs.declared.request.Question.TheVariants.{Query, Explain, Bag, Attr}
+use Rattle.restool.specs.declared.request.Task.{Task}
+use Rattle.restool.specs.declared.request.Task.TheVariants.{Make, Check}
 use Rattle.restool.specs.Stop.{StopOf, stop_of, tool}
 use Rattle.restool.specs.Inputs.{Places, DeviceInputs, table_of, device_files, box_files, check_files}
 
@@ -45,11 +45,11 @@ AnswersQuestion contents old new inputs (Attr attr styles force) result =
 abbrev pub AnswersTask : {W : Type 0} → (W → Option (List ℕ)) → W → W → Places → List ℕ → List ℕ → Task → Result Status Stop → Type 0
 AnswersTask contents old new places layers members (Make max_nodes ids) =
     CarriesOut (λ inputs result. PrintsOneOf (IsMakeOutput ids.items max_nodes) contents old new result
-        (make_inputs inputs.layers inputs.members))
+    (make_inputs inputs.layers inputs.members))
     (box_files places layers members)
 AnswersTask contents old new places layers members (Check certificate ids) =
     CarriesOut (λ inputs result. PrintsOneOf (check.IsCheckOutput ids.items) contents old new result
-        (check.check_inputs inputs.layers inputs.members inputs.certificate))
+    (check.check_inputs inputs.layers inputs.members inputs.certificate))
     (check_files places layers members certificate.now)
 
 -- a request, from what the places have

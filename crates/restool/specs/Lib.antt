@@ -6,3 +6,5 @@ pub mod Place
 pub mod Inputs
 pub mod FilesSeen
 pub mod Answers
+pub mod CommandLine
+pub mod ArgumentsSeen

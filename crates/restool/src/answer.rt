@@ -9,8 +9,8 @@ ghost use Rattle.restool.specs.FilesSeen.{device_held, layers_held};
 
 use crate::files::{BoxFiles, CheckFiles, DeviceFiles};
 use crate::input::{Inputs, table_bytes};
+use crate::request::{Question, Request, Task};
 use crate::stop::Stop;
-use crate::words::{Question, Request, Task};
 use res_value::ResId;
 use resource_tool::{
     Progress, Status, ToolFault, attr_bytes, bag_bytes, check_bytes, dump_bytes, explain_bytes,

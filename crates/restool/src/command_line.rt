@@ -1,5 +1,12 @@
 //! The command line that is understood: its commands, their arguments, and the texts of their helps.
 
+ghost use Rattle.std.specs.Prelude.{◌≡◌, false, IfOk, IfErr};
+ghost use Rattle.clap.specs.Words.{app_of, kind_of, rule_of};
+ghost use Rattle.clap.specs.Simple.{shape_of, with_subcommand};
+ghost use Rattle.restool.specs.CommandLine.{command_line};
+ghost use Rattle.restool.specs.ArgumentsSeen.{IsLocal, rule_seen, command_seen, with_arguments, with_commands};
+
+use clap::error::ErrorKind;
 use clap::{Arg, ArgAction, Command, value_parser};
 use std::alloc::Global;
 
@@ -183,13 +190,32 @@ pub const MAX_NODES: Argument = Argument {
 };
 
 /// The command line, for a parse.
-pub fn command_line<'a>(alloc: Global) -> Result<Command<'a>, clap::Error> {
-    let mut program = Command::new(alloc, "restool")
+#[tactic(auto, unfolding(crate::specs::CommandLine::command_line))]
+pub fn command_line<'a>(alloc: Global) -> Result<Command<'a>, clap::Error>
+    ensures app { IfOk result (λ program. app_of program ≡ command_line) }
+    ensures local { IfOk result IsLocal }
+    ensures memory { IfErr result (λ error. kind_of error ≡ ErrorKind.OutOfMemory) }
+{
+    let program = Command::new(alloc, "restool")
         .about(ABOUT)
         .version(VERSION)
         .after_help(AFTER_HELP)
         .subcommand_required(true);
-    for subcommand in SUBCOMMANDS {
+    with_commands(alloc, program, SUBCOMMANDS)
+}
+
+fn with_commands<'a>(
+    alloc: Global,
+    program: Command<'a>,
+    subcommands: &[Subcommand],
+) -> Result<Command<'a>, clap::Error>
+    requires { IsLocal program }
+    ensures app { IfOk result (λ whole. app_of whole ≡ with_commands (app_of program.entry) subcommands.now) }
+    ensures local { IfOk result IsLocal }
+    ensures memory { IfErr result (λ error. kind_of error ≡ ErrorKind.OutOfMemory) }
+{
+    let mut program = program;
+    for subcommand in subcommands {
         let built = built_subcommand(alloc, subcommand)?;
         program = with_subcommand(program, built)?;
     }
@@ -199,22 +225,47 @@ pub fn command_line<'a>(alloc: Global) -> Result<Command<'a>, clap::Error> {
 fn with_subcommand<'a>(
     program: Command<'a>,
     subcommand: Command<'a>,
-) -> Result<Command<'a>, clap::Error> {
-    Ok(program.subcommand(subcommand)?)
+) -> Result<Command<'a>, clap::Error>
+    requires program { IsLocal program }
+    requires subcommand { IsLocal subcommand }
+    ensures app { IfOk result (λ whole. app_of whole ≡ with_subcommand (app_of program.entry) (shape_of subcommand.entry)) }
+    ensures local { IfOk result IsLocal }
+    ensures memory { IfErr result (λ error. kind_of error ≡ ErrorKind.OutOfMemory) }
+{
+    let program = program.subcommand(subcommand)?;
+    Ok(program)
 }
 
-fn built_subcommand<'a>(
+fn built_subcommand<'a>(alloc: Global, subcommand: &Subcommand) -> Result<Command<'a>, clap::Error>
+    ensures shape { IfOk result (λ command. shape_of command ≡ command_seen subcommand.now) }
+    ensures local { IfOk result IsLocal }
+    ensures memory { IfErr result (λ error. kind_of error ≡ ErrorKind.OutOfMemory) }
+{
+    let command = Command::new(alloc, subcommand.name).about(subcommand.about);
+    with_arguments(alloc, command, subcommand.arguments)
+}
+
+fn with_arguments<'a>(
     alloc: Global,
-    subcommand: &Subcommand,
-) -> Result<Command<'a>, clap::Error> {
-    let mut command = Command::new(alloc, subcommand.name).about(subcommand.about);
-    for argument in subcommand.arguments {
+    command: Command<'a>,
+    arguments: &[Argument],
+) -> Result<Command<'a>, clap::Error>
+    requires { IsLocal command }
+    ensures app { IfOk result (λ whole. app_of whole ≡ with_arguments (app_of command.entry) arguments.now) }
+    ensures local { IfOk result IsLocal }
+    ensures memory { IfErr result (λ error. kind_of error ≡ ErrorKind.OutOfMemory) }
+{
+    let mut command = command;
+    for argument in arguments {
         command = command.arg(built_argument(alloc, argument))?;
     }
     Ok(command)
 }
 
-fn built_argument<'a>(alloc: Global, argument: &Argument) -> Arg<'a> {
+fn built_argument<'a>(alloc: Global, argument: &Argument) -> Arg<'a>
+    ensures rule { rule_of result ≡ rule_seen argument.now }
+    ensures local { result.global ≡ false }
+{
     let arg = Arg::new(alloc, argument.name).help(argument.help);
     match argument.takes {
         Takes::OneWord => arg.required(true).action(ArgAction::Set),

@@ -56,11 +56,7 @@ impl Stop<'_> {
         Told { status, written }
     }
 
-    fn write<O: Write + Drop, E: Write + Drop>(
-        &self,
-        out: &mut O,
-        errors: &mut E,
-    ) -> io::Result<()>
+    fn write<O: Write + Drop, E: Write + Drop>(&self, out: &mut O, errors: &mut E) -> io::Result<()>
         ensures line { OnOk result (IfSome (stop_line (stop_of self.now))
             (Appends (E.contents errors.old) (E.contents errors.new))) }
         ensures output { is_output (stop_of self.now) ≡ false → out.new ≡ out.old }

@@ -17,9 +17,12 @@ returns-in_err-read g c =
 pub loop-layer-preserved : goal.loop-layer-preserved
 loop-layer-preserved g c =
     let steps = rw c.in-Some.is at c.next.ensures.steps in
-    let before = rw steps.0 at c.loop-layer.invariant.2 in
-    (tt, tt, rw c.in_ok-push.ensures.items
-        (LayersLeft-next (g.I.Inputs.places c.args.inputs.now) c.loop-layer.files.items c.in-Some.layer c.next.new.self.rest.items c.args.paths.items c.in_ok-read.read before c.in_ok-read.ensures))
+    let before = rw steps.0 at c.loop-layer.invariant.2 in (
+      tt,
+      tt,
+      rw c.in_ok-push.ensures.items
+          (LayersLeft-next (g.I.Inputs.places c.args.inputs.now) c.loop-layer.files.items c.in-Some.layer c.next.new.self.rest.items c.args.paths.items c.in_ok-read.read before c.in_ok-read.ensures),
+    )
 
 pub returns : goal.returns
 returns g c =
