@@ -1,5 +1,5 @@
 -- What is known of an entry that has no fault.
-use Rattle.std.proofs.Common.{◌≡◌, ℕ, ◌+◌, ◌*◌, ◌≤◌, Bool, true, false, List, [], ◌∷◌, length, drop, Option, Some, None, Result, Ok, Err, refl, sym, ◌∙◌, arith}
+use Rattle.std.proofs.Common.{◌≡◌, ℕ, ◌+◌, ◌*◌, ◌≤◌, Bool, true, false, List, [], ◌∷◌, length, drop, Option, Some, None, Result, Ok, Err, refl, sym, subst, ◌∙◌, arith}
 use Rattle.std.specs.Prelude.{IsOk, find, nat_lt, not, ◌==◌, ◌%◌, if◌then◌else◌}
 use Rattle.std.specs.List.{range_with_len}
 use Rattle.std.proofs.lemmas.Bool.Decides.{nat_tests}
@@ -16,11 +16,12 @@ use Rattle.type_chunks.specs.declared.fault.TableFault.TheVariants as faults
 use Rattle.type_chunks.specs.Layout.{least_entry, least_entry_size}
 use Rattle.type_chunks.specs.Row.{RowOf}
 use Rattle.type_chunks.specs.TypeChunk.{TypeChunkOf}
-use Rattle.type_chunks.specs.Entry.{is_row, is_complex, row_of_entry, bag_of_rows, bag_of_entry, rows_of_entry_at}
+use Rattle.type_chunks.specs.Entry.{is_row, is_complex, row_of_entry, bag_of_rows, bag_of_entry, value_of_entry, rows_of_entry_at}
 use Rattle.type_chunks.specs.Entries.{held_at, HasEntry}
+use Rattle.type_chunks.specs.Checks.{ChecksOr}
 
 -- four steps that may be refused, and what comes then
-four_steps : {X E : Type 0} → Bool → E → Bool → E → Bool → E → Bool → E → Result X E → Result X E
+pub four_steps : {X E : Type 0} → Bool → E → Bool → E → Bool → E → Bool → E → Result X E → Result X E
 four_steps a e b f c g d h last = do
   _ ← refuse a e
   _ ← refuse b f
@@ -36,6 +37,10 @@ none_refused false e true f c g d h last is = absurd cc
 none_refused false e false f true g d h last is = absurd cc
 none_refused false e false f false g true h last is = absurd cc
 none_refused false e false f false g false h last is = (refl, refl, refl, refl, refl)
+
+pub all_passed : {X E : Type 0} (a : Bool) (e : E) (b : Bool) (f : E) (c : Bool) (g : E) (d : Bool) (h : E) (last : Result X E) → a ≡ false → b ≡ false → c ≡ false → d ≡ false → four_steps a e b f c g d h last ≡ last
+unfolding four_steps
+all_passed a e b f c g d h last ea eb ec ed = rw (ea, eb, ec, ed) refl
 
 -- the rows that follow from what an entry holds
 abbrev pub rows_with : TypeChunkOf → ℕ → ℕ → Result CellOf TableFault → Result (List RowOf) TableFault
@@ -75,6 +80,31 @@ module _ (chunk : TypeChunkOf) (index at : ℕ) (is : IsOk (rows_of_entry_at chu
   entry_at-rows cell held = whole.4 ∙ rw (sym held) refl
 
 pub ruleset entry_steps = (entry_at-has, entry_at-rows)
+
+pub held-bag : (chunk : TypeChunkOf) (at : ℕ) → is_complex chunk at ≡ true → held_at chunk at ≡ bag_of_entry chunk at (at + number 2 chunk.whole at)
+unfolding held_at
+held-bag chunk at complex = rw complex refl
+
+pub held-value : (chunk : TypeChunkOf) (at : ℕ) → is_complex chunk at ≡ false → held_at chunk at ≡ value_of_entry chunk at (at + number 2 chunk.whole at)
+unfolding held_at
+held-value chunk at plain = rw plain refl
+
+-- what was checked of what an entry holds was checked of its rows
+with-checked : (chunk : TypeChunkOf) (index at : ℕ) (result : Result (Unit {0}) TableFault) (held : Result CellOf TableFault) → ChecksOr faults.OutOfMemory result held
+    → ChecksOr faults.OutOfMemory result (rows_with chunk index at held)
+with-checked chunk index at (Ok done) (Ok cell) checked = refl
+with-checked chunk index at (Ok done) (Err fault) checked = absurd cc
+with-checked chunk index at (Err fault) (Ok cell) checked = λ other. let is = checked other in absurd cc
+with-checked chunk index at (Err fault) (Err found) checked = λ other. let is = checked other in cc
+
+pub rows-checked : (chunk : TypeChunkOf) (index at : ℕ) (result : Result (Unit {0}) TableFault) → at % 4 ≡ 0 → at + least_entry ≤ length chunk.whole → least_entry_size (is_complex chunk at) ≤ number 2 chunk.whole at
+    → at + number 2 chunk.whole at ≤ length chunk.whole → ChecksOr faults.OutOfMemory result (held_at chunk at) → ChecksOr faults.OutOfMemory result (rows_of_entry_at chunk index at)
+unfolding rows_of_entry_at four_steps held_at
+rows-checked chunk index at result aligned fields least fits checked =
+    let passed = all_passed (not (at % 4 == 0)) (faults.Entry (chunk.place + at)) (nat_lt (length chunk.whole) (at + least_entry)) (faults.Entry (chunk.place + at))
+    (nat_lt (number 2 chunk.whole at) (least_entry_size (is_complex chunk at))) (faults.Entry (chunk.place + at)) (nat_lt (length chunk.whole) (at + number 2 chunk.whole at)) (faults.Entry (chunk.place + at))
+    (rows_with chunk index at (held_at chunk at)) (grind (arith, nat_tests, aligned)) (grind (arith, nat_tests, fields)) (grind (arith, nat_tests, least)) (grind (arith, nat_tests, fits)) in
+    subst (λ (r : Result (List RowOf) TableFault). ChecksOr faults.OutOfMemory result r) (sym passed) (with-checked chunk index at result (held_at chunk at) checked)
 
 -- ---- bags
 

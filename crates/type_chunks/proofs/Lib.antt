@@ -6,3 +6,4 @@ pub mod EntrySteps
 pub mod EntriesSteps
 pub mod TypeRowsSteps
 pub mod OwnSteps
+pub mod WrongSteps

@@ -6,8 +6,3 @@ use Rattle.std.specs.Prelude.{◌≡◌, ◌≢◌, Result, Ok, Err, IsOk}
 abbrev pub ChecksOr : {X Y E : Type 0} → E → Result X E → Result Y E → Type 0
 ChecksOr out_of_memory (Ok _) meant = IsOk meant
 ChecksOr out_of_memory (Err fault) meant = fault ≢ out_of_memory → meant ≡ Err fault
-
--- the same of a check that takes no memory
-abbrev pub Checks : {X Y E : Type 0} → Result X E → Result Y E → Type 0
-Checks (Ok _) meant = IsOk meant
-Checks (Err fault) meant = meant ≡ Err fault

@@ -19,6 +19,7 @@
 //! `specs/Entry.antt`.
 #![tactic(auto)]
 
+mod bag_checks;
 mod checked_type;
 mod entry;
 mod entry_check;

@@ -1,6 +1,6 @@
 //! The types of a package.
 
-ghost use Rattle.std.specs.Prelude.{◌≡◌, ◌+◌, ◌<◌, ◌≤◌, ◌^◌, ◌∷◌, length, List, Result, Err, OnOk, IfOk, IfErr};
+ghost use Rattle.std.specs.Prelude.{◌≡◌, ◌≢◌, ◌+◌, ◌<◌, ◌≤◌, ◌^◌, ◌∷◌, length, List, Result, Err, OnOk, IfOk, IfErr};
 ghost use Rattle.chunk_walk.specs.Chunk.{ChunkOf, chunk_of, seen};
 ghost use Rattle.chunk_walk.specs.declared.chunk.ChunkFault.{ChunkFault};
 ghost use Rattle.contract_words.specs.Exact.{GivesOr};
@@ -12,6 +12,7 @@ ghost use Rattle.type_chunks.specs.TypeChunk.{type_chunk_of};
 ghost use Rattle.type_chunks.specs.TypeRows.{rows_of_types};
 ghost use Rattle.type_chunks.specs.PackageChildren.{rows_of_entries, rows_of_child, rows_of_children};
 
+use crate::bag_checks::BagChecks;
 use crate::checked_type::CheckedType;
 use crate::fault::TableFault;
 use crate::known_specs::KnownSpecs;
@@ -37,7 +38,7 @@ pub(crate) fn types_of_children<'a>(
     let mut types = Vec::new(alloc);
     let mut specs = KnownSpecs::new();
     for found in chunk.children() {
-        push_child(owner, found, &mut specs, &mut types)?;
+        push_child(alloc, owner, found, &mut specs, &mut types)?;
     }
     Ok(types)
 }
@@ -45,6 +46,7 @@ pub(crate) fn types_of_children<'a>(
 // Pushes a chunk in a package, where it is a type; `specs` has the type specs before it.
 #[tactic(auto, unfolding(crate::specs::PackageChildren::rows_of_child))]
 fn push_child<'a>(
+    alloc: Global,
     owner: Owner,
     found: Result<Chunk<'a>, ChunkFault>,
     specs: &mut KnownSpecs<'a>,
@@ -62,30 +64,35 @@ fn push_child<'a>(
             specs.keep(TypeSpec::read(&chunk)?);
             Ok(())
         }
-        kind::TYPE => push_type(TypeChunk::read(owner, specs, &chunk)?, types),
+        kind::TYPE => push_type(alloc, TypeChunk::read(owner, specs, &chunk)?, types),
         _ => Ok(()),
     }
 }
 
 // Pushes a type, each entry of which is checked first.
-fn push_type<'a>(chunk: TypeChunk<'a>, types: &mut Vec<CheckedType<'a>>) -> Result<(), TableFault>
+fn push_type<'a>(
+    alloc: Global,
+    chunk: TypeChunk<'a>,
+    types: &mut Vec<CheckedType<'a>>,
+) -> Result<(), TableFault>
     ensures one { length types.new.items ≤ length types.old.items + 1 }
     ensures rows { Pushes OutOfMemory (rows_of_types types.old.items) (rows_of_types types.new.items) result (rows_of_entries (type_chunk_of chunk.entry)) }
 {
-    check_entries(&chunk)?;
+    check_entries(alloc, &chunk)?;
     types.push(CheckedType { chunk })?;
     Ok(())
 }
 
 // The first fault of the entries of a type.
 #[tactic(auto, using(crate::proofs::EntriesSteps::check_steps))]
-fn check_entries(chunk: &TypeChunk<'_>) -> Result<(), TableFault>
+fn check_entries(alloc: Global, chunk: &TypeChunk<'_>) -> Result<(), TableFault>
     ensures read { OnOk result (AreRead (type_chunk_of chunk.now) chunk.now.entry_count) }
-    ensures fault { IfErr result (λ fault. rows_of_entries (type_chunk_of chunk.now) ≡ Err fault) }
+    ensures fault { IfErr result (λ fault. fault ≢ OutOfMemory → rows_of_entries (type_chunk_of chunk.now) ≡ Err fault) }
 {
+    let mut bags = BagChecks::new(alloc, chunk.whole);
     let mut from = 0;
     while let Some(index) = chunk.next_entry(from) {
-        chunk.check_entry(index)?;
+        chunk.check_entry(alloc, &mut bags, index)?;
         from = index + 1;
     }
     Ok(())
