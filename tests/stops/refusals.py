@@ -32,16 +32,15 @@ class Refuser:
         """How a run ends where the calls of a kind from the first to the last are refused, and how many were made."""
         with tempfile.NamedTemporaryFile() as count, open(run.given, "rb") as given:
             said = {"REFUSED": kind, "FROM": str(first), "TO": str(last), "COUNT": count.name}
-            ended = subprocess.run(
+            started = subprocess.Popen(
                 [self.program, *run.words],
                 cwd=run.folder,
                 env={"LD_PRELOAD": self.library, **said},
                 stdin=given,
                 stdout=subprocess.PIPE,
                 stderr=subprocess.PIPE,
-                timeout=MOST_SECONDS,
             )
-            return Ended(ended.returncode, ended.stdout, ended.stderr), int(count.read() or b"0")
+            return ended_within(MOST_SECONDS, started), int(count.read() or b"0")
 
     def each(self, run, kind):
         """How a run ends where one call of a kind is refused, and where all from there on are: for each call."""
@@ -49,6 +48,16 @@ class Refuser:
         for place in range(1, calls + 1):
             yield f"{kind} {place} of {calls}", self.run(run, kind, place, place)[0]
             yield f"{kind} {place} and on", self.run(run, kind, place)[0]
+
+
+def ended_within(seconds, started):
+    """How a program ends, without a status where it takes longer."""
+    try:
+        out, err = started.communicate(timeout=seconds)
+        return Ended(started.returncode, out, err)
+    except subprocess.TimeoutExpired:
+        started.kill()
+        return Ended(None, *started.communicate())
 
 
 def file_fault(path):
