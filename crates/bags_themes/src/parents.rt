@@ -1,8 +1,9 @@
 //! A bag with its parents.
 
-ghost use Rattle.std.specs.Prelude.{◌≡◌};
+ghost use Rattle.std.specs.Prelude.{◌≡◌, ◌<◌, vec_len, vec_capacity};
 ghost use Rattle.contract_words.specs.Exact.{GivesOr};
 ghost use Rattle.config_record.specs.DeviceSeen.{device_numbers};
+ghost use Rattle.overlay_map.specs.FillsIn.{FillsIn};
 ghost use Rattle.bags_themes.specs.Bag.{chain_of};
 ghost use Rattle.bags_themes.specs.FoundBag.{found_bag_of, found_bags_of};
 ghost use Rattle.bags_themes.specs.declared.bag_fault.BagFault.TheVariants.{OutOfMemory};
@@ -24,13 +25,32 @@ pub(crate) fn with_parents<'a>(
     ensures { GivesOr OutOfMemory (λ chain. found_bags_of chain.items) result
         (chain_of stack.now most (found_bag_of bag.entry) (device_numbers device.now)) }
 {
-    let mut chain = Vec::new(alloc);
+    let mut chain = Vec::with_capacity(alloc, usize::from(most) + 1)?;
+    push_with_parents(stack, bag, device, most, &mut chain)?;
+    Ok(chain)
+}
+
+// Pushes a bag, its parent, and so on to the topmost one. There is room for them.
+fn push_with_parents<'a>(
+    stack: &Stack<'a>,
+    bag: FoundBag<'a>,
+    device: &Device,
+    most: u8,
+    chain: &mut Vec<FoundBag<'a>>,
+) -> Result<(), BagFault>
+    requires empty { vec_len chain.old ≡ 0 }
+    requires room { most < vec_capacity chain.old }
+    ensures { FillsIn (found_bags_of chain.new.items) result
+        (chain_of stack.now most (found_bag_of bag.entry) (device_numbers device.now)) }
+{
     let mut bag = bag;
     let mut left = most;
     'chain: loop {
-        chain.push(bag)?;
+        let Ok(()) = chain.push(bag) else {
+            unreachable!()
+        };
         let Some(parent) = bag.parent(stack, device) else {
-            return Ok(chain);
+            return Ok(());
         };
         if left == 0 {
             return Err(BagFault::BagDepth);

@@ -11,7 +11,7 @@ use crate::coord::Coord;
 use crate::fields::{DeviceFault, Fields, fill_numbers, locale_number_in};
 use crate::json::device_in_value;
 use crate::locale::{Locale, LocaleFault};
-use json_input::{JsonFault, read_value};
+use json_input::read_value;
 use std::alloc::Global;
 
 /// A configuration that is asked for: 24 numbers, none above the greatest of its coordinate, and a
@@ -62,11 +62,8 @@ impl Device {
     pub fn read(alloc: Global, json: &[u8]) -> Result<Device, DeviceFault>
         ensures { GivesOr OutOfMemory device_numbers result (device_in_json json.now) }
     {
-        match read_value(alloc, json) {
-            Ok(value) => device_in_value(&value),
-            Err(JsonFault::Syntax) => Err(DeviceFault::Syntax),
-            Err(JsonFault::OutOfMemory) => Err(DeviceFault::OutOfMemory),
-        }
+        let value = read_value(alloc, json)?;
+        device_in_value(&value)
     }
 
     /// The device of the numbers that are compared at each coordinate, in their order.

@@ -9,6 +9,7 @@ ghost use Rattle.config_record.specs.Locale.{IsGiven};
 
 use crate::coord::Coord;
 use crate::locale::{Locale, LocaleFault};
+use json_input::JsonFault;
 use thiserror::Error;
 
 /// A number for each coordinate, in their order, and a locale, for `Device::check`. The number at the
@@ -41,6 +42,19 @@ pub enum DeviceFault {
     Density,
     #[error("OutOfMemory")]
     OutOfMemory,
+}
+
+impl From<JsonFault> for DeviceFault {
+    ghost use Rattle.config_record.specs.DeviceJson.{fault_of_text};
+
+    ghost from_gives = { λ fault e. e ≡ fault_of_text fault };
+
+    fn from(fault: JsonFault) -> DeviceFault {
+        match fault {
+            JsonFault::Syntax => DeviceFault::Syntax,
+            JsonFault::OutOfMemory => DeviceFault::OutOfMemory,
+        }
+    }
 }
 
 /// The numbers of a device at these coordinates, or the first fault; `locale` is the number at the locale, or

@@ -1,3 +1,4 @@
+pub mod FillsIn
 pub mod IdMap
 pub mod Layer
 pub mod Candidates

@@ -1,17 +1,19 @@
 //! Id maps.
 
-ghost use Rattle.std.specs.Prelude.{◌≡◌, ◌==◌, []};
+ghost use Rattle.std.specs.Prelude.{◌≡◌, ◌==◌, ◌≤◌, [], length};
 ghost use Rattle.std.specs.List.{list_any};
 ghost use Rattle.std.specs.Option.{option_map};
 ghost use Rattle.contract_words.specs.Exact.{GivesOr};
 ghost use Rattle.contract_words.specs.Sequences.{joined_each, with_before};
+ghost use Rattle.indexmap.specs.IndexMap.{IsEmpty, spare};
+ghost use Rattle.overlay_map.specs.FillsIn.{FillsIn};
 ghost use Rattle.overlay_map.specs.IdMap.{look_of, check_target, checked_pair, checked_pairs, map_in};
 ghost use Rattle.overlay_map.specs.declared.map_fault.MapFault.TheVariants.{OutOfMemory};
 
 use crate::map_fault::MapFault;
 use crate::pairs::pairs_in;
 use indexmap::IndexMap;
-use json_input::{JsonFault, read_value};
+use json_input::read_value;
 use res_value::ResId;
 use std::alloc::Global;
 use std::marker::Model;
@@ -36,11 +38,7 @@ impl IdMap {
     pub fn read(alloc: Global, json: &[u8]) -> Result<IdMap, MapFault>
         ensures { GivesOr OutOfMemory (λ map. map) result (map_in json.now) }
     {
-        let value = match read_value(alloc, json) {
-            Ok(value) => value,
-            Err(JsonFault::Syntax) => return Err(MapFault::Syntax),
-            Err(JsonFault::OutOfMemory) => return Err(MapFault::OutOfMemory),
-        };
+        let value = read_value(alloc, json)?;
         let pairs = pairs_in(alloc, &value)?;
         let entries = entries_of(alloc, &pairs)?;
         Ok(IdMap { entries })
@@ -59,26 +57,30 @@ impl IdMap {
 fn entries_of(alloc: Global, pairs: &[(ResId, ResId)]) -> Result<IndexMap<ResId, ResId>, MapFault>
     ensures { GivesOr OutOfMemory (λ entries. entries.entries) result (checked_pairs pairs.now) }
 {
-    match pairs.first() {
-        Some((first, _)) => entries_with(alloc, first.package(), pairs),
-        None => Ok(IndexMap::new(alloc)),
-    }
-}
-
-// The pairs as entries, where the first is of this package.
-fn entries_with(
-    alloc: Global,
-    first_package: u8,
-    pairs: &[(ResId, ResId)],
-) -> Result<IndexMap<ResId, ResId>, MapFault>
-    ensures { GivesOr OutOfMemory (λ entries. entries.entries) result (joined_each (checked_pair first_package) (with_before [] pairs.now)) }
-{
-    let mut entries = IndexMap::new(alloc);
-    for (target, own) in pairs {
-        check_target(&entries, first_package, *target)?;
-        entries.insert(*target, *own)?;
+    let mut entries = IndexMap::with_capacity(alloc, pairs.len())?;
+    if let Some((first, _)) = pairs.first() {
+        insert_pairs(first.package(), pairs, &mut entries)?;
     }
     Ok(entries)
+}
+
+// Inserts the pairs, of which the first is of this package. There is room for them.
+fn insert_pairs(
+    first_package: u8,
+    pairs: &[(ResId, ResId)],
+    entries: &mut IndexMap<ResId, ResId>,
+) -> Result<(), MapFault>
+    requires empty { IsEmpty entries.old }
+    requires room { length pairs.now ≤ spare entries.old }
+    ensures { FillsIn entries.new.entries result (joined_each (checked_pair first_package) (with_before [] pairs.now)) }
+{
+    for (target, own) in pairs {
+        check_target(entries, first_package, *target)?;
+        let Ok(_) = entries.insert(*target, *own) else {
+            unreachable!()
+        };
+    }
+    Ok(())
 }
 
 // What is wrong with a target behind these entries, the first of which is of this package.

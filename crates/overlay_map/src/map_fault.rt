@@ -3,8 +3,9 @@
 ghost use Rattle.std.specs.Prelude.{◌≡◌};
 ghost use Rattle.overlay_map.specs.declared.map_fault.MapFault.TheVariants.{OutOfMemory};
 
+use json_input::JsonFault;
 use res_value::ResId;
-use std::alloc::AllocFailed;
+use std::alloc::AllocError;
 use thiserror::Error;
 
 /// Why no id map was read. A text is first read, then its shape is looked at; then the pairs are checked
@@ -27,10 +28,23 @@ pub enum MapFault {
     OutOfMemory,
 }
 
-impl<T: Drop> From<AllocFailed<T>> for MapFault {
+impl From<JsonFault> for MapFault {
+    ghost use Rattle.overlay_map.specs.IdMap.{fault_of_text};
+
+    ghost from_gives = { λ fault e. e ≡ fault_of_text fault };
+
+    fn from(fault: JsonFault) -> MapFault {
+        match fault {
+            JsonFault::Syntax => MapFault::Syntax,
+            JsonFault::OutOfMemory => MapFault::OutOfMemory,
+        }
+    }
+}
+
+impl From<AllocError> for MapFault {
     ghost from_gives = { λ _ e. e ≡ OutOfMemory };
 
-    fn from(_error: AllocFailed<T>) -> MapFault {
+    fn from(_error: AllocError) -> MapFault {
         MapFault::OutOfMemory
     }
 }

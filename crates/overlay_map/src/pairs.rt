@@ -1,9 +1,10 @@
 //! The pairs of ids that a JSON value is.
 
-ghost use Rattle.std.specs.Prelude.{◌≡◌, map};
+ghost use Rattle.std.specs.Prelude.{◌≡◌, length, map};
 ghost use Rattle.serde_json.specs.View.{view};
 ghost use Rattle.contract_words.specs.Exact.{GivesOr};
 ghost use Rattle.json_input.specs.Each.{each};
+ghost use Rattle.overlay_map.specs.FillsIn.{FillsIn};
 ghost use Rattle.overlay_map.specs.IdMap.{id_in, pair_in, pair_item, pairs_in};
 ghost use Rattle.overlay_map.specs.declared.map_fault.MapFault.TheVariants.{OutOfMemory};
 
@@ -17,24 +18,23 @@ use std::alloc::Global;
 pub(crate) fn pairs_in(alloc: Global, value: &Value) -> Result<Vec<(ResId, ResId)>, MapFault>
     ensures { GivesOr OutOfMemory (λ pairs. pairs.items) result (pairs_in (view value.now)) }
 {
-    match value.as_array() {
-        Some(items) => pairs_of_items(alloc, items),
-        None => Err(MapFault::Shape),
-    }
+    let Some(items) = value.as_array() else {
+        return Err(MapFault::Shape);
+    };
+    let mut pairs = vec![in alloc; (ResId(0), ResId(0)); items.len()]?;
+    fill_pairs(items, &mut pairs)?;
+    Ok(pairs)
 }
 
-#[tactic(auto, using(json_input::proofs::EachSteps::each_item_steps))]
-fn pairs_of_items(alloc: Global, items: &[Value]) -> Result<Vec<(ResId, ResId)>, MapFault>
-    ensures { GivesOr OutOfMemory (λ pairs. pairs.items) result (each pair_item (map view items.now)) }
+// Fills in the pair of each item.
+fn fill_pairs(items: &[Value], pairs: &mut [(ResId, ResId)]) -> Result<(), MapFault>
+    requires { length pairs.old ≡ length items.now }
+    ensures { FillsIn pairs.new result (each pair_item (map view items.now)) }
 {
-    let mut pairs = Vec::new(alloc);
-    for item in items {
-        let Some(pair) = pair_in(item) else {
-            return Err(MapFault::Shape);
-        };
-        pairs.push(pair)?;
+    for (place, item) in items.iter().enumerate() {
+        pairs[place] = pair_in(item).ok_or(MapFault::Shape)?;
     }
-    Ok(pairs)
+    Ok(())
 }
 
 // The pair that a list of two ids is.

@@ -15,5 +15,4 @@ pub mod CheckOutput
 pub mod CheckHeadline
 pub mod CheckInputsSeen
 pub mod MakeOutput
-pub mod MakeReadsBack
 pub mod LineReadsBack

