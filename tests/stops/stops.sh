@@ -66,8 +66,6 @@ id=0x7f010000
 rows='rows 0 set-aside 0'
 absent="$id absent $id
 set-aside 0"
-ended="lookup $id
-end absent $id"
 rejected='rejected goal 0 node 0 N1 GoalList
 set-aside 0'
 
@@ -278,7 +276,7 @@ shell "a folder as standard input" 5 'file: -' '"$0" rows - <folder'
 shell "a folder as standard input, without words" 5 'file: -' '"$0" <folder'
 shell "a closed standard input" 5 'file: -' '"$0" dump - <&-'
 shell "a closed standard input, without words" 5 'file: -' '"$0" <&-'
-shell "a standard input that is not read" 5 'file: -' '"$0" rows - 0>written'
+shell "a standard input that can only be written" 5 'file: -' '"$0" rows - 0>written'
 shell "an empty standard input" 3 'refused: table: Chunk Truncated 0' '"$0"'
 stops "a folder as a list of layers" 5 'file: folder' query folder device $id
 stops "a folder as a device" 5 'file: folder' query layers folder $id
@@ -286,7 +284,7 @@ line of-folder '[{"table":"folder"}]'
 stops "a folder as a layer's table" 5 'file: folder' query of-folder device $id
 line of-folder '[{"table":"whole","map":"folder"}]'
 stops "a folder as a layer's map" 5 'file: folder' query of-folder device $id
-shell "a closed standard input beside a file" 0 '' '[ "$("$0" rows whole <&-)" = "rows 0 set-aside 0" ]'
+shell "a closed standard input that is not needed" 0 '' '[ "$("$0" rows whole <&-)" = "rows 0 set-aside 0" ]'
 
 # ---- streams that take nothing: of an answer status 5, and of a message its own status
 # unwritten NAME TO: answers that cannot be written, and messages.
