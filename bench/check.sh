@@ -16,24 +16,6 @@
 . "$(dirname "$0")/common.sh"
 cd "$work" || exit 1
 
-# timed RUNS VERDICT COMMAND..: the least time of so many runs and their greatest memory in MB. What is printed has to
-# begin with the verdict.
-timed() {
-    runs=$1 verdict=$2
-    shift 2
-    for _ in $(seq "$runs"); do
-        /usr/bin/time -q -f '%e %M' -o time "$@" >printed
-        case $(head -n 1 printed) in
-        "$verdict"*) cat time ;;
-        *)
-            echo "check.sh: $verdict is due: $1 $2 ..: $(head -n 1 printed)" >&2
-            return 1
-            ;;
-        esac
-    done >times || return
-    sort -n times | awk 'NR == 1 { t = $1 } $2 > m { m = $2 } END { printf "%s %.0f\n", t, m / 1024 }'
-}
-
 # ---- chains
 
 # One value for each id, in the default configuration.

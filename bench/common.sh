@@ -29,6 +29,24 @@ seconds() {
     sort -n times | head -n 1
 }
 
+# timed RUNS DUE COMMAND..: the least time of so many runs and their greatest memory in MB. What is printed, which is left
+# in `printed`, has to begin with what is due.
+timed() {
+    runs=$1 due=$2
+    shift 2
+    for _ in $(seq "$runs"); do
+        /usr/bin/time -q -f '%e %M' -o time "$@" >printed
+        case $(head -c 200 printed | head -n 1) in
+        "$due"*) cat time ;;
+        *)
+            echo "$(basename "$0"): $due is due: $1 $2 ..: $(head -c 200 printed | head -n 1)" >&2
+            return 1
+            ;;
+        esac
+    done >times || return
+    sort -n times | awk 'NR == 1 { t = $1 } $2 > m { m = $2 } END { printf "%s %.0f\n", t, m / 1024 }'
+}
+
 # framework: leaves the table of Android's framework in framework.arsc, that of Debian's package
 # android-framework-res. Where that is not installed it is downloaded and unpacked into the work folder.
 framework() {

@@ -9,65 +9,18 @@ is asked whether they stand at it, whether they differ in one coordinate alone, 
 at the first question that devices at the leaf answer differently the first answers yes and the second no; and what
 `restool explain` says of them, and of some other device of the box, has to be what the rules say. The cases are
 numbered from FIRST on, which is 0 if it is not given. The last line counts the certificates by their verdicts."""
-import json
 import os
 import random
-import subprocess
 import sys
 import tempfile
 from collections import Counter
 from concurrent.futures import ProcessPoolExecutor
 
-from made_layers import table_bytes
+from case_files import Files, device_of, id_text
 from plain_certificates import certificate_json, verdict, verdict_lines
 from plain_rules import COORDS, step_of
 from printed import CANDIDATE
-from random_cases import Case
-
-
-def id_text(name):
-    return f"0x{name:08x}"
-
-
-class Files:
-    """The files of a case, in a folder of their own."""
-
-    def __init__(self, program, folder, case):
-        self.program = program
-        self.folder = folder
-        self.write("box", case.box.json())
-        self.write("certificate", certificate_json(case.goals))
-        layers = []
-        for place, (rows, own_of) in enumerate(zip(case.tables, case.maps)):
-            layers.append({"table": f"table{place}"})
-            with open(os.path.join(folder, f"table{place}"), "wb") as table:
-                table.write(table_bytes(rows))
-            if own_of is not None:
-                layers[-1]["map"] = f"map{place}"
-                self.write(f"map{place}", [[id_text(target), id_text(own)] for target, own in own_of.items()])
-        self.write("layers", layers)
-
-    def write(self, name, said):
-        with open(os.path.join(self.folder, name), "w") as text:
-            json.dump(said, text)
-
-    def run(self, *words):
-        """The lines that are printed, and the status. A message is a line too."""
-        done = subprocess.run([self.program, *words], cwd=self.folder, capture_output=True, text=True)
-        return done.stdout.splitlines() + done.stderr.splitlines(), done.returncode
-
-    def explain(self, name, device):
-        self.write("device", {coord: value for coord, value in device.items() if value})
-        return self.run("explain", "layers", "device", id_text(name))[0]
-
-
-def device_of(words):
-    """The device that is printed so."""
-    device = {name: "" if name == "locale" else 0 for name in COORDS}
-    for word in words.split():
-        name, _, value = word.partition("=")
-        device[name] = value if name == "locale" else int(value)
-    return device
+from random_cases import CertifiedCase
 
 
 def check_explanation(files, case, name, device):
@@ -125,9 +78,10 @@ def faults_of_verdict(files, case):
 
 def check_case(program, number):
     chance = random.Random(number)
-    case = Case(chance)
+    case = CertifiedCase(chance)
     with tempfile.TemporaryDirectory() as folder:
         files = Files(program, folder, case)
+        files.write("certificate", certificate_json(case.goals))
         faults, told = faults_of_verdict(files, case)
         faults += check_explanation(files, case, chance.choice(case.asked), chance.choice(case.members))
     return [f"case {number}: {fault}" for fault in faults], told

@@ -216,6 +216,62 @@ else
     echo "not run, since python3 is missing: JSON Schemas, worked and random certificates"
 fi
 
+# ---- make
+line layers '[{"table":"whole"}]'
+line box '{"density":{"from":120,"to":640}}'
+printf '%s\n' 'counter goal 0' 'device density=120' 'end absent 0x7f010000' >counter.out
+check "a device without a value" 1 counter.out $none make layers box 0x7f010000
+check "the most nodes that a certificate may have" 1 counter.out $none make --max-nodes 1000000 layers box 0x7f010000
+check "the limit behind the ids" 1 counter.out $none make layers box 0x7f010000 --max-nodes 1
+line limit.out 'node limit'
+check "two ids, and one node" 1 limit.out $none make --max-nodes 1 layers box 0x7f010000 0x7f010000
+
+# no_certificate NAME STATUS LINE WORD..: make with these words ends with this status and this line on standard error.
+no_certificate() {
+    name=$1 status=$2
+    line made.err "$3"
+    shift 3
+    check "$name" "$status" $none made.err make "$@"
+}
+line emptied '{"density":[160],"night":[]}'
+no_certificate "a wrong box" 3 'refused: box: Empty night' layers emptied 0x7f010000
+line cut-layers '[{"table":"cut"}]'
+head -c 4 whole >cut
+no_certificate "a table comes before the box" 3 'refused: layer 0 table: Chunk Truncated 0' cut-layers emptied 0x7f010000
+no_certificate "an absent box comes before all that is rejected" 5 'file: absent' cut-layers absent 0x7f010000
+no_certificate "a bad id comes before the files" 2 'command: bad id 0x7f01' absent absent 0x7f010000 0x7f01
+no_certificate "a limit of 0 comes before a bad id" 2 "error: invalid value '0' for '--max-nodes <N>': 0 is not in 1..=1000000
+
+For more information, try '--help'." --max-nodes 0 layers box 0x7f01
+ends "a limit that is too large" 2 '"$0" make --max-nodes 1000001 layers box 0x7f010000'
+ends "a limit that is no number" 2 '"$0" make --max-nodes many layers box 0x7f010000'
+ends "a limit without a number" 2 '"$0" make layers box 0x7f010000 --max-nodes'
+ends "make without an id" 2 '"$0" make layers box'
+ends "make to a closed output" 5 '"$0" make layers box 0x7f010000 >&-'
+cd "$here" || exit 1
+ends "the certificate of examples/release" 0 "sh examples/release/make.sh examples/teapot/resources.arsc \
+    examples/release/layers.json | cmp - examples/release/certificate.json"
+cd "$work" || exit 1
+
+# Work of more than a second: one id 2,000 times, over a box with a long list. With standard error in a file nothing is
+# written there.
+table=$teapot/resources.arsc
+line app "[{\"table\":\"$table\"}]"
+awk 'BEGIN {
+    for (n = 100; n < 612; n++) list = list "," n
+    print "{\"density\":[" substr(list, 2) "],\"sdk\":[26]}"
+}' >long
+many=$(awk 'BEGIN { for (n = 0; n < 2000; n++) print "0x7f030000" }')
+ends "work that nothing is said of" 0 "\"\$0\" make app long $(echo $many) 2>said >made && [ ! -s said ]"
+if command -v python3 >/dev/null; then
+    ends "worked certificates that are made" 0 "python3 '$here/tests/worked_made.py' \"\$0\""
+    ends "random certificates that are made" 0 "python3 '$here/tests/check_made.py' \"\$0\" 400 4"
+    ends "work that a terminal says how far it is" 0 "python3 '$here/tests/on_terminal.py' \"\$0\" make app long $(echo $many) |
+        grep '^[0-9]* of 2000 goals done'"
+else
+    echo "not run, since python3 is missing: worked and random certificates that are made, work on a terminal"
+fi
+
 # ---- README and the guide: what they show behind a command is what it prints
 for page in README.md docs/GUIDE.md; do
     rm -rf shown
@@ -308,7 +364,7 @@ line far '[{"table":"whole","map":"nowhere"}]'
 check "an absent id map comes before an absent device" 5 $none nowhere.err query far absent 0x7f010000
 
 # ---- words
-for command in rows dump query explain bag attr check; do
+for command in rows dump query explain bag attr make check; do
     check "help of $command" 0 "$here/tests/helps/$command.txt" $none "$command" --help
 done
 check "help" 0 "$here/tests/helps/restool.txt" $none --help
@@ -334,6 +390,9 @@ check "a style that is no id" 2 $none style.err attr layers device --keep 0x0101
 ends "dump of two tables" 2 '"$0" dump a b'
 ends "too many words" 2 '"$0" rows a b'
 ends "a word that is not UTF-8" 2 '"$0" rows "$(printf "\377")"'
+
+# ---- each way to stop
+ends "each way to stop" 0 "sh '$here/tests/stops/stops.sh' \"\$0\" >&2"
 
 echo "$passed passed, $failed failed"
 [ "$failed" = 0 ]

@@ -1,4 +1,4 @@
-"""Random layers, boxes and certificates. For check_certificates.py."""
+"""Random layers, boxes and certificates. For the scripts beside it."""
 from plain_certificates import Box, leaf_of
 from plain_rules import COORDS, Layers, Record
 
@@ -42,7 +42,7 @@ OTHER_CELLS = ((1, 0), (2, 0x01010001), (3, 0), (0, 0), (0, 1), (0x12, 0xFFFFFFF
 
 
 class Case:
-    """Layers, a box, the ids that are asked, and a certificate: a list of ids with their nodes."""
+    """Layers, a box, and the ids that are asked."""
 
     def __init__(self, chance):
         self.chance = chance
@@ -55,9 +55,6 @@ class Case:
         self.box = self.random_box()
         self.members = self.box.members()
         self.asked = chance.choices(range(FIRST_ID, FIRST_ID + ENTRIES), k=chance.randint(1, 3))
-        self.goals = [(name, self.tree(name)) for name in self.asked]
-        for _ in range(chance.choice((0, 0, 1, 1, 2))):
-            self.mutate()
 
     # ---- layers
 
@@ -133,7 +130,29 @@ class Case:
                 said[name] = self.random_choice(name, 1) if single else self.random_range(name, 1)
         return Box(said)
 
-    # ---- certificates
+    def narrow(self):
+        """Leaves one value of each coordinate but one."""
+        said = {}
+        for name, values in self.box.said.items():
+            value = self.chance.choice(self.box.sets[name])
+            said[name] = (value, value) if isinstance(values, tuple) else [value]
+        name = self.chance.choice(self.focus)
+        is_choice = name == "locale" or self.chance.random() < 0.4
+        said[name] = self.random_choice(name, 8) if is_choice else self.random_range(name, 300)
+        self.box = Box(said)
+        self.members = self.box.members()
+
+
+class CertifiedCase(Case):
+    """A case with a certificate: a list of ids with their nodes."""
+
+    def __init__(self, chance):
+        super().__init__(chance)
+        self.goals = [(name, self.tree(name)) for name in self.asked]
+        for _ in range(chance.choice((0, 0, 1, 1, 2))):
+            self.mutate()
+
+    # ---- true certificates
 
     def any_leaf(self):
         if self.chance.random() < 0.2:

@@ -1,9 +1,12 @@
 #!/bin/sh
 # Tries the edits crates/NAME/wrong-bodies/*.edit: the prover has to refuse each, as it refuses those of must-fail/.
 #   wrong_bodies.sh [--all] [--apply] [CRATE..]
+#   wrong_bodies.sh --seen [CRATE..]
 # Without a crate it takes all. It works on a copy, so the checkout stays as it is and may be used meanwhile.
 #   --all    tries those of must-fail/ too
-#   --apply  proves nothing: checks that each edit of both folders still applies (each `old:` text stands once)
+#   --apply  proves nothing: checks that each edit of these and of seen-by-tests/ still applies (each `old:` text
+#            stands once)
+#   --seen   tries those of seen-by-tests/ alone: of each, the test that it names has to fail (planted_bugs.py)
 # The last line is 'N refused, M let through' (with --apply 'N apply, M do not'), and the status is 0 only where
 # M is 0. An edit that could not be tried counts as let through.
 # The environment may give RT, the command that proves in place of rt, and JOBS, how many runs go side by side.
@@ -36,7 +39,11 @@ applies=
 while :; do
     case $1 in
     --all) folders='must-fail wrong-bodies' ;;
-    --apply) applies=yes folders='must-fail wrong-bodies' ;;
+    --apply) applies=yes folders='must-fail wrong-bodies seen-by-tests' ;;
+    --seen)
+        shift
+        exec python3 "$here/tests/planted_bugs.py" "$@"
+        ;;
     -*)
         sed -n '2,/^here=/{/^#/s/^# \{0,1\}//p;}' "$0" >&2
         exit 2
@@ -110,7 +117,7 @@ needed=$(awk -v crates="$tried" '
 for crate in $needed; do
     grep "^${crate}[ :]" "$here/crates.txt" >>"$work/base/crates.txt"
     cp -a "$here/crates/$crate" "$work/base/crates/" || exit 1
-    rm -rf "$work/base/crates/$crate/must-fail" "$work/base/crates/$crate/wrong-bodies"
+    rm -rf "$work/base/crates/$crate/must-fail" "$work/base/crates/$crate/wrong-bodies" "$work/base/crates/$crate/seen-by-tests"
 done
 
 # As many runs side by side as there are processors, and 4 GB of free memory for each.

@@ -41,10 +41,11 @@ const TYPE_STRING_SIZE: usize = 361;
 const KEY_END: usize = 399;
 
 /// What is put into table B, and the names that are shown of its row.
-const NAMES: [(usize, &[u8], &str); 5] = [
+const NAMES: [(usize, &[u8], &str); 6] = [
     (0, &[], "\"s\"/\"k\""),
     (TYPE_POOL, &[0, 0], "!NoSuch/\"k\""),
     (KEY, &[1], "\"s\"/!NoSuch"),
+    (KEY, &[255, 255, 255, 255], "\"s\"/!NoSuch"),
     (TYPE_STRING_SIZE, &[9], "!Cut/\"k\""),
     (KEY_END, &[1], "\"s\"/!NotEnded"),
 ];
@@ -103,6 +104,21 @@ fn prints_a_bag(alloc: Global) -> Option<bool> {
 #[test]
 fn prints_bags_with_their_rows(rt: HostRuntime) {
     assert!(rt; prints_a_bag(rt.alloc()) == Some(true));
+}
+
+/// Where table A has the kind of its value and the word behind it, made the last string of all.
+const LAST_STRING: (usize, &[u8]) = (411, &[3, 255, 255, 255, 255]);
+
+fn prints_the_last_string(alloc: Global) -> Option<bool> {
+    let table = table_with(alloc, LAST_STRING.0, LAST_STRING.1).ok()?;
+    let row = "0x7f010000 !NoSuch/!NoSuch flags 0x00000000 [] string 4294967295 !NoSuch";
+    let want = format!(in alloc; "package 0x7f \"\"\n  {row}\n").ok()?;
+    Some(is_printed_as(alloc, &table, want.as_str()))
+}
+
+#[test]
+fn prints_a_string_that_no_pool_can_have(rt: HostRuntime) {
+    assert!(rt; prints_the_last_string(rt.alloc()) == Some(true));
 }
 
 /// The place of a byte of table A, what it is made, and the fault of the table.

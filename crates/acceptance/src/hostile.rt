@@ -86,6 +86,47 @@ const OF_BAG: [Case; 6] = [
     (456, &[9], TableFault::Value(456)),
 ];
 
+/// Of table A with its package three times, at 40, 416 and 792.
+const OF_THREE_PACKAGES: [Case; 11] = [
+    (424, &[0], TableFault::PackageId(416)),
+    (712, &[0], TableFault::TypeId(704)),
+    (776, &[4], TableFault::Entry(776)),
+    (784, &[7], TableFault::Value(784)),
+    (
+        418,
+        &[0x18, 1],
+        TableFault::Chunk(ChunkFault::HeaderShort(416)),
+    ),
+    (800, &[0], TableFault::PackageId(792)),
+    (1060, &[2], TableFault::PackageHeader(792)),
+    (1092, &[255, 255, 255, 255], TableFault::Offsets(1080)),
+    (1109, &[1], TableFault::SparseType(1100)),
+    (1152, &[4], TableFault::Entry(1152)),
+    (1160, &[7], TableFault::Value(1160)),
+];
+
+/// Where the package of table A begins.
+const PACKAGE: usize = 40;
+
+// Table A with its package three times.
+fn with_three_packages(alloc: Global) -> Result<Vec<u8>, AllocError> {
+    let once = table_a(alloc)?;
+    let mut bytes = table_a(alloc)?;
+    for _ in 0..2 {
+        bytes.extend_from_slice(once.get(PACKAGE..).unwrap_or(&[]))?;
+    }
+    put(&mut bytes, 4, &[0x90, 4]);
+    Ok(bytes)
+}
+
+#[test]
+fn names_the_first_fault_of_a_later_package(rt: HostRuntime) -> Result<(), AllocError> {
+    let table = with_three_packages(rt.alloc())?;
+    assert!(rt; fault_of(rt.alloc(), &table).is_none());
+    assert!(rt; other_fault(rt.alloc(), &table, &OF_THREE_PACKAGES).is_none());
+    Ok(())
+}
+
 #[test]
 fn names_the_first_fault(rt: HostRuntime) -> Result<(), AllocError> {
     let table = table_a(rt.alloc())?;

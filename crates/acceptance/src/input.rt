@@ -5,20 +5,20 @@ use resource_tool::{InputFault, read_input};
 use std::alloc::Global;
 use std::io::{self, Error, ErrorKind, Read};
 
-/// A reader that gives one byte a call, and an error at one of its calls.
+/// A reader that gives one byte a call, and errors at its first calls.
 #[derive(Drop)]
 struct Slow {
     left: u32,
     calls: u32,
-    failing_call: u32,
-    error: ErrorKind,
+    errors: &'static [Option<ErrorKind>],
 }
 
 impl Read for Slow {
     fn read(&mut self, buffer: &mut [u8]) -> io::Result<usize> {
+        let error = self.errors.get(self.calls as usize);
         self.calls = self.calls.wrapping_add(1);
-        if self.calls == self.failing_call {
-            return Err(Error::from(self.error));
+        if let Some(Some(kind)) = error {
+            return Err(Error::from(*kind));
         }
         if self.left == 0 || buffer.is_empty() {
             return Ok(0);
@@ -29,51 +29,61 @@ impl Read for Slow {
     }
 }
 
-/// The call that fails and how, the limit, whether all was read, and how many calls were made.
+/// The errors of the first calls, the limit, whether all was read, and how many calls were made.
 type Case = (
     &'static str,
-    u32,
-    ErrorKind,
+    &'static [Option<ErrorKind>],
     usize,
     Result<bool, InputFault>,
     u32,
 );
 
-const READS: [Case; 5] = [
-    ("whole", 0, ErrorKind::Other, 3, Ok(true), 4),
-    (
-        "too large",
-        0,
-        ErrorKind::Other,
-        2,
-        Err(InputFault::TooLarge),
-        3,
-    ),
-    ("failed", 2, ErrorKind::Other, 3, Err(InputFault::Read), 2),
+const INTERRUPTED: Option<ErrorKind> = Some(ErrorKind::Interrupted);
+
+const FAILED: Option<ErrorKind> = Some(ErrorKind::Other);
+
+const BLOCKED: Option<ErrorKind> = Some(ErrorKind::WouldBlock);
+
+const READS: [Case; 8] = [
+    ("whole", &[], 3, Ok(true), 4),
+    ("too large", &[], 2, Err(InputFault::TooLarge), 3),
+    ("failed", &[None, FAILED], 3, Err(InputFault::Read), 2),
+    ("blocked", &[None, BLOCKED], 3, Err(InputFault::Read), 2),
     // an interrupted read counts
     (
         "interrupted",
-        2,
-        ErrorKind::Interrupted,
+        &[None, INTERRUPTED],
         3,
         Err(InputFault::Read),
         4,
     ),
-    ("made again", 2, ErrorKind::Interrupted, 4, Ok(true), 5),
+    ("made again", &[None, INTERRUPTED], 4, Ok(true), 5),
+    (
+        "made again and failed",
+        &[INTERRUPTED, None, FAILED],
+        9,
+        Err(InputFault::Read),
+        3,
+    ),
+    (
+        "made again and blocked",
+        &[INTERRUPTED, BLOCKED],
+        9,
+        Err(InputFault::Read),
+        2,
+    ),
 ];
 
 // Whether the three bytes of a reader were read, and how many calls were made.
 fn read_three(
     alloc: Global,
-    failing_call: u32,
-    error: ErrorKind,
+    errors: &'static [Option<ErrorKind>],
     limit: usize,
 ) -> (Result<bool, InputFault>, u32) {
     let mut reader = Slow {
         left: 3,
         calls: 0,
-        failing_call,
-        error,
+        errors,
     };
     let read = match read_input(alloc, &mut reader, limit) {
         Ok(input) => Ok(input.as_slice() == b"aaa".as_slice()),
@@ -84,8 +94,8 @@ fn read_three(
 
 // The first reading that ends in another way.
 fn other_reading(alloc: Global) -> Option<&'static str> {
-    for (name, failing_call, error, limit, read, calls) in &READS {
-        if read_three(alloc, *failing_call, *error, *limit) != (*read, *calls) {
+    for (name, errors, limit, read, calls) in &READS {
+        if read_three(alloc, errors, *limit) != (*read, *calls) {
             return Some(*name);
         }
     }

@@ -12,6 +12,8 @@ mod hostile;
 #[cfg(test)]
 mod input;
 #[cfg(test)]
+mod many_entries;
+#[cfg(test)]
 mod row;
 #[cfg(test)]
 mod rows;

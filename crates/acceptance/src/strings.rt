@@ -73,17 +73,18 @@ const NO_STRINGS: [(&str, bool, u32, &[u8], StringFault); 5] = [
     ),
 ];
 
-// What is wrong with the string of a pool, and with one behind it.
-fn faults_in(alloc: Global, utf8: bool, offset: u32, strings: &[u8]) -> Option<[StringFault; 2]> {
+// What is wrong with the string of a pool, with one behind it, and with one that is far behind.
+fn faults_in(alloc: Global, utf8: bool, offset: u32, strings: &[u8]) -> Option<[StringFault; 3]> {
     let bytes = pool_of_string(alloc, utf8, offset, strings).ok()?;
     let pool = pool_in(&bytes)?;
-    Some([pool.get(0).err()?, pool.get(1).err()?])
+    let far = pool.get(0xffff_ffff).err()?;
+    Some([pool.get(0).err()?, pool.get(1).err()?, far])
 }
 
 // The first string that has another fault.
 fn other_fault(alloc: Global) -> Option<&'static str> {
     for (name, utf8, offset, strings, fault) in &NO_STRINGS {
-        let want = [*fault, StringFault::NoSuch];
+        let want = [*fault, StringFault::NoSuch, StringFault::NoSuch];
         if faults_in(alloc, *utf8, *offset, strings) != Some(want) {
             return Some(*name);
         }
@@ -120,6 +121,20 @@ fn reads_styles(rt: HostRuntime) {
     assert!(rt; only_span(rt.alloc(), STYLE) == Some(Ok(span)));
     let cut = only_span(rt.alloc(), &STYLE[..12]);
     assert!(rt; cut == Some(Err(StringFault::Cut)));
+}
+
+// Whether a pool has this style without a span, and no other.
+fn has_no_span(alloc: Global, style: &[u8]) -> Option<bool> {
+    let bytes = pool_of_style(alloc, style).ok()?;
+    let pool = pool_in(&bytes)?;
+    let behind = [pool.spans(1).err()?, pool.spans(0xffff_ffff).err()?];
+    let is_empty = pool.spans(0).ok()?.next().is_none();
+    Some(is_empty && behind == [StringFault::NoSuch, StringFault::NoSuch])
+}
+
+#[test]
+fn reads_styles_without_a_span(rt: HostRuntime) {
+    assert!(rt; has_no_span(rt.alloc(), b"\xff\xff\xff\xff") == Some(true));
 }
 
 /// A string, a text, and whether they are the same.

@@ -11,6 +11,8 @@ mod fault_lines;
 #[cfg(test)]
 mod goals;
 #[cfg(test)]
+mod long_texts;
+#[cfg(test)]
 mod made;
 #[cfg(test)]
 mod refused;

@@ -1,6 +1,6 @@
 //! Records, read field by field where they stand.
 
-ghost use Rattle.std.specs.Prelude.{◌≡◌, ◌≢◌, ◌<◌, ◌≤◌};
+ghost use Rattle.std.specs.Prelude.{◌≡◌, ◌≢◌, ◌<◌, ◌≤◌, true};
 
 use crate::coord::Coord;
 use crate::locale::Locale;
@@ -69,6 +69,13 @@ impl<'a> Record<'a> {
     ghost use Rattle.config_record.specs.Record.{record_bytes, seen, record_in, coordinate, locale_in, is_set_aside};
     ghost use Rattle.config_record.specs.declared.coord.Coord.TheVariants as coords;
     ghost use Rattle.config_record.specs.ComparedNumber.{record_number};
+
+    /// Whether another record has the same bytes: then all that is said of the one is said of the other.
+    pub fn has_bytes_of(&self, other: &Record<'_>) -> bool
+        ensures { result ≡ true → record_bytes self.now ≡ record_bytes other.now }
+    {
+        self.bytes == other.bytes
+    }
 
     /// The record that some bytes begin with.
     #[tactic(auto, unfolding(crate::specs::Record::record_in))]

@@ -40,7 +40,7 @@ pub struct MapRows<'a> {
 
 impl<'a> MapRows<'a> {
     ghost use Rattle.std.specs.Prelude.{length};
-    ghost use Rattle.res_value.specs.MapRows.{seen_rows, map_rows_in, map_rows_of, value_place, has_wrong_size};
+    ghost use Rattle.res_value.specs.MapRows.{seen_rows, map_rows_in, map_rows_at, map_rows_of, value_place, has_wrong_size};
 
     /// So many rows at the front of some bytes.
     #[tactic(auto, unfolding(crate::specs::MapRows::map_rows_in))]
@@ -54,6 +54,15 @@ impl<'a> MapRows<'a> {
             return Err(MapRowsFault::ValueSize(index));
         }
         Ok(MapRows { count, left: bytes })
+    }
+
+    /// The same rows, where it is known that they fit and that each value has its size: what `read` saw
+    /// is not looked at again.
+    pub fn within(count: u32, bytes: &'a [u8]) -> MapRows<'a>
+        requires { row_size * count ≤ length bytes.now }
+        ensures { map_rows_of result ≡ map_rows_at count bytes.now }
+    {
+        MapRows { count, left: bytes }
     }
 
     /// Where the value of a row stands, from the start of the rows.

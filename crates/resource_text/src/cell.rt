@@ -9,6 +9,7 @@ ghost use Rattle.res_value.specs.MapRows.{map_rows_of};
 ghost use Rattle.type_chunks.specs.Row.{row_of};
 ghost use Rattle.resource_text.specs.CellText.{format_of, string_behind, value_with_string, bag_text, cell_text, named_value_text, map_row_text, map_rows_text, config_and_cell, row_end_text};
 
+use crate::last_record::LastRecord;
 use crate::named::write_named_id;
 use res_value::{Cell, MapRows, ResId, Value, kind, write_id, write_value};
 use std::io::{self, Write};
@@ -28,27 +29,29 @@ pub(crate) struct RowFormat<'a> {
 /// Writes how the line of a row ends, the configuration and what the row holds, and the lines of a
 /// bag.
 #[tactic(auto, unfolding(crate::specs::CellText::row_end_text))]
-pub(crate) fn write_row_end<W: Write + Drop>(
+pub(crate) fn write_row_end<'a, W: Write + Drop>(
     format: RowFormat<'_>,
-    row: &Row<'_>,
+    row: &Row<'a>,
+    records: &mut LastRecord<'a>,
     out: &mut W,
 ) -> io::Result<()>
     ensures { Writes W.contents out.old out.new result (row_end_text (format_of format.entry) (row_of row.now)) }
 {
-    write_config_and_cell(format, row, out)?;
+    write_config_and_cell(format, row, records, out)?;
     out.write_all(b"\n")?;
     write_map_rows(format, row.cell, out)
 }
 
 #[tactic(auto, unfolding(crate::specs::CellText::config_and_cell))]
-fn write_config_and_cell<W: Write + Drop>(
+fn write_config_and_cell<'a, W: Write + Drop>(
     format: RowFormat<'_>,
-    row: &Row<'_>,
+    row: &Row<'a>,
+    records: &mut LastRecord<'a>,
     out: &mut W,
 ) -> io::Result<()>
     ensures { Writes W.contents out.old out.new result (config_and_cell (format_of format.entry) (row_of row.now)) }
 {
-    row.config.write_qualifiers(out)?;
+    records.write(row.config, out)?;
     out.write_all(b" ")?;
     write_cell(format, row.cell, out)
 }

@@ -7,6 +7,7 @@ ghost use Rattle.type_chunks.specs.Package.{package_of};
 ghost use Rattle.resource_text.specs.DumpText.{package_id_text, package_line, names_text, row_front_text, flags_text, row_text, package_text, dump_text};
 
 use crate::cell::{RowFormat, write_row_end};
+use crate::last_record::LastRecord;
 use hex_text::write_hex;
 use res_value::{write_id, write_word};
 use std::io::{self, Write};
@@ -20,23 +21,25 @@ use type_chunks::{Package, PackageRows, Row, Table};
 pub fn dump_text<W: Write + Drop>(table: &Table<'_>, out: &mut W) -> io::Result<()>
     ensures { Writes W.contents out.old out.new result (dump_text table.now) }
 {
+    let mut records = LastRecord::none();
     let packages = table.packages();
     for package in packages {
-        write_package(table, package, out)?;
+        write_package(table, package, &mut records, out)?;
     }
     Ok(())
 }
 
 #[tactic(auto, unfolding(crate::specs::DumpText::package_text))]
-fn write_package<W: Write + Drop>(
+fn write_package<'a, W: Write + Drop>(
     table: &Table<'_>,
-    owner: &Package<'_>,
+    owner: &Package<'a>,
+    records: &mut LastRecord<'a>,
     out: &mut W,
 ) -> io::Result<()>
     ensures { Writes W.contents out.old out.new result (package_text table.now (package_of owner.now)) }
 {
     write_package_line(owner, out)?;
-    write_rows(table, owner.rows(), out)
+    write_rows(table, owner.rows(), records, out)
 }
 
 #[tactic(auto, unfolding(crate::specs::DumpText::package_line))]
@@ -58,21 +61,27 @@ fn write_package_id<W: Write + Drop>(id: u8, out: &mut W) -> io::Result<()>
 }
 
 #[tactic(auto, using(contract_words::proofs::TextSteps::puts))]
-fn write_rows<W: Write + Drop>(
+fn write_rows<'a, W: Write + Drop>(
     table: &Table<'_>,
-    rows: PackageRows<'_, '_>,
+    rows: PackageRows<'_, 'a>,
+    records: &mut LastRecord<'a>,
     out: &mut W,
 ) -> io::Result<()>
     ensures { Writes W.contents out.old out.new result (flat_map (row_text table.now) rows.entry) }
 {
     for row in rows {
-        write_row(table, &row, out)?;
+        write_row(table, &row, records, out)?;
     }
     Ok(())
 }
 
 #[tactic(auto, unfolding(crate::specs::DumpText::row_text, crate::specs::DumpText::dump_format))]
-fn write_row<W: Write + Drop>(table: &Table<'_>, row: &Row<'_>, out: &mut W) -> io::Result<()>
+fn write_row<'a, W: Write + Drop>(
+    table: &Table<'_>,
+    row: &Row<'a>,
+    records: &mut LastRecord<'a>,
+    out: &mut W,
+) -> io::Result<()>
     ensures { Writes W.contents out.old out.new result (row_text table.now (row_of row.now)) }
 {
     let format = RowFormat {
@@ -82,7 +91,7 @@ fn write_row<W: Write + Drop>(table: &Table<'_>, row: &Row<'_>, out: &mut W) -> 
     write_row_front(table, row, out)?;
     write_flags(row.flags, out)?;
     out.write_all(b" ")?;
-    write_row_end(format, row, out)
+    write_row_end(format, row, records, out)
 }
 
 #[tactic(auto, unfolding(crate::specs::DumpText::row_front_text))]

@@ -26,6 +26,7 @@ mod dump;
 mod end;
 mod explanation;
 mod fault;
+mod last_record;
 mod layer;
 mod layers_fault;
 mod map_fault;

@@ -5,6 +5,7 @@ ghost use Rattle.type_chunks.specs.Row.{row_of};
 ghost use Rattle.resource_text.specs.RowsText.{row_text, totals_text, rows_text};
 
 use crate::cell::{RowFormat, write_row_end};
+use crate::last_record::LastRecord;
 use res_value::write_id;
 use std::io::{self, Write};
 use type_chunks::{Row, Table};
@@ -21,10 +22,11 @@ const FORMAT: RowFormat<'static> = RowFormat {
 pub fn rows_text<W: Write + Drop>(table: &Table<'_>, out: &mut W) -> io::Result<()>
     ensures { Writes W.contents out.old out.new result (rows_text table.now) }
 {
+    let mut records = LastRecord::none();
     let mut count: u128 = 0;
     let mut set_aside: u128 = 0;
     for row in table.all_rows() {
-        write_row(&row, out)?;
+        write_row(&row, &mut records, out)?;
         count += 1;
         if row.config.set_aside() {
             set_aside += 1;
@@ -41,11 +43,15 @@ fn write_totals<W: Write + Drop>(count: u128, set_aside: u128, out: &mut W) -> i
 }
 
 #[tactic(auto, unfolding(crate::specs::RowsText::row_text, crate::specs::RowsText::rows_format))]
-fn write_row<W: Write + Drop>(row: &Row<'_>, out: &mut W) -> io::Result<()>
+fn write_row<'a, W: Write + Drop>(
+    row: &Row<'a>,
+    records: &mut LastRecord<'a>,
+    out: &mut W,
+) -> io::Result<()>
     ensures { Writes W.contents out.old out.new result (row_text (row_of row.now)) }
 {
     out.write_all(b"row ")?;
     write_id(row.id, out)?;
     out.write_all(b" ")?;
-    write_row_end(FORMAT, row, out)
+    write_row_end(FORMAT, row, records, out)
 }

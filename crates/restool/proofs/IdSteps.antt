@@ -80,4 +80,14 @@ IdsAllBut-end so_far place words before past =
     ∙ ap (with_front so_far) none
     ∙ ap wrapped (append-nil so_far)
 
+-- ---- the ids of one word, and of one and others
+
+pub ids_in-one : (word : List ℕ) (id : ResId) → id_in word ≡ Ok id → ids_in (word ∷ []) ≡ Ok (id ∷ [])
+unfolding ids_in
+ids_in-one word id given = first-ok word [] id given
+
+pub ids_in-first : (word : List ℕ) (words : List (List ℕ)) (id : ResId) (ids : List ResId) → id_in word ≡ Ok id → ids_in words ≡ Ok ids
+    → ids_in (word ∷ words) ≡ Ok (id ∷ ids)
+ids_in-first word words id ids given others = first-ok word words id given ∙ ap (with_front (id ∷ [])) others
+
 pub ruleset id_steps = (IdsAllBut-none, IdsAllBut-next, IdsAllBut-end)

@@ -1,1 +1,5 @@
 pub mod IdSteps
+pub mod LayersLeft
+pub mod CarriedOut
+pub mod Rows
+pub mod CommandLineFacts

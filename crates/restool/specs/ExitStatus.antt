@@ -1,9 +1,9 @@
 -- How the program ends.
-use Rattle.std.specs.Prelude.{◌≡◌, ℕ}
+use Rattle.std.specs.Prelude.{ℕ}
 use Rattle.resource_text.specs.declared.fault.ToolFault.{ToolFault}
 use Rattle.resource_text.specs.declared.fault.ToolFault.TheVariants.{OutOfMemory, Write}
-use Rattle.restool.specs.declared.stop.Stop.{Stop}
-use Rattle.restool.specs.declared.stop.Stop.TheVariants as stops
+use Rattle.resource_tool.specs.declared.status.Status.{Status}
+use Rattle.resource_tool.specs.declared.status.Status.TheVariants as statuses
 use Rattle.restool.specs.declared.status.ExitStatus.{ExitStatus}
 use Rattle.restool.specs.declared.status.ExitStatus.TheVariants.{Done, Negative, Command, Refused, Memory, Failed}
 
@@ -22,12 +22,7 @@ after_fault OutOfMemory = Memory
 after_fault Write = Failed
 after_fault _ = Refused
 
--- How the program ends where it stops. Of the faults of the command line, among which is help that was asked for,
--- nothing is said.
-abbrev pub EndsWith : Stop → ExitStatus → Type 0
-EndsWith (stops.Words error) status = Unit {0}
-EndsWith stops.NotText status = status ≡ Command
-EndsWith (stops.BadId word) status = status ≡ Command
-EndsWith (stops.File path) status = status ≡ Failed
-EndsWith (stops.LayerFile path) status = status ≡ Failed
-EndsWith (stops.Tool fault) status = status ≡ after_fault fault
+-- how the program ends where a command was carried out
+abbrev pub after_status : Status → ExitStatus
+after_status statuses.Done = Done
+after_status statuses.Negative = Negative

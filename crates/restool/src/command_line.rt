@@ -1,6 +1,13 @@
 //! The command line that is understood: its commands, their arguments, and the texts of their helps.
 
-use clap::{Arg, ArgAction, Command};
+ghost use Rattle.std.specs.Prelude.{◌≡◌, false, IfOk, IfErr};
+ghost use Rattle.clap.specs.Words.{app_of, kind_of, rule_of};
+ghost use Rattle.clap.specs.Simple.{shape_of, with_subcommand};
+ghost use Rattle.restool.specs.CommandLine.{command_line};
+ghost use Rattle.restool.specs.ArgumentsSeen.{IsLocal, rule_seen, command_seen, with_arguments, with_commands};
+
+use clap::error::ErrorKind;
+use clap::{Arg, ArgAction, Command, value_parser};
 use std::alloc::Global;
 
 /// What `--version` prints behind the program's name: its version, and the line of `rt version` that
@@ -15,7 +22,7 @@ With no arguments, restool prints the rows of the table on standard input.
 Exit status:
   0  done
   1  something you asked for does not exist, or has too many references or parents,
-     or a certificate is rejected
+     or a certificate is rejected or cannot be made
   2  bad command line, or an argument that is not a resource id
   3  an input was rejected
   4  out of memory
@@ -33,6 +40,8 @@ pub const EXPLAIN: &str = "explain";
 pub const BAG: &str = "bag";
 
 pub const ATTR: &str = "attr";
+
+pub const MAKE: &str = "make";
 
 pub const CHECK: &str = "check";
 
@@ -75,6 +84,11 @@ const SUBCOMMANDS: &[Subcommand] = &[
         arguments: &[KEEP, LAYERS, DEVICE, ATTRIBUTE, STYLES],
     },
     Subcommand {
+        name: MAKE,
+        about: "Prints a certificate for every device of a box, or a device without a value",
+        arguments: &[MAX_NODES, LAYERS, BOX, IDS],
+    },
+    Subcommand {
         name: CHECK,
         about: "Checks whether a certificate is true for every device of a box",
         arguments: &[LAYERS, BOX, CERTIFICATE, IDS],
@@ -96,7 +110,12 @@ enum Takes {
     Words,
     /// Nothing: it is a flag.
     Nothing,
+    /// A number of nodes, behind the argument's name.
+    Nodes,
 }
+
+/// How many nodes may be asked for at most.
+pub const MOST_NODES: u32 = 1_000_000;
 
 pub const TABLE: Argument = Argument {
     name: "TABLE",
@@ -164,14 +183,39 @@ pub const KEEP: Argument = Argument {
     help: "Keep what an earlier style has set, as applyStyle(style, false) does",
 };
 
+pub const MAX_NODES: Argument = Argument {
+    name: "max-nodes",
+    takes: Takes::Nodes,
+    help: "Most nodes of all trees together, 1 to 1000000 [default: 100000]",
+};
+
 /// The command line, for a parse.
-pub fn command_line<'a>(alloc: Global) -> Result<Command<'a>, clap::Error> {
-    let mut program = Command::new(alloc, "restool")
+#[tactic(auto, unfolding(crate::specs::CommandLine::command_line))]
+pub fn command_line<'a>(alloc: Global) -> Result<Command<'a>, clap::Error>
+    ensures app { IfOk result (λ program. app_of program ≡ command_line) }
+    ensures local { IfOk result IsLocal }
+    ensures memory { IfErr result (λ error. kind_of error ≡ ErrorKind.OutOfMemory) }
+{
+    let program = Command::new(alloc, "restool")
         .about(ABOUT)
         .version(VERSION)
         .after_help(AFTER_HELP)
         .subcommand_required(true);
-    for subcommand in SUBCOMMANDS {
+    with_commands(alloc, program, SUBCOMMANDS)
+}
+
+fn with_commands<'a>(
+    alloc: Global,
+    program: Command<'a>,
+    subcommands: &[Subcommand],
+) -> Result<Command<'a>, clap::Error>
+    requires { IsLocal program }
+    ensures app { IfOk result (λ whole. app_of whole ≡ with_commands (app_of program.entry) subcommands.now) }
+    ensures local { IfOk result IsLocal }
+    ensures memory { IfErr result (λ error. kind_of error ≡ ErrorKind.OutOfMemory) }
+{
+    let mut program = program;
+    for subcommand in subcommands {
         let built = built_subcommand(alloc, subcommand)?;
         program = with_subcommand(program, built)?;
     }
@@ -181,26 +225,55 @@ pub fn command_line<'a>(alloc: Global) -> Result<Command<'a>, clap::Error> {
 fn with_subcommand<'a>(
     program: Command<'a>,
     subcommand: Command<'a>,
-) -> Result<Command<'a>, clap::Error> {
-    Ok(program.subcommand(subcommand)?)
+) -> Result<Command<'a>, clap::Error>
+    requires program { IsLocal program }
+    requires subcommand { IsLocal subcommand }
+    ensures app { IfOk result (λ whole. app_of whole ≡ with_subcommand (app_of program.entry) (shape_of subcommand.entry)) }
+    ensures local { IfOk result IsLocal }
+    ensures memory { IfErr result (λ error. kind_of error ≡ ErrorKind.OutOfMemory) }
+{
+    let program = program.subcommand(subcommand)?;
+    Ok(program)
 }
 
-fn built_subcommand<'a>(
+fn built_subcommand<'a>(alloc: Global, subcommand: &Subcommand) -> Result<Command<'a>, clap::Error>
+    ensures shape { IfOk result (λ command. shape_of command ≡ command_seen subcommand.now) }
+    ensures local { IfOk result IsLocal }
+    ensures memory { IfErr result (λ error. kind_of error ≡ ErrorKind.OutOfMemory) }
+{
+    let command = Command::new(alloc, subcommand.name).about(subcommand.about);
+    with_arguments(alloc, command, subcommand.arguments)
+}
+
+fn with_arguments<'a>(
     alloc: Global,
-    subcommand: &Subcommand,
-) -> Result<Command<'a>, clap::Error> {
-    let mut command = Command::new(alloc, subcommand.name).about(subcommand.about);
-    for argument in subcommand.arguments {
+    command: Command<'a>,
+    arguments: &[Argument],
+) -> Result<Command<'a>, clap::Error>
+    requires { IsLocal command }
+    ensures app { IfOk result (λ whole. app_of whole ≡ with_arguments (app_of command.entry) arguments.now) }
+    ensures local { IfOk result IsLocal }
+    ensures memory { IfErr result (λ error. kind_of error ≡ ErrorKind.OutOfMemory) }
+{
+    let mut command = command;
+    for argument in arguments {
         command = command.arg(built_argument(alloc, argument))?;
     }
     Ok(command)
 }
 
-fn built_argument<'a>(alloc: Global, argument: &Argument) -> Arg<'a> {
+fn built_argument<'a>(alloc: Global, argument: &Argument) -> Arg<'a>
+    ensures rule { rule_of result ≡ rule_seen argument.now }
+    ensures local { result.global ≡ false }
+{
     let arg = Arg::new(alloc, argument.name).help(argument.help);
     match argument.takes {
         Takes::OneWord => arg.required(true).action(ArgAction::Set),
         Takes::Words => arg.required(true).num_args(1..).action(ArgAction::Append),
         Takes::Nothing => arg.long(argument.name).action(ArgAction::SetTrue),
+        Takes::Nodes => {
+            let number = value_parser!(u32).range(1..=i64::from(MOST_NODES));
+            arg.long(argument.name).value_name("N").value_parser(number)
+        }
     }
 }

@@ -1,112 +1,125 @@
-//! Files and the standard input.
+//! What gives the bytes of inputs.
 
+ghost use Rattle.std.specs.Prelude.{◌≡◌, ◌≢◌, ◌<◌, ◌≤◌, Option, None, vec_len, IfOk, IfSome, OnOk, IsErrOf, string_bytes};
+ghost use Rattle.std.specs.IoError.{error_kind};
+ghost use Rattle.std.specs.Io.KnownBytes.{IsAtEnd};
+ghost use Rattle.resource_tool.specs.Input.{Gave};
+ghost use Rattle.resource_tool.specs.declared.input.InputFault.TheVariants as input_faults;
+ghost use Rattle.contract_words.specs.Exact.{GivesOr};
+ghost use Rattle.restool.specs.Place.{place_of};
+ghost use Rattle.restool.specs.Inputs.{Places, file_of, stop_at, table_of};
+ghost use Rattle.restool.specs.FilesSeen.{bytes_of};
+ghost use Rattle.restool.specs.Stop.{GivesOrStops, stop_of};
+
+use crate::source::Source;
 use crate::stop::Stop;
-use crate::words::STANDARD_INPUT;
-use resource_tool::{InputFault, LayerList, ToolFault, read_input};
-use std::alloc::{AllocError, Global};
+use resource_tool::{InputFault, ToolFault, read_input};
+use std::alloc::Global;
 use std::fs;
-use std::io::ErrorKind;
+use std::io::{self, ErrorKind, Read};
 use std::rt::Files;
 
 /// How many bytes an input has at most.
 const INPUT_LIMIT: usize = 268_435_456;
 
-/// The bytes of the table at a path.
-pub fn table_bytes<'a, R: Input + Files + AllocGlobal>(
-    rt: &R,
-    path: &'a str,
-) -> Result<Vec<u8>, Stop<'a>> {
-    if path == STANDARD_INPUT {
-        read_input(rt.alloc(), &mut rt.reader(), INPUT_LIMIT).map_err(|fault| stop_at(fault, path))
+/// What gives the bytes of inputs.
+pub trait Inputs {
+    /// What each place has, where that is known.
+    ghost places: { Self → Option Places } = { λ _. None };
+
+    fn read(&self, source: Source<'_>) -> Result<Vec<u8>, InputFault>
+        ensures { IfSome (places self.now)
+            (λ places. GivesOr input_faults.OutOfMemory bytes_of result (places (place_of source.entry))) };
+}
+
+/// The files and the standard input of the process.
+#[derive(Drop)]
+pub struct ProcessInputs<'a, R> {
+    pub rt: &'a R,
+}
+
+impl<R: Input + Files + AllocGlobal> Inputs for ProcessInputs<'_, R> {
+    fn read(&self, source: Source<'_>) -> Result<Vec<u8>, InputFault> {
+        let alloc = self.rt.alloc();
+        match source {
+            Source::StandardInput => read_within_limit(alloc, &mut self.rt.reader()),
+            Source::File(path) => match fs::open(self.rt, path) {
+                Ok(mut file) => read_within_limit(alloc, &mut file),
+                Err(error) => Err(fault_of_opening(&error)),
+            },
+        }
+    }
+}
+
+// A file that is not opened is not read, unless memory ran out.
+fn fault_of_opening(error: &io::Error) -> InputFault
+    ensures memory { error_kind error.now ≡ ErrorKind.OutOfMemory → result ≡ InputFault.OutOfMemory }
+    ensures other { error_kind error.now ≢ ErrorKind.OutOfMemory → result ≡ InputFault.Read }
+{
+    if error.kind() == ErrorKind::OutOfMemory {
+        InputFault::OutOfMemory
     } else {
-        file_bytes(rt, path)
+        InputFault::Read
+    }
+}
+
+fn read_within_limit<R: Read>(alloc: Global, reader: &mut R) -> Result<Vec<u8>, InputFault>
+    ensures whole { IfOk result (λ input. IfSome (R.remaining reader.old) (λ bytes. input.items ≡ bytes)) }
+    ensures end { OnOk result (IsAtEnd (R.remaining reader.new)) }
+    ensures within { IfOk result (λ input. vec_len input ≤ 268_435_456) }
+    ensures too_large { IsErrOf result InputFault.TooLarge
+        → Gave (R.remaining reader.old) (R.remaining reader.new) (λ count. 268_435_456 < count) }
+    ensures read { IsErrOf result InputFault.Read
+        → Gave (R.remaining reader.old) (R.remaining reader.new) (λ count. count ≤ 268_435_456) }
+{
+    read_input(alloc, reader, INPUT_LIMIT)
+}
+
+/// The bytes of the table at a path, or on the standard input.
+pub fn table_bytes<'a, I: Inputs>(inputs: &I, path: &'a str) -> Result<Vec<u8>, Stop<'a>>
+    ensures { IfSome (I.places inputs.now) (λ places. GivesOrStops bytes_of result (table_of places path.entry.now)) }
+{
+    match inputs.read(Source::of_table(path)) {
+        Ok(bytes) => Ok(bytes),
+        Err(fault) => Err(stop_at(path, fault)),
     }
 }
 
 /// The bytes of the file at a path.
-pub fn file_bytes<'a, R: Files + AllocGlobal>(rt: &R, path: &'a str) -> Result<Vec<u8>, Stop<'a>> {
-    read_file(rt, path).map_err(|fault| stop_at(fault, path))
-}
-
-fn stop_at<'a>(fault: InputFault, path: &'a str) -> Stop<'a> {
-    match fault {
-        InputFault::OutOfMemory => Stop::Tool(ToolFault::OutOfMemory),
-        InputFault::Read | InputFault::TooLarge => Stop::File(path),
-    }
-}
-
-fn read_file<R: Files + AllocGlobal>(rt: &R, path: &str) -> Result<Vec<u8>, InputFault> {
-    match fs::open(rt, path) {
-        Ok(mut file) => read_input(rt.alloc(), &mut file, INPUT_LIMIT),
-        Err(error) if error.kind() == ErrorKind::OutOfMemory => Err(InputFault::OutOfMemory),
-        Err(_) => Err(InputFault::Read),
-    }
-}
-
-/// The bytes of the files of layers: each table with its id map, if it is an overlay.
-#[derive(Drop)]
-pub struct LayerFiles {
-    files: Vec<(Vec<u8>, Option<Vec<u8>>)>,
-}
-
-impl LayerFiles {
-    /// Reads a list of layers, and then the files that it names, each table before its id map.
-    pub fn read<'a, R: Files + AllocGlobal>(rt: &R, path: &'a str) -> Result<LayerFiles, Stop<'a>> {
-        let list = LayerList::read(rt.alloc(), &file_bytes(rt, path)?)?;
-        let mut files = Vec::new(rt.alloc());
-        for (table, map) in list.paths {
-            let table = layer_file(rt, table)?;
-            let map = match map {
-                Some(path) => Some(layer_file(rt, path)?),
-                None => None,
-            };
-            files.push((table, map))?;
-        }
-        Ok(LayerFiles { files })
-    }
-
-    /// The layers, lent.
-    pub fn layers(&self, alloc: Global) -> Result<Vec<(&[u8], Option<&[u8]>)>, AllocError> {
-        let mut layers = Vec::new(alloc);
-        for (table, map) in &self.files {
-            layers.push((table.as_slice(), map.as_deref()))?;
-        }
-        Ok(layers)
-    }
-}
-
-/// The bytes of the files of a check.
-#[derive(Drop)]
-pub struct CheckFiles {
-    pub layers: LayerFiles,
-    /// Those of the box.
-    pub members: Vec<u8>,
-    pub certificate: Vec<u8>,
-}
-
-impl CheckFiles {
-    /// Reads a list of layers with the files that it names, and then a box and a certificate.
-    pub fn read<'a, R: Files + AllocGlobal>(
-        rt: &R,
-        layers: &'a str,
-        members: &'a str,
-        certificate: &'a str,
-    ) -> Result<CheckFiles, Stop<'a>> {
-        let layers = LayerFiles::read(rt, layers)?;
-        let members = file_bytes(rt, members)?;
-        let certificate = file_bytes(rt, certificate)?;
-        Ok(CheckFiles {
-            layers,
-            members,
-            certificate,
-        })
-    }
-}
-
-fn layer_file<R: Files + AllocGlobal>(rt: &R, path: String) -> Result<Vec<u8>, Stop<'static>> {
-    match read_file(rt, path.as_str()) {
+pub fn file_bytes<'a, I: Inputs>(inputs: &I, path: &'a str) -> Result<Vec<u8>, Stop<'a>>
+    ensures { IfSome (I.places inputs.now) (λ places. GivesOrStops bytes_of result (file_of places path.entry.now)) }
+{
+    match inputs.read(Source::File(path)) {
         Ok(bytes) => Ok(bytes),
-        Err(InputFault::OutOfMemory) => Err(Stop::Tool(ToolFault::OutOfMemory)),
-        Err(InputFault::Read | InputFault::TooLarge) => Err(Stop::LayerFile(path)),
+        Err(fault) => Err(stop_at(path, fault)),
+    }
+}
+
+/// The bytes of the file at a path that a list of layers names.
+pub fn layer_file<I: Inputs>(inputs: &I, path: String) -> Result<Vec<u8>, Stop<'static>>
+    ensures { IfSome (I.places inputs.now) (λ places. GivesOrStops bytes_of result (file_of places (string_bytes path))) }
+{
+    match inputs.read(Source::File(path.as_str())) {
+        Ok(bytes) => Ok(bytes),
+        Err(fault) => Err(stop_at_layer(path, fault)),
+    }
+}
+
+// Why the program stops where the bytes for a path are not read.
+fn stop_at<'a>(path: &'a str, fault: InputFault) -> Stop<'a>
+    ensures { stop_of result ≡ stop_at path.entry.now fault }
+{
+    match fault {
+        InputFault::Read | InputFault::TooLarge => Stop::File(path),
+        InputFault::OutOfMemory => Stop::Tool(ToolFault::OutOfMemory),
+    }
+}
+
+fn stop_at_layer(path: String, fault: InputFault) -> Stop<'static>
+    ensures { stop_of result ≡ stop_at (string_bytes path) fault }
+{
+    match fault {
+        InputFault::Read | InputFault::TooLarge => Stop::LayerFile(path),
+        InputFault::OutOfMemory => Stop::Tool(ToolFault::OutOfMemory),
     }
 }

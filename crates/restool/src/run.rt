@@ -1,110 +1,100 @@
 //! From words to the exit status.
 
-use crate::input::{CheckFiles, LayerFiles, file_bytes, table_bytes};
+ghost use Rattle.std.specs.Prelude.{◌≡◌, [], false, Ok, Err, OnOk, IsOk, IfOk, IfErr};
+ghost use Rattle.std.specs.Io.Buffered.{writer_buffer};
+ghost use Rattle.resource_text.specs.declared.fault.ToolFault.TheVariants.{Write};
+ghost use Rattle.restool.specs.Stop.{EndsAs, stop_of, tool};
+
+use crate::answer::answer;
+use crate::input::{Inputs, ProcessInputs};
+use crate::progress::{ProgressLine, Unseen};
+use crate::request::Request;
 use crate::status::ExitStatus;
 use crate::stop::Stop;
-use crate::words::{Question, Request, read_words};
-use res_value::ResId;
-use resource_tool::{
-    Status, ToolFault, attr_bytes, bag_bytes, check_bytes, dump_bytes, explain_bytes, query_bytes,
-    rows_bytes,
-};
+use crate::words::read_words;
+use resource_tool::{Status, ToolFault};
 use std::alloc::Global;
 use std::io::{BufWriter, Write};
 use std::rt::Files;
+use std::time::Clock;
 
 /// How many bytes of the output are kept back before they are written.
 const OUTPUT_BUFFER: usize = 65_536;
 
-/// Does what the words ask for; the first word is the program's name.
-pub fn run_words<R: Input + Files + AllocGlobal, O: Write + Drop, E: Write + Drop>(
+/// Does what the words ask for; the first word is the program's name. Where errors go to a terminal, long
+/// work says there how far it is.
+pub fn run_words<R: Input + Files + Clock + AllocGlobal, O: Write + Drop, E: Write + Drop>(
     rt: &R,
     words: &[String],
     out: &mut O,
     errors: &mut E,
+    is_terminal: bool,
 ) -> ExitStatus {
-    match carry_out(rt, words, out) {
-        Ok(Status::Done) => ExitStatus::Done,
-        Ok(Status::Negative) => ExitStatus::Negative,
-        Err(stop) => stop.tell(out, errors),
+    let alloc = rt.alloc();
+    let outcome = match read_words(alloc, words) {
+        Ok(request) => {
+            let inputs = ProcessInputs { rt };
+            carry_out(alloc, &inputs, rt, request, out, errors, is_terminal)
+        }
+        Err(stop) => Err(stop),
+    };
+    end(outcome, out, errors)
+}
+
+/// Says why the program stops, if it does, and gives the exit status.
+pub fn end<O: Write + Drop, E: Write + Drop>(
+    outcome: Result<Status, Stop<'_>>,
+    out: &mut O,
+    errors: &mut E,
+) -> ExitStatus
+    ensures status { EndsAs outcome.entry result }
+    ensures quiet { OnOk outcome.entry (errors.new ≡ errors.old) }
+{
+    match outcome {
+        Ok(status) => ExitStatus::after_status(status),
+        Err(stop) => stop.tell(out, errors).status,
     }
 }
 
-fn carry_out<'a, R: Input + Files + AllocGlobal, O: Write + Drop>(
-    rt: &R,
-    words: &'a [String],
+// Answers a request, and writes what was kept back of the output.
+fn carry_out<'a, I: Inputs, C: Clock, O: Write + Drop, E: Write>(
+    alloc: Global,
+    inputs: &I,
+    clock: &C,
+    request: Request<'a>,
     out: &mut O,
-) -> Result<Status, Stop<'a>> {
-    let request = read_words(rt.alloc(), words)?;
-    let Ok(mut out) = BufWriter::with_capacity(rt.alloc(), OUTPUT_BUFFER, out) else {
+    errors: &mut E,
+    is_terminal: bool,
+) -> Result<Status, Stop<'a>>
+    ensures { is_terminal ≡ false → errors.new ≡ errors.old }
+{
+    let Ok(mut out) = BufWriter::with_capacity(alloc, OUTPUT_BUFFER, out) else {
         return Err(Stop::Tool(ToolFault::OutOfMemory));
     };
-    let status = answer(rt, request, &mut out)?;
+    let answered = if is_terminal {
+        let mut line = ProgressLine::new(errors, clock);
+        let answered = answer(alloc, inputs, request, &mut line, &mut out);
+        line.clear();
+        answered
+    } else {
+        answer(alloc, inputs, request, &mut Unseen, &mut out)
+    };
+    written_out(answered, &mut out)
+}
+
+// Writes what is kept back of an answer.
+fn written_out<'a, O: Write + Drop>(
+    answered: Result<Status, Stop<'a>>,
+    out: &mut BufWriter<O>,
+) -> Result<Status, Stop<'a>>
+    ensures whole { OnOk result (writer_buffer out.new ≡ []) }
+    ensures status { IfOk result (λ status. answered.entry ≡ Ok status) }
+    ensures stop { IfErr answered.entry (λ stop. result ≡ Err stop) }
+    ensures write { IsOk answered.entry → IfErr result (λ stop. stop_of stop ≡ tool Write) }
+{
+    let status = answered?;
     match out.flush() {
         Ok(()) => Ok(status),
         Err(_) => Err(Stop::Tool(ToolFault::Write)),
     }
-}
-
-// Reads the files that a request names, in the order of its words, and answers it.
-fn answer<'a, R: Input + Files + AllocGlobal, O: Write + Drop>(
-    rt: &R,
-    request: Request<'a>,
-    out: &mut O,
-) -> Result<Status, Stop<'a>> {
-    let alloc = rt.alloc();
-    let status = match request {
-        Request::Rows { table } => rows_bytes(alloc, &table_bytes(rt, table)?, out)?,
-        Request::Dump { table } => dump_bytes(alloc, &table_bytes(rt, table)?, out)?,
-        Request::OfDevice {
-            layers,
-            device,
-            question,
-        } => {
-            let files = LayerFiles::read(rt, layers)?;
-            let device = file_bytes(rt, device)?;
-            answer_question(alloc, &files.layers(alloc)?, &device, question, out)?
-        }
-        Request::Check {
-            layers,
-            members,
-            certificate,
-            ids,
-        } => {
-            let files = CheckFiles::read(rt, layers, members, certificate)?;
-            check_files(alloc, &files, &ids, out)?
-        }
-    };
-    Ok(status)
-}
-
-// Answers a question that is asked of layers and a device.
-fn answer_question<O: Write + Drop>(
-    alloc: Global,
-    layers: &[(&[u8], Option<&[u8]>)],
-    device: &[u8],
-    question: Question,
-    out: &mut O,
-) -> Result<Status, ToolFault> {
-    match question {
-        Question::Query { ids } => query_bytes(alloc, layers, device, &ids, out),
-        Question::Explain { id } => explain_bytes(alloc, layers, device, id, out),
-        Question::Bag { id } => bag_bytes(alloc, layers, device, id, out),
-        Question::Attr {
-            attr,
-            styles,
-            force,
-        } => attr_bytes(alloc, layers, device, attr, &styles, force, out),
-    }
-}
-
-// Checks a certificate for these ids.
-fn check_files<O: Write + Drop>(
-    alloc: Global,
-    files: &CheckFiles,
-    ids: &[ResId],
-    out: &mut O,
-) -> Result<Status, ToolFault> {
-    let layers = files.layers.layers(alloc)?;
-    check_bytes(alloc, &layers, &files.members, &files.certificate, ids, out)
 }

@@ -1,6 +1,6 @@
 //! The exit status.
 
-use resource_tool::ToolFault;
+use resource_tool::{Status, ToolFault};
 
 /// How the program ends.
 #[derive(Clone, Copy, Debug, PartialEq, Eq)]
@@ -8,7 +8,7 @@ pub enum ExitStatus {
     /// All was done, or help or the version was printed that was asked for.
     Done = 0,
     /// Something that was asked for does not exist, or has too many references or parents; or a certificate
-    /// is rejected.
+    /// is rejected, or cannot be made.
     Negative = 1,
     /// A bad command line, or an argument that is not a resource id.
     Command = 2,
@@ -22,7 +22,7 @@ pub enum ExitStatus {
 
 impl ExitStatus {
     ghost use Rattle.std.specs.Prelude.{◌≡◌};
-    ghost use Rattle.restool.specs.ExitStatus.{number_of, after_fault};
+    ghost use Rattle.restool.specs.ExitStatus.{number_of, after_fault, after_status};
 
     /// How the program ends after a fault of a command.
     pub fn after_fault(fault: &ToolFault) -> ExitStatus
@@ -38,6 +38,16 @@ impl ExitStatus {
             | ToolFault::Certificate(_) => ExitStatus::Refused,
             ToolFault::OutOfMemory => ExitStatus::Memory,
             ToolFault::Write => ExitStatus::Failed,
+        }
+    }
+
+    /// How the program ends where a command was carried out.
+    pub fn after_status(status: Status) -> ExitStatus
+        ensures { result ≡ after_status status }
+    {
+        match status {
+            Status::Done => ExitStatus::Done,
+            Status::Negative => ExitStatus::Negative,
         }
     }
 

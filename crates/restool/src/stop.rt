@@ -1,15 +1,18 @@
 //! What keeps the program from doing what it was asked for.
 
-ghost use Rattle.std.specs.Prelude.{◌≡◌};
+ghost use Rattle.std.specs.Prelude.{◌≡◌, ◌++◌, ◌∷◌, [], true, false, is_ok, OnOk, IfSome};
+ghost use Rattle.std.specs.Io.KnownBytes.{Appends};
+ghost use Rattle.contract_words.specs.Writes.{Writes};
+ghost use Rattle.clap.specs.Values.{kind_of};
 ghost use Rattle.resource_text.specs.declared.fault.ToolFault.TheVariants.{OutOfMemory};
 ghost use Rattle.restool.specs.declared.stop.Stop.TheVariants.{Tool};
-ghost use Rattle.restool.specs.declared.status.ExitStatus.TheVariants.{Failed};
+ghost use Rattle.restool.specs.Stop.{is_asked_for};
 
 use crate::status::ExitStatus;
 use clap::error::ErrorKind;
 use resource_tool::{LayersFault, ToolFault, fault_text};
 use std::alloc::{AllocError, AllocFailed};
-use std::io::Write;
+use std::io::{self, Write};
 
 /// Why the program stops.
 #[derive(Drop)]
@@ -28,46 +31,78 @@ pub enum Stop<'a> {
     Tool(ToolFault),
 }
 
-impl Stop<'_> {
-    ghost use Rattle.restool.specs.ExitStatus.{EndsWith};
+/// What came of telling why the program stops.
+#[derive(Drop)]
+pub struct Told {
+    /// How the program ends.
+    pub status: ExitStatus,
+    /// Whether the stream took the text.
+    pub written: io::Result<()>,
+}
 
-    /// Tells why, on the stream where that belongs, and gives the exit status. A stream of errors
-    /// that fails is passed over.
-    pub fn tell<O: Write + Drop, E: Write + Drop>(self, out: &mut O, errors: &mut E) -> ExitStatus
-        ensures { EndsWith self.entry result }
+impl Stop<'_> {
+    ghost use Rattle.restool.specs.Stop.{stop_of, stop_line, status_of_stop, is_output};
+
+    /// Tells why, on the stream where that belongs, and gives the exit status.
+    pub fn tell<O: Write + Drop, E: Write + Drop>(&self, out: &mut O, errors: &mut E) -> Told
+        ensures status { result.status ≡ status_of_stop (is_ok result.written) (stop_of self.now) }
+        ensures line { OnOk result.written (IfSome (stop_line (stop_of self.now))
+            (Appends (E.contents errors.old) (E.contents errors.new))) }
+        ensures output { is_output (stop_of self.now) ≡ false → out.new ≡ out.old }
+        ensures errors { is_output (stop_of self.now) ≡ true → errors.new ≡ errors.old }
+    {
+        let written = self.write(out, errors);
+        let status = self.status(written.is_ok());
+        Told { status, written }
+    }
+
+    fn write<O: Write + Drop, E: Write + Drop>(&self, out: &mut O, errors: &mut E) -> io::Result<()>
+        ensures line { OnOk result (IfSome (stop_line (stop_of self.now))
+            (Appends (E.contents errors.old) (E.contents errors.new))) }
+        ensures output { is_output (stop_of self.now) ≡ false → out.new ≡ out.old }
+        ensures errors { is_output (stop_of self.now) ≡ true → errors.new ≡ errors.old }
     {
         match self {
-            Stop::Words(error) if !error.use_stderr() => match write!(out, "{error}") {
-                Ok(()) => ExitStatus::Done,
-                Err(_) => ExitStatus::Failed,
-            },
-            Stop::Words(error) => {
-                let _ = write!(errors, "{error}");
-                ExitStatus::Command
-            }
-            Stop::NotText => {
-                let _ = writeln!(errors, "command: a word is not UTF-8");
-                ExitStatus::Command
-            }
-            Stop::BadId(word) => {
-                let _ = writeln!(errors, "command: bad id {word}");
-                ExitStatus::Command
-            }
-            Stop::File(path) => tell_of_file(path, errors),
-            Stop::LayerFile(path) => tell_of_file(path.as_str(), errors),
-            Stop::Tool(fault) => {
-                let _ = fault_text(&fault, errors);
-                ExitStatus::after_fault(&fault)
-            }
+            Stop::Words(error) if is_asked_for(error) => write!(out, "{error}"),
+            Stop::Words(error) => write!(errors, "{error}"),
+            Stop::NotText => errors.write_all(b"command: a word is not UTF-8\n"),
+            Stop::BadId(word) => write_line("command: bad id ", word, errors),
+            Stop::File(path) => write_line("file: ", path, errors),
+            Stop::LayerFile(path) => write_line("file: ", path.as_str(), errors),
+            Stop::Tool(fault) => fault_text(fault, errors),
+        }
+    }
+
+    // How the program ends, where the text was written or was not.
+    fn status(&self, was_written: bool) -> ExitStatus
+        ensures { result ≡ status_of_stop was_written (stop_of self.now) }
+    {
+        match self {
+            Stop::Words(error) if is_asked_for(error) && was_written => ExitStatus::Done,
+            Stop::Words(error) if is_asked_for(error) => ExitStatus::Failed,
+            Stop::Words(_) | Stop::NotText | Stop::BadId(_) => ExitStatus::Command,
+            Stop::File(_) | Stop::LayerFile(_) => ExitStatus::Failed,
+            Stop::Tool(fault) => ExitStatus::after_fault(fault),
         }
     }
 }
 
-fn tell_of_file<E: Write + Drop>(path: &str, errors: &mut E) -> ExitStatus
-    ensures { result ≡ Failed }
+// Whether the words ask for help or for the version.
+fn is_asked_for(error: &clap::Error) -> bool
+    ensures { result ≡ is_asked_for (kind_of error.now) }
 {
-    let _ = writeln!(errors, "file: {path}");
-    ExitStatus::Failed
+    matches!(
+        error.kind(),
+        ErrorKind::DisplayHelp | ErrorKind::DisplayVersion
+    )
+}
+
+fn write_line<E: Write + Drop>(before: &str, text: &str, errors: &mut E) -> io::Result<()>
+    ensures { Writes E.contents errors.old errors.new result (before.now ++ text.now ++ 10 ∷ []) }
+{
+    errors.write_all(before.as_bytes())?;
+    errors.write_all(text.as_bytes())?;
+    errors.write_all(b"\n")
 }
 
 impl From<ToolFault> for Stop<'_> {
@@ -105,6 +140,10 @@ impl From<AllocError> for Stop<'_> {
 }
 
 impl From<clap::Error> for Stop<'_> {
+    ghost use Rattle.restool.specs.Stop.{stop_of_kind};
+
+    ghost from_gives = { λ error e. e ≡ stop_of_kind (kind_of error) error };
+
     fn from(error: clap::Error) -> Self {
         match error.kind() {
             ErrorKind::OutOfMemory => Stop::Tool(ToolFault::OutOfMemory),

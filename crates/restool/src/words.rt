@@ -1,89 +1,52 @@
 //! The words of the command line.
 
-ghost use Rattle.std.specs.Prelude.{◌≤◌, length, codes, IsOkAnd};
-ghost use Rattle.restool.specs.Request.{AsksForRows};
+ghost use Rattle.std.specs.Prelude.{◌≡◌, ◌≢◌, ◌<◌, ◌≤◌, true, length, map, codes, IfOk, IsOkAnd, string_bytes};
+ghost use Rattle.std.specs.IoError.{error_kind};
+ghost use Rattle.resource_text.specs.declared.fault.ToolFault.TheVariants.{OutOfMemory};
+ghost use Rattle.clap.specs.Words.{FailsBy, fault_of, has_subcommand, rows_of, found_of, subcommand_of, subcommand_rows_of};
+ghost use Rattle.restool.specs.CommandLine.{command_line};
+ghost use Rattle.restool.specs.Stop.{stop_of, tool, not_text};
+ghost use Rattle.restool.specs.Request.{AsksForRows, IsQuestionOf, IsTaskOf, ReadsAlong, ReadsCommand, ReadsWords, ids_asked, ids_of};
 
+use crate::arguments::{given_flag, given_id, given_ids, given_nodes, given_word};
 use crate::command_line::{
-    ATTRIBUTE, Argument, BAG, BAG_ID, BOX, CERTIFICATE, CHECK, DEVICE, DUMP, EXPLAIN, ID, IDS,
-    KEEP, LAYERS, QUERY, ROWS, STYLES, TABLE, command_line,
+    ATTRIBUTE, BAG_ID, BOX, CERTIFICATE, DEVICE, ID, IDS, KEEP, LAYERS, STYLES, TABLE, command_line,
 };
-use crate::ids::{read_id, read_ids};
+use crate::request::{Question, Request, Task};
+use crate::source::STANDARD_INPUT;
 use crate::stop::Stop;
+use crate::verb::{BoxVerb, DeviceVerb, Verb};
 use clap::ArgMatches;
-use res_value::ResId;
 use resource_tool::ToolFault;
 use std::alloc::Global;
 use std::env;
-use std::io::ErrorKind;
+use std::io::{self, ErrorKind};
 use std::rt::Env;
-
-/// The path that means the standard input where a table is read.
-pub const STANDARD_INPUT: &str = "-";
-
-/// What the words ask for.
-#[derive(Drop)]
-pub enum Request<'a> {
-    /// The rows of the table at a path.
-    Rows {
-        table: &'a str,
-    },
-    /// The packages of the table at a path, and their rows with names.
-    Dump {
-        table: &'a str,
-    },
-    /// What is asked of a device; the layers and the device are at these paths.
-    OfDevice {
-        layers: &'a str,
-        device: &'a str,
-        question: Question,
-    },
-    /// Whether a certificate is true of some ids for all devices of a box; the layers, the box and the
-    /// certificate are at these paths.
-    Check {
-        layers: &'a str,
-        members: &'a str,
-        certificate: &'a str,
-        ids: Vec<ResId>,
-    },
-}
-
-/// What is asked of a device.
-#[derive(Drop)]
-pub enum Question {
-    /// What it has for each of some ids.
-    Query {
-        ids: Vec<ResId>,
-    },
-    /// How it comes by what it has for an id.
-    Explain {
-        id: ResId,
-    },
-    /// The rows of a bag.
-    Bag {
-        id: ResId,
-    },
-    /// Where an attribute ends after styles that are applied with or without force.
-    Attr {
-        attr: ResId,
-        styles: Vec<ResId>,
-        force: bool,
-    },
-}
 
 /// The words that the program was started with. The first is its name.
 pub fn program_words<R: Env + AllocGlobal>(rt: &R) -> Result<Vec<String>, Stop<'static>> {
     match env::args(rt) {
         Ok(words) => Ok(words.collect(rt.alloc())?),
-        Err(error) if error.kind() == ErrorKind::OutOfMemory => {
-            Err(Stop::Tool(ToolFault::OutOfMemory))
-        }
-        Err(_) => Err(Stop::NotText),
+        Err(error) => Err(stop_of_words(&error)),
+    }
+}
+
+// Words that are not read are not UTF-8, unless memory ran out.
+fn stop_of_words(error: &io::Error) -> Stop<'static>
+    ensures memory { error_kind error.now ≡ ErrorKind.OutOfMemory → stop_of result ≡ tool OutOfMemory }
+    ensures other { error_kind error.now ≢ ErrorKind.OutOfMemory → stop_of result ≡ not_text }
+{
+    if error.kind() == ErrorKind::OutOfMemory {
+        Stop::Tool(ToolFault::OutOfMemory)
+    } else {
+        Stop::NotText
     }
 }
 
 /// What the words ask for; the first word is the program's name.
 pub fn read_words<'a>(alloc: Global, words: &'a [String]) -> Result<Request<'a>, Stop<'a>>
-    ensures no_words { length words.now ≤ 1 → IsOkAnd result (AsksForRows (codes "-")) }
+    ensures no_words { length words.entry.now ≤ 1 → IsOkAnd result (AsksForRows (codes "-")) }
+    ensures words { 1 < length words.entry.now → ReadsWords (map string_bytes words.entry.now) result }
 {
     if words.len() <= 1 {
         return Ok(Request::Rows {
@@ -93,88 +56,99 @@ pub fn read_words<'a>(alloc: Global, words: &'a [String]) -> Result<Request<'a>,
     read_command(alloc, words)
 }
 
-fn read_command<'a>(alloc: Global, words: &'a [String]) -> Result<Request<'a>, Stop<'a>> {
-    let matches = command_line(alloc)?.try_get_matches_from(words)?;
+fn read_command<'a>(alloc: Global, words: &'a [String]) -> Result<Request<'a>, Stop<'a>>
+    ensures { ReadsWords (map string_bytes words.entry.now) result }
+{
+    let matches = matches_of(alloc, words)?;
     match matches.subcommand() {
-        Some((name, given)) => request_of(alloc, name, given),
-        // A command is required, so there is one.
-        None => Ok(Request::Rows {
-            table: STANDARD_INPUT,
-        }),
+        Some((name, given)) => request_of(alloc, Verb::of_name(name), given),
+        None => unreachable!(),
     }
+}
+
+// What the command line makes of words. It has to have a command.
+fn matches_of<'a>(alloc: Global, words: &'a [String]) -> Result<ArgMatches<'a>, clap::Error>
+    ensures kinds { FailsBy (fault_of command_line (map string_bytes words.entry.now)) result }
+    ensures command { IfOk result (λ matches. subcommand_rows_of matches ≡ subcommand_of command_line (map string_bytes words.entry.now)) }
+    ensures required { IfOk result (λ matches. has_subcommand matches ≡ true) }
+{
+    let program = command_line(alloc)?;
+    program.try_get_matches_from(words)
 }
 
 // What a command asks for that has these arguments.
 fn request_of<'a>(
     alloc: Global,
-    name: &str,
+    verb: Verb,
     given: &ArgMatches<'a>,
-) -> Result<Request<'a>, Stop<'a>> {
-    match name {
-        ROWS => Ok(Request::Rows {
+) -> Result<Request<'a>, Stop<'a>>
+    ensures { ReadsCommand verb (rows_of (found_of given.now)) result }
+{
+    match verb {
+        Verb::Rows => Ok(Request::Rows {
             table: given_word(given, &TABLE),
         }),
-        DUMP => Ok(Request::Dump {
+        Verb::Dump => Ok(Request::Dump {
             table: given_word(given, &TABLE),
         }),
-        CHECK => Ok(Request::Check {
-            layers: given_word(given, &LAYERS),
-            members: given_word(given, &BOX),
+        Verb::OfDevice(verb) => {
+            let question = question_of(alloc, verb, given)?;
+            Ok(Request::OfDevice {
+                layers: given_word(given, &LAYERS),
+                device: given_word(given, &DEVICE),
+                question,
+            })
+        }
+        Verb::OfBox(verb) => {
+            let task = task_of(alloc, verb, given)?;
+            Ok(Request::OfBox {
+                layers: given_word(given, &LAYERS),
+                members: given_word(given, &BOX),
+                task,
+            })
+        }
+    }
+}
+
+#[tactic(auto, unfolding(crate::specs::Ids::ids_in))]
+fn question_of<'a>(
+    alloc: Global,
+    verb: DeviceVerb,
+    given: &ArgMatches<'a>,
+) -> Result<Question, Stop<'a>>
+    ensures { ReadsAlong (ids_asked verb (rows_of (found_of given.now)))
+        (IsQuestionOf verb (rows_of (found_of given.now))) result }
+{
+    match verb {
+        DeviceVerb::Query => Ok(Question::Query {
+            ids: given_ids(alloc, given, &IDS)?,
+        }),
+        DeviceVerb::Explain => Ok(Question::Explain {
+            id: given_id(given, &ID)?,
+        }),
+        DeviceVerb::Bag => Ok(Question::Bag {
+            id: given_id(given, &BAG_ID)?,
+        }),
+        DeviceVerb::Attr => Ok(Question::Attr {
+            attr: given_id(given, &ATTRIBUTE)?,
+            styles: given_ids(alloc, given, &STYLES)?,
+            force: !given_flag(given, &KEEP),
+        }),
+    }
+}
+
+fn task_of<'a>(alloc: Global, verb: BoxVerb, given: &ArgMatches<'a>) -> Result<Task<'a>, Stop<'a>>
+    ensures { ReadsAlong (ids_of (Verb.OfBox verb) (rows_of (found_of given.now)))
+        (IsTaskOf verb (rows_of (found_of given.now))) result }
+{
+    match verb {
+        BoxVerb::Make => Ok(Task::Make {
+            max_nodes: given_nodes(given),
+            ids: given_ids(alloc, given, &IDS)?,
+        }),
+        BoxVerb::Check => Ok(Task::Check {
             certificate: given_word(given, &CERTIFICATE),
             ids: given_ids(alloc, given, &IDS)?,
         }),
-        _ => Ok(Request::OfDevice {
-            layers: given_word(given, &LAYERS),
-            device: given_word(given, &DEVICE),
-            question: question_of(alloc, name, given)?,
-        }),
     }
-}
-
-fn question_of<'a>(
-    alloc: Global,
-    name: &str,
-    given: &ArgMatches<'a>,
-) -> Result<Question, Stop<'a>> {
-    match name {
-        QUERY => Ok(Question::Query {
-            ids: given_ids(alloc, given, &IDS)?,
-        }),
-        EXPLAIN => Ok(Question::Explain {
-            id: given_id(given, &ID)?,
-        }),
-        BAG => Ok(Question::Bag {
-            id: given_id(given, &BAG_ID)?,
-        }),
-        // ATTR, since there is no other command.
-        _ => Ok(Question::Attr {
-            attr: given_id(given, &ATTRIBUTE)?,
-            styles: given_ids(alloc, given, &STYLES)?,
-            force: !given.get_flag(KEEP.name),
-        }),
-    }
-}
-
-fn given_id<'a>(given: &ArgMatches<'a>, argument: &Argument) -> Result<ResId, Stop<'a>> {
-    read_id(given_word(given, argument))
-}
-
-fn given_ids<'a>(
-    alloc: Global,
-    given: &ArgMatches<'a>,
-    argument: &Argument,
-) -> Result<Vec<ResId>, Stop<'a>> {
-    read_ids(alloc, given_words(given, argument).unwrap_or(&[]))
-}
-
-// The word of an argument, which is required.
-fn given_word<'a>(given: &ArgMatches<'a>, argument: &Argument) -> &'a str {
-    match given_words(given, argument) {
-        Some([word, ..]) => *word,
-        _ => STANDARD_INPUT,
-    }
-}
-
-fn given_words<'g, 'a>(given: &'g ArgMatches<'a>, argument: &Argument) -> Option<&'g [&'a str]> {
-    given.get_strs(argument.name)
 }

@@ -1,4 +1,5 @@
-pub mod WalkSteps
 pub mod PackagesSteps
-pub mod PositionsSteps
+pub mod HeadSteps
+pub mod LinkSteps
 pub mod StandSteps
+pub mod PlaceSteps

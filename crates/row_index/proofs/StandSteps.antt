@@ -1,7 +1,8 @@
--- Rows that stand at positions.
-use Rattle.std.proofs.Common.{◌≡◌, List, [], ◌∷◌, map, Option, Some, None, refl, sym, ap, subst, ◌∙◌, arith, Bor, Iter}
+-- Lists of which each item gives something.
+use Rattle.std.proofs.Common.{◌≡◌, List, [], ◌∷◌, map, Option, Some, None, refl, sym, ap, ◌∙◌, arith}
 use Rattle.std.specs.List.{filter_map}
-use Rattle.std.specs.Slice.Iter.{iter_rest, iter_steps}
+use Rattle.std.specs.Iterator.{YieldsFirstBy}
+use Rattle.std.specs.Option.{option_map}
 use Rattle.std.proofs.lemmas.Grind.{common_steps}
 
 module _ {X Y : Type 0} (h : X → Option Y) where
@@ -19,20 +20,24 @@ module _ {X Y : Type 0} (h : X → Option Y) where
   pub GivesAll-all : (xs : List X) (ys : List Y) → map h xs ≡ map Some ys → GivesAll xs
   GivesAll-all xs ys all = all ∙ ap (λ (l : List Y). map Some l) (sym (filter_map-all xs ys all))
 
+  nothing_first : (x : X) (xs : List X) (ys : List Y) → h x ∷ map h xs ≡ map Some ys → h x ≡ None → ⊥
+  nothing_first x xs [] e none = grind arith
+  nothing_first x xs (y ∷ ys) e none = grind arith
+
+  GivesAll-first : (x : X) (xs : List X) → GivesAll (x ∷ xs) → h x ≡ None → ⊥
+  GivesAll-first x xs all none = nothing_first x xs (filter_map h (x ∷ xs)) all none
+
   pub GivesAll-tail : (x : X) (xs : List X) → GivesAll (x ∷ xs) → GivesAll xs
   GivesAll-tail x xs all = by (h x) refl
     where
-      nothing_first : (ys : List Y) → h x ∷ map h xs ≡ map Some ys → h x ≡ None → ⊥
-      nothing_first [] e none = grind arith
-      nothing_first (y ∷ ys) e none = grind arith
-
       by : (found : Option Y) → h x ≡ found → GivesAll xs
-      by None e = absurd (nothing_first (filter_map h (x ∷ xs)) all e)
+      by None e = absurd (GivesAll-first x xs all e)
       by (Some y) e = grind (arith, common_steps)
 
-  -- and so of what is left after one more
-  pub GivesAll-next : (found : Option (Bor X)) (old new : Iter X) → iter_steps old found new → GivesAll (iter_rest old) → GivesAll (iter_rest new)
-  GivesAll-next None old new ended all = rw (ended.1) all
-  GivesAll-next (Some x) old new one all = GivesAll-tail x.now (iter_rest new) (subst GivesAll one all)
+  -- the item that is given first
+  pub GivesAll-yields : {Z : Type 0} (view : Z → Y) (x : X) (xs : List X) (found : Option Z) → GivesAll (x ∷ xs) → option_map view found ≡ h x
+      → YieldsFirstBy view (λ s. s) (filter_map h (x ∷ xs)) found (filter_map h xs)
+  GivesAll-yields view x xs None all is = absurd (GivesAll-first x xs all (sym is))
+  GivesAll-yields view x xs (Some z) all is = rw (sym is) refl
 
-pub ruleset stand_steps = (GivesAll-next, GivesAll-all, filter_map-all)
+pub ruleset stand_steps = (GivesAll-all, filter_map-all)

@@ -1,1 +1,3 @@
-pub mod Positions
+pub mod Heads
+pub mod Links
+pub mod Places

@@ -2,62 +2,68 @@
 
 ghost use Rattle.std.specs.Prelude.{◌≡◌, []};
 ghost use Rattle.std.specs.Option.{option_map};
-ghost use Rattle.std.specs.Slice.Iter.{iter_rest};
 ghost use Rattle.type_chunks.specs.Row.{row_of};
-ghost use Rattle.type_chunks.specs.Package.{packages_of};
-ghost use Rattle.row_index.specs.Positions.{row_at, rows_at, StandAt};
+ghost use Rattle.row_index.specs.Links.{numbers_from};
+ghost use Rattle.row_index.specs.Places.{row_in, rows_in, StandIn};
 
-use crate::row_position::RowPosition;
+use crate::link::Link;
 use std::marker::Model;
-use std::slice::Iter;
-use type_chunks::{Package, Row};
+use type_chunks::{CheckedType, Row};
 
 /// The rows of one id that are left, in the order of the file.
 #[derive(Drop)]
 pub struct IndexedRows<'t, 'a> {
-    packages: &'t [Package<'a>],
-    positions: Iter<'t, RowPosition>,
-    ghost found: { StandAt (packages_of packages.now) (iter_rest positions) (rows_at (packages_of packages.now) (iter_rest positions)) },
+    types: &'t [CheckedType<'a>],
+    /// The index of the entry that each of these rows is, in its type.
+    entry: u16,
+    /// The links among which the next one is the last.
+    links: &'t [Link],
+    /// How many links stand up to the next one, with that one; 0 where none is left.
+    next: u32,
+    ghost found: { StandIn types.now entry (numbers_from links.now next) (rows_in types.now entry (numbers_from links.now next)) },
 }
 
 impl<'t, 'a> Model for IndexedRows<'t, 'a> {
     ghost use Rattle.std.specs.Prelude.{List};
-    ghost use Rattle.std.specs.Slice.Iter.{iter_rest};
     ghost use Rattle.type_chunks.specs.Row.{RowOf};
-    ghost use Rattle.type_chunks.specs.Package.{packages_of};
-    ghost use Rattle.row_index.specs.Positions.{rows_at};
+    ghost use Rattle.row_index.specs.Links.{numbers_from};
+    ghost use Rattle.row_index.specs.Places.{rows_in};
 
     ghost Value = { List RowOf };
 
-    ghost view = { λ s. rows_at (packages_of s.packages.now) (iter_rest s.positions) };
+    ghost view = { λ s. rows_in s.types.now s.entry (numbers_from s.links.now s.next) };
 }
 
 impl<'t, 'a> IndexedRows<'t, 'a> {
-    pub(crate) fn new(packages: &'t [Package<'a>], positions: &'t [RowPosition]) -> Self
-        requires { StandAt (packages_of packages.now) positions.now (rows_at (packages_of packages.now) positions.now) }
-        ensures { result ≡ rows_at (packages_of packages.now) positions.now }
+    pub(crate) fn new(
+        types: &'t [CheckedType<'a>],
+        entry: u16,
+        links: &'t [Link],
+        next: u32,
+    ) -> Self
+        requires { StandIn types.now entry (numbers_from links.now next) (rows_in types.now entry (numbers_from links.now next)) }
+        ensures { result ≡ rows_in types.now entry (numbers_from links.now next) }
     {
         IndexedRows {
-            packages,
-            positions: positions.iter(),
+            types,
+            entry,
+            links,
+            next,
         }
     }
 
     /// No rows.
+    #[tactic(auto, using(crate::proofs::LinkSteps::link_steps))]
     pub fn none() -> Self
         ensures { result ≡ [] }
     {
         IndexedRows {
-            packages: &[],
-            positions: no_positions().iter(),
+            types: &[],
+            entry: 0,
+            links: &[],
+            next: 0,
         }
     }
-}
-
-fn no_positions<'t>() -> &'t [RowPosition]
-    ensures { result.now ≡ [] }
-{
-    &[]
 }
 
 impl<'t, 'a> Iterator for IndexedRows<'t, 'a> {
@@ -70,21 +76,27 @@ impl<'t, 'a> Iterator for IndexedRows<'t, 'a> {
 
     ghost remaining = { item_count (λ s. s) };
 
-    #[tactic(auto, using(crate::proofs::StandSteps::stand_steps))]
     fn next(&mut self) -> Option<Row<'a>> {
-        let Some(position) = self.positions.next() else {
+        if self.next == 0 {
+            return None;
+        }
+        let index = self.next as usize - 1;
+        let Some(link) = self.links.get(index) else {
             return None;
         };
-        find_row(self.packages, *position)
+        let (earlier, _) = self.links.split_at(index);
+        self.links = earlier;
+        self.next = link.next;
+        find_row(self.types, link.type_number as usize, self.entry)
     }
 }
 
-// The row at a position.
-fn find_row<'a>(packages: &[Package<'a>], position: RowPosition) -> Option<Row<'a>>
-    ensures { option_map row_of result ≡ row_at (packages_of packages.now) position }
+// The row of an entry in the type of a number.
+fn find_row<'a>(types: &[CheckedType<'a>], type_number: usize, entry: u16) -> Option<Row<'a>>
+    ensures { option_map row_of result ≡ row_in types.now entry type_number }
 {
-    match packages.get(position.package) {
-        Some(package) => package.row(position.row),
+    match types.get(type_number) {
+        Some(found) => found.row(u32::from(entry)),
         None => None,
     }
 }

@@ -2,22 +2,26 @@
 
 ghost use Rattle.std.specs.Prelude.{◌≡◌, ◌<◌, ◌^◌, IfOk, IfErr, length};
 ghost use Rattle.type_chunks.specs.Row.{with_id};
+ghost use Rattle.type_chunks.specs.Package.{packages_of, rows_of_packages};
 ghost use Rattle.type_chunks.specs.Table.{rows_of};
-ghost use Rattle.row_index.specs.Positions.{ArePositionsOf};
+ghost use Rattle.type_chunks.specs.TypeRows.{rows_of_types};
+ghost use Rattle.row_index.specs.Places.{ArePlacesOf};
 
 use crate::indexed_rows::IndexedRows;
-use crate::row_positions::RowPositions;
+use crate::row_places::RowPlaces;
 use res_value::ResId;
-use std::alloc::Global;
+use std::alloc::{AllocError, Global};
 use std::marker::Model;
-use type_chunks::Table;
+use type_chunks::{CheckedType, Package, Table};
 
-/// A table with the positions of its rows by id. Contracts see it as the table.
+/// A table with the places of its rows by id. Contracts see it as the table.
 #[derive(Debug, Drop)]
 pub struct IndexedTable<'a> {
     table: Table<'a>,
-    positions: RowPositions,
-    ghost all: { ArePositionsOf (rows_of table) table.packages positions },
+    /// All types of the table, in the order of the file.
+    types: Vec<CheckedType<'a>>,
+    places: RowPlaces,
+    ghost all: { ArePlacesOf (rows_of table) types.items places },
 }
 
 impl<'a> Model for IndexedTable<'a> {
@@ -36,8 +40,15 @@ impl<'a> IndexedTable<'a> {
         ensures few { IfOk result (λ indexed. length (rows_of indexed) < 2 ^ 92) }
         ensures back { IfErr result (λ back. back ≡ table.entry) }
     {
-        match RowPositions::of_packages(alloc, table.packages()) {
-            Ok(positions) => Ok(IndexedTable { table, positions }),
+        let Ok(types) = types_of(alloc, table.packages()) else {
+            return Err(table);
+        };
+        match RowPlaces::of_types(alloc, &types) {
+            Ok(places) => Ok(IndexedTable {
+                table,
+                types,
+                places,
+            }),
             Err(_) => Err(table),
         }
     }
@@ -55,6 +66,19 @@ impl<'a> IndexedTable<'a> {
     pub fn rows(&self, id: ResId) -> IndexedRows<'_, 'a>
         ensures { result ≡ with_id id.0 (rows_of self.now) }
     {
-        IndexedRows::new(self.table.packages(), self.positions.get(id))
+        let next = self.places.heads.get(id);
+        IndexedRows::new(&self.types, id.entry(), &self.places.links, next)
     }
+}
+
+// The types of packages, one package after the other.
+fn types_of<'a>(alloc: Global, packages: &[Package<'a>]) -> Result<Vec<CheckedType<'a>>, AllocError>
+    ensures { IfOk result (λ types. rows_of_types types.items ≡ rows_of_packages (packages_of packages.now)) }
+{
+    let mut types = Vec::new(alloc);
+    for package in packages {
+        types.reserve_exact(package.types().len())?;
+        types.extend_from_slice(package.types())?;
+    }
+    Ok(types)
 }

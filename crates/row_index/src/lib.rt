@@ -13,10 +13,11 @@
 //! ```
 #![tactic(auto)]
 
+mod heads;
 mod indexed_rows;
 mod indexed_table;
-mod row_position;
-mod row_positions;
+mod link;
+mod row_places;
 
 pub use indexed_rows::IndexedRows;
 pub use indexed_table::IndexedTable;

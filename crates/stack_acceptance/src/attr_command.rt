@@ -105,6 +105,29 @@ fn prints_where_attributes_end(rt: HostRuntime) {
     check(&rt, other_attribute(rt.alloc()));
 }
 
+/// A style without a row, and one with a row.
+const EMPTY: &str = "0 [] bag 0x00000000\n1 [] bag 0x00000000 0x01010001=1";
+
+// Whether the attribute of the second is printed so behind some of them.
+fn is_printed_behind(alloc: Global, styles: &[ResId], status: Status, want: &str) -> bool {
+    let asked = Asked {
+        attr: A,
+        styles,
+        force: true,
+        status,
+    };
+    is_printed_as(alloc, EMPTY, &asked, want) == Some(true)
+}
+
+#[test]
+fn applies_a_style_without_rows(rt: HostRuntime) {
+    let absent = "0x01010001 absent 0x01010001\n";
+    assert!(rt; is_printed_behind(rt.alloc(), &[FIRST], Status::Negative, absent));
+    let set = "0x01010001 value layer 0 decimal 1\n";
+    assert!(rt; is_printed_behind(rt.alloc(), &[FIRST, SECOND], Status::Done, set));
+    assert!(rt; is_printed_behind(rt.alloc(), &[SECOND, FIRST], Status::Done, set));
+}
+
 /// A style whose attribute names itself, a value, and a style that is its own parent.
 const REFUSED: &str = "\
 0 [] bag 0x00000000 0x01010003=?0x01010003

@@ -18,6 +18,8 @@ mod id_maps;
 #[cfg(test)]
 mod layer_list;
 #[cfg(test)]
+mod lent;
+#[cfg(test)]
 mod query;
 #[cfg(test)]
 mod row;

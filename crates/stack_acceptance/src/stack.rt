@@ -112,6 +112,23 @@ fn refuses_a_layer_more_than_64(rt: HostRuntime) {
     assert!(rt; refuses_a_65th(rt.alloc()) == Some(true));
 }
 
+// Whether a stack whose 64th layer is an overlay has the rows of it.
+fn has_an_overlay_as_64th(alloc: Global) -> Option<bool> {
+    let bytes = layer(alloc, &["1 [] 1"]).ok()?;
+    let mut stack = Stack::new(alloc);
+    for _ in 1..MOST_LAYERS {
+        push_base(alloc, &mut stack, &bytes)?;
+    }
+    push_overlay(alloc, &mut stack, &bytes, SECOND)?;
+    let last = [(63, true, 1)];
+    Some(stack.len() == MOST_LAYERS && has_candidates(&stack, ResId(0x7f01_0000), &last))
+}
+
+#[test]
+fn takes_an_overlay_as_the_64th_layer(rt: HostRuntime) {
+    assert!(rt; has_an_overlay_as_64th(rt.alloc()) == Some(true));
+}
+
 // Whether the first rows of the layers are those of entries 0 and 1, and there is no third layer.
 fn has_two_tables(stack: &Stack) -> bool {
     let (Some(base), Some(overlay)) = (stack.layer_table(0), stack.layer_table(1)) else {

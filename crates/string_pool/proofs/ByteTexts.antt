@@ -1,5 +1,6 @@
 -- How the text of bytes that are read as UTF-8 goes on.
-use Rattle.std.proofs.Common.{◌≡◌, ℕ, zero, suc, ◌+◌, ◌-◌, ◌<◌, ◌≤◌, true, false, ◌||◌, slice_index, inl, inr, List, [], ◌∷◌, ◌++◌, length, take, drop, Some, None, refl, sym, ap, ◌∙◌, arith, subst, append_assoc, length-drop, drop-drop}
+use Rattle.std.proofs.Common.{◌≡◌, ℕ, zero, suc, ◌+◌, ◌-◌, ◌<◌, ◌≤◌, Bool, true, false, ◌||◌, slice_index, inl, inr, List, [], ◌∷◌, ◌++◌, length, take, drop, Some, None, refl, sym, ap, ◌∙◌, arith, subst, append_assoc, length-drop, drop-drop}
+use Rattle.std.specs.Prelude.{◌&&◌, not}
 use Rattle.std.proofs.lemmas.Bool.{cases_lt, cases_Bool}
 use Rattle.std.proofs.lemmas.Bool.Decides.{nat_tests}
 use Rattle.std.proofs.lemmas.List.{nil_from_length}
@@ -11,7 +12,7 @@ use Rattle.bstr.specs.Utf8.{Decoded, good, decoded}
 use Rattle.bstr.proofs.lemmas.PieceLemmas.{piece-bounds, value-1}
 use Rattle.bstr.proofs.lemmas.SoundLemmas.{SpellsChar-decoded}
 use Rattle.string_pool.specs.Shown.{takes_backslash, is_control, byte_escape, character_text, front_text, bytes_behind, bytes_text_after, bytes_text}
-use Rattle.string_pool.specs.Escapes.{escape_text, IsPlain, BeginsEscape}
+use Rattle.string_pool.specs.Escapes.{escape_text, is_plain_byte, IsPlain, BeginsEscape}
 
 bytes_text_after-drop : (n : ℕ) (bytes : List ℕ) → bytes_text_after n bytes ≡ bytes_text (drop n bytes)
 unfolding bytes_text_after
@@ -111,6 +112,17 @@ IsPlain-ascii (b ∷ others) byte first ascii plain =
       within = omega arith;
       text = bytes_text-ascii b others low ∙ ap (λ (t : List ℕ). t ++ bytes_text others) (plain_character b (sym (rw same at plain)) ∙ encode_ascii b low);
     }
+
+-- a plain byte is a character of ASCII, and stands for itself
+plain-parts : (ascii escaped : Bool) → (ascii && not escaped) ≡ true → (ascii ≡ true) × (false ≡ escaped)
+plain-parts true true is = absurd cc
+plain-parts true false is = (refl, refl)
+plain-parts false escaped is = absurd cc
+
+pub IsPlain-byte : (left : List ℕ) (byte : ℕ) → Some byte ≡ slice_get left 0 → is_plain_byte byte ≡ true → IsPlain left 1
+IsPlain-byte left byte first plain =
+    let parts = plain-parts (is_ascii byte) (takes_backslash byte || is_control byte) plain in
+    IsPlain-ascii left byte first parts.0 parts.1
 
 -- a text that begins with a byte past ASCII begins with a character past ASCII
 not_low : (left behind : List ℕ) (c : ℕ) → left ≡ encode_utf8 c ++ behind → 128 ≤ slice_index left 0 → 128 ≤ c

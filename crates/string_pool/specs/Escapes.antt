@@ -1,7 +1,8 @@
 -- What the code knows of a string while it writes it. Contracts within the crate alone speak of this.
-use Rattle.std.specs.Prelude.{◌≡◌, ℕ, ◌≤◌, List, [], ◌∷◌, ◌++◌, length, take, drop, ◌&&◌, Option, Some, None, Result, Ok, Err, if◌then◌else◌}
+use Rattle.std.specs.Prelude.{◌≡◌, ℕ, ◌≤◌, List, [], ◌∷◌, ◌++◌, length, take, drop, slice_get, Bool, true, not, ◌&&◌, ◌||◌, Option, Some, None, Result, Ok, Err, if◌then◌else◌}
+use Rattle.std.specs.Char.{is_ascii}
 use Rattle.std.specs.Char.Utf16.{is_high_surrogate, is_low_surrogate, surrogate_pair_char}
-use Rattle.string_pool.specs.Shown.{backslash, byte_escape, takes_backslash, character_text, bytes_text, unit_escape}
+use Rattle.string_pool.specs.Shown.{backslash, byte_escape, takes_backslash, is_control, character_text, bytes_text, unit_escape}
 
 -- how a byte is shown that does not stand for itself
 abbrev pub escape_text : ℕ → List ℕ
@@ -11,6 +12,14 @@ escape_text byte = if takes_backslash byte then backslash ∷ byte ∷ [] else b
 pub record IsPlain (left : List ℕ) (width : ℕ) : Type 0 where
   pub within : width ≤ length left
   pub text : bytes_text left ≡ take width left ++ bytes_text (drop width left)
+
+-- a character of ASCII that stands for itself
+abbrev pub is_plain_byte : ℕ → Bool
+is_plain_byte byte = is_ascii byte && not (takes_backslash byte || is_control byte)
+
+-- such a character stands at the front
+abbrev pub BeginsPlain : List ℕ → Type 0
+BeginsPlain left = (byte : ℕ) × (slice_get left 0 ≡ Some byte) × (is_plain_byte byte ≡ true)
 
 -- the byte at the front, if there is one, does not stand for itself
 pub record BeginsEscape (left : List ℕ) : Type 0 where

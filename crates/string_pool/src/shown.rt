@@ -2,7 +2,7 @@
 
 ghost use Rattle.std.specs.Prelude.{◌≡◌, ◌||◌, ◌++◌, ◌<◌, ◌≤◌, length, MatchOption, OnOk};
 ghost use Rattle.contract_words.specs.Writes.{Writes};
-ghost use Rattle.string_pool.specs.Escapes.{escape_text, IsPlain, BeginsEscape, piece_text};
+ghost use Rattle.string_pool.specs.Escapes.{escape_text, is_plain_byte, IsPlain, BeginsPlain, BeginsEscape, piece_text};
 ghost use Rattle.string_pool.specs.Shown.{takes_backslash, is_control, character_text, bytes_text, units_text, unit_escape, string_text};
 ghost use Rattle.string_pool.specs.Text.{seen_text};
 ghost use Rattle.string_pool.specs.Units.{units_in};
@@ -73,19 +73,38 @@ fn split_plain(left: &[u8]) -> (&[u8], &[u8])
     left.split_at(length)
 }
 
-// How many bytes the first character takes, if it stands for itself.
+// How many bytes the first character takes, if it stands for itself, or the first characters of ASCII.
 #[tactic(auto, using(crate::proofs::ByteTexts::plain_steps))]
 fn plain_width(left: &[u8]) -> Option<usize>
     ensures { MatchOption result (BeginsEscape left.now) (λ width. IsPlain left.now width × (0 < width)) }
 {
     let byte = *left.first()?;
     if byte.is_ascii() {
-        return (!is_escaped(char::from(byte))).then_some(1);
+        return (!is_escaped(char::from(byte))).then_some(ascii_width(left));
     }
     match bstr::decode_utf8(left) {
         (Some(_), width) => Some(width),
         (None, _) => None,
     }
+}
+
+// How many characters of ASCII stand at the front that stand for themselves.
+fn ascii_width(left: &[u8]) -> usize
+    ensures plain { IsPlain left.now result }
+    ensures some { BeginsPlain left.now → 0 < result }
+{
+    let mut width = 0;
+    while width < left.len() && is_plain_ascii(left[width]) {
+        width += 1;
+    }
+    width
+}
+
+// Whether a byte is a character of ASCII that is shown as itself.
+fn is_plain_ascii(byte: u8) -> bool
+    ensures { result ≡ is_plain_byte byte }
+{
+    (b' '..=b'~').contains(&byte) && byte != b'"' && byte != b'\\'
 }
 
 // Whether a character is not shown as itself.

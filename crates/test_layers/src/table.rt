@@ -31,7 +31,7 @@ const NO_ENTRY: u32 = 0xffff_ffff;
 /// A row as it is written.
 #[derive(Clone, Copy, Debug)]
 struct TestRow<'a> {
-    entry: u16,
+    entry: u32,
     qualifiers: &'a str,
     cell: Cell<'a>,
 }
@@ -75,7 +75,7 @@ fn chunks_of(alloc: Global, rows: &[&str]) -> Result<Vec<u8>, LayerFault> {
     let mut count = 0;
     for line in rows {
         let row = row_of(line).ok_or(LayerFault::Malformed)?;
-        count = count.max(u32::from(row.entry).saturating_add(1));
+        count = count.max(row.entry.saturating_add(1));
     }
     let mut chunks = Vec::new(alloc);
     push_type_spec(alloc, &mut chunks, count)?;
@@ -126,11 +126,7 @@ fn push_type(
     header.extend_from_slice(&record)?;
     let mut body = Vec::new(alloc);
     for index in 0..count {
-        let offset = if index == u32::from(row.entry) {
-            0
-        } else {
-            NO_ENTRY
-        };
+        let offset = if index == row.entry { 0 } else { NO_ENTRY };
         push_u32(&mut body, offset)?;
     }
     body.extend_from_slice(&row.cell.entry(alloc)?)?;

@@ -1,9 +1,10 @@
 -- The rows of packages, one after the other.
 use Rattle.std.proofs.Common.{◌≡◌, ◌+◌, ◌*◌, ◌≤◌, ◌^◌, List, [], ◌∷◌, ◌++◌, length, length-append, refl, ap, ◌∙◌, arith}
-use Rattle.std.proofs.lemmas.List.{length-map}
 use Rattle.type_chunks.specs.declared.package.Package.{Package}
-use Rattle.type_chunks.specs.Row.{RowOf, views_of, row_of}
+use Rattle.type_chunks.specs.Row.{RowOf}
+use Rattle.type_chunks.specs.TypeRows.{rows_of_types}
 use Rattle.type_chunks.specs.Package.{PackageOf, package_of, packages_of, rows_of_packages}
+use Rattle.type_chunks.proofs.TypeRowsSteps.{length-rows_of_types}
 
 -- rows of a package, and those of the packages behind it
 pub rows_of_packages-next : (first : PackageOf) (others : List PackageOf) → rows_of_packages (first ∷ others) ≡ first.rows ++ rows_of_packages others
@@ -23,8 +24,8 @@ none-left rows (first ∷ others) no_rows no_packages = absurd (omega (arith, no
 pub length-rows_of_packages : (packages : List Package) → length (rows_of_packages (packages_of packages)) ≤ length packages * 2 ^ 63
 length-rows_of_packages [] = rw rows_of_packages-none (omega arith)
 length-rows_of_packages (first ∷ others) =
-    let split : length (rows_of_packages (packages_of (first ∷ others))) ≡ length (views_of first.rows.items) + length (rows_of_packages (packages_of others)) =
-    ap (λ (t : List RowOf). length t) (rows_of_packages-next (package_of first) (packages_of others)) ∙ length-append (views_of first.rows.items) (rows_of_packages (packages_of others)) in
-    omega (arith, split, length-map first.rows.items row_of, first.few, length-rows_of_packages others)
+    let split : length (rows_of_packages (packages_of (first ∷ others))) ≡ length (rows_of_types first.types.items) + length (rows_of_packages (packages_of others)) =
+    ap (λ (t : List RowOf). length t) (rows_of_packages-next (package_of first) (packages_of others)) ∙ length-append (rows_of_types first.types.items) (rows_of_packages (packages_of others)) in
+    omega (arith, split, length-rows_of_types first.types.items, first.few, length-rows_of_packages others)
 
 pub ruleset rows_steps = (rows_of_packages-next, rows_of_packages-none, length-rows_of_packages)

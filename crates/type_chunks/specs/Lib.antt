@@ -4,6 +4,10 @@ pub mod Row
 pub mod TypeSpec
 pub mod TypeChunk
 pub mod Entry
+pub mod Checks
+pub mod Entries
+pub mod TypeRows
+pub mod WrongSizes
 pub mod PackageChildren
 pub mod Package
 pub mod Table

@@ -12,7 +12,8 @@ use Rattle.type_chunks.specs.declared.fault.TableFault.TheVariants as faults
 use Rattle.type_chunks.specs.declared.package.Package.{Package}
 use Rattle.type_chunks.specs.Layout.{pool_kind, least_package_header, package_header_with_offset}
 use Rattle.type_chunks.specs.LowerFaults.{found_chunk, pool_of_chunk}
-use Rattle.type_chunks.specs.Row.{RowOf, views_of}
+use Rattle.type_chunks.specs.Row.{RowOf}
+use Rattle.type_chunks.specs.TypeRows.{rows_of_types}
 use Rattle.type_chunks.specs.PackageChildren.{rows_of_children}
 
 -- A package, without where its file lies in memory.
@@ -34,7 +35,7 @@ package_of read = record {
   type_names = pool_of read.type_names;
   key_names = pool_of read.key_names;
   type_id_offset = read.type_id_offset;
-  rows = views_of read.rows.items;
+  rows = rows_of_types read.types.items;
 }
 
 abbrev pub packages_of : List Package → List PackageOf

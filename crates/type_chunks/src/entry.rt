@@ -1,16 +1,16 @@
-//! Entries of a type: each no row, one row, or a fault.
+//! Entries of a type that were checked: each no row or one row.
 
-ghost use Rattle.std.specs.Prelude.{◌≡◌, ◌+◌, ◌<◌, ◌≤◌, ◌^◌, length};
-ghost use Rattle.type_chunks.specs.Layout.{least_bag, least_entry_size};
+ghost use Rattle.std.specs.Prelude.{◌≡◌, ◌+◌, ◌<◌, ◌≤◌, ◌^◌, length, IsOk, Ok};
+ghost use Rattle.type_chunks.specs.Layout.{least_bag};
 
+use crate::checked_type::CheckedType;
 use crate::entry_flags::EntryFlags;
-use crate::fault::TableFault;
 use crate::layout::{bag_header, entry_header, type_header};
 use crate::row::Row;
 use crate::type_chunk::TypeChunk;
 use bitflags::Flags;
 use chunk_walk::{u16_within, u32_within};
-use res_value::{Cell, MapRows, MapRowsFault, ResId, Value};
+use res_value::{Cell, MapRows, ResId, Value};
 
 /// An id has room for the indexes below this.
 const INDEXES: u32 = 0x1_0000;
@@ -18,97 +18,112 @@ const INDEXES: u32 = 0x1_0000;
 impl<'a> TypeChunk<'a> {
     ghost use Rattle.type_chunks.specs.TypeChunk.{type_chunk_of};
     ghost use Rattle.type_chunks.specs.Entry.{rows_of_entry_at, rows_of_entry, value_of_entry, bag_of_entry, seen_entry, seen_cell};
+    ghost use Rattle.type_chunks.specs.Entries.{HasEntry, held_at};
 
-    /// The row of an entry, where there is one.
+    /// The row of an entry that has no fault, where there is one.
     #[tactic(auto, unfolding(crate::specs::Entry::rows_of_entry))]
-    pub fn entry(&self, index: u32) -> Result<Option<Row<'a>>, TableFault>
-        requires { index < self.now.entry_count }
-        ensures { seen_entry result ≡ rows_of_entry (type_chunk_of self.now) index }
+    pub fn entry(&self, index: u32) -> Option<Row<'a>>
+        requires within { index < self.now.entry_count }
+        requires checked { IsOk (rows_of_entry (type_chunk_of self.now) index) }
+        ensures { seen_entry (Ok result) ≡ rows_of_entry (type_chunk_of self.now) index }
     {
-        let offset = u32_within(self.offsets, type_header::OFFSET_SIZE * index as usize);
+        let offset = self.offset(index);
         if offset == type_header::NO_ENTRY {
-            return Ok(None);
+            return None;
         }
         self.entry_at(index, self.entries_start as usize + offset as usize)
     }
 
     // The row of the entry at a place from the chunk's start.
-    #[tactic(auto, unfolding(crate::specs::Entry::rows_of_entry_at))]
-    fn entry_at(&self, index: u32, at: usize) -> Result<Option<Row<'a>>, TableFault>
-        requires { at < 2 ^ 33 }
-        ensures { seen_entry result ≡ rows_of_entry_at (type_chunk_of self.now) index at }
+    #[tactic(auto, using(crate::proofs::EntrySteps::entry_steps))]
+    fn entry_at(&self, index: u32, at: usize) -> Option<Row<'a>>
+        requires near { at < 2 ^ 33 }
+        requires checked { IsOk (rows_of_entry_at (type_chunk_of self.now) index at) }
+        ensures { seen_entry (Ok result) ≡ rows_of_entry_at (type_chunk_of self.now) index at }
     {
-        let whole = self.whole;
-        let fault = TableFault::Entry(self.place + at);
-        if at % 4 != 0 || whole.len() < at + entry_header::LEAST_SIZE {
-            return Err(fault);
-        }
-        let size = u16_within(whole, at + entry_header::SIZE_FIELD) as usize;
-        let flags = EntryFlags::from_bits_retain(u16_within(whole, at + entry_header::FLAGS));
-        let is_complex = flags.is_complex();
-        if size < least_entry_size(is_complex) || whole.len() < at + size {
-            return Err(fault);
-        }
-        let cell = if is_complex {
-            self.bag(at, at + size)?
-        } else {
-            self.value(at, at + size)?
-        };
+        let cell = self.cell(at);
         if index >= self.spec.entry_count || index >= INDEXES {
-            return Ok(None);
+            return None;
         }
-        Ok(Some(Row {
+        Some(Row {
             id: ResId::of(self.owner.id, self.id, index as u16),
             config: self.config,
             cell,
             flags: self.spec.flags_of(index),
-            key: u32_within(whole, at + entry_header::KEY),
+            key: u32_within(self.whole, at + entry_header::KEY),
             package: self.owner.index,
-        }))
+        })
+    }
+
+    // What the entry at a place holds.
+    #[tactic(auto, unfolding(crate::specs::Entries::held_at))]
+    fn cell(&self, at: usize) -> Cell<'a>
+        requires near { at < 2 ^ 33 }
+        requires has { HasEntry (type_chunk_of self.now) at }
+        ensures { seen_cell (Ok result) ≡ held_at (type_chunk_of self.now) at }
+    {
+        let behind = at + u16_within(self.whole, at + entry_header::SIZE_FIELD) as usize;
+        let flags = EntryFlags::from_bits_retain(u16_within(self.whole, at + entry_header::FLAGS));
+        if flags.is_complex() {
+            self.bag(at, behind)
+        } else {
+            self.value(at, behind)
+        }
     }
 
     // The value of an entry; `behind` is the place behind the entry's size.
     #[tactic(auto, unfolding(crate::specs::Entry::value_of_entry))]
-    fn value(&self, at: usize, behind: usize) -> Result<Cell<'a>, TableFault>
+    fn value(&self, at: usize, behind: usize) -> Cell<'a>
         requires fits { behind ≤ length self.now.whole.now }
-        requires near { at < 2 ^ 33 }
-        ensures { seen_cell result ≡ value_of_entry (type_chunk_of self.now) at behind }
+        requires checked { IsOk (value_of_entry (type_chunk_of self.now) at behind) }
+        ensures { seen_cell (Ok result) ≡ value_of_entry (type_chunk_of self.now) at behind }
     {
-        if self.whole.len() < behind + Value::SIZE {
-            return Err(TableFault::Entry(self.place + at));
-        }
         match Value::read(&self.whole[behind..]) {
-            Some(value) => Ok(Cell::Plain(value)),
-            None => Err(TableFault::Value(self.place + behind)),
+            Some(value) => Cell::Plain(value),
+            None => unreachable!(),
         }
     }
 
     // The bag of a complex entry.
-    #[tactic(auto, unfolding(crate::specs::Entry::bag_of_entry))]
-    fn bag(&self, at: usize, behind: usize) -> Result<Cell<'a>, TableFault>
+    #[tactic(auto, using(crate::proofs::EntrySteps::bag_steps))]
+    fn bag(&self, at: usize, behind: usize) -> Cell<'a>
         requires fits { behind ≤ length self.now.whole.now }
         requires header { at + least_bag ≤ behind }
-        ensures { seen_cell result ≡ bag_of_entry (type_chunk_of self.now) at behind }
+        requires checked { IsOk (bag_of_entry (type_chunk_of self.now) at behind) }
+        ensures { seen_cell (Ok result) ≡ bag_of_entry (type_chunk_of self.now) at behind }
     {
         let parent = ResId(u32_within(self.whole, at + bag_header::PARENT));
         let count = u32_within(self.whole, at + bag_header::COUNT);
-        match MapRows::read(count, &self.whole[behind..]) {
-            Ok(rows) => Ok(Cell::Bag { parent, rows }),
-            Err(MapRowsFault::Short) => Err(TableFault::Entry(self.place + at)),
-            Err(MapRowsFault::ValueSize(index)) => {
-                Err(TableFault::Value(self.place + (behind + MapRows::value_place(index))))
-            }
-        }
+        let (_, bytes) = self.whole.split_at(behind);
+        let rows = MapRows::within(count, bytes);
+        Cell::Bag { parent, rows }
     }
 }
 
-// The least size of an entry: a complex one has two fields more.
-fn least_entry_size(is_complex: bool) -> usize
-    ensures { result ≡ least_entry_size is_complex }
-{
-    if is_complex {
-        bag_header::LEAST_SIZE
-    } else {
-        entry_header::LEAST_SIZE
+impl<'a> CheckedType<'a> {
+    ghost use Rattle.std.specs.Option.{option_to_list, option_map};
+    ghost use Rattle.type_chunks.specs.Row.{row_of};
+    ghost use Rattle.type_chunks.specs.TypeChunk.{type_chunk_of};
+    ghost use Rattle.type_chunks.specs.Entries.{row_of_index};
+    ghost use Rattle.type_chunks.specs.TypeRows.{row_at};
+
+    /// The row of an index, where there is one: in constant time, read anew each time.
+    #[tactic(auto, unfolding(crate::specs::TypeRows::row_at))]
+    pub fn row(&self, index: u32) -> Option<Row<'a>>
+        ensures { option_map row_of result ≡ row_at self.now index }
+    {
+        if index >= self.chunk.entry_count {
+            return None;
+        }
+        self.row_within(index)
+    }
+
+    // The row of an index of the type, where there is one.
+    #[tactic(auto, unfolding(crate::specs::Entries::row_of_index))]
+    pub(crate) fn row_within(&self, index: u32) -> Option<Row<'a>>
+        requires { index < self.now.chunk.entry_count }
+        ensures { option_to_list (option_map row_of result) ≡ row_of_index (type_chunk_of self.now.chunk) index }
+    {
+        self.chunk.entry(index)
     }
 }

@@ -4,7 +4,7 @@ ghost use Rattle.std.specs.Prelude.{◌≡◌};
 ghost use Rattle.type_chunks.specs.declared.fault.TableFault.TheVariants.{Chunk as in_chunk, OutOfMemory};
 
 use chunk_walk::ChunkFault;
-use std::alloc::AllocFailed;
+use std::alloc::{AllocError, AllocFailed};
 use string_pool::PoolFault;
 use thiserror::Error;
 
@@ -59,6 +59,14 @@ impl From<ChunkFault> for TableFault {
 
     fn from(fault: ChunkFault) -> TableFault {
         TableFault::Chunk(fault)
+    }
+}
+
+impl From<AllocError> for TableFault {
+    ghost from_gives = { λ _ e. e ≡ OutOfMemory };
+
+    fn from(_error: AllocError) -> TableFault {
+        TableFault::OutOfMemory
     }
 }
 

@@ -19,8 +19,12 @@
 //! `specs/Entry.antt`.
 #![tactic(auto)]
 
+mod bag_checks;
+mod checked_type;
 mod entry;
+mod entry_check;
 mod entry_flags;
+mod entry_offsets;
 mod fault;
 mod known_children;
 mod known_specs;
@@ -30,16 +34,21 @@ mod owner;
 mod package;
 mod package_children;
 mod package_header;
+mod package_rows;
 mod pool;
 mod row;
 mod rows;
 mod table;
 mod type_chunk;
 mod type_flags;
+mod type_rows;
 mod type_spec;
 
+pub use checked_type::CheckedType;
 pub use fault::TableFault;
 pub use package::Package;
+pub use package_rows::PackageRows;
 pub use row::Row;
-pub use rows::{AllRows, PackageRows, Rows};
+pub use rows::{AllRows, Rows};
 pub use table::Table;
+pub use type_rows::TypeRows;

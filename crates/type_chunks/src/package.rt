@@ -1,15 +1,14 @@
 //! Packages.
 
-ghost use Rattle.std.specs.Prelude.{◌≡◌, ◌<◌, ◌^◌, length, slice_get};
-ghost use Rattle.std.specs.Option.{option_map};
+ghost use Rattle.std.specs.Prelude.{◌≡◌, ◌<◌, ◌^◌, length};
 
+use crate::checked_type::CheckedType;
 use crate::fault::TableFault;
 use crate::layout::package_header as header;
 use crate::owner::Owner;
-use crate::package_children::push_children;
+use crate::package_children::types_of_children;
 use crate::package_header::{name_within, open_names, type_id_offset};
-use crate::row::Row;
-use crate::rows::PackageRows;
+use crate::package_rows::PackageRows;
 use chunk_walk::{Chunk, ChunkFault, u32_within};
 use std::alloc::Global;
 use string_pool::{Pool, Text};
@@ -22,8 +21,8 @@ pub struct Package<'a> {
     pub(crate) type_names: Pool<'a>,
     pub(crate) key_names: Pool<'a>,
     pub(crate) type_id_offset: u32,
-    pub(crate) rows: Vec<Row<'a>>,
-    ghost few: { length rows.items < 2 ^ 63 },
+    pub(crate) types: Vec<CheckedType<'a>>,
+    ghost few: { length types.items < 2 ^ 29 },
 }
 
 impl<'a> Package<'a> {
@@ -31,7 +30,7 @@ impl<'a> Package<'a> {
     ghost use Rattle.contract_words.specs.Exact.{GivesOr};
     ghost use Rattle.string_pool.specs.Text.{text_of};
     ghost use Rattle.type_chunks.specs.declared.fault.TableFault.TheVariants.{OutOfMemory};
-    ghost use Rattle.type_chunks.specs.Row.{row_of, views_of};
+    ghost use Rattle.type_chunks.specs.TypeRows.{rows_of_types};
     ghost use Rattle.type_chunks.specs.Package.{package_of, package_in};
 
     /// The package that a chunk is; `index` packages stand before it.
@@ -53,15 +52,14 @@ impl<'a> Package<'a> {
         let id = id as u8;
         let type_names = open_names(chunk, u32_within(chunk.header, header::TYPE_NAMES))?;
         let key_names = open_names(chunk, u32_within(chunk.header, header::KEY_NAMES))?;
-        let mut rows = Vec::new(alloc);
-        push_children(Owner { id, index }, chunk, &mut rows)?;
+        let types = types_of_children(alloc, Owner { id, index }, chunk)?;
         Ok(Package {
             id,
             name: name_within(chunk),
             type_names,
             key_names,
             type_id_offset: type_id_offset(chunk),
-            rows,
+            types,
         })
     }
 
@@ -82,13 +80,13 @@ impl<'a> Package<'a> {
     pub fn rows(&self) -> PackageRows<'_, 'a>
         ensures { result ≡ (package_of self.now).rows }
     {
-        PackageRows::new(&self.rows)
+        PackageRows::new(&self.types)
     }
 
-    /// The row of an index among its rows, in constant time.
-    pub fn row(&self, index: usize) -> Option<Row<'a>>
-        ensures { option_map row_of result ≡ slice_get (package_of self.now).rows index }
+    /// Its types, in the order of the file: each the entries of one type id for one configuration.
+    pub fn types(&self) -> &[CheckedType<'a>]
+        ensures { rows_of_types result.now ≡ (package_of self.now).rows }
     {
-        self.rows.get(index).copied()
+        &self.types
     }
 }

@@ -1,53 +1,62 @@
-//! The rows of a package.
+//! The types of a package.
 
-ghost use Rattle.std.specs.Prelude.{◌≡◌, ◌<◌, ◌∷◌, List, Result, OnOk};
+ghost use Rattle.std.specs.Prelude.{◌≡◌, ◌≢◌, ◌+◌, ◌<◌, ◌≤◌, ◌^◌, ◌∷◌, length, List, Result, Err, OnOk, IfOk, IfErr};
 ghost use Rattle.chunk_walk.specs.Chunk.{ChunkOf, chunk_of, seen};
 ghost use Rattle.chunk_walk.specs.declared.chunk.ChunkFault.{ChunkFault};
+ghost use Rattle.contract_words.specs.Exact.{GivesOr};
 ghost use Rattle.contract_words.specs.Sequences.{Pushes};
 ghost use Rattle.type_chunks.specs.declared.fault.TableFault.TheVariants.{OutOfMemory};
+ghost use Rattle.type_chunks.specs.Entries.{AreRead};
 ghost use Rattle.type_chunks.specs.KnownSpecs.{Knows};
-ghost use Rattle.type_chunks.specs.Row.{views_of};
 ghost use Rattle.type_chunks.specs.TypeChunk.{type_chunk_of};
-ghost use Rattle.type_chunks.specs.Entry.{rows_of_entry};
+ghost use Rattle.type_chunks.specs.TypeRows.{rows_of_types};
 ghost use Rattle.type_chunks.specs.PackageChildren.{rows_of_entries, rows_of_child, rows_of_children};
 
+use crate::bag_checks::BagChecks;
+use crate::checked_type::CheckedType;
 use crate::fault::TableFault;
 use crate::known_specs::KnownSpecs;
 use crate::layout::kind;
 use crate::owner::Owner;
-use crate::row::Row;
 use crate::type_chunk::TypeChunk;
 use crate::type_spec::TypeSpec;
 use chunk_walk::{Chunk, ChunkFault};
+use std::alloc::Global;
 
-/// Pushes the rows of the chunks in a package.
+/// The types among the chunks in a package, each of its entries checked.
 #[tactic(auto, using(contract_words::proofs::SequenceSteps::knowing_steps))]
-pub(crate) fn push_children<'a>(
+pub(crate) fn types_of_children<'a>(
+    alloc: Global,
     owner: Owner,
     chunk: &Chunk<'a>,
-    rows: &mut Vec<Row<'a>>,
-) -> Result<(), TableFault>
-    ensures { Pushes OutOfMemory (views_of rows.old.items) (views_of rows.new.items) result (rows_of_children owner (chunk_of chunk.now)) }
+) -> Result<Vec<CheckedType<'a>>, TableFault>
+    ensures rows { GivesOr OutOfMemory (λ types. rows_of_types types.items) result (rows_of_children owner (chunk_of chunk.now)) }
+
+    // A chunk is shorter than 4 GiB, so it holds few types.
+    ensures few { IfOk result (λ types. length types.items < 2 ^ 29) }
 {
+    let mut types = Vec::new(alloc);
     let mut specs = KnownSpecs::new();
     for found in chunk.children() {
-        push_child(owner, found, &mut specs, rows)?;
+        push_child(alloc, owner, found, &mut specs, &mut types)?;
     }
-    Ok(())
+    Ok(types)
 }
 
-// Pushes the rows of a chunk in a package; `specs` has the type specs before it.
+// Pushes a chunk in a package, where it is a type; `specs` has the type specs before it.
 #[tactic(auto, unfolding(crate::specs::PackageChildren::rows_of_child))]
 fn push_child<'a>(
+    alloc: Global,
     owner: Owner,
     found: Result<Chunk<'a>, ChunkFault>,
     specs: &mut KnownSpecs<'a>,
-    rows: &mut Vec<Row<'a>>,
+    types: &mut Vec<CheckedType<'a>>,
 ) -> Result<(), TableFault>
     ensures known { (before : List (Result ChunkOf ChunkFault)) → Knows specs.old before
         → OnOk result (Knows specs.new (seen found.entry ∷ before)) }
+    ensures one { length types.new.items ≤ length types.old.items + 1 }
     ensures rows { (before : List (Result ChunkOf ChunkFault)) → Knows specs.old before
-        → Pushes OutOfMemory (views_of rows.old.items) (views_of rows.new.items) result (rows_of_child owner (before, seen found.entry)) }
+        → Pushes OutOfMemory (rows_of_types types.old.items) (rows_of_types types.new.items) result (rows_of_child owner (before, seen found.entry)) }
 {
     let chunk = found?;
     match chunk.kind {
@@ -55,33 +64,36 @@ fn push_child<'a>(
             specs.keep(TypeSpec::read(&chunk)?);
             Ok(())
         }
-        kind::TYPE => push_type(&TypeChunk::read(owner, specs, &chunk)?, rows),
+        kind::TYPE => push_type(alloc, TypeChunk::read(owner, specs, &chunk)?, types),
         _ => Ok(()),
     }
 }
 
-// Pushes the rows of the entries of a type.
-#[tactic(auto, using(contract_words::proofs::SequenceSteps::from_steps))]
-fn push_type<'a>(chunk: &TypeChunk<'a>, rows: &mut Vec<Row<'a>>) -> Result<(), TableFault>
-    ensures { Pushes OutOfMemory (views_of rows.old.items) (views_of rows.new.items) result (rows_of_entries (type_chunk_of chunk.now)) }
+// Pushes a type, each entry of which is checked first.
+fn push_type<'a>(
+    alloc: Global,
+    chunk: TypeChunk<'a>,
+    types: &mut Vec<CheckedType<'a>>,
+) -> Result<(), TableFault>
+    ensures one { length types.new.items ≤ length types.old.items + 1 }
+    ensures rows { Pushes OutOfMemory (rows_of_types types.old.items) (rows_of_types types.new.items) result (rows_of_entries (type_chunk_of chunk.entry)) }
 {
-    for index in 0..chunk.entry_count {
-        push_entry(chunk, index, rows)?;
-    }
+    check_entries(alloc, &chunk)?;
+    types.push(CheckedType { chunk })?;
     Ok(())
 }
 
-// Pushes the row of an entry, where there is one.
-fn push_entry<'a>(
-    chunk: &TypeChunk<'a>,
-    index: u32,
-    rows: &mut Vec<Row<'a>>,
-) -> Result<(), TableFault>
-    requires { index < chunk.now.entry_count }
-    ensures { Pushes OutOfMemory (views_of rows.old.items) (views_of rows.new.items) result (rows_of_entry (type_chunk_of chunk.now) index) }
+// The first fault of the entries of a type.
+#[tactic(auto, using(crate::proofs::EntriesSteps::check_steps))]
+fn check_entries(alloc: Global, chunk: &TypeChunk<'_>) -> Result<(), TableFault>
+    ensures read { OnOk result (AreRead (type_chunk_of chunk.now) chunk.now.entry_count) }
+    ensures fault { IfErr result (λ fault. fault ≢ OutOfMemory → rows_of_entries (type_chunk_of chunk.now) ≡ Err fault) }
 {
-    if let Some(row) = chunk.entry(index)? {
-        rows.push(row)?;
+    let mut bags = BagChecks::new(alloc, chunk.whole);
+    let mut from = 0;
+    while let Some(index) = chunk.next_entry(from) {
+        chunk.check_entry(alloc, &mut bags, index)?;
+        from = index + 1;
     }
     Ok(())
 }

@@ -2,55 +2,16 @@
 
 ghost use Rattle.std.specs.Prelude.{◌≡◌, ◌*◌, ◌≤◌, ◌^◌, [], length};
 
+use crate::checked_type::CheckedType;
 use crate::package::Package;
+use crate::package_rows::PackageRows;
 use crate::row::Row;
 use res_value::ResId;
 use std::marker::Model;
 use std::slice::Iter;
 
-/// The rows of a package that are left, in the order of the file.
-#[derive(Drop)]
-pub struct PackageRows<'t, 'a> {
-    left: Iter<'t, Row<'a>>,
-}
-
-impl<'t, 'a> Model for PackageRows<'t, 'a> {
-    ghost use Rattle.std.specs.Prelude.{List};
-    ghost use Rattle.std.specs.Slice.Iter.{iter_rest};
-    ghost use Rattle.type_chunks.specs.Row.{RowOf, views_of};
-
-    ghost Value = { List RowOf };
-
-    ghost view = { λ s. views_of (iter_rest s.left) };
-}
-
-impl<'t, 'a> PackageRows<'t, 'a> {
-    ghost use Rattle.type_chunks.specs.Row.{views_of};
-
-    pub(crate) fn new(rows: &'t [Row<'a>]) -> Self
-        ensures { result ≡ views_of rows.now }
-    {
-        PackageRows { left: rows.iter() }
-    }
-}
-
-impl<'t, 'a> Iterator for PackageRows<'t, 'a> {
-    ghost use Rattle.std.specs.Iterator.{YieldsFirstBy, item_count};
-    ghost use Rattle.type_chunks.specs.Row.{row_of};
-
-    type Item = Row<'a>;
-
-    ghost next_gives = { YieldsFirstBy row_of (λ s. s) };
-
-    ghost remaining = { item_count (λ s. s) };
-
-    fn next(&mut self) -> Option<Row<'a>> {
-        self.left.next().copied()
-    }
-}
-
-// The rows before the first package.
-fn no_rows<'t, 'a>() -> &'t [Row<'a>]
+// The types before the first package.
+fn no_types<'t, 'a>() -> &'t [CheckedType<'a>]
     ensures { result.now ≡ [] }
 {
     &[]
@@ -78,13 +39,13 @@ impl<'t, 'a> Model for AllRows<'t, 'a> {
 impl<'t, 'a> AllRows<'t, 'a> {
     ghost use Rattle.type_chunks.specs.Package.{packages_of, rows_of_packages};
 
-    #[tactic(auto, using(crate::proofs::RowsSteps::rows_steps))]
+    #[tactic(auto, using(crate::proofs::RowsSteps::rows_steps, crate::proofs::TypeRowsSteps::types_steps))]
     pub(crate) fn new(packages: &'t [Package<'a>]) -> Self
         ensures rows { result ≡ rows_of_packages (packages_of packages.now) }
         ensures few { length result ≤ length packages.now * 2 ^ 63 }
     {
         AllRows {
-            left: PackageRows::new(no_rows()),
+            left: PackageRows::new(no_types()),
             packages: packages.iter(),
         }
     }

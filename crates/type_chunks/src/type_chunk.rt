@@ -28,6 +28,8 @@ pub(crate) struct TypeChunk<'a> {
     pub offsets: &'a [u8],
     pub whole: &'a [u8],
     ghost in_range: { place + length whole.now < 2 ^ 63 },
+    ghost small: { length whole.now < 2 ^ 32 },
+    ghost few: { entry_count < 2 ^ 32 },
     ghost offsets_fit: { entry_offset_size * entry_count ≤ length offsets.now },
 }
 

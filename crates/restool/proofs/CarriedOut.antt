@@ -1,0 +1,12 @@
+-- A command that is done on what was read.
+use Rattle.std.proofs.Common.{◌≡◌, Option, Some, None, IfSome, Result, Ok}
+use Rattle.resource_text.specs.declared.fault.ToolFault.{ToolFault}
+use Rattle.resource_tool.specs.declared.status.Status.{Status}
+use Rattle.restool.specs.Stop.{StopOf}
+use Rattle.restool.specs.Inputs.{Places}
+use Rattle.restool.specs.Answers.{CarriesOut}
+
+pub carried_out : {X : Type 0} (Command : X → Result Status ToolFault → Type 0) (known : Option Places) (meant : Places → Result X StopOf) (read : X) (status : Status)
+    → IfSome known (λ places. meant places ≡ Ok read) → Command read (Ok status) → IfSome known (λ places. CarriesOut Command (meant places) (Ok status))
+carried_out Command None meant read status is_read done = tt
+carried_out Command (Some places) meant read status is_read done = (read, is_read, done)

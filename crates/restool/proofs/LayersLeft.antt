@@ -1,0 +1,90 @@
+-- How a loop reads the files of one layer after the other.
+use Rattle.std.proofs.Common.{◌≡◌, ◌≢◌, ℕ, List, [], ◌∷◌, ◌++◌, map, Option, Some, None, IfSome, Result, Ok, Err, refl, sym, ap, ◌∙◌, append_assoc, length, arith, Vec, String}
+use Rattle.std.specs.declared.alloc.Global.{Global}
+use Rattle.std.proofs.lemmas.List.{append-nil, map-append}
+use Rattle.contract_words.specs.Faults.{◌>>=◌}
+use Rattle.contract_words.specs.Sequences.{with_front}
+use Rattle.contract_words.proofs.SequenceSteps.{with_front_nil}
+use Rattle.json_input.specs.Each.{each}
+use Rattle.resource_text.specs.declared.fault.ToolFault.TheVariants.{OutOfMemory}
+use Rattle.resource_tool.specs.LayerList.{LayerPaths}
+use Rattle.resource_tool.specs.LayerListSeen.{paths_of}
+use Rattle.resource_tool.specs.StackBytes.{LayerBytes}
+use Rattle.restool.specs.declared.stop.Stop.{Stop}
+use Rattle.restool.specs.Stop.{StopOf, tool, stop_of, GivesOrStops}
+use Rattle.restool.specs.Inputs.{Places, layer_of}
+use Rattle.restool.specs.FilesSeen.{layer_held}
+
+-- ---- what is read of several things, where some are left
+
+with_front-twice : {X E : Type 0} (a b : List X) (r : Result (List X) E) → with_front a (with_front b r) ≡ with_front (a ++ b) r
+with_front-twice {X} {E} a b (Ok xs) = let wrapped : List X → Result (List X) E = λ t. Ok t in ap wrapped (sym (append_assoc a b xs))
+with_front-twice a b (Err e) = refl
+
+each-ok : {A X E : Type 0} (f : A → Result X E) (a : A) (others : List A) (x : X) → f a ≡ Ok x → each f (a ∷ others) ≡ with_front (x ∷ []) (each f others)
+unfolding each
+each-ok {A} {X} {E} f a others x given = ap (λ (r : Result X E). r >>= (λ x. with_front (x ∷ []) (each f others))) given
+
+each-err : {A X E : Type 0} (f : A → Result X E) (a : A) (others : List A) (e : E) → f a ≡ Err e → each f (a ∷ others) ≡ Err e
+unfolding each
+each-err {A} {X} {E} f a others e given = ap (λ (r : Result X E). r >>= (λ x. with_front (x ∷ []) (each f others))) given
+
+each-nil : {A X E : Type 0} (f : A → Result X E) → each f [] ≡ Ok []
+unfolding each
+each-nil f = refl
+
+left-next : {A X E : Type 0} (f : A → Result X E) (so_far : List X) (a : A) (others all : List A) (x : X)
+    → with_front so_far (each f (a ∷ others)) ≡ each f all → f a ≡ Ok x → with_front (so_far ++ x ∷ []) (each f others) ≡ each f all
+left-next f so_far a others all x before given =
+    sym (with_front-twice so_far (x ∷ []) (each f others)) ∙ ap (with_front so_far) (sym (each-ok f a others x given)) ∙ before
+
+left-stops : {A X E : Type 0} (f : A → Result X E) (so_far : List X) (a : A) (others all : List A) (e : E)
+    → with_front so_far (each f (a ∷ others)) ≡ each f all → f a ≡ Err e → each f all ≡ Err e
+left-stops f so_far a others all e before given = sym before ∙ ap (with_front so_far) (each-err f a others e given)
+
+left-end : {A X E : Type 0} (f : A → Result X E) (so_far : List X) (all : List A) → with_front so_far (each f []) ≡ each f all → each f all ≡ Ok so_far
+left-end {A} {X} {E} f so_far all before =
+    let wrapped : List X → Result (List X) E = λ t. Ok t in
+    sym before ∙ ap (with_front so_far) (each-nil f) ∙ ap wrapped (append-nil so_far)
+
+-- ---- of layers
+
+abbrev pub Layer : Type 0
+Layer = Vec ℕ Global × Option (Vec ℕ Global)
+
+abbrev pub Paths : Type 0
+Paths = String Global × Option (String Global)
+
+-- where it is known what the places have: the layers so far, and those that are left, are all layers
+abbrev pub LayersLeft : Option Places → List Layer → List Paths → List Paths → Type 0
+LayersLeft known so_far left all =
+    IfSome known (λ places. with_front (map layer_held so_far) (each (layer_of places) (map paths_of left)) ≡ each (layer_of places) (map paths_of all))
+
+pub LayersLeft-none : (known : Option Places) (all : List Paths) → LayersLeft known [] all all
+LayersLeft-none None all = tt
+LayersLeft-none (Some places) all = with_front_nil (each (layer_of places) (map paths_of all))
+
+pub LayersLeft-next : (known : Option Places) (so_far : List Layer) (a : Paths) (others all : List Paths) (layer : Layer)
+    → LayersLeft known so_far (a ∷ others) all → IfSome known (λ places. layer_of places (paths_of a) ≡ Ok (layer_held layer))
+    → LayersLeft known (so_far ++ layer ∷ []) others all
+LayersLeft-next None so_far a others all layer before given = tt
+LayersLeft-next (Some places) so_far a others all layer before given =
+    ap (λ (held : List LayerBytes). with_front held (each (layer_of places) (map paths_of others))) (map-append layer_held so_far (layer ∷ []))
+    ∙ left-next (layer_of places) (map layer_held so_far) (paths_of a) (map paths_of others) (map paths_of all) (layer_held layer) before given
+
+pub LayersLeft-stops : (known : Option Places) (so_far : List Layer) (a : Paths) (others all : List Paths) (stop : Stop)
+    → LayersLeft known so_far (a ∷ others) all
+    → IfSome known (λ places. stop_of stop ≢ tool OutOfMemory → layer_of places (paths_of a) ≡ Err (stop_of stop))
+    → IfSome known (λ places. stop_of stop ≢ tool OutOfMemory → each (layer_of places) (map paths_of all) ≡ Err (stop_of stop))
+LayersLeft-stops None so_far a others all stop before given = tt
+LayersLeft-stops (Some places) so_far a others all stop before given =
+    λ told. left-stops (layer_of places) (map layer_held so_far) (paths_of a) (map paths_of others) (map paths_of all) (stop_of stop) before (given told)
+
+pub LayersLeft-end : (known : Option Places) (so_far : List Layer) (all : List Paths)
+    → LayersLeft known so_far [] all → IfSome known (λ places. each (layer_of places) (map paths_of all) ≡ Ok (map layer_held so_far))
+LayersLeft-end None so_far all before = tt
+LayersLeft-end (Some places) so_far all before = left-end (layer_of places) (map layer_held so_far) (map paths_of all) before
+
+pub none_left : {X : Type 0} (xs : List X) → length xs ≡ 0 → xs ≡ []
+none_left [] none = refl
+none_left (x ∷ xs) none = absurd (omega arith)

@@ -1,0 +1,35 @@
+-- How contracts see the table of the program's commands.
+use Rattle.std.specs.Prelude.{◌≡◌, ℕ, false, List, map, fold}
+use Rattle.clap.specs.Walk.{Rule}
+use Rattle.clap.specs.Simple.{App, Shape, new_app, with_rule, with_subcommand}
+use Rattle.clap.specs.declared.builder.command.Command.{Command}
+use Rattle.clap.specs.declared.builder.command.Command.TheViews.{out-Command}
+use Rattle.restool.specs.declared.command_line.Subcommand.{Subcommand}
+use Rattle.restool.specs.declared.command_line.Argument.{Argument}
+use Rattle.restool.specs.declared.command_line.Takes.TheVariants.{OneWord, Words, Nothing, Nodes}
+use Rattle.restool.specs.declared.command_line.Takes.{Takes}
+use Rattle.restool.specs.CommandLine.{one_word, several_words, flag, nodes}
+
+abbrev pub rule_taking : Takes → List ℕ → Rule
+rule_taking OneWord name = one_word name
+rule_taking Words name = several_words name
+rule_taking Nothing name = flag name
+rule_taking Nodes name = nodes name
+
+abbrev pub rule_seen : Argument → Rule
+rule_seen argument = rule_taking argument.takes argument.name.now
+
+-- a command with these arguments too
+abbrev pub with_arguments : App → List Argument → App
+with_arguments app arguments = fold with_rule app (map rule_seen arguments)
+
+abbrev pub command_seen : Subcommand → Shape
+command_seen subcommand = (with_arguments (new_app subcommand.name.now) subcommand.arguments.now).top
+
+-- a program with these commands too
+abbrev pub with_commands : App → List Subcommand → App
+with_commands app subcommands = fold with_subcommand app (map command_seen subcommands)
+
+-- no argument belongs to more commands than this one
+abbrev pub IsLocal : Command → Type 0
+IsLocal command = (out-Command command).has_globals ≡ false

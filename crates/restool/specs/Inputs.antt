@@ -1,0 +1,95 @@
+-- What is read, and in which order.
+use Rattle.std.specs.Prelude.{ℕ, List, codes, Option, Some, None, Result, Ok, Err, if◌then◌else◌}
+use Rattle.std.specs.Str.{bytes_eq}
+use Rattle.contract_words.specs.Faults.{◌>>=◌}
+use Rattle.json_input.specs.Each.{each}
+use Rattle.resource_text.specs.ToolFault.{fault_of_layers}
+use Rattle.resource_text.specs.declared.fault.ToolFault.TheVariants as faults
+use Rattle.resource_tool.specs.LayerList.{LayerPaths, layers_in}
+use Rattle.resource_tool.specs.StackBytes.{LayerBytes}
+use Rattle.resource_tool.specs.declared.input.InputFault.{InputFault}
+use Rattle.resource_tool.specs.declared.input.InputFault.TheVariants.{Read, TooLarge, OutOfMemory}
+use Rattle.restool.specs.Stop.{StopOf, file, tool}
+use Rattle.restool.specs.Place.{Place, standard_input, at_path}
+
+-- what each place has: bytes, or why they are not read
+abbrev pub Places : Type 0
+Places = Place → Result (List ℕ) InputFault
+
+-- a table lies at its path, or where that is `-` on the standard input
+abbrev pub table_place : List ℕ → Place
+table_place path = if bytes_eq path (codes "-") then standard_input else at_path path
+
+-- why the program stops where the bytes for a path are not read
+abbrev pub stop_at : List ℕ → InputFault → StopOf
+stop_at path Read = file path
+stop_at path TooLarge = file path
+stop_at path OutOfMemory = tool faults.OutOfMemory
+
+abbrev pub or_stop : {X E : Type 0} → (E → StopOf) → Result X E → Result X StopOf
+or_stop stop (Ok x) = Ok x
+or_stop stop (Err fault) = Err (stop fault)
+
+abbrev pub table_of : Places → List ℕ → Result (List ℕ) StopOf
+table_of places path = or_stop (stop_at path) (places (table_place path))
+
+abbrev pub file_of : Places → List ℕ → Result (List ℕ) StopOf
+file_of places path = or_stop (stop_at path) (places (at_path path))
+
+-- the id map of a layer, where it has one
+abbrev pub map_of : Places → Option (List ℕ) → Result (Option (List ℕ)) StopOf
+map_of places None = Ok None
+map_of places (Some path) = file_of places path >>= λ map. Ok (Some map)
+
+-- a layer: its table and then its id map
+unfoldable pub layer_of : Places → LayerPaths → Result LayerBytes StopOf
+layer_of places paths = do
+  table ← file_of places paths.table
+  map ← map_of places paths.map
+  Ok (record { table = table; map = map })
+
+-- the layers that a list names: first the list, and then the files of each layer in turn
+unfoldable pub layers_of : Places → List ℕ → Result (List LayerBytes) StopOf
+layers_of places path = do
+  json ← file_of places path
+  layers ← or_stop (λ fault. tool (fault_of_layers fault)) (layers_in json)
+  each (layer_of places) layers
+
+-- ---- the files of a request
+
+pub record DeviceInputs : Type 0 where
+  pub layers : List LayerBytes
+  pub device : List ℕ
+
+-- layers and then a device
+unfoldable pub device_files : Places → List ℕ → List ℕ → Result DeviceInputs StopOf
+device_files places layers device = do
+  layers ← layers_of places layers
+  device ← file_of places device
+  Ok (record { layers = layers; device = device })
+
+pub record BoxInputs : Type 0 where
+  pub layers : List LayerBytes
+  -- the bytes of the box
+  pub members : List ℕ
+
+-- layers and then a box
+unfoldable pub box_files : Places → List ℕ → List ℕ → Result BoxInputs StopOf
+box_files places layers members = do
+  layers ← layers_of places layers
+  members ← file_of places members
+  Ok (record { layers = layers; members = members })
+
+pub record CheckInputs : Type 0 where
+  pub layers : List LayerBytes
+  -- the bytes of the box
+  pub members : List ℕ
+  pub certificate : List ℕ
+
+-- layers, then a box and then a certificate
+unfoldable pub check_files : Places → List ℕ → List ℕ → List ℕ → Result CheckInputs StopOf
+check_files places layers members certificate = do
+  layers ← layers_of places layers
+  members ← file_of places members
+  certificate ← file_of places certificate
+  Ok (record { layers = layers; members = members; certificate = certificate })

@@ -1,0 +1,165 @@
+//! The files of a request, in the order in which they are read.
+
+ghost use Rattle.std.specs.Prelude.{◌≡◌, map, IfOk, IfSome};
+ghost use Rattle.json_input.specs.Each.{each};
+ghost use Rattle.resource_tool.specs.LayerListSeen.{paths_of, all_paths_of};
+ghost use Rattle.resource_tool.specs.StackBytesSeen.{layer_bytes};
+ghost use Rattle.restool.specs.Stop.{GivesOrStops};
+ghost use Rattle.restool.specs.Inputs.{layer_of, layers_of, device_files, box_files, check_files};
+ghost use Rattle.restool.specs.FilesSeen.{layer_held, all_held, layers_held, device_held, box_held, check_held};
+
+use crate::input::{Inputs, file_bytes, layer_file};
+use crate::stop::Stop;
+use resource_tool::LayerList;
+use std::alloc::{AllocError, Global};
+
+/// The bytes of the files of layers: each table with its id map, if it is an overlay.
+#[derive(Drop)]
+pub struct LayerFiles {
+    files: Vec<(Vec<u8>, Option<Vec<u8>>)>,
+}
+
+impl LayerFiles {
+    /// Reads a list of layers, and then the files that it names, each table before its id map.
+    #[tactic(auto, unfolding(crate::specs::Inputs::layers_of))]
+    pub fn read<'a, I: Inputs>(
+        alloc: Global,
+        inputs: &I,
+        path: &'a str,
+    ) -> Result<LayerFiles, Stop<'a>>
+        ensures { IfSome (I.places inputs.now) (λ places. GivesOrStops layers_held result (layers_of places path.entry.now)) }
+    {
+        let json = file_bytes(inputs, path)?;
+        let list = LayerList::read(alloc, &json)?;
+        let files = read_each_layer(alloc, inputs, list.paths)?;
+        Ok(LayerFiles { files })
+    }
+
+    /// The layers, lent.
+    pub fn layers(&self, alloc: Global) -> Result<Vec<(&[u8], Option<&[u8]>)>, AllocError>
+        ensures { IfOk result (λ layers. map layer_bytes layers.items ≡ layers_held self.now) }
+    {
+        let mut layers = Vec::new(alloc);
+        for (table, map) in &self.files {
+            layers.push((table.as_slice(), map.as_deref()))?;
+        }
+        Ok(layers)
+    }
+}
+
+fn read_each_layer<I: Inputs>(
+    alloc: Global,
+    inputs: &I,
+    paths: Vec<(String, Option<String>)>,
+) -> Result<Vec<(Vec<u8>, Option<Vec<u8>>)>, Stop<'static>>
+    ensures { IfSome (I.places inputs.now) (λ places. GivesOrStops all_held result (each (layer_of places) (all_paths_of paths))) }
+{
+    let mut files = Vec::new(alloc);
+    for layer in paths {
+        let read = read_layer(inputs, layer)?;
+        files.push(read)?;
+    }
+    Ok(files)
+}
+
+#[tactic(auto, unfolding(crate::specs::Inputs::layer_of))]
+fn read_layer<I: Inputs>(
+    inputs: &I,
+    paths: (String, Option<String>),
+) -> Result<(Vec<u8>, Option<Vec<u8>>), Stop<'static>>
+    ensures { IfSome (I.places inputs.now) (λ places. GivesOrStops layer_held result (layer_of places (paths_of paths))) }
+{
+    let (table, map) = paths;
+    let table = layer_file(inputs, table)?;
+    match map {
+        Some(path) => {
+            let map = layer_file(inputs, path)?;
+            Ok((table, Some(map)))
+        }
+        None => Ok((table, None)),
+    }
+}
+
+/// The bytes of layers and of a device.
+#[derive(Drop)]
+pub struct DeviceFiles {
+    pub layers: LayerFiles,
+    pub device: Vec<u8>,
+}
+
+impl DeviceFiles {
+    /// Reads a list of layers with the files that it names, and then a device.
+    #[tactic(auto, unfolding(crate::specs::Inputs::device_files))]
+    pub fn read<'a, I: Inputs>(
+        alloc: Global,
+        inputs: &I,
+        layers: &'a str,
+        device: &'a str,
+    ) -> Result<DeviceFiles, Stop<'a>>
+        ensures { IfSome (I.places inputs.now) (λ places. GivesOrStops device_held result
+            (device_files places layers.entry.now device.entry.now)) }
+    {
+        let layers = LayerFiles::read(alloc, inputs, layers)?;
+        let device = file_bytes(inputs, device)?;
+        Ok(DeviceFiles { layers, device })
+    }
+}
+
+/// The bytes of layers and of a box.
+#[derive(Drop)]
+pub struct BoxFiles {
+    pub layers: LayerFiles,
+    /// Those of the box.
+    pub members: Vec<u8>,
+}
+
+impl BoxFiles {
+    /// Reads a list of layers with the files that it names, and then a box.
+    #[tactic(auto, unfolding(crate::specs::Inputs::box_files))]
+    pub fn read<'a, I: Inputs>(
+        alloc: Global,
+        inputs: &I,
+        layers: &'a str,
+        members: &'a str,
+    ) -> Result<BoxFiles, Stop<'a>>
+        ensures { IfSome (I.places inputs.now) (λ places. GivesOrStops box_held result
+            (box_files places layers.entry.now members.entry.now)) }
+    {
+        let layers = LayerFiles::read(alloc, inputs, layers)?;
+        let members = file_bytes(inputs, members)?;
+        Ok(BoxFiles { layers, members })
+    }
+}
+
+/// The bytes of layers, of a box and of a certificate.
+#[derive(Drop)]
+pub struct CheckFiles {
+    pub layers: LayerFiles,
+    /// Those of the box.
+    pub members: Vec<u8>,
+    pub certificate: Vec<u8>,
+}
+
+impl CheckFiles {
+    /// Reads a list of layers with the files that it names, then a box and then a certificate.
+    #[tactic(auto, unfolding(crate::specs::Inputs::check_files))]
+    pub fn read<'a, I: Inputs>(
+        alloc: Global,
+        inputs: &I,
+        layers: &'a str,
+        members: &'a str,
+        certificate: &'a str,
+    ) -> Result<CheckFiles, Stop<'a>>
+        ensures { IfSome (I.places inputs.now) (λ places. GivesOrStops check_held result
+            (check_files places layers.entry.now members.entry.now certificate.entry.now)) }
+    {
+        let layers = LayerFiles::read(alloc, inputs, layers)?;
+        let members = file_bytes(inputs, members)?;
+        let certificate = file_bytes(inputs, certificate)?;
+        Ok(CheckFiles {
+            layers,
+            members,
+            certificate,
+        })
+    }
+}

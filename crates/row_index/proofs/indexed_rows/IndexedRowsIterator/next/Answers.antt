@@ -1,0 +1,56 @@
+use Rattle.std.proofs.Common.{◌≡◌, [], ◌+◌, ◌-◌, length, take, refl, sym, ap, subst, ◌∙◌, arith, List, ℕ}
+use Rattle.std.proofs.lemmas.Grind.{common_steps}
+use Rattle.std.proofs.lemmas.Option.{slice_get_read}
+use Rattle.std.specs.Iterator.{YieldsFirstBy}
+use Rattle.type_chunks.specs.Row.{row_of}
+use Rattle.row_index.specs.Links.{numbers_from}
+use Rattle.row_index.specs.Places.{row_in, rows_in, StandIn}
+use Rattle.row_index.proofs.LinkSteps.{numbers_from-none, numbers_from-past, numbers_from-next}
+use Rattle.row_index.proofs.StandSteps.{GivesAll-tail, GivesAll-yields}
+use Rattle.row_index.proofs.indexed_rows.IndexedRowsIterator.next.Goals as goal
+
+pub returns-then-self-eq0-clause-steps : goal.returns-then-self-eq0-clause-steps
+returns-then-self-eq0-clause-steps c =
+    let nothing : numbers_from c.self.inside.links.now c.self.inside.next ≡ [] = rw c.if-self-eq0.true (numbers_from-none c.self.inside.links.now) in
+    let none = sym c.self.view_is ∙ ap (λ (numbers : List ℕ). rows_in c.self.inside.types.now c.self.inside.entry numbers) nothing in
+    (none, none)
+
+pub returns-in_default-clause-steps : goal.returns-in_default-clause-steps
+returns-in_default-clause-steps c =
+    let links = c.self.inside.links.now in
+    let last : c.self.inside.next ≡ c.self.inside.next - 1 + 1 = omega (arith, c.if-self-eq0.false) in
+    let past = ap (λ (n : ℕ). numbers_from links n) last ∙ numbers_from-past links (c.self.inside.next - 1) c.in_default.ensures.lookup.3 in
+    let none = sym c.self.view_is ∙ ap (λ (numbers : List ℕ). rows_in c.self.inside.types.now c.self.inside.entry numbers) past in
+    (none, none)
+
+-- in each type of the links that are left, and of the next, the entry is a row
+pub invariant_of-self-inside : goal.invariant_of-self-inside
+invariant_of-self-inside c =
+    let links = c.self.inside.links.now in
+    let link = c.in-Some.link.now in
+    let lookup = c.in-Some.ensures.lookup in
+    let last : c.self.inside.next ≡ c.self.inside.next - 1 + 1 = omega (arith, c.if-self-eq0.false) in
+    let found = slice_get_read links (length links) (c.self.inside.next - 1) link refl lookup.3.0 lookup.1 in
+    let numbers = ap (λ (n : ℕ). numbers_from links n) last ∙ numbers_from-next links (c.self.inside.next - 1) link found in
+    let those = subst (λ (l : List ℕ). StandIn c.self.inside.types.now c.self.inside.entry l (rows_in c.self.inside.types.now c.self.inside.entry l)) numbers c.self.inside.found in
+    rw c.split_at.ensures.front (GivesAll-tail (row_in c.self.inside.types.now c.self.inside.entry) link.type_number (numbers_from (take (c.self.inside.next - 1) links) link.next) those, tt)
+
+-- the row of the next link, and those that are left
+yields : (c : goal.After-find_row)
+    → YieldsFirstBy row_of (λ s. s) c.args.self.now c.find_row.result (rows_in c.self.inside.types.now c.self.inside.entry (numbers_from c.split_at.result.0.now c.in-Some.link.now.next))
+yields c =
+    let links = c.self.inside.links.now in
+    let link = c.in-Some.link.now in
+    let lookup = c.in-Some.ensures.lookup in
+    let last : c.self.inside.next ≡ c.self.inside.next - 1 + 1 = omega (arith, c.if-self-eq0.false) in
+    let found = slice_get_read links (length links) (c.self.inside.next - 1) link refl lookup.3.0 lookup.1 in
+    let numbers = ap (λ (n : ℕ). numbers_from links n) last ∙ numbers_from-next links (c.self.inside.next - 1) link found in
+    let those = subst (λ (l : List ℕ). StandIn c.self.inside.types.now c.self.inside.entry l (rows_in c.self.inside.types.now c.self.inside.entry l)) numbers c.self.inside.found in
+    let first = GivesAll-yields (row_in c.self.inside.types.now c.self.inside.entry) row_of link.type_number (numbers_from (take (c.self.inside.next - 1) links) link.next) c.find_row.result those c.find_row.ensures in
+    rw (sym c.self.view_is, numbers, c.split_at.ensures.front) first
+
+pub returns-clause-steps : goal.returns-clause-steps
+returns-clause-steps c = yields c
+
+pub returns-clause-goes : goal.returns-clause-goes
+returns-clause-goes c = let steps = yields c in grind (arith, common_steps, steps)

@@ -1,0 +1,10 @@
+//! A link of the rows of an id.
+
+/// A row of an id, and the link to the next row of that id.
+#[derive(Clone, Copy, Debug)]
+pub(crate) struct Link {
+    /// The number of its type among the types of the table. The id says the index of its entry there.
+    pub(crate) type_number: u32,
+    /// How many links stand up to the next one, with that one; 0 where no row of the id is left.
+    pub(crate) next: u32,
+}

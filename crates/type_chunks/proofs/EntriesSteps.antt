@@ -1,0 +1,73 @@
+-- How the entries of a type are gone through.
+use Rattle.std.proofs.Common.{◌≡◌, ℕ, zero, suc, ◌+◌, ◌-◌, ◌<◌, ◌≤◌, Bool, true, false, List, [], map, Result, Ok, Err, refl, sym, ap, ◌∙◌, arith}
+use Rattle.std.specs.Prelude.{IsOk, nat_lt}
+use borrow.Author.Count.{below_more}
+use Rattle.std.proofs.lemmas.Bool.Decides.{nat_tests}
+use Rattle.std.specs.List.{range_with_len, flat_map}
+use Rattle.contract_words.specs.Sequences.{joined, joined_each, joined_from}
+use Rattle.type_chunks.specs.declared.fault.TableFault.{TableFault}
+use Rattle.type_chunks.specs.Row.{RowOf}
+use Rattle.type_chunks.specs.TypeChunk.{TypeChunkOf}
+use Rattle.type_chunks.specs.Entry.{rows_of_entry}
+use Rattle.type_chunks.specs.PackageChildren.{rows_of_entries}
+use Rattle.type_chunks.specs.Entries.{is_empty, AreEmpty, AreRead, or_none, row_of_index, rows_from}
+
+-- where no entry is, nothing is wrong, and no row is
+pub empty-read : (chunk : TypeChunkOf) (index : ℕ) → is_empty chunk index ≡ true → rows_of_entry chunk index ≡ Ok []
+unfolding rows_of_entry
+empty-read chunk index none = rw none refl
+
+pub AreRead-empty : (chunk : TypeChunkOf) (from behind : ℕ) → AreRead chunk from → AreEmpty chunk from behind → AreRead chunk behind
+AreRead-empty chunk from behind read empty index below = by (nat_lt index from) refl
+  where
+    by : (b : Bool) → nat_lt index from ≡ b → IsOk (rows_of_entry chunk index)
+    by true e = read index (grind (arith, nat_tests))
+    by false e = rw (empty-read chunk index (empty index (grind (arith, nat_tests)) below)) refl
+
+pub AreRead-next : (chunk : TypeChunkOf) (from index : ℕ) → AreRead chunk from → AreEmpty chunk from index → IsOk (rows_of_entry chunk index) → AreRead chunk (index + 1)
+AreRead-next chunk from index read empty one = below_more (λ i. IsOk (rows_of_entry chunk i)) index (AreRead-empty chunk from index read empty) one
+
+-- ---- the rows of all entries, or the first fault
+
+module _ (f : ℕ → Result (List RowOf) TableFault) where
+  -- one more in front
+  joined-first : (s n : ℕ) (first : Result (List RowOf) TableFault) → f s ≡ first → IsOk first → joined (map f (range_with_len (s + 1) n)) ≡ Ok (flat_map (λ i. or_none (f i)) (range_with_len (s + 1) n))
+      → joined (map f (range_with_len s (suc n))) ≡ Ok (flat_map (λ i. or_none (f i)) (range_with_len s (suc n)))
+  unfolding joined
+  joined-first s n (Ok rows) e is others = rw (e, others) refl
+  joined-first s n (Err fault) e is others = absurd cc
+
+  joined-all : (s n : ℕ) → ((i : ℕ) → s ≤ i → i < s + n → IsOk (f i)) → joined (map f (range_with_len s n)) ≡ Ok (flat_map (λ i. or_none (f i)) (range_with_len s n))
+  unfolding joined
+  joined-all s zero all = refl
+  joined-all s (suc n) all = joined-first s n (f s) refl (all s (omega arith) (omega arith)) (joined-all (s + 1) n (λ i from below. all i (omega arith) (omega arith)))
+
+  -- a fault behind the first
+  fault-behind : (s n : ℕ) (first : Result (List RowOf) TableFault) (fault : TableFault) → f s ≡ first → IsOk first → joined (map f (range_with_len (s + 1) n)) ≡ Err fault → joined (map f (range_with_len s (suc n))) ≡ Err fault
+  unfolding joined
+  fault-behind s n (Ok rows) fault e is others = rw (e, others) refl
+  fault-behind s n (Err other) fault e is others = absurd cc
+
+  fault-first : (s n : ℕ) (fault : TableFault) → f s ≡ Err fault → joined (map f (range_with_len s (suc n))) ≡ Err fault
+  unfolding joined
+  fault-first s n fault e = rw e refl
+
+  joined-stops : (n s k : ℕ) (fault : TableFault) → k < n → ((i : ℕ) → s ≤ i → i < s + k → IsOk (f i)) → f (s + k) ≡ Err fault → joined (map f (range_with_len s n)) ≡ Err fault
+  joined-stops zero s k fault below all wrong = absurd (omega arith)
+  joined-stops (suc n) s zero fault below all wrong = let same : s + 0 ≡ s = omega arith in fault-first s n fault (ap f (sym same) ∙ wrong)
+  joined-stops (suc n) s (suc k) fault below all wrong =
+      let same : s + 1 + k ≡ s + suc k = omega arith in
+      fault-behind s n (f s) fault refl (all s (omega arith) (omega arith)) (joined-stops n (s + 1) k fault (omega arith) (λ i above less. all i (omega arith) (omega arith)) (ap f same ∙ wrong))
+
+pub rows_of_entries-read : (chunk : TypeChunkOf) → AreRead chunk chunk.entry_count → rows_of_entries chunk ≡ Ok (rows_from chunk 0)
+unfolding joined_from joined_each rows_from row_of_index
+rows_of_entries-read chunk read = joined-all (rows_of_entry chunk) 0 (chunk.entry_count - 0) (λ i from below. read i (omega arith))
+
+pub rows_of_entries-stops : (chunk : TypeChunkOf) (from index : ℕ) (fault : TableFault) → AreRead chunk from → AreEmpty chunk from index → index < chunk.entry_count
+    → rows_of_entry chunk index ≡ Err fault → rows_of_entries chunk ≡ Err fault
+unfolding joined_from joined_each
+rows_of_entries-stops chunk from index fault read empty within wrong =
+    let same : 0 + index ≡ index = omega arith in
+    joined-stops (rows_of_entry chunk) (chunk.entry_count - 0) 0 index fault (omega arith) (λ i above below. AreRead-empty chunk from index read empty i (omega arith)) (ap (λ i. rows_of_entry chunk i) same ∙ wrong)
+
+pub ruleset check_steps = (AreRead-empty, AreRead-next, rows_of_entries-stops)

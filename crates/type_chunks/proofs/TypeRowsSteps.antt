@@ -1,0 +1,137 @@
+-- How the rows of types go on.
+use Rattle.std.proofs.Common.{◌≡◌, ℕ, zero, suc, ◌+◌, ◌-◌, ◌*◌, ◌^◌, ◌<◌, ◌≤◌, Bool, true, false, List, [], ◌∷◌, ◌++◌, length, length-append, Result, Ok, Err, refl, sym, ap, subst, ◌∙◌, arith}
+use Rattle.std.specs.Prelude.{nat_le, if◌then◌else◌}
+use Rattle.std.specs.List.{range_with_len, flat_map}
+use Rattle.std.proofs.lemmas.Bool.Decides.{nat_tests}
+use Rattle.std.proofs.lemmas.List.{append-nil}
+use Rattle.std.proofs.lemmas.List.Concat.{flat_map-append}
+use Rattle.contract_words.specs.Sequences.{with_front}
+use Rattle.chunk_walk.specs.Number.{number}
+use Rattle.res_value.specs.Cell.{CellOf}
+use Rattle.type_chunks.specs.declared.fault.TableFault.{TableFault}
+use Rattle.type_chunks.specs.declared.checked_type.CheckedType.{CheckedType}
+use Rattle.type_chunks.specs.Row.{RowOf}
+use Rattle.type_chunks.specs.TypeChunk.{TypeChunkOf, type_chunk_of}
+use Rattle.type_chunks.specs.Entry.{is_row, row_of_entry, rows_of_entry, rows_of_entry_at}
+use Rattle.type_chunks.specs.PackageChildren.{rows_of_entries}
+use Rattle.type_chunks.specs.Entries.{is_empty, AreEmpty, or_none, row_of_index, rows_from, held_at}
+use Rattle.type_chunks.specs.TypeRows.{rows_of_type, rows_of_types}
+use Rattle.type_chunks.proofs.EntrySteps.{rows_with, entry_at-with}
+use Rattle.type_chunks.proofs.EntriesSteps.{empty-read, rows_of_entries-read}
+
+-- ---- the rows of a type
+
+pub rows_from-next : (chunk : TypeChunkOf) (index : ℕ) → index < chunk.entry_count → rows_from chunk index ≡ row_of_index chunk index ++ rows_from chunk (index + 1)
+unfolding rows_from
+rows_from-next chunk index below =
+    let left : chunk.entry_count - index ≡ suc (chunk.entry_count - (index + 1)) = omega arith in rw left refl
+
+pub rows_from-end : (chunk : TypeChunkOf) (index : ℕ) → chunk.entry_count ≤ index → rows_from chunk index ≡ []
+unfolding rows_from
+rows_from-end chunk index past = let left : chunk.entry_count - index ≡ 0 = omega arith in rw left refl
+
+empty-row : (chunk : TypeChunkOf) (index : ℕ) → is_empty chunk index ≡ true → row_of_index chunk index ≡ []
+unfolding row_of_index
+empty-row chunk index none = ap or_none (empty-read chunk index none)
+
+-- a run of indexes without entries
+skip : (chunk : TypeChunkOf) (count from : ℕ) → from + count ≤ chunk.entry_count → AreEmpty chunk from (from + count) → rows_from chunk from ≡ rows_from chunk (from + count)
+skip chunk zero from within empty = ap (rows_from chunk) (omega arith)
+skip chunk (suc count) from within empty =
+    rows_from-next chunk from (omega arith)
+    ∙ ap (λ (rows : List RowOf). rows ++ rows_from chunk (from + 1)) (empty-row chunk from (empty from (omega arith) (omega arith)))
+    ∙ skip chunk count (from + 1) (omega arith) (λ index above below. empty index (omega arith) (omega arith))
+    ∙ ap (rows_from chunk) (omega arith)
+
+pub rows_from-empty : (chunk : TypeChunkOf) (from behind : ℕ) → from ≤ behind → behind ≤ chunk.entry_count → AreEmpty chunk from behind → rows_from chunk from ≡ rows_from chunk behind
+rows_from-empty chunk from behind ordered within empty =
+    let ends : from + (behind - from) ≡ behind = omega arith in
+    skip chunk (behind - from) from (omega arith) (λ index above below. empty index above (omega arith)) ∙ ap (rows_from chunk) ends
+
+pub rows_from-none : (chunk : TypeChunkOf) (from : ℕ) → AreEmpty chunk from chunk.entry_count → rows_from chunk from ≡ []
+rows_from-none chunk from empty = by (nat_le from chunk.entry_count) refl
+  where
+    by : (b : Bool) → nat_le from chunk.entry_count ≡ b → rows_from chunk from ≡ []
+    by true e = rows_from-empty chunk from chunk.entry_count (grind (arith, nat_tests)) (omega arith) empty ∙ rows_from-end chunk chunk.entry_count (omega arith)
+    by false e = rows_from-end chunk from (grind (arith, nat_tests))
+
+-- the entry behind a run of indexes without entries is a row
+pub rows_from-row : (chunk : TypeChunkOf) (from index : ℕ) (row : RowOf) → from ≤ index → index < chunk.entry_count → AreEmpty chunk from index → row ∷ [] ≡ row_of_index chunk index
+    → rows_from chunk from ≡ row ∷ rows_from chunk (index + 1)
+rows_from-row chunk from index row ordered within empty one =
+    rows_from-empty chunk from index ordered (omega arith) empty ∙ rows_from-next chunk index within ∙ ap (λ (rows : List RowOf). rows ++ rows_from chunk (index + 1)) (sym one)
+
+-- the entry behind a run of indexes without entries is no row
+pub rows_from-no_row : (chunk : TypeChunkOf) (from index : ℕ) → from ≤ index → index < chunk.entry_count → AreEmpty chunk from index → [] ≡ row_of_index chunk index
+    → rows_from chunk from ≡ rows_from chunk (index + 1)
+rows_from-no_row chunk from index ordered within empty none =
+    rows_from-empty chunk from index ordered (omega arith) empty ∙ rows_from-next chunk index within ∙ ap (λ (rows : List RowOf). rows ++ rows_from chunk (index + 1)) (sym none)
+
+pub ruleset type_rows_steps = (rows_from-none)
+
+-- ---- the rows of types
+
+pub rows_of_types-next : (first : CheckedType) (others : List CheckedType) → rows_of_types (first ∷ others) ≡ rows_of_type first ++ rows_of_types others
+unfolding rows_of_types
+rows_of_types-next first others = refl
+
+pub rows_of_types-none : rows_of_types [] ≡ []
+unfolding rows_of_types
+rows_of_types-none = refl
+
+pub rows_of_types-end : (left : List CheckedType) → length left ≡ 0 → rows_of_types left ≡ []
+rows_of_types-end [] e = rows_of_types-none
+rows_of_types-end (first ∷ others) e = absurd (omega arith)
+
+pub ruleset types_steps = (rows_of_types-next, rows_of_types-none, rows_of_types-end)
+
+-- a type that was checked stands behind others
+pub pushes-type : (types : List CheckedType) (checked : CheckedType) → with_front (rows_of_types types) (rows_of_entries (type_chunk_of checked.chunk)) ≡ Ok (rows_of_types (types ++ checked ∷ []))
+unfolding rows_of_types rows_of_type
+pushes-type types checked =
+    let last : flat_map rows_of_type (types ++ checked ∷ []) ≡ flat_map rows_of_type types ++ rows_of_type checked =
+    flat_map-append rows_of_type types (checked ∷ []) ∙ ap (λ (rows : List RowOf). flat_map rows_of_type types ++ rows) (append-nil (rows_of_type checked)) in
+    rw (rows_of_entries-read (type_chunk_of checked.chunk) checked.checked, last) refl
+
+-- ---- how many they are
+
+-- an entry is one row at most
+abbrev one_at_most : Result (List RowOf) TableFault → Type 0
+one_at_most rows = length (or_none rows) ≤ 1
+
+row-or-none : (is : Bool) (row : RowOf) → one_at_most (Ok (if is then row ∷ [] else []))
+row-or-none true row = omega arith
+row-or-none false row = omega arith
+
+of_held : (chunk : TypeChunkOf) (index at : ℕ) (held : Result CellOf TableFault) → one_at_most (rows_with chunk index at held)
+of_held chunk index at (Ok cell) = row-or-none (is_row chunk index) (row_of_entry chunk index at cell)
+of_held chunk index at (Err fault) = omega arith
+
+of_read : (chunk : TypeChunkOf) (index at : ℕ) (read : Result (List RowOf) TableFault) → rows_of_entry_at chunk index at ≡ read → one_at_most read
+of_read chunk index at (Ok rows) e = subst one_at_most (sym (entry_at-with chunk index at (rw e refl)) ∙ e) (of_held chunk index at (held_at chunk at))
+of_read chunk index at (Err fault) e = omega arith
+
+length-row_of_index : (chunk : TypeChunkOf) (index : ℕ) → length (row_of_index chunk index) ≤ 1
+unfolding row_of_index rows_of_entry
+length-row_of_index chunk index = by (is_empty chunk index)
+  where
+    by : (none : Bool) → one_at_most (if none then Ok [] else rows_of_entry_at chunk index (chunk.entries_start + number 4 chunk.offsets (4 * index)))
+    by true = omega arith
+    by false = of_read chunk index (chunk.entries_start + number 4 chunk.offsets (4 * index)) (rows_of_entry_at chunk index (chunk.entries_start + number 4 chunk.offsets (4 * index))) refl
+
+length-rows_from : (chunk : TypeChunkOf) (n index : ℕ) → length (flat_map (row_of_index chunk) (range_with_len index n)) ≤ n
+length-rows_from chunk zero index = omega arith
+length-rows_from chunk (suc n) index =
+    let more = length-append (row_of_index chunk index) (flat_map (row_of_index chunk) (range_with_len (index + 1) n)) in
+    rw more (omega (arith, length-row_of_index chunk index, length-rows_from chunk n (index + 1)))
+
+length-rows_of_type : (checked : CheckedType) → length (rows_of_type checked) ≤ 2 ^ 32
+unfolding rows_of_type rows_from
+length-rows_of_type checked = omega (arith, length-rows_from (type_chunk_of checked.chunk) (checked.chunk.entry_count - 0) 0, checked.chunk.few)
+
+pub length-rows_of_types : (types : List CheckedType) → length (rows_of_types types) ≤ length types * 2 ^ 32
+length-rows_of_types [] = rw rows_of_types-none (omega arith)
+length-rows_of_types (first ∷ others) =
+    let split : length (rows_of_types (first ∷ others)) ≡ length (rows_of_type first) + length (rows_of_types others) =
+    ap (λ (rows : List RowOf). length rows) (rows_of_types-next first others) ∙ length-append (rows_of_type first) (rows_of_types others) in
+    omega (arith, split, length-rows_of_type first, length-rows_of_types others)

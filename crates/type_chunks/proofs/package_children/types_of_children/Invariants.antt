@@ -1,0 +1,19 @@
+use Rattle.std.proofs.Common.{◌+◌, ◌<◌, ◌^◌, [], length}
+use Rattle.contract_words.specs.Sequences.{with_front}
+use Rattle.contract_words.proofs.SequenceSteps.{ReadsKnowing}
+use Rattle.chunk_walk.specs.Chunk.{chunk_of}
+use Rattle.chunk_walk.specs.Chunks.{children_of}
+use Rattle.type_chunks.specs.KnownSpecs.{Knows}
+use Rattle.type_chunks.specs.TypeRows.{rows_of_types}
+use Rattle.type_chunks.specs.PackageChildren.{rows_of_child, rows_of_children}
+use Rattle.type_chunks.proofs.package_children.types_of_children.Given as goal
+
+-- the rows so far and those of the chunks that are left are all rows, and the type specs so far are known
+abbrev pub invariant-loop-found : goal.invariant-loop-found
+invariant-loop-found l = record {
+  can : (goal.iterator-loop-found).can_next l.found-iterator;
+  ends : (goal.iterator-loop-found).is_finite l.found-iterator;
+  fits : length l.types.items + length l.found-iterator < 2 ^ 29;
+  read : ReadsKnowing (λ specs before. Knows specs before) (rows_of_child l.owner) l.specs (rows_of_types l.types.items) (children_of (chunk_of l.chunk)) l.found-iterator
+      (with_front [] (rows_of_children l.owner (chunk_of l.chunk)));
+}

@@ -1,0 +1,48 @@
+-- The entries of a type, each read by itself.
+use Rattle.std.specs.Prelude.{◌≡◌, ℕ, ◌+◌, ◌*◌, ◌-◌, ◌<◌, ◌≤◌, true, Bool, List, [], ◌==◌, length, Result, Ok, Err, IsOk, if◌then◌else◌}
+use Rattle.std.specs.List.{range_with_len, flat_map}
+use Rattle.chunk_walk.specs.Number.{number}
+use Rattle.type_chunks.specs.declared.fault.TableFault.{TableFault}
+use Rattle.res_value.specs.Cell.{CellOf}
+use Rattle.type_chunks.specs.Layout.{entry_offset_size, no_entry, least_entry, least_entry_size}
+use Rattle.type_chunks.specs.Row.{RowOf}
+use Rattle.type_chunks.specs.TypeChunk.{TypeChunkOf}
+use Rattle.type_chunks.specs.Entry.{is_complex, value_of_entry, bag_of_entry, rows_of_entry}
+
+-- the offset of this index says that there is no entry
+abbrev pub is_empty : TypeChunkOf → ℕ → Bool
+is_empty chunk index = number 4 chunk.offsets (entry_offset_size * index) == no_entry
+
+-- no entry is from one index on and below another
+abbrev pub AreEmpty : TypeChunkOf → ℕ → ℕ → Type 0
+AreEmpty chunk from behind = (index : ℕ) → from ≤ index → index < behind → is_empty chunk index ≡ true
+
+-- the entries below an index have no fault
+abbrev pub AreRead : TypeChunkOf → ℕ → Type 0
+AreRead chunk behind = (index : ℕ) → index < behind → IsOk (rows_of_entry chunk index)
+
+-- what was read; nothing where there is a fault
+abbrev pub or_none : Result (List RowOf) TableFault → List RowOf
+or_none (Ok rows) = rows
+or_none (Err fault) = []
+
+-- the row of the entry of an index, or none
+unfoldable pub row_of_index : TypeChunkOf → ℕ → List RowOf
+row_of_index chunk index = or_none (rows_of_entry chunk index)
+
+-- the rows of the entries from an index on
+unfoldable pub rows_from : TypeChunkOf → ℕ → List RowOf
+rows_from chunk index = flat_map (row_of_index chunk) (range_with_len index (chunk.entry_count - index))
+
+-- what the entry at a place holds, which has room for its size
+unfoldable pub held_at : TypeChunkOf → ℕ → Result CellOf TableFault
+held_at chunk at =
+    let behind = at + number 2 chunk.whole at in
+    if is_complex chunk at then bag_of_entry chunk at behind else value_of_entry chunk at behind
+
+-- at a place from the chunk's start stands an entry that fits, and what it holds has no fault
+pub record HasEntry (chunk : TypeChunkOf) (at : ℕ) : Type 0 where
+  pub fields : at + least_entry ≤ length chunk.whole
+  pub size : least_entry_size (is_complex chunk at) ≤ number 2 chunk.whole at
+  pub fits : at + number 2 chunk.whole at ≤ length chunk.whole
+  pub holds : IsOk (held_at chunk at)

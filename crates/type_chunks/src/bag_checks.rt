@@ -1,0 +1,126 @@
+//! Which rows of bags need no further look.
+
+ghost use Rattle.std.specs.Prelude.{◌≡◌, ◌+◌, ◌<◌, ◌≤◌, ◌^◌, ◌*◌, true, IsOk, IfOk, ◌++◌, ◌∷◌, ℕ, [], drop, length, get_or};
+ghost use Rattle.res_value.specs.MapRows.{map_rows_in};
+ghost use Rattle.res_value.specs.Layout.{row_size};
+ghost use Rattle.type_chunks.specs.WrongSizes.{is_wrong, CountWrong};
+
+use chunk_walk::u16_within;
+use res_value::Value;
+use std::alloc::{AllocError, Global};
+
+// How many bytes a row of a bag has, and where its value stands.
+const ROW_SIZE: usize = 12;
+
+const VALUE: usize = 4;
+
+/// What opening remembers of the rows of bags of a type. Entries can share bags, or have bags that overlap.
+/// Where more rows were looked at than the type has room for, all its rows are counted once, and each
+/// further bag is compared with the counts. So the check takes time in proportion to the type's bytes.
+#[derive(Drop)]
+pub(crate) struct BagChecks<'a> {
+    whole: &'a [u8],
+    /// How many rows may still be looked at one by one.
+    left: usize,
+    /// For each place, how many rows with a wrong size stand before it, one directly before the other;
+    /// empty until it is needed.
+    counts: Vec<u32>,
+    ghost small: { length whole.now < 2 ^ 32 },
+    ghost counted: { CountWrong whole.now counts.items },
+}
+
+impl<'a> BagChecks<'a> {
+    pub fn new(alloc: Global, whole: &'a [u8]) -> Self
+        requires { length whole.now < 2 ^ 32 }
+        ensures { result.whole.now ≡ whole.now }
+    {
+        BagChecks {
+            whole,
+            left: whole.len() / ROW_SIZE,
+            counts: Vec::new(alloc),
+        }
+    }
+
+    /// Whether so many rows at a place are known to be right. Where this is not known they have to be looked at.
+    pub fn are_known(&mut self, alloc: Global, place: usize, count: u32) -> Result<bool, AllocError>
+        requires { place ≤ length self.old.whole.now }
+        ensures same { self.new.whole.now ≡ self.old.whole.now }
+        ensures known { IfOk result (λ known. known ≡ true → IsOk (map_rows_in count (drop place self.old.whole.now))) }
+    {
+        let count = count as usize;
+        if count <= self.left {
+            self.left -= count;
+            return Ok(false);
+        }
+        if self.whole.len() - place < ROW_SIZE * count {
+            return Ok(false);
+        }
+        self.make_counts(alloc)?;
+        Ok(self.are_right(place, count))
+    }
+
+    // Counts the wrong rows, where this was not done yet.
+    fn make_counts(&mut self, alloc: Global) -> Result<(), AllocError>
+        ensures { self.new.whole.now ≡ self.old.whole.now }
+    {
+        if self.counts.is_empty() {
+            self.counts = wrong_counts(alloc, self.whole)?;
+        }
+        Ok(())
+    }
+
+    // Whether as many wrong rows stand before these rows as behind them.
+    fn are_right(&self, place: usize, count: usize) -> bool
+        requires { place + row_size * count ≤ length self.now.whole.now }
+        ensures { result ≡ true → IsOk (map_rows_in count (drop place self.now.whole.now)) }
+    {
+        let behind = place + ROW_SIZE * count;
+        match (self.counts.get(place), self.counts.get(behind)) {
+            (Some(before), Some(after)) => *before == *after,
+            _ => false,
+        }
+    }
+}
+
+// The counts for each place.
+fn wrong_counts(alloc: Global, whole: &[u8]) -> Result<Vec<u32>, AllocError>
+    requires { length whole.now < 2 ^ 32 }
+    ensures { IfOk result (λ counts. CountWrong whole.now counts.items) }
+{
+    let places = whole.len() + 1;
+    let mut counts = Vec::with_capacity(alloc, places)?;
+    for place in 0..places {
+        let count = count_at(whole, &counts, place);
+        counts.push(count)?;
+    }
+    Ok(counts)
+}
+
+// The count for the place behind those that were counted.
+fn count_at(whole: &[u8], counts: &[u32], place: usize) -> u32
+    requires here { length counts.now ≡ place }
+    requires within { place ≤ length whole.now }
+    requires small { length whole.now < 2 ^ 32 }
+    requires few { (before : ℕ) → get_or counts.now before 0 ≤ before }
+    ensures counted { CountWrong whole.now counts.now → CountWrong whole.now (counts.now ++ result ∷ []) }
+    ensures few { result ≤ place }
+{
+    if place < ROW_SIZE {
+        return 0;
+    }
+    let before = place - ROW_SIZE;
+    if is_wrong(whole, before) {
+        counts[before] + 1
+    } else {
+        counts[before]
+    }
+}
+
+// Whether a row at a place has a value of another size than a value has.
+#[tactic(auto, unfolding(crate::specs::WrongSizes::is_wrong))]
+fn is_wrong(whole: &[u8], place: usize) -> bool
+    requires { place + 12 ≤ length whole.now }
+    ensures { result ≡ is_wrong whole.now place }
+{
+    u16_within(whole, place + VALUE) as usize != Value::SIZE
+}

@@ -1,0 +1,42 @@
+//! Types whose entries were checked.
+
+ghost use Rattle.std.specs.Prelude.{◌≡◌, ◌<◌};
+ghost use Rattle.type_chunks.specs.TypeChunk.{type_chunk_of};
+ghost use Rattle.type_chunks.specs.Entries.{AreRead};
+
+use crate::type_chunk::TypeChunk;
+use crate::type_rows::TypeRows;
+
+/// A type (AOSP: `ResTable_type`), each entry of which was checked. Its rows are read from its bytes as
+/// they are asked for.
+#[derive(Clone, Copy, Debug)]
+pub struct CheckedType<'a> {
+    pub(crate) chunk: TypeChunk<'a>,
+    ghost checked: { AreRead (type_chunk_of chunk) chunk.entry_count },
+}
+
+impl<'a> CheckedType<'a> {
+    ghost use Rattle.type_chunks.specs.TypeRows.{rows_of_type};
+
+    /// The id of the package that it is of.
+    pub fn package_id(&self) -> u8 {
+        self.chunk.owner.id
+    }
+
+    /// Its id: that of its rows' ids.
+    pub fn id(&self) -> u8 {
+        self.chunk.id
+    }
+
+    /// How many indexes it has: one more than that of its last entry, or more.
+    pub fn entry_count(&self) -> usize {
+        self.chunk.entry_count as usize
+    }
+
+    /// Its rows, in the order of their indexes.
+    pub fn rows(&self) -> TypeRows<'_, 'a>
+        ensures { result ≡ rows_of_type self.now }
+    {
+        TypeRows::new(self)
+    }
+}

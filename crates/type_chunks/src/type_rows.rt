@@ -1,0 +1,58 @@
+//! The rows of types, read one after the other.
+
+ghost use Rattle.std.specs.Prelude.{◌≡◌};
+ghost use Rattle.type_chunks.specs.TypeRows.{rows_of_type};
+
+use crate::checked_type::CheckedType;
+use crate::row::Row;
+use std::marker::Model;
+
+/// The rows of a type that are left, in the order of their indexes.
+#[derive(Drop)]
+pub struct TypeRows<'t, 'a> {
+    of: &'t CheckedType<'a>,
+    /// The first index that is left.
+    index: u32,
+}
+
+impl<'t, 'a> Model for TypeRows<'t, 'a> {
+    ghost use Rattle.std.specs.Prelude.{List};
+    ghost use Rattle.type_chunks.specs.Row.{RowOf};
+    ghost use Rattle.type_chunks.specs.TypeChunk.{type_chunk_of};
+    ghost use Rattle.type_chunks.specs.Entries.{rows_from};
+
+    ghost Value = { List RowOf };
+
+    ghost view = { λ s. rows_from (type_chunk_of s.of.now.chunk) s.index };
+}
+
+impl<'t, 'a> TypeRows<'t, 'a> {
+    #[tactic(auto, unfolding(crate::specs::TypeRows::rows_of_type))]
+    pub(crate) fn new(of: &'t CheckedType<'a>) -> Self
+        ensures { result ≡ rows_of_type of.now }
+    {
+        TypeRows { of, index: 0 }
+    }
+}
+
+impl<'t, 'a> Iterator for TypeRows<'t, 'a> {
+    ghost use Rattle.std.specs.Iterator.{YieldsFirstBy, item_count};
+    ghost use Rattle.type_chunks.specs.Row.{row_of};
+
+    type Item = Row<'a>;
+
+    ghost next_gives = { YieldsFirstBy row_of (λ s. s) };
+
+    ghost remaining = { item_count (λ s. s) };
+
+    #[tactic(auto, using(crate::proofs::TypeRowsSteps::type_rows_steps))]
+    fn next(&mut self) -> Option<Row<'a>> {
+        while let Some(index) = self.of.chunk.next_entry(self.index) {
+            self.index = index + 1;
+            if let Some(row) = self.of.row_within(index) {
+                return Some(row);
+            }
+        }
+        None
+    }
+}

@@ -1,0 +1,60 @@
+"""The files of a random case, and the program asked about them. For the scripts beside it."""
+import json
+import os
+import subprocess
+
+from made_layers import table_bytes
+from plain_rules import COORDS
+
+
+def id_text(name):
+    return f"0x{name:08x}"
+
+
+def device_of(words):
+    """The device that is printed so."""
+    device = {name: "" if name == "locale" else 0 for name in COORDS}
+    for word in words.split():
+        name, _, value = word.partition("=")
+        device[name] = value if name == "locale" else int(value)
+    return device
+
+
+class Files:
+    """The layers and the box of a case, in a folder of their own."""
+
+    def __init__(self, program, folder, case):
+        self.program = program
+        self.folder = folder
+        self.write("box", case.box.json())
+        layers = []
+        for place, (rows, own_of) in enumerate(zip(case.tables, case.maps)):
+            layers.append({"table": f"table{place}"})
+            with open(os.path.join(folder, f"table{place}"), "wb") as table:
+                table.write(table_bytes(rows))
+            if own_of is not None:
+                layers[-1]["map"] = f"map{place}"
+                self.write(f"map{place}", [[id_text(target), id_text(own)] for target, own in own_of.items()])
+        self.write("layers", layers)
+
+    def write(self, name, said):
+        with open(os.path.join(self.folder, name), "w") as text:
+            json.dump(said, text)
+
+    def printed(self, *words):
+        """What is printed, messages behind it, and the status."""
+        done = subprocess.run([self.program, *words], cwd=self.folder, capture_output=True, text=True)
+        return done.stdout + done.stderr, done.returncode
+
+    def run(self, *words):
+        """The lines that are printed, and the status. A message is a line too."""
+        printed, status = self.printed(*words)
+        return printed.splitlines(), status
+
+    def ask(self, command, device, *names):
+        """The lines that a command prints of a device."""
+        self.write("device", {coord: value for coord, value in device.items() if value})
+        return self.run(command, "layers", "device", *map(id_text, names))[0]
+
+    def explain(self, name, device):
+        return self.ask("explain", device, name)

@@ -1,0 +1,169 @@
+#!/usr/bin/env python3
+"""Holds `restool make` against a plain reading of the rules, which asks every device of a box:
+
+    check_made.py PROGRAM CASES [JOBS [FIRST]]
+
+for so many random layers, boxes of at most some thousand devices, of which in some at most one qualifier varies, and
+lists of ids. A certificate has to be one that `restool check` accepts, each of its tests has to be needed, and
+`restool query` has to end for devices of the box at the values of their leaves. Where at most one qualifier varies, no
+tree with fewer nodes may be there. With a limit of as many nodes the same has to be made, and with fewer none. A device
+without a value has to be in the box, and `restool query` has to say of it what is shown. With a limit that makes that
+`node limit` there have to be trees of needed tests that pass it.
+
+The cases are numbered from FIRST on, which is 0 if it is not given. The last line counts what was made."""
+import json
+import os
+import random
+import sys
+import tempfile
+from collections import Counter
+from concurrent.futures import ProcessPoolExecutor
+
+from case_files import Files, device_of, id_text
+from plain_certificates import corner, says
+from plain_rules import end_text
+from plain_trees import Traces, fault_of_need, needed_size, places, runs, varying
+from random_cases import Case
+
+NODE_LIMIT = ("node limit\n", 1)
+TREES_TRIED = 40
+DEVICES_ASKED = 3
+
+
+def make(files, case, *limit):
+    return files.printed("make", *limit, "layers", "box", *map(id_text, case.asked))
+
+
+# ---- a certificate
+
+
+def faults_of_text(text, goals, asked):
+    """The faults of a certificate's text."""
+    wanted = json.dumps({"goals": goals, "version": 1}, sort_keys=True, separators=(",", ":")) + "\n"
+    faults = [] if text == wanted else [f"not written as {wanted}"]
+    return faults + ([] if [goal["id"] for goal in goals] == [id_text(name) for name in asked] else ["other ids"])
+
+
+def faults_of_check(files, case, text, size):
+    """The faults of what `restool check` says of a certificate."""
+    with open(os.path.join(files.folder, "certificate"), "w") as certificate:
+        certificate.write(text)
+    told = files.run("check", "layers", "box", "certificate", *map(id_text, case.asked))
+    wanted = [f"accepted goals {len(case.asked)} nodes {size}", f"set-aside {case.layers.set_aside()}"]
+    return [] if told == (wanted, 0) else [f"checked: {told}"]
+
+
+def faults_of_tree(case, name, nodes):
+    """The faults of the tests of a tree, and of its size where at most one coordinate varies."""
+    traces = Traces(case.layers, name)
+    faults = []
+    for place, (node, members) in enumerate(places(case.members, nodes)):
+        fault = fault_of_need(case.box, node, members, traces) if "coord" in node else None
+        faults += [f"{id_text(name)} node {place}: {fault}"] if fault else []
+    if len(varying(case.members)) <= 1:
+        least = 2 * runs(case.box, case.members, traces) - 1
+        faults += [] if len(nodes) == least else [f"{id_text(name)}: {len(nodes)} nodes, where {least} would do"]
+    return faults
+
+
+def faults_of_device(files, case, goals, device):
+    """The faults of what `restool query` says of a device, against the leaves that it comes to."""
+    lines = files.ask("query", device, *case.asked)
+    faults = []
+    for name, goal, line in zip(case.asked, goals, lines):
+        leaf = next(node for node, here in places([device], goal["nodes"]) if here and "coord" not in node)
+        end = case.layers.trace(name, device)[1]
+        if not says(leaf, end) or not f"{line} ".startswith(f"{id_text(name)} {end_text(end)} "):
+            faults.append(f"{line}, where the leaf says {leaf}, and the rules {end_text(end)}")
+    return faults
+
+
+def faults_of_certificate(files, case, text):
+    goals = json.loads(text)["goals"]
+    size = sum(len(goal["nodes"]) for goal in goals)
+    faults = faults_of_text(text, goals, case.asked) + faults_of_check(files, case, text, size)
+    if faults:
+        return faults
+    for name, goal in zip(case.asked, goals):
+        faults += faults_of_tree(case, name, goal["nodes"])
+    for device in case.chance.choices(case.members, k=DEVICES_ASKED):
+        faults += faults_of_device(files, case, goals, device)
+    if make(files, case, "--max-nodes", str(size)) != (text, 0):
+        faults.append(f"not made with a limit of {size} nodes")
+    for fewer in {size - 1, case.chance.randrange(size)} - {0}:
+        told = make(files, case, "--max-nodes", str(fewer))
+        faults += [] if told == NODE_LIMIT else [f"with a limit of {fewer} nodes of {size}: {told}"]
+    return faults
+
+
+# ---- a device without a value
+
+
+def faults_of_shown(files, case, lines):
+    """The faults of the lines that show a device without a value."""
+    name = case.asked[int(lines[0].removeprefix("counter goal "))]
+    device = device_of(lines[1].removeprefix("device "))
+    end = lines[2].removeprefix("end ")
+    faults = [] if device in case.members else ["a device that is not in the box"]
+    faults += [] if end.startswith(("absent ", "too long ")) else ["an end that is a value or a bag"]
+    told = files.ask("query", device, name)[0]
+    return faults + ([] if told == f"{id_text(name)} {end}" else [f"asked: {told}"])
+
+
+def may_pass(case, limit):
+    """Whether there are needed trees that have more nodes."""
+    traces = [Traces(case.layers, name) for name in case.asked]
+    if len(varying(case.members)) <= 1:
+        return sum(2 * runs(case.box, case.members, of_id) - 1 for of_id in traces) > limit
+    sizes = (
+        sum(needed_size(case.box, case.members, of_id, case.chance) for of_id in traces) for _ in range(TREES_TRIED)
+    )
+    return any(size > limit for size in sizes)
+
+
+def faults_of_counter(files, case, text):
+    faults = faults_of_shown(files, case, text.splitlines())
+    limit = case.chance.randint(1, 12)
+    told = make(files, case, "--max-nodes", str(limit))
+    if told == NODE_LIMIT and not may_pass(case, limit):
+        faults.append(f"a limit of {limit} nodes, which no needed trees pass")
+    return faults + ([] if told in (NODE_LIMIT, (text, 1)) else [f"with a limit of {limit} nodes: {told}"])
+
+
+# ---- cases
+
+
+def check_case(program, number):
+    chance = random.Random(number)
+    case = Case(chance)
+    if number % 5 < 2:
+        case.narrow()
+    with tempfile.TemporaryDirectory() as folder:
+        files = Files(program, folder, case)
+        text, status = make(files, case)
+        if status == 0:
+            faults, told = faults_of_certificate(files, case, text), "certificates"
+        elif text.startswith("counter"):
+            faults, told = faults_of_counter(files, case, text), "devices without a value"
+        else:
+            faults, told = [f"made: {text}, status {status}"], "others"
+    return [f"case {number}: {fault}" for fault in faults], told
+
+
+def main():
+    program, cases = os.path.abspath(sys.argv[1]), int(sys.argv[2])
+    jobs, first = (int(word) for word in (sys.argv[3:] + ["1", "0"][len(sys.argv) - 3 :])[:2])
+    told = Counter()
+    wrong = 0
+    with ProcessPoolExecutor(jobs) as pool:
+        numbers = range(first, first + cases)
+        for faults, made in pool.map(check_case, [program] * cases, numbers, chunksize=8):
+            told[made] += 1
+            wrong += bool(faults)
+            for fault in faults:
+                print(fault)
+    print(f"{cases} boxes: {', '.join(f'{name} {told[name]}' for name in sorted(told))}")
+    sys.exit(wrong > 0)
+
+
+main()

@@ -1,0 +1,53 @@
+#!/bin/sh
+# Rows borrow from the input's bytes. So a function cannot return a row of bytes that it owns: the compiler has to
+# refuse it, and has to accept the same function where the caller owns the bytes. The environment may give RT, the
+# command that proves in place of rt.
+here=$(CDPATH='' cd "$(dirname "$0")/.." && pwd) || exit 1
+program=$(basename "$0")
+rt=${RT:-rt}
+work=$(mktemp -d) || exit 1
+trap 'rm -rf "$work"' EXIT
+trap 'exit 130' INT TERM
+
+# Links share the files: rt writes none of these in place.
+mkdir -p "$work/crates/own_bytes/src" || exit 1
+for crate in contract_words hex_text chunk_walk string_pool res_value json_input config_record type_chunks; do
+    cp -al "$here/crates/$crate" "$work/crates/" || exit 1
+    grep "^${crate}[ :]" "$here/crates.txt" >>"$work/crates.txt"
+done
+echo 'own_bytes: type_chunks' >>"$work/crates.txt"
+[ -f "$here/HANDLES" ] && cp "$here/HANDLES" "$work/"
+
+# check BYTES BORROW: proves a function that takes its bytes as BYTES and opens them as BORROW.
+check() {
+    cat >"$work/crates/own_bytes/src/lib.rt" <<END
+//! The first row of a table.
+#![tactic(auto)]
+
+use std::alloc::Global;
+use type_chunks::{Row, Table};
+
+pub fn first_row<'a>(alloc: Global, bytes: $1) -> Option<Row<'a>> {
+    let table = Table::open(alloc, $2).ok()?;
+    table.all_rows().next()
+}
+END
+    (cd "$work/crates/own_bytes" && $rt check) >"$work/answer" 2>&1 </dev/null
+}
+
+if ! check "&'a [u8]" bytes; then
+    echo "$program: a row of lent bytes does not compile:" >&2
+    tail -n 5 "$work/answer" >&2
+    exit 1
+fi
+if check 'Vec<u8>' '&bytes'; then
+    echo "$program: a row of bytes that are gone compiles" >&2
+    exit 1
+fi
+grep -n 'error' "$work/answer" | head -n 3
+if ! grep -q 'borrow\|lifetime\|lives\|outlive' "$work/answer"; then
+    echo "$program: it is refused for another reason:" >&2
+    tail -n 5 "$work/answer" >&2
+    exit 1
+fi
+echo "a row of bytes that a function owns is refused"

@@ -1,0 +1,181 @@
+"""Runs of each command, with what the program prints where nothing is refused. For refusals.py."""
+import os
+from collections import namedtuple
+
+HERE = os.path.dirname(os.path.dirname(os.path.dirname(os.path.abspath(__file__))))
+TABLES = os.path.join(HERE, "tests", "tables")
+STANDARD_INPUT = "-"
+
+Ended = namedtuple("Ended", "status out err")
+"""How a run ends: its status, and what it writes to its two streams."""
+
+
+class Run:
+    """The words, the files that are read for them in their order, and how the program ends."""
+
+    def __init__(self, name, words, files=(), status=0, out="", err="", folder=HERE, given=os.devnull):
+        self.name, self.words, self.files = name, words, list(files)
+        self.ended = Ended(status, out.encode(), err.encode())
+        self.folder, self.given = folder, given
+
+    def has(self, path):
+        """Whether this is a file that is there, or the standard input."""
+        return path == STANDARD_INPUT or os.path.exists(os.path.join(self.folder, path))
+
+
+def text_of(*path):
+    with open(os.path.join(HERE, *path)) as text:
+        return text.read()
+
+
+def lines(*texts):
+    return "".join(f"{text}\n" for text in texts)
+
+
+PORCELAIN = "examples/porcelain/resources.arsc"
+LAYERS, PHONE = "examples/porcelain/layers.json", "examples/porcelain/phone.json"
+LAYER_FILES = [LAYERS, "examples/teapot/resources.arsc", PORCELAIN, "examples/porcelain/map.json"]
+OF_PHONE = [*LAYER_FILES, PHONE]
+PHONES = "examples/porcelain/phones.json"
+CERTIFICATE, WRONG = "examples/porcelain/certificate.json", "examples/porcelain/wrong.json"
+TABLET = ["rich-overlay.layers.json", "tablet-de.device.json"]
+OF_TABLET = [TABLET[0], "rich.arsc", "overlay.arsc", "overlay-map.json", TABLET[1]]
+FRENCH = ["rich.layers.json", "phone-fr.device.json"]
+OF_FRENCH = [FRENCH[0], "rich.arsc", FRENCH[1]]
+TITLE = '0x7f050000 value layer 1 string 1 "Porzellankanne"'
+LONG = 200_000
+"""Bytes of a file that is read in several pieces."""
+MANY = 2000
+"""Ids whose answer is written in several pieces."""
+
+ROWS = lines(
+    "row 0x7f020000 [] false",
+    "row 0x7f030000 [] argb8 #fff8f4ec",
+    "row 0x7f040000 [] dimension 16/2^0 dp",
+    "row 0x7f050000 [] string 0",
+    "row 0x7f050000 [locale=de] string 1",
+    "rows 5 set-aside 0",
+)
+DUMP = lines(
+    'package 0x7f "org.example.porcelain"',
+    '  0x7f020000 "bool"/"whistles" flags 0x00000000 [] false',
+    '  0x7f030000 "color"/"clay" flags 0x00000000 [] argb8 #fff8f4ec',
+    '  0x7f040000 "dimen"/"handle" flags 0x00000000 [] dimension 16/2^0 dp',
+    '  0x7f050000 "string"/"title" flags 0x00000004 [] string 0 "Porcelain teapot"',
+    '  0x7f050000 "string"/"title" flags 0x00000004 [locale=de] string 1 "Porzellankanne"',
+)
+EXPLAINED = lines(
+    "lookup 0x7f050002",
+    "candidate 0 layer 0 [] first",
+    "lookup 0x7f050000",
+    "candidate 0 layer 0 [] first",
+    "candidate 1 layer 0 [locale=de] took over P3",
+    "candidate 2 layer 0 [locale=fr-CA] no match locale",
+    "candidate 3 layer 1 [] kept out P3",
+    "candidate 4 layer 1 [locale=de] took over equal",
+    "end value layer 1 string 1",
+)
+BAG = lines(
+    "0x01010433 layer 0 @0x7f040002",
+    "0x7f010000 layer 0 argb8 #ff111111",
+    "0x7f010001 layer 0 dimension 48/2^0 dp",
+    "0x7f010004 layer 0 hex 0x00000005",
+    "0x7f010005 layer 0 ?0x7f010000",
+)
+DEVICE_198 = "locale=de-AT smallestWidthDp=320 screenSize=2 orientation=1 night=1 density=198 sdk=21"
+REJECTED = lines(
+    "rejected goal 1 node 0 N6 MixedTrace",
+    f"first {DEVICE_198}",
+    f"second {DEVICE_198.replace('198', '197')}",
+    "set-aside 1",
+)
+MADE = lines(
+    '{"goals":[{"id":"0x7f050000","nodes":[{"coord":"locale","in":["de-AT","de-CH","de-DE"]},'
+    '{"kind":3,"layer":1,"word":1},{"kind":3,"layer":1,"word":0}]},'
+    '{"id":"0x7f030000","nodes":[{"atMost":197,"coord":"density"},'
+    '{"kind":5,"layer":1,"word":4097},{"kind":5,"layer":0,"word":3329}]}],"version":1}',
+)
+COUNTER = lines(
+    "counter goal 0",
+    "device locale=de-AT smallestWidthDp=320 screenSize=2 orientation=1 night=1 density=120 sdk=21",
+    "end absent 0x7f050009",
+)
+TABLELESS = lines(
+    "error: the following required arguments were not provided:",
+    "  <TABLE>",
+    "",
+    "Usage: restool rows <TABLE>",
+    "",
+    "For more information, try '--help'.",
+)
+GOALS = ["0x7f050000", "0x7f030000"]
+
+
+def device_runs():
+    """Runs of the commands that ask about a device."""
+    query = ["query", LAYERS, PHONE]
+    yield Run("query", [*query, "0x7f050000"], OF_PHONE, out=lines(TITLE, "set-aside 1"))
+    absent = "0x7f050009"
+    yield Run("absent", [*query, absent], OF_PHONE, 1, lines(f"{absent} absent {absent}", "set-aside 1"))
+    yield Run("explain", ["explain", LAYERS, PHONE, "0x7f050002"], OF_PHONE, out=EXPLAINED)
+    yield Run("bag", ["bag", *TABLET, "0x7f0c0002"], OF_TABLET, out=BAG, folder=TABLES)
+    yield Run("no bag", ["bag", LAYERS, PHONE, "0x7f050000"], OF_PHONE, 1, "no bag Plain\n")
+    styles = ["0x7f010000", "0x7f0c0000", "0x7f0c0001"]
+    value = "0x7f010000 value layer 0 argb8 #"
+    yield Run("attr", ["attr", *FRENCH, *styles], OF_FRENCH, out=f"{value}ff000000\n", folder=TABLES)
+    yield Run("attr --keep", ["attr", "--keep", *FRENCH, *styles], OF_FRENCH, out=f"{value}ff0277bd\n", folder=TABLES)
+
+
+def box_runs():
+    """Runs of the commands that ask about all devices of a box."""
+    of_box = [*LAYER_FILES, PHONES]
+    accepted = lines("accepted goals 2 nodes 6", "set-aside 1")
+    yield Run("check", ["check", LAYERS, PHONES, CERTIFICATE, *GOALS], [*of_box, CERTIFICATE], out=accepted)
+    yield Run("rejected", ["check", LAYERS, PHONES, WRONG, *GOALS], [*of_box, WRONG], 1, REJECTED)
+    yield Run("make", ["make", LAYERS, PHONES, *GOALS], of_box, out=MADE)
+    yield Run("counter", ["make", LAYERS, PHONES, "0x7f050009"], of_box, 1, COUNTER)
+    yield Run("node limit", ["make", "--max-nodes", "1", LAYERS, PHONES, GOALS[0]], of_box, 1, "node limit\n")
+
+
+def stopped_runs():
+    """Runs that end with a message."""
+    yield Run("no TABLE", ["rows"], status=2, err=TABLELESS)
+    yield Run("bad id", ["explain", LAYERS, PHONE, "7"], status=2, err="command: bad id 7\n")
+    yield Run("absent file", ["dump", "absent"], ["absent"], 5, err="file: absent\n")
+
+
+def made_runs(folder):
+    """Runs on files that are made here."""
+    with open(os.path.join(HERE, "crates", "restool", "stdin"), "rb") as table:
+        whole = table.read()
+    files = {
+        "long": whole + bytes(LONG - len(whole)),
+        "layers": b'[{"table":"long"},{"table":"long","map":"empty"}]',
+        "empty": b"",
+        "device": b'{"density":160}',
+    }
+    for name, content in files.items():
+        with open(os.path.join(folder, name), "wb") as file:
+            file.write(content)
+    yield Run("long file", ["rows", "long"], ["long"], out="rows 0 set-aside 0\n", folder=folder)
+    read = ["layers", "long", "long", "empty", "device"]
+    line = "refused: layer 1 map: Syntax\n"
+    yield Run("refused", ["query", "layers", "device", "0x7f010000"], read, 3, err=line, folder=folder)
+
+
+def runs(folder):
+    """All runs. Files that are made for them come into this folder."""
+    yield Run("rows", ["rows", PORCELAIN], [PORCELAIN], out=ROWS)
+    yield Run("no words", [], [STANDARD_INPUT], out=ROWS, given=os.path.join(HERE, PORCELAIN))
+    yield Run("dump", ["dump", PORCELAIN], [PORCELAIN], out=DUMP)
+    yield from device_runs()
+    yield from box_runs()
+    yield Run("help", ["query", "--help"], out=text_of("tests", "helps", "query.txt"))
+    yield from stopped_runs()
+    yield from made_runs(folder)
+
+
+def long_answer():
+    """A run whose answer takes several writes."""
+    lines_wanted = [TITLE] * MANY
+    return Run("long answer", ["query", LAYERS, PHONE, *["0x7f050000"] * MANY], OF_PHONE, out=lines(*lines_wanted, "set-aside 1"))
