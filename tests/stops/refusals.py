@@ -68,13 +68,14 @@ def faults_of_memory(refuser, run):
 
 
 def faults_of_files(refuser, run):
-    """The files in their order, each named where it cannot be opened."""
+    """The files in their order, each named where it cannot be opened, but for want of memory."""
     paths = [path for path in run.files if path != STANDARD_INPUT]
     ends = list(refuser.each(run, "open"))
     wanted = [file_fault(path) for path in paths for _ in range(2)]
     yield from (f"{name}: {ended}" for (name, ended), want in zip(ends, wanted) if ended != want)
     if len(ends) != len(wanted):
         yield f"{len(ends) // 2} files are opened, not {len(paths)}"
+    yield from (f"{name}: {ended}" for name, ended in refuser.each(run, "full-open") if ended != MEMORY)
 
 
 def faults_of_reads(refuser, run):

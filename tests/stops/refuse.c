@@ -1,5 +1,5 @@
 /* Preloaded into a program, it refuses calls of one kind, and counts them.
- *   REFUSED   grow: memory; open: a file; read, write: bytes (EIO); block-read: bytes that are not there yet (EAGAIN);
+ *   REFUSED   grow: memory; open: a file (EACCES, at full-open ENOMEM); read, write: bytes (EIO, at block-read EAGAIN);
  *             or it hinders bytes: interrupt-read, interrupt-write (EINTR), short-read, short-write (one is moved)
  *   FROM, TO  the first and the last call that is refused; the first of all is 1
  *   COUNT     the file that gets how many calls there were, in decimal digits */
@@ -35,7 +35,7 @@ void *malloc(size_t size) { return refuses("grow", ENOMEM) ? NULL : __libc_mallo
 void *realloc(void *old, size_t size) { return refuses("grow", ENOMEM) ? NULL : __libc_realloc(old, size); }
 
 int open(const char *path, int flags, ...) {
-    return refuses("open", EACCES) ? -1 : (int)syscall(SYS_openat, AT_FDCWD, path, flags, 0666);
+    return refuses("open", EACCES) || refuses("full-open", ENOMEM) ? -1 : (int)syscall(SYS_openat, AT_FDCWD, path, flags, 0666);
 }
 
 ssize_t read(int file, void *bytes, size_t size) {
