@@ -1,7 +1,8 @@
 #!/bin/sh
 # Times `restool rows` and `restool dump` beside `aapt dump --values resources`, on the table of Android's
 # framework, and then `restool dump` on tables of 20,000 strings in 30 languages and of fewer strings.
-# Each command runs three times; the least time counts, and the greatest peak of memory.
+# On the framework's table the commands run ten times, in turn, and on the others three times; the least time counts,
+# and the greatest peak of memory.
 #
 # The framework's table and aapt are Debian's packages android-framework-res and aapt. Where they are not
 # installed they are downloaded with apt-get, with what they need, and unpacked into a temporary folder;
@@ -83,20 +84,21 @@ line() {
         read -r seconds kibibytes
         ratio=-
         [ -s "$work/aapt.times" ] && ratio=$(best aapt | awk -v mine="$seconds" '{ printf "%.2f", mine / $1 }')
-        printf '%-30s %8s %10s %13s %12s\n' "$2" "$seconds" "$kibibytes" "$(size "$work/$1.out")" "$ratio"
+        printf '%-30s %8s %10s %13s %12s %13s\n' "$2" "$seconds" "$kibibytes" "$(size "$work/$1.out")" "$ratio" \
+            "$(((kibibytes * 1024 - $(size "$work/framework.arsc")) / 1000))"
     }
 }
 
 framework() {
     write_aapt
     table_of_apk "$apk" >"$work/framework.arsc" || exit 1
-    for _ in 1 2 3; do
+    for _ in 1 2 3 4 5 6 7 8 9 10; do
         run rows "$program" rows "$work/framework.arsc"
         run dump "$program" dump "$work/framework.arsc"
         run aapt "$work/aapt" dump --values resources "$apk"
     done
     echo "the framework's table, $(size "$work/framework.arsc") bytes:"
-    printf '%-30s %8s %10s %13s %12s\n' command seconds 'peak KiB' 'output bytes' "of aapt's"
+    printf '%-30s %8s %10s %13s %12s %13s\n' command seconds 'peak KiB' 'output bytes' "of aapt's" 'kB over input'
     line rows 'restool rows'
     line dump 'restool dump'
     line aapt 'aapt dump --values resources'

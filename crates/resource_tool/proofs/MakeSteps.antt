@@ -54,7 +54,7 @@ made-printed contents old new ids most inputs (Ok status) made (text, is, put) a
       },
       put,
     )
-made-printed contents old new ids most inputs (Err faults.OutOfMemory) made printed again right least fits = tt
+made-printed contents old new ids most inputs (Err faults.OutOfMemory) made printed again right least fits = printed
 made-printed contents old new ids most inputs (Err faults.Write) made printed again right least fits = printed
 made-printed contents old new ids most inputs (Err (faults.Table fault)) made printed again right least fits = absurd (let e = printed.0 in cc)
 made-printed contents old new ids most inputs (Err (faults.Layers fault)) made printed again right least fits = absurd (let e = printed.0 in cc)

@@ -28,3 +28,12 @@ path_seen (Err fault) = Err fault
 abbrev pub optional_path_seen : Result (Option (Bor (List ℕ))) LayersFault → Result (Option (List ℕ)) LayersFault
 optional_path_seen (Ok path) = Ok (option_map (λ text. text.now) path)
 optional_path_seen (Err fault) = Err fault
+
+-- ---- the paths of a layer that were lent
+
+abbrev pub lent_paths_of : (Bor (List ℕ) × Option (Bor (List ℕ))) → LayerPaths
+lent_paths_of paths = record { table = paths.0.now; map = option_map (λ text. text.now) paths.1 }
+
+abbrev pub lent_paths_seen : Result (Bor (List ℕ) × Option (Bor (List ℕ))) LayersFault → Result LayerPaths LayersFault
+lent_paths_seen (Ok paths) = Ok (lent_paths_of paths)
+lent_paths_seen (Err fault) = Err fault

@@ -11,12 +11,12 @@ pub record Output : Type 0 where
   pub text : List ℕ
 
 -- A command answered what is meant, and the writer, which was old and is new, got the text of that and
--- nothing else. A fault of the input is the one that is meant, and then the writer is as it was. A
--- writer fails only where the input is read. Where memory ran out, nothing is said.
+-- nothing else. A fault of the input is the one that is meant, and then the writer is as it was. So it is
+-- where memory ran out, and nothing else is said there. A writer fails only where the input is read.
 abbrev pub Prints : {W : Type 0} → (W → Option (List ℕ)) → W → W → Result Status ToolFault → Result Output ToolFault → Type 0
 Prints contents old new (Ok status) meant =
     (text : List ℕ) × (meant ≡ Ok (record { status = status; text = text })) × Appends (contents old) (contents new) text
-Prints contents old new (Err OutOfMemory) meant = Unit {0}
+Prints contents old new (Err OutOfMemory) meant = new ≡ old
 Prints contents old new (Err Write) meant = IsOk meant
 Prints contents old new (Err fault) meant = (meant ≡ Err fault) × (new ≡ old)
 
@@ -25,7 +25,7 @@ abbrev pub PrintsOneOf : {W X : Type 0} → (X → Output → Type 0) → (W →
 PrintsOneOf {W} {X} Allows contents old new (Ok status) meant =
     (input : X) × (text : List ℕ) × (meant ≡ Ok input) × Allows input (record { status = status; text = text })
     × Appends (contents old) (contents new) text
-PrintsOneOf Allows contents old new (Err OutOfMemory) meant = Unit {0}
+PrintsOneOf Allows contents old new (Err OutOfMemory) meant = new ≡ old
 PrintsOneOf Allows contents old new (Err Write) meant = IsOk meant
 PrintsOneOf Allows contents old new (Err fault) meant = (meant ≡ Err fault) × (new ≡ old)
 

@@ -1,12 +1,12 @@
 //! Inputs of bounded length.
 
-ghost use Rattle.std.specs.Prelude.{◌≡◌, ◌<◌, ◌≤◌, vec_len, OnOk, IfOk, IfSome, IsErrOf};
+ghost use Rattle.std.specs.Prelude.{◌≡◌, ◌<◌, ◌≤◌, vec_len, OnOk, IfOk, IfSome, IfErr, IsErrOf};
 ghost use Rattle.std.specs.Io.KnownBytes.{IsAtEnd};
 ghost use Rattle.resource_tool.specs.Input.{Gave};
 ghost use Rattle.resource_tool.specs.declared.input.InputFault.TheVariants.{OutOfMemory};
 
 use std::alloc::{AllocError, Global};
-use std::io::{ErrorKind, Read};
+use std::io::{self, ErrorKind, Read};
 use thiserror::Error;
 
 /// How many bytes are asked for in one read.
@@ -55,9 +55,18 @@ pub fn read_input<R: Read>(
             Ok(0) => return Ok(input),
             Ok(count) if count > limit - input.len() => return Err(InputFault::TooLarge),
             Ok(count) => input.extend_from_slice(&piece[..count])?,
-            Err(error) if error.kind() == ErrorKind::Interrupted => {}
-            Err(_) => return Err(InputFault::Read),
+            Err(error) => check_interrupted(&error)?,
         }
     }
     Err(InputFault::Read)
+}
+
+// Whether a read was interrupted, which is then made again. Any other error ends the reading.
+fn check_interrupted(error: &io::Error) -> Result<(), InputFault>
+    ensures { IfErr result (λ fault. fault ≡ InputFault.Read) }
+{
+    match error.kind() {
+        ErrorKind::Interrupted => Ok(()),
+        _ => Err(InputFault::Read),
+    }
 }

@@ -1,18 +1,19 @@
 //! Lists of layers: which files the layers of a stack are.
 
-ghost use Rattle.std.specs.Prelude.{◌≡◌, map};
+ghost use Rattle.std.specs.Prelude.{◌≡◌, map, length, IfOk};
 ghost use Rattle.contract_words.specs.Exact.{GivesOr};
 ghost use Rattle.serde_json.specs.View.{view};
 ghost use Rattle.json_input.specs.Each.{each};
+ghost use Rattle.overlay_map.specs.FillsIn.{FillsIn};
 ghost use Rattle.resource_text.specs.declared.layers_fault.LayersFault.TheVariants.{OutOfMemory};
-ghost use Rattle.resource_tool.specs.LayerList.{table_path, map_path, layer_paths_in, layers_in_value};
-ghost use Rattle.resource_tool.specs.LayerListSeen.{path_seen, optional_path_seen, paths_of, all_paths_of, listed};
+ghost use Rattle.resource_tool.specs.LayerList.{table_path, map_path, layer_paths_in, layers_in_value, fault_of_text};
+ghost use Rattle.resource_tool.specs.LayerListSeen.{path_seen, optional_path_seen, lent_paths_of, lent_paths_seen, paths_of, all_paths_of, listed};
 
 use json_input::{JsonFault, has_only, read_value};
 use overlay_map::MOST_LAYERS;
 use resource_text::LayersFault;
 use serde_json::Value;
-use std::alloc::Global;
+use std::alloc::{AllocError, Global};
 
 /// The name of the member that has the path of a layer's table.
 const TABLE: &str = "table";
@@ -37,48 +38,85 @@ impl LayerList {
     {
         match read_value(alloc, json) {
             Ok(value) => read_list(alloc, &value),
-            Err(JsonFault::Syntax) => Err(LayersFault::Syntax),
-            Err(JsonFault::OutOfMemory) => Err(LayersFault::OutOfMemory),
+            Err(fault) => Err(fault_of_text(fault)),
         }
     }
 }
 
+// Why a text was not read.
+fn fault_of_text(fault: JsonFault) -> LayersFault
+    ensures { result ≡ fault_of_text fault }
+{
+    match fault {
+        JsonFault::Syntax => LayersFault::Syntax,
+        JsonFault::OutOfMemory => LayersFault::OutOfMemory,
+    }
+}
+
 #[tactic(auto, unfolding(crate::specs::LayerList::layers_in_value))]
-fn read_list(alloc: Global, value: &Value) -> Result<LayerList, LayersFault>
+fn read_list<'v>(alloc: Global, value: &'v Value) -> Result<LayerList, LayersFault>
     ensures { GivesOr OutOfMemory listed result (layers_in_value (view value.now)) }
 {
     let Some(items) = value.as_array() else {
         return Err(LayersFault::Shape);
     };
-    let paths = read_each(alloc, items)?;
-    if paths.len() > MOST_LAYERS {
+    let mut layers: Vec<(&'v str, Option<&'v str>)> = vec![in alloc; ("", None); items.len()]?;
+    fill_layers(items, &mut layers)?;
+    if layers.len() > MOST_LAYERS {
         return Err(LayersFault::TooManyLayers);
     }
+    let paths = owned_paths(alloc, &layers)?;
     Ok(LayerList { paths })
 }
 
-#[tactic(auto, using(json_input::proofs::EachSteps::each_item_steps))]
-fn read_each(alloc: Global, items: &[Value]) -> Result<Vec<(String, Option<String>)>, LayersFault>
-    ensures { GivesOr OutOfMemory all_paths_of result (each layer_paths_in (map view items.now)) }
+// Fills in the paths of each layer.
+fn fill_layers<'v>(
+    items: &'v [Value],
+    layers: &mut [(&'v str, Option<&'v str>)],
+) -> Result<(), LayersFault>
+    requires { length layers.old ≡ length items.now }
+    ensures { FillsIn (map lent_paths_of layers.new) result (each layer_paths_in (map view items.now)) }
 {
-    let mut paths = Vec::new(alloc);
-    for item in items {
-        let layer = read_layer(alloc, item)?;
-        paths.push(layer)?;
+    for (place, item) in items.iter().enumerate() {
+        layers[place] = layer_paths(item)?;
     }
-    Ok(paths)
+    Ok(())
 }
 
 // The paths of one layer.
 #[tactic(auto, unfolding(crate::specs::LayerList::layer_paths_in))]
-fn read_layer(alloc: Global, value: &Value) -> Result<(String, Option<String>), LayersFault>
-    ensures { GivesOr OutOfMemory paths_of result (layer_paths_in (view value.now)) }
+fn layer_paths(value: &Value) -> Result<(&str, Option<&str>), LayersFault>
+    ensures { lent_paths_seen result ≡ layer_paths_in (view value.now) }
 {
     if !has_only(value, &[TABLE, MAP]) {
         return Err(LayersFault::Shape);
     }
     let table = table_path(value)?;
     let map = map_path(value)?;
+    Ok((table, map))
+}
+
+fn owned_paths<'v>(
+    alloc: Global,
+    layers: &[(&'v str, Option<&'v str>)],
+) -> Result<Vec<(String, Option<String>)>, AllocError>
+    ensures { IfOk result (λ paths. all_paths_of paths ≡ map lent_paths_of layers.now) }
+{
+    let mut paths = Vec::new(alloc);
+    for (table, map) in layers {
+        let layer = owned_layer(alloc, table, *map)?;
+        paths.push(layer)?;
+    }
+    Ok(paths)
+}
+
+fn owned_layer(
+    alloc: Global,
+    table: &str,
+    map: Option<&str>,
+) -> Result<(String, Option<String>), AllocError>
+    ensures { IfOk result (λ paths. paths_of paths ≡ lent_paths_of (table.entry, map.entry)) }
+{
     let table = String::from_str(alloc, table)?;
     match map {
         Some(map) => Ok((table, Some(String::from_str(alloc, map)?))),

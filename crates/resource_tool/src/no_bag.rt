@@ -19,7 +19,8 @@ pub(crate) fn tell_no_bag<W: Write + Drop>(
     out: &mut W,
 ) -> Result<Status, ToolFault>
     ensures told { fault ≢ of_bag.OutOfMemory → Prints W.contents out.old out.new result (Ok (no_bag fault)) }
-    ensures memory { fault ≡ of_bag.OutOfMemory → result ≡ Err OutOfMemory }
+    ensures has_memory { fault ≢ of_bag.OutOfMemory → result ≢ Err OutOfMemory }
+    ensures memory { fault ≡ of_bag.OutOfMemory → (result ≡ Err OutOfMemory) × (out.new ≡ out.old) }
 {
     match fault {
         BagFault::Absent => write_no_bag("Absent", out)?,

@@ -1,18 +1,20 @@
 //! Stacks of layers, opened from bytes.
 
-ghost use Rattle.std.specs.Prelude.{◌<◌, ◌≤◌, ◌∷◌, ◌++◌, [], map, length, Ok};
+ghost use Rattle.std.specs.Prelude.{◌≡◌, ◌<◌, ◌≤◌, ◌∷◌, ◌++◌, [], map, length, Ok};
 ghost use Rattle.std.specs.Option.{option_map};
 ghost use Rattle.contract_words.specs.Exact.{GivesOr};
 ghost use Rattle.overlay_map.specs.Layer.{most_layers};
 ghost use Rattle.resource_text.specs.declared.fault.ToolFault.TheVariants.{OutOfMemory};
+ghost use Rattle.resource_text.specs.ToolFault.{fault_of_layer_table, fault_of_layer_map};
+ghost use Rattle.resource_tool.specs.MapErr.{map_err};
 ghost use Rattle.resource_tool.specs.Output.{IsOfInput};
 ghost use Rattle.resource_tool.specs.StackBytes.{table_of_layer, map_of_layer, layer_in, layers_from, stack_in};
 ghost use Rattle.resource_tool.specs.StackBytesSeen.{layer_bytes, with_layer};
 
-use overlay_map::{IdMap, MOST_LAYERS, Stack};
+use overlay_map::{IdMap, MOST_LAYERS, MapFault, Stack};
 use resource_text::{LayersFault, ToolFault};
 use std::alloc::Global;
-use type_chunks::Table;
+use type_chunks::{Table, TableFault};
 
 /// The stack of layers of which each is the bytes of a table and, at an overlay, those of an id map. More
 /// than 64 are refused before any is read; then each table is read and, behind it, its map.
@@ -70,7 +72,17 @@ fn open_table(alloc: Global, layer: usize, bytes: &[u8]) -> Result<Table<'_>, To
     ensures value { GivesOr OutOfMemory (λ table. table) result (table_of_layer layer bytes.now) }
     ensures of_input { IsOfInput result }
 {
-    match Table::open(alloc, bytes) {
+    layer_table(layer, Table::open(alloc, bytes))
+}
+
+// The table that was read for the layer at a place.
+fn layer_table<'a>(
+    layer: usize,
+    read: Result<Table<'a>, TableFault>,
+) -> Result<Table<'a>, ToolFault>
+    ensures { result ≡ map_err (fault_of_layer_table layer) read.entry }
+{
+    match read {
         Ok(table) => Ok(table),
         Err(fault) => Err(ToolFault::of_layer_table(layer, fault)),
     }
@@ -84,8 +96,16 @@ fn read_map(alloc: Global, layer: usize, json: Option<&[u8]>) -> Result<Option<I
     let Some(json) = json else {
         return Ok(None);
     };
-    match IdMap::read(alloc, json) {
-        Ok(map) => Ok(Some(map)),
+    let map = layer_map(layer, IdMap::read(alloc, json))?;
+    Ok(Some(map))
+}
+
+// The id map that was read for the layer at a place.
+fn layer_map(layer: usize, read: Result<IdMap, MapFault>) -> Result<IdMap, ToolFault>
+    ensures { result ≡ map_err (fault_of_layer_map layer) read }
+{
+    match read {
+        Ok(map) => Ok(map),
         Err(fault) => Err(ToolFault::of_layer_map(layer, fault)),
     }
 }

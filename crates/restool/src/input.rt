@@ -1,21 +1,22 @@
 //! What gives the bytes of inputs.
 
-ghost use Rattle.std.specs.Prelude.{◌≡◌, ◌<◌, ◌≤◌, Option, None, vec_len, IfOk, IfSome, OnOk, IsErrOf, string_bytes};
+ghost use Rattle.std.specs.Prelude.{◌≡◌, ◌≢◌, ◌<◌, ◌≤◌, Option, None, vec_len, IfOk, IfSome, OnOk, IsErrOf, string_bytes};
+ghost use Rattle.std.specs.IoError.{error_kind};
 ghost use Rattle.std.specs.Io.KnownBytes.{IsAtEnd};
 ghost use Rattle.resource_tool.specs.Input.{Gave};
 ghost use Rattle.resource_tool.specs.declared.input.InputFault.TheVariants as input_faults;
 ghost use Rattle.contract_words.specs.Exact.{GivesOr};
 ghost use Rattle.restool.specs.Place.{place_of};
-ghost use Rattle.restool.specs.Inputs.{Places, file_of, table_of};
+ghost use Rattle.restool.specs.Inputs.{Places, file_of, stop_at, table_of};
 ghost use Rattle.restool.specs.FilesSeen.{bytes_of};
-ghost use Rattle.restool.specs.Stop.{GivesOrStops};
+ghost use Rattle.restool.specs.Stop.{GivesOrStops, stop_of};
 
 use crate::source::Source;
 use crate::stop::Stop;
 use resource_tool::{InputFault, ToolFault, read_input};
 use std::alloc::Global;
 use std::fs;
-use std::io::{ErrorKind, Read};
+use std::io::{self, ErrorKind, Read};
 use std::rt::Files;
 
 /// How many bytes an input has at most.
@@ -44,12 +45,21 @@ impl<R: Input + Files + AllocGlobal> Inputs for ProcessInputs<'_, R> {
             Source::StandardInput => read_within_limit(alloc, &mut self.rt.reader()),
             Source::File(path) => match fs::open(self.rt, path) {
                 Ok(mut file) => read_within_limit(alloc, &mut file),
-                Err(error) if error.kind() == ErrorKind::OutOfMemory => {
-                    Err(InputFault::OutOfMemory)
-                }
-                Err(_) => Err(InputFault::Read),
+                Err(error) => Err(fault_of_opening(&error)),
             },
         }
+    }
+}
+
+// A file that is not opened is not read, unless memory ran out.
+fn fault_of_opening(error: &io::Error) -> InputFault
+    ensures memory { error_kind error.now ≡ ErrorKind.OutOfMemory → result ≡ InputFault.OutOfMemory }
+    ensures other { error_kind error.now ≢ ErrorKind.OutOfMemory → result ≡ InputFault.Read }
+{
+    if error.kind() == ErrorKind::OutOfMemory {
+        InputFault::OutOfMemory
+    } else {
+        InputFault::Read
     }
 }
 
@@ -71,8 +81,7 @@ pub fn table_bytes<'a, I: Inputs>(inputs: &I, path: &'a str) -> Result<Vec<u8>, 
 {
     match inputs.read(Source::of_table(path)) {
         Ok(bytes) => Ok(bytes),
-        Err(InputFault::OutOfMemory) => Err(Stop::Tool(ToolFault::OutOfMemory)),
-        Err(InputFault::Read | InputFault::TooLarge) => Err(Stop::File(path)),
+        Err(fault) => Err(stop_at(path, fault)),
     }
 }
 
@@ -82,8 +91,7 @@ pub fn file_bytes<'a, I: Inputs>(inputs: &I, path: &'a str) -> Result<Vec<u8>, S
 {
     match inputs.read(Source::File(path)) {
         Ok(bytes) => Ok(bytes),
-        Err(InputFault::OutOfMemory) => Err(Stop::Tool(ToolFault::OutOfMemory)),
-        Err(InputFault::Read | InputFault::TooLarge) => Err(Stop::File(path)),
+        Err(fault) => Err(stop_at(path, fault)),
     }
 }
 
@@ -93,7 +101,25 @@ pub fn layer_file<I: Inputs>(inputs: &I, path: String) -> Result<Vec<u8>, Stop<'
 {
     match inputs.read(Source::File(path.as_str())) {
         Ok(bytes) => Ok(bytes),
-        Err(InputFault::OutOfMemory) => Err(Stop::Tool(ToolFault::OutOfMemory)),
-        Err(InputFault::Read | InputFault::TooLarge) => Err(Stop::LayerFile(path)),
+        Err(fault) => Err(stop_at_layer(path, fault)),
+    }
+}
+
+// Why the program stops where the bytes for a path are not read.
+fn stop_at<'a>(path: &'a str, fault: InputFault) -> Stop<'a>
+    ensures { stop_of result ≡ stop_at path.entry.now fault }
+{
+    match fault {
+        InputFault::Read | InputFault::TooLarge => Stop::File(path),
+        InputFault::OutOfMemory => Stop::Tool(ToolFault::OutOfMemory),
+    }
+}
+
+fn stop_at_layer(path: String, fault: InputFault) -> Stop<'static>
+    ensures { stop_of result ≡ stop_at (string_bytes path) fault }
+{
+    match fault {
+        InputFault::Read | InputFault::TooLarge => Stop::LayerFile(path),
+        InputFault::OutOfMemory => Stop::Tool(ToolFault::OutOfMemory),
     }
 }

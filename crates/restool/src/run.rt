@@ -1,7 +1,9 @@
 //! From words to the exit status.
 
-ghost use Rattle.std.specs.Prelude.{◌≡◌, false, OnOk};
-ghost use Rattle.restool.specs.Stop.{EndsAs};
+ghost use Rattle.std.specs.Prelude.{◌≡◌, [], false, Ok, Err, OnOk, IsOk, IfOk, IfErr};
+ghost use Rattle.std.specs.Io.Buffered.{writer_buffer};
+ghost use Rattle.resource_text.specs.declared.fault.ToolFault.TheVariants.{Write};
+ghost use Rattle.restool.specs.Stop.{EndsAs, stop_of, tool};
 
 use crate::answer::answer;
 use crate::input::{Inputs, ProcessInputs};
@@ -69,14 +71,28 @@ fn carry_out<'a, I: Inputs, C: Clock, O: Write + Drop, E: Write>(
     let Ok(mut out) = BufWriter::with_capacity(alloc, OUTPUT_BUFFER, out) else {
         return Err(Stop::Tool(ToolFault::OutOfMemory));
     };
-    let status = if is_terminal {
+    let answered = if is_terminal {
         let mut line = ProgressLine::new(errors, clock);
         let answered = answer(alloc, inputs, request, &mut line, &mut out);
         line.clear();
-        answered?
+        answered
     } else {
-        answer(alloc, inputs, request, &mut Unseen, &mut out)?
+        answer(alloc, inputs, request, &mut Unseen, &mut out)
     };
+    written_out(answered, &mut out)
+}
+
+// Writes what is kept back of an answer.
+fn written_out<'a, O: Write + Drop>(
+    answered: Result<Status, Stop<'a>>,
+    out: &mut BufWriter<O>,
+) -> Result<Status, Stop<'a>>
+    ensures whole { OnOk result (writer_buffer out.new ≡ []) }
+    ensures status { IfOk result (λ status. answered.entry ≡ Ok status) }
+    ensures stop { IfErr answered.entry (λ stop. result ≡ Err stop) }
+    ensures write { IsOk answered.entry → IfErr result (λ stop. stop_of stop ≡ tool Write) }
+{
+    let status = answered?;
     match out.flush() {
         Ok(()) => Ok(status),
         Err(_) => Err(Stop::Tool(ToolFault::Write)),

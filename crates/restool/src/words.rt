@@ -1,8 +1,11 @@
 //! The words of the command line.
 
-ghost use Rattle.std.specs.Prelude.{◌≡◌, ◌<◌, ◌≤◌, true, length, map, codes, IfOk, IsOkAnd, string_bytes};
+ghost use Rattle.std.specs.Prelude.{◌≡◌, ◌≢◌, ◌<◌, ◌≤◌, true, length, map, codes, IfOk, IsOkAnd, string_bytes};
+ghost use Rattle.std.specs.IoError.{error_kind};
+ghost use Rattle.resource_text.specs.declared.fault.ToolFault.TheVariants.{OutOfMemory};
 ghost use Rattle.clap.specs.Words.{FailsBy, fault_of, has_subcommand, rows_of, found_of, subcommand_of, subcommand_rows_of};
 ghost use Rattle.restool.specs.CommandLine.{command_line};
+ghost use Rattle.restool.specs.Stop.{stop_of, tool, not_text};
 ghost use Rattle.restool.specs.Request.{AsksForRows, IsQuestionOf, IsTaskOf, ReadsAlong, ReadsCommand, ReadsWords, ids_asked, ids_of};
 
 use crate::arguments::{given_flag, given_id, given_ids, given_nodes, given_word};
@@ -17,17 +20,26 @@ use clap::ArgMatches;
 use resource_tool::ToolFault;
 use std::alloc::Global;
 use std::env;
-use std::io::ErrorKind;
+use std::io::{self, ErrorKind};
 use std::rt::Env;
 
 /// The words that the program was started with. The first is its name.
 pub fn program_words<R: Env + AllocGlobal>(rt: &R) -> Result<Vec<String>, Stop<'static>> {
     match env::args(rt) {
         Ok(words) => Ok(words.collect(rt.alloc())?),
-        Err(error) if error.kind() == ErrorKind::OutOfMemory => {
-            Err(Stop::Tool(ToolFault::OutOfMemory))
-        }
-        Err(_) => Err(Stop::NotText),
+        Err(error) => Err(stop_of_words(&error)),
+    }
+}
+
+// Words that are not read are not UTF-8, unless memory ran out.
+fn stop_of_words(error: &io::Error) -> Stop<'static>
+    ensures memory { error_kind error.now ≡ ErrorKind.OutOfMemory → stop_of result ≡ tool OutOfMemory }
+    ensures other { error_kind error.now ≢ ErrorKind.OutOfMemory → stop_of result ≡ not_text }
+{
+    if error.kind() == ErrorKind::OutOfMemory {
+        Stop::Tool(ToolFault::OutOfMemory)
+    } else {
+        Stop::NotText
     }
 }
 

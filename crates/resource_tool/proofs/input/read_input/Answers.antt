@@ -3,7 +3,7 @@ use Rattle.std.proofs.Common.{◌<◌, ◌++◌, length, take, arith, length-app
 use Rattle.std.proofs.lemmas.Grind.{common_steps}
 use Rattle.std.proofs.KnownBytes.{Consumes-trans, Consumes-kept}
 use Rattle.resource_tool.proofs.input.read_input.Goals as goal
-use Rattle.resource_tool.proofs.input.read_input.Goals.{else-loop-test, then-loop-test+else-counter-limit, in-Ok-2+in_ok-extend_from_slice-in-Ok-2, in-Err}
+use Rattle.resource_tool.proofs.input.read_input.Goals.{else-loop-test, then-loop-test+else-counter-limit, in-Ok-2+in_ok-extend_from_slice-in-Ok-2, in-Err+in_ok-check_interrupted-in-Err}
 
 pub returns-in-Ok-clause-too_large : goal.returns-in-Ok-clause-too_large
 returns-in-Ok-clause-too_large g c = λ asked.
