@@ -21,8 +21,8 @@ use reference_resolver::End;
 use res_value::ResId;
 use std::alloc::Global;
 
-/// Adds the node at which these members stand, and opens the boxes behind it; or gives a member that ends at no value
-/// and no bag, with its end.
+/// Adds the node to which these members come, and opens the boxes behind it; or gives a member for which the id ends at
+/// no value and no bag, with that end.
 pub(crate) fn add_node(
     alloc: Global,
     stack: &Stack<'_>,
@@ -38,6 +38,7 @@ pub(crate) fn add_node(
     match common_trace(stack, id, members) {
         CommonTrace::One(end) => match leaf_of(end) {
             Some(leaf) => {
+                // A certificate can name 64 layers, and a stack has no more.
                 let layers = stack.len();
                 prove!(layers <= MOST_LAYERS);
                 nodes.push(leaf)?;
@@ -73,6 +74,7 @@ fn add_test(
             nodes.push(Node::Test(test))?;
             Ok(())
         }
+        // The test is one that can be asked of these members, and parts two of them.
         Split::WrongKind => unreachable!(),
         Split::EmptyHalf => unreachable!(),
     }

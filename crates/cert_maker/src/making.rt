@@ -42,6 +42,7 @@ pub fn make_watched<P: Progress>(
     ensures least { IfOk result (IsLeast stack.now members.now asked.now max_nodes) }
     ensures fits { IfOk result CanBeWritten }
 {
+    // The tree of each goal has one node at least.
     let Some(spare) = (max_nodes as usize).checked_sub(asked.len()) else {
         return Ok(Made::NodeLimit);
     };

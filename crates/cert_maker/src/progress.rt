@@ -2,7 +2,7 @@
 
 /// Where the caller wants to know how far the work is.
 pub trait Progress {
-    /// So many goals of all have their tree.
+    /// `done` of `all` goals have their tree.
     fn goals_done(&mut self, done: usize, all: usize);
 }
 

@@ -14,19 +14,20 @@ use reference_resolver::End;
 use res_value::ResId;
 use std::alloc::Global;
 
-/// How a tree came out.
+/// What became of a tree.
 #[derive(Debug, Drop)]
 pub(crate) enum Grown {
     /// A tree of which no rule fails.
     Tree(Vec<Node>),
-    /// A device that ends at no value and no bag.
+    /// A device for which the id ends at no value and no bag, and where it ends.
     Nowhere(Device, End),
     /// The tree has more nodes than allowed.
     TooLarge,
 }
 
 /// The tree of an id for a box, of at most so many nodes. The boxes of the paths that are open lie in a list, the
-/// next one last; at least one node comes for each.
+/// next one last. Each of them needs one node at least, so a tree is given up where its nodes and the open boxes are
+/// together more than the limit.
 pub(crate) fn grow_tree(
     alloc: Global,
     stack: &Stack<'_>,

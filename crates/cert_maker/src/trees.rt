@@ -20,7 +20,7 @@ pub(crate) struct Trees {
 }
 
 impl Trees {
-    /// Adds the tree of the next goal, an id; or gives the answer where it has none.
+    /// Adds the tree of the next goal, an id. `Some` ends the work: a device without a value, or the limit.
     pub(crate) fn add(
         &mut self,
         alloc: Global,
