@@ -248,10 +248,31 @@ ends "a limit that is no number" 2 '"$0" make --max-nodes many layers box 0x7f01
 ends "a limit without a number" 2 '"$0" make layers box 0x7f010000 --max-nodes'
 ends "make without an id" 2 '"$0" make layers box'
 ends "make to a closed output" 5 '"$0" make layers box 0x7f010000 >&-'
-cd "$here" || exit 1
-ends "the certificate of examples/release" 0 "sh examples/release/make.sh examples/teapot/resources.arsc \
-    examples/release/layers.json | cmp - examples/release/certificate.json"
-cd "$work" || exit 1
+
+# The step of a build that the guide shows. Each of these folders has other names.
+if command -v python3 >/dev/null; then
+    for folder in spaced nameless strange; do cp -r "$here/examples/release" $folder; done
+    awk '{ print "\n" $0 "\n" }' "$here/examples/release/goals.txt" >spaced/goals.txt
+    line nameless/goals.txt ''
+    line strange/goals.txt 'dimen/spout'
+    line absent-table "[{\"table\":\"$work/absent\"}]"
+    line wrong-table "[{\"table\":\"$work/cut\"}]"
+    layers=examples/release/layers.json
+    cd "$here" || exit 1
+    ends "the certificate of examples/release" 0 "export RESTOOL=\"\$0\"
+        sh examples/release/make.sh $layers | cmp - examples/release/certificate.json"
+    ends "blank lines between names" 0 "RESTOOL=\"\$0\" sh '$work/spaced/check.sh' $layers"
+    ends "no names" 1 "RESTOOL=\"\$0\" sh '$work/nameless/check.sh' $layers"
+    ends "a name that the table has not" 1 "RESTOOL=\"\$0\" sh '$work/strange/check.sh' $layers"
+    for script in check make; do
+        ends "$script of an absent table" 5 "RESTOOL=\"\$0\" sh examples/release/$script.sh '$work/absent-table'"
+        ends "$script of a table that is rejected" 3 "RESTOOL=\"\$0\" sh examples/release/$script.sh '$work/wrong-table'"
+        ends "$script of no layers" 1 "RESTOOL=\"\$0\" sh examples/release/$script.sh '$work/no-layers'"
+    done
+    cd "$work" || exit 1
+else
+    echo "not run, since python3 is missing: the step of a build"
+fi
 
 # Work of more than a second: one id 2,000 times, over a box with a long list. With standard error in a file nothing is
 # written there.
@@ -281,7 +302,7 @@ for page in README.md docs/GUIDE.md; do
     for shown in shown/*.lines; do
         command=$(cat "${shown%.lines}.command")
         case $command in
-        python3*) command -v python3 >/dev/null || { echo "not run, since python3 is missing: $command"; continue; } ;;
+        python3* | 'sh examples/release'*) command -v python3 >/dev/null || { echo "not run, since python3 is missing: $command"; continue; } ;;
         esac
         (cd "$here" && sh -c "$command") >printed 2>&1
         ends "$page's output of '$command'" 0 "awk -f '$here/tests/shown.awk' '$shown' printed >&2"
