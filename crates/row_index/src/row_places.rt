@@ -11,6 +11,9 @@ use res_value::ResId;
 use std::alloc::{AllocError, Global};
 use type_chunks::CheckedType;
 
+/// An id can name so many entries of a type.
+const ENTRIES: usize = 0x1_0000;
+
 /// The rows of each id, linked from its first in the order of the file to its last: eight bytes for each
 /// row, and four for each entry of a type.
 #[derive(Debug, Drop)]
@@ -54,8 +57,9 @@ impl RowPlaces {
         let Ok(number) = u32::try_from(number) else {
             return Err(AllocError);
         };
+        let entries = of.entry_count().min(ENTRIES);
         self.heads
-            .make_room(alloc, of.package_id(), of.id(), of.entry_count())?;
+            .make_room(alloc, of.package_id(), of.id(), entries)?;
         for row in of.rows() {
             self.push(alloc, row.id, number)?;
         }

@@ -19,17 +19,23 @@ impl<'a> CheckedType<'a> {
     ghost use Rattle.type_chunks.specs.TypeRows.{rows_of_type};
 
     /// The id of the package that it is of.
-    pub fn package_id(&self) -> u8 {
+    pub fn package_id(&self) -> u8
+        ensures { result ≡ self.now.chunk.owner.id }
+    {
         self.chunk.owner.id
     }
 
     /// Its id: that of its rows' ids.
-    pub fn id(&self) -> u8 {
+    pub fn id(&self) -> u8
+        ensures { result ≡ self.now.chunk.id }
+    {
         self.chunk.id
     }
 
     /// How many indexes it has: one more than that of its last entry, or more.
-    pub fn entry_count(&self) -> usize {
+    pub fn entry_count(&self) -> usize
+        ensures { result ≡ self.now.chunk.entry_count }
+    {
         self.chunk.entry_count as usize
     }
 
