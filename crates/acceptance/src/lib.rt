@@ -20,6 +20,8 @@ mod rows;
 #[cfg(test)]
 mod rows_by_id;
 #[cfg(test)]
+mod shared_bags;
+#[cfg(test)]
 mod strings;
 #[cfg(test)]
 mod values;

@@ -37,5 +37,5 @@ pub use named_entry::table_b;
 pub use pool::{pool_of_string, pool_of_style};
 pub use qualifier::{RECORD_SIZE, record_of};
 pub use row_chain::chain;
-pub use table::{layer, layer_of_lines, layer_with_string};
+pub use table::{layer, layer_of_entries, layer_of_lines, layer_with_string};
 pub use unnamed_entry::{put, table_a, table_with};

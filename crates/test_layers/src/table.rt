@@ -70,6 +70,20 @@ pub fn layer_with_string(alloc: Global, letter: u8, rows: &[&str]) -> Result<Vec
     table_of(alloc, &pool, &chunks)
 }
 
+/// The bytes of a table of one type, whose entries stand at these offsets among these bytes.
+pub fn layer_of_entries(
+    alloc: Global,
+    offsets: &[u32],
+    entries: &[u8],
+) -> Result<Vec<u8>, LayerFault> {
+    let count = u32::try_from(offsets.len()).map_err(|_| LayerFault::Malformed)?;
+    let record = record_of("").ok_or(LayerFault::Malformed)?;
+    let mut chunks = Vec::new(alloc);
+    push_type_spec(alloc, &mut chunks, count)?;
+    push_type_of(alloc, &mut chunks, &record, offsets, entries)?;
+    table_of(alloc, b"", &chunks)
+}
+
 // The type spec and the type chunk of each row.
 fn chunks_of(alloc: Global, rows: &[&str]) -> Result<Vec<u8>, LayerFault> {
     let mut count = 0;
@@ -119,17 +133,32 @@ fn push_type(
     count: u32,
 ) -> Result<(), LayerFault> {
     let record = record_of(row.qualifiers).ok_or(LayerFault::Malformed)?;
+    let mut offsets = Vec::new(alloc);
+    for index in 0..count {
+        offsets.push(if index == row.entry { 0 } else { NO_ENTRY })?;
+    }
+    push_type_of(alloc, chunks, &record, &offsets, &row.cell.entry(alloc)?)
+}
+
+// The type chunk of a record whose entries stand at these offsets among these bytes.
+fn push_type_of(
+    alloc: Global,
+    chunks: &mut Vec<u8>,
+    record: &[u8],
+    offsets: &[u32],
+    entries: &[u8],
+) -> Result<(), LayerFault> {
+    let count = u32::try_from(offsets.len()).map_err(|_| LayerFault::Malformed)?;
     let mut header = Vec::new(alloc);
     header.extend_from_slice(&[TYPE_ID, 0, 0, 0])?;
     push_u32(&mut header, count)?;
     push_u32(&mut header, count.saturating_mul(4).saturating_add(72))?;
-    header.extend_from_slice(&record)?;
+    header.extend_from_slice(record)?;
     let mut body = Vec::new(alloc);
-    for index in 0..count {
-        let offset = if index == row.entry { 0 } else { NO_ENTRY };
-        push_u32(&mut body, offset)?;
+    for offset in offsets {
+        push_u32(&mut body, *offset)?;
     }
-    body.extend_from_slice(&row.cell.entry(alloc)?)?;
+    body.extend_from_slice(entries)?;
     push_chunk(chunks, TYPE, &header, &body)?;
     Ok(())
 }
