@@ -1,6 +1,6 @@
 -- How words are read as ids, one after the other.
 use Rattle.std.proofs.Common.{◌≡◌, ℕ, ◌<◌, List, [], ◌∷◌, map, length, get_or, ap, ◌∙◌}
-use Rattle.std.specs.Prelude.{Result, Ok, Err}
+use Rattle.std.specs.Prelude.{Ok, Err}
 use Rattle.std.specs.Borrow.{Bor}
 use Rattle.contract_words.specs.Sequences.{with_front}
 use Rattle.json_input.proofs.EachSteps.{EachAllBut, EachAllBut-stops_item}

@@ -1,16 +1,15 @@
 -- How a loop reads the files of one layer after the other.
-use Rattle.std.proofs.Common.{◌≡◌, ◌≢◌, ℕ, List, [], ◌∷◌, ◌++◌, map, Option, Some, None, IfSome, Result, Ok, Err, refl, sym, ap, ◌∙◌, append_assoc, length, arith, Vec, String}
+use Rattle.std.proofs.Common.{◌≡◌, ◌≢◌, ℕ, List, [], ◌∷◌, ◌++◌, map, Option, Some, None, IfSome, Ok, Err, refl, ap, ◌∙◌, length, arith, Vec, String}
 use Rattle.std.specs.declared.alloc.Global.{Global}
 use Rattle.std.proofs.lemmas.List.{map-append}
 use Rattle.contract_words.specs.Sequences.{with_front}
 use Rattle.contract_words.proofs.SequenceSteps.{with_front_nil}
 use Rattle.json_input.specs.Each.{each}
 use Rattle.resource_text.specs.declared.fault.ToolFault.TheVariants.{OutOfMemory}
-use Rattle.resource_tool.specs.LayerList.{LayerPaths}
 use Rattle.resource_tool.specs.LayerListSeen.{paths_of}
 use Rattle.resource_tool.specs.StackBytes.{LayerBytes}
 use Rattle.restool.specs.declared.stop.Stop.{Stop}
-use Rattle.restool.specs.Stop.{StopOf, tool, stop_of, GivesOrStops}
+use Rattle.restool.specs.Stop.{tool, stop_of}
 use Rattle.restool.specs.Inputs.{Places, layer_of}
 use Rattle.restool.specs.FilesSeen.{layer_held}
 use Rattle.restool.proofs.EachLeft.{left-next, left-stops, left-end}
