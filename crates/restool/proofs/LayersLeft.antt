@@ -1,53 +1,18 @@
 -- How a loop reads the files of one layer after the other.
-use Rattle.std.proofs.Common.{◌≡◌, ◌≢◌, ℕ, List, [], ◌∷◌, ◌++◌, map, Option, Some, None, IfSome, Result, Ok, Err, refl, sym, ap, ◌∙◌, append_assoc, length, arith, Vec, String}
+use Rattle.std.proofs.Common.{◌≡◌, ◌≢◌, ℕ, List, [], ◌∷◌, ◌++◌, map, Option, Some, None, IfSome, Ok, Err, refl, ap, ◌∙◌, length, arith, Vec, String}
 use Rattle.std.specs.declared.alloc.Global.{Global}
-use Rattle.std.proofs.lemmas.List.{append-nil, map-append}
-use Rattle.contract_words.specs.Faults.{◌>>=◌}
+use Rattle.std.proofs.lemmas.List.{map-append}
 use Rattle.contract_words.specs.Sequences.{with_front}
 use Rattle.contract_words.proofs.SequenceSteps.{with_front_nil}
 use Rattle.json_input.specs.Each.{each}
 use Rattle.resource_text.specs.declared.fault.ToolFault.TheVariants.{OutOfMemory}
-use Rattle.resource_tool.specs.LayerList.{LayerPaths}
 use Rattle.resource_tool.specs.LayerListSeen.{paths_of}
 use Rattle.resource_tool.specs.StackBytes.{LayerBytes}
 use Rattle.restool.specs.declared.stop.Stop.{Stop}
-use Rattle.restool.specs.Stop.{StopOf, tool, stop_of, GivesOrStops}
+use Rattle.restool.specs.Stop.{tool, stop_of}
 use Rattle.restool.specs.Inputs.{Places, layer_of}
 use Rattle.restool.specs.FilesSeen.{layer_held}
-
--- ---- what is read of several things, where some are left
-
-with_front-twice : {X E : Type 0} (a b : List X) (r : Result (List X) E) → with_front a (with_front b r) ≡ with_front (a ++ b) r
-with_front-twice {X} {E} a b (Ok xs) = let wrapped : List X → Result (List X) E = λ t. Ok t in ap wrapped (sym (append_assoc a b xs))
-with_front-twice a b (Err e) = refl
-
-each-ok : {A X E : Type 0} (f : A → Result X E) (a : A) (others : List A) (x : X) → f a ≡ Ok x → each f (a ∷ others) ≡ with_front (x ∷ []) (each f others)
-unfolding each
-each-ok {A} {X} {E} f a others x given = ap (λ (r : Result X E). r >>= (λ x. with_front (x ∷ []) (each f others))) given
-
-each-err : {A X E : Type 0} (f : A → Result X E) (a : A) (others : List A) (e : E) → f a ≡ Err e → each f (a ∷ others) ≡ Err e
-unfolding each
-each-err {A} {X} {E} f a others e given = ap (λ (r : Result X E). r >>= (λ x. with_front (x ∷ []) (each f others))) given
-
-each-nil : {A X E : Type 0} (f : A → Result X E) → each f [] ≡ Ok []
-unfolding each
-each-nil f = refl
-
-left-next : {A X E : Type 0} (f : A → Result X E) (so_far : List X) (a : A) (others all : List A) (x : X)
-    → with_front so_far (each f (a ∷ others)) ≡ each f all → f a ≡ Ok x → with_front (so_far ++ x ∷ []) (each f others) ≡ each f all
-left-next f so_far a others all x before given =
-    sym (with_front-twice so_far (x ∷ []) (each f others)) ∙ ap (with_front so_far) (sym (each-ok f a others x given)) ∙ before
-
-left-stops : {A X E : Type 0} (f : A → Result X E) (so_far : List X) (a : A) (others all : List A) (e : E)
-    → with_front so_far (each f (a ∷ others)) ≡ each f all → f a ≡ Err e → each f all ≡ Err e
-left-stops f so_far a others all e before given = sym before ∙ ap (with_front so_far) (each-err f a others e given)
-
-left-end : {A X E : Type 0} (f : A → Result X E) (so_far : List X) (all : List A) → with_front so_far (each f []) ≡ each f all → each f all ≡ Ok so_far
-left-end {A} {X} {E} f so_far all before =
-    let wrapped : List X → Result (List X) E = λ t. Ok t in
-    sym before ∙ ap (with_front so_far) (each-nil f) ∙ ap wrapped (append-nil so_far)
-
--- ---- of layers
+use Rattle.restool.proofs.EachLeft.{left-next, left-stops, left-end}
 
 abbrev pub Layer : Type 0
 Layer = Vec ℕ Global × Option (Vec ℕ Global)

@@ -1,3 +1,4 @@
+pub mod EachLeft
 pub mod IdSteps
 pub mod LayersLeft
 pub mod CarriedOut

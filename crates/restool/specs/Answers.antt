@@ -19,7 +19,7 @@ use Rattle.restool.specs.declared.request.Question.TheVariants.{Query, Explain, 
 use Rattle.restool.specs.declared.request.Task.{Task}
 use Rattle.restool.specs.declared.request.Task.TheVariants.{Make, Check}
 use Rattle.restool.specs.Stop.{StopOf, stop_of, tool}
-use Rattle.restool.specs.Inputs.{Places, DeviceInputs, table_of, device_files, box_files, check_files}
+use Rattle.restool.specs.Inputs.{Places, InputsWith, table_of, layers_with, check_files}
 
 -- A command is carried out on what is read: it is done as the command does it. A stop is why something is not read, or
 -- the command's fault. Where memory ran out, nothing is said.
@@ -31,25 +31,25 @@ CarriesOut {X} Command meant (Err stop) =
     ⊎ ((read : X) × (fault : ToolFault) × (meant ≡ Ok read) × (stop_of stop ≡ tool fault) × Command read (Err fault))
 
 -- a question that is asked of layers and a device
-abbrev pub AnswersQuestion : {W : Type 0} → (W → Option (List ℕ)) → W → W → DeviceInputs → Question → Result Status ToolFault → Type 0
+abbrev pub AnswersQuestion : {W : Type 0} → (W → Option (List ℕ)) → W → W → InputsWith → Question → Result Status ToolFault → Type 0
 AnswersQuestion contents old new inputs (Query ids) result =
-    Prints contents old new result (query_output inputs.layers inputs.device ids.items)
+    Prints contents old new result (query_output inputs.layers inputs.other ids.items)
 AnswersQuestion contents old new inputs (Explain id) result =
-    Prints contents old new result (explain_output inputs.layers inputs.device id.0)
+    Prints contents old new result (explain_output inputs.layers inputs.other id.0)
 AnswersQuestion contents old new inputs (Bag id) result =
-    Prints contents old new result (bag_output inputs.layers inputs.device id.0)
+    Prints contents old new result (bag_output inputs.layers inputs.other id.0)
 AnswersQuestion contents old new inputs (Attr attr styles force) result =
-    Prints contents old new result (attr_output inputs.layers inputs.device attr.0 styles.items force)
+    Prints contents old new result (attr_output inputs.layers inputs.other attr.0 styles.items force)
 
 -- a task for the layers and the box at these paths
 abbrev pub AnswersTask : {W : Type 0} → (W → Option (List ℕ)) → W → W → Places → List ℕ → List ℕ → Task → Result Status Stop → Type 0
 AnswersTask contents old new places layers members (Make max_nodes ids) =
     CarriesOut (λ inputs result. PrintsOneOf (IsMakeOutput ids.items max_nodes) contents old new result
-    (make_inputs inputs.layers inputs.members))
-    (box_files places layers members)
+    (make_inputs inputs.layers inputs.other))
+    (layers_with places layers members)
 AnswersTask contents old new places layers members (Check certificate ids) =
     CarriesOut (λ inputs result. PrintsOneOf (check.IsCheckOutput ids.items) contents old new result
-    (check.check_inputs inputs.layers inputs.members inputs.certificate))
+    (check.check_inputs inputs.inputs.layers inputs.inputs.other inputs.certificate))
     (check_files places layers members certificate.now)
 
 -- a request, from what the places have
@@ -59,6 +59,6 @@ Answers contents old new places (Rows table) =
 Answers contents old new places (Dump table) =
     CarriesOut (λ bytes result. Prints contents old new result (dump_output bytes)) (table_of places table.now)
 Answers contents old new places (OfDevice layers device question) =
-    CarriesOut (λ inputs. AnswersQuestion contents old new inputs question) (device_files places layers.now device.now)
+    CarriesOut (λ inputs. AnswersQuestion contents old new inputs question) (layers_with places layers.now device.now)
 Answers contents old new places (OfBox layers members task) =
     AnswersTask contents old new places layers.now members.now task

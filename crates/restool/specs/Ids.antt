@@ -1,8 +1,7 @@
 -- Words that are ids.
-use Rattle.std.specs.Prelude.{ℕ, ◌≡◌, List, [], ◌∷◌, ok_or, Result, Ok, Err, Vec}
+use Rattle.std.specs.Prelude.{ℕ, ◌≡◌, List, ok_or, Result, Ok, Err, Vec}
 use Rattle.std.specs.declared.alloc.Global.{Global}
-use Rattle.contract_words.specs.Faults.{◌>>=◌}
-use Rattle.contract_words.specs.Sequences.{with_front}
+use Rattle.json_input.specs.Each.{each}
 use Rattle.res_value.specs.declared.res_id.ResId.{ResId}
 use Rattle.res_value.specs.ResId.{id_of}
 use Rattle.resource_text.specs.declared.fault.ToolFault.TheVariants.{OutOfMemory}
@@ -14,11 +13,8 @@ abbrev pub id_in : List ℕ → Result ResId (List ℕ)
 id_in word = ok_or (id_of word) word
 
 -- the ids that words spell, in their order, or the first word that spells none
-unfoldable pub ids_in : List (List ℕ) → Result (List ResId) (List ℕ)
-ids_in [] = Ok []
-ids_in (word ∷ words) = do
-  id ← id_in word
-  with_front (id ∷ []) (ids_in words)
+abbrev pub ids_in : List (List ℕ) → Result (List ResId) (List ℕ)
+ids_in words = each id_in words
 
 -- a call gave the id that is meant, or stops for the word that is none
 abbrev pub ReadsId : Result ResId Stop → Result ResId (List ℕ) → Type 0

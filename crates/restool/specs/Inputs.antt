@@ -57,39 +57,25 @@ layers_of places path = do
 
 -- ---- the files of a request
 
-pub record DeviceInputs : Type 0 where
+-- layers, and the bytes of a device or a box
+pub record InputsWith : Type 0 where
   pub layers : List LayerBytes
-  pub device : List ℕ
+  pub other : List ℕ
 
--- layers and then a device
-unfoldable pub device_files : Places → List ℕ → List ℕ → Result DeviceInputs StopOf
-device_files places layers device = do
+-- layers and then another file
+unfoldable pub layers_with : Places → List ℕ → List ℕ → Result InputsWith StopOf
+layers_with places layers other = do
   layers ← layers_of places layers
-  device ← file_of places device
-  Ok (record { layers = layers; device = device })
-
-pub record BoxInputs : Type 0 where
-  pub layers : List LayerBytes
-  -- the bytes of the box
-  pub members : List ℕ
-
--- layers and then a box
-unfoldable pub box_files : Places → List ℕ → List ℕ → Result BoxInputs StopOf
-box_files places layers members = do
-  layers ← layers_of places layers
-  members ← file_of places members
-  Ok (record { layers = layers; members = members })
+  other ← file_of places other
+  Ok (record { layers = layers; other = other })
 
 pub record CheckInputs : Type 0 where
-  pub layers : List LayerBytes
-  -- the bytes of the box
-  pub members : List ℕ
+  pub inputs : InputsWith
   pub certificate : List ℕ
 
 -- layers, then a box and then a certificate
 unfoldable pub check_files : Places → List ℕ → List ℕ → List ℕ → Result CheckInputs StopOf
 check_files places layers members certificate = do
-  layers ← layers_of places layers
-  members ← file_of places members
+  inputs ← layers_with places layers members
   certificate ← file_of places certificate
-  Ok (record { layers = layers; members = members; certificate = certificate })
+  Ok (record { inputs = inputs; certificate = certificate })

@@ -5,9 +5,9 @@ ghost use Rattle.resource_tool.specs.Output.{PrintsOneOf};
 ghost use Rattle.resource_tool.specs.MakeOutput.{IsMakeOutput, make_inputs};
 ghost use Rattle.resource_tool.specs.CheckOutput.{IsCheckOutput, check_inputs};
 ghost use Rattle.restool.specs.Answers.{Answers, AnswersQuestion, AnswersTask};
-ghost use Rattle.restool.specs.FilesSeen.{device_held, layers_held};
+ghost use Rattle.restool.specs.FilesSeen.{with_held, layers_held};
 
-use crate::files::{BoxFiles, CheckFiles, DeviceFiles};
+use crate::files::{CheckFiles, LayersWith};
 use crate::input::{Inputs, table_bytes};
 use crate::request::{Question, Request, Task};
 use crate::stop::Stop;
@@ -45,7 +45,7 @@ pub fn answer<'a, I: Inputs, P: Progress, O: Write + Drop>(
             device,
             question,
         } => {
-            let files = DeviceFiles::read(alloc, inputs, layers, device)?;
+            let files = LayersWith::read(alloc, inputs, layers, device)?;
             let status = answer_question(alloc, &files, question, out)?;
             Ok(status)
         }
@@ -59,14 +59,14 @@ pub fn answer<'a, I: Inputs, P: Progress, O: Write + Drop>(
 
 fn answer_question<O: Write + Drop>(
     alloc: Global,
-    files: &DeviceFiles,
+    files: &LayersWith,
     question: Question,
     out: &mut O,
 ) -> Result<Status, ToolFault>
-    ensures { AnswersQuestion O.contents out.old out.new (device_held files.now) question result }
+    ensures { AnswersQuestion O.contents out.old out.new (with_held files.now) question result }
 {
     let layers = files.layers.layers(alloc)?;
-    let device = &files.device;
+    let device = &files.other;
     match question {
         Question::Query { ids } => query_bytes(alloc, &layers, device, &ids, out),
         Question::Explain { id } => explain_bytes(alloc, &layers, device, id, out),
@@ -93,7 +93,7 @@ fn carry_out_task<'a, I: Inputs, P: Progress, O: Write + Drop>(
 {
     match task {
         Task::Make { max_nodes, ids } => {
-            let files = BoxFiles::read(alloc, inputs, layers, members)?;
+            let files = LayersWith::read(alloc, inputs, layers, members)?;
             let status = make_certificate(alloc, &files, &ids, max_nodes, progress, out)?;
             Ok(status)
         }
@@ -107,17 +107,17 @@ fn carry_out_task<'a, I: Inputs, P: Progress, O: Write + Drop>(
 
 fn make_certificate<O: Write + Drop, P: Progress>(
     alloc: Global,
-    files: &BoxFiles,
+    files: &LayersWith,
     ids: &[ResId],
     max_nodes: u32,
     progress: &mut P,
     out: &mut O,
 ) -> Result<Status, ToolFault>
     ensures { PrintsOneOf (IsMakeOutput ids.now max_nodes) O.contents out.old out.new result
-        (make_inputs (layers_held files.now.layers) files.now.members.items) }
+        (make_inputs (layers_held files.now.layers) files.now.other.items) }
 {
     let layers = files.layers.layers(alloc)?;
-    let members = &files.members;
+    let members = &files.other;
     make_bytes_watched(alloc, &layers, members, ids, max_nodes, progress, out)
 }
 
@@ -128,8 +128,9 @@ fn check_certificate<O: Write + Drop>(
     out: &mut O,
 ) -> Result<Status, ToolFault>
     ensures { PrintsOneOf (IsCheckOutput ids.now) O.contents out.old out.new result
-        (check_inputs (layers_held files.now.layers) files.now.members.items files.now.certificate.items) }
+        (check_inputs (layers_held files.now.inputs.layers) files.now.inputs.other.items files.now.certificate.items) }
 {
-    let layers = files.layers.layers(alloc)?;
-    check_bytes(alloc, &layers, &files.members, &files.certificate, ids, out)
+    let layers = files.inputs.layers.layers(alloc)?;
+    let members = &files.inputs.other;
+    check_bytes(alloc, &layers, members, &files.certificate, ids, out)
 }

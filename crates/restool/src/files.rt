@@ -5,8 +5,8 @@ ghost use Rattle.json_input.specs.Each.{each};
 ghost use Rattle.resource_tool.specs.LayerListSeen.{paths_of, all_paths_of};
 ghost use Rattle.resource_tool.specs.StackBytesSeen.{layer_bytes};
 ghost use Rattle.restool.specs.Stop.{GivesOrStops};
-ghost use Rattle.restool.specs.Inputs.{layer_of, layers_of, device_files, box_files, check_files};
-ghost use Rattle.restool.specs.FilesSeen.{layer_held, all_held, layers_held, device_held, box_held, check_held};
+ghost use Rattle.restool.specs.Inputs.{layer_of, layers_of, layers_with, check_files};
+ghost use Rattle.restool.specs.FilesSeen.{layer_held, all_held, layers_held, with_held, check_held};
 
 use crate::input::{Inputs, file_bytes, layer_file};
 use crate::stop::Stop;
@@ -80,63 +80,36 @@ fn read_layer<I: Inputs>(
     }
 }
 
-/// The bytes of layers and of a device.
+/// The bytes of layers and of a device or a box.
 #[derive(Drop)]
-pub struct DeviceFiles {
+pub struct LayersWith {
     pub layers: LayerFiles,
-    pub device: Vec<u8>,
+    /// Those of the device or the box.
+    pub other: Vec<u8>,
 }
 
-impl DeviceFiles {
-    /// Reads a list of layers with the files that it names, and then a device.
-    #[tactic(auto, unfolding(crate::specs::Inputs::device_files))]
+impl LayersWith {
+    /// Reads a list of layers with the files that it names, and then another file.
+    #[tactic(auto, unfolding(crate::specs::Inputs::layers_with))]
     pub fn read<'a, I: Inputs>(
         alloc: Global,
         inputs: &I,
         layers: &'a str,
-        device: &'a str,
-    ) -> Result<DeviceFiles, Stop<'a>>
-        ensures { IfSome (I.places inputs.now) (λ places. GivesOrStops device_held result
-            (device_files places layers.entry.now device.entry.now)) }
+        other: &'a str,
+    ) -> Result<LayersWith, Stop<'a>>
+        ensures { IfSome (I.places inputs.now) (λ places. GivesOrStops with_held result
+            (layers_with places layers.entry.now other.entry.now)) }
     {
         let layers = LayerFiles::read(alloc, inputs, layers)?;
-        let device = file_bytes(inputs, device)?;
-        Ok(DeviceFiles { layers, device })
-    }
-}
-
-/// The bytes of layers and of a box.
-#[derive(Drop)]
-pub struct BoxFiles {
-    pub layers: LayerFiles,
-    /// Those of the box.
-    pub members: Vec<u8>,
-}
-
-impl BoxFiles {
-    /// Reads a list of layers with the files that it names, and then a box.
-    #[tactic(auto, unfolding(crate::specs::Inputs::box_files))]
-    pub fn read<'a, I: Inputs>(
-        alloc: Global,
-        inputs: &I,
-        layers: &'a str,
-        members: &'a str,
-    ) -> Result<BoxFiles, Stop<'a>>
-        ensures { IfSome (I.places inputs.now) (λ places. GivesOrStops box_held result
-            (box_files places layers.entry.now members.entry.now)) }
-    {
-        let layers = LayerFiles::read(alloc, inputs, layers)?;
-        let members = file_bytes(inputs, members)?;
-        Ok(BoxFiles { layers, members })
+        let other = file_bytes(inputs, other)?;
+        Ok(LayersWith { layers, other })
     }
 }
 
 /// The bytes of layers, of a box and of a certificate.
 #[derive(Drop)]
 pub struct CheckFiles {
-    pub layers: LayerFiles,
-    /// Those of the box.
-    pub members: Vec<u8>,
+    pub inputs: LayersWith,
     pub certificate: Vec<u8>,
 }
 
@@ -153,12 +126,10 @@ impl CheckFiles {
         ensures { IfSome (I.places inputs.now) (λ places. GivesOrStops check_held result
             (check_files places layers.entry.now members.entry.now certificate.entry.now)) }
     {
-        let layers = LayerFiles::read(alloc, inputs, layers)?;
-        let members = file_bytes(inputs, members)?;
+        let read = LayersWith::read(alloc, inputs, layers, members)?;
         let certificate = file_bytes(inputs, certificate)?;
         Ok(CheckFiles {
-            layers,
-            members,
+            inputs: read,
             certificate,
         })
     }

@@ -9,7 +9,7 @@ use res_value::ResId;
 use std::alloc::Global;
 
 /// The ids that words spell, in their order, or the first word that is none.
-#[tactic(auto, using(crate::proofs::IdSteps::id_steps))]
+#[tactic(auto, using(json_input::proofs::EachSteps::each_item_steps))]
 pub fn read_ids<'a>(alloc: Global, words: &[&'a str]) -> Result<Vec<ResId>, Stop<'a>>
     ensures { ReadsIds result (ids_in (map (λ word. word.now) words.now)) }
 {

@@ -110,7 +110,7 @@ fn request_of<'a>(
     }
 }
 
-#[tactic(auto, unfolding(crate::specs::Ids::ids_in))]
+#[tactic(auto, unfolding(json_input::specs::Each::each))]
 fn question_of<'a>(
     alloc: Global,
     verb: DeviceVerb,

@@ -1,17 +1,17 @@
 use Rattle.resource_tool.specs.Output.{PrintsOneOf}
 use Rattle.resource_tool.specs.MakeOutput.{IsMakeOutput, make_inputs}
-use Rattle.restool.specs.Inputs.{BoxInputs, box_files}
-use Rattle.restool.specs.FilesSeen.{box_held}
+use Rattle.restool.specs.Inputs.{InputsWith, layers_with}
+use Rattle.restool.specs.FilesSeen.{with_held}
 use Rattle.restool.proofs.CarriedOut.{carried_out}
 use Rattle.restool.proofs.answer.carry_out_task.Goals as goal
 
 pub returns-in_ok-status-in-Make : goal.returns-in_ok-status-in-Make
 returns-in_ok-status-in-Make g c =
     rw c.in-Make.is (carried_out
-    (λ (inputs : BoxInputs) result. PrintsOneOf (IsMakeOutput c.in-Make.ids.items c.in-Make.max_nodes) g.O.Write.contents c.args.out.now c.make_certificate.new.out result (make_inputs inputs.layers inputs.members))
+    (λ (inputs : InputsWith) result. PrintsOneOf (IsMakeOutput c.in-Make.ids.items c.in-Make.max_nodes) g.O.Write.contents c.args.out.now c.make_certificate.new.out result (make_inputs inputs.layers inputs.other))
     (g.I.Inputs.places c.args.inputs.now)
-    (λ places. box_files places c.args.layers.now c.args.members.now)
-    (box_held c.in_ok-files-in-Make.files)
+    (λ places. layers_with places c.args.layers.now c.args.members.now)
+    (with_held c.in_ok-files-in-Make.files)
     c.in_ok-status-in-Make.status
     c.in_ok-files-in-Make.ensures
     (rw (← c.deref.ensures.value) c.in_ok-status-in-Make.ensures))

@@ -1,6 +1,6 @@
 use Rattle.std.proofs.Common.{sym, ◌∙◌}
 use Rattle.std.proofs.lemmas.Result.{err_from_is_err_and}
-use Rattle.restool.proofs.LayersLeft.{LayersLeft, LayersLeft-none, LayersLeft-next, LayersLeft-stops, LayersLeft-end, none_left}
+use Rattle.restool.proofs.LayersLeft.{LayersLeft-none, LayersLeft-next, LayersLeft-stops, LayersLeft-end, none_left}
 use Rattle.restool.proofs.files.read_each_layer.Goals as goal
 
 pub loop-layer-init : goal.loop-layer-init

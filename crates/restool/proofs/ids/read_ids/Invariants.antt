@@ -1,6 +1,9 @@
-use Rattle.restool.proofs.IdSteps.{IdsAllBut}
+use Rattle.std.proofs.Common.{map}
+use Rattle.json_input.proofs.EachSteps.{EachAllBut}
+use Rattle.restool.specs.Ids.{id_in}
+use Rattle.restool.proofs.IdSteps.{word_of}
 use Rattle.restool.proofs.ids.read_ids.Given as goal
 
 -- the ids are those of the words so far
 abbrev pub invariant-loop-word : goal.invariant-loop-word
-invariant-loop-word l = IdsAllBut l.ids.items l.word-index l.words
+invariant-loop-word l = EachAllBut id_in l.ids.items l.word-index (map word_of l.words)
