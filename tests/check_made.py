@@ -20,7 +20,7 @@ from collections import Counter
 from concurrent.futures import ProcessPoolExecutor
 
 from case_files import Files, device_of, id_text
-from plain_certificates import corner, says
+from plain_certificates import corner, order_of, says
 from plain_rules import end_text
 from plain_trees import Traces, fault_of_need, needed_size, places, runs, varying
 from random_cases import Case
@@ -59,6 +59,8 @@ def faults_of_tree(case, name, nodes):
     faults = []
     for place, (node, members) in enumerate(places(case.members, nodes)):
         fault = fault_of_need(case.box, node, members, traces) if "coord" in node else None
+        if "in" in node and node["in"] != sorted(node["in"], key=order_of):
+            fault = "the values of a list do not rise"
         faults += [f"{id_text(name)} node {place}: {fault}"] if fault else []
     if len(varying(case.members)) <= 1:
         least = 2 * runs(case.box, case.members, traces) - 1
