@@ -1,6 +1,6 @@
 //! Records, read field by field where they stand.
 
-ghost use Rattle.std.specs.Prelude.{◌≡◌, ◌≢◌, ◌<◌, ◌≤◌, true};
+ghost use Rattle.std.specs.Prelude.{◌≡◌, ◌≢◌, ◌<◌, ◌≤◌, true, MatchBool};
 
 use crate::coord::Coord;
 use crate::locale::Locale;
@@ -72,7 +72,7 @@ impl<'a> Record<'a> {
 
     /// Whether another record has the same bytes: then all that is said of the one is said of the other.
     pub fn has_bytes_of(&self, other: &Record<'_>) -> bool
-        ensures { result ≡ true → record_bytes self.now ≡ record_bytes other.now }
+        ensures { MatchBool result (record_bytes self.now ≡ record_bytes other.now) (record_bytes self.now ≢ record_bytes other.now) }
     {
         self.bytes == other.bytes
     }

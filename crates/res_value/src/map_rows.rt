@@ -56,8 +56,8 @@ impl<'a> MapRows<'a> {
         Ok(MapRows { count, left: bytes })
     }
 
-    /// The same rows, where it is known that they fit and that each value has its size: what `read` saw
-    /// is not looked at again.
+    /// The same rows, where it is known that they fit. The sizes of their values are not looked at: this is
+    /// for rows that `read` has accepted before.
     pub fn within(count: u32, bytes: &'a [u8]) -> MapRows<'a>
         requires { row_size * count ≤ length bytes.now }
         ensures { map_rows_of result ≡ map_rows_at count bytes.now }
