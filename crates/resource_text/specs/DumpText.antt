@@ -22,7 +22,7 @@ package_id_text id = codes "package 0x" ++ encode_lower (id ∷ [])
 
 -- the line `package 0xKK NAME`
 unfoldable pub package_line : PackageOf → List ℕ
-package_line owner = package_id_text owner.id ++ codes " " ++ shown_text owner.name ++ 10 ∷ []
+package_line owner = package_id_text owner.header.id ++ codes " " ++ shown_text owner.header.name ++ 10 ∷ []
 
 -- `TYPE/KEY`
 unfoldable pub names_text : TableOf → RowOf → List ℕ

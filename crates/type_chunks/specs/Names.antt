@@ -24,13 +24,13 @@ unfoldable pub type_name_in : TableOf → RowOf → Result TextOf StringFault
 type_name_in table row = do
   in_package ← package_of_row table row
   let id = type_of (record { 0 = row.id })
-  _ ← refuse (nat_lt id (in_package.type_id_offset + 1)) NoSuch
-  text_in in_package.type_names (id - (in_package.type_id_offset + 1))
+  _ ← refuse (nat_lt id (in_package.header.type_id_offset + 1)) NoSuch
+  text_in in_package.header.type_names (id - (in_package.header.type_id_offset + 1))
 
 unfoldable pub key_name_in : TableOf → RowOf → Result TextOf StringFault
 key_name_in table row = do
   in_package ← package_of_row table row
-  text_in in_package.key_names row.key
+  text_in in_package.header.key_names row.key
 
 -- a name that can be read and is this text
 abbrev pub is_name : Result TextOf StringFault → List ℕ → Bool

@@ -1,5 +1,5 @@
 -- Packages (AOSP: ResTable_package): their names, and their rows.
-use Rattle.std.specs.Prelude.{ℕ, ◌%◌, Bool, false, ◌&&◌, ◌||◌, not, List, [], ◌∷◌, map, ◌==◌, length, take, drop, Result, Ok, nat_lt, if◌then◌else◌}
+use Rattle.std.specs.Prelude.{ℕ, ◌%◌, Bool, false, ◌&&◌, ◌||◌, not, List, [], ◌∷◌, map, ◌==◌, length, take, drop, Result, Ok, Err, nat_lt, if◌then◌else◌}
 use Rattle.std.specs.List.{flat_map}
 use Rattle.contract_words.specs.Faults.{◌>>=◌, refuse}
 use Rattle.chunk_walk.specs.Number.{number}
@@ -10,14 +10,15 @@ use Rattle.string_pool.specs.Text.{TextOf, text_of}
 use Rattle.type_chunks.specs.declared.fault.TableFault.{TableFault}
 use Rattle.type_chunks.specs.declared.fault.TableFault.TheVariants as faults
 use Rattle.type_chunks.specs.declared.package.Package.{Package}
+use Rattle.type_chunks.specs.declared.package_header.PackageHeader.{PackageHeader}
 use Rattle.type_chunks.specs.Layout.{pool_kind, least_package_header, package_header_with_offset}
 use Rattle.type_chunks.specs.LowerFaults.{found_chunk, pool_of_chunk}
 use Rattle.type_chunks.specs.Row.{RowOf}
 use Rattle.type_chunks.specs.TypeRows.{rows_of_types}
 use Rattle.type_chunks.specs.PackageChildren.{rows_of_children}
 
--- A package, without where its file lies in memory.
-pub record PackageOf : Type 0 where
+-- The header of a package, with the names that it leads to, without where its file lies in memory.
+pub record PackageHeaderOf : Type 0 where
   pub id : ℕ
   pub name : TextOf
   -- the names of its types
@@ -26,17 +27,27 @@ pub record PackageOf : Type 0 where
   pub key_names : PoolOf
   -- how far the ids of types stand above their indexes among the names
   pub type_id_offset : ℕ
+
+abbrev pub package_header_of : PackageHeader → PackageHeaderOf
+package_header_of header = record {
+  id = header.id;
+  name = text_of header.name;
+  type_names = pool_of header.type_names;
+  key_names = pool_of header.key_names;
+  type_id_offset = header.type_id_offset;
+}
+
+abbrev pub seen_header : Result PackageHeader TableFault → Result PackageHeaderOf TableFault
+seen_header (Ok header) = Ok (package_header_of header)
+seen_header (Err fault) = Err fault
+
+-- A package, without where its file lies in memory.
+pub record PackageOf : Type 0 where
+  pub header : PackageHeaderOf
   pub rows : List RowOf
 
 abbrev pub package_of : Package → PackageOf
-package_of read = record {
-  id = read.id;
-  name = text_of read.name;
-  type_names = pool_of read.type_names;
-  key_names = pool_of read.key_names;
-  type_id_offset = read.type_id_offset;
-  rows = rows_of_types read.types.items;
-}
+package_of read = record { header = package_header_of read.header; rows = rows_of_types read.types.items }
 
 abbrev pub packages_of : List Package → List PackageOf
 packages_of packages = map package_of packages
@@ -75,21 +86,26 @@ names_in chunk at = if at == 0 then Ok empty_pool else names_at chunk at
 abbrev pub type_id_offset_in : ChunkOf → ℕ
 type_id_offset_in chunk = if length chunk.header == package_header_with_offset then number 4 chunk.header 284 else 0
 
--- A package, or its first fault; `index` packages stand before it. Its id is at 8, its name at 12, and
--- where the names of types and of entries stand at 268 and 276.
-unfoldable pub package_in : ℕ → ChunkOf → Result PackageOf TableFault
-package_in index chunk = do
+-- The header of a package, or its first fault. The id is at 8, the name at 12, and where the names of types
+-- and of entries stand at 268 and 276.
+unfoldable pub package_header_in : ChunkOf → Result PackageHeaderOf TableFault
+package_header_in chunk = do
   _ ← refuse (nat_lt (length chunk.header) least_package_header) (faults.Chunk (HeaderShort chunk.place))
   let id = number 4 chunk.header 8
   _ ← refuse (id == 0 || nat_lt 255 id) (faults.PackageId chunk.place)
   type_names ← names_in chunk (number 4 chunk.header 268)
   key_names ← names_in chunk (number 4 chunk.header 276)
-  rows ← rows_of_children (record { id = id; index = index }) chunk
   Ok (record {
     id = id;
     name = name_in chunk;
     type_names = type_names;
     key_names = key_names;
     type_id_offset = type_id_offset_in chunk;
-    rows = rows;
   })
+
+-- A package, or its first fault; `index` packages stand before it.
+unfoldable pub package_in : ℕ → ChunkOf → Result PackageOf TableFault
+package_in index chunk = do
+  header ← package_header_in chunk
+  rows ← rows_of_children (record { id = header.id; index = index }) chunk
+  Ok (record { header = header; rows = rows })

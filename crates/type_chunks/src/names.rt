@@ -23,9 +23,9 @@ impl<'a> Table<'a> {
         let Some(package) = self.packages().get(row.package) else {
             return Err(StringFault::NoSuch);
         };
-        let first_id = package.type_id_offset as usize + 1;
+        let first_id = package.header.type_id_offset as usize + 1;
         match usize::from(row.id.type_id()).checked_sub(first_id) {
-            Some(index) => package.type_names.get(index),
+            Some(index) => package.header.type_names.get(index),
             None => Err(StringFault::NoSuch),
         }
     }
@@ -36,7 +36,7 @@ impl<'a> Table<'a> {
         ensures { seen_text result ≡ key_name_in self.now (row_of row.now) }
     {
         match self.packages().get(row.package) {
-            Some(package) => package.key_names.get(row.key as usize),
+            Some(package) => package.header.key_names.get(row.key as usize),
             None => Err(StringFault::NoSuch),
         }
     }

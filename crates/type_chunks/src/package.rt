@@ -4,23 +4,18 @@ ghost use Rattle.std.specs.Prelude.{◌≡◌, ◌<◌, ◌^◌, length};
 
 use crate::checked_type::CheckedType;
 use crate::fault::TableFault;
-use crate::layout::package_header as header;
 use crate::owner::Owner;
 use crate::package_children::types_of_children;
-use crate::package_header::{name_within, open_names, type_id_offset};
+use crate::package_header::PackageHeader;
 use crate::package_rows::PackageRows;
-use chunk_walk::{Chunk, ChunkFault, u32_within};
+use chunk_walk::Chunk;
 use std::alloc::Global;
-use string_pool::{Pool, Text};
+use string_pool::Text;
 
 /// A package (AOSP: `ResTable_package`): its rows, with their names.
 #[derive(Debug, Drop)]
 pub struct Package<'a> {
-    pub(crate) id: u8,
-    pub(crate) name: Text<'a>,
-    pub(crate) type_names: Pool<'a>,
-    pub(crate) key_names: Pool<'a>,
-    pub(crate) type_id_offset: u32,
+    pub(crate) header: PackageHeader<'a>,
     pub(crate) types: Vec<CheckedType<'a>>,
     ghost few: { length types.items < 2 ^ 29 },
 }
@@ -42,38 +37,26 @@ impl<'a> Package<'a> {
     ) -> Result<Package<'a>, TableFault>
         ensures { GivesOr OutOfMemory package_of result (package_in index (chunk_of chunk.now)) }
     {
-        if chunk.header.len() < header::LEAST_SIZE {
-            return Err(TableFault::Chunk(ChunkFault::HeaderShort(chunk.place)));
-        }
-        let id = u32_within(chunk.header, header::ID);
-        if id == 0 || id > 255 {
-            return Err(TableFault::PackageId(chunk.place));
-        }
-        let id = id as u8;
-        let type_names = open_names(chunk, u32_within(chunk.header, header::TYPE_NAMES))?;
-        let key_names = open_names(chunk, u32_within(chunk.header, header::KEY_NAMES))?;
-        let types = types_of_children(alloc, Owner { id, index }, chunk)?;
-        Ok(Package {
-            id,
-            name: name_within(chunk),
-            type_names,
-            key_names,
-            type_id_offset: type_id_offset(chunk),
-            types,
-        })
+        let header = PackageHeader::read(chunk)?;
+        let owner = Owner {
+            id: header.id,
+            index,
+        };
+        let types = types_of_children(alloc, owner, chunk)?;
+        Ok(Package { header, types })
     }
 
     /// The upper byte of its resources' ids: 1 is the system, 0x7f an app.
     pub fn id(&self) -> u8
-        ensures { result ≡ (package_of self.now).id }
+        ensures { result ≡ (package_of self.now).header.id }
     {
-        self.id
+        self.header.id
     }
 
     pub fn name(&self) -> Text<'a>
-        ensures { text_of result ≡ (package_of self.now).name }
+        ensures { text_of result ≡ (package_of self.now).header.name }
     {
-        self.name
+        self.header.name
     }
 
     /// Its rows, in the order of the file.

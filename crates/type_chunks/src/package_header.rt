@@ -1,4 +1,4 @@
-//! What the header of a package says of names.
+//! The headers of packages, and what they say of names.
 
 ghost use Rattle.std.specs.Prelude.{◌≡◌, ◌≤◌, length};
 ghost use Rattle.chunk_walk.specs.Chunk.{chunk_of};
@@ -11,11 +11,48 @@ ghost use Rattle.type_chunks.specs.LowerFaults.{seen_table_pool};
 use crate::fault::TableFault;
 use crate::layout::{kind, package_header as header};
 use crate::pool::open_pool;
-use chunk_walk::{Chunk, u32_within};
+use chunk_walk::{Chunk, ChunkFault, u32_within};
 use string_pool::{Pool, Text};
 
-/// The name of a package whose header is not too short.
-pub(crate) fn name_within<'a>(chunk: &Chunk<'a>) -> Text<'a>
+/// The header of a package, and the names that it leads to.
+#[derive(Clone, Copy, Debug)]
+pub(crate) struct PackageHeader<'a> {
+    pub id: u8,
+    pub name: Text<'a>,
+    pub type_names: Pool<'a>,
+    pub key_names: Pool<'a>,
+    pub type_id_offset: u32,
+}
+
+impl<'a> PackageHeader<'a> {
+    ghost use Rattle.type_chunks.specs.Package.{seen_header, package_header_in};
+
+    /// Reads the header of a package from its chunk.
+    #[tactic(auto, unfolding(crate::specs::Package::package_header_in))]
+    pub fn read(chunk: &Chunk<'a>) -> Result<PackageHeader<'a>, TableFault>
+        ensures { seen_header result ≡ package_header_in (chunk_of chunk.now) }
+    {
+        if chunk.header.len() < header::LEAST_SIZE {
+            return Err(TableFault::Chunk(ChunkFault::HeaderShort(chunk.place)));
+        }
+        let id = u32_within(chunk.header, header::ID);
+        if id == 0 || id > 255 {
+            return Err(TableFault::PackageId(chunk.place));
+        }
+        let type_names = open_names(chunk, u32_within(chunk.header, header::TYPE_NAMES))?;
+        let key_names = open_names(chunk, u32_within(chunk.header, header::KEY_NAMES))?;
+        Ok(PackageHeader {
+            id: id as u8,
+            name: name_within(chunk),
+            type_names,
+            key_names,
+            type_id_offset: type_id_offset(chunk),
+        })
+    }
+}
+
+// The name of a package whose header is not too short.
+fn name_within<'a>(chunk: &Chunk<'a>) -> Text<'a>
     requires { least_package_header ≤ length chunk.now.header.now }
     ensures { text_of result ≡ name_in (chunk_of chunk.now) }
 {
@@ -46,9 +83,9 @@ fn before_zero(units: &[u8]) -> &[u8]
     &units[..size]
 }
 
-/// How far the ids of types stand above their indexes among the names (AOSP:
-/// `ResTable_package::typeIdOffset`).
-pub(crate) fn type_id_offset(chunk: &Chunk<'_>) -> u32
+// How far the ids of types stand above their indexes among the names (AOSP:
+// `ResTable_package::typeIdOffset`).
+fn type_id_offset(chunk: &Chunk<'_>) -> u32
     ensures { result ≡ type_id_offset_in (chunk_of chunk.now) }
 {
     if chunk.header.len() == header::SIZE_WITH_OFFSET {
@@ -58,8 +95,8 @@ pub(crate) fn type_id_offset(chunk: &Chunk<'_>) -> u32
     }
 }
 
-/// The names that stand at a place of a package.
-pub(crate) fn open_names<'a>(chunk: &Chunk<'a>, at: u32) -> Result<Pool<'a>, TableFault>
+// The names that stand at a place of a package.
+fn open_names<'a>(chunk: &Chunk<'a>, at: u32) -> Result<Pool<'a>, TableFault>
     ensures { seen_table_pool result ≡ names_in (chunk_of chunk.now) at }
 {
     match at {
