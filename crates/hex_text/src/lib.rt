@@ -1,13 +1,15 @@
 //! Writes bytes as hexadecimal digits, two small ones for each byte.
 //!
-//! For the crates above: what `write_hex` appends is the digits of the bytes, and nothing else.
+//! For the crates above: what `write_hex` appends is the digits of the bytes, and nothing else; `word_digits`
+//! gives those of a word.
 //!
 //! ```text
 //! write_hex(&0x7f010000_u32.to_be_bytes(), &mut out)?; // 7f010000
 //! ```
 #![tactic(auto)]
 
-ghost use Rattle.std.specs.Prelude.{◌≤◌, length, OnOk};
+ghost use Rattle.std.specs.Prelude.{◌≡◌, ◌≤◌, length, OnOk};
+ghost use Rattle.std.specs.Int.{w32, to_be_bytes};
 ghost use Rattle.contract_words.specs.Writes.{Writes};
 ghost use Rattle.hex.specs.Hex.{encode_lower};
 
@@ -22,4 +24,14 @@ pub fn write_hex<W: Write + Drop>(bytes: &[u8], out: &mut W) -> io::Result<()>
     let digits = &mut buffer[..2 * bytes.len()];
     let _ = hex::encode_to_slice(bytes, digits);
     out.write_all(digits)
+}
+
+/// The eight digits of a word of 32 bits, the most significant first.
+pub fn word_digits(word: u32) -> [u8; 8]
+    ensures { result ≡ encode_lower (to_be_bytes w32 word) }
+{
+    let bytes = word.to_be_bytes();
+    let mut digits = [0; 8];
+    let _ = hex::encode_to_slice(&bytes, &mut digits);
+    digits
 }

@@ -1,7 +1,9 @@
 //! How a value is shown.
 
-ghost use Rattle.std.specs.Prelude.{OnOk};
+ghost use Rattle.std.specs.Prelude.{◌++◌, codes, OnOk};
+ghost use Rattle.std.specs.Fmt.{decimal, signed_decimal};
 ghost use Rattle.contract_words.specs.Writes.{Writes};
+ghost use Rattle.res_value.specs.Complex.{signed_number};
 ghost use Rattle.res_value.specs.ValueText.{value_text, null_text, boolean_text};
 
 use crate::complex::{DIMENSION_UNITS, FRACTION_UNITS, write_complex};
@@ -9,6 +11,7 @@ use crate::kind;
 use crate::value::Value;
 use crate::word::write_digits;
 use hex_text::write_hex;
+use itoa::Buffer;
 use std::io::{self, Write};
 
 // The words of kind `NULL` that have a name (AOSP: `Res_value::DATA_NULL_UNDEFINED` and on).
@@ -26,12 +29,12 @@ pub fn write_value<W: Write + Drop>(value: Value, out: &mut W) -> io::Result<()>
         kind::NULL => write_null(word, out),
         kind::REFERENCE => write_digits("@0x", word, out),
         kind::ATTRIBUTE => write_digits("?0x", word, out),
-        kind::STRING => write!(out, "string {word}"),
+        kind::STRING => write_string_index(word, out),
         kind::FLOAT => write_digits("float 0x", word, out),
         kind::DIMENSION => write_complex("dimension ", word, &DIMENSION_UNITS, out),
         kind::FRACTION => write_complex("fraction ", word, &FRACTION_UNITS, out),
         kind::DYNAMIC_REFERENCE => write_digits("dynamic 0x", word, out),
-        kind::INT_DEC => write!(out, "decimal {}", word.cast_signed()),
+        kind::INT_DEC => write_decimal(word, out),
         kind::INT_HEX => write_digits("hex 0x", word, out),
         kind::INT_BOOLEAN => write_boolean(word, out),
         kind::INT_COLOR_ARGB8 => write_digits("argb8 #", word, out),
@@ -44,6 +47,20 @@ pub fn write_value<W: Write + Drop>(value: Value, out: &mut W) -> io::Result<()>
             write_digits(" 0x", word, out)
         }
     }
+}
+
+fn write_string_index<W: Write + Drop>(word: u32, out: &mut W) -> io::Result<()>
+    ensures { Writes W.contents out.old out.new result (codes "string " ++ decimal word) }
+{
+    out.write_all(b"string ")?;
+    out.write_all(Buffer::new().format(word).as_bytes())
+}
+
+fn write_decimal<W: Write + Drop>(word: u32, out: &mut W) -> io::Result<()>
+    ensures { Writes W.contents out.old out.new result (codes "decimal " ++ signed_decimal (signed_number 32 word)) }
+{
+    out.write_all(b"decimal ")?;
+    out.write_all(Buffer::new().format(word.cast_signed()).as_bytes())
 }
 
 #[tactic(auto, unfolding(crate::specs::ValueText::null_text))]

@@ -4,15 +4,20 @@ ghost use Rattle.std.specs.Prelude.{◌++◌, OnOk};
 ghost use Rattle.contract_words.specs.Writes.{Writes};
 ghost use Rattle.res_value.specs.Word.{eight_digits, word_text};
 
-use hex_text::write_hex;
+use hex_text::word_digits;
 use std::io::{self, Write};
 
+/// How many bytes stand before the digits of a word.
+const BEFORE_DIGITS: usize = 2;
+
 /// Writes a word or flags as `0x` and eight small hexadecimal digits.
-#[tactic(auto, unfolding(crate::specs::Word::word_text))]
+#[tactic(auto, unfolding(crate::specs::Word::word_text, crate::specs::Word::eight_digits))]
 pub fn write_word<W: Write + Drop>(word: u32, out: &mut W) -> io::Result<()>
     ensures { Writes W.contents out.old out.new result (word_text word) }
 {
-    write_digits("0x", word, out)
+    let mut text = *b"0x00000000";
+    text[BEFORE_DIGITS..].copy_from_slice(&word_digits(word));
+    out.write_all(&text)
 }
 
 /// Writes what stands before a word, and then the word's eight digits.
@@ -22,5 +27,5 @@ pub(crate) fn write_digits<W: Write + Drop>(before: &str, word: u32, out: &mut W
         (before.now ++ eight_digits word) }
 {
     out.write_all(before.as_bytes())?;
-    write_hex(&word.to_be_bytes(), out)
+    out.write_all(&word_digits(word))
 }

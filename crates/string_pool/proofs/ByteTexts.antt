@@ -20,7 +20,7 @@ bytes_text_after-drop zero bytes = refl
 bytes_text_after-drop (suc n) [] = refl
 bytes_text_after-drop (suc n) (_ ∷ bytes) = bytes_text_after-drop n bytes
 
-bytes_text-nil : bytes_text [] ≡ []
+pub bytes_text-nil : bytes_text [] ≡ []
 unfolding bytes_text_after
 bytes_text-nil = refl
 
@@ -40,12 +40,12 @@ at_front byte c others front found some =
     rw found (ap (λ (text : List ℕ). character_text c ++ text)
     (bytes_text_after-drop (front.size - 1) others ∙ ap (λ (bytes : List ℕ). bytes_text bytes) (drop_behind front.size byte others some)))
 
-bytes_text-some : (left : List ℕ) (c : ℕ) → (decoded left).char ≡ Some c → 0 < length left → bytes_text left ≡ character_text c ++ bytes_text (drop (decoded left).size left)
+pub bytes_text-some : (left : List ℕ) (c : ℕ) → (decoded left).char ≡ Some c → 0 < length left → bytes_text left ≡ character_text c ++ bytes_text (drop (decoded left).size left)
 unfolding bytes_text_after
 bytes_text-some [] c found some = absurd (omega arith)
 bytes_text-some (byte ∷ others) c found some = at_front byte c others (decoded (byte ∷ others)) found (piece-bounds (byte ∷ others) some).0
 
-bytes_text-ascii : (byte : ℕ) (others : List ℕ) → byte < 128 → bytes_text (byte ∷ others) ≡ character_text byte ++ bytes_text others
+pub bytes_text-ascii : (byte : ℕ) (others : List ℕ) → byte < 128 → bytes_text (byte ∷ others) ≡ character_text byte ++ bytes_text others
 unfolding bytes_text_after
 bytes_text-ascii byte others low =
     let bytes = byte ∷ others in
@@ -62,7 +62,7 @@ escaped_character c escaped =
       | inr other ↦ let control : is_control c ≡ true = rw other at escaped in rw (other, control) refl
     ]
 
-plain_character : (c : ℕ) → (takes_backslash c || is_control c) ≡ false → character_text c ≡ encode_utf8 c
+pub plain_character : (c : ℕ) → (takes_backslash c || is_control c) ≡ false → character_text c ≡ encode_utf8 c
 plain_character c plain =
     elim (cases_Bool (takes_backslash c)) [
       | inl taken ↦ let b : true ≡ false = rw taken at plain in absurd cc
@@ -70,7 +70,7 @@ plain_character c plain =
     ]
 
 -- a character past ASCII stands for itself
-wide_character : (c : ℕ) → 128 ≤ c → (takes_backslash c || is_control c) ≡ false
+pub wide_character : (c : ℕ) → 128 ≤ c → (takes_backslash c || is_control c) ≡ false
 wide_character c high = grind (arith, nat_tests)
 
 byte_without_backslash : (byte : ℕ) → 128 ≤ byte → escape_text byte ≡ byte_escape byte
@@ -85,7 +85,7 @@ begins byte others text = record {
 }
 
 -- the first byte is ASCII, or it is not
-is_low : (byte : ℕ) → is_ascii byte ≡ true → byte < 128
+pub is_low : (byte : ℕ) → is_ascii byte ≡ true → byte < 128
 is_low byte ascii = grind (arith, nat_tests)
 
 is_high : (byte : ℕ) → is_ascii byte ≡ false → 128 ≤ byte

@@ -13,9 +13,13 @@ pub record IsPlain (left : List ℕ) (width : ℕ) : Type 0 where
   pub within : width ≤ length left
   pub text : bytes_text left ≡ take width left ++ bytes_text (drop width left)
 
+-- no character of ASCII that takes an escape
+abbrev pub is_unescaped : ℕ → Bool
+is_unescaped byte = not (takes_backslash byte || is_control byte)
+
 -- a character of ASCII that stands for itself
 abbrev pub is_plain_byte : ℕ → Bool
-is_plain_byte byte = is_ascii byte && not (takes_backslash byte || is_control byte)
+is_plain_byte byte = is_ascii byte && is_unescaped byte
 
 -- such a character stands at the front
 abbrev pub BeginsPlain : List ℕ → Type 0

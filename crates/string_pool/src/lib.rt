@@ -17,6 +17,7 @@
 mod fault;
 mod layout;
 mod part;
+mod plain;
 mod pool;
 mod pool_flags;
 mod reading;

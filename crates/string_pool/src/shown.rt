@@ -2,14 +2,16 @@
 
 ghost use Rattle.std.specs.Prelude.{◌≡◌, ◌||◌, ◌++◌, ◌<◌, ◌≤◌, length, MatchOption, OnOk};
 ghost use Rattle.contract_words.specs.Writes.{Writes};
-ghost use Rattle.string_pool.specs.Escapes.{escape_text, is_plain_byte, IsPlain, BeginsPlain, BeginsEscape, piece_text};
+ghost use Rattle.string_pool.specs.Escapes.{escape_text, IsPlain, BeginsPlain, BeginsEscape, piece_text};
 ghost use Rattle.string_pool.specs.Shown.{takes_backslash, is_control, character_text, bytes_text, units_text, unit_escape, string_text};
 ghost use Rattle.string_pool.specs.Text.{seen_text};
 ghost use Rattle.string_pool.specs.Units.{units_in};
 
 use crate::fault::StringFault;
+use crate::plain::{is_plain_ascii, is_plain_text};
 use crate::text::Text;
 use crate::units::first_character;
+use arrayvec::ArrayVec;
 use hex_text::write_hex;
 use std::io::{self, Write};
 
@@ -29,9 +31,22 @@ pub fn write_string<W: Write + Drop>(
     }
 }
 
-/// Writes bytes that are read as UTF-8. What stands for itself is written in one piece.
-#[tactic(auto, using(crate::proofs::WriteSteps::writes))]
+/// How many bytes of UTF-16 that is shown as it stands are put together before they are written.
+const RUN: usize = 64;
+
+/// Writes bytes that are read as UTF-8.
 pub(crate) fn write_bytes<W: Write + Drop>(bytes: &[u8], out: &mut W) -> io::Result<()>
+    ensures { Writes W.contents out.old out.new result (bytes_text bytes.now) }
+{
+    if is_plain_text(bytes) {
+        return out.write_all(bytes);
+    }
+    write_runs(bytes, out)
+}
+
+// Writes bytes that are read as UTF-8, each run of what stands for itself in one piece.
+#[tactic(auto, using(crate::proofs::WriteSteps::writes))]
+fn write_runs<W: Write + Drop>(bytes: &[u8], out: &mut W) -> io::Result<()>
     ensures { Writes W.contents out.old out.new result (bytes_text bytes.now) }
 {
     let mut left = bytes;
@@ -46,17 +61,43 @@ pub(crate) fn write_bytes<W: Write + Drop>(bytes: &[u8], out: &mut W) -> io::Res
     }
 }
 
-/// Writes bytes that are read as UTF-16.
+/// Writes bytes that are read as UTF-16, runs of what stands for itself in one piece.
 #[tactic(auto, using(crate::proofs::WriteSteps::writes))]
 pub(crate) fn write_units<W: Write + Drop>(bytes: &[u8], out: &mut W) -> io::Result<()>
     ensures { Writes W.contents out.old out.new result (units_text (units_in bytes.now)) }
 {
     let mut left = bytes;
-    while let Some((piece, behind)) = first_character(left) {
+    loop {
+        let (run, behind) = plain_units(left);
+        out.write_all(&run)?;
+        let Some((piece, others)) = first_character(behind) else {
+            return Ok(());
+        };
         write_piece(piece, out)?;
-        left = behind;
+        left = others;
     }
-    Ok(())
+}
+
+// The characters at the front that stand for themselves, as UTF-8, or the first of them, and the bytes behind them.
+#[tactic(auto, using(crate::proofs::UnitTexts::run_steps))]
+fn plain_units(left: &[u8]) -> (ArrayVec<u8, RUN>, &[u8])
+    ensures text { units_text (units_in left.now) ≡ result.0.items ++ units_text (units_in result.1.now) }
+    ensures shorter { length result.1.now ≤ length left.now }
+{
+    let mut run = ArrayVec::new();
+    let mut behind = left;
+    while let Some((Ok(character), others)) = first_character(behind) {
+        if is_escaped(character) {
+            break;
+        }
+        let mut bytes = [0; 4];
+        let text = character.encode_utf8(&mut bytes);
+        if run.try_extend_from_slice(text.as_bytes()).is_err() {
+            break;
+        }
+        behind = others;
+    }
+    (run, behind)
 }
 
 // What stands for itself at the front, and the bytes behind it.
@@ -98,13 +139,6 @@ fn ascii_width(left: &[u8]) -> usize
         width += 1;
     }
     width
-}
-
-// Whether a byte is a character of ASCII that is shown as itself.
-fn is_plain_ascii(byte: u8) -> bool
-    ensures { result ≡ is_plain_byte byte }
-{
-    (b' '..=b'~').contains(&byte) && byte != b'"' && byte != b'\\'
 }
 
 // Whether a character is not shown as itself.

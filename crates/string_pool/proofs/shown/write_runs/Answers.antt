@@ -1,6 +1,6 @@
 use Rattle.string_pool.proofs.ByteTexts.{bytes_text-end}
 use Rattle.string_pool.proofs.WriteSteps.{WroteAllBut-two, WroteAllBut-last}
-use Rattle.string_pool.proofs.shown.write_bytes.Goals as goal
+use Rattle.string_pool.proofs.shown.write_runs.Goals as goal
 
 pub returns-in_default : goal.returns-in_default
 returns-in_default g c =
