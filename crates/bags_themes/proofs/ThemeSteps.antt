@@ -79,10 +79,6 @@ AppliesRows-next force rows index row old mid new on here before one =
     let longer : take (index + 1) rows ≡ take index rows ++ row ∷ [] = take_more rows index row on ∙ ap (λ (r : BagRow). take index rows ++ r ∷ []) (sym here) in
     subst (λ (t : List BagRow). AppliesRows force t old new) (sym longer) (AppliesRows-append force (take index rows) (row ∷ []) old mid new before one)
 
-pub or_right : (x y : Bool) → y ≡ true → (x || y) ≡ true
-or_right true y e = refl
-or_right false y e = e
-
 -- a row was set
 pub AppliesRows-set : (force : Bool) (row : BagRow) (set : ThemeValue) (old new : ThemeOf) → set ≡ record { layer = row.layer; value = row.value }
     → (force || is_undefined (value_of old row.name.0)) ≡ true

@@ -2,8 +2,8 @@
 
 ghost use Rattle.std.specs.Prelude.{◌≡◌, ◌<◌, vec_len, vec_capacity};
 ghost use Rattle.contract_words.specs.Exact.{GivesOr};
+ghost use Rattle.contract_words.specs.FillsIn.{FillsIn};
 ghost use Rattle.config_record.specs.DeviceSeen.{device_numbers};
-ghost use Rattle.overlay_map.specs.FillsIn.{FillsIn};
 ghost use Rattle.bags_themes.specs.Bag.{chain_of};
 ghost use Rattle.bags_themes.specs.FoundBag.{found_bag_of, found_bags_of};
 ghost use Rattle.bags_themes.specs.declared.bag_fault.BagFault.TheVariants.{OutOfMemory};

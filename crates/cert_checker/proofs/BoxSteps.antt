@@ -7,12 +7,12 @@ use Rattle.box_answers.specs.NumberSet.{SetOf, RangeOf, listed, IsLeastIn}
 use Rattle.box_answers.specs.Members.{set_at, IsMember, IsBox, IsCorner}
 use Rattle.box_answers.proofs.Coords.{place_of-below}
 use Rattle.box_answers.proofs.Sets.{least-of}
-use Rattle.config_box.specs.declared.test.Test.{Test}
 use Rattle.config_box.specs.Halves.{IsHalf}
-use Rattle.cert_tree.specs.Certificate.{test_of}
+use Rattle.config_box.specs.Tests.{TestOf}
+use Rattle.config_box.proofs.HalfSteps.{marks-self}
 use Rattle.cert_checker.specs.Paths.{Path}
 use Rattle.cert_checker.specs.OpenBoxes.{IsBoxAt, Stand}
-use Rattle.cert_checker.proofs.TestSteps.{answers-test_of, alike-self, alike-next}
+use Rattle.cert_checker.proofs.MarkSteps.{alike-next}
 
 -- ---- a box has a member
 
@@ -31,14 +31,14 @@ some_member sets b = (map least sets, λ c. (corner-of sets b c).is_in)
 -- ---- the box of a path
 
 pub whole : (sets : List SetOf) → IsBox sets → IsBoxAt sets [] sets
-whole sets b = record { is_box = b; members = λ d. ((λ m. (m, tt)), (λ a. a.0)); marks = λ c. alike-self (set_at sets c) }
+whole sets b = record { is_box = b; members = λ d. ((λ m. (m, tt)), (λ a. a.0)); marks = λ c. marks-self (set_at sets c) }
 
-pub half : (sets part halved : List SetOf) (path : Path) (test : Test) (answer : Bool) → IsBoxAt sets path part → IsHalf part test answer halved → IsBoxAt sets ((test_of test, answer) ∷ path) halved
+pub half : (sets part halved : List SetOf) (path : Path) (test : TestOf) (answer : Bool) → IsBoxAt sets path part → IsHalf part test answer halved → IsBoxAt sets ((test, answer) ∷ path) halved
 half sets part halved path test answer b h = record {
   is_box = h.is_box;
   members = λ d. (
-    (λ m. let r = (h.members d).0 m in let a = (b.members d).0 r.0 in (a.0, (answers-test_of test d ∙ r.1, a.1))),
-    (λ a. (h.members d).1 ((b.members d).1 (a.0, a.1.1), sym (answers-test_of test d) ∙ a.1.0)),
+    (λ m. let r = (h.members d).0 m in let a = (b.members d).0 r.0 in (a.0, (r.1, a.1))),
+    (λ a. (h.members d).1 ((b.members d).1 (a.0, a.1.1), a.1.0)),
   );
   marks = λ c. alike-next (set_at sets c) (set_at part c) (set_at halved c) (b.marks c) (h.marks c);
 }

@@ -6,16 +6,16 @@ use Rattle.std.proofs.lemmas.Bool.{cases_Bool}
 use Rattle.reference_resolver.specs.declared.end.End.{End}
 use Rattle.reference_resolver.specs.declared.end.End.TheVariants as ends
 use Rattle.reference_resolver.specs.Trace.{Trace}
+use Rattle.reference_resolver.proofs.SameTraces.{end-cases, trace-cases}
 use Rattle.box_answers.specs.NumberSet.{SetOf}
 use Rattle.box_answers.specs.Members.{IsMember}
 use Rattle.box_trace.specs.CommonTrace.{SharesTrace}
-use Rattle.cert_tree.specs.Certificate.{TestOf, NodeOf, TestAt, ValueAt, BagAt}
+use Rattle.config_box.specs.Tests.{TestOf, answers}
+use Rattle.cert_tree.specs.Certificate.{NodeOf, TestAt, ValueAt, BagAt}
 use Rattle.cert_checker.specs.declared.rule.Rule.{Rule}
 use Rattle.cert_checker.specs.declared.rule.Rule.TheVariants.{EndsEarly, MixedTrace, NoValue, OtherValue}
-use Rattle.cert_checker.specs.Tests.{answers}
 use Rattle.cert_checker.specs.Paths.{Path, Follows, IsAt, after, after_all, root, open_at, FollowsFirst, leaf_end, Reaches}
 use Rattle.cert_checker.specs.Fails.{is_value, FailsAtLeaf, FailsAt, Fails, NoRuleFails}
-use Rattle.cert_checker.proofs.SameTrace.{told_end, told_trace}
 
 -- ---- each device that follows an open path reaches a leaf
 
@@ -71,13 +71,13 @@ reaches trace sets nodes d ok =
 -- where no rule fails at a leaf, the trace of each member ends at what it says
 at_leaf : (trace : List ℕ → Trace) (members : List ℕ → Type 0) (said : End) (d : List ℕ) → members d → ((rule : Rule) → FailsAtLeaf trace members said rule → ⊥) → (trace d).end ≡ said
 at_leaf trace members said d m ok =
-    elim (told_end (trace d).end said) [
+    elim (end-cases (trace d).end said) [
       | inl e ↦ e
       | inr n ↦ absurd (elim (cases_Bool (is_value (trace d).end)) [ inl e ↦ ok OtherValue (trace d, shared, e, n) | inr e ↦ ok NoValue (trace d, shared, e) ])
     ]
   where
     shared : SharesTrace members trace (trace d)
-    shared x other = elim (told_trace (trace x) (trace d)) [ inl e ↦ e | inr n ↦ absurd (ok MixedTrace (x, d, other, m, n)) ]
+    shared x other = elim (trace-cases (trace x) (trace d)) [ inl same ↦ same.1 | inr n ↦ absurd (ok MixedTrace (x, d, other, m, n.1)) ]
 
 at_node : (trace : List ℕ → Trace) (sets : List SetOf) (node : NodeOf) (paths : List Path) (said : End) (d : List ℕ) → IsMember sets d → FollowsFirst d paths → leaf_end node ≡ Some said
     → ((rule : Rule) → FailsAt trace sets (Some node) paths rule → ⊥) → (trace d).end ≡ said

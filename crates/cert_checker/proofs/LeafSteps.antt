@@ -20,7 +20,7 @@ use Rattle.cert_checker.specs.Paths.{Path, IsAt}
 use Rattle.cert_checker.specs.Fails.{is_value, FailsAtLeaf}
 use Rattle.cert_checker.specs.Shown.{ShowsEnd}
 use Rattle.cert_checker.specs.OpenBoxes.{IsBoxAt, rule_of_end, TakesLeaf}
-use Rattle.cert_checker.proofs.TestSteps.{alike-near}
+use Rattle.cert_checker.proofs.MarkSteps.{alike-near}
 use Rattle.cert_checker.proofs.BoxSteps.{some_member}
 
 -- ---- the rules of leaves

@@ -1,6 +1,5 @@
-pub mod SameTrace
 pub mod Law
-pub mod TestSteps
+pub mod MarkSteps
 pub mod BoxSteps
 pub mod LeafSteps
 pub mod NodeSteps

@@ -6,20 +6,19 @@ use Rattle.reference_resolver.specs.Trace.{Trace}
 use Rattle.res_value.specs.declared.res_id.ResId.{ResId}
 use Rattle.res_value.specs.declared.value.Value.{Value}
 use Rattle.box_answers.specs.NumberSet.{SetOf}
-use Rattle.config_box.specs.declared.test.Test.{Test}
-use Rattle.config_box.specs.Tests.{is_wrong_kind}
-use Rattle.config_box.specs.Halves.{IsHalf, AllAnswer as AllAnswerOf}
-use Rattle.cert_tree.specs.Certificate.{TestOf, NodeOf, TestAt, ValueAt, BagAt, test_of}
+use Rattle.box_answers.specs.Members.{IsMember}
+use Rattle.config_box.specs.Tests.{TestOf, has_wrong_kind}
+use Rattle.config_box.specs.Halves.{IsHalf, AllAnswer}
+use Rattle.cert_tree.specs.Certificate.{NodeOf, TestAt, ValueAt, BagAt}
 use Rattle.cert_checker.specs.declared.rule.Rule.{Rule}
 use Rattle.cert_checker.specs.declared.rule.Rule.TheVariants.{GoalList, EndsEarly, LeftOver, TestKind, EmptyHalf, MixedTrace, NoValue, OtherValue}
 use Rattle.cert_checker.specs.declared.verdict.Shown.TheVariants.{Nothing}
 use Rattle.cert_checker.specs.declared.failure.Failure.{Failure}
 use Rattle.cert_checker.specs.Rule.{number_of}
-use Rattle.cert_checker.specs.Tests.{has_wrong_kind}
 use Rattle.cert_checker.specs.Paths.{Path, IsAt}
-use Rattle.cert_checker.specs.Fails.{AllAnswer, FailsAtTest}
+use Rattle.cert_checker.specs.Fails.{FailsAtTest}
 use Rattle.cert_checker.specs.OpenBoxes.{IsBoxAt, Stand, TakesNode, TakesTest, TakesLeaf}
-use Rattle.cert_checker.proofs.TestSteps.{answers-test_of, has_wrong_kind-test_of, alike-kind}
+use Rattle.cert_checker.proofs.MarkSteps.{alike-kind}
 use Rattle.cert_checker.proofs.BoxSteps.{some_member, half, popped}
 
 -- ---- a test
@@ -37,46 +36,46 @@ test_rules sets members test Q kind empty NoValue q h = h
 test_rules sets members test Q kind empty OtherValue q h = h
 
 -- of a wrong kind for the whole box where it is so for the part
-kind : (sets : List SetOf) (path : Path) (part : List SetOf) (test : Test) (wrong : Bool) → IsBoxAt sets path part → is_wrong_kind part test ≡ wrong → has_wrong_kind sets (test_of test) ≡ wrong
-kind sets path part test wrong b e = alike-kind sets part (test_of test) b.marks ∙ has_wrong_kind-test_of part test ∙ e
+kind : (sets : List SetOf) (path : Path) (part : List SetOf) (test : TestOf) (wrong : Bool) → IsBoxAt sets path part → has_wrong_kind part test ≡ wrong → has_wrong_kind sets test ≡ wrong
+kind sets path part test wrong b e = alike-kind sets part test b.marks ∙ e
 
-pub wrong_kind : (part : List SetOf) (test : Test) (before after : List (List SetOf)) → is_wrong_kind part test ≡ true → TakesTest (test_of test) part before after (Some (record { rule = TestKind; shown = Nothing }))
+pub wrong_kind : (part : List SetOf) (test : TestOf) (before after : List (List SetOf)) → has_wrong_kind part test ≡ true → TakesTest test part before after (Some (record { rule = TestKind; shown = Nothing }))
 wrong_kind part test before after wrong trace sets path paths b stand =
-    ((kind sets path part test true b wrong, test_rules sets (IsAt sets path) (test_of test) (λ (rule : Rule). number_of rule < 4) (λ p h. omega arith) (λ p h. omega arith), refl), tt)
+    ((kind sets path part test true b wrong, test_rules sets (IsAt sets path) test (λ (rule : Rule). number_of rule < 4) (λ p h. omega arith) (λ p h. omega arith), refl), tt)
 
 -- of a right one
-right_kind : (sets : List SetOf) (path : Path) (part : List SetOf) (test : Test) → IsBoxAt sets path part → is_wrong_kind part test ≡ false → FailsAtTest sets (IsAt sets path) (test_of test) TestKind → ⊥
+right_kind : (sets : List SetOf) (path : Path) (part : List SetOf) (test : TestOf) → IsBoxAt sets path part → has_wrong_kind part test ≡ false → FailsAtTest sets (IsAt sets path) test TestKind → ⊥
 right_kind sets path part test b right h = let no : true ≡ false = sym h ∙ kind sets path part test false b right in cc
 
-all : (sets : List SetOf) (path : Path) (part : List SetOf) (test : Test) (answer : Bool) → IsBoxAt sets path part → AllAnswerOf part test answer → AllAnswer (IsAt sets path) (test_of test) answer
-all sets path part test answer b h d a = answers-test_of test d ∙ h d ((b.members d).1 a)
+all : (sets : List SetOf) (path : Path) (part : List SetOf) (test : TestOf) (answer : Bool) → IsBoxAt sets path part → AllAnswer (IsMember part) test answer → AllAnswer (IsAt sets path) test answer
+all sets path part test answer b h d a = h d ((b.members d).1 a)
 
-alike : (sets : List SetOf) (path : Path) (part : List SetOf) (test : Test) → IsBoxAt sets path part → AllAnswerOf part test true ⊎ AllAnswerOf part test false → FailsAtTest sets (IsAt sets path) (test_of test) EmptyHalf
+alike : (sets : List SetOf) (path : Path) (part : List SetOf) (test : TestOf) → IsBoxAt sets path part → AllAnswer (IsMember part) test true ⊎ AllAnswer (IsMember part) test false → FailsAtTest sets (IsAt sets path) test EmptyHalf
 alike sets path part test b (inl h) = inl (all sets path part test true b h)
 alike sets path part test b (inr h) = inr (all sets path part test false b h)
 
-pub empty_half : (part : List SetOf) (test : Test) (before after : List (List SetOf)) → is_wrong_kind part test ≡ false → AllAnswerOf part test true ⊎ AllAnswerOf part test false
-    → TakesTest (test_of test) part before after (Some (record { rule = EmptyHalf; shown = Nothing }))
+pub empty_half : (part : List SetOf) (test : TestOf) (before after : List (List SetOf)) → has_wrong_kind part test ≡ false → AllAnswer (IsMember part) test true ⊎ AllAnswer (IsMember part) test false
+    → TakesTest test part before after (Some (record { rule = EmptyHalf; shown = Nothing }))
 empty_half part test before after right h trace sets path paths b stand =
-    ((alike sets path part test b h, test_rules sets (IsAt sets path) (test_of test) (λ (rule : Rule). number_of rule < 5) (λ p f. right_kind sets path part test b right f) (λ p f. omega arith), refl), tt)
+    ((alike sets path part test b h, test_rules sets (IsAt sets path) test (λ (rule : Rule). number_of rule < 5) (λ p f. right_kind sets path part test b right f) (λ p f. omega arith), refl), tt)
 
 -- a half has a member, so not all answer otherwise
-not_all : (sets : List SetOf) (path : Path) (part halved : List SetOf) (test : Test) (answer other : Bool) → answer ≢ other → IsBoxAt sets path part → IsHalf part test answer halved
-    → AllAnswer (IsAt sets path) (test_of test) other → ⊥
+not_all : (sets : List SetOf) (path : Path) (part halved : List SetOf) (test : TestOf) (answer other : Bool) → answer ≢ other → IsBoxAt sets path part → IsHalf part test answer halved
+    → AllAnswer (IsAt sets path) test other → ⊥
 not_all sets path part halved test answer other ne b h all =
     let m = some_member halved h.is_box in
     let r = (h.members m.0).0 m.1 in
-    ne (sym r.1 ∙ sym (answers-test_of test m.0) ∙ all m.0 ((b.members m.0).0 r.0))
+    ne (sym r.1 ∙ all m.0 ((b.members m.0).0 r.0))
 
-pub halves : (part yes_half no_half : List SetOf) (test : Test) (before after : List (List SetOf)) → is_wrong_kind part test ≡ false → IsHalf part test true yes_half → IsHalf part test false no_half
-    → reverse after ≡ yes_half ∷ no_half ∷ reverse before → TakesTest (test_of test) part before after None
+pub halves : (part yes_half no_half : List SetOf) (test : TestOf) (before after : List (List SetOf)) → has_wrong_kind part test ≡ false → IsHalf part test true yes_half → IsHalf part test false no_half
+    → reverse after ≡ yes_half ∷ no_half ∷ reverse before → TakesTest test part before after None
 halves part yes_half no_half test before after right y n e trace sets path paths b stand = (
-  (λ rule. test_rules sets (IsAt sets path) (test_of test) (λ (r : Rule). Unit {0}) (λ q h. right_kind sets path part test b right h) (λ q h. split h) rule tt),
-  subst (λ (parts : List (List SetOf)). Stand sets parts (((test_of test, true) ∷ path) ∷ ((test_of test, false) ∷ path) ∷ paths)) (sym e)
+  (λ rule. test_rules sets (IsAt sets path) test (λ (r : Rule). Unit {0}) (λ q h. right_kind sets path part test b right h) (λ q h. split h) rule tt),
+  subst (λ (parts : List (List SetOf)). Stand sets parts (((test, true) ∷ path) ∷ ((test, false) ∷ path) ∷ paths)) (sym e)
       (half sets part yes_half path test true b y, (half sets part no_half path test false b n, stand)),
 )
   where
-    split : FailsAtTest sets (IsAt sets path) (test_of test) EmptyHalf → ⊥
+    split : FailsAtTest sets (IsAt sets path) test EmptyHalf → ⊥
     split (inl h) = not_all sets path part no_half test false true (λ f. cc) b n h
     split (inr h) = not_all sets path part yes_half test true false (λ f. cc) b y h
 
@@ -90,8 +89,8 @@ left_over trace node before after e sets [] stand = ((refl, (λ other p f. absur
     behind other p f = let same = ap number_of f in omega arith
 left_over trace node before after e sets (path ∷ paths) stand = absurd (subst (λ (parts : List (List SetOf)). Stand sets parts (path ∷ paths)) (ap reverse e) stand)
 
-pub at_test : (trace : List ℕ → Trace) (test : Test) (part : List SetOf) (before rest after : List (List SetOf)) (outcome : Option Failure) → before ≡ rest ++ part ∷ [] → TakesTest (test_of test) part rest after outcome
-    → TakesNode trace (TestAt (test_of test)) before after outcome
+pub at_test : (trace : List ℕ → Trace) (test : TestOf) (part : List SetOf) (before rest after : List (List SetOf)) (outcome : Option Failure) → before ≡ rest ++ part ∷ [] → TakesTest test part rest after outcome
+    → TakesNode trace (TestAt test) before after outcome
 at_test trace test part before rest after outcome e takes sets [] stand = absurd (popped sets part before rest [] e stand)
 at_test trace test part before rest after outcome e takes sets (path ∷ paths) stand =
     let s = popped sets part before rest (path ∷ paths) e stand in takes trace sets path paths s.0 s.1

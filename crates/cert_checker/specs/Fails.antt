@@ -6,17 +6,15 @@ use Rattle.reference_resolver.specs.declared.end.End.TheVariants as ends
 use Rattle.reference_resolver.specs.Trace.{Trace}
 use Rattle.box_answers.specs.NumberSet.{SetOf}
 use Rattle.box_trace.specs.CommonTrace.{SharesTrace}
-use Rattle.cert_tree.specs.Certificate.{TestOf, NodeOf, TestAt, ValueAt, BagAt}
+use Rattle.config_box.specs.Tests.{TestOf, has_wrong_kind}
+use Rattle.config_box.specs.Halves.{AllAnswer}
+use Rattle.cert_tree.specs.Certificate.{NodeOf, TestAt, ValueAt, BagAt}
 use Rattle.cert_checker.specs.declared.rule.Rule.{Rule}
 use Rattle.cert_checker.specs.declared.rule.Rule.TheVariants.{EndsEarly, LeftOver, TestKind, EmptyHalf, MixedTrace, NoValue, OtherValue}
 use Rattle.cert_checker.specs.Rule.{number_of}
-use Rattle.cert_checker.specs.Tests.{answers, has_wrong_kind}
 use Rattle.cert_checker.specs.Paths.{Path, IsAt, open_at}
 
 -- ---- at a test, to which these members come
-
-abbrev pub AllAnswer : (List ℕ → Type 0) → TestOf → Bool → Type 0
-AllAnswer members test answer = (d : List ℕ) → members d → answers test d ≡ answer
 
 abbrev pub FailsAtTest : List SetOf → (List ℕ → Type 0) → TestOf → Rule → Type 0
 FailsAtTest sets members test TestKind = has_wrong_kind sets test ≡ true

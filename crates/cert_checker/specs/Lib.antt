@@ -1,5 +1,4 @@
 pub mod Rule
-pub mod Tests
 pub mod Paths
 pub mod Fails
 pub mod FirstFault

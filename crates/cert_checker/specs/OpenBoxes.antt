@@ -7,7 +7,8 @@ use Rattle.reference_resolver.specs.Trace.{Trace}
 use Rattle.box_answers.specs.NumberSet.{SetOf}
 use Rattle.box_answers.specs.Members.{set_at, IsMember, IsBox}
 use Rattle.config_box.specs.Marks.{AreMarkedAlike}
-use Rattle.cert_tree.specs.Certificate.{TestOf, NodeOf, TestAt}
+use Rattle.config_box.specs.Tests.{TestOf}
+use Rattle.cert_tree.specs.Certificate.{NodeOf, TestAt}
 use Rattle.cert_checker.specs.declared.rule.Rule.{Rule}
 use Rattle.cert_checker.specs.declared.rule.Rule.TheVariants.{NoValue, OtherValue}
 use Rattle.cert_checker.specs.declared.verdict.Shown.{Shown}

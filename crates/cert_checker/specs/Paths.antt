@@ -6,8 +6,8 @@ use Rattle.reference_resolver.specs.declared.end.End.{End}
 use Rattle.reference_resolver.specs.declared.end.End.TheVariants as ends
 use Rattle.box_answers.specs.NumberSet.{SetOf}
 use Rattle.box_answers.specs.Members.{IsMember}
-use Rattle.cert_tree.specs.Certificate.{TestOf, NodeOf, TestAt, ValueAt, BagAt}
-use Rattle.cert_checker.specs.Tests.{answers}
+use Rattle.config_box.specs.Tests.{TestOf, answers}
+use Rattle.cert_tree.specs.Certificate.{NodeOf, TestAt, ValueAt, BagAt}
 
 abbrev pub Path : Type 0
 Path = List (TestOf × Bool)

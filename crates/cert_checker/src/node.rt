@@ -3,7 +3,8 @@
 ghost use Rattle.std.specs.Prelude.{IfOk};
 ghost use Rattle.reference_resolver.specs.Ends.{references_followed};
 ghost use Rattle.reference_resolver.specs.Trace.{trace_of};
-ghost use Rattle.cert_tree.specs.Certificate.{test_of, node_of};
+ghost use Rattle.config_box.specs.Tests.{test_of};
+ghost use Rattle.cert_tree.specs.Certificate.{node_of};
 ghost use Rattle.cert_checker.specs.OpenBoxes.{TakesNode, TakesTest};
 
 use crate::failure::Failure;

@@ -11,8 +11,8 @@ use Rattle.box_trace.specs.CommonTrace.{SharesTrace}
 use Rattle.box_trace.proofs.Divisions.{traces_differ}
 use Rattle.box_trace.proofs.Scans.{IsScanned, scan_more, scan_divided}
 use Rattle.box_trace.proofs.Following.{IsFollowed, follow_divided}
-use Rattle.least_tree.specs.SameTrace.{same_trace}
-use Rattle.least_tree.proofs.SameTraces.{trace-cases}
+use Rattle.reference_resolver.specs.SameTrace.{same_trace}
+use Rattle.reference_resolver.proofs.SameTraces.{trace-cases}
 use Rattle.cert_maker.specs.Pair.{IsOneOf}
 
 -- both do the same

@@ -1,5 +1,6 @@
 -- The test that parts two members with different traces is needed.
 use Rattle.std.proofs.Common.{◌≡◌, ◌≢◌, ℕ, ◌+◌, ◌⊎◌, inl, inr, arith, List, length, min, true, false, sym, ◌∙◌, ap, refl, set}
+use Rattle.std.proofs.lemmas.Bool.{cases_Bool}
 use Rattle.config_record.specs.declared.coord.Coord as coord
 use Rattle.config_record.specs.declared.coord.Coord.TheVariants as coords
 use Rattle.std.proofs.lemmas.List.{get_or-map, length-map}
@@ -12,12 +13,10 @@ use Rattle.reference_resolver.specs.Trace.{Trace}
 use Rattle.box_answers.specs.NumberSet.{SetOf, RangeOf, NumbersOf, LocalesOf, IsIn}
 use Rattle.box_answers.specs.Members.{set_at, IsMember}
 use Rattle.box_answers.specs.Sameness.{AreNeighbours}
-use Rattle.config_box.specs.Tests.{is_range}
-use Rattle.cert_tree.specs.Certificate.{ChoiceOf, AtMostOf, AmongOf}
-use Rattle.cert_checker.specs.Tests.{answers, is_listed, has_wrong_kind}
+use Rattle.config_box.specs.Tests.{ChoiceOf, AtMostOf, AmongOf, is_listed, answers, is_range, has_wrong_kind}
 use Rattle.least_tree.specs.Needed.{AgreeBut, IsNeededTest}
 use Rattle.least_tree.specs.Runs.{trace_with}
-use Rattle.least_tree.proofs.SameTraces.{bool_cases, trace-cases}
+use Rattle.reference_resolver.proofs.SameTraces.{trace-cases}
 use Rattle.least_tree.proofs.Lines.{takes-le, takes-gt}
 use Rattle.least_tree.proofs.ByNumbers.{GoesByNumbers}
 use Rattle.cert_maker.specs.Pair.{ArePair, numbers_of, keeps}
@@ -107,7 +106,7 @@ cut-choice trace sets x y c choice by pair right lists =
     let p = pair.beside in
     let of_member : (z : List ℕ) → IsMember sets z → answers (AmongOf c choice) z ≡ keeps trace x c (device_number z c) = λ z m. lists (device_number z c) (m c) in
     let x_is : answers (AmongOf c choice) x ≡ true = of_member x p.x_member ∙ same-keeps trace c x x by (λ k other. refl) refl in
-    let y_is : answers (AmongOf c choice) y ≡ false = elim (bool_cases (keeps trace x c (device_number y c))) [
+    let y_is : answers (AmongOf c choice) y ≡ false = elim (cases_Bool (keeps trace x c (device_number y c))) [
       | inl is ↦ absurd (pair.differ (keeps-same trace c x y by (turned c x y p.others) is))
       | inr isnt ↦ of_member y p.y_member ∙ isnt
     ] in

@@ -17,8 +17,8 @@ use Rattle.cert_tree.specs.declared.goal.Goal.TheVariants.{Id}
 use Rattle.cert_tree.specs.Certificate.{BagAt, GoalOf, NodeFits, node_count}
 use Rattle.cert_checker.specs.FirstFault.{goal_trace, goals_in, IsAccepted}
 use Rattle.least_tree.specs.Needed.{IsNeeded}
-use Rattle.cert_maker.specs.Made.{AreNeeded, IsCounter}
-use Rattle.cert_maker.specs.Growth.{EndsNowhere}
+use Rattle.cert_maker.specs.Made.{AreNeeded, IsCounterexample}
+use Rattle.cert_maker.specs.Growth.{IsCounterexampleOf}
 use Rattle.cert_maker.specs.Trees.{IsGoodTree, AreDone}
 
 -- what holds of all holds of the one at a place
@@ -117,7 +117,7 @@ next-goal stack sets asked left most spare done goal h =
     ap (λ (goals : List Goal). slice_get goals (length done)) (sym h.goals) ∙ ap (slice_get (goals_in done ++ goal ∷ left)) (sym (length-map done (λ (t : GoalOf). t.goal))) ∙ slice_get-middle (goals_in done) left goal
 
 pub no-value : (stack : List LayerOf) (sets : List SetOf) (asked left : List Goal) (most spare : ℕ) (done : List GoalOf) (id : ResId) (d : List ℕ) (end : End) → AreDone stack sets asked (Id id ∷ left) most done spare
-    → EndsNowhere (trace_of stack references_followed id.0) sets d end → (goal : Goal) × (slice_get asked (length done) ≡ Some goal) × IsCounter stack sets goal d end
+    → IsCounterexampleOf (trace_of stack references_followed id.0) sets d end → (goal : Goal) × (slice_get asked (length done) ≡ Some goal) × IsCounterexample stack sets goal d end
 no-value stack sets asked left most spare done id d end h e = (
   Id id,
   next-goal stack sets asked left most spare done (Id id) h,

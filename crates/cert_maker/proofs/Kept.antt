@@ -2,7 +2,7 @@
 use Rattle.std.proofs.Common.{◌≡◌, ◌≢◌, ℕ, ◌⊎◌, inl, inr, arith, ◌≤◌, List, [], ◌∷◌, length, filter, get_or, Bool, true, false, sym, ◌∙◌, ap, refl, subst}
 use Rattle.std.specs.Prelude.{◌==◌, if◌then◌else◌}
 use Rattle.std.specs.List.{All, list_any}
-use Rattle.std.proofs.lemmas.Bool.{false≢true}
+use Rattle.std.proofs.lemmas.Bool.{false≢true, cases_Bool}
 use Rattle.std.proofs.lemmas.Bool.Decides.{nat_tests}
 use Rattle.std.proofs.lemmas.List.{get_or-map, length-map}
 use Rattle.std.proofs.lemmas.List.Sums.{length-filter, count_by-le-length}
@@ -19,15 +19,14 @@ use Rattle.reference_resolver.specs.Ends.{references_followed}
 use Rattle.reference_resolver.specs.Trace.{Trace, trace_of}
 use Rattle.box_answers.specs.NumberSet.{SetOf, RangeOf, NumbersOf, LocalesOf, IsIn, listed, locale_numbers}
 use Rattle.box_answers.specs.Members.{set_at, IsMember, IsOfKind, IsBox}
-use Rattle.config_box.specs.Tests.{is_range}
-use Rattle.cert_tree.specs.Certificate as seen
+use Rattle.config_box.specs.Tests.{is_listed, is_range, has_wrong_kind}
+use Rattle.config_box.specs.Tests as seen
+use Rattle.cert_tree.specs.Certificate.{ChoiceFits}
 use Rattle.cert_tree.specs.declared.goal.Goal.TheVariants.{Id}
-use Rattle.cert_checker.specs.Tests.{is_listed, has_wrong_kind}
-use Rattle.least_tree.specs.SameTrace.{same_trace}
+use Rattle.reference_resolver.specs.SameTrace.{same_trace}
 use Rattle.least_tree.specs.Needed.{AgreeBut, IsNeededTest}
 use Rattle.least_tree.specs.Runs.{trace_with}
-use Rattle.least_tree.proofs.SameTraces.{bool_cases}
-use Rattle.least_tree.proofs.Different.{Among, among}
+use Rattle.config_box.proofs.Filters.{Among, among}
 use Rattle.least_tree.proofs.ByNumbers.{GoesByNumbers, goal-by-numbers}
 use Rattle.cert_maker.specs.Pair.{ArePair, numbers_of, keeps, keeps_locale}
 use Rattle.cert_maker.proofs.Cut.{on-line, ListsKept, cut-choice}
@@ -46,13 +45,13 @@ any-among n [] a = absurd a
 any-among n (m ∷ ms) (inl e) = let is : (m == n) ≡ true = grind (arith, nat_tests) in rw is
 any-among n (m ∷ ms) (inr a) =
     let rest = any-among n ms a in
-    elim (bool_cases (m == n)) [ inl is ↦ rw is | inr isnt ↦ rw (isnt, rest) ]
+    elim (cases_Bool (m == n)) [ inl is ↦ rw is | inr isnt ↦ rw (isnt, rest) ]
 
 none-among : (n : ℕ) (ms : List ℕ) → (Among n ms → ⊥) → list_any (λ m. m == n) ms ≡ false
 none-among n [] none = refl
 none-among n (m ∷ ms) none =
     let rest = none-among n ms (λ a. none (inr a)) in
-    elim (bool_cases (m == n)) [
+    elim (cases_Bool (m == n)) [
       | inl is ↦ (let e : m ≡ n = grind (arith, nat_tests) in absurd (none (inl e)))
       | inr isnt ↦ rw (isnt, rest)
     ]
@@ -85,7 +84,7 @@ passes-on f n (m ∷ ms) (inr a) is = rest-kept (f m) m n (filter f ms) (passes-
 
 listed-filter : (f : ℕ → Bool) (n : ℕ) (ms : List ℕ) → Among n ms → list_any (λ m. m == n) (filter f ms) ≡ f n
 listed-filter f n ms a =
-    elim (bool_cases (f n)) [
+    elim (cases_Bool (f n)) [
       | inl is ↦ any-among n (filter f ms) (passes-on f n ms a is) ∙ sym is
       | inr isnt ↦ none-among n (filter f ms) (λ b. let is = passed f n ms b in absurd cc) ∙ sym isnt
     ]
@@ -94,7 +93,7 @@ map-filter : (f : ℕ → Bool) (locales : List Locale) → locale_numbers (filt
 map-filter f [] = refl
 map-filter f (locale ∷ locales) =
     let rest = map-filter f locales in
-    elim (bool_cases (f (locale_number locale))) [
+    elim (cases_Bool (f (locale_number locale))) [
       | inl is ↦ rw (is, rest)
       | inr isnt ↦ rw (isnt, rest)
     ]
@@ -149,23 +148,23 @@ pub of-some-text : (locale : Locale) → TwoBytes locale.language → TwoBytes l
 of-some-text locale language region is =
     (locale_text locale, given locale language region (subst (λ (l : Locale). IsGiven l) (numbered locale language region) is))
 
-pub numbers-fit : (sets : List SetOf) (c : coord.Coord) (f : ℕ → Bool) (numbers kept : List ℕ) → IsBox sets → NumbersOf numbers ≡ set_at sets c → kept ≡ filter f numbers → seen.ChoiceFits c (seen.NumbersOf kept)
+pub numbers-fit : (sets : List SetOf) (c : coord.Coord) (f : ℕ → Bool) (numbers kept : List ℕ) → IsBox sets → NumbersOf numbers ≡ set_at sets c → kept ≡ filter f numbers → ChoiceFits c (seen.NumbersOf kept)
 numbers-fit sets c f numbers kept b e is =
     let few : length numbers ≤ 512 = subst (λ (s : SetOf). length (listed s) ≤ 512) (sym e) (b.few c) in
     let count : length kept ≤ length numbers = omega (arith, ap length is, length-filter f numbers, count_by-le-length f numbers) in
     at c (no-numbers c (set_at sets c) numbers (sym e) (b.kinds c)) (omega (arith, few, count))
   where
-    at : (k : coord.Coord) → k ≢ coords.Locale → length kept ≤ 512 → seen.ChoiceFits k (seen.NumbersOf kept)
+    at : (k : coord.Coord) → k ≢ coords.Locale → length kept ≤ 512 → ChoiceFits k (seen.NumbersOf kept)
     at coords.Locale other h = absurd (other refl)
     at k other h = h
 
 pub locales-fit : (sets : List SetOf) (c : coord.Coord) (f : Locale → Bool) (locales kept : List Locale) → IsBox sets → LocalesOf (locale_numbers locales) ≡ set_at sets c → kept ≡ filter f locales → All IsOfSomeText kept
-    → seen.ChoiceFits c (seen.LocalesOf kept)
+    → ChoiceFits c (seen.LocalesOf kept)
 locales-fit sets c f locales kept b e is texts =
     let few : length (locale_numbers locales) ≤ 512 = subst (λ (s : SetOf). length (listed s) ≤ 512) (sym e) (b.few c) in
     let of_numbers = length-map locales locale_number in
     let count : length kept ≤ length locales = omega (arith, ap length is, length-filter f locales, count_by-le-length f locales) in
-    subst (λ (k : coord.Coord). seen.ChoiceFits k (seen.LocalesOf kept)) (sym (at-locale sets c (locale_numbers locales) (b.kinds c) (sym e))) (omega (arith, few, of_numbers, count), texts)
+    subst (λ (k : coord.Coord). ChoiceFits k (seen.LocalesOf kept)) (sym (at-locale sets c (locale_numbers locales) (b.kinds c) (sym e))) (omega (arith, few, of_numbers, count), texts)
 
 -- ---- the tests are of the right kind
 

@@ -1,5 +1,6 @@
 -- One node more.
 use Rattle.std.proofs.Common.{◌≡◌, ℕ, arith, inl, inr, true, false, List, [], ◌∷◌, ◌++◌, Option, Some, None, map, reverse, sym, ◌∙◌, ap, refl, subst}
+use Rattle.std.proofs.lemmas.Bool.{cases_Bool}
 use Rattle.std.specs.Prelude.{IfNone, IfSome}
 use Rattle.std.proofs.lemmas.List.{map-append}
 use Rattle.res_value.specs.declared.res_id.ResId.{ResId}
@@ -9,23 +10,20 @@ use Rattle.overlay_map.specs.Layer.{most_layers}
 use Rattle.reference_resolver.specs.Trace.{Trace}
 use Rattle.box_answers.specs.NumberSet.{SetOf}
 use Rattle.box_answers.specs.Members.{set_at, IsMember}
-use Rattle.config_box.specs.declared.test.Test.{Test}
-use Rattle.config_box.specs.Tests.{is_wrong_kind}
+use Rattle.config_box.specs.Tests.{TestOf, AtMostOf, AmongOf, coord_of, answers, has_wrong_kind}
 use Rattle.config_box.specs.Halves.{IsHalf}
 use Rattle.box_trace.specs.CommonTrace.{SharesTrace}
-use Rattle.cert_tree.specs.Certificate.{TestOf, AtMostOf, AmongOf, NodeOf, TestAt, ValueAt, BagAt, NodeFits, test_of}
+use Rattle.cert_tree.specs.Certificate.{NodeOf, TestAt, ValueAt, BagAt, NodeFits}
 use Rattle.cert_checker.specs.declared.rule.Rule.{Rule}
 use Rattle.cert_checker.specs.declared.rule.Rule.TheVariants.{TestKind, EmptyHalf}
-use Rattle.cert_checker.specs.Tests.{answers, has_wrong_kind}
 use Rattle.cert_checker.specs.Paths.{Path, IsAt, leaf_end}
 use Rattle.cert_checker.specs.Fails.{FailsAtTest}
 use Rattle.cert_checker.specs.OpenBoxes.{IsBoxAt}
-use Rattle.cert_checker.proofs.TestSteps.{alike-kind, alike-range}
+use Rattle.cert_checker.proofs.MarkSteps.{alike-kind, alike-range}
 use Rattle.cert_checker.proofs.LeafSteps.{as_said}
 use Rattle.cert_checker.proofs.NodeSteps.{halves}
 use Rattle.cert_checker.proofs.BoxSteps.{some_member}
-use Rattle.least_tree.specs.Needed.{coord_of, NoneBetween, IsNeededTest}
-use Rattle.least_tree.proofs.SameTraces.{bool_cases}
+use Rattle.least_tree.specs.Needed.{NoneBetween, IsNeededTest}
 use Rattle.cert_maker.specs.Growth.{Grows}
 use Rattle.cert_maker.proofs.Layers.{EndBelow}
 
@@ -37,7 +35,7 @@ none-between sets part path (AmongOf c choice) x y b h = tt
 
 right-kind : (sets part : List SetOf) (path : Path) (members : List ℕ → Type 0) (test : TestOf) → IsBoxAt sets path part → ((rule : Rule) → FailsAtTest part members test rule → ⊥) → has_wrong_kind sets test ≡ false
 right-kind sets part path members test b passes =
-    elim (bool_cases (has_wrong_kind part test)) [
+    elim (cases_Bool (has_wrong_kind part test)) [
       | inl wrong ↦ absurd (passes TestKind wrong)
       | inr right ↦ alike-kind sets part test b.marks ∙ right
     ]
@@ -106,15 +104,15 @@ grows-leaf trace part t (BagAt id) old new boxes e shared says low =
 
 -- ---- tests
 
-pub grows-test : (trace : List ℕ → Trace) (part yes_half no_half : List SetOf) (test : Test) (old new : List NodeOf) (before after_it : List (List SetOf)) → new ≡ old ++ TestAt (test_of test) ∷ []
-    → reverse after_it ≡ yes_half ∷ no_half ∷ reverse before → is_wrong_kind part test ≡ false → IsHalf part test true yes_half → IsHalf part test false no_half
-    → IsNeededTest trace part (IsMember part) (test_of test) → NodeFits (TestAt (test_of test)) → Grows trace part old new before after_it
+pub grows-test : (trace : List ℕ → Trace) (part yes_half no_half : List SetOf) (test : TestOf) (old new : List NodeOf) (before after_it : List (List SetOf)) → new ≡ old ++ TestAt test ∷ []
+    → reverse after_it ≡ yes_half ∷ no_half ∷ reverse before → has_wrong_kind part test ≡ false → IsHalf part test true yes_half → IsHalf part test false no_half
+    → IsNeededTest trace part (IsMember part) test → NodeFits (TestAt test) → Grows trace part old new before after_it
 grows-test trace part yes_half no_half test old new before after_it e f right is isnt s fits sets path paths b stand =
     let taken = halves part yes_half no_half test before after_it right is isnt f trace sets path paths b stand in
     record {
-      node = TestAt (test_of test);
+      node = TestAt test;
       added = e;
-      good = record { passes = taken.0; needed = moved trace sets part path (test_of test) b s; fits = fits };
+      good = record { passes = taken.0; needed = moved trace sets part path test b s; fits = fits };
       stand = taken.1;
     }
 

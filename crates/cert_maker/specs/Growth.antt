@@ -6,14 +6,15 @@ use Rattle.reference_resolver.specs.declared.end.End.{End}
 use Rattle.reference_resolver.specs.Trace.{Trace}
 use Rattle.box_answers.specs.NumberSet.{SetOf}
 use Rattle.box_answers.specs.Members.{IsMember}
-use Rattle.cert_tree.specs.Certificate.{TestOf, NodeOf, NodeFits, node_of}
+use Rattle.config_box.specs.Tests.{TestOf}
+use Rattle.cert_tree.specs.Certificate.{NodeOf, NodeFits, node_of}
 use Rattle.cert_checker.specs.declared.rule.Rule.{Rule}
 use Rattle.cert_checker.specs.Paths.{Path, IsAt, after}
 use Rattle.cert_checker.specs.Fails.{FailsAtTest, FailsAtNode, NoRuleFails, is_value}
 use Rattle.cert_checker.specs.OpenBoxes.{IsBoxAt, Stand}
 use Rattle.least_tree.specs.Needed.{IsNeededAt, IsNeeded}
 use Rattle.cert_maker.specs.declared.tree.Grown.{Grown}
-use Rattle.cert_maker.specs.declared.tree.Grown.TheVariants.{Tree, Nowhere, TooLarge}
+use Rattle.cert_maker.specs.declared.tree.Grown.TheVariants.{Tree, Counterexample, TooLarge}
 
 -- no rule fails at the node, if it is a test it is needed, and it is within what JSON can say
 pub record IsGood (trace : List ℕ → Trace) (sets : List SetOf) (node : NodeOf) (path : Path) : Type 0 where
@@ -35,7 +36,7 @@ Grows trace part old new before after_it =
     → AddsNode trace sets path paths old new (reverse after_it)
 
 -- a member for which the goal ends at no value
-pub record EndsNowhere (trace : List ℕ → Trace) (sets : List SetOf) (d : List ℕ) (end : End) : Type 0 where
+pub record IsCounterexampleOf (trace : List ℕ → Trace) (sets : List SetOf) (d : List ℕ) (end : End) : Type 0 where
   pub member : IsMember sets d
   pub ends : (trace d).end ≡ end
   pub no_value : is_value end ≡ false
@@ -44,7 +45,7 @@ pub record EndsNowhere (trace : List ℕ → Trace) (sets : List SetOf) (d : Lis
 -- member ends at no value; or there is a tree of needed tests above the limit
 abbrev pub IsGrown : (List ℕ → Trace) → List SetOf → ℕ → Grown → Type 0
 IsGrown trace sets most (Tree nodes) = NoRuleFails trace sets (map node_of nodes.items) × IsNeeded trace sets (map node_of nodes.items) × (length nodes.items ≤ most) × All NodeFits (map node_of nodes.items)
-IsGrown trace sets most (Nowhere device end) = EndsNowhere trace sets (device_numbers device) end
+IsGrown trace sets most (Counterexample device end) = IsCounterexampleOf trace sets (device_numbers device) end
 IsGrown trace sets most TooLarge = (nodes : List NodeOf) × IsNeeded trace sets nodes × (most < length nodes)
 
 -- no rule fails at a test to which the members of a box come

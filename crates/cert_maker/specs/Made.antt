@@ -13,14 +13,14 @@ use Rattle.cert_checker.specs.FirstFault.{goal_trace, goals_in, IsAccepted}
 use Rattle.cert_checker.specs.Headline.{RulesEndAt}
 use Rattle.least_tree.specs.Needed.{IsNeeded}
 use Rattle.cert_maker.specs.declared.made.Made.{Made}
-use Rattle.cert_maker.specs.declared.made.Made.TheVariants.{Cert, Counter, NodeLimit}
+use Rattle.cert_maker.specs.declared.made.Made.TheVariants.{Cert, Counterexample, NodeLimit}
 
 -- each tree is one whose tests are needed
 abbrev pub AreNeeded : List LayerOf → List SetOf → List GoalOf → Type 0
 AreNeeded stack sets trees = (g : ℕ) (tree : GoalOf) → slice_get trees g ≡ Some tree → IsNeeded (goal_trace stack tree.goal) sets tree.nodes
 
 -- a member of the box for which the goal ends here, at no value and no bag
-pub record IsCounter (stack : List LayerOf) (sets : List SetOf) (goal : Goal) (d : List ℕ) (end : End) : Type 0 where
+pub record IsCounterexample (stack : List LayerOf) (sets : List SetOf) (goal : Goal) (d : List ℕ) (end : End) : Type 0 where
   pub member : IsMember sets d
   pub ends : RulesEndAt stack goal d end
   pub no_value : is_value end ≡ false
@@ -30,13 +30,13 @@ pub record IsCounter (stack : List LayerOf) (sets : List SetOf) (goal : Goal) (d
 abbrev pub IsMade : List LayerOf → List SetOf → List Goal → ℕ → Made → Type 0
 IsMade stack sets asked most (Cert certificate) =
     IsAccepted stack sets asked (goals_of certificate) × AreNeeded stack sets (goals_of certificate) × (node_count (goals_of certificate) ≤ most)
-IsMade stack sets asked most (Counter g device end) =
-    (goal : Goal) × (slice_get asked g ≡ Some goal) × IsCounter stack sets goal (device_numbers device) end
+IsMade stack sets asked most (Counterexample g device end) =
+    (goal : Goal) × (slice_get asked g ≡ Some goal) × IsCounterexample stack sets goal (device_numbers device) end
 IsMade stack sets asked most NodeLimit =
     (trees : List GoalOf) × (goals_in trees ≡ asked) × AreNeeded stack sets trees × (most < node_count trees)
 
 -- what each node says is within the limits of the format, so that the certificate reads back if it has not too many nodes
 abbrev pub CanBeWritten : Made → Type 0
 CanBeWritten (Cert certificate) = All (λ tree. All NodeFits tree.nodes) (goals_of certificate)
-CanBeWritten (Counter g device end) = Unit {0}
+CanBeWritten (Counterexample g device end) = Unit {0}
 CanBeWritten NodeLimit = Unit {0}

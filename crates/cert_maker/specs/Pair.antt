@@ -14,10 +14,10 @@ use Rattle.overlay_map.specs.Candidates.{cand_of}
 use Rattle.reference_resolver.specs.declared.step.Step.{Step}
 use Rattle.reference_resolver.specs.Selection.{selected, step_of}
 use Rattle.reference_resolver.specs.Trace.{Trace, scan_look_up}
-use Rattle.least_tree.specs.SameTrace.{same_trace}
+use Rattle.reference_resolver.specs.SameTrace.{same_trace}
 use Rattle.least_tree.specs.Runs.{trace_with}
-use Rattle.cert_maker.specs.declared.alike.Agreed.{Agreed}
-use Rattle.cert_maker.specs.declared.alike.Agreed.TheVariants.{One, Apart}
+use Rattle.cert_maker.specs.declared.alike.Selections.{Selections}
+use Rattle.cert_maker.specs.declared.alike.Selections.TheVariants.{Alike, Apart}
 
 -- two members side by side with different traces
 pub record ArePair (trace : List ℕ → Trace) (sets : List SetOf) (x y : List ℕ) (c : Coord) : Type 0 where
@@ -39,10 +39,10 @@ abbrev pub IsOneOf : List ℕ → List ℕ → List ℕ → Type 0
 IsOneOf x y d = (d ≡ x) ⊎ (d ≡ y)
 
 -- both select this for an id by the same steps; or a candidate divides them
-abbrev pub IsAgreed : Agreed → List LayerOf → ℕ → List ℕ → List ℕ → Type 0
-IsAgreed (One picked) stack id x y =
+abbrev pub AreSelections : Selections → List LayerOf → ℕ → List ℕ → List ℕ → Type 0
+AreSelections (Alike picked) stack id x y =
     (taken : List Step)
     × ((d : List ℕ) → IsOneOf x y d → scan_look_up step_of stack d id ≡ taken)
     × ((d : List ℕ) → IsOneOf x y d → selected stack id d ≡ option_map cand_of picked)
-IsAgreed Apart stack id x y =
+AreSelections Apart stack id x y =
     Divides (IsOneOf x y) (λ d. scan_look_up step_of stack d id) x y ⊎ Divides (IsOneOf x y) (λ d. scan_look_up step_of stack d id) y x

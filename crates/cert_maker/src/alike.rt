@@ -4,8 +4,8 @@ ghost use Rattle.std.specs.Prelude.{◌≡◌, ◌≢◌, true, false};
 ghost use Rattle.config_record.specs.DeviceSeen.{device_numbers};
 ghost use Rattle.reference_resolver.specs.Ends.{references_followed};
 ghost use Rattle.reference_resolver.specs.Trace.{trace_of};
-ghost use Rattle.least_tree.specs.SameTrace.{same_trace};
-ghost use Rattle.cert_maker.specs.Pair.{IsAgreed};
+ghost use Rattle.reference_resolver.specs.SameTrace.{same_trace};
+ghost use Rattle.cert_maker.specs.Pair.{AreSelections};
 
 use config_record::Device;
 use overlay_map::{Cand, Stack};
@@ -14,9 +14,9 @@ use res_value::ResId;
 
 /// What two devices select for an id.
 #[derive(Clone, Copy, Debug)]
-pub(crate) enum Agreed<'a> {
+pub(crate) enum Selections<'a> {
     /// Both this candidate, or none, by the same steps.
-    One(Option<Cand<'a>>),
+    Alike(Option<Cand<'a>>),
     /// A candidate does one thing at the first, another at the second.
     Apart,
 }
@@ -46,8 +46,8 @@ fn have_one_trace_within(
     let mut left = most;
     'chain: loop {
         let picked = match selected_by_both(stack, id, first, second) {
-            Agreed::One(picked) => picked,
-            Agreed::Apart => return false,
+            Selections::Alike(picked) => picked,
+            Selections::Apart => return false,
         };
         match Next::of(id, &picked) {
             Next::EndsAt(_) => return true,
@@ -59,8 +59,13 @@ fn have_one_trace_within(
 }
 
 /// What both select for an id.
-fn selected_by_both<'a>(stack: &Stack<'a>, id: ResId, first: &Device, second: &Device) -> Agreed<'a>
-    ensures { IsAgreed result stack.now id.0 (device_numbers first.now) (device_numbers second.now) }
+fn selected_by_both<'a>(
+    stack: &Stack<'a>,
+    id: ResId,
+    first: &Device,
+    second: &Device,
+) -> Selections<'a>
+    ensures { AreSelections result stack.now id.0 (device_numbers first.now) (device_numbers second.now) }
 {
     let mut best = None;
     for candidate in stack.candidates(id) {
@@ -68,14 +73,14 @@ fn selected_by_both<'a>(stack: &Stack<'a>, id: ResId, first: &Device, second: &D
         let other = Step::of(&best, &candidate, second);
         let alike = is_same(step, other);
         if !alike {
-            return Agreed::Apart;
+            return Selections::Apart;
         }
         let takes_over = is_same(step, Step::TookOver);
         if takes_over {
             best = Some(candidate);
         }
     }
-    Agreed::One(best)
+    Selections::Alike(best)
 }
 
 fn is_same(step: Step, other: Step) -> bool

@@ -5,11 +5,12 @@ ghost use Rattle.config_record.specs.DeviceSeen.{device_numbers};
 ghost use Rattle.reference_resolver.specs.Ends.{references_followed};
 ghost use Rattle.reference_resolver.specs.Trace.{Trace, trace_of};
 ghost use Rattle.box_answers.specs.Members.{IsMember};
-ghost use Rattle.cert_tree.specs.Certificate.{TestAt, NodeFits, test_of, node_of};
+ghost use Rattle.config_box.specs.Tests.{test_of};
+ghost use Rattle.cert_tree.specs.Certificate.{TestAt, NodeFits, node_of};
 ghost use Rattle.cert_checker.specs.Paths.{leaf_end};
 ghost use Rattle.cert_checker.specs.Fails.{is_value};
 ghost use Rattle.least_tree.specs.Needed.{IsNeededTest};
-ghost use Rattle.cert_maker.specs.Growth.{Grows, EndsNowhere, CanBeAsked};
+ghost use Rattle.cert_maker.specs.Growth.{Grows, IsCounterexampleOf, CanBeAsked};
 
 use crate::parting::parting_test;
 use box_trace::{CommonTrace, common_trace};
@@ -31,9 +32,9 @@ pub(crate) fn add_node(
     nodes: &mut Vec<Node>,
     open_boxes: &mut Vec<ConfigBox>,
 ) -> Result<Option<(Device, End)>, OutOfMemory>
-    ensures grows { IfOk result (λ nowhere. IfNone nowhere (Grows (trace_of stack.now references_followed id.0) members.now (map node_of nodes.old.items) (map node_of nodes.new.items) open_boxes.old.items open_boxes.new.items)) }
-    ensures one_more { IfOk result (λ nowhere. IfNone nowhere (length nodes.new.items ≡ length nodes.old.items + 1)) }
-    ensures nowhere { IfOk result (λ nowhere. IfSome nowhere (λ found. EndsNowhere (trace_of stack.now references_followed id.0) members.now (device_numbers found.0) found.1)) }
+    ensures grows { IfOk result (λ found. IfNone found (Grows (trace_of stack.now references_followed id.0) members.now (map node_of nodes.old.items) (map node_of nodes.new.items) open_boxes.old.items open_boxes.new.items)) }
+    ensures one_more { IfOk result (λ found. IfNone found (length nodes.new.items ≡ length nodes.old.items + 1)) }
+    ensures counterexample { IfOk result (λ found. IfSome found (λ shown. IsCounterexampleOf (trace_of stack.now references_followed id.0) members.now (device_numbers shown.0) shown.1)) }
 {
     match common_trace(stack, id, members) {
         CommonTrace::One(end) => match leaf_of(end) {

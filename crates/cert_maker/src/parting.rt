@@ -8,7 +8,8 @@ ghost use Rattle.config_record.specs.DeviceSeen.{device_numbers};
 ghost use Rattle.reference_resolver.specs.Ends.{references_followed};
 ghost use Rattle.reference_resolver.specs.Trace.{trace_of};
 ghost use Rattle.box_answers.specs.Members.{IsMember};
-ghost use Rattle.cert_tree.specs.Certificate.{TestAt, NodeFits, test_of};
+ghost use Rattle.config_box.specs.Tests.{test_of};
+ghost use Rattle.cert_tree.specs.Certificate.{TestAt, NodeFits};
 ghost use Rattle.least_tree.specs.Needed.{IsNeededTest};
 ghost use Rattle.cert_maker.specs.Pair.{ArePair, keeps, keeps_locale};
 

@@ -20,7 +20,7 @@ pub(crate) enum Grown {
     /// A tree of which no rule fails.
     Tree(Vec<Node>),
     /// A device for which the id ends at no value and no bag, and where it ends.
-    Nowhere(Device, End),
+    Counterexample(Device, End),
     /// The tree has more nodes than allowed.
     TooLarge,
 }
@@ -49,7 +49,7 @@ pub(crate) fn grow_tree(
             &mut nodes,
             &mut open_boxes,
         )? {
-            return Ok(Grown::Nowhere(device, end));
+            return Ok(Grown::Counterexample(device, end));
         }
         if nodes.len() + open_boxes.len() > most {
             return Ok(Grown::TooLarge);

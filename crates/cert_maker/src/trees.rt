@@ -40,9 +40,9 @@ impl Trees {
                 })?;
                 Ok(None)
             }
-            Grown::Nowhere(device, ending) => {
+            Grown::Counterexample(device, ending) => {
                 let goal = self.grown.len();
-                Ok(Some(Made::Counter {
+                Ok(Some(Made::Counterexample {
                     goal,
                     device,
                     ending,

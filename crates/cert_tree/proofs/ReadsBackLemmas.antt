@@ -28,7 +28,8 @@ use Rattle.cert_tree.specs.declared.cert_fault.CertFault.{CertFault}
 use Rattle.cert_tree.specs.declared.cert_fault.CertFault.TheVariants.{Syntax, Shape}
 use Rattle.cert_tree.specs.declared.goal.Goal.{Goal}
 use Rattle.cert_tree.specs.declared.goal.Goal.TheVariants.{Id}
-use Rattle.cert_tree.specs.Certificate.{ChoiceOf, NumbersOf, LocalesOf, AtMostOf, AmongOf, NodeOf, TestAt, ValueAt, BagAt, GoalOf, ChoiceFits, NodeFits, CertFits, node_count, most_nodes, most_listed, last_layer}
+use Rattle.config_box.specs.Tests.{ChoiceOf, NumbersOf, LocalesOf, AtMostOf, AmongOf}
+use Rattle.cert_tree.specs.Certificate.{NodeOf, TestAt, ValueAt, BagAt, GoalOf, ChoiceFits, NodeFits, CertFits, node_count, most_nodes, most_listed, last_layer}
 use Rattle.cert_tree.specs.ReadOn.{read_on}
 use Rattle.cert_tree.specs.CertJson.{last_word, last_kind, number_within, number_at, id_at, list_at, coord_named, coord_at, number_item, locale_item, choice_in, at_most_in, among_in, value_in, bag_in, node_in, node_after, goal_members, goal_in, goal_after, is_version_1, goal_list, goals_in_value, cert_in}
 use Rattle.cert_tree.specs.WrittenJson.{number_data, locale_data, choice_items, node_data, goal_id_data, goal_data, cert_data}

@@ -3,7 +3,7 @@ use Rattle.std.proofs.Common.{◌≡◌, ℕ, ◌<◌, Bool, true, false, ◌&&�
 use Rattle.std.specs.Str.{IsAscii}
 use Rattle.std.specs.List.{list_all}
 use Rattle.std.specs.Int.{w32, to_be_bytes}
-use Rattle.std.proofs.lemmas.Bool.{ltb-true}
+use Rattle.std.proofs.lemmas.Bool.{ltb-true, and_parts}
 use Rattle.std.proofs.lemmas.Str.{IsUtf8-from_ascii, IsAscii-append}
 use Rattle.std.proofs.lemmas.Str.Ascii.{IsAscii-nil, IsAscii-cons}
 use Rattle.hex.specs.Hex.{encode_lower, lower_digits}
@@ -11,14 +11,14 @@ use Rattle.hex.proofs.HexLemmas.{IsAscii-encode_with}
 use Rattle.config_record.specs.declared.locale.Locale.{Locale}
 use Rattle.config_record.specs.Locale.{first_letter, first_digit, is_small_letter, is_capital_letter, is_digit, packed, part_of, language_of, region_of, unpacked, is_spelled, language_text, region_text, locale_text}
 use Rattle.config_record.specs.Zero.{is_zero}
-use Rattle.config_record.proofs.LocaleLemmas.{both, of_languages, of_regions}
+use Rattle.config_record.proofs.LocaleLemmas.{of_languages, of_regions}
 use Rattle.res_value.specs.Word.{word_text, eight_digits}
 use Rattle.res_value.specs.ResId.{id_text}
 
 ascii-from_test : (bytes : List ℕ) → list_all (λ b. nat_lt b 128) bytes ≡ true → IsAscii bytes
 ascii-from_test [] e = IsAscii-nil
 ascii-from_test (b ∷ bytes) e =
-    let h = both (nat_lt b 128) (list_all (λ c. nat_lt c 128) bytes) e in
+    let h = and_parts (nat_lt b 128) (list_all (λ c. nat_lt c 128) bytes) e in
     IsAscii-cons b bytes (ltb-true b 128 h.0) (ascii-from_test bytes h.1)
 
 digits-ascii : (bytes : List ℕ) → IsAscii (encode_lower bytes)
@@ -44,11 +44,11 @@ symbols-ascii : (two three : ℕ → Bool) (base : ℕ) → ((b : ℕ) → two b
 symbols-ascii two three base p q [] e = IsAscii-nil
 symbols-ascii two three base p q (a ∷ []) e = absurd cc
 symbols-ascii two three base p q (a ∷ b ∷ []) e =
-    let h = both (two a) (two b) (chosen (two a && two b) (a ∷ b ∷ []) e) in
+    let h = and_parts (two a) (two b) (chosen (two a && two b) (a ∷ b ∷ []) e) in
     IsAscii-cons a (b ∷ []) (p a h.0) (IsAscii-cons b [] (p b h.1) IsAscii-nil)
 symbols-ascii two three base p q (a ∷ b ∷ c ∷ []) e =
-    let h = both (three a && three b) (three c) (chosen (three a && three b && three c) (packed base a b c) e) in
-    let k = both (three a) (three b) h.0 in
+    let h = and_parts (three a && three b) (three c) (chosen (three a && three b && three c) (packed base a b c) e) in
+    let k = and_parts (three a) (three b) h.0 in
     IsAscii-cons a (b ∷ c ∷ []) (q a k.0) (IsAscii-cons b (c ∷ []) (q b k.1) (IsAscii-cons c [] (q c h.1) IsAscii-nil))
 symbols-ascii two three base p q (a ∷ b ∷ c ∷ d ∷ symbols) e = absurd cc
 
@@ -88,7 +88,7 @@ other-ascii language region =
 
 either-ascii : (spelled : Bool) (l : Locale) → is_spelled l ≡ spelled → IsAscii (cond spelled (language_text l.language ++ region_text l.region) (120 ∷ (encode_lower l.language ++ encode_lower l.region)))
 either-ascii true l e =
-    let h = both (is_zero l.language || is_some (language_of (unpacked 97 l.language))) (is_zero l.region || is_some (region_of (unpacked 48 l.region))) e in
+    let h = and_parts (is_zero l.language || is_some (language_of (unpacked 97 l.language))) (is_zero l.region || is_some (region_of (unpacked 48 l.region))) e in
     spelled-ascii l.language l.region h.0 h.1
 either-ascii false l e = other-ascii l.language l.region
 

@@ -3,12 +3,8 @@ use Rattle.std.specs.Prelude.{ℕ, ◌+◌, ◌≤◌, List, [], ◌∷◌, map,
 use Rattle.std.specs.List.{All}
 use Rattle.config_record.specs.declared.coord.Coord as coord
 use Rattle.config_record.specs.declared.coord.Coord.TheVariants as coords
-use Rattle.config_record.specs.declared.locale.Locale.{Locale}
 use Rattle.config_record.specs.Locale.{IsOfSomeText}
-use Rattle.config_box.specs.declared.test.Test.{Test}
-use Rattle.config_box.specs.declared.test.Test.TheVariants as test
-use Rattle.config_box.specs.declared.test.Choice.{Choice}
-use Rattle.config_box.specs.declared.test.Choice.TheVariants as choice
+use Rattle.config_box.specs.Tests.{ChoiceOf, NumbersOf, LocalesOf, TestOf, AtMostOf, AmongOf, test_of}
 use Rattle.res_value.specs.declared.res_id.ResId.{ResId}
 use Rattle.res_value.specs.declared.value.Value.{Value}
 use Rattle.cert_tree.specs.declared.goal.Goal.{Goal}
@@ -16,16 +12,6 @@ use Rattle.cert_tree.specs.declared.node.Node.{Node}
 use Rattle.cert_tree.specs.declared.node.Node.TheVariants as node
 use Rattle.cert_tree.specs.declared.cert.Cert.{Cert}
 use Rattle.cert_tree.specs.declared.cert.CertGoal.{CertGoal}
-
--- listed numbers, or locales
-pub data ChoiceOf : Type 0 where
-  NumbersOf : List ℕ → ChoiceOf
-  LocalesOf : List Locale → ChoiceOf
-
--- is the number at most this; is the value one of these
-pub data TestOf : Type 0 where
-  AtMostOf : coord.Coord → ℕ → TestOf
-  AmongOf : coord.Coord → ChoiceOf → TestOf
 
 -- a test, or where the goal ends: at a value in a layer, or at a bag
 pub data NodeOf : Type 0 where
@@ -37,14 +23,6 @@ pub data NodeOf : Type 0 where
 pub record GoalOf : Type 0 where
   pub goal : Goal
   pub nodes : List NodeOf
-
-abbrev pub choice_of : Choice → ChoiceOf
-choice_of (choice.Numbers numbers) = NumbersOf numbers.items
-choice_of (choice.Locales locales) = LocalesOf locales.items
-
-abbrev pub test_of : Test → TestOf
-test_of (test.AtMost c most) = AtMostOf c most
-test_of (test.Among c choice) = AmongOf c (choice_of choice)
 
 abbrev pub node_of : Node → NodeOf
 node_of (node.Test test) = TestAt (test_of test)

@@ -4,7 +4,8 @@ use Rattle.std.specs.Prelude.{◌≡◌, ◌+◌, ◌≤◌, ℕ, length, Ok}
 use Rattle.std.specs.List.{All}
 use Rattle.config_record.specs.declared.coord.Coord.{Coord}
 use Rattle.cert_tree.specs.declared.cert_fault.CertFault.{CertFault}
-use Rattle.cert_tree.specs.Certificate.{ChoiceOf, NodeOf, GoalOf, ChoiceFits, NodeFits, most_nodes}
+use Rattle.config_box.specs.Tests.{ChoiceOf}
+use Rattle.cert_tree.specs.Certificate.{NodeOf, GoalOf, ChoiceFits, NodeFits, most_nodes}
 use Rattle.cert_tree.specs.CertJson.{number_item, choice_in, node_in, goal_in}
 use Rattle.cert_tree.specs.WrittenJson.{number_data, choice_items, node_data, goal_data}
 

@@ -10,7 +10,8 @@ use Rattle.res_value.specs.declared.res_id.ResId.{ResId}
 use Rattle.res_value.specs.ResId.{id_text}
 use Rattle.cert_tree.specs.declared.goal.Goal.{Goal}
 use Rattle.cert_tree.specs.declared.goal.Goal.TheVariants.{Id}
-use Rattle.cert_tree.specs.Certificate.{ChoiceOf, NumbersOf, LocalesOf, TestOf, AtMostOf, AmongOf, NodeOf, TestAt, ValueAt, BagAt, GoalOf}
+use Rattle.config_box.specs.Tests.{ChoiceOf, NumbersOf, LocalesOf, TestOf, AtMostOf, AmongOf}
+use Rattle.cert_tree.specs.Certificate.{NodeOf, TestAt, ValueAt, BagAt, GoalOf}
 
 abbrev pub number_data : ℕ → Data
 number_data n = number (unsigned n)

@@ -10,7 +10,7 @@ use crate::goal::Goal;
 use crate::node::Node;
 use crate::read::goals_in_value;
 use crate::write::cert_value;
-use json_input::{JsonFault, read_value};
+use json_input::read_value;
 use std::alloc::{AllocError, Global};
 
 /// What a call answers where memory runs out.
@@ -38,14 +38,9 @@ impl Cert {
     pub fn read(alloc: Global, json: &[u8]) -> Result<Cert, CertFault>
         ensures { GivesOr OutOfMemory goals_of result (cert_in json.now) }
     {
-        match read_value(alloc, json) {
-            Ok(value) => {
-                let goals = goals_in_value(alloc, &value)?;
-                Ok(Cert { goals })
-            }
-            Err(JsonFault::Syntax) => Err(CertFault::Syntax),
-            Err(JsonFault::OutOfMemory) => Err(CertFault::OutOfMemory),
-        }
+        let value = read_value(alloc, json)?;
+        let goals = goals_in_value(alloc, &value)?;
+        Ok(Cert { goals })
     }
 
     /// The certificate as compact JSON, without an end of line. The members of each object stand in

@@ -1,8 +1,10 @@
 //! Why no certificate was read.
 
 ghost use Rattle.std.specs.Prelude.{◌≡◌};
-ghost use Rattle.cert_tree.specs.declared.cert_fault.CertFault.TheVariants.{OutOfMemory};
+ghost use Rattle.json_input.specs.Fault.{fault_of_text};
+ghost use Rattle.cert_tree.specs.declared.cert_fault.CertFault.TheVariants.{Syntax, OutOfMemory};
 
+use json_input::JsonFault;
 use std::alloc::{AllocError, AllocFailed};
 use thiserror::Error;
 
@@ -26,6 +28,17 @@ pub enum CertFault {
     TooManyNodes,
     #[error("OutOfMemory")]
     OutOfMemory,
+}
+
+impl From<JsonFault> for CertFault {
+    ghost from_gives = { λ fault e. e ≡ fault_of_text Syntax OutOfMemory fault };
+
+    fn from(fault: JsonFault) -> CertFault {
+        match fault {
+            JsonFault::Syntax => CertFault::Syntax,
+            JsonFault::OutOfMemory => CertFault::OutOfMemory,
+        }
+    }
 }
 
 impl From<AllocError> for CertFault {

@@ -19,12 +19,14 @@ use res_value::ResId;
 use serde_json::Value;
 use std::alloc::Global;
 
-/// The names of the members of a certificate.
+// The names of the members of a certificate.
+
 const VERSION: &str = "version";
 
 const GOALS: &str = "goals";
 
-/// The names of the members of a goal.
+// The names of the members of a goal.
+
 const ID: &str = "id";
 
 const NODES: &str = "nodes";

@@ -5,7 +5,8 @@ ghost use Rattle.contract_words.specs.Exact.{GivesOr};
 ghost use Rattle.serde_json.specs.View.{view};
 ghost use Rattle.json_input.specs.Each.{each};
 ghost use Rattle.cert_tree.specs.declared.cert_fault.CertFault.TheVariants.{OutOfMemory};
-ghost use Rattle.cert_tree.specs.Certificate.{choice_of, node_of};
+ghost use Rattle.config_box.specs.Tests.{choice_of};
+ghost use Rattle.cert_tree.specs.Certificate.{node_of};
 ghost use Rattle.cert_tree.specs.ReadOn.{read_on};
 ghost use Rattle.cert_tree.specs.CertJson.{number_item, locale_item, choice_in, at_most_in, among_in, value_in, bag_in, node_in, node_after};
 
@@ -18,7 +19,8 @@ use json_input::has_only;
 use serde_json::Value;
 use std::alloc::Global;
 
-/// The names of the members of nodes.
+// The names of the members of nodes.
+
 const AT_MOST: &str = "atMost";
 
 const IN: &str = "in";
@@ -34,8 +36,10 @@ const BAG: &str = "bag";
 /// The last layer of a stack.
 const LAST_LAYER: u64 = 63;
 
+/// The greatest kind of a value, which has one byte.
 const LAST_KIND: u64 = 0xff;
 
+/// The greatest word of a value, which has four bytes.
 const LAST_WORD: u64 = 0xffff_ffff;
 
 /// How many values a test can list.

@@ -4,7 +4,8 @@ ghost use Rattle.std.specs.Prelude.{◌≡◌, Ok, map, IfOk};
 ghost use Rattle.std.specs.List.{All};
 ghost use Rattle.serde_json.specs.View.{view};
 ghost use Rattle.cert_tree.specs.WrittenJson.{number_data, locale_data, choice_items, test_data, node_data, goal_data, cert_data};
-ghost use Rattle.cert_tree.specs.Certificate.{choice_of, test_of, TestAt, node_of, goal_of, goals_of, CertFits};
+ghost use Rattle.config_box.specs.Tests.{choice_of, test_of};
+ghost use Rattle.cert_tree.specs.Certificate.{TestAt, node_of, goal_of, goals_of, CertFits};
 ghost use Rattle.cert_tree.specs.CertJson.{goals_in_value};
 ghost use Rattle.cert_tree.specs.ReadsBack.{NumberReadsBack, ChoiceReadsBack, NodeReadsBack, GoalReadsBack};
 

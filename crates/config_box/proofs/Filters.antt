@@ -3,7 +3,7 @@ use Rattle.std.proofs.Common.{◌≡◌, ℕ, ◌+◌, ◌<◌, ◌≤◌, ◌�
 use Rattle.std.specs.Prelude.{Contains, if◌then◌else◌}
 use Rattle.std.proofs.lemmas.Bool.{false≢true}
 
-abbrev pub Among : ℕ → List ℕ → Type 0
+abbrev pub Among : {X : Type 0} → X → List X → Type 0
 Among v [] = ⊥
 Among v (x ∷ xs) = (x ≡ v) ⊎ Among v xs
 

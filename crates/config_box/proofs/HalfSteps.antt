@@ -1,6 +1,7 @@
 -- The halves of sets and of boxes.
 use Rattle.std.proofs.Common.{◌≡◌, ◌≢◌, ℕ, ◌+◌, ◌<◌, ◌≤◌, arith, List, length, set, Bool, true, false, not, filter, sym, ◌∙◌, ap, refl, subst}
 use Rattle.std.specs.Prelude.{Contains, min, max}
+use Rattle.std.proofs.lemmas.Bool.{not-true, false_from_ne_true, true_from_ne_false}
 use Rattle.std.proofs.lemmas.Bool.Decides.{nat_tests}
 use Rattle.std.proofs.lemmas.List.{get_or-set_same, get_or-set_other, length-map}
 use Rattle.std.proofs.Math.ListN.{length-set}
@@ -13,35 +14,27 @@ use Rattle.config_record.specs.ComparedNumber.{device_number, locale_number}
 use Rattle.config_record.specs.Device.{CanHave}
 use Rattle.config_record.proofs.ChangedNumber.{by_coord, place_of-injective}
 use Rattle.box_answers.specs.NumberSet.{SetOf, RangeOf, NumbersOf, LocalesOf, locale_numbers, listed, IsIn, IsProper}
-use Rattle.box_answers.specs.Members.{set_at, IsOfKind, IsBox, most_values}
+use Rattle.box_answers.specs.Members.{set_at, IsMember, IsOfKind, IsBox, most_values}
 use Rattle.box_answers.proofs.Coords.{place_of-below}
-use Rattle.box_answers.proofs.Monotone.{not_true, not_false}
-use Rattle.config_box.specs.declared.test.Test.{Test}
-use Rattle.config_box.specs.declared.test.Test.TheVariants.{AtMost, Among}
 use Rattle.config_box.specs.Marks.{AreMarkedAlike}
-use Rattle.config_box.specs.declared.test.Choice.{Choice}
-use Rattle.config_box.specs.Tests.{coord_of, passes, is_range, is_wrong_kind}
+use Rattle.config_box.specs.Tests.{ChoiceOf, TestOf, AtMostOf, AmongOf, coord_of, passes, is_range, has_wrong_kind}
 use Rattle.config_box.specs.HalfSets.{gives, IsAskable, NoneAnswers, IsHalfSet}
 use Rattle.config_box.specs.Halves.{IsHalf, AllAnswer}
 use Rattle.config_box.proofs.Filters.{kept-in, kept-all, kept-few, map-filter}
 
 -- ---- what gives an answer
 
-gives-is : (test : Test) (answer : Bool) (n : ℕ) → gives test answer n ≡ true → passes test n ≡ answer
+gives-is : (test : TestOf) (answer : Bool) (n : ℕ) → gives test answer n ≡ true → passes test n ≡ answer
 gives-is test true n e = e
 gives-is test false n e = not-true (passes test n) e
-  where
-    not-true : (b : Bool) → not b ≡ true → b ≡ false
-    not-true true e = absurd cc
-    not-true false e = refl
 
-is-gives : (test : Test) (answer : Bool) (n : ℕ) → passes test n ≡ answer → gives test answer n ≡ true
+is-gives : (test : TestOf) (answer : Bool) (n : ℕ) → passes test n ≡ answer → gives test answer n ≡ true
 is-gives test true n e = e
 is-gives test false n e = ap not e
 
 -- ---- of a choice
 
-pub numbers-half : (numbers kept : List ℕ) (test : Test) (answer : Bool) → IsProper (NumbersOf numbers) → kept ≡ filter (λ n. gives test answer n) numbers → 0 < length kept
+pub numbers-half : (numbers kept : List ℕ) (test : TestOf) (answer : Bool) → IsProper (NumbersOf numbers) → kept ≡ filter (λ n. gives test answer n) numbers → 0 < length kept
     → IsHalfSet (NumbersOf numbers) test answer (NumbersOf kept)
 numbers-half numbers kept test answer proper e some = record {
   numbers = λ n. (
@@ -54,11 +47,11 @@ numbers-half numbers kept test answer proper e some = record {
 }
 
 -- locales are kept as their numbers are
-pub locales-kept : (locales kept : List Locale) (test : Test) (answer : Bool) → kept ≡ filter (λ l. gives test answer (locale_number l)) locales
+pub locales-kept : (locales kept : List Locale) (test : TestOf) (answer : Bool) → kept ≡ filter (λ l. gives test answer (locale_number l)) locales
     → locale_numbers kept ≡ filter (λ n. gives test answer n) (locale_numbers locales)
 locales-kept locales kept test answer e = ap locale_numbers e ∙ map-filter locale_number (λ n. gives test answer n) locales
 
-pub locales-half : (locales kept : List ℕ) (test : Test) (answer : Bool) → IsProper (LocalesOf locales) → kept ≡ filter (λ n. gives test answer n) locales → 0 < length kept
+pub locales-half : (locales kept : List ℕ) (test : TestOf) (answer : Bool) → IsProper (LocalesOf locales) → kept ≡ filter (λ n. gives test answer n) locales → 0 < length kept
     → IsHalfSet (LocalesOf locales) test answer (LocalesOf kept)
 locales-half locales kept test answer proper e some =
     let h = numbers-half locales kept test answer (record { nonempty = proper.nonempty; rises = proper.rises }) e some in
@@ -68,19 +61,19 @@ pub same_count : (locales : List Locale) → length (locale_numbers locales) ≡
 same_count locales = simp length-map refl
 
 -- nothing is kept
-pub numbers-none : (numbers kept : List ℕ) (test : Test) (answer : Bool) → kept ≡ filter (λ n. gives test answer n) numbers → length kept ≡ 0 → NoneAnswers (NumbersOf numbers) test answer
+pub numbers-none : (numbers kept : List ℕ) (test : TestOf) (answer : Bool) → kept ≡ filter (λ n. gives test answer n) numbers → length kept ≡ 0 → NoneAnswers (NumbersOf numbers) test answer
 numbers-none numbers kept test answer e none n is h =
     let c = kept-all (λ m. gives test answer m) n numbers is (is-gives test answer n h) in
     let there = c.1 in
     let count = ap (λ (xs : List ℕ). length xs) e in
     omega arith
 
-pub locales-none : (locales kept : List ℕ) (test : Test) (answer : Bool) → kept ≡ filter (λ n. gives test answer n) locales → length kept ≡ 0 → NoneAnswers (LocalesOf locales) test answer
+pub locales-none : (locales kept : List ℕ) (test : TestOf) (answer : Bool) → kept ≡ filter (λ n. gives test answer n) locales → length kept ≡ 0 → NoneAnswers (LocalesOf locales) test answer
 locales-none locales kept test answer e none = numbers-none locales kept test answer e none
 
 -- ---- of a range
 
-pub up_to-half : (low high most : ℕ) (c : Coord) → low ≤ high → low ≤ most → IsHalfSet (RangeOf low high) (AtMost c most) true (RangeOf low (min high most))
+pub up_to-half : (low high most : ℕ) (c : Coord) → low ≤ high → low ≤ most → IsHalfSet (RangeOf low high) (AtMostOf c most) true (RangeOf low (min high most))
 up_to-half low high most c le p = record {
   numbers = λ n. (
     λ is. ((omega (arith, is), omega (arith, is)), let q : n ≤ most = omega (arith, is) in grind (arith, nat_tests)),
@@ -91,7 +84,7 @@ up_to-half low high most c le p = record {
   few = omega arith;
 }
 
-pub behind-half : (low high most : ℕ) (c : Coord) → low ≤ high → most < high → IsHalfSet (RangeOf low high) (AtMost c most) false (RangeOf (max low (most + 1)) high)
+pub behind-half : (low high most : ℕ) (c : Coord) → low ≤ high → most < high → IsHalfSet (RangeOf low high) (AtMostOf c most) false (RangeOf (max low (most + 1)) high)
 behind-half low high most c le p = record {
   numbers = λ n. (
     λ is. ((omega (arith, is), omega (arith, is)), let q : most < n = omega (arith, is) in grind (arith, nat_tests)),
@@ -132,7 +125,7 @@ kind-alike c (NumbersOf a) (RangeOf x y) m h = absurd m
 kind-alike c (NumbersOf a) (LocalesOf b) m h = absurd m
 kind-alike c (LocalesOf a) b m h = absurd h
 
-pub half-box : (sets : List SetOf) (test : Test) (answer : Bool) (half : SetOf) → IsBox sets → IsHalfSet (set_at sets (coord_of test)) test answer half
+pub half-box : (sets : List SetOf) (test : TestOf) (answer : Bool) (half : SetOf) → IsBox sets → IsHalfSet (set_at sets (coord_of test)) test answer half
     → IsBox (set sets (place_of (coord_of test)) half)
 half-box sets test answer half b h =
     let c = coord_of test in
@@ -144,12 +137,12 @@ half-box sets test answer half b h =
       can = each-set (λ k s. (n : ℕ) → IsIn s n → CanHave k n) sets c half b.count (λ n is. b.can c n ((h.numbers n).0 is).0) b.can;
     }
 
-marks-self : (s : SetOf) → AreMarkedAlike s s
+pub marks-self : (s : SetOf) → AreMarkedAlike s s
 marks-self (RangeOf a b) = tt
 marks-self (NumbersOf a) = tt
 marks-self (LocalesOf a) = tt
 
-pub half-members : (sets : List SetOf) (test : Test) (answer : Bool) (half : SetOf) → IsBox sets → IsHalfSet (set_at sets (coord_of test)) test answer half
+pub half-members : (sets : List SetOf) (test : TestOf) (answer : Bool) (half : SetOf) → IsBox sets → IsHalfSet (set_at sets (coord_of test)) test answer half
     → IsHalf sets test answer (set sets (place_of (coord_of test)) half)
 half-members sets test answer half b h =
     let c = coord_of test in
@@ -174,24 +167,24 @@ half-members sets test answer half b h =
 
 -- ---- a test that is of no wrong kind
 
-askable-at_most : (s : SetOf) (c : Coord) (most : ℕ) → IsAskable s (AtMost c most)
+askable-at_most : (s : SetOf) (c : Coord) (most : ℕ) → IsAskable s (AtMostOf c most)
 askable-at_most (RangeOf low high) c most = tt
 askable-at_most (NumbersOf numbers) c most = tt
 askable-at_most (LocalesOf numbers) c most = tt
 
-askable-among : (s : SetOf) (c : Coord) (choice : Choice) → is_range s ≡ false → IsAskable s (Among c choice)
+askable-among : (s : SetOf) (c : Coord) (choice : ChoiceOf) → is_range s ≡ false → IsAskable s (AmongOf c choice)
 askable-among (RangeOf low high) c choice e = absurd cc
 askable-among (NumbersOf numbers) c choice e = tt
 askable-among (LocalesOf numbers) c choice e = tt
 
-pub askable : (sets : List SetOf) (test : Test) → is_wrong_kind sets test ≡ false → IsAskable (set_at sets (coord_of test)) test
-unfolding is_wrong_kind
-askable sets (AtMost c most) e = askable-at_most (set_at sets c) c most
-askable sets (Among c choice) e = askable-among (set_at sets c) c choice e
+pub askable : (sets : List SetOf) (test : TestOf) → has_wrong_kind sets test ≡ false → IsAskable (set_at sets (coord_of test)) test
+unfolding has_wrong_kind
+askable sets (AtMostOf c most) e = askable-at_most (set_at sets c) c most
+askable sets (AmongOf c choice) e = askable-among (set_at sets c) c choice e
 
 -- all answer alike where no number gives the other answer
-pub all-answer_no : (sets : List SetOf) (test : Test) → NoneAnswers (set_at sets (coord_of test)) test true → AllAnswer sets test false
-all-answer_no sets test none d member = not_true (passes test (device_number d (coord_of test))) (none (device_number d (coord_of test)) (member (coord_of test)))
+pub all-answer_no : (sets : List SetOf) (test : TestOf) → NoneAnswers (set_at sets (coord_of test)) test true → AllAnswer (IsMember sets) test false
+all-answer_no sets test none d member = false_from_ne_true (passes test (device_number d (coord_of test))) (none (device_number d (coord_of test)) (member (coord_of test)))
 
-pub all-answer_yes : (sets : List SetOf) (test : Test) → NoneAnswers (set_at sets (coord_of test)) test false → AllAnswer sets test true
-all-answer_yes sets test none d member = not_false (passes test (device_number d (coord_of test))) (none (device_number d (coord_of test)) (member (coord_of test)))
+pub all-answer_yes : (sets : List SetOf) (test : TestOf) → NoneAnswers (set_at sets (coord_of test)) test false → AllAnswer (IsMember sets) test true
+all-answer_yes sets test none d member = true_from_ne_false (passes test (device_number d (coord_of test))) (none (device_number d (coord_of test)) (member (coord_of test)))

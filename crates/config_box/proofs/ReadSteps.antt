@@ -1,6 +1,6 @@
 -- The sets that are read are what a box has.
 use Rattle.std.proofs.Common.{◌≡◌, ◌≢◌, ℕ, ◌+◌, ◌<◌, ◌≤◌, ◌==◌, ◌||◌, nat_lt, arith, List, [], ◌∷◌, ◌++◌, length, map, get_or, take, ◌^◌, zero-add, length-append, inl, inr, Bool, true, false, Option, Some, ok_or, Result, Ok, refl, sym, ap, subst, ◌∙◌}
-use Rattle.std.proofs.lemmas.Bool.{ltb-false, eqb-false}
+use Rattle.std.proofs.lemmas.Bool.{ltb-false, eqb-false, or_parts}
 use Rattle.std.specs.List.{list_any, range_with_len}
 use Rattle.std.specs.Borrow.{Bor}
 use Rattle.std.proofs.lemmas.Bool.{cases_eq}
@@ -35,17 +35,13 @@ use Rattle.config_box.specs.Written as written
 use Rattle.config_box.specs.HalfSets.{IsSetAt}
 use Rattle.config_box.proofs.ChoiceSteps.{rising-increases, rising-few, rising-some, rising-each, each-not, Each}
 
-or_false : (a b : Bool) → (a || b) ≡ false → (a ≡ false) × (b ≡ false)
-or_false false b e = (refl, e)
-or_false true b e = absurd cc
-
 -- ---- numbers in their range
 
 pub inside-can : (c : Coord) (n : ℕ) → c ≢ coords.Locale → is_outside c n ≡ false → CanHave c n
 unfolding is_outside
 inside-can coords.Locale n other e = absurd (other refl)
 inside-can coords.Density n other e =
-    let h = or_false (n == 0) (nat_lt (greatest_of_device coords.Density) n) e in
+    let h = or_parts (n == 0) (nat_lt (greatest_of_device coords.Density) n) e in
     let some = eqb-false n 0 h.0 in
     let within = ltb-false (greatest_of_device coords.Density) n h.1 in
     (omega arith, omega arith)
@@ -136,7 +132,7 @@ sets-next sets s i here d items all is on count new before =
 
 pub inside-small : (c : Coord) (n : ℕ) → is_outside c n ≡ false → n < 2 ^ 32
 unfolding is_outside greatest_of_device greatest_of
-inside-small coords.Density n e = let h = or_false (n == 0) (nat_lt 32767 n) e in let le = ltb-false 32767 n h.1 in omega arith
+inside-small coords.Density n e = let h = or_parts (n == 0) (nat_lt 32767 n) e in let le = ltb-false 32767 n h.1 in omega arith
 inside-small coords.Mcc n e = let le = ltb-false 65535 n e in omega arith
 inside-small coords.Mnc n e = let le = ltb-false 65535 n e in omega arith
 inside-small coords.Locale n e = let le = ltb-false 0 n e in omega arith

@@ -4,29 +4,27 @@ use Rattle.box_answers.specs.NumberSet.{SetOf, RangeOf, NumbersOf, LocalesOf, Is
 use Rattle.config_record.specs.declared.coord.Coord.{Coord}
 use Rattle.config_record.specs.Device.{CanHave}
 use Rattle.box_answers.specs.Members.{IsOfKind, most_values}
-use Rattle.config_box.specs.declared.test.Test.{Test}
-use Rattle.config_box.specs.declared.test.Test.TheVariants.{AtMost, Among}
 use Rattle.config_box.specs.Marks.{AreMarkedAlike}
-use Rattle.config_box.specs.Tests.{passes}
+use Rattle.config_box.specs.Tests.{TestOf, AtMostOf, AmongOf, passes}
 
 -- a range is asked only whether its numbers are at most a bound
-abbrev pub IsAskable : SetOf → Test → Type 0
-IsAskable (RangeOf low high) (AtMost c most) = Unit {0}
-IsAskable (RangeOf low high) (Among c choice) = ⊥
+abbrev pub IsAskable : SetOf → TestOf → Type 0
+IsAskable (RangeOf low high) (AtMostOf c most) = Unit {0}
+IsAskable (RangeOf low high) (AmongOf c choice) = ⊥
 IsAskable (NumbersOf numbers) test = Unit {0}
 IsAskable (LocalesOf numbers) test = Unit {0}
 
 -- a number gives this answer
-abbrev pub gives : Test → Bool → ℕ → Bool
+abbrev pub gives : TestOf → Bool → ℕ → Bool
 gives test true n = passes test n
 gives test false n = not (passes test n)
 
 -- no number of the set does
-abbrev pub NoneAnswers : SetOf → Test → Bool → Type 0
+abbrev pub NoneAnswers : SetOf → TestOf → Bool → Type 0
 NoneAnswers set test answer = (n : ℕ) → IsIn set n → passes test n ≢ answer
 
 -- the numbers that give it, kept as they were
-pub record IsHalfSet (set : SetOf) (test : Test) (answer : Bool) (half : SetOf) : Type 0 where
+pub record IsHalfSet (set : SetOf) (test : TestOf) (answer : Bool) (half : SetOf) : Type 0 where
   pub numbers : (n : ℕ) → IsIn half n ↔ (IsIn set n × (passes test n ≡ answer))
   pub mark : AreMarkedAlike set half
   pub proper : IsProper half

@@ -5,21 +5,20 @@ use Rattle.box_answers.specs.NumberSet.{SetOf}
 use Rattle.box_answers.specs.Members.{set_at, IsMember, IsBox}
 use Rattle.config_box.specs.declared.split.Split.{Split}
 use Rattle.config_box.specs.declared.split.Split.TheVariants.{Halves, WrongKind, EmptyHalf}
-use Rattle.config_box.specs.declared.test.Test.{Test}
 use Rattle.config_box.specs.Marks.{AreMarkedAlike}
-use Rattle.config_box.specs.Tests.{test_answer, is_wrong_kind}
+use Rattle.config_box.specs.Tests.{TestOf, answers, has_wrong_kind}
 
 -- a box, so never without members: those that give this answer, each coordinate marked as before
-pub record IsHalf (box : List SetOf) (test : Test) (answer : Bool) (half : List SetOf) : Type 0 where
+pub record IsHalf (box : List SetOf) (test : TestOf) (answer : Bool) (half : List SetOf) : Type 0 where
   pub is_box : IsBox half
-  pub members : (d : List ℕ) → IsMember half d ↔ (IsMember box d × (test_answer test d ≡ answer))
+  pub members : (d : List ℕ) → IsMember half d ↔ (IsMember box d × (answers test d ≡ answer))
   pub marks : (c : Coord) → AreMarkedAlike (set_at box c) (set_at half c)
 
-abbrev pub AllAnswer : List SetOf → Test → Bool → Type 0
-AllAnswer box test answer = (d : List ℕ) → IsMember box d → test_answer test d ≡ answer
+abbrev pub AllAnswer : (List ℕ → Type 0) → TestOf → Bool → Type 0
+AllAnswer members test answer = (d : List ℕ) → members d → answers test d ≡ answer
 
 -- two halves; or the test is of a wrong kind; else one half would have no member
-abbrev pub IsSplit : List SetOf → Test → Split → Type 0
-IsSplit box test (Halves yes_half no_half) = (is_wrong_kind box test ≡ false) × IsHalf box test true yes_half × IsHalf box test false no_half
-IsSplit box test WrongKind = is_wrong_kind box test ≡ true
-IsSplit box test EmptyHalf = (is_wrong_kind box test ≡ false) × (AllAnswer box test true ⊎ AllAnswer box test false)
+abbrev pub IsSplit : List SetOf → TestOf → Split → Type 0
+IsSplit box test (Halves yes_half no_half) = (has_wrong_kind box test ≡ false) × IsHalf box test true yes_half × IsHalf box test false no_half
+IsSplit box test WrongKind = has_wrong_kind box test ≡ true
+IsSplit box test EmptyHalf = (has_wrong_kind box test ≡ false) × (AllAnswer (IsMember box) test true ⊎ AllAnswer (IsMember box) test false)

@@ -1,9 +1,11 @@
 //! Why no box was read.
 
 ghost use Rattle.std.specs.Prelude.{◌≡◌};
-ghost use Rattle.config_box.specs.declared.box_fault.BoxFault.TheVariants.{OutOfMemory};
+ghost use Rattle.json_input.specs.Fault.{fault_of_text};
+ghost use Rattle.config_box.specs.declared.box_fault.BoxFault.TheVariants.{Syntax, OutOfMemory};
 
 use config_record::Coord;
+use json_input::JsonFault;
 use std::alloc::{AllocError, AllocFailed};
 use thiserror::Error;
 
@@ -36,6 +38,17 @@ pub enum BoxFault {
     Density,
     #[error("OutOfMemory")]
     OutOfMemory,
+}
+
+impl From<JsonFault> for BoxFault {
+    ghost from_gives = { λ fault e. e ≡ fault_of_text Syntax OutOfMemory fault };
+
+    fn from(fault: JsonFault) -> BoxFault {
+        match fault {
+            JsonFault::Syntax => BoxFault::Syntax,
+            JsonFault::OutOfMemory => BoxFault::OutOfMemory,
+        }
+    }
 }
 
 impl From<AllocError> for BoxFault {

@@ -8,7 +8,7 @@ ghost use Rattle.config_precedence.specs.Precedence.{is_better};
 ghost use Rattle.contract_words.specs.Exact.{GivesOr};
 ghost use Rattle.box_answers.specs.NumberSet.{set_of};
 ghost use Rattle.box_answers.specs.Members.{sets_of, set_at, IsMember, IsCorner, IsBox};
-ghost use Rattle.config_box.specs.Tests.{coord_of};
+ghost use Rattle.config_box.specs.Tests.{test_of, coord_of};
 ghost use Rattle.config_box.specs.HalfSets.{IsHalfSet};
 ghost use Rattle.box_answers.specs.Sameness.{IsExact};
 ghost use Rattle.config_box.specs.declared.box_fault.BoxFault.TheVariants.{OutOfMemory};
@@ -21,7 +21,7 @@ use crate::test::Test;
 use crate::values::{Values, values_of};
 use box_answers::{NumberSet, Sameness, set_at};
 use config_record::{Coord, Device, Record};
-use json_input::{JsonFault, read_value};
+use json_input::read_value;
 use std::alloc::Global;
 use std::marker::Model;
 
@@ -55,13 +55,10 @@ impl ConfigBox {
         ensures value { GivesOr OutOfMemory (λ b. b) result (box_in json.now) }
         ensures sets { IfOk result IsBox }
     {
-        match read_value(alloc, json) {
-            Ok(value) => Ok(ConfigBox {
-                sets: sets_in_value(alloc, &value)?,
-            }),
-            Err(JsonFault::Syntax) => Err(BoxFault::Syntax),
-            Err(JsonFault::OutOfMemory) => Err(BoxFault::OutOfMemory),
-        }
+        let value = read_value(alloc, json)?;
+        Ok(ConfigBox {
+            sets: sets_in_value(alloc, &value)?,
+        })
     }
 
     /// The same box. Its lists are not copied.
@@ -112,7 +109,7 @@ impl ConfigBox {
 
     /// The halves by a test.
     pub fn split(&self, alloc: Global, test: &Test) -> Result<Split, NoMemory>
-        ensures { IfOk result (IsSplit self.now test.now) }
+        ensures { IfOk result (IsSplit self.now (test_of test.now)) }
     {
         let sets = self.sets.as_slice();
         if is_wrong_kind(sets, test) {
@@ -142,8 +139,8 @@ fn half_box(
     half: NumberSet,
 ) -> Result<ConfigBox, NoMemory>
     requires sets { IsBox (sets_of sets.now) }
-    requires half { IsHalfSet (set_at (sets_of sets.now) (coord_of test.now)) test.now answer (set_of half) }
-    ensures { IfOk result (λ b. IsHalf (sets_of sets.now) test.now answer b) }
+    requires half { IsHalfSet (set_at (sets_of sets.now) (coord_of (test_of test.now))) (test_of test.now) answer (set_of half) }
+    ensures { IfOk result (λ b. IsHalf (sets_of sets.now) (test_of test.now) answer b) }
 {
     Ok(ConfigBox {
         sets: with_set(alloc, sets, test.coord(), half)?,

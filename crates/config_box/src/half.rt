@@ -4,7 +4,7 @@ ghost use Rattle.std.specs.Prelude.{◌≡◌, ◌≤◌, filter, IfOk, MatchOpt
 ghost use Rattle.config_record.specs.ComparedNumber.{locale_number};
 ghost use Rattle.box_answers.specs.NumberSet.{RangeOf, set_of, IsProper};
 ghost use Rattle.config_box.specs.HalfSets.{gives, IsAskable, NoneAnswers, IsHalfSet};
-ghost use Rattle.config_box.specs.Tests.{passes};
+ghost use Rattle.config_box.specs.Tests.{test_of, passes};
 
 use crate::test::Test;
 use box_answers::NumberSet;
@@ -20,8 +20,8 @@ pub(crate) fn half_of(
     answer: bool,
 ) -> Result<Option<NumberSet>, AllocError>
     requires proper { IsProper (set_of set.now) }
-    requires askable { IsAskable (set_of set.now) test.now }
-    ensures { IfOk result (λ half. MatchOption half (NoneAnswers (set_of set.now) test.now answer) (λ half. IsHalfSet (set_of set.now) test.now answer (set_of half))) }
+    requires askable { IsAskable (set_of set.now) (test_of test.now) }
+    ensures { IfOk result (λ half. MatchOption half (NoneAnswers (set_of set.now) (test_of test.now) answer) (λ half. IsHalfSet (set_of set.now) (test_of test.now) answer (set_of half))) }
 {
     match set {
         NumberSet::Range(low, high) => Ok(half_of_range(*low, *high, test, answer)),
@@ -46,8 +46,8 @@ pub(crate) fn half_of(
 
 fn half_of_range(low: u32, high: u32, test: &Test, answer: bool) -> Option<NumberSet>
     requires proper { low ≤ high }
-    requires askable { IsAskable (RangeOf low high) test.now }
-    ensures { MatchOption result (NoneAnswers (RangeOf low high) test.now answer) (λ half. IsHalfSet (RangeOf low high) test.now answer (set_of half)) }
+    requires askable { IsAskable (RangeOf low high) (test_of test.now) }
+    ensures { MatchOption result (NoneAnswers (RangeOf low high) (test_of test.now) answer) (λ half. IsHalfSet (RangeOf low high) (test_of test.now) answer (set_of half)) }
 {
     match test {
         Test::AtMost(_, most) if answer => {
@@ -74,7 +74,7 @@ fn kept_numbers(
     test: &Test,
     answer: bool,
 ) -> Result<Vec<u32>, AllocError>
-    ensures { IfOk result (λ kept. kept.items ≡ filter (λ n. gives test.now answer n) numbers.now) }
+    ensures { IfOk result (λ kept. kept.items ≡ filter (λ n. gives (test_of test.now) answer n) numbers.now) }
 {
     numbers
         .iter()
@@ -89,7 +89,7 @@ fn kept_locales(
     test: &Test,
     answer: bool,
 ) -> Result<Vec<Locale>, AllocError>
-    ensures { IfOk result (λ kept. kept.items ≡ filter (λ locale. gives test.now answer (locale_number locale)) locales.now) }
+    ensures { IfOk result (λ kept. kept.items ≡ filter (λ locale. gives (test_of test.now) answer (locale_number locale)) locales.now) }
 {
     locales
         .iter()
@@ -100,7 +100,7 @@ fn kept_locales(
 
 // Whether a number gives this answer.
 fn is_kept(test: &Test, answer: bool, number: u32) -> bool
-    ensures { result ≡ gives test.now answer number }
+    ensures { result ≡ gives (test_of test.now) answer number }
 {
     if answer {
         test.passes(number)

@@ -4,7 +4,7 @@ ghost use Rattle.std.specs.Prelude.{◌≡◌, length, slice_set, IfOk};
 ghost use Rattle.config_record.specs.Coord.{place_of};
 ghost use Rattle.box_answers.specs.NumberSet.{set_of};
 ghost use Rattle.box_answers.specs.Members.{sets_of};
-ghost use Rattle.config_box.specs.Tests.{is_range, is_wrong_kind};
+ghost use Rattle.config_box.specs.Tests.{test_of, is_range, has_wrong_kind};
 
 use crate::config_box::ConfigBox;
 use crate::test::Test;
@@ -27,10 +27,10 @@ pub enum Split {
 }
 
 /// Whether a test can't be asked of the box's set.
-#[tactic(auto, unfolding(crate::specs::Tests::is_wrong_kind))]
+#[tactic(auto, unfolding(crate::specs::Tests::has_wrong_kind))]
 pub(crate) fn is_wrong_kind(sets: &[NumberSet], test: &Test) -> bool
     requires { length sets.now ≡ 25 }
-    ensures { result ≡ is_wrong_kind (sets_of sets.now) test.now }
+    ensures { result ≡ has_wrong_kind (sets_of sets.now) (test_of test.now) }
 {
     match test {
         Test::AtMost(Coord::Locale, _) => true,

@@ -22,10 +22,10 @@ pub enum Choice {
 }
 
 impl Test {
-    ghost use Rattle.config_box.specs.Tests.{coord_of, passes};
+    ghost use Rattle.config_box.specs.Tests.{test_of, coord_of, passes};
 
     pub fn coord(&self) -> Coord
-        ensures { result ≡ coord_of self.now }
+        ensures { result ≡ coord_of (test_of self.now) }
     {
         match self {
             Test::AtMost(coord, _) => *coord,
@@ -35,7 +35,7 @@ impl Test {
 
     /// The answer of a number at the coordinate.
     pub(crate) fn passes(&self, number: u32) -> bool
-        ensures { result ≡ passes self.now number }
+        ensures { result ≡ passes (test_of self.now) number }
     {
         match self {
             Test::AtMost(_, most) => number <= *most,
@@ -45,11 +45,11 @@ impl Test {
 }
 
 impl Choice {
-    ghost use Rattle.config_box.specs.Tests.{is_among};
+    ghost use Rattle.config_box.specs.Tests.{choice_of, is_listed};
 
-    #[tactic(auto, unfolding(crate::specs::Tests::is_among))]
+    #[tactic(auto, unfolding(crate::specs::Tests::is_listed))]
     fn has(&self, at: Coord, number: u32) -> bool
-        ensures { result ≡ is_among at self.now number }
+        ensures { result ≡ is_listed at (choice_of self.now) number }
     {
         match (at, self) {
             (Coord::Locale, Choice::Numbers(_)) => false,

@@ -1,6 +1,6 @@
 -- A record with a region and no language matches no device, since no device has a region without a language.
 use Rattle.std.proofs.Common.{◌≡◌, ℕ, ◌/◌, ◌%◌, ◌<◌, ◌==◌, ◌&&◌, not, Bool, true, false, List, ◌∷◌, drop, IsTrue, refl, arith}
-use Rattle.std.proofs.lemmas.Bool.{eqb-true}
+use Rattle.std.proofs.lemmas.Bool.{eqb-true, and_parts, not-true}
 use Rattle.std.proofs.lemmas.Bool.Decides.{nat_tests}
 use Rattle.config_record.specs.declared.coord.Coord.{Coord}
 use Rattle.config_record.specs.declared.coord.Coord.TheVariants as coords
@@ -16,14 +16,6 @@ use Rattle.config_rules.specs.Table.{answer_of_table}
 use Rattle.config_record.specs.ComparedNumber.{record_number, device_number}
 use Rattle.config_match.specs.Conditions.{all_conditions}
 use Rattle.config_match.specs.Matching.{has_region_alone}
-
-both : (a b : Bool) → (a && b) ≡ true → (a ≡ true) × (b ≡ true)
-both true b e = (refl, e)
-both false b e = absurd cc
-
-is_not : (b : Bool) → not b ≡ true → b ≡ false
-is_not true e = absurd cc
-is_not false e = refl
 
 not_pass : (x y z : Answer) → is_pass z ≡ false → is_pass (or_else x (or_else y z)) ≡ false
 not_pass Yes y z e = refl
@@ -49,8 +41,8 @@ unsuited a d e = third_decides (at coords.Mcc kinds.Equal) (at coords.Mnc kinds.
 
 not_suited : (a d : ℕ) → (not (a == 0) && a / 65536 == 0) ≡ true → (d < 65536 → d ≡ 0) → locale_suits a d ≡ false
 not_suited a d alone whole =
-    let parts = both (not (a == 0)) (a / 65536 == 0) alone in
-    let some : (a == 0) ≡ false = is_not (a == 0) parts.0 in
+    let parts = and_parts (not (a == 0)) (a / 65536 == 0) alone in
+    let some : (a == 0) ≡ false = not-true (a == 0) parts.0 in
     let none : a / 65536 ≡ 0 = eqb-true (a / 65536) 0 parts.1 in
     let region : (a % 65536 == 0) ≡ false = grind (arith, nat_tests) in
     languages (a / 65536 == d / 65536) refl some none region

@@ -3,7 +3,7 @@ use Rattle.std.proofs.Common.{◌≡◌, ℕ, zero, suc, ◌+◌, ◌-◌, ◌*�
 use Rattle.std.specs.List.{position_or_len}
 use Rattle.std.proofs.lemmas.List.{append-nil}
 use Rattle.std.proofs.Math.Seq.{take-append_seam, drop-append-add}
-use Rattle.std.proofs.lemmas.Bool.{eqb-true, ltb-false, le-ltb, lt-ltb}
+use Rattle.std.proofs.lemmas.Bool.{eqb-true, ltb-false, le-ltb, lt-ltb, and_parts, not-false}
 use Rattle.std.proofs.lemmas.Bool.Decides.{nat_tests}
 use Rattle.std.proofs.lemmas.Nat.{be_bytes_4}
 use Rattle.std.specs.Int.{w32, from_be_bytes, to_be_bytes}
@@ -13,7 +13,7 @@ use Rattle.config_record.specs.Zero.{is_zero}
 use Rattle.config_record.specs.ComparedNumber.{locale_number, locale_of_number}
 use Rattle.config_record.specs.Locale.{first_letter, first_digit, dash, packed, part_of, language_of, region_of, no_part, unpacked, is_spelled, locale_faults, checked_locale, IsGiven, locale_of, locale_text, language_text, region_text, cut_at, with_region}
 use Rattle.contract_words.proofs.FaultSteps.{checked_by-ok}
-use Rattle.config_record.proofs.LocaleLemmas.{both, Symbolic, of_languages, of_regions}
+use Rattle.config_record.proofs.LocaleLemmas.{Symbolic, of_languages, of_regions}
 
 -- ---- three symbols that are unpacked and packed
 
@@ -52,7 +52,7 @@ two_read : (two three : ℕ → Bool) (base : ℕ) → Symbolic two three base �
     → ReadAs (part_of two three base) (a ∷ b ∷ []) (a ∷ b ∷ [])
 two_read two three base sy a b e =
     let c = chosen (two a && two b) (a ∷ b ∷ []) e in
-    let s = both _ _ c.0 in
+    let s = and_parts _ _ c.0 in
     record {
       reads = c.1;
       some = refl;
@@ -63,8 +63,8 @@ three_read : (two three : ℕ → Bool) (base : ℕ) → Symbolic two three base
     → ReadAs (part_of two three base) part (x ∷ y ∷ z ∷ [])
 three_read two three base sy x y z part back e =
     let c = chosen (three x && three y && three z) (packed base x y z) e in
-    let s = both _ _ c.0 in
-    let t = both _ _ s.0 in
+    let s = and_parts _ _ c.0 in
+    let t = and_parts _ _ s.0 in
     let above = sy.base_above in
     let first = sy.one_of_three x t.0 in
     let second = sy.one_of_three y t.1 in
@@ -104,9 +104,9 @@ part-back two three base sy part bytes e =
 
 zero-back : (part : List ℕ) → TwoBytes part → is_zero part ≡ true → part ≡ no_part
 zero-back part two e =
-    let z = both _ _ (rw two.same at e) in
+    let z = and_parts _ _ (rw two.same at e) in
     let first = eqb-true two.first 0 z.0 in
-    let second = eqb-true two.second 0 (both _ _ z.1).0 in
+    let second = eqb-true two.second 0 (and_parts _ _ z.1).0 in
     two.same ∙ ap (λ (b : ℕ). b ∷ two.second ∷ []) first ∙ ap (λ (b : ℕ). 0 ∷ b ∷ []) second
 
 -- ---- where the first dash of a text stands
@@ -157,16 +157,12 @@ whole l false true some_language no_region a b c d e =
 whole l false false some_language some_region a b c d e =
     language-region (unpacked first_letter l.language) (unpacked first_digit l.region) l.language l.region (part-back _ _ _ of_languages l.language a c) (part-back _ _ _ of_regions l.region b d)
 
-is_not : (b : Bool) → not b ≡ false → b ≡ true
-is_not true e = refl
-is_not false e = absurd cc
-
 pub given : (l : Locale) → TwoBytes l.language → TwoBytes l.region → checked_locale l ≡ Ok l → locale_of (locale_text l) ≡ Ok l
 unfolding checked_locale locale_text
 given l a b e =
     let met = (checked_by-ok (locale_faults l) (Ok l) l e).0 in
-    let spelled : is_spelled l ≡ true = is_not (is_spelled l) met.0 in
-    let parts = both _ _ spelled in
+    let spelled : is_spelled l ≡ true = not-false (is_spelled l) met.0 in
+    let parts = and_parts _ _ spelled in
     let printed : locale_text l ≡ language_text l.language ++ region_text l.region = rw spelled refl in
     ap locale_of printed ∙ whole l (is_zero l.language) (is_zero l.region) refl refl a b parts.0 parts.1 met.1.0
 
@@ -205,7 +201,7 @@ unfolding checked_locale
 no_region l e none =
     let met = (checked_by-ok (locale_faults l) (Ok l) l e).0 in
     let alone : (is_zero l.language && not (is_zero l.region)) ≡ false = met.1.0 in
-    is_not (is_zero l.region) (rw none at alone)
+    not-false (is_zero l.region) (rw none at alone)
 
 pub no_language : (n : ℕ) → IsGiven (locale_of_number n) → n < 65536 → n ≡ 0
 unfolding locale_of_number
@@ -213,7 +209,7 @@ no_language n given low =
     let first : n / 16777216 % 256 ≡ 0 = omega arith in
     let second : n / 65536 % 256 ≡ 0 = omega arith in
     let none : is_zero (take 2 (to_be_bytes w32 n)) ≡ true = rw (first, second) refl in
-    let all = both _ _ (no_region (locale_of_number n) given none) in
+    let all = and_parts _ _ (no_region (locale_of_number n) given none) in
     let third = eqb-true (n / 256 % 256) 0 all.0 in
-    let fourth = eqb-true (n % 256) 0 (both _ _ all.1).0 in
+    let fourth = eqb-true (n % 256) 0 (and_parts _ _ all.1).0 in
     omega arith

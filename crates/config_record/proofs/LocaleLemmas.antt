@@ -2,7 +2,7 @@
 use Rattle.std.proofs.Common.{◌≡◌, ◌≢◌, ℕ, ◌+◌, ◌-◌, ◌*◌, ◌/◌, ◌%◌, ◌<◌, ◌≤◌, Bool, true, false, ◌&&◌, nat_le, cond, List, [], ◌∷◌, ◌++◌, length, get_or, take, drop, position, ◌==◌, Option, Some, None, Result, Ok, Err, IfOk, is_some, unwrap_or, not, refl, sym, ap, subst, ◌∙◌, arith}
 use Rattle.std.proofs.lemmas.List.{append-nil, drop_more, take-append-drop}
 use Rattle.std.proofs.lemmas.List.Quantifiers.{position-Some}
-use Rattle.std.proofs.lemmas.Bool.{eqb-true, leb-true, le-ltb, lt-ltb}
+use Rattle.std.proofs.lemmas.Bool.{eqb-true, leb-true, le-ltb, lt-ltb, and_parts}
 use Rattle.std.proofs.lemmas.Bool.Decides.{nat_tests}
 use Rattle.std.proofs.Math.Dec.{eqb-suc-zero}
 use Rattle.contract_words.specs.Faults.{checked_by}
@@ -12,16 +12,12 @@ use Rattle.config_record.specs.declared.locale.LocaleFault.TheVariants.{RegionAl
 use Rattle.config_record.specs.Zero.{is_zero}
 use Rattle.config_record.specs.Locale.{first_letter, first_digit, dash, is_small_letter, is_capital_letter, is_digit, packed, part_of, language_of, region_of, no_part, unpacked, without_region, with_region, cut_at, locale_of, checked_locale, IsGiven, locale_text}
 
-pub both : (a b : Bool) → (a && b) ≡ true → (a ≡ true) × (b ≡ true)
-both true b e = (refl, e)
-both false b e = absurd cc
-
 some_if : {X : Type 0} (b : Bool) (x y : X) → cond b (Some x) None ≡ Some y → (b ≡ true) × (x ≡ y)
 some_if true x y e = (refl, cc)
 some_if false x y e = absurd cc
 
 within : (low high b : ℕ) → (nat_le low b && nat_le b high) ≡ true → (low ≤ b) × (b ≤ high)
-within low high b h = let r = both _ _ h in (leb-true low b r.0, leb-true b high r.1)
+within low high b h = let r = and_parts _ _ h in (leb-true low b r.0, leb-true b high r.1)
 
 -- what the symbols of languages and those of regions have in common: two of them stand for themselves, three are
 -- counted from a base in five bits each, and none is a dash
@@ -86,13 +82,13 @@ part_of-stands two three base sy [] part e = absurd cc
 part_of-stands two three base sy (a ∷ []) part e = absurd cc
 part_of-stands two three base sy (a ∷ b ∷ []) part e =
     let r = some_if _ (a ∷ b ∷ []) part e in
-    let s = both _ _ r.0 in
+    let s = and_parts _ _ r.0 in
     let first = sy.one_of_two a s.0 in
     two_stand base a b part (omega arith) (omega arith) r.1
 part_of-stands two three base sy (a ∷ b ∷ c ∷ []) part e =
     let r = some_if _ (packed base a b c) part e in
-    let s = both _ _ r.0 in
-    let t = both _ _ s.0 in
+    let s = and_parts _ _ r.0 in
+    let t = and_parts _ _ s.0 in
     let first = sy.one_of_three a t.0 in
     let second = sy.one_of_three b t.1 in
     let third = sy.one_of_three c s.1 in

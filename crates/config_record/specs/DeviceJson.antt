@@ -4,14 +4,12 @@ use Rattle.contract_words.specs.Faults.{◌>>=◌, refuse}
 use Rattle.serde_json.specs.Data.{Data}
 use Rattle.serde_json.specs.Find.{get}
 use Rattle.json_input.specs.Json.{value_of}
-use Rattle.json_input.specs.declared.value.JsonFault.{JsonFault}
-use Rattle.json_input.specs.declared.value.JsonFault.TheVariants as json_faults
 use Rattle.json_input.specs.Shape.{has_only, number_of, text_of}
 use Rattle.json_input.specs.Each.{each}
 use Rattle.config_record.specs.declared.coord.Coord as coord
 use Rattle.config_record.specs.declared.coord.Coord.TheVariants as coords
 use Rattle.config_record.specs.declared.fields.DeviceFault.{DeviceFault}
-use Rattle.config_record.specs.declared.fields.DeviceFault.TheVariants.{Syntax, Shape, OutOfMemory}
+use Rattle.config_record.specs.declared.fields.DeviceFault.TheVariants.{Syntax, Shape}
 use Rattle.config_record.specs.Coord.{all_coords, name_of}
 use Rattle.config_record.specs.Locale.{locale_of}
 use Rattle.config_record.specs.Device.{device_with}
@@ -51,8 +49,3 @@ device_in_value value = do
 -- the device that bytes mean, or the first fault
 abbrev pub device_in_json : List ℕ → Result (List ℕ) DeviceFault
 device_in_json bytes = ok_or (value_of bytes) Syntax >>= device_in_value
-
--- why a text was not read
-abbrev pub fault_of_text : JsonFault → DeviceFault
-fault_of_text json_faults.Syntax = Syntax
-fault_of_text json_faults.OutOfMemory = OutOfMemory

@@ -2,10 +2,12 @@
 
 ghost use Rattle.std.specs.Prelude.{◌≡◌, length, IfOk};
 ghost use Rattle.json_input.specs.Each.{each};
+ghost use Rattle.json_input.specs.Fault.{fault_of_text};
 ghost use Rattle.config_record.specs.DeviceSeen.{filled};
 ghost use Rattle.config_record.specs.Device.{density_in, locale_number_in, field_in, number_in};
 ghost use Rattle.config_record.specs.ComparedNumber.{locale_of_number};
 ghost use Rattle.config_record.specs.Locale.{IsGiven};
+ghost use Rattle.config_record.specs.declared.fields.DeviceFault.TheVariants.{Syntax, OutOfMemory};
 
 use crate::coord::Coord;
 use crate::locale::{Locale, LocaleFault};
@@ -45,9 +47,7 @@ pub enum DeviceFault {
 }
 
 impl From<JsonFault> for DeviceFault {
-    ghost use Rattle.config_record.specs.DeviceJson.{fault_of_text};
-
-    ghost from_gives = { λ fault e. e ≡ fault_of_text fault };
+    ghost from_gives = { λ fault e. e ≡ fault_of_text Syntax OutOfMemory fault };
 
     fn from(fault: JsonFault) -> DeviceFault {
         match fault {

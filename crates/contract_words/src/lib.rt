@@ -4,6 +4,7 @@
 //! | word | says | file |
 //! |---|---|---|
 //! | `GivesOr` | a call returned exactly what is meant, or memory ran out | `specs/Exact.antt` |
+//! | `FillsIn` | a call that takes no memory filled in what is meant, or has the fault that is meant | `specs/FillsIn.antt` |
 //! | `checked_by` | the fault of the first condition that holds, else what comes then | `specs/Faults.antt` |
 //! | `refuse`, `>>=` | the same as steps of a `do` | `specs/Faults.antt` |
 //! | `joined_each` | what is read of each item, one after the other, or the first fault | `specs/Sequences.antt` |

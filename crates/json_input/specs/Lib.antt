@@ -1,3 +1,4 @@
 pub mod Json
 pub mod Shape
 pub mod Each
+pub mod Fault

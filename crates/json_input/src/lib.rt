@@ -6,6 +6,7 @@
 //! | word | says | file |
 //! |---|---|---|
 //! | `value_of` | the JSON value of some bytes | `specs/Json.antt` |
+//! | `fault_of_text` | why a text was not read, by the faults of the crate that reads it | `specs/Fault.antt` |
 //! | `has_only` | an object without members of other names than these | `specs/Shape.antt` |
 //! | `number_of` | the number of a value, as `Value::as_u64` gives it | `specs/Shape.antt` |
 //! | `text_of` | the text of a value, as `Value::as_str` gives it | `specs/Shape.antt` |

@@ -2,9 +2,9 @@
 use Rattle.std.proofs.Common.{◌≡◌, ◌≢◌, ℕ, zero, suc, ◌+◌, ◌-◌, ◌<◌, ◌≤◌, inl, inr, arith, sym, ◌∙◌, ap, refl}
 use Rattle.std.specs.Prelude.{if◌then◌else◌}
 use Rattle.reference_resolver.specs.Trace.{Trace}
-use Rattle.least_tree.specs.SameTrace.{same_trace}
+use Rattle.reference_resolver.specs.SameTrace.{same_trace}
 use Rattle.least_tree.specs.Runs.{changes}
-use Rattle.least_tree.proofs.SameTraces.{trace-cases}
+use Rattle.reference_resolver.proofs.SameTraces.{trace-cases}
 
 -- whether it changes behind a number
 abbrev pub change : (ℕ → Trace) → ℕ → ℕ

@@ -1,30 +1,12 @@
 -- The different traces that the numbers of a list have, and how many there are on the two sides of a test.
-use Rattle.std.proofs.Common.{◌≡◌, ◌≢◌, ℕ, zero, suc, ◌+◌, ◌<◌, ◌≤◌, ◌⊎◌, inl, inr, arith, List, [], ◌∷◌, length, map, Bool, true, false, not, sym, ◌∙◌, ap, refl, subst, get_or}
-use Rattle.std.specs.Prelude.{Contains}
+use Rattle.std.proofs.Common.{◌≡◌, ◌≢◌, ℕ, ◌+◌, ◌<◌, ◌≤◌, ◌⊎◌, inl, inr, arith, List, [], ◌∷◌, length, map, Bool, true, false, not, sym, ◌∙◌, ap, refl, subst}
+use Rattle.std.proofs.lemmas.Bool.{cases_Bool}
 use Rattle.std.specs.List.{list_any}
 use Rattle.reference_resolver.specs.Trace.{Trace}
-use Rattle.least_tree.specs.SameTrace.{same_trace}
+use Rattle.reference_resolver.specs.SameTrace.{same_trace}
 use Rattle.least_tree.specs.Runs.{different}
-use Rattle.least_tree.proofs.SameTraces.{bool_cases, trace-cases}
-
--- ---- the items of a list
-
-abbrev pub Among : {X : Type 0} → X → List X → Type 0
-Among x [] = ⊥
-Among x (y ∷ ys) = (y ≡ x) ⊎ Among x ys
-
-among-at : (n : ℕ) (ns : List ℕ) (k : ℕ) → k < length ns → get_or ns k n ≡ n → Among n ns
-among-at n [] k p e = absurd (omega arith)
-among-at n (m ∷ ns) zero p e = inl e
-among-at n (m ∷ ns) (suc k) p e = inr (among-at n ns k (omega arith) e)
-
-pub among : (n : ℕ) (ns : List ℕ) → Contains ns n → Among n ns
-among n ns is = among-at n ns is.0 is.1 is.2
-
-pub contained : (n : ℕ) (ns : List ℕ) → Among n ns → Contains ns n
-contained n [] a = absurd a
-contained n (m ∷ ns) (inl e) = (zero, omega arith, e)
-contained n (m ∷ ns) (inr a) = let is = contained n ns a in (suc is.0, omega (arith, is.1), is.2)
+use Rattle.reference_resolver.proofs.SameTraces.{trace-cases}
+use Rattle.config_box.proofs.Filters.{Among}
 
 -- ---- the numbers that pass
 
@@ -69,7 +51,7 @@ pick-all q m (n ∷ ns) (inr a) e = in-put (q n) m n (pick q ns) (pick-all q m n
 pub find : (q : ℕ → Bool) (ns : List ℕ) → ((m : ℕ) × Among m ns × (q m ≡ true)) ⊎ ((m : ℕ) → Among m ns → q m ≡ false)
 find q [] = inr (λ m a. absurd a)
 find q (n ∷ ns) =
-    elim (bool_cases (q n)) [
+    elim (cases_Bool (q n)) [
       | inl e ↦ inl (n, inl refl, e)
       | inr f ↦ elim (find q ns) [
         | inl h ↦ inl (h.0, inr h.1, h.2)
@@ -159,7 +141,7 @@ Apart t q ns = (m n : ℕ) → Among m ns → Among n ns → q m ≡ true → q 
 stays : (t : ℕ → Trace) (q : ℕ → Bool) (n : ℕ) (ns : List ℕ) → Apart t q (n ∷ ns) → q n ≡ true → Among (t n) (map t ns) → Among (t n) (map t (pick q ns))
 stays t q n ns apart is a =
     let h = among-map t (t n) ns a in
-    elim (bool_cases (q h.0)) [
+    elim (cases_Bool (q h.0)) [
       | inl y ↦ subst (λ (z : Trace). Among z (map t (pick q ns))) h.2 (map-among t h.0 (pick q ns) (pick-all q h.0 ns h.1 y))
       | inr f ↦ absurd (apart n h.0 (inl refl) (inr h.1) is f (sym h.2))
     ]
@@ -167,7 +149,7 @@ stays t q n ns apart is a =
 stays-no : (t : ℕ → Trace) (q : ℕ → Bool) (n : ℕ) (ns : List ℕ) → Apart t q (n ∷ ns) → q n ≡ false → Among (t n) (map t ns) → Among (t n) (map t (pick (fails q) ns))
 stays-no t q n ns apart is a =
     let h = among-map t (t n) ns a in
-    elim (bool_cases (q h.0)) [
+    elim (cases_Bool (q h.0)) [
       | inl y ↦ absurd (apart h.0 n (inr h.1) (inl refl) y is h.2)
       | inr f ↦ subst (λ (z : Trace). Among z (map t (pick (fails q) ns))) h.2 (map-among t h.0 (pick (fails q) ns) (pick-all (fails q) h.0 ns h.1 (ap not f)))
     ]

@@ -1,4 +1,3 @@
-pub mod SameTraces
 pub mod Different
 pub mod Changes
 pub mod Lines

@@ -1,18 +1,16 @@
 -- The numbers that are left at one coordinate behind tests of it, and the runs along them.
 use Rattle.std.proofs.Common.{◌≡◌, ◌≢◌, ℕ, ◌+◌, ◌-◌, ◌<◌, ◌≤◌, ◌⊎◌, inl, inr, arith, List, [], ◌∷◌, map, Bool, true, false, not, sym, ◌∙◌, ap, refl}
 use Rattle.std.specs.Prelude.{nat_le}
-use Rattle.std.proofs.lemmas.Bool.{cases_lt}
+use Rattle.std.proofs.lemmas.Bool.{cases_lt, not-true, not-false}
 use Rattle.std.proofs.lemmas.Bool.Decides.{nat_tests}
 use Rattle.config_record.specs.ComparedNumber.{device_number}
 use Rattle.reference_resolver.specs.Trace.{Trace}
 use Rattle.box_answers.specs.NumberSet.{SetOf, RangeOf, NumbersOf, LocalesOf, IsIn}
-use Rattle.config_box.specs.Tests.{is_range}
-use Rattle.cert_tree.specs.Certificate.{TestOf, AtMostOf, AmongOf}
-use Rattle.cert_checker.specs.Tests.{answers, is_listed}
+use Rattle.config_box.specs.Tests.{TestOf, AtMostOf, AmongOf, coord_of, is_listed, answers, is_range}
 use Rattle.cert_checker.specs.Paths.{Path}
-use Rattle.least_tree.specs.Needed.{coord_of}
 use Rattle.least_tree.specs.Runs.{changes, different, runs}
-use Rattle.least_tree.proofs.Different.{Among, among, contained, pick, picked, pick-all, fails, find, map-among, different-le, different-eq, different-some, different-one}
+use Rattle.config_box.proofs.Filters.{Among, among, contained}
+use Rattle.least_tree.proofs.Different.{pick, picked, pick-all, fails, find, map-among, different-le, different-eq, different-some, different-one}
 use Rattle.least_tree.proofs.Changes.{change-most, change-one, changes-at, changes-same}
 
 -- ---- a test at a number of its coordinate
@@ -107,14 +105,6 @@ pub record Both (k : Kept) (test : TestOf) : Type 0 where
   pub low_takes : takes test low ≡ true
   pub high_fails : takes test high ≡ false
 
-not-is-true : (b : Bool) → not b ≡ true → b ≡ false
-not-is-true true e = sym e
-not-is-true false e = refl
-
-not-is-false : (b : Bool) → not b ≡ false → b ≡ true
-not-is-false true e = refl
-not-is-false false e = sym e
-
 -- the two halves of what is left, by the numbers
 pub half-in : (k : Kept) (test : TestOf) (answer : Bool) → Fits k test → Both k test → (n : ℕ) → In (half k test answer) n → In k n × (takes test n ≡ answer)
 half-in (between low high) (AtMostOf c m) true fits h n is =
@@ -127,7 +117,7 @@ half-in (between low high) (AtMostOf c m) false fits h n is =
     ((omega (arith, a, i.0, is.0), is.1), takes-gt n m (omega (arith, is.0)))
 half-in (between low high) (AmongOf c choice) answer fits h n is = absurd (cc fits)
 half-in (chosen ns) test true fits h n is = picked (takes test) n ns is
-half-in (chosen ns) test false fits h n is = let r = picked (fails (takes test)) n ns is in (r.0, not-is-true (takes test n) r.1)
+half-in (chosen ns) test false fits h n is = let r = picked (fails (takes test)) n ns is in (r.0, not-true (takes test n) r.1)
 
 pub in-half : (k : Kept) (test : TestOf) (answer : Bool) → Fits k test → (n : ℕ) → In k n → takes test n ≡ answer → In (half k test answer) n
 in-half (between low high) (AtMostOf c m) true fits n is e = (is.0, le-takes n m e)
@@ -155,8 +145,8 @@ some-fails (between low high) (AtMostOf c m) fits s is =
 some-fails (between low high) (AmongOf c choice) fits s is = absurd (cc fits)
 some-fails (chosen ns) test fits s is =
     elim (find (fails (takes test)) ns) [
-      | inl h ↦ inl (h.0, h.1, not-is-true (takes test h.0) h.2)
-      | inr none ↦ inr (λ n a. not-is-false (takes test n) (none n a))
+      | inl h ↦ inl (h.0, h.1, not-true (takes test h.0) h.2)
+      | inr none ↦ inr (λ n a. not-false (takes test n) (none n a))
     ]
 
 -- ---- runs

@@ -1,6 +1,6 @@
 -- Trees of a box whose members differ at one coordinate alone.
 use Rattle.std.proofs.Common.{◌≡◌, ◌≢◌, ℕ, ◌+◌, ◌*◌, ◌<◌, ◌≤◌, inl, inr, arith, List, [], ◌∷◌, length, Bool, true, false, sym, ◌∙◌, ap, subst, set}
-use Rattle.std.proofs.lemmas.Bool.{cases_lt}
+use Rattle.std.proofs.lemmas.Bool.{cases_lt, cases_Bool}
 use Rattle.config_record.specs.declared.coord.Coord.{Coord}
 use Rattle.config_record.specs.Coord.{place_of}
 use Rattle.config_record.specs.ComparedNumber.{device_number}
@@ -9,16 +9,15 @@ use Rattle.reference_resolver.specs.Trace.{Trace}
 use Rattle.box_answers.specs.NumberSet.{SetOf}
 use Rattle.box_answers.specs.Members.{set_at, IsMember}
 use Rattle.box_answers.proofs.Sets.{member-changed}
-use Rattle.config_box.specs.Tests.{is_range}
-use Rattle.cert_tree.specs.Certificate.{TestOf, AtMostOf, AmongOf, NodeOf, TestAt, ValueAt, BagAt}
+use Rattle.config_box.specs.Tests.{TestOf, AtMostOf, AmongOf, coord_of, answers, is_range, has_wrong_kind}
+use Rattle.cert_tree.specs.Certificate.{NodeOf, TestAt, ValueAt, BagAt}
 use Rattle.cert_checker.specs.declared.rule.Rule.TheVariants.{TestKind, EmptyHalf, MixedTrace}
-use Rattle.cert_checker.specs.Tests.{answers, has_wrong_kind}
 use Rattle.cert_checker.specs.Paths.{Path, IsAt, root}
-use Rattle.least_tree.specs.Needed.{coord_of, AgreeBut, IsNeededTest, IsNeededAt, IsNeeded}
+use Rattle.least_tree.specs.Needed.{AgreeBut, IsNeededTest, IsNeededAt, IsNeeded}
 use Rattle.least_tree.specs.Runs.{trace_with, runs_along, IsOnLine}
 use Rattle.least_tree.specs.Walk.{Walk}
-use Rattle.least_tree.proofs.SameTraces.{bool_cases, trace-cases}
-use Rattle.least_tree.proofs.Different.{Among}
+use Rattle.reference_resolver.proofs.SameTraces.{trace-cases}
+use Rattle.config_box.proofs.Filters.{Among}
 use Rattle.least_tree.proofs.Lines.{Kept, between, chosen, kept, In, in-set, set-in, takes, answers-takes, le-takes, gt-takes, is_between, half, at_path, mark-path, Fits, Both, half-in, in-half, some-takes, some-fails, spread-runs, spread-le, Cuts, spread-eq, spread-some, spread-one}
 use Rattle.least_tree.proofs.Counting.{IsLeaf, Shrinks, at-most, Grows, at-least}
 use Rattle.least_tree.proofs.Passing.{Passes}
@@ -50,7 +49,7 @@ fits : (sets : List SetOf) (c : Coord) (path : Path) (test : TestOf) → coord_o
 unfolding has_wrong_kind
 fits sets c path (AtMostOf j m) e kind = tt
 fits sets c path (AmongOf j choice) e kind =
-    elim (bool_cases (is_range (set_at sets j))) [
+    elim (cases_Bool (is_range (set_at sets j))) [
       | inl is ↦ absurd (kind is)
       | inr told_no ↦ mark-path (set_at sets c) path ∙ ap (λ i. is_range (set_at sets i)) (sym e) ∙ told_no
     ]
@@ -154,7 +153,7 @@ passed-coord : (trace : List ℕ → Trace) (sets : List SetOf) (c : Coord) (t :
     → Passes trace sets (TestAt test) path → coord_of test ≡ c
 passed-coord trace sets c t path test d line at ok =
     by_coord (coord_of test) c (λ e. e)
-    (λ other. elim (bool_cases (answers test d)) [
+    (λ other. elim (cases_Bool (answers test d)) [
       | inl told_yes ↦ absurd (ok EmptyHalf (inl (λ x a. answers-alike trace sets c t test line other x d a.0 at.0 ∙ told_yes)))
       | inr told_no ↦ absurd (ok EmptyHalf (inr (λ x a. answers-alike trace sets c t test line other x d a.0 at.0 ∙ told_no)))
     ])

@@ -9,7 +9,7 @@ use Rattle.box_answers.specs.NumberSet.{SetOf, RangeOf, NumbersOf, LocalesOf, Is
 use Rattle.box_answers.specs.Members.{set_at, IsBox}
 use Rattle.box_answers.proofs.Coords.{all_coords-count}
 use Rattle.least_tree.specs.Least.{HasMember}
-use Rattle.least_tree.proofs.Different.{contained}
+use Rattle.config_box.proofs.Filters.{contained}
 
 first : SetOf → ℕ
 first (RangeOf low high) = low

@@ -1,4 +1,3 @@
-pub mod SameTrace
 pub mod Walk
 pub mod Needed
 pub mod Runs

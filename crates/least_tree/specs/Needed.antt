@@ -6,18 +6,12 @@ use Rattle.config_record.specs.ComparedNumber.{device_number}
 use Rattle.reference_resolver.specs.Trace.{Trace}
 use Rattle.box_answers.specs.NumberSet.{SetOf}
 use Rattle.box_answers.specs.Members.{set_at}
-use Rattle.config_box.specs.Tests.{is_range}
-use Rattle.cert_tree.specs.Certificate.{TestOf, AtMostOf, AmongOf, NodeOf, TestAt, ValueAt, BagAt}
+use Rattle.config_box.specs.Tests.{TestOf, AtMostOf, AmongOf, coord_of, answers, is_range}
+use Rattle.cert_tree.specs.Certificate.{NodeOf, TestAt, ValueAt, BagAt}
 use Rattle.cert_checker.specs.declared.rule.Rule.{Rule}
-use Rattle.cert_checker.specs.Tests.{answers}
 use Rattle.cert_checker.specs.Paths.{Path, IsAt}
 use Rattle.cert_checker.specs.Fails.{FailsAtTest}
 use Rattle.least_tree.specs.Walk.{HoldsOfTree}
-
--- the coordinate that a test asks for
-abbrev pub coord_of : TestOf → Coord
-coord_of (AtMostOf c most) = c
-coord_of (AmongOf c choice) = c
 
 -- two devices have the same number at each coordinate but this one
 abbrev pub AgreeBut : Coord → List ℕ → List ℕ → Type 0

@@ -7,7 +7,7 @@ use Rattle.config_record.specs.Coord.{place_of}
 use Rattle.reference_resolver.specs.Trace.{Trace}
 use Rattle.box_answers.specs.NumberSet.{SetOf, RangeOf, NumbersOf, LocalesOf, IsIn}
 use Rattle.box_answers.specs.Members.{set_at, IsMember}
-use Rattle.least_tree.specs.SameTrace.{same_trace}
+use Rattle.reference_resolver.specs.SameTrace.{same_trace}
 
 -- of so many pairs of neighbours from a number on, how many have different traces
 abbrev pub changes : (ℕ → Trace) → ℕ → ℕ → ℕ

@@ -1,10 +1,10 @@
 //! The laws.
 
-ghost use Rattle.least_tree.specs.SameTrace.{IsTrueOfEqualTraces};
+ghost use Rattle.reference_resolver.specs.SameTrace.{IsTrueOfEqualTraces};
 ghost use Rattle.least_tree.specs.Least.{HasMember, NeededIsSmall, AcceptedIsLarge, NeededIsLeast};
 
 /// Traces are compared part by part, and that says which are equal.
-pub fn same_trace()
+pub fn trace_equality()
     ensures { IsTrueOfEqualTraces }
 {}
 

@@ -13,4 +13,4 @@
 
 mod laws;
 
-pub use laws::{least_tree, same_trace};
+pub use laws::{least_tree, trace_equality};

@@ -7,13 +7,11 @@ use Rattle.serde_json.specs.Data.{Data, Items, no_items, item}
 use Rattle.serde_json.specs.Find.{as_array}
 use Rattle.json_input.specs.Each.{list_of, each}
 use Rattle.json_input.specs.Json.{value_of}
-use Rattle.json_input.specs.declared.value.JsonFault.{JsonFault}
-use Rattle.json_input.specs.declared.value.JsonFault.TheVariants as json_faults
 use Rattle.json_input.specs.Shape.{text_of}
 use Rattle.res_value.specs.declared.res_id.ResId.{ResId}
 use Rattle.res_value.specs.ResId.{id_of, package_of}
 use Rattle.overlay_map.specs.declared.map_fault.MapFault.{MapFault}
-use Rattle.overlay_map.specs.declared.map_fault.MapFault.TheVariants.{Syntax, Shape, Repeated, OtherPackage, OutOfMemory}
+use Rattle.overlay_map.specs.declared.map_fault.MapFault.TheVariants.{Syntax, Shape, Repeated, OtherPackage}
 
 -- pairs of a target and the overlay's id that stands for it, in the order of the text; no target twice
 abbrev pub MapOf : Type 0
@@ -82,8 +80,3 @@ map_in json = do
   pairs ← pairs_in value
   checked ← checked_pairs pairs
   Ok (pairs_of checked)
-
--- why the text of a map was not read
-abbrev pub fault_of_text : JsonFault → MapFault
-fault_of_text json_faults.Syntax = Syntax
-fault_of_text json_faults.OutOfMemory = OutOfMemory

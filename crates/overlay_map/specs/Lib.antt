@@ -1,4 +1,3 @@
-pub mod FillsIn
 pub mod IdMap
 pub mod Layer
 pub mod Candidates

@@ -4,9 +4,9 @@ ghost use Rattle.std.specs.Prelude.{◌≡◌, ◌==◌, ◌≤◌, [], length};
 ghost use Rattle.std.specs.List.{list_any};
 ghost use Rattle.std.specs.Option.{option_map};
 ghost use Rattle.contract_words.specs.Exact.{GivesOr};
+ghost use Rattle.contract_words.specs.FillsIn.{FillsIn};
 ghost use Rattle.contract_words.specs.Sequences.{joined_each, with_before};
 ghost use Rattle.indexmap.specs.IndexMap.{IsEmpty, spare};
-ghost use Rattle.overlay_map.specs.FillsIn.{FillsIn};
 ghost use Rattle.overlay_map.specs.IdMap.{look_of, check_target, checked_pair, checked_pairs, map_in};
 ghost use Rattle.overlay_map.specs.declared.map_fault.MapFault.TheVariants.{OutOfMemory};
 

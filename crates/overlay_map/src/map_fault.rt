@@ -1,7 +1,8 @@
 //! Why an id map is refused.
 
 ghost use Rattle.std.specs.Prelude.{◌≡◌};
-ghost use Rattle.overlay_map.specs.declared.map_fault.MapFault.TheVariants.{OutOfMemory};
+ghost use Rattle.json_input.specs.Fault.{fault_of_text};
+ghost use Rattle.overlay_map.specs.declared.map_fault.MapFault.TheVariants.{Syntax, OutOfMemory};
 
 use json_input::JsonFault;
 use res_value::ResId;
@@ -29,9 +30,7 @@ pub enum MapFault {
 }
 
 impl From<JsonFault> for MapFault {
-    ghost use Rattle.overlay_map.specs.IdMap.{fault_of_text};
-
-    ghost from_gives = { λ fault e. e ≡ fault_of_text fault };
+    ghost from_gives = { λ fault e. e ≡ fault_of_text Syntax OutOfMemory fault };
 
     fn from(fault: JsonFault) -> MapFault {
         match fault {

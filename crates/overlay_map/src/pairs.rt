@@ -3,8 +3,8 @@
 ghost use Rattle.std.specs.Prelude.{◌≡◌, length, map};
 ghost use Rattle.serde_json.specs.View.{view};
 ghost use Rattle.contract_words.specs.Exact.{GivesOr};
+ghost use Rattle.contract_words.specs.FillsIn.{FillsIn};
 ghost use Rattle.json_input.specs.Each.{each};
-ghost use Rattle.overlay_map.specs.FillsIn.{FillsIn};
 ghost use Rattle.overlay_map.specs.IdMap.{id_in, pair_in, pair_item, pairs_in};
 ghost use Rattle.overlay_map.specs.declared.map_fault.MapFault.TheVariants.{OutOfMemory};
 

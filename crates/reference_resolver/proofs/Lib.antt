@@ -4,3 +4,4 @@ pub mod Best
 pub mod AnyOrder
 pub mod Chains
 pub mod Traces
+pub mod SameTraces

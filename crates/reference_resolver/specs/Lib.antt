@@ -4,4 +4,5 @@ pub mod OrderLaw
 pub mod Decision
 pub mod Ends
 pub mod Trace
+pub mod SameTrace
 pub mod Traced

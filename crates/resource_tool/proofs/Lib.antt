@@ -3,5 +3,4 @@ pub mod StackSteps
 pub mod LineSteps
 pub mod QuerySteps
 pub mod CheckSteps
-pub mod LineFeed
 pub mod MakeSteps

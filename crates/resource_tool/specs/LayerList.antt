@@ -6,12 +6,10 @@ use Rattle.serde_json.specs.Data.{Data}
 use Rattle.serde_json.specs.Find.{get}
 use Rattle.json_input.specs.Each.{list_of, each}
 use Rattle.json_input.specs.Json.{value_of}
-use Rattle.json_input.specs.declared.value.JsonFault.{JsonFault}
-use Rattle.json_input.specs.declared.value.JsonFault.TheVariants as json_faults
 use Rattle.json_input.specs.Shape.{has_only, text_of}
 use Rattle.overlay_map.specs.Layer.{most_layers}
 use Rattle.resource_text.specs.declared.layers_fault.LayersFault.{LayersFault}
-use Rattle.resource_text.specs.declared.layers_fault.LayersFault.TheVariants.{Syntax, Shape, TooManyLayers, OutOfMemory}
+use Rattle.resource_text.specs.declared.layers_fault.LayersFault.TheVariants.{Syntax, Shape, TooManyLayers}
 
 -- the files of a layer: that of its table and, at an overlay, that of its id map
 pub record LayerPaths : Type 0 where
@@ -55,8 +53,3 @@ layers_in_value value = do
 -- the layers that bytes mean, or the first fault
 abbrev pub layers_in : List ℕ → Result (List LayerPaths) LayersFault
 layers_in bytes = ok_or (value_of bytes) Syntax >>= layers_in_value
-
--- why a text was not read
-abbrev pub fault_of_text : JsonFault → LayersFault
-fault_of_text json_faults.Syntax = Syntax
-fault_of_text json_faults.OutOfMemory = OutOfMemory

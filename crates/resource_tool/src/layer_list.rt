@@ -2,11 +2,12 @@
 
 ghost use Rattle.std.specs.Prelude.{◌≡◌, map, length, IfOk};
 ghost use Rattle.contract_words.specs.Exact.{GivesOr};
+ghost use Rattle.contract_words.specs.FillsIn.{FillsIn};
 ghost use Rattle.serde_json.specs.View.{view};
 ghost use Rattle.json_input.specs.Each.{each};
-ghost use Rattle.overlay_map.specs.FillsIn.{FillsIn};
-ghost use Rattle.resource_text.specs.declared.layers_fault.LayersFault.TheVariants.{OutOfMemory};
-ghost use Rattle.resource_tool.specs.LayerList.{table_path, map_path, layer_paths_in, layers_in_value, fault_of_text};
+ghost use Rattle.json_input.specs.Fault.{fault_of_text};
+ghost use Rattle.resource_text.specs.declared.layers_fault.LayersFault.TheVariants.{Syntax, OutOfMemory};
+ghost use Rattle.resource_tool.specs.LayerList.{table_path, map_path, layer_paths_in, layers_in_value};
 ghost use Rattle.resource_tool.specs.LayerListSeen.{path_seen, optional_path_seen, lent_paths_of, lent_paths_seen, paths_of, all_paths_of, listed};
 
 use json_input::{JsonFault, has_only, read_value};
@@ -36,16 +37,14 @@ impl LayerList {
     pub fn read(alloc: Global, json: &[u8]) -> Result<LayerList, LayersFault>
         ensures { GivesOr OutOfMemory listed result (layers_in json.now) }
     {
-        match read_value(alloc, json) {
-            Ok(value) => read_list(alloc, &value),
-            Err(fault) => Err(fault_of_text(fault)),
-        }
+        let value = read_value(alloc, json).map_err(fault_of_text)?;
+        read_list(alloc, &value)
     }
 }
 
 // Why a text was not read.
 fn fault_of_text(fault: JsonFault) -> LayersFault
-    ensures { result ≡ fault_of_text fault }
+    ensures { result ≡ fault_of_text Syntax OutOfMemory fault }
 {
     match fault {
         JsonFault::Syntax => LayersFault::Syntax,

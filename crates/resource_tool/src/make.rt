@@ -5,7 +5,7 @@ ghost use Rattle.contract_words.specs.Writes.{Writes};
 ghost use Rattle.config_record.specs.DeviceSeen.{device_numbers};
 ghost use Rattle.resource_tool.specs.Output.{Prints, PrintsOneOf};
 ghost use Rattle.resource_tool.specs.StackBytesSeen.{layer_bytes};
-ghost use Rattle.resource_tool.specs.MakeOutput.{IsMakeOutput, make_inputs, counter_line, counter_text, status_of_made, made_output};
+ghost use Rattle.resource_tool.specs.MakeOutput.{IsMakeOutput, make_inputs, counterexample_line, counterexample_text, status_of_made, made_output};
 ghost use Rattle.resource_tool.specs.LineReadsBack.{LineReadsBack};
 
 use crate::goals::goals_asked;
@@ -94,11 +94,11 @@ fn print_made<W: Write + Drop>(alloc: Global, made: &Made, out: &mut W) -> Resul
             let text = certificate.write(alloc)?;
             write_line(text.as_slice(), out)?;
         }
-        Made::Counter {
+        Made::Counterexample {
             goal,
             device,
             ending,
-        } => write_counter(*goal, device, *ending, out)?,
+        } => write_counterexample(*goal, device, *ending, out)?,
         Made::NodeLimit => out.write_all(b"node limit\n")?,
     }
     Ok(status_of_made(made))
@@ -109,7 +109,7 @@ fn status_of_made(made: &Made) -> Status
 {
     match made {
         Made::Cert(_) => Status::Done,
-        Made::Counter { .. } => Status::Negative,
+        Made::Counterexample { .. } => Status::Negative,
         Made::NodeLimit => Status::Negative,
     }
 }
@@ -121,22 +121,22 @@ fn write_line<W: Write + Drop>(text: &[u8], out: &mut W) -> io::Result<()>
     out.write_all(b"\n")
 }
 
-#[tactic(auto, unfolding(crate::specs::MakeOutput::counter_text))]
-fn write_counter<W: Write + Drop>(
+#[tactic(auto, unfolding(crate::specs::MakeOutput::counterexample_text))]
+fn write_counterexample<W: Write + Drop>(
     goal: usize,
     device: &Device,
     end: End,
     out: &mut W,
 ) -> io::Result<()>
-    ensures { Writes W.contents out.old out.new result (counter_text goal (device_numbers device.now) end) }
+    ensures { Writes W.contents out.old out.new result (counterexample_text goal (device_numbers device.now) end) }
 {
-    write_counter_line(goal, out)?;
+    write_counterexample_line(goal, out)?;
     device_with_end(device, end, out)
 }
 
-#[tactic(auto, unfolding(crate::specs::MakeOutput::counter_line))]
-fn write_counter_line<W: Write + Drop>(goal: usize, out: &mut W) -> io::Result<()>
-    ensures { Writes W.contents out.old out.new result (counter_line goal) }
+#[tactic(auto, unfolding(crate::specs::MakeOutput::counterexample_line))]
+fn write_counterexample_line<W: Write + Drop>(goal: usize, out: &mut W) -> io::Result<()>
+    ensures { Writes W.contents out.old out.new result (counterexample_line goal) }
 {
     writeln!(out, "counter goal {goal}")
 }

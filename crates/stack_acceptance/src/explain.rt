@@ -1,12 +1,12 @@
 //! How ids come to their ends, printed.
 
 use crate::row::check;
-use crate::stacks::SAME;
 use config_record::DeviceFault;
 use res_value::ResId;
 use resource_tool::{Status, ToolFault, explain_bytes};
 use std::alloc::Global;
 use test_layers::{layer, layer_of_lines};
+use test_stacks::SAME;
 
 /// The resource of entry 0.
 const FIRST: ResId = ResId(0x7f01_0000);

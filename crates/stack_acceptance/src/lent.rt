@@ -1,12 +1,12 @@
 //! Rows, their bags and texts are lent from the bytes of the input: they outlive the table and the stack that
 //! gave them.
 
-use crate::stacks::{push_base, push_overlay};
 use overlay_map::Stack;
 use res_value::{Cell, MapRows, ResId, Value};
 use std::alloc::Global;
 use string_pool::Text;
 use test_layers::{layer, layer_with_string};
+use test_stacks::{push_base, push_overlay};
 use type_chunks::{Row, Table};
 
 const FIRST: ResId = ResId(0x7f01_0000);

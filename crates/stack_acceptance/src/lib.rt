@@ -1,14 +1,8 @@
 //! Worked rows of stacks of tables, as tests over the public calls: layer lists and id maps, the layers of a stack,
-//! what a device selects, how references, bags and themes end, what the commands print of it, and the lines of
-//! faults. Nothing stands on this crate.
+//! what a device selects, how references end, what the commands print of it, and the lines of faults. Nothing stands
+//! on this crate.
 #![tactic(auto)]
 
-#[cfg(test)]
-mod attr_command;
-#[cfg(test)]
-mod bag_command;
-#[cfg(test)]
-mod bags;
 #[cfg(test)]
 mod explain;
 #[cfg(test)]
@@ -27,7 +21,3 @@ mod row;
 mod selection;
 #[cfg(test)]
 mod stack;
-#[cfg(test)]
-mod stacks;
-#[cfg(test)]
-mod themes;

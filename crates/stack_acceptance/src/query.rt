@@ -1,13 +1,13 @@
 //! What ids end as for devices, printed.
 
 use crate::row::check;
-use crate::stacks::SAME;
 use config_record::{Coord, DeviceFault};
 use overlay_map::MapFault;
 use res_value::ResId;
 use resource_tool::{LayersFault, Status, ToolFault, query_bytes};
 use std::alloc::Global;
 use test_layers::{layer, layer_of_lines, layer_with_string, table_with};
+use test_stacks::SAME;
 use type_chunks::TableFault;
 
 /// The resource of entry 0.

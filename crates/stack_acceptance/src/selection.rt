@@ -1,13 +1,13 @@
 //! What devices select, and where the references of an id end.
 
 use crate::row::check;
-use crate::stacks::{stack_of_base, stack_of_two};
 use config_record::Device;
 use overlay_map::Stack;
 use reference_resolver::{End, Next, REFERENCES_FOLLOWED, Step, resolve, resolve_within, select};
 use res_value::{ResId, Value, kind};
 use std::alloc::Global;
 use test_layers::{chain, device_of, layer, layer_of_lines};
+use test_stacks::{stack_of_base, stack_of_two};
 
 /// The resource of entry 0.
 const FIRST: ResId = ResId(0x7f01_0000);

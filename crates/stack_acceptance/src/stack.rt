@@ -1,10 +1,10 @@
 //! Layers of a stack, and the candidates of an id in them.
 
-use crate::stacks::{push_base, push_overlay};
 use overlay_map::{IdMap, MOST_LAYERS, Stack, StackFault};
 use res_value::{Cell, ResId};
 use std::alloc::Global;
 use test_layers::layer;
+use test_stacks::{push_base, push_overlay};
 use type_chunks::Table;
 
 /// An overlay's entry 1 stands for entry 0.

@@ -1,6 +1,7 @@
 use Rattle.std.proofs.Common.{◌≡◌, ◌||◌, true, refl, sym, ◌∙◌}
+use Rattle.std.proofs.lemmas.Bool.{or_right}
 use Rattle.bags_themes.specs.Theme.{value_of, is_undefined}
-use Rattle.bags_themes.proofs.ThemeSteps.{AppliesRows-set, or_right}
+use Rattle.bags_themes.proofs.ThemeSteps.{AppliesRows-set}
 use Rattle.bags_themes.proofs.theme.apply_row.Goals.{then-force-via-then-force, then-force-via-else-force+then-is_undefined}
 use Rattle.bags_themes.proofs.theme.apply_row.Goals as goal
 

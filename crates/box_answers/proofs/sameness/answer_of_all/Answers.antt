@@ -1,11 +1,11 @@
-use Rattle.box_answers.proofs.Monotone.{not_true, not_false}
+use Rattle.std.proofs.lemmas.Bool.{false_from_ne_true, true_from_ne_false}
 use Rattle.box_answers.proofs.sameness.answer_of_all.Goals as goal
 
 pub returns-in_default-clause-value : goal.returns-in_default-clause-value
-returns-in_default-clause-value c = λ d m. not_true _ (c.in_default.ensures.none d m)
+returns-in_default-clause-value c = λ d m. false_from_ne_true _ (c.in_default.ensures.none d m)
 
 pub returns-in_default-member_where-clause-value : goal.returns-in_default-member_where-clause-value
-returns-in_default-member_where-clause-value c = λ d m. not_false _ (c.in_default-member_where.ensures.none d m)
+returns-in_default-member_where-clause-value c = λ d m. true_from_ne_false _ (c.in_default-member_where.ensures.none d m)
 
 pub returns-clause-value : goal.returns-clause-value
 returns-clause-value c = c.neighbours-coord.ensures

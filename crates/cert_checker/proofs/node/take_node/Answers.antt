@@ -2,6 +2,7 @@ use Rattle.std.proofs.Common.{sym, subst}
 use Rattle.std.proofs.lemmas.Result.{IfOk-weaker}
 use Rattle.reference_resolver.specs.Ends.{references_followed}
 use Rattle.reference_resolver.specs.Trace.{trace_of}
+use Rattle.config_box.specs.Tests.{test_of}
 use Rattle.cert_tree.specs.declared.node.Node.{Node}
 use Rattle.cert_tree.specs.Certificate.{node_of}
 use Rattle.cert_checker.specs.OpenBoxes.{TakesNode}
@@ -13,7 +14,7 @@ returns-in-Test c =
     let trace = trace_of c.args.stack.now references_followed c.args.id.0 in
     IfOk-weaker c.take_test.result _ _ (λ outcome h.
     subst (λ (n : Node). TakesNode trace (node_of n) c.args.open_boxes.now.items c.take_test.new.open_boxes.items outcome) (sym c.in-Test.is)
-    (at_test trace c.in-Test.test c.in-Some.members c.args.open_boxes.now.items c.pop.new.self.items c.take_test.new.open_boxes.items outcome c.in-Some.ensures.items h)) c.take_test.ensures
+    (at_test trace (test_of c.in-Test.test) c.in-Some.members c.args.open_boxes.now.items c.pop.new.self.items c.take_test.new.open_boxes.items outcome c.in-Some.ensures.items h)) c.take_test.ensures
 
 pub returns-in-Value : goal.returns-in-Value
 returns-in-Value c =

@@ -10,17 +10,17 @@ returns-in-Apart c = follow-apart _ _ _ _ _ _ _ c.chain.invariant c.in-Apart.ens
 
 pub returns-in-EndsAt : goal.returns-in-EndsAt
 returns-in-EndsAt c =
-    let selection = c.in-One.ensures in
-    let shared = follow_end _ _ _ _ _ _ selection.0 (option_map cand_of c.in-One.picked) c.in-EndsAt.field-0 c.chain.invariant (record { steps = selection.1; picks = selection.2 }) (sym c.in-EndsAt.ensures) in
+    let selection = c.in-Alike.ensures in
+    let shared = follow_end _ _ _ _ _ _ selection.0 (option_map cand_of c.in-Alike.picked) c.in-EndsAt.field-0 c.chain.invariant (record { steps = selection.1; picks = selection.2 }) (sym c.in-EndsAt.ensures) in
     share-same _ _ _ _ _ _ shared.1
 
 pub returns-in-LookUp : goal.returns-in-LookUp
 returns-in-LookUp c =
-    let selection = c.in-One.ensures in
-    let shared = follow_long _ _ _ _ _ _ selection.0 (option_map cand_of c.in-One.picked) c.in-LookUp.field-0 c.chain.invariant (record { steps = selection.1; picks = selection.2 }) (omega arith) (sym c.in-LookUp.ensures) in
+    let selection = c.in-Alike.ensures in
+    let shared = follow_long _ _ _ _ _ _ selection.0 (option_map cand_of c.in-Alike.picked) c.in-LookUp.field-0 c.chain.invariant (record { steps = selection.1; picks = selection.2 }) (omega arith) (sym c.in-LookUp.ensures) in
     share-same _ _ _ _ _ _ shared.1
 
 pub chain-preserved : goal.chain-preserved
 chain-preserved c =
-    let selection = c.in-One.ensures in
-    follow_more _ _ _ _ _ _ selection.0 (option_map cand_of c.in-One.picked) c.in-LookUp.field-0 c.chain.invariant (record { steps = selection.1; picks = selection.2 }) (omega arith) (sym c.in-LookUp.ensures)
+    let selection = c.in-Alike.ensures in
+    follow_more _ _ _ _ _ _ selection.0 (option_map cand_of c.in-Alike.picked) c.in-LookUp.field-0 c.chain.invariant (record { steps = selection.1; picks = selection.2 }) (omega arith) (sym c.in-LookUp.ensures)

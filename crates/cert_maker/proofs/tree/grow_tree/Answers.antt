@@ -23,7 +23,7 @@ boxes-init c =
 pub returns-in-Some-2 : goal.returns-in-Some-2
 returns-in-Some-2 c =
     let trace : List ℕ → Trace = trace_of c.args.stack.now references_followed c.args.id.0 in
-    let found = when-some _ (c.in-Some-2.device, c.in-Some-2.end) _ c.in-Some-2.is c.in_ok-device.ensures.nowhere in
+    let found = when-some _ (c.in-Some-2.device, c.in-Some-2.end) _ c.in-Some-2.is c.in_ok-device.ensures.counterexample in
     record {
       member = member-of-whole trace c.args.members.now c.in-Some.part (map node_of c.boxes.nodes.items) c.boxes.open_boxes.items c.pop.new.self.items (device_numbers c.in-Some-2.device) c.in-Some.ensures.items c.boxes.invariant.going found.member;
       ends = found.ends;

@@ -6,7 +6,7 @@ use Rattle.cert_tree.specs.declared.goal.Goal.{Goal}
 use Rattle.cert_tree.specs.declared.goal.Goal.TheVariants.{Id}
 use Rattle.cert_tree.specs.Certificate.{GoalOf, goal_of, node_of}
 use Rattle.cert_maker.specs.Growth.{IsGrown}
-use Rattle.cert_maker.specs.Made.{IsCounter}
+use Rattle.cert_maker.specs.Made.{IsCounterexample}
 use Rattle.cert_maker.specs.Trees.{AreDone}
 use Rattle.cert_maker.proofs.GoalSteps.{one-more, too-large, no-value}
 use Rattle.cert_maker.proofs.trees.Trees.add.Goals as goal
@@ -24,13 +24,13 @@ returns-in_ok-push-in-Tree c = λ asked left most h.
     subst (λ (n : ℕ). AreDone c.args.stack.now c.args.members.now asked left most (map goal_of c.push.new.self.items) (spare + 1 - n)) count
     (subst (λ (ts : List GoalOf). AreDone c.args.stack.now c.args.members.now asked left most ts (spare + 1 - length tree.nodes)) (sym trees) more)
 
-pub returns-in-Nowhere : goal.returns-in-Nowhere
-returns-in-Nowhere c = λ asked left most h.
-    let grown = subst (IsGrown _ _ _) c.in-Nowhere.is c.in_ok-nodes.ensures in
+pub returns-in-Counterexample : goal.returns-in-Counterexample
+returns-in-Counterexample c = λ asked left most h.
+    let grown = subst (IsGrown _ _ _) c.in-Counterexample.is c.in_ok-nodes.ensures in
     let before = c.args.self.now.grown.items in
     let place : length (map goal_of before) ≡ c.len-goal.result = (let same = length-map before goal_of in let len = c.len-goal.ensures in let is = c.args.self.now.grown.ok.0 in omega (arith, same, len, is)) in
-    let counter = no-value c.args.stack.now c.args.members.now asked left most c.args.self.now.spare (map goal_of before) c.args.id (device_numbers c.in-Nowhere.device) c.in-Nowhere.ending h grown in
-    (subst (λ (g : ℕ). (goal : Goal) × (slice_get asked g ≡ Some goal) × IsCounter c.args.stack.now c.args.members.now goal (device_numbers c.in-Nowhere.device) c.in-Nowhere.ending) place counter, tt)
+    let counter = no-value c.args.stack.now c.args.members.now asked left most c.args.self.now.spare (map goal_of before) c.args.id (device_numbers c.in-Counterexample.device) c.in-Counterexample.ending h grown in
+    (subst (λ (g : ℕ). (goal : Goal) × (slice_get asked g ≡ Some goal) × IsCounterexample c.args.stack.now c.args.members.now goal (device_numbers c.in-Counterexample.device) c.in-Counterexample.ending) place counter, tt)
 
 pub returns-in-TooLarge : goal.returns-in-TooLarge
 returns-in-TooLarge c = λ asked left most h.

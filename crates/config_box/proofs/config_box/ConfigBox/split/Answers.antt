@@ -1,8 +1,8 @@
 use Rattle.std.proofs.Common.{◌≡◌, ◌⊎◌, inl, true, false, List, sym, ◌∙◌, ap, subst}
 use Rattle.box_answers.specs.NumberSet.{SetOf, set_of}
-use Rattle.box_answers.specs.Members.{sets_of, set_at}
+use Rattle.box_answers.specs.Members.{sets_of, set_at, IsMember}
 use Rattle.config_record.specs.declared.coord.Coord.{Coord}
-use Rattle.config_box.specs.Tests.{coord_of, is_wrong_kind}
+use Rattle.config_box.specs.Tests.{test_of, coord_of, has_wrong_kind}
 use Rattle.config_box.specs.HalfSets.{IsAskable, NoneAnswers}
 use Rattle.config_box.specs.Halves.{AllAnswer}
 use Rattle.config_box.proofs.HalfSteps.{askable, all-answer_yes}
@@ -10,24 +10,24 @@ use Rattle.config_box.proofs.config_box.ConfigBox.split.Goals as goal
 
 pub half_of-requires-clause-askable : goal.half_of-requires-clause-askable
 half_of-requires-clause-askable c =
-    subst (λ (s : SetOf). IsAskable s c.args.test.now)
+    subst (λ (s : SetOf). IsAskable s (test_of c.args.test.now))
     (ap (λ (k : Coord). set_at (sets_of c.as_slice-sets.result.now) k) (sym c.coord.ensures) ∙ sym c.set_at-set.ensures)
-    (askable (sets_of c.as_slice-sets.result.now) c.args.test.now (sym c.is_wrong_kind.ensures ∙ c.if-is_wrong_kind.false))
+    (askable (sets_of c.as_slice-sets.result.now) (test_of c.args.test.now) (sym c.is_wrong_kind.ensures ∙ c.if-is_wrong_kind.false))
 
 pub half_of-requires-2-clause-askable : goal.half_of-requires-2-clause-askable
 half_of-requires-2-clause-askable c =
-    subst (λ (s : SetOf). IsAskable s c.args.test.now)
+    subst (λ (s : SetOf). IsAskable s (test_of c.args.test.now))
     (ap (λ (k : Coord). set_at (sets_of c.as_slice-sets.result.now) k) (sym c.coord.ensures) ∙ sym c.set_at-set.ensures)
-    (askable (sets_of c.as_slice-sets.result.now) c.args.test.now (sym c.is_wrong_kind.ensures ∙ c.if-is_wrong_kind.false))
+    (askable (sets_of c.as_slice-sets.result.now) (test_of c.args.test.now) (sym c.is_wrong_kind.ensures ∙ c.if-is_wrong_kind.false))
 
 pub returns-in_default-2 : goal.returns-in_default-2
 returns-in_default-2 c =
     let sets : List SetOf = sets_of c.as_slice-sets.result.now in
-    let test = c.args.test.now in
+    let test = test_of c.args.test.now in
     let whole : sets ≡ c.args.self.now = ap sets_of c.as_slice-sets.ensures.value ∙ c.self.view_is in
     let at : set_of c.set_at-set.result.now ≡ set_at sets (coord_of test) = c.set_at-set.ensures ∙ ap (λ (k : Coord). set_at sets k) c.coord.ensures in
     let none : NoneAnswers (set_of c.set_at-set.result.now) test false = rw c.in_default-2.is at c.in_ok-no.ensures in
-    subst (λ (b : List SetOf). (is_wrong_kind b test ≡ false) × (AllAnswer b test true ⊎ AllAnswer b test false)) whole (
+    subst (λ (b : List SetOf). (has_wrong_kind b test ≡ false) × (AllAnswer (IsMember b) test true ⊎ AllAnswer (IsMember b) test false)) whole (
       sym c.is_wrong_kind.ensures ∙ c.if-is_wrong_kind.false,
       inl (all-answer_yes sets test (subst (λ (s : SetOf). NoneAnswers s test false) at none)),
     )

@@ -1,5 +1,5 @@
 -- A line feed behind a JSON text changes nothing.
-use Rattle.std.proofs.Common.{◌≡◌, ℕ, suc, ◌+◌, ◌-◌, ◌≤◌, Bool, true, false, cond, ◌&&◌, ◌||◌, ◌==◌, nat_eq, nat_lt, List, [], ◌∷◌, ◌++◌, length, take, drop, Option, Some, None, option_map, option_and_then, Ok, ok_or, if◌then◌else◌, refl, ap, ap₂, ◌∙◌, arith, length-append}
+use Rattle.std.proofs.Common.{◌≡◌, ℕ, suc, ◌+◌, ◌-◌, ◌≤◌, Bool, true, false, cond, ◌&&◌, ◌||◌, ◌==◌, nat_eq, nat_lt, List, [], ◌∷◌, ◌++◌, length, take, drop, Option, Some, None, option_map, option_and_then, if◌then◌else◌, refl, ap, ap₂, ◌∙◌, arith, length-append}
 use Rattle.std.proofs.lemmas.List.{take-append-le, drop-append-le}
 use Rattle.std.proofs.lemmas.Str.{IsUtf8-append, IsUtf8-from_is_utf8, IsUtf8-from_ascii}
 use Rattle.std.proofs.lemmas.Str.Ascii.{IsAscii-nil, IsAscii-cons}
@@ -14,12 +14,8 @@ use Rattle.json.specs.Lex.{Lexeme, token, string_token, operator_lexeme, Class, 
 use Rattle.json.specs.Json as json
 use Rattle.serde_json.specs.Data.{Data}
 use Rattle.serde_json.specs.Read.{read, of_json, max_depth}
-use Rattle.contract_words.specs.Faults.{◌>>=◌}
 use Rattle.json_input.specs.Json.{value_of}
 use Rattle.json_input.proofs.ValueLemmas.{value_of-read}
-use Rattle.cert_tree.specs.Certificate.{GoalOf}
-use Rattle.cert_tree.specs.declared.cert_fault.CertFault.TheVariants.{Syntax}
-use Rattle.cert_tree.specs.CertJson.{goals_in_value, cert_in}
 
 -- a text as a line
 abbrev line : List ℕ → List ℕ
@@ -206,7 +202,7 @@ lex-line m (x ∷ xs) = lex_byte-line m (class x) x xs (λ next. lex next xs) (�
 read-line : (text : List ℕ) → read (text ++ 10 ∷ []) ≡ read text
 read-line text = ap (λ lexemes. option_and_then of_json (option_and_then (λ p. json.if_last p.0 p.1) (json.value max_depth (punctuate fresh lexemes)))) (lex-line between text)
 
-line-means : (text : List ℕ) (value : Data) → value_of text ≡ Some value → value_of (line text) ≡ Some value
+pub line-means : (text : List ℕ) (value : Data) → value_of text ≡ Some value → value_of (text ++ 10 ∷ []) ≡ Some value
 unfolding value_of
 line-means text value e = where_utf8 (is_utf8 text) refl e
   where
@@ -214,11 +210,3 @@ line-means text value e = where_utf8 (is_utf8 text) refl e
     where_utf8 true utf8 e =
         value_of-read (line text) value (IsUtf8-append text (10 ∷ []) (IsUtf8-from_is_utf8 text utf8) (IsUtf8-from_ascii (10 ∷ []) (IsAscii-cons 10 [] (omega arith) IsAscii-nil))) (read-line text ∙ e)
     where_utf8 false utf8 e = absurd cc
-
--- the line of a certificate's text means the same certificate
-pub cert_in-line : (text : List ℕ) (goals : List GoalOf) → cert_in text ≡ Ok goals → cert_in (text ++ 10 ∷ []) ≡ Ok goals
-cert_in-line text goals e = where_read (value_of text) refl e
-  where
-    where_read : (o : Option Data) → value_of text ≡ o → (ok_or o Syntax >>= goals_in_value) ≡ Ok goals → cert_in (text ++ 10 ∷ []) ≡ Ok goals
-    where_read (Some value) means e = rw (line-means text value means) e
-    where_read None means e = absurd cc

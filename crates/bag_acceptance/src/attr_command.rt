@@ -1,6 +1,5 @@
 //! Where attributes end, printed.
 
-use crate::row::check;
 use res_value::ResId;
 use resource_tool::{Status, attr_bytes};
 use std::alloc::Global;
@@ -102,7 +101,7 @@ fn other_attribute(alloc: Global) -> Option<&'static str> {
 
 #[test]
 fn prints_where_attributes_end(rt: HostRuntime) {
-    check(&rt, other_attribute(rt.alloc()));
+    assert_eq!(rt; other_attribute(rt.alloc()), None);
 }
 
 /// A style without a row, and one with a row.
@@ -160,7 +159,7 @@ fn other_refusal(alloc: Global) -> Option<&'static str> {
 
 #[test]
 fn prints_cycles_and_the_first_style_without_rows(rt: HostRuntime) {
-    check(&rt, other_refusal(rt.alloc()));
+    assert_eq!(rt; other_refusal(rt.alloc()), None);
 }
 
 // Whether the attribute of a style is printed so, which refers to entry 1; entries 1 to 19 refer to the next one

@@ -1,10 +1,10 @@
 //! Bags, and the rows that they inherit.
 
-use crate::stacks::stack_of_base;
 use bags_themes::{BagFault, BagRow, BagRows, bag};
 use res_value::{ResId, Value, kind};
 use std::alloc::Global;
 use test_layers::{chain, device_of, layer_of_lines};
+use test_stacks::stack_of_base;
 
 /// The resource of entry 0.
 const FIRST: ResId = ResId(0x7f01_0000);

@@ -1,6 +1,7 @@
--- Traces that are compared part by part.
+-- Traces that are compared part by part, and their ends.
 use Rattle.std.proofs.Common.{◌≡◌, ◌≢◌, ℕ, Bool, true, false, List, [], ◌∷◌, ◌⊎◌, inl, inr, refl, sym, ◌∙◌, ap, arith}
 use Rattle.std.specs.Prelude.{◌==◌, ◌&&◌, IsTrue}
+use Rattle.std.proofs.lemmas.Bool.{and_parts, cases_Bool}
 use Rattle.std.proofs.lemmas.Bool.Decides.{nat_tests}
 use Rattle.res_value.specs.declared.value.Value.{Value as Word}
 use Rattle.res_value.specs.declared.res_id.ResId.{ResId}
@@ -9,16 +10,7 @@ use Rattle.reference_resolver.specs.declared.step.Step.TheVariants.{NoMatch, Kep
 use Rattle.reference_resolver.specs.declared.end.End.{End}
 use Rattle.reference_resolver.specs.declared.end.End.TheVariants.{Value, Bag, Absent, TooLong}
 use Rattle.reference_resolver.specs.Trace.{Trace}
-use Rattle.least_tree.specs.SameTrace.{same_step, same_steps, same_end, same_trace, IsTrueOfEqualTraces}
-
-pub bool_cases : (b : Bool) → (b ≡ true) ⊎ (b ≡ false)
-bool_cases true = inl refl
-bool_cases false = inr refl
-
-both : (a b : Bool) → (a && b) ≡ true → (a ≡ true) × (b ≡ true)
-both true true e = (refl, refl)
-both true false e = cc
-both false b e = cc
+use Rattle.reference_resolver.specs.SameTrace.{same_step, same_steps, same_end, same_trace, IsTrueOfEqualTraces}
 
 number-equal : (m n : ℕ) → (m == n) ≡ true → m ≡ n
 number-equal m n e = grind (arith, nat_tests)
@@ -40,7 +32,7 @@ step-same TookOver = refl
 steps-equal : (steps others : List Step) → same_steps steps others ≡ true → steps ≡ others
 steps-equal [] [] e = refl
 steps-equal (a ∷ steps) (b ∷ others) e =
-    let h = both (same_step a b) (same_steps steps others) e in
+    let h = and_parts (same_step a b) (same_steps steps others) e in
     let first = step-equal a b h.0 in
     let rest = steps-equal steps others h.1 in
     cc
@@ -52,7 +44,7 @@ steps-same (a ∷ steps) = rw (step-same a) (steps-same steps)
 
 word-equal : (v w : Word) → (v.kind == w.kind && v.word == w.word) ≡ true → v ≡ w
 word-equal v w e =
-    let h = both (v.kind == w.kind) (v.word == w.word) e in
+    let h = and_parts (v.kind == w.kind) (v.word == w.word) e in
     let with_kind : ℕ → Word = λ n. record { kind = n; word = v.word } in
     let with_word : ℕ → Word = λ n. record { kind = w.kind; word = n } in
     ap with_kind (number-equal v.kind w.kind h.0) ∙ ap with_word (number-equal v.word w.word h.1)
@@ -64,7 +56,7 @@ id-equal a b e =
 
 end-equal : (a b : End) → same_end a b ≡ true → a ≡ b
 end-equal (Value layer value) (Value other_layer other) e =
-    let h = both (layer == other_layer) (value.kind == other.kind && value.word == other.word) e in
+    let h = and_parts (layer == other_layer) (value.kind == other.kind && value.word == other.word) e in
     let l = number-equal layer other_layer h.0 in
     let v = word-equal value other h.1 in
     cc
@@ -79,10 +71,18 @@ end-same (Bag id) = number-same id.0
 end-same (Absent id) = number-same id.0
 end-same (TooLong id) = number-same id.0
 
+-- two ends are one, or they are not
+pub end-cases : (a b : End) → (a ≡ b) ⊎ (a ≢ b)
+end-cases a b =
+    elim (cases_Bool (same_end a b)) [
+      | inl same ↦ inl (end-equal a b same)
+      | inr other ↦ inr (λ e. let same : same_end a b ≡ true = sym (ap (same_end a) e) ∙ end-same a in cc)
+    ]
+
 trace-equal : (t u : Trace) → same_trace t u ≡ true → t ≡ u
 unfolding same_trace
 trace-equal t u e =
-    let h = both (same_steps t.steps u.steps) (same_end t.end u.end) e in
+    let h = and_parts (same_steps t.steps u.steps) (same_end t.end u.end) e in
     let with_steps : List Step → Trace = λ steps. record { steps = steps; end = t.end } in
     let with_end : End → Trace = λ end. record { steps = u.steps; end = end } in
     ap with_steps (steps-equal t.steps u.steps h.0) ∙ ap with_end (end-equal t.end u.end h.1)
@@ -94,7 +94,7 @@ trace-same t = rw (steps-same t.steps) (end-same t.end)
 -- two traces are one, or they are not
 pub trace-cases : (t u : Trace) → ((same_trace t u ≡ true) × (t ≡ u)) ⊎ ((same_trace t u ≡ false) × (t ≢ u))
 trace-cases t u =
-    elim (bool_cases (same_trace t u)) [
+    elim (cases_Bool (same_trace t u)) [
       | inl same ↦ inl (same, trace-equal t u same)
       | inr other ↦ inr (other, λ e. let same : same_trace t u ≡ true = sym (ap (same_trace t) e) ∙ trace-same t in cc)
     ]

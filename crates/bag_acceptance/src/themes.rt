@@ -1,7 +1,5 @@
 //! Themes, and where their attributes end.
 
-use crate::row::check;
-use crate::stacks::stack_of_base;
 use bags_themes::{BagFault, Theme};
 use config_record::Device;
 use overlay_map::Stack;
@@ -9,6 +7,7 @@ use reference_resolver::End;
 use res_value::{ResId, Value, kind};
 use std::alloc::{AllocError, Global};
 use test_layers::{device_of, layer_of_lines};
+use test_stacks::stack_of_base;
 
 /// The resources of entries 0 and 1, which are styles, and of an entry that is not there.
 const FIRST: ResId = ResId(0x7f01_0000);
@@ -101,7 +100,7 @@ fn other_cycle(alloc: Global) -> Option<&'static str> {
 
 #[test]
 fn ends_cycles_of_attributes(rt: HostRuntime) {
-    check(&rt, other_cycle(rt.alloc()));
+    assert_eq!(rt; other_cycle(rt.alloc()), None);
 }
 
 // A style with twenty attributes, each naming the next; behind them stands this row.
