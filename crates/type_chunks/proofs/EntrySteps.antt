@@ -18,7 +18,7 @@ use Rattle.type_chunks.specs.Row.{RowOf}
 use Rattle.type_chunks.specs.TypeChunk.{TypeChunkOf}
 use Rattle.type_chunks.specs.Entry.{is_row, is_complex, row_of_entry, bag_of_rows, bag_of_entry, value_of_entry, rows_of_entry_at}
 use Rattle.type_chunks.specs.Entries.{held_at, HasEntry}
-use Rattle.type_chunks.specs.Checks.{ChecksOr}
+use Rattle.type_chunks.specs.Checks.{Checks}
 
 -- four steps that may be refused, and what comes then
 pub four_steps : {X E : Type 0} → Bool → E → Bool → E → Bool → E → Bool → E → Result X E → Result X E
@@ -90,21 +90,21 @@ unfolding held_at
 held-value chunk at plain = rw plain refl
 
 -- what was checked of what an entry holds was checked of its rows
-with-checked : (chunk : TypeChunkOf) (index at : ℕ) (result : Result (Unit {0}) TableFault) (held : Result CellOf TableFault) → ChecksOr faults.OutOfMemory result held
-    → ChecksOr faults.OutOfMemory result (rows_with chunk index at held)
+with-checked : (chunk : TypeChunkOf) (index at : ℕ) (result : Result (Unit {0}) TableFault) (held : Result CellOf TableFault) → Checks result held
+    → Checks result (rows_with chunk index at held)
 with-checked chunk index at (Ok done) (Ok cell) checked = refl
 with-checked chunk index at (Ok done) (Err fault) checked = absurd cc
-with-checked chunk index at (Err fault) (Ok cell) checked = λ other. let is = checked other in absurd cc
-with-checked chunk index at (Err fault) (Err found) checked = λ other. let is = checked other in cc
+with-checked chunk index at (Err fault) (Ok cell) checked = absurd cc
+with-checked chunk index at (Err fault) (Err found) checked = cc
 
 pub rows-checked : (chunk : TypeChunkOf) (index at : ℕ) (result : Result (Unit {0}) TableFault) → at % 4 ≡ 0 → at + least_entry ≤ length chunk.whole → least_entry_size (is_complex chunk at) ≤ number 2 chunk.whole at
-    → at + number 2 chunk.whole at ≤ length chunk.whole → ChecksOr faults.OutOfMemory result (held_at chunk at) → ChecksOr faults.OutOfMemory result (rows_of_entry_at chunk index at)
+    → at + number 2 chunk.whole at ≤ length chunk.whole → Checks result (held_at chunk at) → Checks result (rows_of_entry_at chunk index at)
 unfolding rows_of_entry_at four_steps held_at
 rows-checked chunk index at result aligned fields least fits checked =
     let passed = all_passed (not (at % 4 == 0)) (faults.Entry (chunk.place + at)) (nat_lt (length chunk.whole) (at + least_entry)) (faults.Entry (chunk.place + at))
     (nat_lt (number 2 chunk.whole at) (least_entry_size (is_complex chunk at))) (faults.Entry (chunk.place + at)) (nat_lt (length chunk.whole) (at + number 2 chunk.whole at)) (faults.Entry (chunk.place + at))
     (rows_with chunk index at (held_at chunk at)) (grind (arith, nat_tests, aligned)) (grind (arith, nat_tests, fields)) (grind (arith, nat_tests, least)) (grind (arith, nat_tests, fits)) in
-    subst (λ (r : Result (List RowOf) TableFault). ChecksOr faults.OutOfMemory result r) (sym passed) (with-checked chunk index at result (held_at chunk at) checked)
+    subst (λ (r : Result (List RowOf) TableFault). Checks result r) (sym passed) (with-checked chunk index at result (held_at chunk at) checked)
 
 -- ---- bags
 

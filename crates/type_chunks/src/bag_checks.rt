@@ -15,8 +15,8 @@ const ROW_SIZE: usize = 12;
 const VALUE: usize = 4;
 
 /// What opening remembers of the rows of bags of a type. Entries can share bags, or have bags that overlap.
-/// Where more rows were looked at than the type has room for, all its rows are counted once, and each
-/// further bag is compared with the counts. So the check takes time in proportion to the type's bytes.
+/// Once as many rows were looked at as the type has room for, all its rows are counted, and each further bag
+/// is compared with the counts. So the check takes time in proportion to the type's bytes.
 #[derive(Drop)]
 pub(crate) struct BagChecks<'a> {
     whole: &'a [u8],
@@ -41,32 +41,33 @@ impl<'a> BagChecks<'a> {
         }
     }
 
-    /// Whether so many rows at a place are known to be right. Where this is not known they have to be looked at.
-    pub fn are_known(&mut self, alloc: Global, place: usize, count: u32) -> Result<bool, AllocError>
-        requires { place ≤ length self.old.whole.now }
-        ensures same { self.new.whole.now ≡ self.old.whole.now }
-        ensures known { IfOk result (λ known. known ≡ true → IsOk (map_rows_in count (drop place self.old.whole.now))) }
-    {
-        let count = count as usize;
-        if count <= self.left {
-            self.left -= count;
-            return Ok(false);
-        }
-        if self.whole.len() - place < ROW_SIZE * count {
-            return Ok(false);
-        }
-        self.make_counts(alloc)?;
-        Ok(self.are_right(place, count))
+    /// Whether the rows that may be looked at one by one are spent, and nothing is counted yet.
+    pub fn need_counts(&self) -> bool {
+        self.left == 0 && self.counts.is_empty()
     }
 
-    // Counts the wrong rows, where this was not done yet.
-    fn make_counts(&mut self, alloc: Global) -> Result<(), AllocError>
+    /// Counts the wrong rows, where the counts are needed. Nothing else of the checks takes memory.
+    pub fn make_ready(&mut self, alloc: Global) -> Result<(), AllocError>
         ensures { self.new.whole.now ≡ self.old.whole.now }
     {
-        if self.counts.is_empty() {
+        if self.need_counts() {
             self.counts = wrong_counts(alloc, self.whole)?;
         }
         Ok(())
+    }
+
+    /// Whether so many rows at a place are known to be right. Where this is not known they have to be looked at.
+    pub fn are_known(&mut self, place: usize, count: u32) -> bool
+        requires { place ≤ length self.old.whole.now }
+        ensures same { self.new.whole.now ≡ self.old.whole.now }
+        ensures known { result ≡ true → IsOk (map_rows_in count (drop place self.old.whole.now)) }
+    {
+        let count = count as usize;
+        if self.counts.is_empty() {
+            self.left = self.left.saturating_sub(count);
+            return false;
+        }
+        self.whole.len() - place >= ROW_SIZE * count && self.are_right(place, count)
     }
 
     // Whether as many wrong rows stand before these rows as behind them.

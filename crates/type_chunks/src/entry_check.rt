@@ -11,40 +11,32 @@ use crate::type_chunk::TypeChunk;
 use bitflags::Flags;
 use chunk_walk::{u16_within, u32_within};
 use res_value::{MapRows, MapRowsFault, Value};
-use std::alloc::Global;
 
 impl<'a> TypeChunk<'a> {
-    ghost use Rattle.type_chunks.specs.declared.fault.TableFault.TheVariants.{OutOfMemory};
-    ghost use Rattle.type_chunks.specs.Checks.{ChecksOr};
+    ghost use Rattle.type_chunks.specs.Checks.{Checks};
     ghost use Rattle.type_chunks.specs.TypeChunk.{type_chunk_of};
     ghost use Rattle.type_chunks.specs.Entry.{rows_of_entry_at, rows_of_entry, value_of_entry, bag_of_entry};
 
     /// The first fault of the entry of an index, where there is one.
     #[tactic(auto, unfolding(crate::specs::Entry::rows_of_entry))]
-    pub fn check_entry(
-        &self,
-        alloc: Global,
-        bags: &mut BagChecks<'a>,
-        index: u32,
-    ) -> Result<(), TableFault>
+    pub fn check_entry(&self, bags: &mut BagChecks<'a>, index: u32) -> Result<(), TableFault>
         requires within { index < self.now.entry_count }
         requires bags { bags.old.whole.now ≡ self.now.whole.now }
         ensures same { bags.new.whole.now ≡ bags.old.whole.now }
-        ensures checked { ChecksOr OutOfMemory result (rows_of_entry (type_chunk_of self.now) index) }
+        ensures checked { Checks result (rows_of_entry (type_chunk_of self.now) index) }
     {
         let offset = self.offset(index);
         if offset == type_header::NO_ENTRY {
             return Ok(());
         }
         let at = self.entries_start as usize + offset as usize;
-        self.check_entry_at(alloc, bags, index, at)
+        self.check_entry_at(bags, index, at)
     }
 
     // The first fault of the entry at a place from the chunk's start.
     #[tactic(auto, unfolding(crate::specs::Entry::rows_of_entry_at))]
     fn check_entry_at(
         &self,
-        alloc: Global,
         bags: &mut BagChecks<'a>,
         index: u32,
         at: usize,
@@ -52,7 +44,7 @@ impl<'a> TypeChunk<'a> {
         requires near { at < 2 ^ 33 }
         requires bags { bags.old.whole.now ≡ self.now.whole.now }
         ensures same { bags.new.whole.now ≡ bags.old.whole.now }
-        ensures checked { ChecksOr OutOfMemory result (rows_of_entry_at (type_chunk_of self.now) index at) }
+        ensures checked { Checks result (rows_of_entry_at (type_chunk_of self.now) index at) }
     {
         let whole = self.whole;
         let fault = TableFault::Entry(self.place + at);
@@ -66,7 +58,7 @@ impl<'a> TypeChunk<'a> {
             return Err(fault);
         }
         if is_complex {
-            self.check_bag(alloc, bags, at, at + size)
+            self.check_bag(bags, at, at + size)
         } else {
             self.check_value(at, at + size)
         }
@@ -77,7 +69,7 @@ impl<'a> TypeChunk<'a> {
     fn check_value(&self, at: usize, behind: usize) -> Result<(), TableFault>
         requires fits { behind ≤ length self.now.whole.now }
         requires near { at < 2 ^ 33 }
-        ensures { ChecksOr OutOfMemory result (value_of_entry (type_chunk_of self.now) at behind) }
+        ensures { Checks result (value_of_entry (type_chunk_of self.now) at behind) }
     {
         if self.whole.len() < behind + Value::SIZE {
             return Err(TableFault::Entry(self.place + at));
@@ -92,7 +84,6 @@ impl<'a> TypeChunk<'a> {
     #[tactic(auto, unfolding(crate::specs::Entry::bag_of_entry))]
     fn check_bag(
         &self,
-        alloc: Global,
         bags: &mut BagChecks<'a>,
         at: usize,
         behind: usize,
@@ -101,10 +92,10 @@ impl<'a> TypeChunk<'a> {
         requires fits { behind ≤ length self.now.whole.now }
         requires header { at + least_bag ≤ behind }
         ensures same { bags.new.whole.now ≡ bags.old.whole.now }
-        ensures checked { ChecksOr OutOfMemory result (bag_of_entry (type_chunk_of self.now) at behind) }
+        ensures checked { Checks result (bag_of_entry (type_chunk_of self.now) at behind) }
     {
         let count = u32_within(self.whole, at + bag_header::COUNT);
-        if bags.are_known(alloc, behind, count)? {
+        if bags.are_known(behind, count) {
             return Ok(());
         }
         match MapRows::read(count, &self.whole[behind..]) {

@@ -39,6 +39,7 @@ mod pool;
 mod row;
 mod rows;
 mod table;
+mod type_check;
 mod type_chunk;
 mod type_flags;
 mod type_rows;

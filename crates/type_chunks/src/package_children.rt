@@ -6,18 +6,17 @@ ghost use Rattle.chunk_walk.specs.declared.chunk.ChunkFault.{ChunkFault};
 ghost use Rattle.contract_words.specs.Exact.{GivesOr};
 ghost use Rattle.contract_words.specs.Sequences.{Pushes};
 ghost use Rattle.type_chunks.specs.declared.fault.TableFault.TheVariants.{OutOfMemory};
-ghost use Rattle.type_chunks.specs.Entries.{AreRead};
 ghost use Rattle.type_chunks.specs.KnownSpecs.{Knows};
 ghost use Rattle.type_chunks.specs.TypeChunk.{type_chunk_of};
 ghost use Rattle.type_chunks.specs.TypeRows.{rows_of_types};
 ghost use Rattle.type_chunks.specs.PackageChildren.{rows_of_entries, rows_of_child, rows_of_children};
 
-use crate::bag_checks::BagChecks;
 use crate::checked_type::CheckedType;
 use crate::fault::TableFault;
 use crate::known_specs::KnownSpecs;
 use crate::layout::kind;
 use crate::owner::Owner;
+use crate::type_check::check_entries;
 use crate::type_chunk::TypeChunk;
 use crate::type_spec::TypeSpec;
 use chunk_walk::{Chunk, ChunkFault};
@@ -80,20 +79,5 @@ fn push_type<'a>(
 {
     check_entries(alloc, &chunk)?;
     types.push(CheckedType { chunk })?;
-    Ok(())
-}
-
-// The first fault of the entries of a type.
-#[tactic(auto, using(crate::proofs::EntriesSteps::check_steps))]
-fn check_entries(alloc: Global, chunk: &TypeChunk<'_>) -> Result<(), TableFault>
-    ensures read { OnOk result (AreRead (type_chunk_of chunk.now) chunk.now.entry_count) }
-    ensures fault { IfErr result (λ fault. fault ≢ OutOfMemory → rows_of_entries (type_chunk_of chunk.now) ≡ Err fault) }
-{
-    let mut bags = BagChecks::new(alloc, chunk.whole);
-    let mut from = 0;
-    while let Some(index) = chunk.next_entry(from) {
-        chunk.check_entry(alloc, &mut bags, index)?;
-        from = index + 1;
-    }
     Ok(())
 }

@@ -2,8 +2,7 @@ use Rattle.std.proofs.Common.{◌≡◌, ℕ, ◌+◌, true, false, Result, sym,
 use Rattle.chunk_walk.specs.Number.{number}
 use Rattle.res_value.specs.Cell.{CellOf}
 use Rattle.type_chunks.specs.declared.fault.TableFault.{TableFault}
-use Rattle.type_chunks.specs.declared.fault.TableFault.TheVariants.{OutOfMemory}
-use Rattle.type_chunks.specs.Checks.{ChecksOr}
+use Rattle.type_chunks.specs.Checks.{Checks}
 use Rattle.type_chunks.specs.TypeChunk.{type_chunk_of}
 use Rattle.type_chunks.specs.Entry.{is_complex, bag_of_entry, value_of_entry}
 use Rattle.type_chunks.proofs.EntrySteps.{held-bag, held-value, rows-checked}
@@ -18,7 +17,7 @@ returns-then-is_complex-clause-checked c =
     let held = held-bag chunk c.args.at complex ∙ ap (λ (n : ℕ). bag_of_entry chunk c.args.at (c.args.at + n)) (sym size) in
     let least = rw (c.least_entry_size.ensures, c.is_complex-is_complex.ensures, c.from_bits_retain-flags.ensures, c.u16_within.ensures, size) at c.if-size-least_entry_size.false in
     rows-checked chunk c.args.index c.args.at c.check_bag.result (omega (arith, c.if-at-ne0.false)) (omega (arith, c.if-whole-at.false)) least (omega (arith, c.if-whole-at-2.false, size))
-    (subst (λ (r : Result CellOf TableFault). ChecksOr OutOfMemory c.check_bag.result r) (sym held) c.check_bag.ensures.checked)
+    (subst (λ (r : Result CellOf TableFault). Checks c.check_bag.result r) (sym held) c.check_bag.ensures.checked)
 
 pub returns-else-is_complex-clause-checked : goal.returns-else-is_complex-clause-checked
 returns-else-is_complex-clause-checked c =
@@ -29,4 +28,4 @@ returns-else-is_complex-clause-checked c =
     let held = held-value chunk c.args.at complex ∙ ap (λ (n : ℕ). value_of_entry chunk c.args.at (c.args.at + n)) (sym size) in
     let least = rw (c.least_entry_size.ensures, c.is_complex-is_complex.ensures, c.from_bits_retain-flags.ensures, c.u16_within.ensures, size) at c.if-size-least_entry_size.false in
     rows-checked chunk c.args.index c.args.at c.check_value.result (omega (arith, c.if-at-ne0.false)) (omega (arith, c.if-whole-at.false)) least (omega (arith, c.if-whole-at-2.false, size))
-    (subst (λ (r : Result CellOf TableFault). ChecksOr OutOfMemory c.check_value.result r) (sym held) c.check_value.ensures)
+    (subst (λ (r : Result CellOf TableFault). Checks c.check_value.result r) (sym held) c.check_value.ensures)

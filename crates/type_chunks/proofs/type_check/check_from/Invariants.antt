@@ -1,14 +1,15 @@
-use Rattle.std.proofs.Common.{◌≡◌, ◌-◌}
+use Rattle.std.proofs.Common.{◌≡◌, ◌-◌, ◌≤◌}
 use Rattle.type_chunks.specs.TypeChunk.{type_chunk_of}
 use Rattle.type_chunks.specs.Entries.{AreRead}
-use Rattle.type_chunks.proofs.package_children.check_entries.Given as goal
+use Rattle.type_chunks.proofs.type_check.check_from.Given as goal
 
 -- the entries so far have no fault
 abbrev pub invariant-loop-index : goal.invariant-loop-index
 invariant-loop-index l = record {
+  behind : l.from ≤ l.behind;
   bags : l.bags.whole.now ≡ l.chunk.whole.now;
-  read : AreRead (type_chunk_of l.chunk) l.from;
+  read : AreRead (type_chunk_of l.chunk) l.behind;
 }
 
 abbrev pub decreases-loop-index : goal.decreases-loop-index
-decreases-loop-index l = l.chunk.entry_count - l.from
+decreases-loop-index l = l.chunk.entry_count - l.behind

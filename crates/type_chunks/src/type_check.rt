@@ -1,0 +1,55 @@
+//! The check of all entries of a type.
+
+ghost use Rattle.std.specs.Prelude.{◌≡◌, ◌≢◌, ◌<◌, Err, OnOk, IfOk, IfErr};
+ghost use Rattle.type_chunks.specs.declared.fault.TableFault.TheVariants.{OutOfMemory};
+ghost use Rattle.type_chunks.specs.Entries.{AreRead};
+ghost use Rattle.type_chunks.specs.PackageChildren.{rows_of_entries};
+ghost use Rattle.type_chunks.specs.TypeChunk.{type_chunk_of};
+
+use crate::bag_checks::BagChecks;
+use crate::fault::TableFault;
+use crate::type_chunk::TypeChunk;
+use std::alloc::Global;
+
+/// The first fault of the entries of a type. Memory is asked for between the checks, and only where entries share
+/// bags.
+#[tactic(auto, using(crate::proofs::EntriesSteps::check_steps))]
+pub(crate) fn check_entries(alloc: Global, chunk: &TypeChunk<'_>) -> Result<(), TableFault>
+    ensures read { OnOk result (AreRead (type_chunk_of chunk.now) chunk.now.entry_count) }
+    ensures fault { IfErr result (λ fault. fault ≢ OutOfMemory → rows_of_entries (type_chunk_of chunk.now) ≡ Err fault) }
+{
+    let mut bags = BagChecks::new(alloc, chunk.whole);
+    let mut from = 0;
+    while from < chunk.entry_count {
+        bags.make_ready(alloc)?;
+        from = check_from(chunk, &mut bags, from)?;
+    }
+    Ok(())
+}
+
+// The first fault of the entries from an index on, as long as no counts are needed; or the index behind those
+// that were checked.
+#[tactic(auto, using(crate::proofs::EntriesSteps::check_steps))]
+fn check_from<'a>(
+    chunk: &TypeChunk<'a>,
+    bags: &mut BagChecks<'a>,
+    from: u32,
+) -> Result<u32, TableFault>
+    requires within { from < chunk.now.entry_count }
+    requires bags { bags.old.whole.now ≡ chunk.now.whole.now }
+    requires read { AreRead (type_chunk_of chunk.now) from }
+    ensures same { bags.new.whole.now ≡ bags.old.whole.now }
+    ensures more { IfOk result (λ behind. from < behind) }
+    ensures read { IfOk result (λ behind. AreRead (type_chunk_of chunk.now) behind) }
+    ensures fault { IfErr result (λ fault. rows_of_entries (type_chunk_of chunk.now) ≡ Err fault) }
+{
+    let mut behind = from;
+    while let Some(index) = chunk.next_entry(behind) {
+        chunk.check_entry(bags, index)?;
+        behind = index + 1;
+        if bags.need_counts() {
+            return Ok(behind);
+        }
+    }
+    Ok(chunk.entry_count)
+}
