@@ -1,8 +1,8 @@
 -- Chunks that stand one after the other.
-use Rattle.std.specs.Prelude.{ℕ, zero, suc, ◌+◌, List, [], ◌∷◌, length, drop, Result, Ok, Err, nat_lt, if◌then◌else◌}
+use Rattle.std.specs.Prelude.{◌≡◌, ℕ, zero, suc, ◌+◌, ◌-◌, ◌≤◌, List, [], ◌∷◌, length, drop, Result, Ok, Err, nat_lt, if◌then◌else◌}
 use Rattle.chunk_walk.specs.declared.chunk.ChunkFault.{ChunkFault}
 use Rattle.chunk_walk.specs.Layout.{least_header_size}
-use Rattle.chunk_walk.specs.Chunk.{ChunkOf, chunk_in}
+use Rattle.chunk_walk.specs.Chunk.{ChunkOf, chunk_in, chunk_within}
 
 -- A chunk, and the chunks of what is left behind it. A fault is the last.
 abbrev pub followed_by : (ℕ → List ℕ → List (Result ChunkOf ChunkFault)) → List ℕ → Result ChunkOf ChunkFault → List (Result ChunkOf ChunkFault)
@@ -23,3 +23,14 @@ chunks_of place left = at_most_chunks (length left) place left
 -- the chunks within a chunk, behind its header
 abbrev pub children_of : ChunkOf → List (Result ChunkOf ChunkFault)
 children_of chunk = chunks_of (chunk.place + length chunk.header) chunk.body
+
+-- a chunk stands within another where its place says, and fits there
+pub record StandsAt (outer : ChunkOf) (chunk : ChunkOf) : Type 0 where
+  pub behind : outer.place ≤ chunk.place
+  pub within : chunk.place + length chunk.whole ≤ outer.place + length outer.whole
+  pub found : chunk_within outer (chunk.place - outer.place) ≡ Ok chunk
+
+-- so does one that was found; of a fault nothing is said
+abbrev pub StandsIn : ChunkOf → Result ChunkOf ChunkFault → Type 0
+StandsIn outer (Ok chunk) = StandsAt outer chunk
+StandsIn outer (Err fault) = Unit {0}

@@ -1,6 +1,6 @@
 //! What a chunk is, and what can be wrong with one.
 
-ghost use Rattle.std.specs.Prelude.{◌≡◌, ◌+◌, ◌++◌, ◌^◌, ◌<◌, ◌≤◌, length};
+ghost use Rattle.std.specs.Prelude.{◌≡◌, ◌+◌, ◌++◌, ◌^◌, ◌<◌, ◌≤◌, All, length};
 ghost use Rattle.chunk_walk.specs.Layout.{least_header_size};
 
 use crate::chunk_header::first_chunk;
@@ -51,7 +51,7 @@ pub struct Chunk<'a> {
 
 impl<'a> Chunk<'a> {
     ghost use Rattle.chunk_walk.specs.Chunk.{chunk_of, chunk_within, seen};
-    ghost use Rattle.chunk_walk.specs.Chunks.{children_of};
+    ghost use Rattle.chunk_walk.specs.Chunks.{children_of, StandsIn};
 
     /// The chunk at a place within this chunk, counted from this chunk's start.
     pub fn chunk_at(&self, at: usize) -> Result<Chunk<'a>, ChunkFault>
@@ -65,6 +65,8 @@ impl<'a> Chunk<'a> {
     /// The chunks within this chunk, behind its header.
     pub fn children(&self) -> Chunks<'a>
         ensures chunks { result ≡ children_of (chunk_of self.now) }
+        // So each can be found anew by `chunk_at`.
+        ensures stand { All (StandsIn (chunk_of self.now)) result }
         // A chunk has eight bytes at least.
         ensures few { length result < 2 ^ 29 }
     {

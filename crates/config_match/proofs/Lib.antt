@@ -1,2 +1,3 @@
 pub mod RegionAlone
 pub mod NoMismatch
+pub mod OtherLocale

@@ -35,7 +35,7 @@ third_decides first second third others a d e =
     decides Pass e = absurd cc
 
 -- a locale that does not suit
-unsuited : (a d : Coord → ℕ) → locale_suits (a coords.Locale) (d coords.Locale) ≡ false → is_pass (answer_of_table all_conditions a a d) ≡ false
+pub unsuited : (a d : Coord → ℕ) → locale_suits (a coords.Locale) (d coords.Locale) ≡ false → is_pass (answer_of_table all_conditions a a d) ≡ false
 unfolding all_conditions rule_answer kind_answer
 unsuited a d e = third_decides (at coords.Mcc kinds.Equal) (at coords.Mnc kinds.Equal) (at coords.Locale kinds.LocaleSuits) (drop 3 all_conditions) a d (rw e refl)
 

@@ -8,14 +8,19 @@ ghost use Rattle.config_match.specs.Matching.{is_match, mismatch_of, has_region_
 use crate::reason::Mismatch;
 use crate::table::conditions;
 use config_record::{Device, Record};
-use config_rules::{deciding_rule, table_answer};
+use config_rules::{deciding_rule, suits_locale, table_answer};
 
 /// Whether a record matches a device. One with a region and no language matches none.
-#[tactic(auto, unfolding(crate::specs::Matching::is_match))]
+///
+/// The locale is asked first, since most rows of a table are for a locale that is not the device's.
+#[tactic(auto, using(crate::proofs::OtherLocale::no_match), unfolding(crate::specs::Matching::is_match))]
 pub fn matches(stored: &Record, device: &Device) -> bool
     ensures value { result ≡ is_match (record_bytes stored.now) (device_numbers device.now) }
     ensures region_alone { IsTrue (has_region_alone (record_bytes stored.now)) → result ≡ false }
 {
+    if !suits_locale(stored, device) {
+        return false;
+    }
     !stored.set_aside() && table_answer(conditions(), stored, stored, device).is_pass()
 }
 

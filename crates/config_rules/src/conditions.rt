@@ -1,9 +1,14 @@
 //! Whether a number of a record suits that of a device.
 
 ghost use Rattle.std.specs.Prelude.{◌≡◌};
+ghost use Rattle.config_record.specs.declared.coord.Coord.TheVariants as coords;
+ghost use Rattle.config_record.specs.ComparedNumber.{record_number, device_number};
+ghost use Rattle.config_record.specs.DeviceSeen.{device_numbers};
+ghost use Rattle.config_record.specs.Record.{record_bytes};
 ghost use Rattle.config_rules.specs.Conditions.{is_equal, is_at_most, keys_suit, locale_suits};
 
 use crate::locale::{language, region};
+use config_record::{Coord, Device, Record};
 
 /// Keys that are exposed suit a device that has its keys on the screen.
 const EXPOSED: u32 = 1;
@@ -26,6 +31,16 @@ pub(crate) fn keys_suit(stored: u32, device: u32) -> bool
     ensures { result ≡ keys_suit stored device }
 {
     is_equal(stored, device) || (stored == EXPOSED && device == SOFT)
+}
+
+/// Whether the locale of a record suits a device: what `Kind::LocaleSuits` asks, for callers that ask nothing
+/// else.
+pub fn suits_locale(stored: &Record, device: &Device) -> bool
+    ensures { result ≡ locale_suits (record_number (record_bytes stored.now) coords.Locale)
+        (device_number (device_numbers device.now) coords.Locale) }
+{
+    let stored = stored.compared_number(Coord::Locale);
+    locale_suits(stored, device.compared_number(Coord::Locale))
 }
 
 pub(crate) fn locale_suits(stored: u32, device: u32) -> bool

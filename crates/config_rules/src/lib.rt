@@ -24,6 +24,7 @@ mod screen_size;
 mod table;
 
 pub use answer::Answer;
+pub use conditions::suits_locale;
 pub use kind::{Kind, Numbers};
 pub use rule::{Rule, beside};
 pub use table::{deciding_place, deciding_rule, table_answer};

@@ -1,6 +1,6 @@
 //! Rules: a question at a coordinate.
 
-ghost use Rattle.std.specs.Prelude.{◌≡◌, ◌∷◌, option_to_list};
+ghost use Rattle.std.specs.Prelude.{◌≡◌, ◌∷◌, option_to_list, IfSome, IfNone};
 ghost use Rattle.config_rules.specs.Rule.{beside};
 
 use crate::answer::Answer;
@@ -51,19 +51,35 @@ impl Rule {
     pub fn of_record(self, stored: &Record) -> Numbers
         ensures { result ≡ numbers_at self.coord (record_number (record_bytes stored.now)) }
     {
-        Numbers {
-            first: stored.compared_number(self.coord),
-            second: stored.compared_number(beside(self.coord)),
-        }
+        let first = stored.compared_number(self.coord);
+        let second = match self.second_coord() {
+            Some(coord) => stored.compared_number(coord),
+            None => first,
+        };
+        Numbers { first, second }
     }
 
     fn of_device(self, device: &Device) -> Numbers
         ensures { result ≡ numbers_at self.coord (device_number (device_numbers device.now)) }
     {
-        Numbers {
-            first: device.compared_number(self.coord),
-            second: device.compared_number(beside(self.coord)),
+        let first = device.compared_number(self.coord);
+        let second = match self.second_coord() {
+            Some(coord) => device.compared_number(coord),
+            None => first,
+        };
+        Numbers { first, second }
+    }
+
+    // The coordinate beside its own, where that is another one. So no number is read twice.
+    fn second_coord(self) -> Option<Coord>
+        ensures other { IfSome result (λ coord. coord ≡ beside self.coord) }
+        ensures same { IfNone result (beside self.coord ≡ self.coord) }
+    {
+        let other = beside(self.coord);
+        if other == self.coord {
+            return None;
         }
+        Some(other)
     }
 }
 
