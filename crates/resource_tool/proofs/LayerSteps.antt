@@ -1,6 +1,5 @@
 -- What comes of the items of a list of layers.
-use Rattle.std.proofs.Common.{◌≡◌, ◌<◌, ◌≤◌, List, map, length, nat_lt, Bool, true, false, Option, Some, ok_or, Result, Ok, Err, sym, ap, ◌∙◌, arith}
-use Rattle.std.proofs.lemmas.Bool.Decides.{nat_tests}
+use Rattle.std.proofs.Common.{◌≡◌, ℕ, List, map, length, nat_lt, Bool, Option, Some, ok_or, Result, Ok, Err, sym, ap, ◌∙◌}
 use Rattle.std.specs.Option.{option_map}
 use Rattle.contract_words.specs.Faults.{◌>>=◌, refuse}
 use Rattle.serde_json.specs.Data.{Data, Items}
@@ -32,16 +31,11 @@ pub layers-fault : (value : Data) (items : List Value) (fault : LayersFault) →
     → each layer_paths_in (map view items) ≡ Err fault → layers_in_value value ≡ Err fault
 layers-fault value items fault given read = layers-in value items (Err fault) given read
 
-pub too-many-layers : (value : Data) (items : List Value) (layers : List LayerPaths) → Some (items_view items) ≡ as_array value
-    → each layer_paths_in (map view items) ≡ Ok layers → most_layers < length layers → layers_in_value value ≡ Err TooManyLayers
+pub layers-counted : (value : Data) (items : List Value) (layers : List LayerPaths) (count : ℕ) (counted : Result (Unit {0}) LayersFault)
+    → Some (items_view items) ≡ as_array value → each layer_paths_in (map view items) ≡ Ok layers
+    → count ≡ length layers → counted ≡ refuse (nat_lt most_layers count) TooManyLayers → layers_in_value value ≡ (counted >>= λ _. Ok layers)
 unfolding within_limit
-too-many-layers value items layers given read over =
-    let is : nat_lt most_layers (length layers) ≡ true = grind (arith, nat_tests) in
-    layers-in value items (Ok layers) given read ∙ ap (λ (b : Bool). within_limit b layers) is
-
-pub layers-within : (value : Data) (items : List Value) (layers : List LayerPaths) → Some (items_view items) ≡ as_array value
-    → each layer_paths_in (map view items) ≡ Ok layers → length layers ≤ most_layers → layers_in_value value ≡ Ok layers
-unfolding within_limit
-layers-within value items layers given read within =
-    let is : nat_lt most_layers (length layers) ≡ false = grind (arith, nat_tests) in
-    layers-in value items (Ok layers) given read ∙ ap (λ (b : Bool). within_limit b layers) is
+layers-counted value items layers count counted given read same is =
+    layers-in value items (Ok layers) given read
+    ∙ ap (λ (n : ℕ). within_limit (nat_lt most_layers n) layers) (sym same)
+    ∙ ap (λ (r : Result (Unit {0}) LayersFault). r >>= λ _. Ok layers) (sym is)

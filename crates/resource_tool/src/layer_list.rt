@@ -1,12 +1,15 @@
 //! Lists of layers: which files the layers of a stack are.
 
-ghost use Rattle.std.specs.Prelude.{◌≡◌, map, length, IfOk};
+ghost use Rattle.std.specs.Prelude.{◌≡◌, map, length, nat_lt, None, Some, IfOk, IfErr, OnErr};
+ghost use Rattle.contract_words.specs.Faults.{refuse};
 ghost use Rattle.contract_words.specs.Exact.{GivesOr};
 ghost use Rattle.contract_words.specs.FillsIn.{FillsIn};
-ghost use Rattle.serde_json.specs.View.{view};
+ghost use Rattle.serde_json.specs.Find.{as_array};
+ghost use Rattle.serde_json.specs.View.{items_view, view};
 ghost use Rattle.json_input.specs.Each.{each};
 ghost use Rattle.json_input.specs.Fault.{fault_of_text};
-ghost use Rattle.resource_text.specs.declared.layers_fault.LayersFault.TheVariants.{Syntax, OutOfMemory};
+ghost use Rattle.overlay_map.specs.Layer.{most_layers};
+ghost use Rattle.resource_text.specs.declared.layers_fault.LayersFault.TheVariants.{Syntax, Shape, TooManyLayers, OutOfMemory};
 ghost use Rattle.resource_tool.specs.LayerList.{table_path, map_path, layer_paths_in, layers_in_value};
 ghost use Rattle.resource_tool.specs.LayerListSeen.{path_seen, optional_path_seen, lent_paths_of, lent_paths_seen, paths_of, all_paths_of, listed};
 
@@ -56,16 +59,35 @@ fn fault_of_text(fault: JsonFault) -> LayersFault
 fn read_list<'v>(alloc: Global, value: &'v Value) -> Result<LayerList, LayersFault>
     ensures { GivesOr OutOfMemory listed result (layers_in_value (view value.now)) }
 {
-    let Some(items) = value.as_array() else {
-        return Err(LayersFault::Shape);
-    };
+    let items = items_of(value)?;
     let mut layers: Vec<(&'v str, Option<&'v str>)> = vec![in alloc; ("", None); items.len()]?;
     fill_layers(items, &mut layers)?;
-    if layers.len() > MOST_LAYERS {
-        return Err(LayersFault::TooManyLayers);
-    }
+    check_count(layers.len())?;
     let paths = owned_paths(alloc, &layers)?;
     Ok(LayerList { paths })
+}
+
+// The items of a value that is a list.
+fn items_of(value: &Value) -> Result<&Vec<Value>, LayersFault>
+    ensures list { IfOk result (λ items. Some (items_view items.now.items) ≡ as_array (view value.now)) }
+    ensures no_list { OnErr result (as_array (view value.now) ≡ None) }
+    ensures fault { IfErr result (λ fault. fault ≡ Shape) }
+{
+    match value.as_array() {
+        Some(items) => Ok(items),
+        None => Err(LayersFault::Shape),
+    }
+}
+
+// Whether there may be so many layers.
+fn check_count(count: usize) -> Result<(), LayersFault>
+    ensures { result ≡ refuse (nat_lt most_layers count) TooManyLayers }
+{
+    if count > MOST_LAYERS {
+        Err(LayersFault::TooManyLayers)
+    } else {
+        Ok(())
+    }
 }
 
 // Fills in the paths of each layer.

@@ -46,7 +46,7 @@ mod status;
 
 pub use attr::attr_bytes;
 pub use bag::bag_bytes;
-pub use cert_maker::Progress;
+pub use cert_maker::{Progress, Unwatched};
 pub use check::check_bytes;
 pub use dump::dump_bytes;
 pub use explain::explain_bytes;
