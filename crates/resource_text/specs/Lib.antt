@@ -15,3 +15,4 @@ pub mod EndText
 pub mod QueryText
 pub mod ExplainText
 pub mod VerdictText
+pub mod Line

@@ -8,15 +8,12 @@ ghost use Rattle.resource_text.specs.DumpText.{package_id_text, package_line, na
 
 use crate::cell::{RowFormat, write_row_end};
 use crate::last_record::LastRecord;
-use arrayvec::ArrayVec;
+use crate::line::Line;
 use hex_text::write_hex;
 use res_value::{write_id, write_word};
 use std::io::{self, Write};
 use string_pool::write_string;
 use type_chunks::{Package, PackageRows, Row, Table};
-
-/// How many bytes of a row are put together before they are written.
-const LINE: usize = 1024;
 
 /// Writes a line for each package of a table, in the order of the file, and behind it one for each of
 /// its rows with the names of its type and entry, with the lines of its bag. A string value is
@@ -73,7 +70,7 @@ fn write_rows<'a, W: Write + Drop>(
 ) -> io::Result<()>
     ensures { Writes W.contents out.old out.new result (flat_map (row_text table.now) rows.entry) }
 {
-    let mut line = ArrayVec::new();
+    let mut line = Line::new();
     for row in rows {
         write_in_one_piece(table, &row, records, &mut line, out)?;
     }
@@ -86,14 +83,14 @@ fn write_in_one_piece<'a, W: Write + Drop>(
     table: &Table<'_>,
     row: &Row<'a>,
     records: &mut LastRecord<'a>,
-    line: &mut ArrayVec<u8, LINE>,
+    line: &mut Line,
     out: &mut W,
 ) -> io::Result<()>
     ensures { Writes W.contents out.old out.new result (row_text table.now (row_of row.now)) }
 {
     line.clear();
     match write_row(table, row, records, line) {
-        Ok(()) => out.write_all(line),
+        Ok(()) => out.write_all(line.text()),
         Err(_) => write_row(table, row, records, out),
     }
 }

@@ -29,6 +29,7 @@ mod fault;
 mod last_record;
 mod layer;
 mod layers_fault;
+mod line;
 mod map_fault;
 mod named;
 mod query;
