@@ -21,7 +21,10 @@ pub(crate) fn given_word<'a>(given: &ArgMatches<'a>, argument: &Argument) -> &'a
 }
 
 /// The id that the word of an argument spells.
-pub(crate) fn given_id<'a>(given: &ArgMatches<'a>, argument: &Argument) -> Result<ResId, WordsFault<'a>>
+pub(crate) fn given_id<'a>(
+    given: &ArgMatches<'a>,
+    argument: &Argument,
+) -> Result<ResId, WordsFault<'a>>
     ensures { ReadsId result (id_in (word_at argument.now.name.now (rows_of (found_of given.now)))) }
 {
     read_id(given_word(given, argument))

@@ -8,10 +8,10 @@ ghost use Rattle.command_words.specs.Request.{AsksFor, IsBoxRequestOf, IsDeviceR
 ghost use Rattle.command_words.specs.WordsFault.{IsOfReading};
 
 use crate::arguments::{given_flag, given_id, given_ids, given_nodes, given_word};
+use crate::command::{BoxCommand, Command, DeviceCommand};
 use crate::command_line::{
     ATTRIBUTE, BAG_ID, BOX, CERTIFICATE, DEVICE, ID, IDS, KEEP, LAYERS, STYLES, TABLE, command_line,
 };
-use crate::command::{BoxCommand, Command, DeviceCommand};
 use crate::request::{BoxRequest, DeviceRequest, Request};
 use crate::words_fault::WordsFault;
 use clap::ArgMatches;

@@ -53,7 +53,6 @@ carries-failed C D meant status stop failed over p = λ told. inr (p.0, Write, p
 -- ---- an answer, over one writer and over another
 
 module _ {W V : Type 0} (c : W → Option (List ℕ)) (d : V → Option (List ℕ)) (old new : W) (before after : V) where
-
   -- what was appended to the one was appended to the other
   abbrev pub Passes : Type 0
   Passes = (text : List ℕ) → Appends (c old) (c new) text → Appends (d before) (d after) text
@@ -173,7 +172,6 @@ keeps-behind (Some xs) (Some ys) kept_back none keeps = sym (append-nil ys) ∙ 
 module _ {T : Type 0} (contents : T → Option (List ℕ)) (old new : BufWriter T Global) (after : T) (answered outcome : Result Status Stop)
     (same : IfOk outcome (λ status. answered ≡ Ok status)) (stop : IfErr answered (λ stop. outcome ≡ Err stop))
     (failed : IsOk answered → IfErr outcome (λ stop. stop_of stop ≡ tool Write)) (left : IfErr answered (λ stop. after ≡ writer_inner new)) where
-
   passes-behind : (outcome : Result Status Stop) → writer_buffer old ≡ [] → OnOk outcome (Keeps (writer_contents contents new) (contents after))
       → OnOk outcome (Passes (writer_contents contents) contents old new (writer_inner old) after)
   passes-behind (Ok status) none whole = λ text grown.

@@ -44,8 +44,15 @@ pub fn run_words<I: Inputs, C: Clock, O: Write + Drop, E: Write + Drop>(
 {
     match read_words(alloc, words) {
         Ok(request) => {
-            let (outcome, mut out) =
-                carry_out(alloc, inputs, clock, request, out, errors, is_terminal);
+            let (outcome, mut out) = carry_out(
+                alloc,
+                inputs,
+                clock,
+                request,
+                out,
+                errors,
+                is_terminal,
+            );
             let status = end(outcome, &mut out, errors);
             Ended { status, out }
         }
