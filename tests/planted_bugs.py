@@ -18,6 +18,7 @@ from pathlib import Path
 
 HERE = Path(__file__).resolve().parent.parent
 RT = os.environ.get("RT", "rt").split()
+PROGRAM = "restool"
 PROGRAM_TESTS = "tests/stops"
 
 
@@ -64,13 +65,13 @@ def copy_into(folder, name, links):
 
 
 def tried_on_program(edit, copy):
-    crate = copy / "crates" / edit.crate
+    crate = copy / "crates" / PROGRAM
     built = run([*RT, "run"], crate)
     if any(line.startswith("logic=not-proved") for line in built):
         return "refused"
     if not any(line.startswith("linked ") for line in built):
         return f"NOT BUILT: {built[-1:]}"
-    failed = run(["sh", f"{PROGRAM_TESTS}/stops.sh", str(crate / "out" / edit.crate)], copy)
+    failed = run(["sh", f"{PROGRAM_TESTS}/stops.sh", str(crate / "out" / PROGRAM)], copy)
     return seen(edit, [line for line in failed if line.startswith("failed: ")], f"failed: {edit.test}")
 
 

@@ -42,12 +42,17 @@ class Refuser:
             )
             return ended_within(MOST_SECONDS, started), int(count.read() or b"0")
 
-    def each(self, run, kind):
-        """How a run ends where one call of a kind is refused, and where all from there on are: for each call."""
+    def each_with_calls(self, run, kind):
+        """How a run ends where one call of a kind is refused, and where all from there on are: for each call. With the
+        place of the refused call, and how many calls were made."""
         calls = self.run(run, kind)[1]
         for place in range(1, calls + 1):
-            yield f"{kind} {place} of {calls}", self.run(run, kind, place, place)[0]
-            yield f"{kind} {place} and on", self.run(run, kind, place)[0]
+            yield f"{kind} {place} of {calls}", place, *self.run(run, kind, place, place)
+            yield f"{kind} {place} and on", place, *self.run(run, kind, place)
+
+    def each(self, run, kind):
+        """The same, without the calls."""
+        return ((name, ended) for name, _, ended, _ in self.each_with_calls(run, kind))
 
 
 def ended_within(seconds, started):
@@ -97,13 +102,16 @@ def faults_of_reads(refuser, run):
 
 
 def faults_of_writes(refuser, run):
-    """A failed write of the answer is status 5, and nothing is said of it; one of a message changes no status."""
+    """A failed write of the answer is status 5, and nothing is said of it; one of a message changes no status. No write
+    follows it."""
     status = 5 if run.ended.out else run.ended.status
-    for name, ended in refuser.each(run, "write"):
+    for name, place, ended, writes in refuser.each_with_calls(run, "write"):
         is_begun = run.ended.out.startswith(ended.out) and run.ended.err.startswith(ended.err)
         is_whole = run.ended.err != b"" and ended.err == run.ended.err
         if ended.status != status or is_whole or not is_begun:
             yield f"{name}: {ended}"
+        if writes != place:
+            yield f"{name}: {writes} writes"
 
 
 def faults_of_hindrances(refuser, run):

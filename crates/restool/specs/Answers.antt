@@ -11,13 +11,13 @@ use Rattle.resource_tool.specs.BagOutput.{bag_output}
 use Rattle.resource_tool.specs.AttrOutput.{attr_output}
 use Rattle.resource_tool.specs.MakeOutput.{IsMakeOutput, make_inputs}
 use Rattle.resource_tool.specs.CheckOutput as check
+use Rattle.command_words.specs.declared.request.Request.{Request}
+use Rattle.command_words.specs.declared.request.Request.TheVariants.{Rows, Dump, OfDevice, OfBox}
+use Rattle.command_words.specs.declared.request.DeviceRequest.{DeviceRequest}
+use Rattle.command_words.specs.declared.request.DeviceRequest.TheVariants.{Query, Explain, Bag, Attr}
+use Rattle.command_words.specs.declared.request.BoxRequest.{BoxRequest}
+use Rattle.command_words.specs.declared.request.BoxRequest.TheVariants.{Make, Check}
 use Rattle.restool.specs.declared.stop.Stop.{Stop}
-use Rattle.restool.specs.declared.request.Request.{Request}
-use Rattle.restool.specs.declared.request.Request.TheVariants.{Rows, Dump, OfDevice, OfBox}
-use Rattle.restool.specs.declared.request.Question.{Question}
-use Rattle.restool.specs.declared.request.Question.TheVariants.{Query, Explain, Bag, Attr}
-use Rattle.restool.specs.declared.request.Task.{Task}
-use Rattle.restool.specs.declared.request.Task.TheVariants.{Make, Check}
 use Rattle.restool.specs.Stop.{StopOf, stop_of, tool}
 use Rattle.restool.specs.Inputs.{Places, InputsWith, table_of, layers_with, check_files}
 
@@ -30,27 +30,27 @@ CarriesOut {X} Command meant (Err stop) =
     → (meant ≡ Err (stop_of stop))
     ⊎ ((read : X) × (fault : ToolFault) × (meant ≡ Ok read) × (stop_of stop ≡ tool fault) × Command read (Err fault))
 
--- a question that is asked of layers and a device
-abbrev pub AnswersQuestion : {W : Type 0} → (W → Option (List ℕ)) → W → W → InputsWith → Question → Result Status ToolFault → Type 0
-AnswersQuestion contents old new inputs (Query ids) result =
+-- what is asked of a device, from layers and that device
+abbrev pub AnswersOfDevice : {W : Type 0} → (W → Option (List ℕ)) → W → W → InputsWith → DeviceRequest → Result Status ToolFault → Type 0
+AnswersOfDevice contents old new inputs (Query ids) result =
     Prints contents old new result (query_output inputs.layers inputs.other ids.items)
-AnswersQuestion contents old new inputs (Explain id) result =
+AnswersOfDevice contents old new inputs (Explain id) result =
     Prints contents old new result (explain_output inputs.layers inputs.other id.0)
-AnswersQuestion contents old new inputs (Bag id) result =
+AnswersOfDevice contents old new inputs (Bag id) result =
     Prints contents old new result (bag_output inputs.layers inputs.other id.0)
-AnswersQuestion contents old new inputs (Attr attr styles force) result =
+AnswersOfDevice contents old new inputs (Attr attr styles force) result =
     Prints contents old new result (attr_output inputs.layers inputs.other attr.0 styles.items force)
 
--- a task for the layers and the box at these paths
-abbrev pub AnswersTask : {W : Type 0} → (W → Option (List ℕ)) → W → W → Places → List ℕ → List ℕ → Task → Result Status Stop → Type 0
-AnswersTask contents old new places layers members (Make max_nodes ids) =
+-- what is asked of a box, from the layers and the box at these paths
+abbrev pub AnswersOfBox : {W : Type 0} → (W → Option (List ℕ)) → W → W → Places → List ℕ → List ℕ → BoxRequest → Result Status Stop → Type 0
+AnswersOfBox contents old new places layers box_path (Make max_nodes ids) =
     CarriesOut (λ inputs result. PrintsOneOf (IsMakeOutput ids.items max_nodes) contents old new result
     (make_inputs inputs.layers inputs.other))
-    (layers_with places layers members)
-AnswersTask contents old new places layers members (Check certificate ids) =
+    (layers_with places layers box_path)
+AnswersOfBox contents old new places layers box_path (Check certificate ids) =
     CarriesOut (λ inputs result. PrintsOneOf (check.IsCheckOutput ids.items) contents old new result
     (check.check_inputs inputs.inputs.layers inputs.inputs.other inputs.certificate))
-    (check_files places layers members certificate.now)
+    (check_files places layers box_path certificate.now)
 
 -- a request, from what the places have
 abbrev pub Answers : {W : Type 0} → (W → Option (List ℕ)) → W → W → Places → Request → Result Status Stop → Type 0
@@ -58,7 +58,7 @@ Answers contents old new places (Rows table) =
     CarriesOut (λ bytes result. Prints contents old new result (rows_output bytes)) (table_of places table.now)
 Answers contents old new places (Dump table) =
     CarriesOut (λ bytes result. Prints contents old new result (dump_output bytes)) (table_of places table.now)
-Answers contents old new places (OfDevice layers device question) =
-    CarriesOut (λ inputs. AnswersQuestion contents old new inputs question) (layers_with places layers.now device.now)
-Answers contents old new places (OfBox layers members task) =
-    AnswersTask contents old new places layers.now members.now task
+Answers contents old new places (OfDevice layers device request) =
+    CarriesOut (λ inputs. AnswersOfDevice contents old new inputs request) (layers_with places layers.now device.now)
+Answers contents old new places (OfBox layers box_path request) =
+    AnswersOfBox contents old new places layers.now box_path.now request

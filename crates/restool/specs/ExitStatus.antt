@@ -5,13 +5,13 @@ use Rattle.resource_text.specs.declared.fault.ToolFault.TheVariants.{OutOfMemory
 use Rattle.resource_tool.specs.declared.status.Status.{Status}
 use Rattle.resource_tool.specs.declared.status.Status.TheVariants as statuses
 use Rattle.restool.specs.declared.status.ExitStatus.{ExitStatus}
-use Rattle.restool.specs.declared.status.ExitStatus.TheVariants.{Done, Negative, Command, Refused, Memory, Failed}
+use Rattle.restool.specs.declared.status.ExitStatus.TheVariants.{Done, Negative, BadCommandLine, Refused, Memory, Failed}
 
 -- the number that the process ends with
 abbrev pub number_of : ExitStatus → ℕ
 number_of Done = 0
 number_of Negative = 1
-number_of Command = 2
+number_of BadCommandLine = 2
 number_of Refused = 3
 number_of Memory = 4
 number_of Failed = 5

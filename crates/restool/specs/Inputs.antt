@@ -10,14 +10,18 @@ use Rattle.resource_tool.specs.StackBytes.{LayerBytes}
 use Rattle.resource_tool.specs.declared.input.InputFault.{InputFault}
 use Rattle.resource_tool.specs.declared.input.InputFault.TheVariants.{Read, TooLarge, OutOfMemory}
 use Rattle.restool.specs.Stop.{StopOf, file, tool}
-use Rattle.restool.specs.Place.{Place, standard_input, at_path}
+use Rattle.restool.specs.Place.{PlaceOf, standard_input, at_path}
+
+-- how many bytes an input has at most
+abbrev pub most_bytes : ℕ
+most_bytes = 268435456
 
 -- what each place has: bytes, or why they are not read
 abbrev pub Places : Type 0
-Places = Place → Result (List ℕ) InputFault
+Places = PlaceOf → Result (List ℕ) InputFault
 
 -- a table lies at its path, or where that is `-` on the standard input
-abbrev pub table_place : List ℕ → Place
+abbrev pub table_place : List ℕ → PlaceOf
 table_place path = if bytes_eq path (codes "-") then standard_input else at_path path
 
 -- why the program stops where the bytes for a path are not read
@@ -75,7 +79,7 @@ pub record CheckInputs : Type 0 where
 
 -- layers, then a box and then a certificate
 unfoldable pub check_files : Places → List ℕ → List ℕ → List ℕ → Result CheckInputs StopOf
-check_files places layers members certificate = do
-  inputs ← layers_with places layers members
+check_files places layers box_path certificate = do
+  inputs ← layers_with places layers box_path
   certificate ← file_of places certificate
   Ok (record { inputs = inputs; certificate = certificate })

@@ -1,16 +1,18 @@
 //! What a request is answered.
 
-ghost use Rattle.std.specs.Prelude.{IfSome};
+ghost use Rattle.std.specs.Prelude.{◌≡◌, ◌≢◌, IfErr, IfSome};
+ghost use Rattle.resource_text.specs.declared.fault.ToolFault.TheVariants.{Write};
 ghost use Rattle.resource_tool.specs.Output.{PrintsOneOf};
 ghost use Rattle.resource_tool.specs.MakeOutput.{IsMakeOutput, make_inputs};
 ghost use Rattle.resource_tool.specs.CheckOutput.{IsCheckOutput, check_inputs};
-ghost use Rattle.restool.specs.Answers.{Answers, AnswersQuestion, AnswersTask};
+ghost use Rattle.restool.specs.Answers.{Answers, AnswersOfBox, AnswersOfDevice};
 ghost use Rattle.restool.specs.FilesSeen.{with_held, layers_held};
+ghost use Rattle.restool.specs.Stop.{stop_of, tool};
 
 use crate::files::{CheckFiles, LayersWith};
 use crate::input::{Inputs, table_bytes};
-use crate::request::{Question, Request, Task};
 use crate::stop::Stop;
+use command_words::{BoxRequest, DeviceRequest, Request};
 use res_value::ResId;
 use resource_tool::{
     Progress, Status, ToolFault, attr_bytes, bag_bytes, check_bytes, dump_bytes, explain_bytes,
@@ -19,7 +21,7 @@ use resource_tool::{
 use std::alloc::Global;
 use std::io::Write;
 
-/// Reads what a request names, and answers it.
+/// Reads what a request names, and answers it. Where it is not answered, nothing is written, unless a write fails.
 pub fn answer<'a, I: Inputs, P: Progress, O: Write + Drop>(
     alloc: Global,
     inputs: &I,
@@ -27,51 +29,49 @@ pub fn answer<'a, I: Inputs, P: Progress, O: Write + Drop>(
     progress: &mut P,
     out: &mut O,
 ) -> Result<Status, Stop<'a>>
-    ensures { IfSome (I.places inputs.now) (λ places. Answers O.contents out.old out.new places request.entry result) }
+    ensures answers { IfSome (I.places inputs.now) (λ places. Answers O.contents out.old out.new places request.entry result) }
+    ensures unwritten { IfErr result (λ stop. stop_of stop ≢ tool Write → out.new ≡ out.old) }
 {
     match request {
-        Request::Rows { table } => {
-            let table = table_bytes(inputs, table)?;
-            let status = rows_bytes(alloc, &table, out)?;
-            Ok(status)
+        Request::Rows { table_path } => {
+            let table = table_bytes(inputs, table_path)?;
+            Ok(rows_bytes(alloc, &table, out)?)
         }
-        Request::Dump { table } => {
-            let table = table_bytes(inputs, table)?;
-            let status = dump_bytes(alloc, &table, out)?;
-            Ok(status)
+        Request::Dump { table_path } => {
+            let table = table_bytes(inputs, table_path)?;
+            Ok(dump_bytes(alloc, &table, out)?)
         }
         Request::OfDevice {
-            layers,
-            device,
-            question,
+            layers_path,
+            device_path,
+            request,
         } => {
-            let files = LayersWith::read(alloc, inputs, layers, device)?;
-            let status = answer_question(alloc, &files, question, out)?;
-            Ok(status)
+            let files = LayersWith::read(alloc, inputs, layers_path, device_path)?;
+            Ok(answer_of_device(alloc, &files, request, out)?)
         }
         Request::OfBox {
-            layers,
-            members,
-            task,
-        } => carry_out_task(alloc, inputs, layers, members, task, progress, out),
+            layers_path,
+            box_path,
+            request,
+        } => answer_of_box(alloc, inputs, layers_path, box_path, request, progress, out),
     }
 }
 
-fn answer_question<O: Write + Drop>(
+fn answer_of_device<O: Write + Drop>(
     alloc: Global,
     files: &LayersWith,
-    question: Question,
+    request: DeviceRequest,
     out: &mut O,
 ) -> Result<Status, ToolFault>
-    ensures { AnswersQuestion O.contents out.old out.new (with_held files.now) question result }
+    ensures { AnswersOfDevice O.contents out.old out.new (with_held files.now) request result }
 {
     let layers = files.layers.layers(alloc)?;
     let device = &files.other;
-    match question {
-        Question::Query { ids } => query_bytes(alloc, &layers, device, &ids, out),
-        Question::Explain { id } => explain_bytes(alloc, &layers, device, id, out),
-        Question::Bag { id } => bag_bytes(alloc, &layers, device, id, out),
-        Question::Attr {
+    match request {
+        DeviceRequest::Query { ids } => query_bytes(alloc, &layers, device, &ids, out),
+        DeviceRequest::Explain { id } => explain_bytes(alloc, &layers, device, id, out),
+        DeviceRequest::Bag { id } => bag_bytes(alloc, &layers, device, id, out),
+        DeviceRequest::Attr {
             attr,
             styles,
             force,
@@ -79,28 +79,30 @@ fn answer_question<O: Write + Drop>(
     }
 }
 
-fn carry_out_task<'a, I: Inputs, P: Progress, O: Write + Drop>(
+fn answer_of_box<'a, I: Inputs, P: Progress, O: Write + Drop>(
     alloc: Global,
     inputs: &I,
-    layers: &'a str,
-    members: &'a str,
-    task: Task<'a>,
+    layers_path: &'a str,
+    box_path: &'a str,
+    request: BoxRequest<'a>,
     progress: &mut P,
     out: &mut O,
 ) -> Result<Status, Stop<'a>>
-    ensures { IfSome (I.places inputs.now) (λ places. AnswersTask O.contents out.old out.new places
-        layers.entry.now members.entry.now task.entry result) }
+    ensures answers { IfSome (I.places inputs.now) (λ places. AnswersOfBox O.contents out.old out.new places
+        layers_path.entry.now box_path.entry.now request.entry result) }
+    ensures unwritten { IfErr result (λ stop. stop_of stop ≢ tool Write → out.new ≡ out.old) }
 {
-    match task {
-        Task::Make { max_nodes, ids } => {
-            let files = LayersWith::read(alloc, inputs, layers, members)?;
-            let status = make_certificate(alloc, &files, &ids, max_nodes, progress, out)?;
-            Ok(status)
+    match request {
+        BoxRequest::Make { max_nodes, ids } => {
+            let files = LayersWith::read(alloc, inputs, layers_path, box_path)?;
+            Ok(make_certificate(alloc, &files, &ids, max_nodes, progress, out)?)
         }
-        Task::Check { certificate, ids } => {
-            let files = CheckFiles::read(alloc, inputs, layers, members, certificate)?;
-            let status = check_certificate(alloc, &files, &ids, out)?;
-            Ok(status)
+        BoxRequest::Check {
+            certificate_path,
+            ids,
+        } => {
+            let files = CheckFiles::read(alloc, inputs, layers_path, box_path, certificate_path)?;
+            Ok(check_certificate(alloc, &files, &ids, out)?)
         }
     }
 }
@@ -117,8 +119,8 @@ fn make_certificate<O: Write + Drop, P: Progress>(
         (make_inputs (layers_held files.now.layers) files.now.other.items) }
 {
     let layers = files.layers.layers(alloc)?;
-    let members = &files.other;
-    make_bytes_watched(alloc, &layers, members, ids, max_nodes, progress, out)
+    let box_json = &files.other;
+    make_bytes_watched(alloc, &layers, box_json, ids, max_nodes, progress, out)
 }
 
 fn check_certificate<O: Write + Drop>(
@@ -131,6 +133,6 @@ fn check_certificate<O: Write + Drop>(
         (check_inputs (layers_held files.now.inputs.layers) files.now.inputs.other.items files.now.certificate.items) }
 {
     let layers = files.inputs.layers.layers(alloc)?;
-    let members = &files.inputs.other;
-    check_bytes(alloc, &layers, members, &files.certificate, ids, out)
+    let box_json = &files.inputs.other;
+    check_bytes(alloc, &layers, box_json, &files.certificate, ids, out)
 }

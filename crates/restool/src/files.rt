@@ -8,7 +8,7 @@ ghost use Rattle.restool.specs.Stop.{GivesOrStops};
 ghost use Rattle.restool.specs.Inputs.{layer_of, layers_of, layers_with, check_files};
 ghost use Rattle.restool.specs.FilesSeen.{layer_held, all_held, layers_held, with_held, check_held};
 
-use crate::input::{Inputs, file_bytes, layer_file};
+use crate::input::{Inputs, file_bytes, layer_file_bytes};
 use crate::stop::Stop;
 use resource_tool::LayerList;
 use std::alloc::{AllocError, Global};
@@ -70,10 +70,10 @@ fn read_layer<I: Inputs>(
     ensures { IfSome (I.places inputs.now) (λ places. GivesOrStops layer_held result (layer_of places (paths_of paths))) }
 {
     let (table, map) = paths;
-    let table = layer_file(inputs, table)?;
+    let table = layer_file_bytes(inputs, table)?;
     match map {
         Some(path) => {
-            let map = layer_file(inputs, path)?;
+            let map = layer_file_bytes(inputs, path)?;
             Ok((table, Some(map)))
         }
         None => Ok((table, None)),
@@ -94,14 +94,14 @@ impl LayersWith {
     pub fn read<'a, I: Inputs>(
         alloc: Global,
         inputs: &I,
-        layers: &'a str,
-        other: &'a str,
+        layers_path: &'a str,
+        other_path: &'a str,
     ) -> Result<LayersWith, Stop<'a>>
         ensures { IfSome (I.places inputs.now) (λ places. GivesOrStops with_held result
-            (layers_with places layers.entry.now other.entry.now)) }
+            (layers_with places layers_path.entry.now other_path.entry.now)) }
     {
-        let layers = LayerFiles::read(alloc, inputs, layers)?;
-        let other = file_bytes(inputs, other)?;
+        let layers = LayerFiles::read(alloc, inputs, layers_path)?;
+        let other = file_bytes(inputs, other_path)?;
         Ok(LayersWith { layers, other })
     }
 }
@@ -119,17 +119,17 @@ impl CheckFiles {
     pub fn read<'a, I: Inputs>(
         alloc: Global,
         inputs: &I,
-        layers: &'a str,
-        members: &'a str,
-        certificate: &'a str,
+        layers_path: &'a str,
+        box_path: &'a str,
+        certificate_path: &'a str,
     ) -> Result<CheckFiles, Stop<'a>>
         ensures { IfSome (I.places inputs.now) (λ places. GivesOrStops check_held result
-            (check_files places layers.entry.now members.entry.now certificate.entry.now)) }
+            (check_files places layers_path.entry.now box_path.entry.now certificate_path.entry.now)) }
     {
-        let read = LayersWith::read(alloc, inputs, layers, members)?;
-        let certificate = file_bytes(inputs, certificate)?;
+        let layers_with_box = LayersWith::read(alloc, inputs, layers_path, box_path)?;
+        let certificate = file_bytes(inputs, certificate_path)?;
         Ok(CheckFiles {
-            inputs: read,
+            inputs: layers_with_box,
             certificate,
         })
     }

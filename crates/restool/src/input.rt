@@ -7,11 +7,11 @@ ghost use Rattle.resource_tool.specs.Input.{Gave};
 ghost use Rattle.resource_tool.specs.declared.input.InputFault.TheVariants as input_faults;
 ghost use Rattle.contract_words.specs.Exact.{GivesOr};
 ghost use Rattle.restool.specs.Place.{place_of};
-ghost use Rattle.restool.specs.Inputs.{Places, file_of, stop_at, table_of};
+ghost use Rattle.restool.specs.Inputs.{Places, file_of, most_bytes, stop_at, table_of};
 ghost use Rattle.restool.specs.FilesSeen.{bytes_of};
 ghost use Rattle.restool.specs.Stop.{GivesOrStops, stop_of};
 
-use crate::source::Source;
+use crate::place::Place;
 use crate::stop::Stop;
 use resource_tool::{InputFault, ToolFault, read_input};
 use std::alloc::Global;
@@ -27,9 +27,9 @@ pub trait Inputs {
     /// What each place has, where that is known.
     ghost places: { Self → Option Places } = { λ _. None };
 
-    fn read(&self, source: Source<'_>) -> Result<Vec<u8>, InputFault>
+    fn read(&self, place: Place<'_>) -> Result<Vec<u8>, InputFault>
         ensures { IfSome (places self.now)
-            (λ places. GivesOr input_faults.OutOfMemory bytes_of result (places (place_of source.entry))) };
+            (λ places. GivesOr input_faults.OutOfMemory bytes_of result (places (place_of place.entry))) };
 }
 
 /// The files and the standard input of the process.
@@ -39,11 +39,11 @@ pub struct ProcessInputs<'a, R> {
 }
 
 impl<R: Input + Files + AllocGlobal> Inputs for ProcessInputs<'_, R> {
-    fn read(&self, source: Source<'_>) -> Result<Vec<u8>, InputFault> {
+    fn read(&self, place: Place<'_>) -> Result<Vec<u8>, InputFault> {
         let alloc = self.rt.alloc();
-        match source {
-            Source::StandardInput => read_within_limit(alloc, &mut self.rt.reader()),
-            Source::File(path) => match fs::open(self.rt, path) {
+        match place {
+            Place::StandardInput => read_within_limit(alloc, &mut self.rt.reader()),
+            Place::File(path) => match fs::open(self.rt, path) {
                 Ok(mut file) => read_within_limit(alloc, &mut file),
                 Err(error) => Err(fault_of_opening(&error)),
             },
@@ -66,11 +66,11 @@ fn fault_of_opening(error: &io::Error) -> InputFault
 fn read_within_limit<R: Read>(alloc: Global, reader: &mut R) -> Result<Vec<u8>, InputFault>
     ensures whole { IfOk result (λ input. IfSome (R.remaining reader.old) (λ bytes. input.items ≡ bytes)) }
     ensures end { OnOk result (IsAtEnd (R.remaining reader.new)) }
-    ensures within { IfOk result (λ input. vec_len input ≤ 268_435_456) }
+    ensures within { IfOk result (λ input. vec_len input ≤ most_bytes) }
     ensures too_large { IsErrOf result InputFault.TooLarge
-        → Gave (R.remaining reader.old) (R.remaining reader.new) (λ count. 268_435_456 < count) }
+        → Gave (R.remaining reader.old) (R.remaining reader.new) (λ count. most_bytes < count) }
     ensures read { IsErrOf result InputFault.Read
-        → Gave (R.remaining reader.old) (R.remaining reader.new) (λ count. count ≤ 268_435_456) }
+        → Gave (R.remaining reader.old) (R.remaining reader.new) (λ count. count ≤ most_bytes) }
 {
     read_input(alloc, reader, INPUT_LIMIT)
 }
@@ -79,7 +79,7 @@ fn read_within_limit<R: Read>(alloc: Global, reader: &mut R) -> Result<Vec<u8>, 
 pub fn table_bytes<'a, I: Inputs>(inputs: &I, path: &'a str) -> Result<Vec<u8>, Stop<'a>>
     ensures { IfSome (I.places inputs.now) (λ places. GivesOrStops bytes_of result (table_of places path.entry.now)) }
 {
-    match inputs.read(Source::of_table(path)) {
+    match inputs.read(Place::of_table(path)) {
         Ok(bytes) => Ok(bytes),
         Err(fault) => Err(stop_at(path, fault)),
     }
@@ -89,17 +89,17 @@ pub fn table_bytes<'a, I: Inputs>(inputs: &I, path: &'a str) -> Result<Vec<u8>, 
 pub fn file_bytes<'a, I: Inputs>(inputs: &I, path: &'a str) -> Result<Vec<u8>, Stop<'a>>
     ensures { IfSome (I.places inputs.now) (λ places. GivesOrStops bytes_of result (file_of places path.entry.now)) }
 {
-    match inputs.read(Source::File(path)) {
+    match inputs.read(Place::File(path)) {
         Ok(bytes) => Ok(bytes),
         Err(fault) => Err(stop_at(path, fault)),
     }
 }
 
 /// The bytes of the file at a path that a list of layers names.
-pub fn layer_file<I: Inputs>(inputs: &I, path: String) -> Result<Vec<u8>, Stop<'static>>
+pub fn layer_file_bytes<I: Inputs>(inputs: &I, path: String) -> Result<Vec<u8>, Stop<'static>>
     ensures { IfSome (I.places inputs.now) (λ places. GivesOrStops bytes_of result (file_of places (string_bytes path))) }
 {
-    match inputs.read(Source::File(path.as_str())) {
+    match inputs.read(Place::File(path.as_str())) {
         Ok(bytes) => Ok(bytes),
         Err(fault) => Err(stop_at_layer(path, fault)),
     }

@@ -10,14 +10,6 @@ const BEFORE_THE_FIRST: u64 = 1_000;
 /// A line stands for at least so many milliseconds before it is rewritten.
 const BETWEEN_TWO: u64 = 250;
 
-/// Where there is no terminal, nobody sees how many goals are done.
-#[derive(Drop)]
-pub struct Unseen;
-
-impl Progress for Unseen {
-    fn goals_done(&mut self, _done: usize, _all: usize) {}
-}
-
 /// A line on a terminal that says how many goals are done, and is rewritten in place. A failure of the
 /// stream or the clock is passed over.
 #[derive(Drop)]

@@ -1,44 +1,67 @@
 //! From words to the exit status.
 
-ghost use Rattle.std.specs.Prelude.{◌≡◌, [], false, Ok, Err, OnOk, IsOk, IfOk, IfErr};
-ghost use Rattle.std.specs.Io.Buffered.{writer_buffer};
+ghost use Rattle.std.specs.Prelude.{◌≡◌, ◌≢◌, [], false, map, Ok, Err, OnOk, IsOk, IfOk, IfErr, IfSome, string_bytes};
+ghost use Rattle.std.specs.Io.Buffered.{writer_buffer, writer_contents, writer_inner};
+ghost use Rattle.std.specs.Io.KnownBytes.{Keeps};
 ghost use Rattle.resource_text.specs.declared.fault.ToolFault.TheVariants.{Write};
-ghost use Rattle.restool.specs.Stop.{EndsAs, stop_of, tool};
+ghost use Rattle.restool.specs.Answers.{Answers};
+ghost use Rattle.restool.specs.Run.{Ends, Runs};
+ghost use Rattle.restool.specs.Stop.{stop_of, tool};
 
 use crate::answer::answer;
-use crate::input::{Inputs, ProcessInputs};
-use crate::progress::{ProgressLine, Unseen};
-use crate::request::Request;
+use crate::input::Inputs;
+use crate::progress::ProgressLine;
 use crate::status::ExitStatus;
 use crate::stop::Stop;
-use crate::words::read_words;
-use resource_tool::{Status, ToolFault};
+use command_words::{Request, read_words};
+use resource_tool::{Status, ToolFault, Unwatched};
 use std::alloc::Global;
 use std::io::{BufWriter, Write};
-use std::rt::Files;
 use std::time::Clock;
 
-/// How many bytes of the output are kept back before they are written.
-const OUTPUT_BUFFER: usize = 65_536;
+/// How a run of the program ended.
+#[derive(Drop)]
+pub struct Ended<O> {
+    pub status: ExitStatus,
+    /// The output, as it was left.
+    pub out: O,
+}
 
 /// Does what the words ask for; the first word is the program's name. Where errors go to a terminal, long
 /// work says there how far it is.
-pub fn run_words<R: Input + Files + Clock + AllocGlobal, O: Write + Drop, E: Write + Drop>(
-    rt: &R,
+pub fn run_words<I: Inputs, C: Clock, O: Write + Drop, E: Write + Drop>(
+    alloc: Global,
+    inputs: &I,
+    clock: &C,
     words: &[String],
-    out: &mut O,
+    out: BufWriter<O>,
     errors: &mut E,
     is_terminal: bool,
-) -> ExitStatus {
-    let alloc = rt.alloc();
-    let outcome = match read_words(alloc, words) {
+) -> Ended<O>
+    requires { writer_buffer out ≡ [] }
+    ensures { Runs O.contents E.contents (I.places inputs.now) (map string_bytes words.now) is_terminal
+        (record { out = writer_inner out; errors = errors.old }) (record { out = result.out; errors = errors.new }) result.status }
+{
+    match read_words(alloc, words) {
         Ok(request) => {
-            let inputs = ProcessInputs { rt };
-            carry_out(alloc, &inputs, rt, request, out, errors, is_terminal)
+            let (outcome, mut out) = carry_out(
+                alloc,
+                inputs,
+                clock,
+                request,
+                out,
+                errors,
+                is_terminal,
+            );
+            let status = end(outcome, &mut out, errors);
+            Ended { status, out }
         }
-        Err(stop) => Err(stop),
-    };
-    end(outcome, out, errors)
+        Err(fault) => {
+            let (mut out, _nothing) = out.into_parts();
+            let status = end(Err(Stop::Words(fault)), &mut out, errors);
+            Ended { status, out }
+        }
+    }
 }
 
 /// Says why the program stops, if it does, and gives the exit status.
@@ -47,8 +70,8 @@ pub fn end<O: Write + Drop, E: Write + Drop>(
     out: &mut O,
     errors: &mut E,
 ) -> ExitStatus
-    ensures status { EndsAs outcome.entry result }
-    ensures quiet { OnOk outcome.entry (errors.new ≡ errors.old) }
+    ensures { Ends E.contents (record { out = out.old; errors = errors.old }) (record { out = out.new; errors = errors.new })
+        outcome.entry result }
 {
     match outcome {
         Ok(status) => ExitStatus::after_status(status),
@@ -62,39 +85,62 @@ fn carry_out<'a, I: Inputs, C: Clock, O: Write + Drop, E: Write>(
     inputs: &I,
     clock: &C,
     request: Request<'a>,
+    mut out: BufWriter<O>,
+    errors: &mut E,
+    is_terminal: bool,
+) -> (Result<Status, Stop<'a>>, O)
+    requires { writer_buffer out ≡ [] }
+    ensures answers { IfSome (I.places inputs.now) (λ places. Answers O.contents (writer_inner out) result.1 places
+        request.entry result.0) }
+    ensures unwritten { IfErr result.0 (λ stop. stop_of stop ≢ tool Write → result.1 ≡ writer_inner out) }
+    ensures quiet { is_terminal ≡ false → errors.new ≡ errors.old }
+{
+    let answered = answer_watched(alloc, inputs, clock, request, &mut out, errors, is_terminal);
+    written_out(answered, out)
+}
+
+// Answers a request. Where errors go to a terminal, long work says there how far it is.
+fn answer_watched<'a, I: Inputs, C: Clock, O: Write + Drop, E: Write>(
+    alloc: Global,
+    inputs: &I,
+    clock: &C,
+    request: Request<'a>,
     out: &mut O,
     errors: &mut E,
     is_terminal: bool,
 ) -> Result<Status, Stop<'a>>
-    ensures { is_terminal ≡ false → errors.new ≡ errors.old }
+    ensures answers { IfSome (I.places inputs.now) (λ places. Answers O.contents out.old out.new places request.entry result) }
+    ensures unwritten { IfErr result (λ stop. stop_of stop ≢ tool Write → out.new ≡ out.old) }
+    ensures quiet { is_terminal ≡ false → errors.new ≡ errors.old }
 {
-    let Ok(mut out) = BufWriter::with_capacity(alloc, OUTPUT_BUFFER, out) else {
-        return Err(Stop::Tool(ToolFault::OutOfMemory));
-    };
-    let answered = if is_terminal {
-        let mut line = ProgressLine::new(errors, clock);
-        let answered = answer(alloc, inputs, request, &mut line, &mut out);
-        line.clear();
-        answered
-    } else {
-        answer(alloc, inputs, request, &mut Unseen, &mut out)
-    };
-    written_out(answered, &mut out)
+    if !is_terminal {
+        return answer(alloc, inputs, request, &mut Unwatched, out);
+    }
+    let mut line = ProgressLine::new(errors, clock);
+    let answered = answer(alloc, inputs, request, &mut line, out);
+    line.clear();
+    answered
 }
 
-// Writes what is kept back of an answer.
+// Writes what is kept back of an answer, and hands the output back. Where there is none, or a write fails, nothing more
+// is written, as it would be if the writer was dropped.
 fn written_out<'a, O: Write + Drop>(
     answered: Result<Status, Stop<'a>>,
-    out: &mut BufWriter<O>,
-) -> Result<Status, Stop<'a>>
-    ensures whole { OnOk result (writer_buffer out.new ≡ []) }
-    ensures status { IfOk result (λ status. answered.entry ≡ Ok status) }
-    ensures stop { IfErr answered.entry (λ stop. result ≡ Err stop) }
-    ensures write { IsOk answered.entry → IfErr result (λ stop. stop_of stop ≡ tool Write) }
+    mut out: BufWriter<O>,
+) -> (Result<Status, Stop<'a>>, O)
+    ensures whole { OnOk result.0 (Keeps (writer_contents O.contents out) (O.contents result.1)) }
+    ensures status { IfOk result.0 (λ status. answered.entry ≡ Ok status) }
+    ensures stop { IfErr answered.entry (λ stop. result.0 ≡ Err stop) }
+    ensures unwritten { IfErr answered.entry (λ stop. result.1 ≡ writer_inner out) }
+    ensures write { IsOk answered.entry → IfErr result.0 (λ stop. stop_of stop ≡ tool Write) }
 {
-    let status = answered?;
-    match out.flush() {
-        Ok(()) => Ok(status),
-        Err(_) => Err(Stop::Tool(ToolFault::Write)),
-    }
+    let written = match answered {
+        Ok(status) => match out.flush() {
+            Ok(()) => Ok(status),
+            Err(_) => Err(Stop::Tool(ToolFault::Write)),
+        },
+        Err(stop) => Err(stop),
+    };
+    let (out, _unwritten) = out.into_parts();
+    (written, out)
 }

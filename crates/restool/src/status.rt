@@ -11,7 +11,7 @@ pub enum ExitStatus {
     /// is rejected, or cannot be made.
     Negative = 1,
     /// A bad command line, or an argument that is not a resource id.
-    Command = 2,
+    BadCommandLine = 2,
     /// An input was rejected.
     Refused = 3,
     /// Memory ran out.

@@ -1,15 +1,16 @@
 //! What keeps the program from doing what it was asked for.
 
-ghost use Rattle.std.specs.Prelude.{◌≡◌, ◌++◌, ◌∷◌, [], true, false, is_ok, OnOk, IfSome};
+ghost use Rattle.std.specs.Prelude.{◌≡◌, ◌++◌, ◌∷◌, [], true, false, OnOk, IfSome};
 ghost use Rattle.std.specs.Io.KnownBytes.{Appends};
 ghost use Rattle.contract_words.specs.Writes.{Writes};
 ghost use Rattle.clap.specs.Values.{kind_of};
 ghost use Rattle.resource_text.specs.declared.fault.ToolFault.TheVariants.{OutOfMemory};
-ghost use Rattle.restool.specs.declared.stop.Stop.TheVariants.{Tool};
-ghost use Rattle.restool.specs.Stop.{is_asked_for};
+ghost use Rattle.restool.specs.declared.stop.Stop.TheVariants.{Tool, Words};
+ghost use Rattle.restool.specs.Stop.{is_asked_for, is_output, status_of_stop, stop_line, stop_of_words};
 
 use crate::status::ExitStatus;
 use clap::error::ErrorKind;
+use command_words::WordsFault;
 use resource_tool::{LayersFault, ToolFault, fault_text};
 use std::alloc::{AllocError, AllocFailed};
 use std::io::{self, Write};
@@ -17,12 +18,8 @@ use std::io::{self, Write};
 /// Why the program stops.
 #[derive(Drop)]
 pub enum Stop<'a> {
-    /// The words are no command line, or ask for help.
-    Words(clap::Error),
-    /// A word is not UTF-8.
-    NotText,
-    /// This word is no id.
-    BadId(&'a str),
+    /// The words ask for nothing that can be done.
+    Words(WordsFault<'a>),
     /// The file at this path was not read.
     File(&'a str),
     /// The file of a layer was not read, whose path a list of layers names.
@@ -37,23 +34,25 @@ pub struct Told {
     /// How the program ends.
     pub status: ExitStatus,
     /// Whether the stream took the text.
-    pub written: io::Result<()>,
+    pub was_written: bool,
 }
 
 impl Stop<'_> {
-    ghost use Rattle.restool.specs.Stop.{stop_of, stop_line, status_of_stop, is_output};
+    ghost use Rattle.restool.specs.Stop.{stop_of};
 
     /// Tells why, on the stream where that belongs, and gives the exit status.
     pub fn tell<O: Write + Drop, E: Write + Drop>(&self, out: &mut O, errors: &mut E) -> Told
-        ensures status { result.status ≡ status_of_stop (is_ok result.written) (stop_of self.now) }
-        ensures line { OnOk result.written (IfSome (stop_line (stop_of self.now))
-            (Appends (E.contents errors.old) (E.contents errors.new))) }
+        ensures status { result.status ≡ status_of_stop result.was_written (stop_of self.now) }
+        ensures line { result.was_written ≡ true → IfSome (stop_line (stop_of self.now))
+            (Appends (E.contents errors.old) (E.contents errors.new)) }
         ensures output { is_output (stop_of self.now) ≡ false → out.new ≡ out.old }
         ensures errors { is_output (stop_of self.now) ≡ true → errors.new ≡ errors.old }
     {
-        let written = self.write(out, errors);
-        let status = self.status(written.is_ok());
-        Told { status, written }
+        let was_written = self.write(out, errors).is_ok();
+        Told {
+            status: self.status(was_written),
+            was_written,
+        }
     }
 
     fn write<O: Write + Drop, E: Write + Drop>(&self, out: &mut O, errors: &mut E) -> io::Result<()>
@@ -63,10 +62,7 @@ impl Stop<'_> {
         ensures errors { is_output (stop_of self.now) ≡ true → errors.new ≡ errors.old }
     {
         match self {
-            Stop::Words(error) if is_asked_for(error) => write!(out, "{error}"),
-            Stop::Words(error) => write!(errors, "{error}"),
-            Stop::NotText => errors.write_all(b"command: a word is not UTF-8\n"),
-            Stop::BadId(word) => write_line("command: bad id ", word, errors),
+            Stop::Words(fault) => write_fault_of_words(fault, out, errors),
             Stop::File(path) => write_line("file: ", path, errors),
             Stop::LayerFile(path) => write_line("file: ", path.as_str(), errors),
             Stop::Tool(fault) => fault_text(fault, errors),
@@ -78,12 +74,47 @@ impl Stop<'_> {
         ensures { result ≡ status_of_stop was_written (stop_of self.now) }
     {
         match self {
-            Stop::Words(error) if is_asked_for(error) && was_written => ExitStatus::Done,
-            Stop::Words(error) if is_asked_for(error) => ExitStatus::Failed,
-            Stop::Words(_) | Stop::NotText | Stop::BadId(_) => ExitStatus::Command,
+            Stop::Words(fault) => status_after_words(fault, was_written),
             Stop::File(_) | Stop::LayerFile(_) => ExitStatus::Failed,
             Stop::Tool(fault) => ExitStatus::after_fault(fault),
         }
+    }
+}
+
+fn write_fault_of_words<O: Write + Drop, E: Write + Drop>(
+    fault: &WordsFault<'_>,
+    out: &mut O,
+    errors: &mut E,
+) -> io::Result<()>
+    ensures line { OnOk result (IfSome (stop_line (stop_of_words fault.now))
+        (Appends (E.contents errors.old) (E.contents errors.new))) }
+    ensures output { is_output (stop_of_words fault.now) ≡ false → out.new ≡ out.old }
+    ensures errors { is_output (stop_of_words fault.now) ≡ true → errors.new ≡ errors.old }
+{
+    match fault {
+        WordsFault::CommandLine(error) if is_asked_for(error) => write!(out, "{error}"),
+        WordsFault::CommandLine(error) => write!(errors, "{error}"),
+        WordsFault::NotText => errors.write_all(b"command: a word is not UTF-8\n"),
+        WordsFault::BadId(word) => write_line("command: bad id ", word, errors),
+        WordsFault::OutOfMemory => fault_text(&ToolFault::OutOfMemory, errors),
+    }
+}
+
+fn status_after_words(fault: &WordsFault<'_>, was_written: bool) -> ExitStatus
+    ensures { result ≡ status_of_stop was_written (stop_of_words fault.now) }
+{
+    match fault {
+        WordsFault::CommandLine(error) if is_asked_for(error) => {
+            if was_written {
+                ExitStatus::Done
+            } else {
+                ExitStatus::Failed
+            }
+        }
+        WordsFault::CommandLine(_) | WordsFault::NotText | WordsFault::BadId(_) => {
+            ExitStatus::BadCommandLine
+        }
+        WordsFault::OutOfMemory => ExitStatus::Memory,
     }
 }
 
@@ -103,6 +134,14 @@ fn write_line<E: Write + Drop>(before: &str, text: &str, errors: &mut E) -> io::
     errors.write_all(before.as_bytes())?;
     errors.write_all(text.as_bytes())?;
     errors.write_all(b"\n")
+}
+
+impl<'a> From<WordsFault<'a>> for Stop<'a> {
+    ghost from_gives = { λ fault e. e ≡ Words fault };
+
+    fn from(fault: WordsFault<'a>) -> Self {
+        Stop::Words(fault)
+    }
 }
 
 impl From<ToolFault> for Stop<'_> {
@@ -136,18 +175,5 @@ impl From<AllocError> for Stop<'_> {
 
     fn from(_error: AllocError) -> Self {
         Stop::Tool(ToolFault::OutOfMemory)
-    }
-}
-
-impl From<clap::Error> for Stop<'_> {
-    ghost use Rattle.restool.specs.Stop.{stop_of_kind};
-
-    ghost from_gives = { λ error e. e ≡ stop_of_kind (kind_of error) error };
-
-    fn from(error: clap::Error) -> Self {
-        match error.kind() {
-            ErrorKind::OutOfMemory => Stop::Tool(ToolFault::OutOfMemory),
-            _ => Stop::Words(error),
-        }
     }
 }

@@ -1,0 +1,33 @@
+-- How words are read as ids, one after the other.
+use Rattle.std.proofs.Common.{◌≡◌, ℕ, ◌<◌, List, [], ◌∷◌, map, length, get_or, ap, ◌∙◌}
+use Rattle.std.specs.Prelude.{Ok, Err}
+use Rattle.std.specs.Borrow.{Bor}
+use Rattle.contract_words.specs.Sequences.{with_front}
+use Rattle.json_input.proofs.EachSteps.{EachAllBut, EachAllBut-stops_item}
+use Rattle.res_value.specs.declared.res_id.ResId.{ResId}
+use Rattle.command_words.specs.declared.words_fault.WordsFault.{WordsFault}
+use Rattle.command_words.specs.declared.words_fault.WordsFault.TheVariants.{CommandLine, NotText, BadId, OutOfMemory}
+use Rattle.command_words.specs.Ids.{id_in, ids_in, ReadsId, ReadsIds}
+use Rattle.command_words.proofs.EachLeft.{each-ok, each-nil}
+
+-- a word that is lent
+abbrev pub word_of : Bor (List ℕ) → List ℕ
+word_of word = word.now
+
+-- a word that is no id ends the loop
+pub ids_stop : (so_far : List ResId) (place : ℕ) (words : List (Bor (List ℕ))) (d : Bor (List ℕ)) (fault : WordsFault)
+    → EachAllBut id_in so_far place (map word_of words) → place < length words
+    → ReadsId (Err fault) (id_in (get_or words place d).now) → ReadsIds (Err fault) (ids_in (map word_of words))
+ids_stop so_far place words d (CommandLine error) before on told = absurd told
+ids_stop so_far place words d NotText before on told = absurd told
+ids_stop so_far place words d (BadId word) before on told = EachAllBut-stops_item id_in word_of so_far place words d word.now before on told
+ids_stop so_far place words d OutOfMemory before on told = absurd told
+
+-- the ids of one word, and of one and others
+
+pub ids_in-one : (word : List ℕ) (id : ResId) → id_in word ≡ Ok id → ids_in (word ∷ []) ≡ Ok (id ∷ [])
+ids_in-one word id given = each-ok id_in word [] id given ∙ ap (with_front (id ∷ [])) (each-nil id_in)
+
+pub ids_in-first : (word : List ℕ) (words : List (List ℕ)) (id : ResId) (ids : List ResId) → id_in word ≡ Ok id → ids_in words ≡ Ok ids
+    → ids_in (word ∷ words) ≡ Ok (id ∷ ids)
+ids_in-first word words id ids given others = each-ok id_in word words id given ∙ ap (with_front (id ∷ [])) others

@@ -1,0 +1,4 @@
+pub mod EachLeft
+pub mod IdSteps
+pub mod Rows
+pub mod CommandLineFacts

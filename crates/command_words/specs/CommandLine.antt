@@ -1,0 +1,75 @@
+-- The command line that is understood: its commands, and what each of them takes.
+use Rattle.std.specs.Prelude.{ℕ, true, false, List, [], ◌∷◌, codes, Some, pos}
+use Rattle.clap.specs.Lexer.{usize_max}
+use Rattle.clap.specs.Walk.{Rule}
+use Rattle.clap.specs.Simple.{App, Shape, new_rule, new_shape}
+use Rattle.clap.specs.declared.builder.action.ArgAction.TheVariants.{Set, Append, SetTrue}
+use Rattle.clap.specs.declared.builder.value_parser.ValueParser.TheVariants as parsers
+
+-- ---- arguments
+
+-- one word
+abbrev pub one_word : List ℕ → Rule
+one_word name = record (new_rule name) { action = Some Set; required = true }
+
+-- one word or more
+abbrev pub several_words : List ℕ → Rule
+several_words name = record (new_rule name) {
+  action = Some Append;
+  required = true;
+  range = Some (record { start_inclusive = 1; end_inclusive = usize_max });
+}
+
+-- a flag, `--NAME`
+abbrev pub flag : List ℕ → Rule
+flag name = record (new_rule name) { long = Some name; action = Some SetTrue }
+
+-- how many nodes a certificate may have at most, and where the words name no number
+
+abbrev pub most_nodes : ℕ
+most_nodes = 1000000
+
+abbrev pub nodes_if_left_out : ℕ
+nodes_if_left_out = 100000
+
+-- such a number behind `--NAME`, which may be left out
+abbrev pub nodes : List ℕ → Rule
+nodes name = record (new_rule name) {
+  long = Some name;
+  value_names = 1;
+  parser = Some (parsers.Signed (pos 1) (pos most_nodes));
+}
+
+-- ---- commands
+
+abbrev pub command : List ℕ → List Rule → Shape
+command name arguments = record (new_shape name) { rules = arguments }
+
+abbrev pub layers : Rule
+layers = one_word (codes "LAYERS")
+
+abbrev pub device : Rule
+device = one_word (codes "DEVICE")
+
+abbrev pub ids : Rule
+ids = several_words (codes "ID")
+
+abbrev pub commands : List Shape
+commands =
+    command (codes "rows") (one_word (codes "TABLE") ∷ [])
+    ∷ command (codes "dump") (one_word (codes "TABLE") ∷ [])
+    ∷ command (codes "query") (layers ∷ device ∷ ids ∷ [])
+    ∷ command (codes "explain") (layers ∷ device ∷ one_word (codes "ID") ∷ [])
+    ∷ command (codes "bag") (layers ∷ device ∷ one_word (codes "ID") ∷ [])
+    ∷ command (codes "attr")
+    (flag (codes "keep") ∷ layers ∷ device ∷ one_word (codes "ATTR") ∷ several_words (codes "STYLE") ∷ [])
+    ∷ command (codes "make") (nodes (codes "max-nodes") ∷ layers ∷ one_word (codes "BOX") ∷ ids ∷ [])
+    ∷ command (codes "check") (layers ∷ one_word (codes "BOX") ∷ one_word (codes "CERT") ∷ ids ∷ [])
+    ∷ []
+
+-- the program, which has a version, and has to be given a command
+unfoldable pub command_line : App
+command_line = record {
+  top = record (new_shape (codes "restool")) { is_leaf = false; has_version = true; subcommand_required = true };
+  subs = commands;
+}

@@ -1,0 +1,5 @@
+pub mod WordsFault
+pub mod CommandLine
+pub mod ArgumentsSeen
+pub mod Ids
+pub mod Request

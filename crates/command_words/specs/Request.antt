@@ -1,0 +1,132 @@
+-- What the words of a command line ask for.
+use Rattle.std.specs.Prelude.{◌≡◌, ◌≢◌, ◌≤◌, ℕ, Bool, true, false, List, [], ◌∷◌, codes, Option, Some, None, unwrap_or, Result, Ok, Err, IsOkAnd, if◌then◌else◌}
+use Rattle.std.specs.Str.{bytes_eq}
+use Rattle.std.specs.Str.Parse.{IsNumeral, digits_value, without_leading_plus}
+use Rattle.clap.specs.Kinds.{IsAmong}
+use Rattle.clap.specs.Faults.{fault_of}
+use Rattle.clap.specs.Simple.{subcommand_of}
+use Rattle.clap.specs.Values.{kind_of}
+use Rattle.clap.specs.Walk.{Row, first_of, one_of, all_of}
+use Rattle.res_value.specs.declared.res_id.ResId.{ResId}
+use Rattle.command_words.specs.declared.words_fault.WordsFault.{WordsFault}
+use Rattle.command_words.specs.declared.words_fault.WordsFault.TheVariants as faults
+use Rattle.command_words.specs.declared.request.Request.{Request}
+use Rattle.command_words.specs.declared.request.Request.TheVariants as requests
+use Rattle.command_words.specs.declared.request.DeviceRequest.{DeviceRequest}
+use Rattle.command_words.specs.declared.request.DeviceRequest.TheVariants as of_device
+use Rattle.command_words.specs.declared.request.BoxRequest.{BoxRequest}
+use Rattle.command_words.specs.declared.request.BoxRequest.TheVariants as of_box
+use Rattle.command_words.specs.declared.command.Command.{Command}
+use Rattle.command_words.specs.declared.command.Command.TheVariants.{Rows, Dump, OfDevice, OfBox}
+use Rattle.command_words.specs.declared.command.DeviceCommand.{DeviceCommand}
+use Rattle.command_words.specs.declared.command.DeviceCommand.TheVariants.{Query, Explain, Bag, Attr}
+use Rattle.command_words.specs.declared.command.BoxCommand.{BoxCommand}
+use Rattle.command_words.specs.declared.command.BoxCommand.TheVariants.{Make, Check}
+use Rattle.command_words.specs.CommandLine.{command_line, most_nodes, nodes_if_left_out}
+use Rattle.command_words.specs.Ids.{ids_in}
+
+-- ---- no words
+
+-- they ask for the rows of the table at this path
+abbrev pub AsksForRows : List ℕ → Request → Type 0
+AsksForRows path (requests.Rows table_path) = table_path.now ≡ path
+AsksForRows path _ = ⊥
+
+-- ---- what the arguments of a command have
+
+-- the word of an argument that takes one; it is required, so there is one
+abbrev pub word_at : List ℕ → List Row → List ℕ
+word_at name rows = unwrap_or (first_of name rows) []
+
+-- the words of an argument that takes several
+abbrev pub words_at : List ℕ → List Row → List (List ℕ)
+words_at name rows = unwrap_or (all_of name rows) []
+
+-- the number of nodes that a word spells, where it does and there may be so many; or that of a word that is left out
+abbrev pub IsNodeLimit : Option (List ℕ) → ℕ → Type 0
+IsNodeLimit None limit = limit ≡ nodes_if_left_out
+IsNodeLimit (Some word) limit =
+    let digits = without_leading_plus word in
+    IsNumeral 10 digits → 1 ≤ digits_value 10 digits → digits_value 10 digits ≤ most_nodes → limit ≡ digits_value 10 digits
+
+-- ---- what a command asks for
+
+-- The command of a name. The command line has no other name than these.
+abbrev pub command_of : List ℕ → Command
+command_of name =
+    if bytes_eq name (codes "rows") then Rows
+    else if bytes_eq name (codes "dump") then Dump
+    else if bytes_eq name (codes "query") then OfDevice Query
+    else if bytes_eq name (codes "explain") then OfDevice Explain
+    else if bytes_eq name (codes "bag") then OfDevice Bag
+    else if bytes_eq name (codes "attr") then OfDevice Attr
+    else if bytes_eq name (codes "make") then OfBox Make
+    else OfBox Check
+
+-- The ids that the words of a command spell, from left to right, or the first of these words that spells none.
+abbrev pub ids_asked : DeviceCommand → List Row → Result (List ResId) (List ℕ)
+ids_asked Query rows = ids_in (words_at (codes "ID") rows)
+ids_asked Explain rows = ids_in (word_at (codes "ID") rows ∷ [])
+ids_asked Bag rows = ids_in (word_at (codes "ID") rows ∷ [])
+ids_asked Attr rows = ids_in (word_at (codes "ATTR") rows ∷ words_at (codes "STYLE") rows)
+
+abbrev pub ids_of : Command → List Row → Result (List ResId) (List ℕ)
+ids_of Rows rows = Ok []
+ids_of Dump rows = Ok []
+ids_of (OfDevice command) rows = ids_asked command rows
+ids_of (OfBox command) rows = ids_in (words_at (codes "ID") rows)
+
+-- Words were read that are to spell ids: what was read is right for these ids, or the first word that is no id is told.
+-- Where memory ran out, nothing is said.
+abbrev pub ReadsAlong : {X : Type 0} → Result (List ResId) (List ℕ) → (List ResId → X → Type 0) → Result X WordsFault → Type 0
+ReadsAlong meant IsRight (Ok x) = (ids : List ResId) × (meant ≡ Ok ids) × IsRight ids x
+ReadsAlong meant IsRight (Err (faults.BadId word)) = meant ≡ Err word.now
+ReadsAlong meant IsRight (Err faults.OutOfMemory) = Unit {0}
+ReadsAlong meant IsRight (Err fault) = ⊥
+
+-- styles are applied with force, unless `--keep` is given
+abbrev pub IsForced : List Row → Bool → Type 0
+IsForced rows true = one_of (codes "keep") rows ≢ Some (codes "true")
+IsForced rows false = one_of (codes "keep") rows ≡ Some (codes "true")
+
+-- what a command asks of a device whose words spell these ids
+abbrev pub IsDeviceRequestOf : DeviceCommand → List Row → List ResId → DeviceRequest → Type 0
+IsDeviceRequestOf Query rows spelled (of_device.Query ids) = spelled ≡ ids.items
+IsDeviceRequestOf Explain rows spelled (of_device.Explain id) = spelled ≡ id ∷ []
+IsDeviceRequestOf Bag rows spelled (of_device.Bag id) = spelled ≡ id ∷ []
+IsDeviceRequestOf Attr rows spelled (of_device.Attr attr styles force) = (spelled ≡ attr ∷ styles.items) × IsForced rows force
+IsDeviceRequestOf _ rows spelled _ = ⊥
+
+-- what a command asks of a box whose words spell these ids
+abbrev pub IsBoxRequestOf : BoxCommand → List Row → List ResId → BoxRequest → Type 0
+IsBoxRequestOf Make rows spelled (of_box.Make max_nodes ids) = (spelled ≡ ids.items) × IsNodeLimit (one_of (codes "max-nodes") rows) max_nodes
+IsBoxRequestOf Check rows spelled (of_box.Check certificate_path ids) = (spelled ≡ ids.items) × (certificate_path.now ≡ word_at (codes "CERT") rows)
+IsBoxRequestOf _ rows spelled _ = ⊥
+
+-- what a command asks for whose words spell these ids
+abbrev pub IsRequestOf : Command → List Row → List ResId → Request → Type 0
+IsRequestOf Rows rows spelled (requests.Rows table_path) = table_path.now ≡ word_at (codes "TABLE") rows
+IsRequestOf Dump rows spelled (requests.Dump table_path) = table_path.now ≡ word_at (codes "TABLE") rows
+IsRequestOf (OfDevice command) rows spelled (requests.OfDevice layers_path device_path request) =
+    (layers_path.now ≡ word_at (codes "LAYERS") rows) × (device_path.now ≡ word_at (codes "DEVICE") rows) × IsDeviceRequestOf command rows spelled request
+IsRequestOf (OfBox command) rows spelled (requests.OfBox layers_path box_path request) =
+    (layers_path.now ≡ word_at (codes "LAYERS") rows) × (box_path.now ≡ word_at (codes "BOX") rows) × IsBoxRequestOf command rows spelled request
+IsRequestOf _ rows spelled _ = ⊥
+
+-- a command was read, whose arguments have these rows
+abbrev pub ReadsCommand : Command → List Row → Result Request WordsFault → Type 0
+ReadsCommand command rows = ReadsAlong (ids_of command rows) (IsRequestOf command rows)
+
+-- Words were read, of which the first is the program's name: a fault of the command line comes first, and else it is the
+-- command that they name.
+abbrev pub ReadsWords : List (List ℕ) → Result Request WordsFault → Type 0
+ReadsWords words (Err (faults.CommandLine error)) = IsAmong (kind_of error) (fault_of command_line words)
+ReadsWords words (Err faults.OutOfMemory) = Unit {0}
+ReadsWords words result =
+    (fault_of command_line words ≡ [])
+    × ((name : List ℕ) × (rows : List Row) × (subcommand_of command_line words ≡ Some (name, rows)) × ReadsCommand (command_of name) rows result)
+
+-- The same, where there may be no words behind the program's name: they ask for the rows of the standard input.
+abbrev pub AsksFor : List (List ℕ) → Result Request WordsFault → Type 0
+AsksFor (name ∷ word ∷ words) result = ReadsWords (name ∷ word ∷ words) result
+AsksFor _ result = IsOkAnd result (AsksForRows (codes "-"))

@@ -1,0 +1,50 @@
+//! The commands, by their names.
+
+use crate::command_line::{ATTR, BAG, DUMP, EXPLAIN, MAKE, QUERY, ROWS};
+
+/// What a name on the command line stands for.
+#[derive(Clone, Copy)]
+pub(crate) enum Command {
+    Rows,
+    Dump,
+    OfDevice(DeviceCommand),
+    OfBox(BoxCommand),
+}
+
+/// A command for a device.
+#[derive(Clone, Copy)]
+pub(crate) enum DeviceCommand {
+    Query,
+    Explain,
+    Bag,
+    Attr,
+}
+
+/// A command for all devices of a box.
+#[derive(Clone, Copy)]
+pub(crate) enum BoxCommand {
+    Make,
+    Check,
+}
+
+impl Command {
+    ghost use Rattle.std.specs.Prelude.{◌≡◌};
+    ghost use Rattle.command_words.specs.Request.{command_of};
+
+    /// The command of a name that the command line has.
+    pub(crate) fn of_name(name: &str) -> Command
+        ensures { result ≡ command_of name.now }
+    {
+        match name {
+            ROWS => Command::Rows,
+            DUMP => Command::Dump,
+            QUERY => Command::OfDevice(DeviceCommand::Query),
+            EXPLAIN => Command::OfDevice(DeviceCommand::Explain),
+            BAG => Command::OfDevice(DeviceCommand::Bag),
+            ATTR => Command::OfDevice(DeviceCommand::Attr),
+            MAKE => Command::OfBox(BoxCommand::Make),
+            // CHECK, since there is no other command.
+            _ => Command::OfBox(BoxCommand::Check),
+        }
+    }
+}

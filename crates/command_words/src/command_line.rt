@@ -1,0 +1,282 @@
+//! The command line that is understood: its commands, their arguments, and the texts of their helps.
+
+ghost use Rattle.std.specs.Prelude.{◌≡◌, false, IfOk, IfErr};
+ghost use Rattle.clap.specs.Words.{app_of, kind_of, rule_of};
+ghost use Rattle.clap.specs.Simple.{shape_of, with_subcommand};
+ghost use Rattle.command_words.specs.CommandLine.{command_line};
+ghost use Rattle.command_words.specs.ArgumentsSeen.{IsLocal, rule_seen, command_seen, with_arguments, with_commands};
+
+use clap::error::ErrorKind;
+use clap::{Arg, ArgAction, Command, value_parser};
+use std::alloc::Global;
+
+/// What `--version` prints behind the program's name: its version, and the line of `rt version` that
+/// it was proved with.
+const VERSION: &str = "0.1.0, proved with rattle-kit-13b logic dac8208d650f15bf";
+
+const ABOUT: &str = "Reads Android's compiled resource tables (resources.arsc)";
+
+const AFTER_HELP: &str = "\
+With no arguments, restool prints the rows of the table on standard input.
+
+Exit status:
+  0  done
+  1  something you asked for does not exist, or has too many references or parents,
+     or a certificate is rejected or cannot be made
+  2  bad command line, or an argument that is not a resource id
+  3  an input was rejected
+  4  out of memory
+  5  a file could not be read, the output could not be written, or an input is
+     larger than 268,435,456 bytes";
+
+pub(crate) const ROWS: &str = "rows";
+
+pub(crate) const DUMP: &str = "dump";
+
+pub(crate) const QUERY: &str = "query";
+
+pub(crate) const EXPLAIN: &str = "explain";
+
+pub(crate) const BAG: &str = "bag";
+
+pub(crate) const ATTR: &str = "attr";
+
+pub(crate) const MAKE: &str = "make";
+
+pub(crate) const CHECK: &str = "check";
+
+/// How a command is written: its name, and the arguments behind it.
+struct Usage {
+    name: &'static str,
+    about: &'static str,
+    arguments: &'static [Argument],
+}
+
+const USAGES: &[Usage] = &[
+    Usage {
+        name: ROWS,
+        about: "Prints the rows of a table, in the order of the file",
+        arguments: &[TABLE],
+    },
+    Usage {
+        name: DUMP,
+        about: "Prints the packages of a table, and its rows with their names and strings",
+        arguments: &[TABLE],
+    },
+    Usage {
+        name: QUERY,
+        about: "Prints the value that a device loads for each id",
+        arguments: &[LAYERS, DEVICE, IDS],
+    },
+    Usage {
+        name: EXPLAIN,
+        about: "Prints each candidate for an id, and the rule by which it won or lost",
+        arguments: &[LAYERS, DEVICE, ID],
+    },
+    Usage {
+        name: BAG,
+        about: "Prints the rows of a style, an array or plurals, with those that it inherits",
+        arguments: &[LAYERS, DEVICE, BAG_ID],
+    },
+    Usage {
+        name: ATTR,
+        about: "Prints an attribute's value in the theme that those styles build",
+        arguments: &[KEEP, LAYERS, DEVICE, ATTRIBUTE, STYLES],
+    },
+    Usage {
+        name: MAKE,
+        about: "Prints a certificate for every device of a box, a device without a value, or node limit",
+        arguments: &[MAX_NODES, LAYERS, BOX, IDS],
+    },
+    Usage {
+        name: CHECK,
+        about: "Checks whether a certificate is true for every device of a box",
+        arguments: &[LAYERS, BOX, CERTIFICATE, IDS],
+    },
+];
+
+/// An argument of a command.
+#[derive(Clone, Copy)]
+pub(crate) struct Argument {
+    pub(crate) name: &'static str,
+    takes: Takes,
+    help: &'static str,
+}
+
+/// What an argument takes.
+#[derive(Clone, Copy)]
+enum Takes {
+    OneWord,
+    Words,
+    /// Nothing: it is a flag.
+    Nothing,
+    /// A number of nodes, behind the argument's name.
+    Nodes,
+}
+
+/// How many nodes may be asked for at most.
+pub(crate) const MOST_NODES: u32 = 1_000_000;
+
+/// How many nodes a certificate may have where the words name no number. The help says it too.
+pub(crate) const NODES_IF_LEFT_OUT: u32 = 100_000;
+
+pub(crate) const TABLE: Argument = Argument {
+    name: "TABLE",
+    takes: Takes::OneWord,
+    help: "Path of the resources.arsc, or - for standard input",
+};
+
+pub(crate) const LAYERS: Argument = Argument {
+    name: "LAYERS",
+    takes: Takes::OneWord,
+    help: "Path of the JSON list of layers",
+};
+
+pub(crate) const DEVICE: Argument = Argument {
+    name: "DEVICE",
+    takes: Takes::OneWord,
+    help: "Path of the JSON object with the device's qualifiers",
+};
+
+pub(crate) const BOX: Argument = Argument {
+    name: "BOX",
+    takes: Takes::OneWord,
+    help: "Path of the JSON object with the devices' qualifiers, each a list or a range",
+};
+
+pub(crate) const CERTIFICATE: Argument = Argument {
+    name: "CERT",
+    takes: Takes::OneWord,
+    help: "Path of the JSON certificate",
+};
+
+pub(crate) const ID: Argument = Argument {
+    name: "ID",
+    takes: Takes::OneWord,
+    help: "Resource id, such as 0x7f010000",
+};
+
+pub(crate) const IDS: Argument = Argument {
+    name: "ID",
+    takes: Takes::Words,
+    help: "Resource id, such as 0x7f010000",
+};
+
+pub(crate) const BAG_ID: Argument = Argument {
+    name: "ID",
+    takes: Takes::OneWord,
+    help: "Resource id of the bag, such as 0x7f010000",
+};
+
+pub(crate) const ATTRIBUTE: Argument = Argument {
+    name: "ATTR",
+    takes: Takes::OneWord,
+    help: "Resource id of the attribute, such as 0x01010000",
+};
+
+pub(crate) const STYLES: Argument = Argument {
+    name: "STYLE",
+    takes: Takes::Words,
+    help: "Resource id of a style, such as 0x7f010000",
+};
+
+pub(crate) const KEEP: Argument = Argument {
+    name: "keep",
+    takes: Takes::Nothing,
+    help: "Keep what an earlier style has set, as applyStyle(style, false) does",
+};
+
+pub(crate) const MAX_NODES: Argument = Argument {
+    name: "max-nodes",
+    takes: Takes::Nodes,
+    help: "Node limit of all trees together, 1 to 1000000 [default: 100000]",
+};
+
+/// The command line, for a parse.
+#[tactic(auto, unfolding(crate::specs::CommandLine::command_line))]
+pub(crate) fn command_line<'a>(alloc: Global) -> Result<Command<'a>, clap::Error>
+    ensures app { IfOk result (λ program. app_of program ≡ command_line) }
+    ensures local { IfOk result IsLocal }
+    ensures memory { IfErr result (λ error. kind_of error ≡ ErrorKind.OutOfMemory) }
+{
+    let program = Command::new(alloc, "restool")
+        .about(ABOUT)
+        .version(VERSION)
+        .after_help(AFTER_HELP)
+        .subcommand_required(true);
+    with_commands(alloc, program, USAGES)
+}
+
+fn with_commands<'a>(
+    alloc: Global,
+    program: Command<'a>,
+    usages: &[Usage],
+) -> Result<Command<'a>, clap::Error>
+    requires { IsLocal program }
+    ensures app { IfOk result (λ whole. app_of whole ≡ with_commands (app_of program.entry) usages.now) }
+    ensures local { IfOk result IsLocal }
+    ensures memory { IfErr result (λ error. kind_of error ≡ ErrorKind.OutOfMemory) }
+{
+    let mut program = program;
+    for usage in usages {
+        let built = built_command(alloc, usage)?;
+        program = with_subcommand(program, built)?;
+    }
+    Ok(program)
+}
+
+fn with_subcommand<'a>(
+    program: Command<'a>,
+    subcommand: Command<'a>,
+) -> Result<Command<'a>, clap::Error>
+    requires program { IsLocal program }
+    requires subcommand { IsLocal subcommand }
+    ensures app { IfOk result (λ whole. app_of whole ≡ with_subcommand (app_of program.entry) (shape_of subcommand.entry)) }
+    ensures local { IfOk result IsLocal }
+    ensures memory { IfErr result (λ error. kind_of error ≡ ErrorKind.OutOfMemory) }
+{
+    let program = program.subcommand(subcommand)?;
+    Ok(program)
+}
+
+fn built_command<'a>(alloc: Global, usage: &Usage) -> Result<Command<'a>, clap::Error>
+    ensures shape { IfOk result (λ command. shape_of command ≡ command_seen usage.now) }
+    ensures local { IfOk result IsLocal }
+    ensures memory { IfErr result (λ error. kind_of error ≡ ErrorKind.OutOfMemory) }
+{
+    let command = Command::new(alloc, usage.name).about(usage.about);
+    with_arguments(alloc, command, usage.arguments)
+}
+
+fn with_arguments<'a>(
+    alloc: Global,
+    command: Command<'a>,
+    arguments: &[Argument],
+) -> Result<Command<'a>, clap::Error>
+    requires { IsLocal command }
+    ensures app { IfOk result (λ whole. app_of whole ≡ with_arguments (app_of command.entry) arguments.now) }
+    ensures local { IfOk result IsLocal }
+    ensures memory { IfErr result (λ error. kind_of error ≡ ErrorKind.OutOfMemory) }
+{
+    let mut command = command;
+    for argument in arguments {
+        command = command.arg(built_argument(alloc, argument))?;
+    }
+    Ok(command)
+}
+
+fn built_argument<'a>(alloc: Global, argument: &Argument) -> Arg<'a>
+    ensures rule { rule_of result ≡ rule_seen argument.now }
+    ensures local { result.global ≡ false }
+{
+    let arg = Arg::new(alloc, argument.name).help(argument.help);
+    match argument.takes {
+        Takes::OneWord => arg.required(true).action(ArgAction::Set),
+        Takes::Words => arg.required(true).num_args(1..).action(ArgAction::Append),
+        Takes::Nothing => arg.long(argument.name).action(ArgAction::SetTrue),
+        Takes::Nodes => {
+            let number = value_parser!(u32).range(1..=i64::from(MOST_NODES));
+            arg.long(argument.name).value_name("N").value_parser(number)
+        }
+    }
+}

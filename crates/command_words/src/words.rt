@@ -1,0 +1,159 @@
+//! The words of the command line.
+
+ghost use Rattle.std.specs.Prelude.{◌≡◌, ◌≢◌, true, map, IfOk, IfErr, string_bytes};
+ghost use Rattle.std.specs.IoError.{error_kind};
+ghost use Rattle.clap.specs.Words.{FailsBy, fault_of, has_subcommand, rows_of, found_of, subcommand_of, subcommand_rows_of};
+ghost use Rattle.command_words.specs.CommandLine.{command_line};
+ghost use Rattle.command_words.specs.Request.{AsksFor, IsBoxRequestOf, IsDeviceRequestOf, ReadsAlong, ReadsCommand, ReadsWords, ids_asked, ids_of};
+ghost use Rattle.command_words.specs.WordsFault.{IsOfReading};
+
+use crate::arguments::{given_flag, given_id, given_ids, given_nodes, given_word};
+use crate::command::{BoxCommand, Command, DeviceCommand};
+use crate::command_line::{
+    ATTRIBUTE, BAG_ID, BOX, CERTIFICATE, DEVICE, ID, IDS, KEEP, LAYERS, STYLES, TABLE, command_line,
+};
+use crate::request::{BoxRequest, DeviceRequest, Request};
+use crate::words_fault::WordsFault;
+use clap::ArgMatches;
+use std::alloc::Global;
+use std::env;
+use std::io::{self, ErrorKind};
+use std::rt::Env;
+
+/// The path that means the standard input where a table is read.
+pub const STANDARD_INPUT: &str = "-";
+
+/// The words that the program was started with. The first is its name.
+pub fn program_words<R: Env + AllocGlobal>(rt: &R) -> Result<Vec<String>, WordsFault<'static>>
+    ensures { IfErr result IsOfReading }
+{
+    match env::args(rt) {
+        Ok(words) => Ok(words.collect(rt.alloc())?),
+        Err(error) => Err(fault_of_reading(&error)),
+    }
+}
+
+// Words that are not read are not UTF-8, unless memory ran out.
+fn fault_of_reading(error: &io::Error) -> WordsFault<'static>
+    ensures memory { error_kind error.now ≡ ErrorKind.OutOfMemory → result ≡ WordsFault.OutOfMemory }
+    ensures other { error_kind error.now ≢ ErrorKind.OutOfMemory → result ≡ WordsFault.NotText }
+{
+    if error.kind() == ErrorKind::OutOfMemory {
+        WordsFault::OutOfMemory
+    } else {
+        WordsFault::NotText
+    }
+}
+
+/// What the words ask for; the first word is the program's name.
+pub fn read_words<'a>(alloc: Global, words: &'a [String]) -> Result<Request<'a>, WordsFault<'a>>
+    ensures { AsksFor (map string_bytes words.entry.now) result }
+{
+    if words.len() <= 1 {
+        return Ok(Request::Rows {
+            table_path: STANDARD_INPUT,
+        });
+    }
+    read_command(alloc, words)
+}
+
+fn read_command<'a>(alloc: Global, words: &'a [String]) -> Result<Request<'a>, WordsFault<'a>>
+    ensures { ReadsWords (map string_bytes words.entry.now) result }
+{
+    let matches = matches_of(alloc, words)?;
+    match matches.subcommand() {
+        Some((name, given)) => request_of(alloc, Command::of_name(name), given),
+        None => unreachable!(),
+    }
+}
+
+// What the command line makes of words. It has to have a command.
+fn matches_of<'a>(alloc: Global, words: &'a [String]) -> Result<ArgMatches<'a>, clap::Error>
+    ensures kinds { FailsBy (fault_of command_line (map string_bytes words.entry.now)) result }
+    ensures command { IfOk result (λ matches. subcommand_rows_of matches ≡ subcommand_of command_line (map string_bytes words.entry.now)) }
+    ensures required { IfOk result (λ matches. has_subcommand matches ≡ true) }
+{
+    let program = command_line(alloc)?;
+    program.try_get_matches_from(words)
+}
+
+// What a command asks for that has these arguments.
+fn request_of<'a>(
+    alloc: Global,
+    command: Command,
+    given: &ArgMatches<'a>,
+) -> Result<Request<'a>, WordsFault<'a>>
+    ensures { ReadsCommand command (rows_of (found_of given.now)) result }
+{
+    match command {
+        Command::Rows => Ok(Request::Rows {
+            table_path: given_word(given, &TABLE),
+        }),
+        Command::Dump => Ok(Request::Dump {
+            table_path: given_word(given, &TABLE),
+        }),
+        Command::OfDevice(command) => {
+            let request = device_request_of(alloc, command, given)?;
+            Ok(Request::OfDevice {
+                layers_path: given_word(given, &LAYERS),
+                device_path: given_word(given, &DEVICE),
+                request,
+            })
+        }
+        Command::OfBox(command) => {
+            let request = box_request_of(alloc, command, given)?;
+            Ok(Request::OfBox {
+                layers_path: given_word(given, &LAYERS),
+                box_path: given_word(given, &BOX),
+                request,
+            })
+        }
+    }
+}
+
+#[tactic(auto, unfolding(json_input::specs::Each::each))]
+fn device_request_of<'a>(
+    alloc: Global,
+    command: DeviceCommand,
+    given: &ArgMatches<'a>,
+) -> Result<DeviceRequest, WordsFault<'a>>
+    ensures { ReadsAlong (ids_asked command (rows_of (found_of given.now)))
+        (IsDeviceRequestOf command (rows_of (found_of given.now))) result }
+{
+    match command {
+        DeviceCommand::Query => Ok(DeviceRequest::Query {
+            ids: given_ids(alloc, given, &IDS)?,
+        }),
+        DeviceCommand::Explain => Ok(DeviceRequest::Explain {
+            id: given_id(given, &ID)?,
+        }),
+        DeviceCommand::Bag => Ok(DeviceRequest::Bag {
+            id: given_id(given, &BAG_ID)?,
+        }),
+        DeviceCommand::Attr => Ok(DeviceRequest::Attr {
+            attr: given_id(given, &ATTRIBUTE)?,
+            styles: given_ids(alloc, given, &STYLES)?,
+            force: !given_flag(given, &KEEP),
+        }),
+    }
+}
+
+fn box_request_of<'a>(
+    alloc: Global,
+    command: BoxCommand,
+    given: &ArgMatches<'a>,
+) -> Result<BoxRequest<'a>, WordsFault<'a>>
+    ensures { ReadsAlong (ids_of (Command.OfBox command) (rows_of (found_of given.now)))
+        (IsBoxRequestOf command (rows_of (found_of given.now))) result }
+{
+    match command {
+        BoxCommand::Make => Ok(BoxRequest::Make {
+            max_nodes: given_nodes(given),
+            ids: given_ids(alloc, given, &IDS)?,
+        }),
+        BoxCommand::Check => Ok(BoxRequest::Check {
+            certificate_path: given_word(given, &CERTIFICATE),
+            ids: given_ids(alloc, given, &IDS)?,
+        }),
+    }
+}

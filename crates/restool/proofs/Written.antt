@@ -1,0 +1,203 @@
+-- What a command did with a writer that keeps bytes back, as what the writer behind it got.
+use Rattle.std.proofs.Common.{◌≡◌, ◌≢◌, ◌⊎◌, ℕ, List, [], ◌++◌, Option, Some, None, Result, Ok, Err, refl, sym, ap, subst, ◌∙◌, inl, inr}
+use Rattle.std.specs.Prelude.{IsOk, IfOk, IfErr, IfSome, OnOk}
+use Rattle.std.proofs.lemmas.List.{append-nil}
+use Rattle.std.specs.Io.Buffered.{writer_buffer, writer_contents, writer_inner}
+use Rattle.std.specs.Io.KnownBytes.{Appends, Keeps, append_known}
+use Rattle.std.specs.declared.alloc.Global.{Global}
+use Rattle.std.specs.declared.io.buffered.BufWriter.{BufWriter}
+use Rattle.resource_text.specs.declared.fault.ToolFault.{ToolFault}
+use Rattle.resource_text.specs.declared.fault.ToolFault.TheVariants.{Table, Layers, LayerTable, LayerMap, Device, Box, Certificate, OutOfMemory, Write}
+use Rattle.resource_tool.specs.declared.status.Status.{Status}
+use Rattle.resource_tool.specs.Output.{Output, Prints, PrintsOneOf}
+use Rattle.resource_tool.specs.TableOutput.{rows_output, dump_output}
+use Rattle.resource_tool.specs.QueryOutput.{query_output}
+use Rattle.resource_tool.specs.ExplainOutput.{explain_output}
+use Rattle.resource_tool.specs.BagOutput.{bag_output}
+use Rattle.resource_tool.specs.AttrOutput.{attr_output}
+use Rattle.resource_tool.specs.MakeOutput.{IsMakeOutput, make_inputs}
+use Rattle.resource_tool.specs.CheckOutput as check
+use Rattle.command_words.specs.declared.request.Request.{Request}
+use Rattle.command_words.specs.declared.request.Request.TheVariants.{Rows, Dump, OfDevice, OfBox}
+use Rattle.command_words.specs.declared.request.DeviceRequest.TheVariants.{Query, Explain, Bag, Attr}
+use Rattle.command_words.specs.declared.request.BoxRequest.TheVariants.{Make, Check}
+use Rattle.restool.specs.declared.stop.Stop.{Stop}
+use Rattle.restool.specs.Stop.{StopOf, stop_of, tool}
+use Rattle.restool.specs.Inputs.{Places, InputsWith, CheckInputs, table_of, layers_with, check_files}
+use Rattle.restool.specs.Answers.{Answers, CarriesOut}
+
+-- Nothing is kept back before an answer. What was appended is not kept back any more, so it came to the writer behind.
+appends-through : (before middle after : Option (List ℕ)) (text : List ℕ) → Appends (append_known before []) middle text → Keeps middle after → Appends before after text
+appends-through None middle after text grown kept = tt
+appends-through (Some xs) None after text grown kept = absurd grown
+appends-through (Some xs) (Some ys) None text grown kept = absurd kept
+appends-through (Some xs) (Some ys) (Some zs) text grown kept = kept ∙ grown ∙ ap (λ (l : List ℕ). l ++ text) (append-nil xs)
+
+-- ---- a command that is carried out, and another that does what the first does
+
+carries-done : {X : Type 0} (C D : X → Result Status ToolFault → Type 0) (meant : Result X StopOf) (status : Status)
+    → ((read : X) → C read (Ok status) → D read (Ok status)) → CarriesOut C meant (Ok status) → CarriesOut D meant (Ok status)
+carries-done C D meant status over p = (p.0, p.1, over p.0 p.2)
+
+carries-stop : {X : Type 0} (C D : X → Result Status ToolFault → Type 0) (meant : Result X StopOf) (stop : Stop)
+    → ((read : X) (fault : ToolFault) → C read (Err fault) → D read (Err fault)) → CarriesOut C meant (Err stop) → CarriesOut D meant (Err stop)
+carries-stop C D meant stop over p = λ told. elim (p told) [
+  | inl is ↦ inl is
+  | inr q ↦ inr (q.0, q.1, q.2, q.3, over q.0 q.1 q.4)
+]
+
+carries-failed : {X : Type 0} (C D : X → Result Status ToolFault → Type 0) (meant : Result X StopOf) (status : Status) (stop : Stop)
+    → stop_of stop ≡ tool Write → ((read : X) → C read (Ok status) → D read (Err Write)) → CarriesOut C meant (Ok status) → CarriesOut D meant (Err stop)
+carries-failed C D meant status stop failed over p = λ told. inr (p.0, Write, p.1, failed, over p.0 p.2)
+
+-- ---- an answer, over one writer and over another
+
+module _ {W V : Type 0} (c : W → Option (List ℕ)) (d : V → Option (List ℕ)) (old new : W) (before after : V) where
+  -- what was appended to the one was appended to the other
+  abbrev pub Passes : Type 0
+  Passes = (text : List ℕ) → Appends (c old) (c new) text → Appends (d before) (d after) text
+
+  -- where the one is as it was, so is the other
+  abbrev pub Stays : Type 0
+  Stays = new ≡ old → after ≡ before
+
+  -- a command over the one writer, and over the other
+
+  abbrev pub Before : {X : Type 0} → (X → Result Output ToolFault) → X → Result Status ToolFault → Type 0
+  Before F read result = Prints c old new result (F read)
+
+  abbrev pub Behind : {X : Type 0} → (X → Result Output ToolFault) → X → Result Status ToolFault → Type 0
+  Behind F read result = Prints d before after result (F read)
+
+  abbrev pub BeforeOneOf : {X Y : Type 0} → (Y → Output → Type 0) → (X → Result Y ToolFault) → X → Result Status ToolFault → Type 0
+  BeforeOneOf Allows F read result = PrintsOneOf Allows c old new result (F read)
+
+  abbrev pub BehindOneOf : {X Y : Type 0} → (Y → Output → Type 0) → (X → Result Y ToolFault) → X → Result Status ToolFault → Type 0
+  BehindOneOf Allows F read result = PrintsOneOf Allows d before after result (F read)
+
+  prints-done : (status : Status) (meant : Result Output ToolFault) → Passes → Prints c old new (Ok status) meant → Prints d before after (Ok status) meant
+  prints-done status meant passes p = (p.0, p.1, passes p.0 p.2)
+
+  prints_one_of-done : {X : Type 0} (Allows : X → Output → Type 0) (status : Status) (meant : Result X ToolFault) → Passes
+      → PrintsOneOf Allows c old new (Ok status) meant → PrintsOneOf Allows d before after (Ok status) meant
+  prints_one_of-done Allows status meant passes p = (p.0, p.1, p.2, p.3, passes p.1 p.4)
+
+  prints-fault : (fault : ToolFault) (meant : Result Output ToolFault) → Stays → Prints c old new (Err fault) meant → Prints d before after (Err fault) meant
+  prints-fault (Table f) meant stays p = (p.0, stays p.1)
+  prints-fault (Layers f) meant stays p = (p.0, stays p.1)
+  prints-fault (LayerTable n f) meant stays p = (p.0, stays p.1)
+  prints-fault (LayerMap n f) meant stays p = (p.0, stays p.1)
+  prints-fault (Device f) meant stays p = (p.0, stays p.1)
+  prints-fault (Box f) meant stays p = (p.0, stays p.1)
+  prints-fault (Certificate f) meant stays p = (p.0, stays p.1)
+  prints-fault OutOfMemory meant stays p = stays p
+  prints-fault Write meant stays p = p
+
+  prints_one_of-fault : {X : Type 0} (Allows : X → Output → Type 0) (fault : ToolFault) (meant : Result X ToolFault) → Stays
+      → PrintsOneOf Allows c old new (Err fault) meant → PrintsOneOf Allows d before after (Err fault) meant
+  prints_one_of-fault Allows (Table f) meant stays p = (p.0, stays p.1)
+  prints_one_of-fault Allows (Layers f) meant stays p = (p.0, stays p.1)
+  prints_one_of-fault Allows (LayerTable n f) meant stays p = (p.0, stays p.1)
+  prints_one_of-fault Allows (LayerMap n f) meant stays p = (p.0, stays p.1)
+  prints_one_of-fault Allows (Device f) meant stays p = (p.0, stays p.1)
+  prints_one_of-fault Allows (Box f) meant stays p = (p.0, stays p.1)
+  prints_one_of-fault Allows (Certificate f) meant stays p = (p.0, stays p.1)
+  prints_one_of-fault Allows OutOfMemory meant stays p = stays p
+  prints_one_of-fault Allows Write meant stays p = p
+
+  -- an answer is one over the other writer too, where each command is
+  answers-over : (from to : Result Status Stop)
+      → ((X : Type 0) (F : X → Result Output ToolFault) (meant : Result X StopOf)
+      → CarriesOut (Before F) meant from → CarriesOut (Behind F) meant to)
+      → ((X Y : Type 0) (Allows : Y → Output → Type 0) (F : X → Result Y ToolFault) (meant : Result X StopOf)
+      → CarriesOut (BeforeOneOf Allows F) meant from → CarriesOut (BehindOneOf Allows F) meant to)
+      → (places : Places) (request : Request) → Answers c old new places request from → Answers d before after places request to
+  answers-over from to carry carry_one places (Rows path) p = carry _ rows_output (table_of places path.now) p
+  answers-over from to carry carry_one places (Dump path) p = carry _ dump_output (table_of places path.now) p
+  answers-over from to carry carry_one places (OfDevice layers device (Query ids)) p =
+      carry _ (λ (inputs : InputsWith). query_output inputs.layers inputs.other ids.items) (layers_with places layers.now device.now) p
+  answers-over from to carry carry_one places (OfDevice layers device (Explain id)) p =
+      carry _ (λ (inputs : InputsWith). explain_output inputs.layers inputs.other id.0) (layers_with places layers.now device.now) p
+  answers-over from to carry carry_one places (OfDevice layers device (Bag id)) p =
+      carry _ (λ (inputs : InputsWith). bag_output inputs.layers inputs.other id.0) (layers_with places layers.now device.now) p
+  answers-over from to carry carry_one places (OfDevice layers device (Attr attr styles force)) p =
+      carry _ (λ (inputs : InputsWith). attr_output inputs.layers inputs.other attr.0 styles.items force) (layers_with places layers.now device.now) p
+  answers-over from to carry carry_one places (OfBox layers box_path (Make max_nodes ids)) p =
+      carry_one _ _ (IsMakeOutput ids.items max_nodes) (λ (inputs : InputsWith). make_inputs inputs.layers inputs.other) (layers_with places layers.now box_path.now) p
+  answers-over from to carry carry_one places (OfBox layers box_path (Check certificate ids)) p =
+      carry_one _ _ (check.IsCheckOutput ids.items) (λ (inputs : CheckInputs). check.check_inputs inputs.inputs.layers inputs.inputs.other inputs.certificate)
+      (check_files places layers.now box_path.now certificate.now) p
+
+  answers-done : (status : Status) → Passes → (places : Places) (request : Request)
+      → Answers c old new places request (Ok status) → Answers d before after places request (Ok status)
+  answers-done status passes = answers-over (Ok status) (Ok status)
+      (λ X F meant p. carries-done (Before F) (Behind F) meant status (λ read q. prints-done status (F read) passes q) p)
+      (λ X Y Allows F meant p. carries-done (BeforeOneOf Allows F) (BehindOneOf Allows F) meant status (λ read q. prints_one_of-done Allows status (F read) passes q) p)
+
+  answers-stop : (stop : Stop) → Stays → (places : Places) (request : Request)
+      → Answers c old new places request (Err stop) → Answers d before after places request (Err stop)
+  answers-stop stop stays = answers-over (Err stop) (Err stop)
+      (λ X F meant p. carries-stop (Before F) (Behind F) meant stop (λ read fault q. prints-fault fault (F read) stays q) p)
+      (λ X Y Allows F meant p. carries-stop (BeforeOneOf Allows F) (BehindOneOf Allows F) meant stop (λ read fault q. prints_one_of-fault Allows fault (F read) stays q) p)
+
+  answers-failed : (status : Status) (stop : Stop) → stop_of stop ≡ tool Write → (places : Places) (request : Request)
+      → Answers c old new places request (Ok status) → Answers d before after places request (Err stop)
+  answers-failed status stop failed = answers-over (Ok status) (Err stop)
+      (λ X F meant p. carries-failed (Before F) (Behind F) meant status stop failed (λ read q. rw q.1 refl) p)
+      (λ X Y Allows F meant p. carries-failed (BeforeOneOf Allows F) (BehindOneOf Allows F) meant status stop failed (λ read q. rw q.2 refl) p)
+
+  -- What was answered over the one writer is answered over the other, or a write failed there.
+  answers-written : (known : Option Places) (request : Request) (answered outcome : Result Status Stop)
+      → IfSome known (λ places. Answers c old new places request answered)
+      → IfOk outcome (λ status. answered ≡ Ok status) → IfErr answered (λ stop. outcome ≡ Err stop)
+      → (IsOk answered → IfErr outcome (λ stop. stop_of stop ≡ tool Write))
+      → OnOk outcome Passes → IfErr answered (λ stop. Stays)
+      → IfSome known (λ places. Answers d before after places request outcome)
+  answers-written None request answered outcome given same stop failed passes stays = tt
+  answers-written (Some places) request (Ok status) (Ok ended) given same stop failed passes stays =
+      answers-done ended passes places request (rw same at given)
+  answers-written (Some places) request (Ok status) (Err other) given same stop failed passes stays =
+      answers-failed status other (failed refl) places request given
+  answers-written (Some places) request (Err first) outcome given same stop failed passes stays =
+      rw stop (answers-stop first stays places request given)
+
+-- ---- a writer that keeps bytes back, and the one behind it
+
+-- nothing is kept back any more
+pub keeps-behind : (before behind : Option (List ℕ)) (kept_back : List ℕ) → kept_back ≡ [] → Keeps before (append_known behind kept_back) → Keeps before behind
+keeps-behind None behind kept_back none keeps = tt
+keeps-behind (Some xs) None kept_back none keeps = absurd keeps
+keeps-behind (Some xs) (Some ys) kept_back none keeps = sym (append-nil ys) ∙ ap (λ (l : List ℕ). ys ++ l) (sym none) ∙ keeps
+
+module _ {T : Type 0} (contents : T → Option (List ℕ)) (old new : BufWriter T Global) (after : T) (answered outcome : Result Status Stop)
+    (same : IfOk outcome (λ status. answered ≡ Ok status)) (stop : IfErr answered (λ stop. outcome ≡ Err stop))
+    (failed : IsOk answered → IfErr outcome (λ stop. stop_of stop ≡ tool Write)) (left : IfErr answered (λ stop. after ≡ writer_inner new)) where
+  passes-behind : (outcome : Result Status Stop) → writer_buffer old ≡ [] → OnOk outcome (Keeps (writer_contents contents new) (contents after))
+      → OnOk outcome (Passes (writer_contents contents) contents old new (writer_inner old) after)
+  passes-behind (Ok status) none whole = λ text grown.
+      appends-through (contents (writer_inner old)) (writer_contents contents new) (contents after) text
+      (subst (λ (l : List ℕ). Appends (append_known (contents (writer_inner old)) l) (writer_contents contents new) text) none grown) whole
+  passes-behind (Err stop) none whole = tt
+
+  stays-behind : (answered : Result Status Stop) → IfErr answered (λ stop. after ≡ writer_inner new) → IfErr answered (λ stop. new ≡ old → after ≡ writer_inner old)
+  stays-behind (Ok status) left = tt
+  stays-behind (Err stop) left = λ same. left ∙ ap (λ (w : BufWriter T Global). writer_inner w) same
+
+  pub answers-behind : (known : Option Places) (request : Request) → writer_buffer old ≡ []
+      → IfSome known (λ places. Answers (writer_contents contents) old new places request answered)
+      → OnOk outcome (Keeps (writer_contents contents new) (contents after))
+      → IfSome known (λ places. Answers contents (writer_inner old) after places request outcome)
+  answers-behind known request none given whole =
+      answers-written (writer_contents contents) contents old new (writer_inner old) after known request answered outcome given same stop failed
+      (passes-behind outcome none whole) (stays-behind answered left)
+
+  -- Where there is no answer and no write failed, the writer behind is as it was.
+  pub unwritten-behind : IfErr answered (λ stop. stop_of stop ≢ tool Write → new ≡ old) → IfErr outcome (λ stop. stop_of stop ≢ tool Write → after ≡ writer_inner old)
+  unwritten-behind unwritten = go answered outcome unwritten stop failed (stays-behind answered left)
+    where
+      go : (answered outcome : Result Status Stop) → IfErr answered (λ stop. stop_of stop ≢ tool Write → new ≡ old) → IfErr answered (λ stop. outcome ≡ Err stop)
+          → (IsOk answered → IfErr outcome (λ stop. stop_of stop ≡ tool Write)) → IfErr answered (λ stop. new ≡ old → after ≡ writer_inner old)
+          → IfErr outcome (λ stop. stop_of stop ≢ tool Write → after ≡ writer_inner old)
+      go (Ok status) (Ok ended) unwritten stop failed stays = tt
+      go (Ok status) (Err other) unwritten stop failed stays = λ told. absurd (told (failed refl))
+      go (Err first) outcome unwritten stop failed stays = rw stop (λ told. stays (unwritten told))
