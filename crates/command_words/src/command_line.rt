@@ -24,7 +24,7 @@ Exit status:
   1  something you asked for does not exist, or has too many references or parents,
      or a certificate is rejected or cannot be made
   2  bad command line, or an argument that is not a resource id
-  3  an input was rejected
+  3  an input was refused
   4  out of memory
   5  a file could not be read, the output could not be written, or an input is
      larger than 268,435,456 bytes";

@@ -12,7 +12,7 @@ pub enum ExitStatus {
     Negative = 1,
     /// A bad command line, or an argument that is not a resource id.
     BadCommandLine = 2,
-    /// An input was rejected.
+    /// An input was refused.
     Refused = 3,
     /// Memory ran out.
     Memory = 4,
