@@ -19,7 +19,7 @@ use std::rt::Files;
 use std::time::Clock;
 
 /// How many bytes of the output are kept back before they are written.
-const OUTPUT_BUFFER: usize = 65_536;
+const OUTPUT_BUFFER: usize = 16_384;
 
 /// Does what the words ask for; the first word is the program's name. Where errors go to a terminal, long
 /// work says there how far it is.
