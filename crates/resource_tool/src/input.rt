@@ -10,7 +10,7 @@ use std::io::{self, ErrorKind, Read};
 use thiserror::Error;
 
 /// How many bytes are asked for in one read.
-const PIECE_SIZE: usize = 65_536;
+const PIECE_SIZE: usize = 16_384;
 
 /// Why an input was not read.
 #[derive(Clone, Copy, Debug, PartialEq, Eq, Error)]

@@ -1,15 +1,16 @@
 -- Places of rows, as types are added.
-use Rattle.std.proofs.Common.{◌≡◌, ℕ, zero, suc, ◌+◌, ◌<◌, ◌≤◌, Bool, true, false, cond, List, [], ◌∷◌, ◌++◌, map, length, replicate, drop, get_or, Option, Some, slice_get, refl, sym, ap, subst, ◌∙◌, arith}
+use Rattle.std.proofs.Common.{◌≡◌, ℕ, zero, suc, ◌+◌, ◌<◌, ◌≤◌, Bool, true, false, cond, List, [], ◌∷◌, ◌++◌, append_assoc, map, length, replicate, drop, get_or, Option, Some, slice_get, refl, sym, ap, subst, ◌∙◌, arith}
 use Rattle.std.specs.Prelude.{◌==◌, ◌%◌, ◌^◌, count_by, All, if◌then◌else◌}
 use Rattle.std.proofs.lemmas.Bool.Decides.{nat_tests}
 use Rattle.std.proofs.lemmas.Grind.{flat_map-append}
-use Rattle.std.proofs.lemmas.List.{map-append, drop_more}
+use Rattle.std.proofs.lemmas.List.{append-nil, map-append, drop_more}
 use Rattle.std.proofs.lemmas.List.Elements.{All-head, All-tail, filter-append}
 use Rattle.std.proofs.lemmas.List.Sums.{sum_by-cons}
 use Rattle.type_chunks.specs.declared.checked_type.CheckedType.{CheckedType}
 use Rattle.type_chunks.specs.Row.{RowOf, with_id}
 use Rattle.type_chunks.specs.TypeRows.{row_at, rows_of_type, rows_of_types}
-use Rattle.type_chunks.proofs.TypeRowsSteps.{rows_of_types-next}
+use Rattle.type_chunks.specs.TypePlaces.{rows_of_each}
+use Rattle.type_chunks.proofs.TypeRowsSteps.{rows_of_types-next, rows_of_types-none}
 use Rattle.type_chunks.proofs.OwnSteps.{StandsInType, rows-stand}
 use Rattle.row_index.specs.declared.link.Link.{Link}
 use Rattle.row_index.specs.declared.heads.Heads.{Heads}
@@ -83,6 +84,16 @@ rows-from-number types number checked within is =
 pub rows_of_types-append : (types others : List CheckedType) → rows_of_types (types ++ others) ≡ rows_of_types types ++ rows_of_types others
 unfolding rows_of_types
 rows_of_types-append types others = flat_map-append rows_of_type types others
+
+-- the rows of the next type stand behind those so far
+pub rows-moved : (types : List CheckedType) (checked : CheckedType) (left others : List (List RowOf)) (all : List RowOf) → left ≡ rows_of_type checked ∷ others
+    → rows_of_types types ++ rows_of_each left ≡ all → rows_of_types (types ++ checked ∷ []) ++ rows_of_each others ≡ all
+rows-moved types checked left others all split so_far =
+    let one : rows_of_types (checked ∷ []) ≡ rows_of_type checked = rows_of_types-next checked [] ∙ ap (λ (rows : List RowOf). rows_of_type checked ++ rows) rows_of_types-none ∙ append-nil (rows_of_type checked) in
+    ap (λ (rows : List RowOf). rows ++ rows_of_each others) (rows_of_types-append types (checked ∷ []) ∙ ap (λ (rows : List RowOf). rows_of_types types ++ rows) one)
+    ∙ append_assoc (rows_of_types types) (rows_of_type checked) (rows_of_each others)
+    ∙ ap (λ (lists : List (List RowOf)). rows_of_types types ++ rows_of_each lists) (sym split)
+    ∙ so_far
 
 -- ---- one row more of a type
 

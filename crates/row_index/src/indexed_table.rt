@@ -1,8 +1,8 @@
 //! A table that gives the rows of an id at once.
 
-ghost use Rattle.std.specs.Prelude.{◌≡◌, ◌<◌, ◌^◌, IfOk, IfErr, length};
+ghost use Rattle.std.specs.Prelude.{◌≡◌, ◌<◌, ◌^◌, ◌++◌, OnOk, IfOk, IfErr, length};
 ghost use Rattle.type_chunks.specs.Row.{with_id};
-ghost use Rattle.type_chunks.specs.Package.{packages_of, rows_of_packages};
+ghost use Rattle.type_chunks.specs.Package.{package_of, packages_of, rows_of_packages};
 ghost use Rattle.type_chunks.specs.Table.{rows_of};
 ghost use Rattle.type_chunks.specs.TypeRows.{rows_of_types};
 ghost use Rattle.row_index.specs.Places.{ArePlacesOf};
@@ -77,8 +77,17 @@ fn types_of<'a>(alloc: Global, packages: &[Package<'a>]) -> Result<Vec<CheckedTy
 {
     let mut types = Vec::new(alloc);
     for package in packages {
-        types.reserve_exact(package.types().len())?;
-        types.extend_from_slice(package.types())?;
+        push_types(package, &mut types)?;
     }
     Ok(types)
+}
+
+// Pushes the types of a package.
+fn push_types<'a>(owner: &Package<'a>, types: &mut Vec<CheckedType<'a>>) -> Result<(), AllocError>
+    ensures { OnOk result (rows_of_types types.new.items ≡ rows_of_types types.old.items ++ (package_of owner.now).rows) }
+{
+    for checked in owner.types() {
+        types.push(checked)?;
+    }
+    Ok(())
 }

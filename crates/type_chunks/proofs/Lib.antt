@@ -5,5 +5,6 @@ pub mod RowsSteps
 pub mod EntrySteps
 pub mod EntriesSteps
 pub mod TypeRowsSteps
+pub mod PlacesSteps
 pub mod OwnSteps
 pub mod WrongSteps

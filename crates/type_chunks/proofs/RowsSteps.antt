@@ -2,9 +2,9 @@
 use Rattle.std.proofs.Common.{◌≡◌, ◌+◌, ◌*◌, ◌≤◌, ◌^◌, List, [], ◌∷◌, ◌++◌, length, length-append, refl, ap, ◌∙◌, arith}
 use Rattle.type_chunks.specs.declared.package.Package.{Package}
 use Rattle.type_chunks.specs.Row.{RowOf}
-use Rattle.type_chunks.specs.TypeRows.{rows_of_types}
-use Rattle.type_chunks.specs.Package.{PackageOf, package_of, packages_of, rows_of_packages}
-use Rattle.type_chunks.proofs.TypeRowsSteps.{length-rows_of_types}
+use Rattle.type_chunks.specs.Package.{PackageOf, package_of, packages_of, rows_of_kept, rows_of_packages}
+use Rattle.chunk_walk.specs.Chunk.{chunk_of}
+use Rattle.type_chunks.proofs.PlacesSteps.{length-rows_of_places}
 
 -- rows of a package, and those of the packages behind it
 pub rows_of_packages-next : (first : PackageOf) (others : List PackageOf) → rows_of_packages (first ∷ others) ≡ first.rows ++ rows_of_packages others
@@ -24,8 +24,9 @@ none-left rows (first ∷ others) no_rows no_packages = absurd (omega (arith, no
 pub length-rows_of_packages : (packages : List Package) → length (rows_of_packages (packages_of packages)) ≤ length packages * 2 ^ 63
 length-rows_of_packages [] = rw rows_of_packages-none (omega arith)
 length-rows_of_packages (first ∷ others) =
-    let split : length (rows_of_packages (packages_of (first ∷ others))) ≡ length (rows_of_types first.types.items) + length (rows_of_packages (packages_of others)) =
-    ap (λ (t : List RowOf). length t) (rows_of_packages-next (package_of first) (packages_of others)) ∙ length-append (rows_of_types first.types.items) (rows_of_packages (packages_of others)) in
-    omega (arith, split, length-rows_of_types first.types.items, first.few, length-rows_of_packages others)
+    let types = first.types in
+    let split : length (rows_of_packages (packages_of (first ∷ others))) ≡ length (rows_of_kept types) + length (rows_of_packages (packages_of others)) =
+    ap (λ (t : List RowOf). length t) (rows_of_packages-next (package_of first) (packages_of others)) ∙ length-append (rows_of_kept types) (rows_of_packages (packages_of others)) in
+    omega (arith, split, length-rows_of_places types.owner (chunk_of types.container) types.places.items types.kept, types.few, length-rows_of_packages others)
 
-pub ruleset rows_steps = (rows_of_packages-next, rows_of_packages-none, length-rows_of_packages)
+pub ruleset rows_steps = (rows_of_packages-next, rows_of_packages-none, none-left, length-rows_of_packages)

@@ -79,20 +79,6 @@ pub rows_of_types-none : rows_of_types [] ≡ []
 unfolding rows_of_types
 rows_of_types-none = refl
 
-pub rows_of_types-end : (left : List CheckedType) → length left ≡ 0 → rows_of_types left ≡ []
-rows_of_types-end [] e = rows_of_types-none
-rows_of_types-end (first ∷ others) e = absurd (omega arith)
-
-pub ruleset types_steps = (rows_of_types-next, rows_of_types-none, rows_of_types-end)
-
--- a type that was checked stands behind others
-pub pushes-type : (types : List CheckedType) (checked : CheckedType) → with_front (rows_of_types types) (rows_of_entries (type_chunk_of checked.chunk)) ≡ Ok (rows_of_types (types ++ checked ∷ []))
-unfolding rows_of_types rows_of_type
-pushes-type types checked =
-    let last : flat_map rows_of_type (types ++ checked ∷ []) ≡ flat_map rows_of_type types ++ rows_of_type checked =
-    flat_map-append rows_of_type types (checked ∷ []) ∙ ap (λ (rows : List RowOf). flat_map rows_of_type types ++ rows) (append-nil (rows_of_type checked)) in
-    rw (rows_of_entries-read (type_chunk_of checked.chunk) checked.checked, last) refl
-
 -- ---- how many they are
 
 -- an entry is one row at most
@@ -125,13 +111,6 @@ length-rows_from chunk (suc n) index =
     let more = length-append (row_of_index chunk index) (flat_map (row_of_index chunk) (range_with_len (index + 1) n)) in
     rw more (omega (arith, length-row_of_index chunk index, length-rows_from chunk n (index + 1)))
 
-length-rows_of_type : (checked : CheckedType) → length (rows_of_type checked) ≤ 2 ^ 32
-unfolding rows_of_type rows_from
-length-rows_of_type checked = omega (arith, length-rows_from (type_chunk_of checked.chunk) (checked.chunk.entry_count - 0) 0, checked.chunk.few)
-
-pub length-rows_of_types : (types : List CheckedType) → length (rows_of_types types) ≤ length types * 2 ^ 32
-length-rows_of_types [] = rw rows_of_types-none (omega arith)
-length-rows_of_types (first ∷ others) =
-    let split : length (rows_of_types (first ∷ others)) ≡ length (rows_of_type first) + length (rows_of_types others) =
-    ap (λ (rows : List RowOf). length rows) (rows_of_types-next first others) ∙ length-append (rows_of_type first) (rows_of_types others) in
-    omega (arith, split, length-rows_of_type first, length-rows_of_types others)
+pub length-rows_of_chunk : (chunk : TypeChunkOf) → length (rows_from chunk 0) ≤ chunk.entry_count
+unfolding rows_from
+length-rows_of_chunk chunk = omega (arith, length-rows_from chunk (chunk.entry_count - 0) 0)

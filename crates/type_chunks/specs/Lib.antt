@@ -7,6 +7,7 @@ pub mod Entry
 pub mod Checks
 pub mod Entries
 pub mod TypeRows
+pub mod TypePlaces
 pub mod WrongSizes
 pub mod PackageChildren
 pub mod Package

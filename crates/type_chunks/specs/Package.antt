@@ -3,7 +3,7 @@ use Rattle.std.specs.Prelude.{ℕ, ◌%◌, Bool, false, ◌&&◌, ◌||◌, not
 use Rattle.std.specs.List.{flat_map}
 use Rattle.contract_words.specs.Faults.{◌>>=◌, refuse}
 use Rattle.chunk_walk.specs.Number.{number}
-use Rattle.chunk_walk.specs.Chunk.{ChunkOf, chunk_within}
+use Rattle.chunk_walk.specs.Chunk.{ChunkOf, chunk_of, chunk_within}
 use Rattle.chunk_walk.specs.declared.chunk.ChunkFault.TheVariants.{HeaderShort}
 use Rattle.string_pool.specs.Pool.{PoolOf, pool_of, empty_pool}
 use Rattle.string_pool.specs.Text.{TextOf, text_of}
@@ -14,7 +14,8 @@ use Rattle.type_chunks.specs.declared.package_header.PackageHeader.{PackageHeade
 use Rattle.type_chunks.specs.Layout.{pool_kind, least_package_header, package_header_with_offset}
 use Rattle.type_chunks.specs.LowerFaults.{found_chunk, pool_of_chunk}
 use Rattle.type_chunks.specs.Row.{RowOf}
-use Rattle.type_chunks.specs.TypeRows.{rows_of_types}
+use Rattle.type_chunks.specs.declared.package_types.PackageTypes.{PackageTypes}
+use Rattle.type_chunks.specs.TypePlaces.{rows_of_places}
 use Rattle.type_chunks.specs.PackageChildren.{rows_of_children}
 
 -- The header of a package, with the names that it leads to, without where its file lies in memory.
@@ -46,8 +47,12 @@ pub record PackageOf : Type 0 where
   pub header : PackageHeaderOf
   pub rows : List RowOf
 
+-- the rows of the types that are kept of a package
+abbrev pub rows_of_kept : PackageTypes → List RowOf
+rows_of_kept types = rows_of_places types.owner (chunk_of types.container) types.places.items
+
 abbrev pub package_of : Package → PackageOf
-package_of read = record { header = package_header_of read.header; rows = rows_of_types read.types.items }
+package_of read = record { header = package_header_of read.header; rows = rows_of_kept read.types }
 
 abbrev pub packages_of : List Package → List PackageOf
 packages_of packages = map package_of packages

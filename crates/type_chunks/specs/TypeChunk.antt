@@ -55,15 +55,15 @@ abbrev pub found_config : Result (List ℕ) RecordFault → ℕ → Result (List
 found_config (Ok bytes) place = Ok bytes
 found_config (Err fault) place = Err (faults.Config place)
 
--- A type, or its first fault; `before` are the chunks before it in its package. Its id is at 8, its
+-- A type, or its first fault; `found` is the type spec that it belongs to. Its id is at 8, its
 -- flags at 9 (the lowest bit says that the entries are listed sparsely, which is refused), the count of
 -- its entries at 12, where they start at 16, and its configuration at 20.
-unfoldable pub type_in : Owner → List (Result ChunkOf ChunkFault) → ChunkOf → Result TypeChunkOf TableFault
-type_in owner before chunk = do
+unfoldable pub type_with : Owner → Option TypeSpecOf → ChunkOf → Result TypeChunkOf TableFault
+type_with owner found chunk = do
   _ ← refuse (nat_lt (length chunk.header) least_type_header) (faults.Chunk (HeaderShort chunk.place))
   let id = slice_index chunk.header 8
   _ ← refuse (id == 0) (faults.TypeId chunk.place)
-  spec ← found_spec (last_spec id before) chunk.place
+  spec ← found_spec found chunk.place
   _ ← refuse (slice_index chunk.header 9 % 2 == 1) (faults.SparseType chunk.place)
   config ← found_config (record_in (drop 20 chunk.header)) chunk.place
   let entry_count = number 4 chunk.header 12
@@ -79,3 +79,7 @@ type_in owner before chunk = do
     offsets = chunk.body;
     whole = chunk.whole;
   })
+
+-- a type belongs to the last type spec of its id among the chunks before it in its package
+unfoldable pub type_in : Owner → List (Result ChunkOf ChunkFault) → ChunkOf → Result TypeChunkOf TableFault
+type_in owner before chunk = type_with owner (last_spec (slice_index chunk.header 8) before) chunk

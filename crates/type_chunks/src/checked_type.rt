@@ -40,9 +40,9 @@ impl<'a> CheckedType<'a> {
     }
 
     /// Its rows, in the order of their indexes.
-    pub fn rows(&self) -> TypeRows<'_, 'a>
+    pub fn rows(&self) -> TypeRows<'a>
         ensures { result ≡ rows_of_type self.now }
     {
-        TypeRows::new(self)
+        TypeRows::new(*self)
     }
 }

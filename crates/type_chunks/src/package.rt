@@ -1,13 +1,14 @@
 //! Packages.
 
-ghost use Rattle.std.specs.Prelude.{◌≡◌, ◌<◌, ◌^◌, length};
+ghost use Rattle.std.specs.Prelude.{◌≡◌};
 
-use crate::checked_type::CheckedType;
 use crate::fault::TableFault;
 use crate::owner::Owner;
 use crate::package_children::types_of_children;
 use crate::package_header::PackageHeader;
 use crate::package_rows::PackageRows;
+use crate::package_types::PackageTypes;
+use crate::types::Types;
 use chunk_walk::Chunk;
 use std::alloc::Global;
 use string_pool::Text;
@@ -16,8 +17,7 @@ use string_pool::Text;
 #[derive(Debug, Drop)]
 pub struct Package<'a> {
     pub(crate) header: PackageHeader<'a>,
-    pub(crate) types: Vec<CheckedType<'a>>,
-    ghost few: { length types.items < 2 ^ 29 },
+    pub(crate) types: PackageTypes<'a>,
 }
 
 impl<'a> Package<'a> {
@@ -25,7 +25,7 @@ impl<'a> Package<'a> {
     ghost use Rattle.contract_words.specs.Exact.{GivesOr};
     ghost use Rattle.string_pool.specs.Text.{text_of};
     ghost use Rattle.type_chunks.specs.declared.fault.TableFault.TheVariants.{OutOfMemory};
-    ghost use Rattle.type_chunks.specs.TypeRows.{rows_of_types};
+    ghost use Rattle.type_chunks.specs.TypePlaces.{rows_of_each};
     ghost use Rattle.type_chunks.specs.Package.{package_of, package_in};
 
     /// The package that a chunk is; `index` packages stand before it.
@@ -63,13 +63,14 @@ impl<'a> Package<'a> {
     pub fn rows(&self) -> PackageRows<'_, 'a>
         ensures { result ≡ (package_of self.now).rows }
     {
-        PackageRows::new(&self.types)
+        self.types.rows()
     }
 
-    /// Its types, in the order of the file: each the entries of one type id for one configuration.
-    pub fn types(&self) -> &[CheckedType<'a>]
-        ensures { rows_of_types result.now ≡ (package_of self.now).rows }
+    /// Its types, in the order of the file: each the entries of one type id for one configuration. They are read
+    /// anew from their headers.
+    pub fn types(&self) -> Types<'_, 'a>
+        ensures { rows_of_each result ≡ (package_of self.now).rows }
     {
-        &self.types
+        self.types.types()
     }
 }

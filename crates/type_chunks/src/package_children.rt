@@ -1,23 +1,26 @@
 //! The types of a package.
 
-ghost use Rattle.std.specs.Prelude.{◌≡◌, ◌≢◌, ◌+◌, ◌<◌, ◌≤◌, ◌^◌, ◌∷◌, length, List, Result, Err, OnOk, IfOk, IfErr};
+ghost use Rattle.std.specs.Prelude.{◌≡◌, ◌+◌, ◌≤◌, ◌∷◌, length, List, Result, Ok, OnOk};
 ghost use Rattle.chunk_walk.specs.Chunk.{ChunkOf, chunk_of, seen};
+ghost use Rattle.chunk_walk.specs.Chunks.{StandsAt, StandsIn};
 ghost use Rattle.chunk_walk.specs.declared.chunk.ChunkFault.{ChunkFault};
 ghost use Rattle.contract_words.specs.Exact.{GivesOr};
 ghost use Rattle.contract_words.specs.Sequences.{Pushes};
 ghost use Rattle.type_chunks.specs.declared.fault.TableFault.TheVariants.{OutOfMemory};
-ghost use Rattle.type_chunks.specs.KnownSpecs.{Knows};
-ghost use Rattle.type_chunks.specs.TypeChunk.{type_chunk_of};
-ghost use Rattle.type_chunks.specs.TypeRows.{rows_of_types};
-ghost use Rattle.type_chunks.specs.PackageChildren.{rows_of_entries, rows_of_child, rows_of_children};
+ghost use Rattle.type_chunks.specs.Layout.{type_kind};
+ghost use Rattle.type_chunks.specs.KnownSpecs.{Knows, SpecsStand};
+ghost use Rattle.type_chunks.specs.Package.{rows_of_kept};
+ghost use Rattle.type_chunks.specs.TypePlaces.{AreKept, rows_of_places};
+ghost use Rattle.type_chunks.specs.PackageChildren.{rows_of_child, rows_of_children};
 
-use crate::checked_type::CheckedType;
 use crate::fault::TableFault;
 use crate::known_specs::KnownSpecs;
 use crate::layout::kind;
 use crate::owner::Owner;
+use crate::package_types::PackageTypes;
 use crate::type_check::check_entries;
 use crate::type_chunk::TypeChunk;
+use crate::type_place::TypePlace;
 use crate::type_spec::TypeSpec;
 use chunk_walk::{Chunk, ChunkFault};
 use std::alloc::Global;
@@ -27,35 +30,43 @@ use std::alloc::Global;
 pub(crate) fn types_of_children<'a>(
     alloc: Global,
     owner: Owner,
-    chunk: &Chunk<'a>,
-) -> Result<Vec<CheckedType<'a>>, TableFault>
-    ensures rows { GivesOr OutOfMemory (λ types. rows_of_types types.items) result (rows_of_children owner (chunk_of chunk.now)) }
-
-    // A chunk is shorter than 4 GiB, so it holds few types.
-    ensures few { IfOk result (λ types. length types.items < 2 ^ 29) }
+    container: &Chunk<'a>,
+) -> Result<PackageTypes<'a>, TableFault>
+    ensures { GivesOr OutOfMemory rows_of_kept result (rows_of_children owner (chunk_of container.now)) }
 {
-    let mut types = Vec::new(alloc);
+    let mut places = Vec::new(alloc);
     let mut specs = KnownSpecs::new();
-    for found in chunk.children() {
-        push_child(alloc, owner, found, &mut specs, &mut types)?;
+    for found in container.children() {
+        push_child(alloc, owner, container, found, &mut specs, &mut places)?;
     }
-    Ok(types)
+    Ok(PackageTypes {
+        owner,
+        container: *container,
+        places,
+    })
 }
 
-// Pushes a chunk in a package, where it is a type; `specs` has the type specs before it.
+// Pushes the place of a chunk in a package, where it is a type; `specs` has the type specs before it.
 #[tactic(auto, unfolding(crate::specs::PackageChildren::rows_of_child))]
 fn push_child<'a>(
     alloc: Global,
     owner: Owner,
+    container: &Chunk<'a>,
     found: Result<Chunk<'a>, ChunkFault>,
     specs: &mut KnownSpecs<'a>,
-    types: &mut Vec<CheckedType<'a>>,
+    places: &mut Vec<TypePlace>,
 ) -> Result<(), TableFault>
+    requires stands { StandsIn (chunk_of container.now) (seen found) }
+    requires specs { SpecsStand (chunk_of container.now) specs.old }
+    requires kept { AreKept owner (chunk_of container.now) places.old.items }
     ensures known { (before : List (Result ChunkOf ChunkFault)) → Knows specs.old before
         → OnOk result (Knows specs.new (seen found.entry ∷ before)) }
-    ensures one { length types.new.items ≤ length types.old.items + 1 }
+    ensures specs { OnOk result (SpecsStand (chunk_of container.now) specs.new) }
+    ensures kept { OnOk result (AreKept owner (chunk_of container.now) places.new.items) }
+    ensures one { length places.new.items ≤ length places.old.items + 1 }
     ensures rows { (before : List (Result ChunkOf ChunkFault)) → Knows specs.old before
-        → Pushes OutOfMemory (rows_of_types types.old.items) (rows_of_types types.new.items) result (rows_of_child owner (before, seen found.entry)) }
+        → Pushes OutOfMemory (rows_of_places owner (chunk_of container.now) places.old.items) (rows_of_places owner (chunk_of container.now) places.new.items)
+        result (rows_of_child owner (before, seen found.entry)) }
 {
     let chunk = found?;
     match chunk.kind {
@@ -63,21 +74,33 @@ fn push_child<'a>(
             specs.keep(TypeSpec::read(&chunk)?);
             Ok(())
         }
-        kind::TYPE => push_type(alloc, TypeChunk::read(owner, specs, &chunk)?, types),
+        kind::TYPE => push_type(alloc, owner, container, &chunk, specs, places),
         _ => Ok(()),
     }
 }
 
-// Pushes a type, each entry of which is checked first.
+// Pushes the place of a type, each entry of which is checked first.
+#[tactic(auto, unfolding(crate::specs::PackageChildren::rows_of_child))]
 fn push_type<'a>(
     alloc: Global,
-    chunk: TypeChunk<'a>,
-    types: &mut Vec<CheckedType<'a>>,
+    owner: Owner,
+    container: &Chunk<'a>,
+    chunk: &Chunk<'a>,
+    specs: &KnownSpecs<'a>,
+    places: &mut Vec<TypePlace>,
 ) -> Result<(), TableFault>
-    ensures one { length types.new.items ≤ length types.old.items + 1 }
-    ensures rows { Pushes OutOfMemory (rows_of_types types.old.items) (rows_of_types types.new.items) result (rows_of_entries (type_chunk_of chunk.entry)) }
+    requires kind { chunk.now.kind ≡ type_kind }
+    requires stands { StandsAt (chunk_of container.now) (chunk_of chunk.now) }
+    requires specs { SpecsStand (chunk_of container.now) specs.now }
+    requires kept { AreKept owner (chunk_of container.now) places.old.items }
+    ensures kept { OnOk result (AreKept owner (chunk_of container.now) places.new.items) }
+    ensures one { length places.new.items ≤ length places.old.items + 1 }
+    ensures rows { (before : List (Result ChunkOf ChunkFault)) → Knows specs.now before
+        → Pushes OutOfMemory (rows_of_places owner (chunk_of container.now) places.old.items) (rows_of_places owner (chunk_of container.now) places.new.items)
+        result (rows_of_child owner (before, Ok (chunk_of chunk.now))) }
 {
-    check_entries(alloc, &chunk)?;
-    types.push(CheckedType { chunk })?;
+    let read = TypeChunk::read(owner, specs.of_type(chunk), chunk)?;
+    check_entries(alloc, &read)?;
+    places.push(TypePlace::of(container, chunk, &read.spec))?;
     Ok(())
 }

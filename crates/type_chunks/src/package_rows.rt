@@ -5,42 +5,37 @@ ghost use Rattle.std.specs.Option.{unwrap_or};
 ghost use Rattle.std.specs.Iterator.{YieldsFirstBy};
 ghost use Rattle.type_chunks.specs.Row.{row_of};
 
-use crate::checked_type::CheckedType;
 use crate::row::Row;
 use crate::type_rows::TypeRows;
+use crate::types::Types;
 use std::marker::Model;
-use std::slice::Iter;
 
 /// The rows of a package that are left, in the order of the file.
 #[derive(Drop)]
 pub struct PackageRows<'t, 'a> {
     /// Those of the type that stands before `types`; none before the first.
-    left: Option<TypeRows<'t, 'a>>,
-    types: Iter<'t, CheckedType<'a>>,
+    left: Option<TypeRows<'a>>,
+    types: Types<'t, 'a>,
 }
 
 impl<'t, 'a> Model for PackageRows<'t, 'a> {
     ghost use Rattle.std.specs.Prelude.{List, [], ◌++◌};
     ghost use Rattle.std.specs.Option.{unwrap_or};
-    ghost use Rattle.std.specs.Slice.Iter.{iter_rest};
+    ghost use Rattle.type_chunks.specs.TypePlaces.{rows_of_each};
     ghost use Rattle.type_chunks.specs.Row.{RowOf};
-    ghost use Rattle.type_chunks.specs.TypeRows.{rows_of_types};
 
     ghost Value = { List RowOf };
 
-    ghost view = { λ s. unwrap_or s.left [] ++ rows_of_types (iter_rest s.types) };
+    ghost view = { λ s. unwrap_or s.left [] ++ rows_of_each s.types };
 }
 
 impl<'t, 'a> PackageRows<'t, 'a> {
-    ghost use Rattle.type_chunks.specs.TypeRows.{rows_of_types};
+    ghost use Rattle.type_chunks.specs.TypePlaces.{rows_of_each};
 
-    pub(crate) fn new(types: &'t [CheckedType<'a>]) -> Self
-        ensures { result ≡ rows_of_types types.now }
+    pub(crate) fn new(types: Types<'t, 'a>) -> Self
+        ensures { result ≡ rows_of_each types.entry }
     {
-        PackageRows {
-            left: None,
-            types: types.iter(),
-        }
+        PackageRows { left: None, types }
     }
 }
 
@@ -54,7 +49,6 @@ impl<'t, 'a> Iterator for PackageRows<'t, 'a> {
 
     ghost remaining = { item_count (λ s. s) };
 
-    #[tactic(auto, using(crate::proofs::TypeRowsSteps::types_steps))]
     fn next(&mut self) -> Option<Row<'a>> {
         'types: loop {
             if let Some(row) = next_of(&mut self.left) {
@@ -69,7 +63,7 @@ impl<'t, 'a> Iterator for PackageRows<'t, 'a> {
 }
 
 // The next row of a type, where there is one.
-fn next_of<'a>(rows: &mut Option<TypeRows<'_, 'a>>) -> Option<Row<'a>>
+fn next_of<'a>(rows: &mut Option<TypeRows<'a>>) -> Option<Row<'a>>
     ensures { YieldsFirstBy row_of (λ o. unwrap_or o []) rows.old result rows.new }
 {
     match rows {

@@ -1,8 +1,10 @@
 //! The rows of a table, one after the other.
 
 ghost use Rattle.std.specs.Prelude.{◌≡◌, ◌*◌, ◌≤◌, ◌^◌, [], length};
+ghost use Rattle.std.specs.Option.{unwrap_or};
+ghost use Rattle.std.specs.Iterator.{YieldsFirstBy};
+ghost use Rattle.type_chunks.specs.Row.{row_of};
 
-use crate::checked_type::CheckedType;
 use crate::package::Package;
 use crate::package_rows::PackageRows;
 use crate::row::Row;
@@ -10,42 +12,36 @@ use res_value::ResId;
 use std::marker::Model;
 use std::slice::Iter;
 
-// The types before the first package.
-fn no_types<'t, 'a>() -> &'t [CheckedType<'a>]
-    ensures { result.now ≡ [] }
-{
-    &[]
-}
-
 /// All rows of a table that are left, in the order of the file.
 #[derive(Drop)]
 pub struct AllRows<'t, 'a> {
     /// Those of the package that stands before `packages`; none before the first.
-    left: PackageRows<'t, 'a>,
+    left: Option<PackageRows<'t, 'a>>,
     packages: Iter<'t, Package<'a>>,
 }
 
 impl<'t, 'a> Model for AllRows<'t, 'a> {
-    ghost use Rattle.std.specs.Prelude.{List, ◌++◌};
+    ghost use Rattle.std.specs.Prelude.{List, [], ◌++◌};
+    ghost use Rattle.std.specs.Option.{unwrap_or};
     ghost use Rattle.std.specs.Slice.Iter.{iter_rest};
     ghost use Rattle.type_chunks.specs.Row.{RowOf};
     ghost use Rattle.type_chunks.specs.Package.{packages_of, rows_of_packages};
 
     ghost Value = { List RowOf };
 
-    ghost view = { λ s. s.left ++ rows_of_packages (packages_of (iter_rest s.packages)) };
+    ghost view = { λ s. unwrap_or s.left [] ++ rows_of_packages (packages_of (iter_rest s.packages)) };
 }
 
 impl<'t, 'a> AllRows<'t, 'a> {
     ghost use Rattle.type_chunks.specs.Package.{packages_of, rows_of_packages};
 
-    #[tactic(auto, using(crate::proofs::RowsSteps::rows_steps, crate::proofs::TypeRowsSteps::types_steps))]
+    #[tactic(auto, using(crate::proofs::RowsSteps::rows_steps))]
     pub(crate) fn new(packages: &'t [Package<'a>]) -> Self
         ensures rows { result ≡ rows_of_packages (packages_of packages.now) }
         ensures few { length result ≤ length packages.now * 2 ^ 63 }
     {
         AllRows {
-            left: PackageRows::new(no_types()),
+            left: None,
             packages: packages.iter(),
         }
     }
@@ -64,14 +60,24 @@ impl<'t, 'a> Iterator for AllRows<'t, 'a> {
     #[tactic(auto, using(crate::proofs::RowsSteps::rows_steps))]
     fn next(&mut self) -> Option<Row<'a>> {
         'packages: loop {
-            if let Some(row) = self.left.next() {
+            if let Some(row) = next_of(&mut self.left) {
                 return Some(row);
             }
             let Some(package) = self.packages.next() else {
                 return None;
             };
-            self.left = package.rows();
+            self.left = Some(package.rows());
         }
+    }
+}
+
+// The next row of a package, where there is one.
+fn next_of<'a>(rows: &mut Option<PackageRows<'_, 'a>>) -> Option<Row<'a>>
+    ensures { YieldsFirstBy row_of (λ o. unwrap_or o []) rows.old result rows.new }
+{
+    match rows {
+        Some(rows) => rows.next(),
+        None => None,
     }
 }
 

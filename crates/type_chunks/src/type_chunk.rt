@@ -1,10 +1,9 @@
 //! Types: their headers. The entries in them are read in `entry.rt`.
 
-ghost use Rattle.std.specs.Prelude.{◌≡◌, ◌+◌, ◌*◌, ◌<◌, ◌≤◌, ◌^◌, length, Result, List};
+ghost use Rattle.std.specs.Prelude.{◌≡◌, ◌+◌, ◌*◌, ◌<◌, ◌≤◌, ◌^◌, Some, IfOk, length};
 ghost use Rattle.type_chunks.specs.Layout.{entry_offset_size};
 
 use crate::fault::TableFault;
-use crate::known_specs::KnownSpecs;
 use crate::layout::type_header as header;
 use crate::owner::Owner;
 use crate::type_flags::TypeFlags;
@@ -34,19 +33,20 @@ pub(crate) struct TypeChunk<'a> {
 }
 
 impl<'a> TypeChunk<'a> {
-    ghost use Rattle.chunk_walk.specs.Chunk.{ChunkOf, chunk_of};
-    ghost use Rattle.chunk_walk.specs.declared.chunk.ChunkFault.{ChunkFault};
-    ghost use Rattle.type_chunks.specs.KnownSpecs.{Knows};
-    ghost use Rattle.type_chunks.specs.TypeChunk.{type_chunk_of, seen_type, type_in};
+    ghost use Rattle.std.specs.Option.{option_map};
+    ghost use Rattle.chunk_walk.specs.Chunk.{chunk_of};
+    ghost use Rattle.type_chunks.specs.TypeSpec.{type_spec_of};
+    ghost use Rattle.type_chunks.specs.TypeChunk.{seen_type, type_with};
 
-    /// Reads a type from its chunk; `specs` has the type specs before it.
-    #[tactic(auto, unfolding(crate::specs::TypeChunk::type_in))]
+    /// Reads a type from its chunk; `found` is the type spec that it belongs to.
+    #[tactic(auto, unfolding(crate::specs::TypeChunk::type_with))]
     pub fn read(
         owner: Owner,
-        specs: &KnownSpecs<'a>,
+        found: Option<TypeSpec<'a>>,
         chunk: &Chunk<'a>,
     ) -> Result<TypeChunk<'a>, TableFault>
-        ensures { (before : List (Result ChunkOf ChunkFault)) → Knows specs.now before → seen_type result ≡ type_in owner before (chunk_of chunk.now) }
+        ensures value { seen_type result ≡ type_with owner (option_map type_spec_of found.entry) (chunk_of chunk.now) }
+        ensures spec { IfOk result (λ read. found.entry ≡ Some read.spec) }
     {
         let place = chunk.place;
         if chunk.header.len() < header::LEAST_SIZE {
@@ -56,7 +56,7 @@ impl<'a> TypeChunk<'a> {
         if id == 0 {
             return Err(TableFault::TypeId(place));
         }
-        let Some(spec) = specs.last(id) else {
+        let Some(spec) = found else {
             return Err(TableFault::TypeWithoutSpec(place));
         };
         if TypeFlags::from_bits_retain(chunk.header[header::FLAGS]).is_sparse() {

@@ -9,13 +9,13 @@ use std::marker::Model;
 
 /// The rows of a type that are left, in the order of their indexes.
 #[derive(Drop)]
-pub struct TypeRows<'t, 'a> {
-    of: &'t CheckedType<'a>,
+pub struct TypeRows<'a> {
+    of: CheckedType<'a>,
     /// The first index that is left.
     index: u32,
 }
 
-impl<'t, 'a> Model for TypeRows<'t, 'a> {
+impl<'a> Model for TypeRows<'a> {
     ghost use Rattle.std.specs.Prelude.{List};
     ghost use Rattle.type_chunks.specs.Row.{RowOf};
     ghost use Rattle.type_chunks.specs.TypeChunk.{type_chunk_of};
@@ -23,19 +23,19 @@ impl<'t, 'a> Model for TypeRows<'t, 'a> {
 
     ghost Value = { List RowOf };
 
-    ghost view = { λ s. rows_from (type_chunk_of s.of.now.chunk) s.index };
+    ghost view = { λ s. rows_from (type_chunk_of s.of.chunk) s.index };
 }
 
-impl<'t, 'a> TypeRows<'t, 'a> {
+impl<'a> TypeRows<'a> {
     #[tactic(auto, unfolding(crate::specs::TypeRows::rows_of_type))]
-    pub(crate) fn new(of: &'t CheckedType<'a>) -> Self
-        ensures { result ≡ rows_of_type of.now }
+    pub(crate) fn new(of: CheckedType<'a>) -> Self
+        ensures { result ≡ rows_of_type of.entry }
     {
         TypeRows { of, index: 0 }
     }
 }
 
-impl<'t, 'a> Iterator for TypeRows<'t, 'a> {
+impl<'a> Iterator for TypeRows<'a> {
     ghost use Rattle.std.specs.Iterator.{YieldsFirstBy, item_count};
     ghost use Rattle.type_chunks.specs.Row.{row_of};
 

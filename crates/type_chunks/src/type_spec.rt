@@ -1,6 +1,6 @@
 //! Type specs.
 
-ghost use Rattle.std.specs.Prelude.{◌≡◌, ◌*◌, ◌<◌, ◌≤◌, length};
+ghost use Rattle.std.specs.Prelude.{◌≡◌, ◌*◌, ◌<◌, ◌≤◌, IfOk, length};
 ghost use Rattle.type_chunks.specs.Layout.{entry_flags_size};
 
 use crate::fault::TableFault;
@@ -10,6 +10,8 @@ use chunk_walk::{Chunk, ChunkFault, u32_within};
 /// A type spec whose header was checked and whose flags fit (AOSP: `ResTable_typeSpec`).
 #[derive(Clone, Copy, Debug)]
 pub(crate) struct TypeSpec<'a> {
+    /// Where its chunk begins, from the file's first byte.
+    pub place: usize,
     pub id: u8,
     pub entry_count: u32,
     /// Four bytes for each entry.
@@ -25,7 +27,8 @@ impl<'a> TypeSpec<'a> {
     /// Reads a type spec from its chunk.
     #[tactic(auto, unfolding(crate::specs::TypeSpec::type_spec_in))]
     pub fn read(chunk: &Chunk<'a>) -> Result<TypeSpec<'a>, TableFault>
-        ensures { seen_spec result ≡ type_spec_in (chunk_of chunk.now) }
+        ensures value { seen_spec result ≡ type_spec_in (chunk_of chunk.now) }
+        ensures place { IfOk result (λ spec. spec.place ≡ chunk.now.place) }
     {
         if chunk.header.len() < header::LEAST_SIZE {
             return Err(TableFault::Chunk(ChunkFault::HeaderShort(chunk.place)));
@@ -39,6 +42,7 @@ impl<'a> TypeSpec<'a> {
             return Err(TableFault::Offsets(chunk.place));
         }
         Ok(TypeSpec {
+            place: chunk.place,
             id,
             entry_count,
             flags: chunk.body,

@@ -2,7 +2,6 @@ use Rattle.std.proofs.Common.{refl, sym}
 use Rattle.type_chunks.specs.Package.{package_of, packages_of}
 use Rattle.type_chunks.proofs.TypeRowsSteps.{rows_of_types-none}
 use Rattle.row_index.proofs.PackagesSteps.{rows_of_packages-none, rows_of_packages-next, package_at}
-use Rattle.row_index.proofs.PlaceSteps.{rows_of_types-append}
 use Rattle.row_index.proofs.indexed_table.types_of.Goals as goal
 
 pub loop-package-init : goal.loop-package-init
@@ -13,5 +12,5 @@ loop-package-preserved c =
     let packages = packages_of c.args.packages.now in
     let item = c.package-item in
     let found = package_at c.args.packages.now c.loop-package.package-index item.result c.loop-package-test.true item.is in
-    rw (c.in_ok-extend_from_slice.ensures.items, c.in_ok-reserve_exact.ensures.items, rows_of_types-append, c.loop-package.invariant, c.types-in-loop-package.ensures)
+    rw (c.in_ok-push_types.ensures, c.loop-package.invariant)
     (sym (rows_of_packages-next packages c.loop-package.package-index (package_of item.result) found))

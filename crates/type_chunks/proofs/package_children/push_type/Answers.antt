@@ -1,5 +1,41 @@
-use Rattle.type_chunks.proofs.TypeRowsSteps.{pushes-type}
+use Rattle.std.proofs.Common.{◌≡◌, Option, Some, Ok, sym, ap, ◌∙◌}
+use Rattle.std.specs.Option.{option_map}
+use Rattle.std.proofs.lemmas.Result.{err_from_is_err_and}
+use Rattle.chunk_walk.specs.Chunk.{chunk_of}
+use Rattle.type_chunks.specs.declared.type_spec.TypeSpec.{TypeSpec}
+use Rattle.type_chunks.specs.TypeSpec.{type_spec_of}
+use Rattle.type_chunks.specs.TypeChunk.{TypeChunkOf, type_chunk_of, type_with}
+use Rattle.type_chunks.specs.TypePlaces.{type_at}
+use Rattle.type_chunks.proofs.PlacesSteps.{type_at-found, keeps, kept-stands, type-fault, entries-fault, type-pushed}
 use Rattle.type_chunks.proofs.package_children.push_type.Goals as goal
 
+pub of-requires-clause-spec : goal.of-requires-clause-spec
+of-requires-clause-spec c = kept-stands (chunk_of c.args.container.now) c.args.specs.now _ _ c.requires.specs c.of_type.ensures.within (sym c.of_type.ensures.value ∙ c.in_ok-read.ensures.spec)
+
+pub returns-in_err-read-clause-rows : goal.returns-in_err-read-clause-rows
+returns-in_err-read-clause-rows c = λ before known.
+    let p = err_from_is_err_and c.from_residual.result c.from_residual.ensures.1 in
+    rw (p.1, p.2) (λ other. type-fault c.args.owner c.args.specs.now before (chunk_of c.args.chunk.now) c.of_type.result known c.requires.kind c.of_type.ensures.within c.of_type.ensures.value _ _ c.in_err-read.ensures.value)
+
+pub returns-in_err-check_entries-clause-rows : goal.returns-in_err-check_entries-clause-rows
+returns-in_err-check_entries-clause-rows c = λ before known.
+    let p = err_from_is_err_and c.from_residual-in_err-check_entries.result c.from_residual-in_err-check_entries.ensures.1 in
+    rw (p.1, p.2) (λ other. entries-fault c.args.owner c.args.specs.now before (chunk_of c.args.chunk.now) c.of_type.result known c.requires.kind c.of_type.ensures.within c.of_type.ensures.value _
+    (type_chunk_of c.in_ok-read.read) _ c.in_ok-read.ensures.value (c.in_err-check_entries.ensures.fault other))
+
+pub returns-clause-kept : goal.returns-clause-kept
+returns-clause-kept c =
+    let at = type_at-found c.args.owner (chunk_of c.args.container.now) c.of.result _ _ c.of.ensures.chunk c.of.ensures.spec in
+    let spec : option_map type_spec_of c.of_type.result ≡ Some (type_spec_of c.in_ok-read.read.spec) = ap (λ (o : Option TypeSpec). option_map type_spec_of o) c.in_ok-read.ensures.spec in
+    let is : type_at c.args.owner (chunk_of c.args.container.now) c.of.result ≡ Ok (type_chunk_of c.in_ok-read.read) = at ∙ rw (sym spec) (sym c.in_ok-read.ensures.value) in
+    rw c.in_ok-push.ensures.items
+    (keeps c.args.owner (chunk_of c.args.container.now) _ c.of.result (type_chunk_of c.in_ok-read.read) c.requires.kept c.of.ensures.chunk_inside c.of.ensures.spec_inside is c.in_ok-read.read.few c.in_ok-check_entries.ensures.read)
+
 pub returns-clause-rows : goal.returns-clause-rows
-returns-clause-rows c = rw c.in_ok-push.ensures.items (pushes-type c.args.types.now.items _)
+returns-clause-rows c = λ before known.
+    let at = type_at-found c.args.owner (chunk_of c.args.container.now) c.of.result _ _ c.of.ensures.chunk c.of.ensures.spec in
+    let spec : option_map type_spec_of c.of_type.result ≡ Some (type_spec_of c.in_ok-read.read.spec) = ap (λ (o : Option TypeSpec). option_map type_spec_of o) c.in_ok-read.ensures.spec in
+    let is : type_at c.args.owner (chunk_of c.args.container.now) c.of.result ≡ Ok (type_chunk_of c.in_ok-read.read) = at ∙ rw (sym spec) (sym c.in_ok-read.ensures.value) in
+    rw c.in_ok-push.ensures.items
+    (type-pushed c.args.owner c.args.specs.now before (chunk_of c.args.chunk.now) c.of_type.result known c.requires.kind c.of_type.ensures.within c.of_type.ensures.value (chunk_of c.args.container.now) _ c.of.result
+    (type_chunk_of c.in_ok-read.read) c.in_ok-read.ensures.value is c.in_ok-check_entries.ensures.read)

@@ -6,5 +6,8 @@ use Rattle.type_chunks.specs.TypeSpec.{type_spec_of}
 use Rattle.type_chunks.proofs.KnownSteps.{Knows-none}
 use Rattle.type_chunks.proofs.known_specs.KnownSpecs.new.Goals as goal
 
-pub returns : goal.returns
-returns c = Knows-none _ (λ id below. ap (λ (o : Option TypeSpec). option_map type_spec_of o) (get_or-replicate 256 id None None below))
+pub returns-clause-known : goal.returns-clause-known
+returns-clause-known c = Knows-none _ (λ id below. ap (λ (o : Option TypeSpec). option_map type_spec_of o) (get_or-replicate 256 id None None below))
+
+pub returns-clause-stand : goal.returns-clause-stand
+returns-clause-stand c = λ container id below. rw (get_or-replicate {A = Option TypeSpec} 256 id None None below) tt

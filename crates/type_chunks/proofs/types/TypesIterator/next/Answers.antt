@@ -1,0 +1,8 @@
+use Rattle.chunk_walk.specs.Chunk.{chunk_of}
+use Rattle.type_chunks.specs.TypePlaces.{IsKept}
+use Rattle.type_chunks.proofs.PlacesSteps.{all-behind}
+use Rattle.type_chunks.proofs.types.TypesIterator.next.Goals as goal
+
+pub invariant_of-self-inside : goal.invariant_of-self-inside
+invariant_of-self-inside c =
+    (all-behind (IsKept c.self.inside.owner (chunk_of c.self.inside.container)) c.self.inside.places c.next.new.self c.next.result c.next.ensures.steps c.self.inside.kept, tt)

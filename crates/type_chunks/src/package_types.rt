@@ -1,0 +1,43 @@
+//! The types of a package, kept by their places.
+
+ghost use Rattle.std.specs.Prelude.{◌<◌, ◌^◌, length};
+ghost use Rattle.chunk_walk.specs.Chunk.{chunk_of};
+ghost use Rattle.type_chunks.specs.TypePlaces.{AreKept};
+
+use crate::owner::Owner;
+use crate::package_rows::PackageRows;
+use crate::type_place::TypePlace;
+use crate::types::Types;
+use chunk_walk::Chunk;
+
+/// The types of a package, each entry of which was checked. Of each the place alone is kept, so memory grows by
+/// eight bytes with each.
+#[derive(Debug, Drop)]
+pub(crate) struct PackageTypes<'a> {
+    pub owner: Owner,
+    pub container: Chunk<'a>,
+    pub places: Vec<TypePlace>,
+    ghost few: { length places.items < 2 ^ 29 },
+    ghost kept: { AreKept owner (chunk_of container) places.items },
+}
+
+impl<'a> PackageTypes<'a> {
+    ghost use Rattle.std.specs.Prelude.{◌≡◌};
+    ghost use Rattle.type_chunks.specs.TypePlaces.{rows_of_each};
+    ghost use Rattle.type_chunks.specs.Package.{rows_of_kept};
+
+    /// The types, read anew one after the other.
+    #[tactic(auto, using(crate::proofs::PlacesSteps::rows_of_places_each))]
+    pub fn types(&self) -> Types<'_, 'a>
+        ensures { rows_of_each result ≡ rows_of_kept self.now }
+    {
+        Types::new(self.owner, self.container, &self.places)
+    }
+
+    /// Their rows.
+    pub fn rows(&self) -> PackageRows<'_, 'a>
+        ensures { result ≡ rows_of_kept self.now }
+    {
+        PackageRows::new(self.types())
+    }
+}
