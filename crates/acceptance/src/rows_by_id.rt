@@ -4,7 +4,8 @@ use res_value::ResId;
 use row_index::IndexedTable;
 use std::alloc::{AllocError, Global};
 use test_layers::{layer, layer_of_lines, put};
-use type_chunks::{Row, Table};
+use resource_table::Table;
+use type_chunks::Row;
 
 /// Where the numbers of a table's header stand: its size, and how many packages it has.
 const SIZE: usize = 4;

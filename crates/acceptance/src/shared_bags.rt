@@ -2,7 +2,8 @@
 
 use std::alloc::Global;
 use test_layers::layer_of_entries;
-use type_chunks::{Table, TableFault};
+use resource_table::Table;
+use type_chunks::TableFault;
 
 /// How many entries a table has here: more than its type has room for rows, where each is a bag.
 const ENTRIES: usize = 40;

@@ -8,7 +8,8 @@ use crate::cell::{RowFormat, write_row_end};
 use crate::last_record::LastRecord;
 use res_value::write_id;
 use std::io::{self, Write};
-use type_chunks::{Row, Table};
+use resource_table::Table;
+use type_chunks::Row;
 
 /// Two spaces before the rows of a bag, and no strings.
 const FORMAT: RowFormat<'static> = RowFormat {

@@ -7,7 +7,7 @@ use crate::status::Status;
 use resource_text::{ToolFault, dump_text};
 use std::alloc::Global;
 use std::io::Write;
-use type_chunks::Table;
+use resource_table::Table;
 
 /// Prints a line for each package of a table and one for each of its rows with their names, in the
 /// order of the file.

@@ -7,7 +7,7 @@ use crate::status::Status;
 use resource_text::{ToolFault, rows_text};
 use std::alloc::Global;
 use std::io::Write;
-use type_chunks::Table;
+use resource_table::Table;
 
 /// Prints a line for each row of a table, in the order of the file, and one with their number and how
 /// many of them are set aside.

@@ -7,7 +7,8 @@ use std::alloc::Global;
 use string_pool::Text;
 use test_layers::{layer, layer_with_string};
 use test_stacks::{push_base, push_overlay};
-use type_chunks::{Row, Table};
+use resource_table::Table;
+use type_chunks::Row;
 
 const FIRST: ResId = ResId(0x7f01_0000);
 

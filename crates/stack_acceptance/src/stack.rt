@@ -5,7 +5,7 @@ use res_value::{Cell, ResId};
 use std::alloc::Global;
 use test_layers::layer;
 use test_stacks::{push_base, push_overlay};
-use type_chunks::Table;
+use resource_table::Table;
 
 /// An overlay's entry 1 stands for entry 0.
 const SECOND: &[u8] = br#"[["0x7f010000","0x7f010001"]]"#;

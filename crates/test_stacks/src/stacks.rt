@@ -2,7 +2,7 @@
 
 use overlay_map::{IdMap, Stack};
 use std::alloc::Global;
-use type_chunks::Table;
+use resource_table::Table;
 
 /// An id map in which entry 0 stands for entry 0.
 pub const SAME: &[u8] = br#"[["0x7f010000","0x7f010000"]]"#;

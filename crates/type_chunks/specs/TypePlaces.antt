@@ -1,4 +1,4 @@
--- Types of a package that are found anew where they stand. Contracts within the crate alone speak of this.
+-- Types of a package that are found anew where they stand. Of these, public contracts name `rows_of_each` alone.
 use Rattle.std.specs.Prelude.{◌≡◌, ℕ, ◌-◌, ◌<◌, ◌≤◌, ◌^◌, List, [], length, Some, Result, Ok, Err, IsOk, All}
 use Rattle.std.specs.Result.{ForOk}
 use Rattle.std.specs.List.{flat_map}
@@ -8,7 +8,7 @@ use Rattle.type_chunks.specs.declared.fault.TableFault.{TableFault}
 use Rattle.type_chunks.specs.declared.owner.Owner.{Owner}
 use Rattle.type_chunks.specs.declared.type_place.TypePlace.{TypePlace}
 use Rattle.type_chunks.specs.declared.type_spec.TypeSpec.{TypeSpec}
-use Rattle.type_chunks.specs.LowerFaults.{found_chunk}
+use Rattle.type_chunks.specs.FoundChunk.{found_chunk}
 use Rattle.type_chunks.specs.Row.{RowOf}
 use Rattle.type_chunks.specs.TypeSpec.{TypeSpecOf, type_spec_of, type_spec_in}
 use Rattle.type_chunks.specs.TypeChunk.{TypeChunkOf, type_with}
