@@ -1,9 +1,9 @@
 //! Types of more entries than resource ids can name.
 
+use resource_table::Table;
 use resource_tool::{Status, rows_bytes};
 use std::alloc::Global;
 use test_layers::{layer, put};
-use resource_table::Table;
 use type_chunks::TableFault;
 
 /// The last entry that has an id, and two behind it.

@@ -1,8 +1,8 @@
 //! Entries that share the rows of bags.
 
+use resource_table::Table;
 use std::alloc::Global;
 use test_layers::layer_of_entries;
-use resource_table::Table;
 use type_chunks::TableFault;
 
 /// How many entries a table has here: more than its type has room for rows, where each is a bag.

@@ -13,10 +13,10 @@ use crate::id_map::IdMap;
 use crate::layer::Layer;
 use crate::stack_fault::StackFault;
 use res_value::ResId;
+use resource_table::Table;
 use row_index::IndexedTable;
 use std::alloc::Global;
 use std::marker::Model;
-use resource_table::Table;
 
 /// The most layers that a stack can have.
 pub const MOST_LAYERS: usize = 64;

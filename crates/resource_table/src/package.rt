@@ -20,7 +20,7 @@ impl<'a> Package<'a> {
     ghost use Rattle.contract_words.specs.Exact.{GivesOr};
     ghost use Rattle.string_pool.specs.Text.{text_of};
     ghost use Rattle.type_chunks.specs.declared.fault.TableFault.TheVariants.{OutOfMemory};
-    ghost use Rattle.type_chunks.specs.TypePlaces.{rows_of_each};
+    ghost use Rattle.type_chunks.specs.TypeRows.{rows_of_each};
     ghost use Rattle.resource_table.specs.Package.{package_of, package_in};
 
     /// The package that a chunk is; `index` packages stand before it.

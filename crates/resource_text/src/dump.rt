@@ -11,9 +11,9 @@ use crate::last_record::LastRecord;
 use crate::line::Line;
 use hex_text::write_hex;
 use res_value::{write_id, write_word};
+use resource_table::{Package, Table};
 use std::io::{self, Write};
 use string_pool::write_string;
-use resource_table::{Package, Table};
 use type_chunks::{PackageRows, Row};
 
 /// Writes a line for each package of a table, in the order of the file, and behind it one for each of

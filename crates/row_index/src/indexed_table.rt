@@ -10,9 +10,9 @@ ghost use Rattle.row_index.specs.Places.{ArePlacesOf};
 use crate::indexed_rows::IndexedRows;
 use crate::row_places::RowPlaces;
 use res_value::ResId;
+use resource_table::{Package, Table};
 use std::alloc::{AllocError, Global};
 use std::marker::Model;
-use resource_table::{Package, Table};
 use type_chunks::CheckedType;
 
 /// A table with the places of its rows by id. Contracts see it as the table.

@@ -27,7 +27,8 @@ use Rattle.type_chunks.specs.TypeChunk.{TypeChunkOf, type_with, type_in}
 use Rattle.type_chunks.specs.Entries.{AreRead, rows_from}
 use Rattle.type_chunks.specs.KnownSpecs.{kept_for, kept_spec, Knows, SpecsStand}
 use Rattle.type_chunks.specs.PackageChildren.{rows_of_entries, rows_of_child, rows_of_kept}
-use Rattle.type_chunks.specs.TypePlaces.{spec_at, SpecStands, type_at, IsKept, AreKept, rows_of_read, rows_at, rows_of_places, rows_of_each}
+use Rattle.type_chunks.specs.TypePlaces.{spec_at, SpecStands, type_at, IsKept, AreKept, rows_of_read, rows_at, rows_of_places}
+use Rattle.type_chunks.specs.TypeRows.{rows_of_each}
 use Rattle.type_chunks.proofs.EntriesSteps.{rows_of_entries-read}
 use Rattle.type_chunks.proofs.TypeRowsSteps.{length-rows_of_chunk}
 

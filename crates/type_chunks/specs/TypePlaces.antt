@@ -1,4 +1,4 @@
--- Types of a package that are found anew where they stand. Of these, public contracts name `rows_of_each` alone.
+-- Types of a package that are found anew where they stand. `rows_of_kept` sees the rows of a package by this.
 use Rattle.std.specs.Prelude.{◌≡◌, ℕ, ◌-◌, ◌<◌, ◌≤◌, ◌^◌, List, [], length, Some, Result, Ok, Err, IsOk, All}
 use Rattle.std.specs.Result.{ForOk}
 use Rattle.std.specs.List.{flat_map}
@@ -52,7 +52,3 @@ rows_at owner within place = rows_of_read (type_at owner within place)
 -- the rows of the types at these places, one type after the other
 unfoldable pub rows_of_places : Owner → ChunkOf → List TypePlace → List RowOf
 rows_of_places owner within places = flat_map (rows_at owner within) places
-
--- the rows of each of some types, one type after the other
-abbrev pub rows_of_each : List (List RowOf) → List RowOf
-rows_of_each types = flat_map (λ rows. rows) types

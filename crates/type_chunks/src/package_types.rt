@@ -23,7 +23,7 @@ pub struct PackageTypes<'a> {
 
 impl<'a> PackageTypes<'a> {
     ghost use Rattle.std.specs.Prelude.{◌≡◌};
-    ghost use Rattle.type_chunks.specs.TypePlaces.{rows_of_each};
+    ghost use Rattle.type_chunks.specs.TypeRows.{rows_of_each};
     ghost use Rattle.type_chunks.specs.PackageChildren.{rows_of_kept};
 
     /// The types, read anew one after the other.

@@ -1,22 +1,12 @@
 -- What is read of several things, where some are left.
-use Rattle.std.proofs.Common.{◌≡◌, List, [], ◌∷◌, ◌++◌, Result, Ok, Err, refl, sym, ap, ◌∙◌, append_assoc, arith}
+use Rattle.std.proofs.Common.{◌≡◌, List, [], ◌∷◌, ◌++◌, Result, Ok, Err, sym, ap, ◌∙◌, arith}
 use Rattle.std.proofs.lemmas.List.{append-nil}
 use Rattle.contract_words.specs.Sequences.{with_front}
 use Rattle.json_input.specs.Each.{each}
-use Rattle.json_input.proofs.EachSteps.{EachAllBut-none, EachAllBut-next, EachAllBut-stops, EachAllBut-end}
-
-pub each-ok : {A X E : Type 0} (f : A → Result X E) (a : A) (others : List A) (x : X) → f a ≡ Ok x → each f (a ∷ others) ≡ with_front (x ∷ []) (each f others)
-each-ok f a others x given = sym (EachAllBut-next f [] 0 (a ∷ others) a x (EachAllBut-none f (a ∷ others)) (omega arith) given).others
-
-each-err : {A X E : Type 0} (f : A → Result X E) (a : A) (others : List A) (e : E) → f a ≡ Err e → each f (a ∷ others) ≡ Err e
-each-err f a others e given = EachAllBut-stops f [] 0 (a ∷ others) a e (EachAllBut-none f (a ∷ others)) (omega arith) given
+use Rattle.json_input.proofs.EachSteps.{with_front-twice, each-ok, each-err, EachAllBut-none, EachAllBut-end}
 
 pub each-nil : {A X E : Type 0} (f : A → Result X E) → each f [] ≡ Ok []
 each-nil f = EachAllBut-end f [] 0 [] (EachAllBut-none f []) (omega arith)
-
-with_front-twice : {X E : Type 0} (a b : List X) (r : Result (List X) E) → with_front a (with_front b r) ≡ with_front (a ++ b) r
-with_front-twice {X} {E} a b (Ok xs) = let wrapped : List X → Result (List X) E = λ t. Ok t in ap wrapped (sym (append_assoc a b xs))
-with_front-twice a b (Err e) = refl
 
 pub left-next : {A X E : Type 0} (f : A → Result X E) (so_far : List X) (a : A) (others all : List A) (x : X)
     → with_front so_far (each f (a ∷ others)) ≡ each f all → f a ≡ Ok x → with_front (so_far ++ x ∷ []) (each f others) ≡ each f all
