@@ -1,27 +1,10 @@
 //! Where attributes end, printed.
 
+use crate::ids::{A, B, C, D, FIRST, NOWHERE, SECOND, THIRD};
 use res_value::ResId;
 use resource_tool::{Status, attr_bytes};
 use std::alloc::Global;
 use test_layers::{chain, layer_of_lines};
-
-/// The resources of entries 0, 1 and 2, and one that is not there.
-const FIRST: ResId = ResId(0x7f01_0000);
-
-const SECOND: ResId = ResId(0x7f01_0001);
-
-const THIRD: ResId = ResId(0x7f01_0002);
-
-const NOWHERE: ResId = ResId(0x7f01_0009);
-
-/// Attributes.
-const A: ResId = ResId(0x0101_0001);
-
-const B: ResId = ResId(0x0101_0002);
-
-const C: ResId = ResId(0x0101_0003);
-
-const D: ResId = ResId(0x0101_0004);
 
 /// What is asked of a base, whether styles are forced, and how the command ends.
 #[derive(Clone, Copy)]

@@ -1,12 +1,9 @@
 //! Bags, printed.
 
-use res_value::ResId;
+use crate::ids::FIRST;
 use resource_tool::{Status, bag_bytes};
 use std::alloc::Global;
 use test_layers::{layer, layer_of_lines};
-
-/// The resource of entry 0.
-const FIRST: ResId = ResId(0x7f01_0000);
 
 const MEDIUM: &[u8] = br#"{"density":160}"#;
 

@@ -1,13 +1,11 @@
 //! Bags, and the rows that they inherit.
 
+use crate::ids::FIRST;
 use bags_themes::{BagFault, BagRow, BagRows, bag};
 use res_value::{ResId, Value, kind};
 use std::alloc::Global;
 use test_layers::{chain, device_of, layer_of_lines};
 use test_stacks::stack_of_base;
-
-/// The resource of entry 0.
-const FIRST: ResId = ResId(0x7f01_0000);
 
 // A row of layer 0 whose value is a number.
 fn row(name: u32, word: u32) -> BagRow {

@@ -9,4 +9,6 @@ mod bag_command;
 #[cfg(test)]
 mod bags;
 #[cfg(test)]
+mod ids;
+#[cfg(test)]
 mod themes;

@@ -1,5 +1,6 @@
 //! Themes, and where their attributes end.
 
+use crate::ids::{A, B, C, D, FIRST, NOWHERE, SECOND};
 use bags_themes::{BagFault, Theme};
 use config_record::Device;
 use overlay_map::Stack;
@@ -8,22 +9,6 @@ use res_value::{ResId, Value, kind};
 use std::alloc::{AllocError, Global};
 use test_layers::{device_of, layer_of_lines};
 use test_stacks::stack_of_base;
-
-/// The resources of entries 0 and 1, which are styles, and of an entry that is not there.
-const FIRST: ResId = ResId(0x7f01_0000);
-
-const SECOND: ResId = ResId(0x7f01_0001);
-
-const NOWHERE: ResId = ResId(0x7f01_0009);
-
-/// Attributes.
-const A: ResId = ResId(0x0101_0001);
-
-const B: ResId = ResId(0x0101_0002);
-
-const C: ResId = ResId(0x0101_0003);
-
-const D: ResId = ResId(0x0101_0004);
 
 const EMPTY: End = End::Value {
     layer: 0,

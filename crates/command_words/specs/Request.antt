@@ -42,7 +42,8 @@ word_at name rows = unwrap_or (first_of name rows) []
 abbrev pub words_at : List ℕ → List Row → List (List ℕ)
 words_at name rows = unwrap_or (all_of name rows) []
 
--- the number of nodes that a word spells, where it does and there may be so many; or that of a word that is left out
+-- The number of nodes that a word spells, or the number for a word that is left out. Nothing is said of a word that
+-- spells no number of nodes that may be asked for: such a word is a fault of the command line, and no request is made.
 abbrev pub IsNodeLimit : Option (List ℕ) → ℕ → Type 0
 IsNodeLimit None limit = limit ≡ nodes_if_left_out
 IsNodeLimit (Some word) limit =
@@ -76,7 +77,7 @@ ids_of Dump rows = Ok []
 ids_of (OfDevice command) rows = ids_asked command rows
 ids_of (OfBox command) rows = ids_in (words_at (codes "ID") rows)
 
--- Words were read that are to spell ids: what was read is right for these ids, or the first word that is no id is told.
+-- Words were read that are to spell ids: what was read is right for these ids, or the first word that is no id is named.
 -- Where memory ran out, nothing is said.
 abbrev pub ReadsAlong : {X : Type 0} → Result (List ResId) (List ℕ) → (List ResId → X → Type 0) → Result X WordsFault → Type 0
 ReadsAlong meant IsRight (Ok x) = (ids : List ResId) × (meant ≡ Ok ids) × IsRight ids x

@@ -235,8 +235,7 @@ fn with_subcommand<'a>(
     ensures local { IfOk result IsLocal }
     ensures memory { IfErr result (λ error. kind_of error ≡ ErrorKind.OutOfMemory) }
 {
-    let program = program.subcommand(subcommand)?;
-    Ok(program)
+    Ok(program.subcommand(subcommand)?)
 }
 
 fn built_command<'a>(alloc: Global, usage: &Usage) -> Result<Command<'a>, clap::Error>

@@ -3,6 +3,7 @@ use Rattle.std.specs.Prelude.{ℕ, List, map, Result, Ok, Err}
 use Rattle.std.specs.Borrow.{Bor}
 use Rattle.config_record.specs.declared.coord.Coord.{Coord}
 use Rattle.box_answers.specs.NumberSet as sets
+use Rattle.box_answers.specs.declared.number_set.NumberSet.{NumberSet}
 use Rattle.config_box.specs.declared.box_fault.BoxFault.{BoxFault}
 use Rattle.config_box.specs.declared.values.Values.{Values}
 use Rattle.config_box.specs.declared.values.Values.TheVariants.{Range, Numbers, Locales}
@@ -30,3 +31,8 @@ pair_seen pair = (pair.0, written_seen pair.1)
 abbrev pub text_seen : Result (Bor (List ℕ)) BoxFault → Result (List ℕ) BoxFault
 text_seen (Ok text) = Ok text.now
 text_seen (Err fault) = Err fault
+
+-- a set that was read without memory
+abbrev pub set_seen : Result NumberSet BoxFault → Result sets.SetOf BoxFault
+set_seen (Ok set) = Ok (sets.set_of set)
+set_seen (Err fault) = Err fault

@@ -15,7 +15,7 @@ ghost use Rattle.config_box.specs.HalfSets.{IsSetAt};
 ghost use Rattle.config_box.specs.declared.box_fault.BoxFault.TheVariants.{OutOfMemory};
 ghost use Rattle.config_box.specs.BoxJson.{is_outside, outside_fault, set_of_range, set_of_numbers, is_malformed, is_region_alone, number_of_text, set_of_texts, set_of_nothing, set_in, box_in_value};
 ghost use Rattle.config_box.specs.Choices.{rising};
-ghost use Rattle.config_box.specs.BoxSeen.{written_seen, pair_seen};
+ghost use Rattle.config_box.specs.BoxSeen.{written_seen, pair_seen, set_seen};
 
 use crate::box_fault::BoxFault;
 use crate::choice::{locales_of, narrowed, rising};
@@ -99,7 +99,7 @@ fn outside_fault(at: Coord) -> BoxFault
 #[tactic(auto, unfolding(crate::specs::BoxJson::set_of_range))]
 fn set_of_range(at: Coord, from: u64, to: u64) -> Result<NumberSet, BoxFault>
     requires { at ≢ coords.Locale }
-    ensures value { GivesOr OutOfMemory set_of result (set_of_range at from to) }
+    ensures value { set_seen result ≡ set_of_range at from to }
     ensures fits { IfOk result (λ set. IsSetAt at (set_of set)) }
 {
     if from > to {
