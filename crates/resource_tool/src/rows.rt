@@ -4,7 +4,8 @@ ghost use Rattle.resource_tool.specs.Output.{Prints};
 ghost use Rattle.resource_tool.specs.TableOutput.{rows_output};
 
 use crate::status::Status;
-use resource_text::{ToolFault, rows_text};
+use fault_text::ToolFault;
+use resource_text::rows_text;
 use std::alloc::Global;
 use std::io::Write;
 use type_chunks::Table;
