@@ -19,11 +19,7 @@ pub fn write_named_id<W: Write + Drop>(name: &str, id: ResId, out: &mut W) -> io
 
 /// Writes a name and that of a coordinate.
 #[tactic(auto, unfolding(crate::specs::NamedText::named_coord))]
-pub fn write_named_coord<W: Write + Drop>(
-    name: &str,
-    coord: Coord,
-    out: &mut W,
-) -> io::Result<()>
+pub fn write_named_coord<W: Write + Drop>(name: &str, coord: Coord, out: &mut W) -> io::Result<()>
     ensures { Writes W.contents out.old out.new result (named_coord name.now coord) }
 {
     out.write_all(name.as_bytes())?;
@@ -33,11 +29,7 @@ pub fn write_named_coord<W: Write + Drop>(
 
 /// Writes a name and a number in decimal.
 #[tactic(auto, unfolding(crate::specs::NamedText::named_number))]
-pub fn write_named_number<W: Write + Drop>(
-    name: &str,
-    number: u128,
-    out: &mut W,
-) -> io::Result<()>
+pub fn write_named_number<W: Write + Drop>(name: &str, number: u128, out: &mut W) -> io::Result<()>
     ensures { Writes W.contents out.old out.new result (named_number name.now number) }
 {
     out.write_all(name.as_bytes())?;
