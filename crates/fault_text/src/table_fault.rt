@@ -2,7 +2,7 @@
 
 ghost use Rattle.std.specs.Prelude.{◌≡◌};
 ghost use Rattle.contract_words.specs.Writes.{Writes};
-ghost use Rattle.resource_text.specs.TableFaultText.{inner_chunk_fault_text, chunk_fault_text, pool_fault_name, pool_fault_text, table_fault_text};
+ghost use Rattle.fault_text.specs.TableFaultText.{inner_chunk_fault_text, chunk_fault_text, pool_fault_name, pool_fault_text, table_fault_text};
 
 use crate::named::write_named_number;
 use chunk_walk::ChunkFault;

@@ -5,16 +5,16 @@ use Rattle.config_box.specs.declared.box_fault.BoxFault.{BoxFault}
 use Rattle.cert_tree.specs.declared.cert_fault.CertFault.{CertFault}
 use Rattle.type_chunks.specs.declared.fault.TableFault.{TableFault}
 use Rattle.overlay_map.specs.declared.map_fault.MapFault.{MapFault}
-use Rattle.resource_text.specs.declared.layers_fault.LayersFault.{LayersFault}
-use Rattle.resource_text.specs.declared.fault.ToolFault.{ToolFault}
-use Rattle.resource_text.specs.declared.fault.ToolFault.TheVariants.{Table, Layers, LayerTable, LayerMap, Device, Box, Certificate, OutOfMemory, Write}
-use Rattle.resource_text.specs.LayerText.{layer_text}
-use Rattle.resource_text.specs.TableFaultText.{table_fault_text}
-use Rattle.resource_text.specs.LayersFaultText.{layers_fault_text}
-use Rattle.resource_text.specs.MapFaultText.{map_fault_text}
-use Rattle.resource_text.specs.DeviceFaultText.{device_fault_text}
-use Rattle.resource_text.specs.BoxFaultText.{box_fault_text}
-use Rattle.resource_text.specs.CertFaultText.{cert_fault_text}
+use Rattle.fault_text.specs.declared.layers_fault.LayersFault.{LayersFault}
+use Rattle.fault_text.specs.declared.fault.ToolFault.{ToolFault}
+use Rattle.fault_text.specs.declared.fault.ToolFault.TheVariants.{Table, Layers, LayerTable, LayerMap, Device, Box, Certificate, OutOfMemory, Write}
+use Rattle.fault_text.specs.LayerText.{layer_text}
+use Rattle.fault_text.specs.TableFaultText.{table_fault_text}
+use Rattle.fault_text.specs.LayersFaultText.{layers_fault_text}
+use Rattle.fault_text.specs.MapFaultText.{map_fault_text}
+use Rattle.fault_text.specs.DeviceFaultText.{device_fault_text}
+use Rattle.fault_text.specs.BoxFaultText.{box_fault_text}
+use Rattle.fault_text.specs.CertFaultText.{cert_fault_text}
 
 -- which part of the input is refused
 unfoldable pub refused_text : List ℕ → List ℕ

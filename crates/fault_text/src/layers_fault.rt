@@ -2,9 +2,11 @@
 
 ghost use Rattle.std.specs.Prelude.{◌≡◌};
 ghost use Rattle.contract_words.specs.Writes.{Writes};
-ghost use Rattle.resource_text.specs.declared.layers_fault.LayersFault.TheVariants.{OutOfMemory};
-ghost use Rattle.resource_text.specs.LayersFaultText.{layers_fault_text};
+ghost use Rattle.json_input.specs.Fault.{fault_of_text};
+ghost use Rattle.fault_text.specs.declared.layers_fault.LayersFault.TheVariants.{Syntax, OutOfMemory};
+ghost use Rattle.fault_text.specs.LayersFaultText.{layers_fault_text};
 
+use json_input::JsonFault;
 use std::alloc::{AllocError, AllocFailed};
 use std::io::{self, Write};
 use thiserror::Error;
@@ -25,6 +27,17 @@ pub enum LayersFault {
     TooManyLayers,
     #[error("OutOfMemory")]
     OutOfMemory,
+}
+
+impl From<JsonFault> for LayersFault {
+    ghost from_gives = { λ fault e. e ≡ fault_of_text Syntax OutOfMemory fault };
+
+    fn from(fault: JsonFault) -> LayersFault {
+        match fault {
+            JsonFault::Syntax => LayersFault::Syntax,
+            JsonFault::OutOfMemory => LayersFault::OutOfMemory,
+        }
+    }
 }
 
 impl From<AllocError> for LayersFault {

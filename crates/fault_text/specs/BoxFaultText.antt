@@ -2,7 +2,7 @@
 use Rattle.std.specs.Prelude.{ℕ, List, codes}
 use Rattle.config_box.specs.declared.box_fault.BoxFault.{BoxFault}
 use Rattle.config_box.specs.declared.box_fault.BoxFault.TheVariants.{Syntax, Shape, Empty, TooMany, FieldRange, RegionAlone, Density, OutOfMemory}
-use Rattle.resource_text.specs.NamedText.{named_coord}
+use Rattle.fault_text.specs.NamedText.{named_coord}
 
 unfoldable pub box_fault_text : BoxFault → List ℕ
 box_fault_text Syntax = codes "Syntax"

@@ -1,7 +1,7 @@
 //! Faults of a device, written.
 
 ghost use Rattle.contract_words.specs.Writes.{Writes};
-ghost use Rattle.resource_text.specs.DeviceFaultText.{device_fault_text};
+ghost use Rattle.fault_text.specs.DeviceFaultText.{device_fault_text};
 
 use crate::named::write_named_coord;
 use config_record::DeviceFault;

@@ -6,7 +6,7 @@ use Rattle.string_pool.specs.declared.fault.PoolFault.{PoolFault}
 use Rattle.string_pool.specs.declared.fault.PoolFault.TheVariants as of_pool
 use Rattle.type_chunks.specs.declared.fault.TableFault.{TableFault}
 use Rattle.type_chunks.specs.declared.fault.TableFault.TheVariants as of_table
-use Rattle.resource_text.specs.NamedText.{named_number}
+use Rattle.fault_text.specs.NamedText.{named_number}
 
 -- the name of a chunk's fault, and its place
 unfoldable pub inner_chunk_fault_text : ChunkFault → List ℕ

@@ -1,7 +1,7 @@
 //! Faults of a certificate, written.
 
 ghost use Rattle.contract_words.specs.Writes.{Writes};
-ghost use Rattle.resource_text.specs.CertFaultText.{node_shape_text, cert_fault_text};
+ghost use Rattle.fault_text.specs.CertFaultText.{node_shape_text, cert_fault_text};
 
 use cert_tree::CertFault;
 use std::io::{self, Write};

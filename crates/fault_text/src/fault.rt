@@ -2,9 +2,9 @@
 
 ghost use Rattle.std.specs.Prelude.{◌≡◌, if◌then◌else◌};
 ghost use Rattle.contract_words.specs.Writes.{Writes};
-ghost use Rattle.resource_text.specs.FaultText.{refused_text, refused_layer_text, table_line, layers_line, layer_table_line, layer_map_line, device_line, box_line, certificate_line, fault_line};
-ghost use Rattle.resource_text.specs.ToolFault.{fault_of_layer_table, fault_of_layer_map};
-ghost use Rattle.resource_text.specs.declared.fault.ToolFault.TheVariants.{OutOfMemory, Write};
+ghost use Rattle.fault_text.specs.FaultText.{refused_text, refused_layer_text, table_line, layers_line, layer_table_line, layer_map_line, device_line, box_line, certificate_line, fault_line};
+ghost use Rattle.fault_text.specs.ToolFault.{fault_of_layer_table, fault_of_layer_map};
+ghost use Rattle.fault_text.specs.declared.fault.ToolFault.TheVariants.{OutOfMemory, Write};
 
 use crate::box_fault::write_box_fault;
 use crate::cert_fault::write_cert_fault;
@@ -69,7 +69,7 @@ impl ToolFault {
 }
 
 impl From<TableFault> for ToolFault {
-    ghost use Rattle.resource_text.specs.ToolFault.{fault_of_table};
+    ghost use Rattle.fault_text.specs.ToolFault.{fault_of_table};
 
     ghost from_gives = { λ fault e. e ≡ fault_of_table fault };
 
@@ -80,7 +80,7 @@ impl From<TableFault> for ToolFault {
 }
 
 impl From<LayersFault> for ToolFault {
-    ghost use Rattle.resource_text.specs.ToolFault.{fault_of_layers};
+    ghost use Rattle.fault_text.specs.ToolFault.{fault_of_layers};
 
     ghost from_gives = { λ fault e. e ≡ fault_of_layers fault };
 
@@ -91,7 +91,7 @@ impl From<LayersFault> for ToolFault {
 }
 
 impl From<DeviceFault> for ToolFault {
-    ghost use Rattle.resource_text.specs.ToolFault.{fault_of_device};
+    ghost use Rattle.fault_text.specs.ToolFault.{fault_of_device};
 
     ghost from_gives = { λ fault e. e ≡ fault_of_device fault };
 
@@ -102,7 +102,7 @@ impl From<DeviceFault> for ToolFault {
 }
 
 impl From<BoxFault> for ToolFault {
-    ghost use Rattle.resource_text.specs.ToolFault.{fault_of_box};
+    ghost use Rattle.fault_text.specs.ToolFault.{fault_of_box};
 
     ghost from_gives = { λ fault e. e ≡ fault_of_box fault };
 
@@ -113,7 +113,7 @@ impl From<BoxFault> for ToolFault {
 }
 
 impl From<CertFault> for ToolFault {
-    ghost use Rattle.resource_text.specs.ToolFault.{fault_of_certificate};
+    ghost use Rattle.fault_text.specs.ToolFault.{fault_of_certificate};
 
     ghost from_gives = { λ fault e. e ≡ fault_of_certificate fault };
 
@@ -124,7 +124,7 @@ impl From<CertFault> for ToolFault {
 }
 
 impl From<StackFault> for ToolFault {
-    ghost use Rattle.resource_text.specs.ToolFault.{fault_of_stack};
+    ghost use Rattle.fault_text.specs.ToolFault.{fault_of_stack};
 
     ghost from_gives = { λ fault e. e ≡ fault_of_stack fault };
 

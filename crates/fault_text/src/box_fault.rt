@@ -1,7 +1,7 @@
 //! Faults of a box, written.
 
 ghost use Rattle.contract_words.specs.Writes.{Writes};
-ghost use Rattle.resource_text.specs.BoxFaultText.{box_fault_text};
+ghost use Rattle.fault_text.specs.BoxFaultText.{box_fault_text};
 
 use crate::named::write_named_coord;
 use config_box::BoxFault;

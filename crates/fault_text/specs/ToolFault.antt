@@ -12,10 +12,10 @@ use Rattle.overlay_map.specs.declared.map_fault.MapFault.{MapFault}
 use Rattle.overlay_map.specs.declared.map_fault.MapFault.TheVariants as of_map
 use Rattle.overlay_map.specs.declared.stack_fault.StackFault.{StackFault}
 use Rattle.overlay_map.specs.declared.stack_fault.StackFault.TheVariants as of_stack
-use Rattle.resource_text.specs.declared.layers_fault.LayersFault.{LayersFault}
-use Rattle.resource_text.specs.declared.layers_fault.LayersFault.TheVariants as of_layers
-use Rattle.resource_text.specs.declared.fault.ToolFault.{ToolFault}
-use Rattle.resource_text.specs.declared.fault.ToolFault.TheVariants as of_tool
+use Rattle.fault_text.specs.declared.layers_fault.LayersFault.{LayersFault}
+use Rattle.fault_text.specs.declared.layers_fault.LayersFault.TheVariants as of_layers
+use Rattle.fault_text.specs.declared.fault.ToolFault.{ToolFault}
+use Rattle.fault_text.specs.declared.fault.ToolFault.TheVariants as of_tool
 
 -- of the table that a command reads alone
 abbrev pub fault_of_table : TableFault → ToolFault

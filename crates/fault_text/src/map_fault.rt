@@ -1,7 +1,7 @@
 //! Faults of an id map, written.
 
 ghost use Rattle.contract_words.specs.Writes.{Writes};
-ghost use Rattle.resource_text.specs.MapFaultText.{map_fault_text};
+ghost use Rattle.fault_text.specs.MapFaultText.{map_fault_text};
 
 use crate::named::write_named_id;
 use overlay_map::MapFault;
