@@ -1,7 +1,7 @@
 use Rattle.std.proofs.Common.{◌-◌, ◌≤◌}
 use Rattle.type_chunks.specs.TypeChunk.{type_chunk_of}
 use Rattle.type_chunks.specs.Entries.{AreEmpty}
-use Rattle.type_chunks.proofs.type_chunk.TypeChunk.behind_empty_pairs.Given as goal
+use Rattle.type_chunks.proofs.type_chunk.TypeChunk.behind_empty_eights.Given as goal
 
 -- no entry was passed over
 abbrev pub invariant-loop-index : goal.invariant-loop-index
