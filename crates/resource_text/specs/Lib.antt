@@ -6,3 +6,4 @@ pub mod QueryText
 pub mod ExplainText
 pub mod VerdictText
 pub mod Line
+pub mod LastTypeName

@@ -24,6 +24,7 @@ mod dump;
 mod end;
 mod explanation;
 mod last_record;
+mod last_type_name;
 mod line;
 mod query;
 mod rows;
