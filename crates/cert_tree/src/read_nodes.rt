@@ -7,6 +7,7 @@ ghost use Rattle.json_input.specs.Each.{each};
 ghost use Rattle.cert_tree.specs.declared.cert_fault.CertFault.TheVariants.{OutOfMemory};
 ghost use Rattle.config_box.specs.Tests.{choice_of};
 ghost use Rattle.cert_tree.specs.Certificate.{node_of};
+ghost use Rattle.cert_tree.specs.Lent.{node_seen};
 ghost use Rattle.cert_tree.specs.ReadOn.{read_on};
 ghost use Rattle.cert_tree.specs.CertJson.{number_item, locale_item, choice_in, at_most_in, among_in, value_in, bag_in, node_in, node_after};
 
@@ -78,7 +79,7 @@ fn node_in(alloc: Global, value: &Value, shape: CertFault) -> Result<Node, CertF
 
 #[tactic(auto, unfolding(crate::specs::CertJson::at_most_in))]
 fn at_most_in(value: &Value, shape: CertFault) -> Result<Node, CertFault>
-    ensures { GivesOr OutOfMemory node_of result (at_most_in shape (view value.now)) }
+    ensures { node_seen result ≡ at_most_in shape (view value.now) }
 {
     let coord = coord_at(value, shape)?;
     let most = number_at(value, AT_MOST, LAST_WORD, shape)?;
@@ -155,7 +156,7 @@ fn locale_item(value: &Value, shape: CertFault) -> Result<Locale, CertFault>
 
 #[tactic(auto, unfolding(crate::specs::CertJson::value_in))]
 fn value_in(value: &Value, shape: CertFault) -> Result<Node, CertFault>
-    ensures { GivesOr OutOfMemory node_of result (value_in shape (view value.now)) }
+    ensures { node_seen result ≡ value_in shape (view value.now) }
 {
     let layer = number_at(value, LAYER, LAST_LAYER, shape)?;
     let kind = number_at(value, KIND, LAST_KIND, shape)?;
@@ -171,7 +172,7 @@ fn value_in(value: &Value, shape: CertFault) -> Result<Node, CertFault>
 
 #[tactic(auto, unfolding(crate::specs::CertJson::bag_in))]
 fn bag_in(value: &Value, shape: CertFault) -> Result<Node, CertFault>
-    ensures { GivesOr OutOfMemory node_of result (bag_in shape (view value.now)) }
+    ensures { node_seen result ≡ bag_in shape (view value.now) }
 {
     let id = id_at(value, BAG, shape)?;
     Ok(Node::Bag { id })
