@@ -1,11 +1,11 @@
 #!/usr/bin/env python3
-"""Holds the JSON Schemas of the inputs against what restool reads and rejects:
+"""Holds the JSON Schemas of the inputs against what restool reads and refuses:
 
     check_schemas.py PROGRAM [INPUT..]
 
 for each input, or for those that are named: layers, id-map, device, box, certificate. Texts that a schema judges
 as restool does stand in ALIKE with the fault that restool tells, none where the text is accepted. In BEYOND are texts
-that restool rejects for what a schema can't say. The last line is the number of texts."""
+that restool refuses for what a schema can't say. The last line is the number of texts."""
 import json
 import os
 import re
@@ -340,7 +340,7 @@ PARTS = {"id-map": "layer 1 map"}
 
 
 def fault_told(program, name, text):
-    """What restool rejects the text for, None where it is read."""
+    """What restool refuses the text for, None where it is read."""
     files = {**FILES, name: text}
     if name == "id-map":
         files["layers"] = '[{"table":"table"},{"table":"table","map":"id-map"}]'

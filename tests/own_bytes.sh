@@ -1,7 +1,7 @@
 #!/bin/sh
 # Rows borrow from the input's bytes. So a function cannot return a row of bytes that it owns: the compiler has to
-# refuse it, and has to accept the same function where the caller owns the bytes. The environment may give RT, the
-# command that proves in place of rt.
+# refuse it, and has to accept the same function where the caller owns the bytes. The crates below have to be proved:
+# run ./restool first. The environment may give RT, the command that proves in place of rt.
 here=$(CDPATH='' cd "$(dirname "$0")/.." && pwd) || exit 1
 program=$(basename "$0")
 rt=${RT:-rt}
@@ -11,11 +11,11 @@ trap 'exit 130' INT TERM
 
 # Links share the files: rt writes none of these in place.
 mkdir -p "$work/crates/own_bytes/src" || exit 1
-for crate in contract_words hex_text chunk_walk string_pool res_value json_input config_record type_chunks; do
-    cp -al "$here/crates/$crate" "$work/crates/" || exit 1
+for crate in contract_words hex_text chunk_walk string_pool res_value json_input config_record type_chunks resource_table; do
+    cp -al "$here/crates/$crate" "$work/crates/" 2>/dev/null || cp -a "$here/crates/$crate" "$work/crates/" || exit 1
     grep "^${crate}[ :]" "$here/crates.txt" >>"$work/crates.txt"
 done
-echo 'own_bytes: type_chunks' >>"$work/crates.txt"
+echo 'own_bytes: type_chunks resource_table' >>"$work/crates.txt"
 [ -f "$here/HANDLES" ] && cp "$here/HANDLES" "$work/"
 
 # check BYTES BORROW: proves a function that takes its bytes as BYTES and opens them as BORROW.
@@ -24,8 +24,9 @@ check() {
 //! The first row of a table.
 #![tactic(auto)]
 
+use resource_table::Table;
 use std::alloc::Global;
-use type_chunks::{Row, Table};
+use type_chunks::Row;
 
 pub fn first_row<'a>(alloc: Global, bytes: $1) -> Option<Row<'a>> {
     let table = Table::open(alloc, $2).ok()?;

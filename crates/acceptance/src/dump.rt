@@ -3,10 +3,11 @@
 use crate::row::check;
 use chunk_walk::ChunkFault;
 use res_value::ResId;
+use resource_table::Table;
 use resource_tool::{Status, ToolFault, dump_bytes};
 use std::alloc::Global;
 use test_layers::{layer, put, table_a, table_b, table_with};
-use type_chunks::{Table, TableFault};
+use type_chunks::TableFault;
 
 /// A table without a package.
 const NO_PACKAGE: [u8; 12] = [2, 0, 12, 0, 12, 0, 0, 0, 0, 0, 0, 0];

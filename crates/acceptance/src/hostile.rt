@@ -1,11 +1,12 @@
 //! Tables that are wrong in one place.
 
 use chunk_walk::ChunkFault;
+use resource_table::Table;
 use resource_tool::{dump_bytes, rows_bytes};
 use std::alloc::{AllocError, Global};
 use string_pool::PoolFault;
 use test_layers::{layer, put, table_a, table_b};
-use type_chunks::{Table, TableFault};
+use type_chunks::TableFault;
 
 // A piece that is put into a table from a place on, and the fault that it makes.
 type Case = (usize, &'static [u8], TableFault);

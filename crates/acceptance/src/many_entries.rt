@@ -1,9 +1,10 @@
 //! Types of more entries than resource ids can name.
 
+use resource_table::Table;
 use resource_tool::{Status, rows_bytes};
 use std::alloc::Global;
 use test_layers::{layer, put};
-use type_chunks::{Table, TableFault};
+use type_chunks::TableFault;
 
 /// The last entry that has an id, and two behind it.
 const ROWS: [&str; 3] = ["65535 [] 7", "65536 [] 8", "65537 [] 9"];

@@ -2,10 +2,10 @@
 
 use crate::row::check;
 use res_value::ResId;
+use resource_table::Table;
 use resource_tool::{Status, ToolFault, rows_bytes};
 use std::alloc::Global;
 use test_layers::{layer_of_lines, table_a, table_with};
-use type_chunks::Table;
 
 /// A table with an empty pool of strings, and no package.
 const NO_ROWS: [u8; 40] = [

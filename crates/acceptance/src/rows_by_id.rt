@@ -1,10 +1,11 @@
 //! The rows of an id, found in an indexed table.
 
 use res_value::ResId;
+use resource_table::Table;
 use row_index::IndexedTable;
 use std::alloc::{AllocError, Global};
 use test_layers::{layer, layer_of_lines, put};
-use type_chunks::{Row, Table};
+use type_chunks::Row;
 
 /// Where the numbers of a table's header stand: its size, and how many packages it has.
 const SIZE: usize = 4;

@@ -1,27 +1,41 @@
 //! Entries that share the rows of bags.
 
+use resource_table::Table;
 use std::alloc::Global;
 use test_layers::layer_of_entries;
-use type_chunks::{Table, TableFault};
+use type_chunks::TableFault;
 
-/// How many entries a table has here: more than its type has room for rows, where each is a bag.
+/// How many entries a table has here: as bags they have more rows than their type has room for.
 const ENTRIES: usize = 40;
 
 const BAG_SIZE: u32 = 64;
 
-/// How many bytes before the end of a bag its last value begins.
-const LAST_VALUE: usize = 8;
+// Where the parts of a bag of four rows stand: the size of its entry, its flags, its count of rows, and the values,
+// each behind a name of four bytes and beginning with its size.
+const ENTRY_SIZE: usize = 0;
+
+const FLAGS: usize = 2;
+
+const ROW_COUNT: usize = 12;
+
+const FIRST_VALUE: usize = 20;
+
+const SECOND_VALUE: usize = 32;
+
+const THIRD_VALUE: usize = 44;
+
+const LAST_VALUE: usize = 56;
 
 // A bag of four rows, whose last value says this size.
 fn bag(size_of_last: u8) -> [u8; 64] {
     let mut bag = [0; 64];
-    bag[0] = 16; // the entry's size, and its flag of a bag
-    bag[2] = 1;
-    bag[12] = 4; // rows, each a name of four bytes and a value
-    bag[20] = 8;
-    bag[32] = 8;
-    bag[44] = 8;
-    bag[56] = size_of_last;
+    bag[ENTRY_SIZE] = 16;
+    bag[FLAGS] = 1;
+    bag[ROW_COUNT] = 4;
+    bag[FIRST_VALUE] = 8;
+    bag[SECOND_VALUE] = 8;
+    bag[THIRD_VALUE] = 8;
+    bag[LAST_VALUE] = size_of_last;
     bag
 }
 
@@ -37,10 +51,10 @@ fn row_count(table: &Table) -> u64 {
 fn opens_one_bag(alloc: Global) -> Option<bool> {
     let bytes = layer_of_entries(alloc, &[0; ENTRIES], &bag(8)).ok()?;
     let table = Table::open(alloc, &bytes).ok()?;
-    Some(row_count(&table) == 40)
+    Some(row_count(&table) == ENTRIES as u64)
 }
 
-// Whether two bags are read by turns, and a wrong value in the last entry's is named.
+// Whether a wrong value is named in a bag that comes last, behind one that all other entries share.
 fn names_a_wrong_value(alloc: Global) -> Option<bool> {
     let mut places = [0; ENTRIES];
     places[ENTRIES - 1] = BAG_SIZE;
@@ -49,7 +63,8 @@ fn names_a_wrong_value(alloc: Global) -> Option<bool> {
     bags.extend_from_slice(&bag(7)).ok()?;
     let bytes = layer_of_entries(alloc, &places, &bags).ok()?;
     let fault = Table::open(alloc, &bytes).err()?;
-    Some(fault == TableFault::Value(bytes.len().saturating_sub(LAST_VALUE)))
+    let behind_value = bag(8).len() - LAST_VALUE;
+    Some(fault == TableFault::Value(bytes.len().saturating_sub(behind_value)))
 }
 
 #[test]

@@ -12,7 +12,7 @@ use Rattle.least_tree.specs.Needed.{IsNeeded}
 use Rattle.least_tree.specs.Runs.{IsOnLine}
 use Rattle.least_tree.proofs.LeastTree.{small, large, least}
 use Rattle.cert_maker.specs.declared.made.Made.{Made}
-use Rattle.cert_maker.specs.declared.made.Made.TheVariants.{Cert, Counterexample, NodeLimit}
+use Rattle.cert_maker.specs.declared.made.Made.TheVariants.{Cert, Counter, NodeLimit}
 use Rattle.cert_maker.specs.Made.{AreNeeded, IsMade}
 use Rattle.cert_maker.specs.Least.{IsLeastTree, IsLeast}
 
@@ -40,7 +40,7 @@ fewer stack sets c d (tree ∷ trees) (other ∷ others) l e needed ok =
 
 pub made-least : (stack : List LayerOf) (sets : List SetOf) (asked : List Goal) (most : ℕ) (made : Made) → IsMade stack sets asked most made → IsLeast stack sets asked most made
 made-least stack sets asked most (Cert certificate) h = λ c d l g tree is. least-tree stack sets c d tree l (h.1 g tree is) (h.0.passes g tree is)
-made-least stack sets asked most (Counterexample g device end) h = tt
+made-least stack sets asked most (Counter g device end) h = tt
 made-least stack sets asked most NodeLimit h = λ c d l trees ok.
     let few = fewer stack sets c d h.0 trees l (h.1 ∙ sym ok.goals) h.2 ok.passes in
     let more = h.3 in

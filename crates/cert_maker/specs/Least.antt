@@ -9,7 +9,7 @@ use Rattle.cert_checker.specs.Fails.{NoRuleFails}
 use Rattle.cert_checker.specs.FirstFault.{goal_trace, IsAccepted}
 use Rattle.least_tree.specs.Runs.{runs_along, IsOnLine}
 use Rattle.cert_maker.specs.declared.made.Made.{Made}
-use Rattle.cert_maker.specs.declared.made.Made.TheVariants.{Cert, Counterexample, NodeLimit}
+use Rattle.cert_maker.specs.declared.made.Made.TheVariants.{Cert, Counter, NodeLimit}
 
 -- twice as many nodes as there are runs, less one, and no accepted tree for the goal has fewer
 pub record IsLeastTree (stack : List LayerOf) (sets : List SetOf) (c : Coord) (d : List ℕ) (tree : GoalOf) : Type 0 where
@@ -20,6 +20,6 @@ pub record IsLeastTree (stack : List LayerOf) (sets : List SetOf) (c : Coord) (d
 abbrev pub IsLeast : List LayerOf → List SetOf → List Goal → ℕ → Made → Type 0
 IsLeast stack sets asked most (Cert certificate) =
     (c : Coord) (d : List ℕ) → IsOnLine sets c d → (g : ℕ) (tree : GoalOf) → slice_get (goals_of certificate) g ≡ Some tree → IsLeastTree stack sets c d tree
-IsLeast stack sets asked most (Counterexample g device end) = Unit {0}
+IsLeast stack sets asked most (Counter g device end) = Unit {0}
 IsLeast stack sets asked most NodeLimit =
     (c : Coord) (d : List ℕ) → IsOnLine sets c d → (trees : List GoalOf) → IsAccepted stack sets asked trees → most < node_count trees

@@ -13,7 +13,7 @@ use Rattle.cert_checker.specs.FirstFault.{goal_trace, goals_in, IsAccepted}
 use Rattle.cert_checker.specs.Headline.{RulesEndAt}
 use Rattle.least_tree.specs.Needed.{IsNeeded}
 use Rattle.cert_maker.specs.declared.made.Made.{Made}
-use Rattle.cert_maker.specs.declared.made.Made.TheVariants.{Cert, Counterexample, NodeLimit}
+use Rattle.cert_maker.specs.declared.made.Made.TheVariants.{Cert, Counter, NodeLimit}
 
 -- each tree is one whose tests are needed
 abbrev pub AreNeeded : List LayerOf → List SetOf → List GoalOf → Type 0
@@ -30,7 +30,7 @@ pub record IsCounterexample (stack : List LayerOf) (sets : List SetOf) (goal : G
 abbrev pub IsMade : List LayerOf → List SetOf → List Goal → ℕ → Made → Type 0
 IsMade stack sets asked most (Cert certificate) =
     IsAccepted stack sets asked (goals_of certificate) × AreNeeded stack sets (goals_of certificate) × (node_count (goals_of certificate) ≤ most)
-IsMade stack sets asked most (Counterexample g device end) =
+IsMade stack sets asked most (Counter g device end) =
     (goal : Goal) × (slice_get asked g ≡ Some goal) × IsCounterexample stack sets goal (device_numbers device) end
 IsMade stack sets asked most NodeLimit =
     (trees : List GoalOf) × (goals_in trees ≡ asked) × AreNeeded stack sets trees × (most < node_count trees)
@@ -38,5 +38,5 @@ IsMade stack sets asked most NodeLimit =
 -- what each node says is within the limits of the format, so that the certificate reads back if it has not too many nodes
 abbrev pub CanBeWritten : Made → Type 0
 CanBeWritten (Cert certificate) = All (λ tree. All NodeFits tree.nodes) (goals_of certificate)
-CanBeWritten (Counterexample g device end) = Unit {0}
+CanBeWritten (Counter g device end) = Unit {0}
 CanBeWritten NodeLimit = Unit {0}

@@ -9,7 +9,7 @@
 //! ```text
 //! match make(alloc, &stack, &phones, &asked, 1_000_000)? {
 //!     Made::Cert(certificate) => .., // certificate.write(alloc)?
-//!     Made::Counterexample { goal, device, ending } => .., // asked[goal] ends there
+//!     Made::Counter { goal, device, ending } => .., // asked[goal] ends there
 //!     Made::NodeLimit => ..,
 //! }
 //! ```

@@ -10,7 +10,7 @@ pub enum Made {
     /// A certificate that is accepted, within the limit. Its tests are all needed.
     Cert(Cert),
     /// A device of the box for which a goal, counted from 0, ends at no value and no bag, and where it ends.
-    Counterexample {
+    Counter {
         goal: usize,
         device: Device,
         ending: End,

@@ -42,7 +42,7 @@ impl Trees {
             }
             Grown::Counterexample(device, ending) => {
                 let goal = self.grown.len();
-                Ok(Some(Made::Counterexample {
+                Ok(Some(Made::Counter {
                     goal,
                     device,
                     ending,

@@ -8,7 +8,8 @@ use Rattle.res_value.specs.declared.res_id.ResId.{ResId}
 use Rattle.command_words.specs.declared.words_fault.WordsFault.{WordsFault}
 use Rattle.command_words.specs.declared.words_fault.WordsFault.TheVariants.{CommandLine, NotText, BadId, OutOfMemory}
 use Rattle.command_words.specs.Ids.{id_in, ids_in, ReadsId, ReadsIds}
-use Rattle.command_words.proofs.EachLeft.{each-ok, each-nil}
+use Rattle.json_input.proofs.EachSteps.{each-ok}
+use Rattle.json_input.proofs.EachLeft.{each-nil}
 
 -- a word that is lent
 abbrev pub word_of : Bor (List ℕ) → List ℕ

@@ -1,4 +1,3 @@
-pub mod EachLeft
 pub mod IdSteps
 pub mod Rows
 pub mod CommandLineFacts

@@ -16,7 +16,7 @@ ghost use Rattle.config_box.specs.declared.box_fault.BoxFault.TheVariants.{OutOf
 use crate::box_fault::BoxFault;
 use crate::half::half_of;
 use crate::read::sets_in_value;
-use crate::split::{OutOfMemory as NoMemory, Split, is_wrong_kind, shared_sets, with_set};
+use crate::split::{OutOfMemory as NoMemory, Split, has_wrong_kind, shared_sets, with_set};
 use crate::test::Test;
 use crate::values::{Values, values_of};
 use box_answers::{NumberSet, Sameness, set_at};
@@ -112,7 +112,7 @@ impl ConfigBox {
         ensures { IfOk result (IsSplit self.now (test_of test.now)) }
     {
         let sets = self.sets.as_slice();
-        if is_wrong_kind(sets, test) {
+        if has_wrong_kind(sets, test) {
             return Ok(Split::WrongKind);
         }
         let set = set_at(sets, test.coord());

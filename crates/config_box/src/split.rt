@@ -28,7 +28,7 @@ pub enum Split {
 
 /// Whether a test can't be asked of the box's set.
 #[tactic(auto, unfolding(crate::specs::Tests::has_wrong_kind))]
-pub(crate) fn is_wrong_kind(sets: &[NumberSet], test: &Test) -> bool
+pub(crate) fn has_wrong_kind(sets: &[NumberSet], test: &Test) -> bool
     requires { length sets.now ≡ 25 }
     ensures { result ≡ has_wrong_kind (sets_of sets.now) (test_of test.now) }
 {

@@ -13,7 +13,7 @@ use Rattle.json_input.specs.Each.{list_items, each}
 pub record EachAllBut {A X E : Type 0} (f : A → Result X E) (so_far : List X) (place : ℕ) (all : List A) : Type 0 where
   pub others : with_front so_far (each f (drop place all)) ≡ each f all
 
-with_front-twice : {X E : Type 0} (a b : List X) (r : Result (List X) E) → with_front a (with_front b r) ≡ with_front (a ++ b) r
+pub with_front-twice : {X E : Type 0} (a b : List X) (r : Result (List X) E) → with_front a (with_front b r) ≡ with_front (a ++ b) r
 with_front-twice {X} {E} a b (Ok xs) = let wrapped : List X → Result (List X) E = λ t. Ok t in ap wrapped (sym (append_assoc a b xs))
 with_front-twice a b (Err e) = refl
 
@@ -21,11 +21,11 @@ pub EachAllBut-none : {A X E : Type 0} (f : A → Result X E) (all : List A) →
 EachAllBut-none f all = record { others = with_front_nil (each f all) }
 
 -- the first of several
-each-ok : {A X E : Type 0} (f : A → Result X E) (a : A) (others : List A) (x : X) → f a ≡ Ok x → each f (a ∷ others) ≡ with_front (x ∷ []) (each f others)
+pub each-ok : {A X E : Type 0} (f : A → Result X E) (a : A) (others : List A) (x : X) → f a ≡ Ok x → each f (a ∷ others) ≡ with_front (x ∷ []) (each f others)
 unfolding each
 each-ok {A} {X} {E} f a others x given = ap (λ (r : Result X E). r >>= (λ x. with_front (x ∷ []) (each f others))) given
 
-each-err : {A X E : Type 0} (f : A → Result X E) (a : A) (others : List A) (e : E) → f a ≡ Err e → each f (a ∷ others) ≡ Err e
+pub each-err : {A X E : Type 0} (f : A → Result X E) (a : A) (others : List A) (e : E) → f a ≡ Err e → each f (a ∷ others) ≡ Err e
 unfolding each
 each-err {A} {X} {E} f a others e given = ap (λ (r : Result X E). r >>= (λ x. with_front (x ∷ []) (each f others))) given
 

@@ -1,3 +1,4 @@
 pub mod ValueLemmas
 pub mod EachSteps
+pub mod EachLeft
 pub mod LineFeed

@@ -3,7 +3,7 @@ use Rattle.std.proofs.Common.{◌≡◌, ◌==◌, ℕ, ◌+◌, ◌*◌, ◌^�
 use Rattle.std.specs.List.{filter}
 use Rattle.std.proofs.lemmas.List.{length-map}
 use Rattle.std.proofs.lemmas.List.Elements.{All-head, All-tail, All-push}
-use Rattle.type_chunks.specs.Table.{rows_of}
+use Rattle.resource_table.specs.Table.{rows_of}
 use Rattle.overlay_map.specs.Layer.{LayerOf, most_layers, HasFewRows, own_id, rows_with, rows_for}
 use Rattle.overlay_map.specs.Candidates.{candidates_at, candidates_from}
 

@@ -23,7 +23,7 @@ mod value_text;
 mod word;
 
 pub use cell::Cell;
-pub use map_rows::{MapRows, MapRowsFault};
+pub use map_rows::{MapRows, MapRowsFault, ROW_SIZE};
 pub use res_id::{ResId, write_id};
 pub use value::Value;
 pub use value_text::write_value;

@@ -9,8 +9,8 @@ use crate::value::Value;
 use chunk_walk::u32_within;
 use thiserror::Error;
 
-// How many bytes a row has.
-const ROW_SIZE: usize = 12;
+/// How many bytes a row of a bag has.
+pub const ROW_SIZE: usize = 12;
 
 // Where the parts of a row stand.
 const NAME: usize = 0;

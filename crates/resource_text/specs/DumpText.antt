@@ -7,9 +7,9 @@ use Rattle.string_pool.specs.Shown.{shown_text, string_text}
 use Rattle.res_value.specs.ResId.{id_text}
 use Rattle.res_value.specs.Word.{word_text}
 use Rattle.type_chunks.specs.Row.{RowOf}
-use Rattle.type_chunks.specs.Package.{PackageOf}
-use Rattle.type_chunks.specs.Table.{TableOf}
-use Rattle.type_chunks.specs.Names.{type_name_in, key_name_in}
+use Rattle.resource_table.specs.Package.{PackageOf}
+use Rattle.resource_table.specs.Table.{TableOf}
+use Rattle.resource_table.specs.Names.{type_name_in, key_name_in}
 use Rattle.resource_text.specs.CellText.{RowFormatOf, row_end_text}
 
 -- four spaces before the lines of a bag, and these strings

@@ -4,7 +4,7 @@ use Rattle.std.specs.List.{flat_map}
 use Rattle.std.specs.Fmt.{decimal}
 use Rattle.res_value.specs.ResId.{id_text}
 use Rattle.type_chunks.specs.Row.{RowOf, set_aside_count}
-use Rattle.type_chunks.specs.Table.{TableOf, rows_of}
+use Rattle.resource_table.specs.Table.{TableOf, rows_of}
 use Rattle.resource_text.specs.CellText.{RowFormatOf, row_end_text}
 
 -- two spaces before the lines of a bag, and no strings

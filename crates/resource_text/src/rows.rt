@@ -7,8 +7,9 @@ ghost use Rattle.resource_text.specs.RowsText.{row_text, totals_text, rows_text}
 use crate::cell::{RowFormat, write_row_end};
 use crate::last_record::LastRecord;
 use res_value::write_id;
+use resource_table::Table;
 use std::io::{self, Write};
-use type_chunks::{Row, Table};
+use type_chunks::Row;
 
 /// Two spaces before the rows of a bag, and no strings.
 const FORMAT: RowFormat<'static> = RowFormat {

@@ -3,7 +3,7 @@ use Rattle.std.proofs.Common.{◌≡◌, ℕ, ◌≤◌, List, Option, Result, O
 use Rattle.res_value.specs.declared.res_id.ResId.{ResId}
 use Rattle.cert_tree.specs.Certificate.{goals_of, most_nodes}
 use Rattle.cert_maker.specs.declared.made.Made.{Made}
-use Rattle.cert_maker.specs.declared.made.Made.TheVariants.{Cert, Counterexample, NodeLimit}
+use Rattle.cert_maker.specs.declared.made.Made.TheVariants.{Cert, Counter, NodeLimit}
 use Rattle.cert_maker.specs.Made.{IsMade, CanBeWritten}
 use Rattle.cert_maker.specs.Least.{IsLeast}
 use Rattle.resource_text.specs.declared.fault.ToolFault.{ToolFault}
@@ -34,7 +34,7 @@ reads-back ids most inputs (Cert certificate) again right fits done few =
       means = again (record { few = omega (arith, few, right.2); nodes = fits });
       accepted = right.0;
     }
-reads-back ids most inputs (Counterexample g device end) again right fits done few = absurd (not_done done)
+reads-back ids most inputs (Counter g device end) again right fits done few = absurd (not_done done)
 reads-back ids most inputs NodeLimit again right fits done few = absurd (not_done done)
 
 pub made-printed : {W : Type 0} (contents : W → Option (List ℕ)) (old new : W) (ids : List ResId) (most : ℕ) (inputs : MakeInputs) (result : Result Status ToolFault) (made : Made)

@@ -14,7 +14,7 @@ use Rattle.cert_tree.specs.CertJson.{cert_in}
 use Rattle.cert_tree.specs.WrittenJson.{cert_data}
 use Rattle.cert_checker.specs.FirstFault.{IsAccepted}
 use Rattle.cert_maker.specs.declared.made.Made.{Made}
-use Rattle.cert_maker.specs.declared.made.Made.TheVariants.{Cert, Counterexample, NodeLimit}
+use Rattle.cert_maker.specs.declared.made.Made.TheVariants.{Cert, Counter, NodeLimit}
 use Rattle.cert_maker.specs.Made.{IsMade}
 use Rattle.cert_maker.specs.Least.{IsLeast}
 use Rattle.resource_text.specs.declared.fault.ToolFault.{ToolFault}
@@ -46,7 +46,7 @@ make_inputs layers box_json = do
 -- it is done where there is a certificate
 abbrev pub status_of_made : Made → Status
 status_of_made (Cert certificate) = Done
-status_of_made (Counterexample goal device end) = Negative
+status_of_made (Counter goal device end) = Negative
 status_of_made NodeLimit = Negative
 
 -- a certificate in one line
@@ -63,7 +63,7 @@ counterexample_text goal d end = counterexample_line goal ++ device_with_end d e
 
 unfoldable pub made_text : Made → List ℕ
 made_text (Cert certificate) = certificate_line (goals_of certificate)
-made_text (Counterexample goal device end) = counterexample_text goal (device_numbers device) end
+made_text (Counter goal device end) = counterexample_text goal (device_numbers device) end
 made_text NodeLimit = codes "node limit" ++ 10 ∷ []
 
 abbrev pub made_output : Made → Output

@@ -2,7 +2,7 @@
 use Rattle.std.specs.Prelude.{ℕ, ◌+◌, List, [], ◌∷◌, length, nat_lt, Option, Some, None, Result, Ok}
 use Rattle.contract_words.specs.Faults.{◌>>=◌, refuse}
 use Rattle.contract_words.specs.Sequences.{with_front}
-use Rattle.type_chunks.specs.Table.{TableOf, table_in}
+use Rattle.resource_table.specs.Table.{TableOf, table_in}
 use Rattle.overlay_map.specs.IdMap.{MapOf, map_in}
 use Rattle.overlay_map.specs.Layer.{LayerOf, most_layers}
 use Rattle.resource_text.specs.declared.layers_fault.LayersFault.TheVariants.{TooManyLayers}

@@ -1,7 +1,7 @@
 -- What the commands print that are asked for one table: `rows` and `dump`.
 use Rattle.std.specs.Prelude.{ℕ, List, Result, Ok, Err}
 use Rattle.type_chunks.specs.declared.fault.TableFault.{TableFault}
-use Rattle.type_chunks.specs.Table.{TableOf, table_in}
+use Rattle.resource_table.specs.Table.{TableOf, table_in}
 use Rattle.resource_text.specs.declared.fault.ToolFault.{ToolFault}
 use Rattle.resource_text.specs.ToolFault.{fault_of_table}
 use Rattle.resource_text.specs.RowsText.{rows_text}

@@ -4,10 +4,10 @@ ghost use Rattle.resource_tool.specs.Output.{Prints};
 ghost use Rattle.resource_tool.specs.TableOutput.{dump_output};
 
 use crate::status::Status;
+use resource_table::Table;
 use resource_text::{ToolFault, dump_text};
 use std::alloc::Global;
 use std::io::Write;
-use type_chunks::Table;
 
 /// Prints a line for each package of a table and one for each of its rows with their names, in the
 /// order of the file.

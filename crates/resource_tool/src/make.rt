@@ -94,7 +94,7 @@ fn print_made<W: Write + Drop>(alloc: Global, made: &Made, out: &mut W) -> Resul
             let text = certificate.write(alloc)?;
             write_line(text.as_slice(), out)?;
         }
-        Made::Counterexample {
+        Made::Counter {
             goal,
             device,
             ending,
@@ -109,7 +109,7 @@ fn status_of_made(made: &Made) -> Status
 {
     match made {
         Made::Cert(_) => Status::Done,
-        Made::Counterexample { .. } => Status::Negative,
+        Made::Counter { .. } => Status::Negative,
         Made::NodeLimit => Status::Negative,
     }
 }

@@ -4,10 +4,10 @@ ghost use Rattle.resource_tool.specs.Output.{Prints};
 ghost use Rattle.resource_tool.specs.TableOutput.{rows_output};
 
 use crate::status::Status;
+use resource_table::Table;
 use resource_text::{ToolFault, rows_text};
 use std::alloc::Global;
 use std::io::Write;
-use type_chunks::Table;
 
 /// Prints a line for each row of a table, in the order of the file, and one with their number and how
 /// many of them are set aside.

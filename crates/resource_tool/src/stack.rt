@@ -12,9 +12,10 @@ ghost use Rattle.resource_tool.specs.StackBytes.{table_of_layer, map_of_layer, l
 ghost use Rattle.resource_tool.specs.StackBytesSeen.{layer_bytes, with_layer};
 
 use overlay_map::{IdMap, MOST_LAYERS, MapFault, Stack};
+use resource_table::Table;
 use resource_text::{LayersFault, ToolFault};
 use std::alloc::Global;
-use type_chunks::{Table, TableFault};
+use type_chunks::TableFault;
 
 /// The stack of layers of which each is the bytes of a table and, at an overlay, those of an id map. More
 /// than 64 are refused before any is read; then each table is read and, behind it, its map.

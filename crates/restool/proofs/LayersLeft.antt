@@ -12,7 +12,7 @@ use Rattle.restool.specs.declared.stop.Stop.{Stop}
 use Rattle.restool.specs.Stop.{tool, stop_of}
 use Rattle.restool.specs.Inputs.{Places, layer_of}
 use Rattle.restool.specs.FilesSeen.{layer_held}
-use Rattle.command_words.proofs.EachLeft.{left-next, left-stops, left-end}
+use Rattle.json_input.proofs.EachLeft.{left-next, left-stops, left-end}
 
 abbrev pub Layer : Type 0
 Layer = Vec ℕ Global × Option (Vec ℕ Global)

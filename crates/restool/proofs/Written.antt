@@ -23,7 +23,7 @@ use Rattle.command_words.specs.declared.request.DeviceRequest.TheVariants.{Query
 use Rattle.command_words.specs.declared.request.BoxRequest.TheVariants.{Make, Check}
 use Rattle.restool.specs.declared.stop.Stop.{Stop}
 use Rattle.restool.specs.Stop.{StopOf, stop_of, tool}
-use Rattle.restool.specs.Inputs.{Places, InputsWith, CheckInputs, table_of, layers_with, check_files}
+use Rattle.restool.specs.Inputs.{Places, DeviceInputs, CheckInputs, table_of, device_files, check_files}
 use Rattle.restool.specs.Answers.{Answers, CarriesOut}
 
 -- Nothing is kept back before an answer. What was appended is not kept back any more, so it came to the writer behind.
@@ -115,17 +115,17 @@ module _ {W V : Type 0} (c : W → Option (List ℕ)) (d : V → Option (List �
   answers-over from to carry carry_one places (Rows path) p = carry _ rows_output (table_of places path.now) p
   answers-over from to carry carry_one places (Dump path) p = carry _ dump_output (table_of places path.now) p
   answers-over from to carry carry_one places (OfDevice layers device (Query ids)) p =
-      carry _ (λ (inputs : InputsWith). query_output inputs.layers inputs.other ids.items) (layers_with places layers.now device.now) p
+      carry _ (λ (inputs : DeviceInputs). query_output inputs.layers inputs.devices ids.items) (device_files places layers.now device.now) p
   answers-over from to carry carry_one places (OfDevice layers device (Explain id)) p =
-      carry _ (λ (inputs : InputsWith). explain_output inputs.layers inputs.other id.0) (layers_with places layers.now device.now) p
+      carry _ (λ (inputs : DeviceInputs). explain_output inputs.layers inputs.devices id.0) (device_files places layers.now device.now) p
   answers-over from to carry carry_one places (OfDevice layers device (Bag id)) p =
-      carry _ (λ (inputs : InputsWith). bag_output inputs.layers inputs.other id.0) (layers_with places layers.now device.now) p
+      carry _ (λ (inputs : DeviceInputs). bag_output inputs.layers inputs.devices id.0) (device_files places layers.now device.now) p
   answers-over from to carry carry_one places (OfDevice layers device (Attr attr styles force)) p =
-      carry _ (λ (inputs : InputsWith). attr_output inputs.layers inputs.other attr.0 styles.items force) (layers_with places layers.now device.now) p
+      carry _ (λ (inputs : DeviceInputs). attr_output inputs.layers inputs.devices attr.0 styles.items force) (device_files places layers.now device.now) p
   answers-over from to carry carry_one places (OfBox layers box_path (Make max_nodes ids)) p =
-      carry_one _ _ (IsMakeOutput ids.items max_nodes) (λ (inputs : InputsWith). make_inputs inputs.layers inputs.other) (layers_with places layers.now box_path.now) p
+      carry_one _ _ (IsMakeOutput ids.items max_nodes) (λ (inputs : DeviceInputs). make_inputs inputs.layers inputs.devices) (device_files places layers.now box_path.now) p
   answers-over from to carry carry_one places (OfBox layers box_path (Check certificate ids)) p =
-      carry_one _ _ (check.IsCheckOutput ids.items) (λ (inputs : CheckInputs). check.check_inputs inputs.inputs.layers inputs.inputs.other inputs.certificate)
+      carry_one _ _ (check.IsCheckOutput ids.items) (λ (inputs : CheckInputs). check.check_inputs inputs.asked.layers inputs.asked.devices inputs.certificate)
       (check_files places layers.now box_path.now certificate.now) p
 
   answers-done : (status : Status) → Passes → (places : Places) (request : Request)

@@ -19,7 +19,7 @@ use Rattle.command_words.specs.declared.request.BoxRequest.{BoxRequest}
 use Rattle.command_words.specs.declared.request.BoxRequest.TheVariants.{Make, Check}
 use Rattle.restool.specs.declared.stop.Stop.{Stop}
 use Rattle.restool.specs.Stop.{StopOf, stop_of, tool}
-use Rattle.restool.specs.Inputs.{Places, InputsWith, table_of, layers_with, check_files}
+use Rattle.restool.specs.Inputs.{Places, DeviceInputs, table_of, device_files, check_files}
 
 -- A command is carried out on what is read: it is done as the command does it. A stop is why something is not read, or
 -- the command's fault. Where memory ran out, nothing is said.
@@ -31,25 +31,25 @@ CarriesOut {X} Command meant (Err stop) =
     ⊎ ((read : X) × (fault : ToolFault) × (meant ≡ Ok read) × (stop_of stop ≡ tool fault) × Command read (Err fault))
 
 -- what is asked of a device, from layers and that device
-abbrev pub AnswersOfDevice : {W : Type 0} → (W → Option (List ℕ)) → W → W → InputsWith → DeviceRequest → Result Status ToolFault → Type 0
+abbrev pub AnswersOfDevice : {W : Type 0} → (W → Option (List ℕ)) → W → W → DeviceInputs → DeviceRequest → Result Status ToolFault → Type 0
 AnswersOfDevice contents old new inputs (Query ids) result =
-    Prints contents old new result (query_output inputs.layers inputs.other ids.items)
+    Prints contents old new result (query_output inputs.layers inputs.devices ids.items)
 AnswersOfDevice contents old new inputs (Explain id) result =
-    Prints contents old new result (explain_output inputs.layers inputs.other id.0)
+    Prints contents old new result (explain_output inputs.layers inputs.devices id.0)
 AnswersOfDevice contents old new inputs (Bag id) result =
-    Prints contents old new result (bag_output inputs.layers inputs.other id.0)
+    Prints contents old new result (bag_output inputs.layers inputs.devices id.0)
 AnswersOfDevice contents old new inputs (Attr attr styles force) result =
-    Prints contents old new result (attr_output inputs.layers inputs.other attr.0 styles.items force)
+    Prints contents old new result (attr_output inputs.layers inputs.devices attr.0 styles.items force)
 
 -- what is asked of a box, from the layers and the box at these paths
 abbrev pub AnswersOfBox : {W : Type 0} → (W → Option (List ℕ)) → W → W → Places → List ℕ → List ℕ → BoxRequest → Result Status Stop → Type 0
 AnswersOfBox contents old new places layers box_path (Make max_nodes ids) =
     CarriesOut (λ inputs result. PrintsOneOf (IsMakeOutput ids.items max_nodes) contents old new result
-    (make_inputs inputs.layers inputs.other))
-    (layers_with places layers box_path)
+    (make_inputs inputs.layers inputs.devices))
+    (device_files places layers box_path)
 AnswersOfBox contents old new places layers box_path (Check certificate ids) =
     CarriesOut (λ inputs result. PrintsOneOf (check.IsCheckOutput ids.items) contents old new result
-    (check.check_inputs inputs.inputs.layers inputs.inputs.other inputs.certificate))
+    (check.check_inputs inputs.asked.layers inputs.asked.devices inputs.certificate))
     (check_files places layers box_path certificate.now)
 
 -- a request, from what the places have
@@ -59,6 +59,6 @@ Answers contents old new places (Rows table) =
 Answers contents old new places (Dump table) =
     CarriesOut (λ bytes result. Prints contents old new result (dump_output bytes)) (table_of places table.now)
 Answers contents old new places (OfDevice layers device request) =
-    CarriesOut (λ inputs. AnswersOfDevice contents old new inputs request) (layers_with places layers.now device.now)
+    CarriesOut (λ inputs. AnswersOfDevice contents old new inputs request) (device_files places layers.now device.now)
 Answers contents old new places (OfBox layers box_path request) =
     AnswersOfBox contents old new places layers.now box_path.now request

@@ -4,9 +4,9 @@ use Rattle.std.specs.Option.{option_map}
 use Rattle.std.specs.declared.alloc.Global.{Global}
 use Rattle.resource_tool.specs.StackBytes.{LayerBytes}
 use Rattle.restool.specs.declared.files.LayerFiles.{LayerFiles}
-use Rattle.restool.specs.declared.files.LayersWith.{LayersWith}
+use Rattle.restool.specs.declared.files.DeviceFiles.{DeviceFiles}
 use Rattle.restool.specs.declared.files.CheckFiles.{CheckFiles}
-use Rattle.restool.specs.Inputs.{InputsWith, CheckInputs}
+use Rattle.restool.specs.Inputs.{DeviceInputs, CheckInputs}
 
 abbrev pub bytes_of : Vec ℕ Global → List ℕ
 bytes_of bytes = bytes.items
@@ -22,8 +22,8 @@ all_held layers = map layer_held layers.items
 abbrev pub layers_held : LayerFiles → List LayerBytes
 layers_held files = all_held files.files
 
-abbrev pub with_held : LayersWith → InputsWith
-with_held files = record { layers = layers_held files.layers; other = files.other.items }
+abbrev pub devices_held : DeviceFiles → DeviceInputs
+devices_held files = record { layers = layers_held files.layers; devices = files.devices.items }
 
 abbrev pub check_held : CheckFiles → CheckInputs
-check_held files = record { inputs = with_held files.inputs; certificate = files.certificate.items }
+check_held files = record { asked = devices_held files.asked; certificate = files.certificate.items }

@@ -61,25 +61,25 @@ layers_of places path = do
 
 -- ---- the files of a request
 
--- layers, and the bytes of a device or a box
-pub record InputsWith : Type 0 where
+-- layers, and the bytes of a device or of a box of devices
+pub record DeviceInputs : Type 0 where
   pub layers : List LayerBytes
-  pub other : List ℕ
+  pub devices : List ℕ
 
--- layers and then another file
-unfoldable pub layers_with : Places → List ℕ → List ℕ → Result InputsWith StopOf
-layers_with places layers other = do
-  layers ← layers_of places layers
-  other ← file_of places other
-  Ok (record { layers = layers; other = other })
+-- layers and then the device or the box
+unfoldable pub device_files : Places → List ℕ → List ℕ → Result DeviceInputs StopOf
+device_files places layers_path devices_path = do
+  layers ← layers_of places layers_path
+  devices ← file_of places devices_path
+  Ok (record { layers = layers; devices = devices })
 
 pub record CheckInputs : Type 0 where
-  pub inputs : InputsWith
+  pub asked : DeviceInputs
   pub certificate : List ℕ
 
 -- layers, then a box and then a certificate
 unfoldable pub check_files : Places → List ℕ → List ℕ → List ℕ → Result CheckInputs StopOf
-check_files places layers box_path certificate = do
-  inputs ← layers_with places layers box_path
-  certificate ← file_of places certificate
-  Ok (record { inputs = inputs; certificate = certificate })
+check_files places layers_path box_path certificate_path = do
+  asked ← device_files places layers_path box_path
+  certificate ← file_of places certificate_path
+  Ok (record { asked = asked; certificate = certificate })

@@ -28,9 +28,9 @@ Works contents known words old new outcome =
 
 -- The end. After work that is done nothing more is written. Else the stream of the stop got the line that says why, unless
 -- it failed, and the other stream nothing.
-abbrev pub Ends : {W V : Type 0} → (V → Option (List ℕ)) → Streams W V → Streams W V → Result Status Stop → ExitStatus → Type 0
-Ends says before after (Ok status) ended = (ended ≡ after_status status) × (after.out ≡ before.out) × (after.errors ≡ before.errors)
-Ends says before after (Err stop) ended =
+abbrev pub EndsAs : {W V : Type 0} → (V → Option (List ℕ)) → Streams W V → Streams W V → Result Status Stop → ExitStatus → Type 0
+EndsAs says before after (Ok status) ended = (ended ≡ after_status status) × (after.out ≡ before.out) × (after.errors ≡ before.errors)
+EndsAs says before after (Err stop) ended =
     (was_written : Bool)
     × (ended ≡ status_of_stop was_written (stop_of stop))
     × (was_written ≡ true → IfSome (stop_line (stop_of stop)) (Appends (says before.errors) (says after.errors)))
@@ -45,4 +45,4 @@ Runs {W} {V} contents says known words is_terminal before after ended =
     × Works contents known words before.out worked.out outcome
     × IfErr outcome (λ stop. stop_of stop ≢ tool Write → worked.out ≡ before.out)
     × (is_terminal ≡ false → worked.errors ≡ before.errors)
-    × Ends says worked after outcome ended
+    × EndsAs says worked after outcome ended

@@ -6,10 +6,10 @@ ghost use Rattle.resource_tool.specs.Output.{PrintsOneOf};
 ghost use Rattle.resource_tool.specs.MakeOutput.{IsMakeOutput, make_inputs};
 ghost use Rattle.resource_tool.specs.CheckOutput.{IsCheckOutput, check_inputs};
 ghost use Rattle.restool.specs.Answers.{Answers, AnswersOfBox, AnswersOfDevice};
-ghost use Rattle.restool.specs.FilesSeen.{with_held, layers_held};
+ghost use Rattle.restool.specs.FilesSeen.{devices_held, layers_held};
 ghost use Rattle.restool.specs.Stop.{stop_of, tool};
 
-use crate::files::{CheckFiles, LayersWith};
+use crate::files::{CheckFiles, DeviceFiles};
 use crate::input::{Inputs, table_bytes};
 use crate::stop::Stop;
 use command_words::{BoxRequest, DeviceRequest, Request};
@@ -46,7 +46,7 @@ pub fn answer<'a, I: Inputs, P: Progress, O: Write + Drop>(
             device_path,
             request,
         } => {
-            let files = LayersWith::read(alloc, inputs, layers_path, device_path)?;
+            let files = DeviceFiles::read(alloc, inputs, layers_path, device_path)?;
             Ok(answer_of_device(alloc, &files, request, out)?)
         }
         Request::OfBox {
@@ -59,14 +59,14 @@ pub fn answer<'a, I: Inputs, P: Progress, O: Write + Drop>(
 
 fn answer_of_device<O: Write + Drop>(
     alloc: Global,
-    files: &LayersWith,
+    files: &DeviceFiles,
     request: DeviceRequest,
     out: &mut O,
 ) -> Result<Status, ToolFault>
-    ensures { AnswersOfDevice O.contents out.old out.new (with_held files.now) request result }
+    ensures { AnswersOfDevice O.contents out.old out.new (devices_held files.now) request result }
 {
     let layers = files.layers.layers(alloc)?;
-    let device = &files.other;
+    let device = &files.devices;
     match request {
         DeviceRequest::Query { ids } => query_bytes(alloc, &layers, device, &ids, out),
         DeviceRequest::Explain { id } => explain_bytes(alloc, &layers, device, id, out),
@@ -94,7 +94,7 @@ fn answer_of_box<'a, I: Inputs, P: Progress, O: Write + Drop>(
 {
     match request {
         BoxRequest::Make { max_nodes, ids } => {
-            let files = LayersWith::read(alloc, inputs, layers_path, box_path)?;
+            let files = DeviceFiles::read(alloc, inputs, layers_path, box_path)?;
             Ok(make_certificate(alloc, &files, &ids, max_nodes, progress, out)?)
         }
         BoxRequest::Check {
@@ -109,17 +109,17 @@ fn answer_of_box<'a, I: Inputs, P: Progress, O: Write + Drop>(
 
 fn make_certificate<O: Write + Drop, P: Progress>(
     alloc: Global,
-    files: &LayersWith,
+    files: &DeviceFiles,
     ids: &[ResId],
     max_nodes: u32,
     progress: &mut P,
     out: &mut O,
 ) -> Result<Status, ToolFault>
     ensures { PrintsOneOf (IsMakeOutput ids.now max_nodes) O.contents out.old out.new result
-        (make_inputs (layers_held files.now.layers) files.now.other.items) }
+        (make_inputs (layers_held files.now.layers) files.now.devices.items) }
 {
     let layers = files.layers.layers(alloc)?;
-    let box_json = &files.other;
+    let box_json = &files.devices;
     make_bytes_watched(alloc, &layers, box_json, ids, max_nodes, progress, out)
 }
 
@@ -130,9 +130,9 @@ fn check_certificate<O: Write + Drop>(
     out: &mut O,
 ) -> Result<Status, ToolFault>
     ensures { PrintsOneOf (IsCheckOutput ids.now) O.contents out.old out.new result
-        (check_inputs (layers_held files.now.inputs.layers) files.now.inputs.other.items files.now.certificate.items) }
+        (check_inputs (layers_held files.now.asked.layers) files.now.asked.devices.items files.now.certificate.items) }
 {
-    let layers = files.inputs.layers.layers(alloc)?;
-    let box_json = &files.inputs.other;
+    let layers = files.asked.layers.layers(alloc)?;
+    let box_json = &files.asked.devices;
     check_bytes(alloc, &layers, box_json, &files.certificate, ids, out)
 }

@@ -5,8 +5,8 @@ ghost use Rattle.json_input.specs.Each.{each};
 ghost use Rattle.resource_tool.specs.LayerListSeen.{paths_of, all_paths_of};
 ghost use Rattle.resource_tool.specs.StackBytesSeen.{layer_bytes};
 ghost use Rattle.restool.specs.Stop.{GivesOrStops};
-ghost use Rattle.restool.specs.Inputs.{layer_of, layers_of, layers_with, check_files};
-ghost use Rattle.restool.specs.FilesSeen.{layer_held, all_held, layers_held, with_held, check_held};
+ghost use Rattle.restool.specs.Inputs.{layer_of, layers_of, device_files, check_files};
+ghost use Rattle.restool.specs.FilesSeen.{layer_held, all_held, layers_held, devices_held, check_held};
 
 use crate::input::{Inputs, file_bytes, layer_file_bytes};
 use crate::stop::Stop;
@@ -80,36 +80,35 @@ fn read_layer<I: Inputs>(
     }
 }
 
-/// The bytes of layers and of a device or a box.
+/// The bytes of layers, and of a device or a box of devices.
 #[derive(Drop)]
-pub struct LayersWith {
+pub struct DeviceFiles {
     pub layers: LayerFiles,
-    /// Those of the device or the box.
-    pub other: Vec<u8>,
+    pub devices: Vec<u8>,
 }
 
-impl LayersWith {
-    /// Reads a list of layers with the files that it names, and then another file.
-    #[tactic(auto, unfolding(crate::specs::Inputs::layers_with))]
+impl DeviceFiles {
+    /// Reads a list of layers with the files that it names, and then the device or the box.
+    #[tactic(auto, unfolding(crate::specs::Inputs::device_files))]
     pub fn read<'a, I: Inputs>(
         alloc: Global,
         inputs: &I,
         layers_path: &'a str,
-        other_path: &'a str,
-    ) -> Result<LayersWith, Stop<'a>>
-        ensures { IfSome (I.places inputs.now) (λ places. GivesOrStops with_held result
-            (layers_with places layers_path.entry.now other_path.entry.now)) }
+        devices_path: &'a str,
+    ) -> Result<DeviceFiles, Stop<'a>>
+        ensures { IfSome (I.places inputs.now) (λ places. GivesOrStops devices_held result
+            (device_files places layers_path.entry.now devices_path.entry.now)) }
     {
         let layers = LayerFiles::read(alloc, inputs, layers_path)?;
-        let other = file_bytes(inputs, other_path)?;
-        Ok(LayersWith { layers, other })
+        let devices = file_bytes(inputs, devices_path)?;
+        Ok(DeviceFiles { layers, devices })
     }
 }
 
 /// The bytes of layers, of a box and of a certificate.
 #[derive(Drop)]
 pub struct CheckFiles {
-    pub inputs: LayersWith,
+    pub asked: DeviceFiles,
     pub certificate: Vec<u8>,
 }
 
@@ -126,11 +125,8 @@ impl CheckFiles {
         ensures { IfSome (I.places inputs.now) (λ places. GivesOrStops check_held result
             (check_files places layers_path.entry.now box_path.entry.now certificate_path.entry.now)) }
     {
-        let layers_with_box = LayersWith::read(alloc, inputs, layers_path, box_path)?;
+        let asked = DeviceFiles::read(alloc, inputs, layers_path, box_path)?;
         let certificate = file_bytes(inputs, certificate_path)?;
-        Ok(CheckFiles {
-            inputs: layers_with_box,
-            certificate,
-        })
+        Ok(CheckFiles { asked, certificate })
     }
 }

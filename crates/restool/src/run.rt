@@ -5,7 +5,7 @@ ghost use Rattle.std.specs.Io.Buffered.{writer_buffer, writer_contents, writer_i
 ghost use Rattle.std.specs.Io.KnownBytes.{Keeps};
 ghost use Rattle.resource_text.specs.declared.fault.ToolFault.TheVariants.{Write};
 ghost use Rattle.restool.specs.Answers.{Answers};
-ghost use Rattle.restool.specs.Run.{Ends, Runs};
+ghost use Rattle.restool.specs.Run.{EndsAs, Runs};
 ghost use Rattle.restool.specs.Stop.{stop_of, tool};
 
 use crate::answer::answer;
@@ -70,7 +70,7 @@ pub fn end<O: Write + Drop, E: Write + Drop>(
     out: &mut O,
     errors: &mut E,
 ) -> ExitStatus
-    ensures { Ends E.contents (record { out = out.old; errors = errors.old }) (record { out = out.new; errors = errors.new })
+    ensures { EndsAs E.contents (record { out = out.old; errors = errors.old }) (record { out = out.new; errors = errors.new })
         outcome.entry result }
 {
     match outcome {

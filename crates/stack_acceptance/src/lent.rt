@@ -3,11 +3,12 @@
 
 use overlay_map::Stack;
 use res_value::{Cell, MapRows, ResId, Value};
+use resource_table::Table;
 use std::alloc::Global;
 use string_pool::Text;
 use test_layers::{layer, layer_with_string};
 use test_stacks::{push_base, push_overlay};
-use type_chunks::{Row, Table};
+use type_chunks::Row;
 
 const FIRST: ResId = ResId(0x7f01_0000);
 

@@ -2,10 +2,10 @@
 
 use overlay_map::{IdMap, MOST_LAYERS, Stack, StackFault};
 use res_value::{Cell, ResId};
+use resource_table::Table;
 use std::alloc::Global;
 use test_layers::layer;
 use test_stacks::{push_base, push_overlay};
-use type_chunks::Table;
 
 /// An overlay's entry 1 stands for entry 0.
 const SECOND: &[u8] = br#"[["0x7f010000","0x7f010001"]]"#;

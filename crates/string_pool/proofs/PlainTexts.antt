@@ -9,15 +9,12 @@ use Rattle.std.proofs.Math.Seq.{drop-append_seam}
 use Rattle.std.proofs.lemmas.Bool.{and_parts, cases_lt}
 use Rattle.std.proofs.lemmas.List.Folds.{list_all-append}
 use Rattle.std.proofs.lemmas.Str.{encode_ascii, length-encode, len_utf8_bounds}
+use Rattle.std.proofs.lemmas.Bool.{not-true}
 use Rattle.bstr.specs.Utf8.{good, decoded}
 use Rattle.bstr.proofs.lemmas.EncodeLemmas.{decoded-encode}
 use Rattle.string_pool.specs.Shown.{takes_backslash, is_control, character_text, bytes_text}
 use Rattle.string_pool.specs.Escapes.{is_plain_byte, is_unescaped}
 use Rattle.string_pool.proofs.ByteTexts.{bytes_text-nil, bytes_text-some, bytes_text-ascii, plain_character, wide_character, is_low}
-
-not_true : (b : Bool) → not b ≡ true → b ≡ false
-not_true true is = absurd cc
-not_true false is = cc
 
 -- ---- ASCII
 
@@ -27,7 +24,7 @@ bytes_text-ascii_all (byte ∷ others) all =
     let parts = and_parts (is_plain_byte byte) (list_all is_plain_byte others) all in
     let is = and_parts (is_ascii byte) (not (takes_backslash byte || is_control byte)) parts.0 in
     let low : byte < 128 = is_low byte is.0 in
-    bytes_text-ascii byte others low ∙ ap (λ (t : List ℕ). t ++ bytes_text others) (plain_character byte (not_true _ is.1) ∙ encode_ascii byte low)
+    bytes_text-ascii byte others low ∙ ap (λ (t : List ℕ). t ++ bytes_text others) (plain_character byte (not-true _ is.1) ∙ encode_ascii byte low)
     ∙ ap (λ (t : List ℕ). byte ∷ t) (bytes_text-ascii_all others parts.1)
 
 -- ---- UTF-8 in which no byte takes an escape
@@ -37,7 +34,7 @@ unescaped_character c all =
     elim (cases_lt c 128) [
       | inl low ↦
           let one : list_all is_unescaped (c ∷ []) ≡ true = subst (λ (t : List ℕ). list_all is_unescaped t ≡ true) (encode_ascii c low) all in
-          not_true _ (and_parts (is_unescaped c) true one).0
+          not-true _ (and_parts (is_unescaped c) true one).0
       | inr high ↦ wide_character c high
     ]
 

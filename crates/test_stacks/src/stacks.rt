@@ -1,8 +1,8 @@
 //! Stacks of tables that lie in memory.
 
 use overlay_map::{IdMap, Stack};
+use resource_table::Table;
 use std::alloc::Global;
-use type_chunks::Table;
 
 /// An id map in which entry 0 stands for entry 0.
 pub const SAME: &[u8] = br#"[["0x7f010000","0x7f010000"]]"#;

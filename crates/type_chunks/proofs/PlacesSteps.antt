@@ -10,23 +10,25 @@ use Rattle.std.proofs.lemmas.List.Concat.{flat_map-append}
 use Rattle.std.proofs.lemmas.List.Elements.{All-nil, All-head, All-tail, All-rest, All-same, All-push}
 use Rattle.contract_words.specs.Faults.{◌>>=◌}
 use Rattle.contract_words.specs.Sequences.{with_front}
-use Rattle.chunk_walk.specs.Chunk.{ChunkOf, chunk_within}
+use Rattle.chunk_walk.specs.Chunk.{ChunkOf, chunk_of, chunk_within}
 use Rattle.chunk_walk.specs.Chunks.{StandsAt}
 use Rattle.chunk_walk.specs.declared.chunk.ChunkFault.{ChunkFault}
 use Rattle.type_chunks.specs.declared.fault.TableFault.{TableFault}
 use Rattle.type_chunks.specs.declared.known_specs.KnownSpecs.{KnownSpecs}
 use Rattle.type_chunks.specs.declared.owner.Owner.{Owner}
+use Rattle.type_chunks.specs.declared.package_types.PackageTypes.{PackageTypes}
 use Rattle.type_chunks.specs.declared.type_place.TypePlace.{TypePlace}
 use Rattle.type_chunks.specs.declared.type_spec.TypeSpec.{TypeSpec}
 use Rattle.type_chunks.specs.Layout.{type_kind, type_spec_kind}
-use Rattle.type_chunks.specs.LowerFaults.{found_chunk}
+use Rattle.type_chunks.specs.FoundChunk.{found_chunk}
 use Rattle.type_chunks.specs.Row.{RowOf}
 use Rattle.type_chunks.specs.TypeSpec.{TypeSpecOf, type_spec_of, type_spec_in, last_spec}
 use Rattle.type_chunks.specs.TypeChunk.{TypeChunkOf, type_with, type_in}
 use Rattle.type_chunks.specs.Entries.{AreRead, rows_from}
 use Rattle.type_chunks.specs.KnownSpecs.{kept_for, kept_spec, Knows, SpecsStand}
-use Rattle.type_chunks.specs.PackageChildren.{rows_of_entries, rows_of_child}
-use Rattle.type_chunks.specs.TypePlaces.{spec_at, SpecStands, type_at, IsKept, AreKept, rows_of_read, rows_at, rows_of_places, rows_of_each}
+use Rattle.type_chunks.specs.PackageChildren.{rows_of_entries, rows_of_child, rows_of_kept}
+use Rattle.type_chunks.specs.TypePlaces.{spec_at, SpecStands, type_at, IsKept, AreKept, rows_of_read, rows_at, rows_of_places}
+use Rattle.type_chunks.specs.TypeRows.{rows_of_each}
 use Rattle.type_chunks.proofs.EntriesSteps.{rows_of_entries-read}
 use Rattle.type_chunks.proofs.TypeRowsSteps.{length-rows_of_chunk}
 
@@ -94,6 +96,10 @@ module _ (owner : Owner) (within : ChunkOf) where
       let others = length-rows_of_places places (All-tail (IsKept owner within) place places kept) in
       let split = length-append (rows_of_read (type_at owner within place)) (flat_map (rows_at owner within) places) in
       omega (arith, split, few-of (type_at owner within place) first.3, others)
+
+-- no package has more rows than fit in memory
+pub length-rows_of_kept : (types : PackageTypes) → length (rows_of_kept types) ≤ 2 ^ 63
+length-rows_of_kept types = omega (arith, length-rows_of_places types.owner (chunk_of types.container) types.places.items types.kept, types.few)
 
 -- a type is read with the last type spec of its id
 pub type_in-known : (owner : Owner) (specs : KnownSpecs) (before : List (Result ChunkOf ChunkFault)) (chunk : ChunkOf) (found : Option TypeSpec) → Knows specs before

@@ -1,5 +1,5 @@
 pub mod Layout
-pub mod LowerFaults
+pub mod FoundChunk
 pub mod Row
 pub mod TypeSpec
 pub mod TypeChunk
@@ -10,9 +10,4 @@ pub mod TypeRows
 pub mod TypePlaces
 pub mod WrongSizes
 pub mod PackageChildren
-pub mod Package
-pub mod Table
-pub mod Names
 pub mod KnownSpecs
-pub mod KnownChildren
-pub mod Units

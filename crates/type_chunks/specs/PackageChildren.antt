@@ -1,18 +1,21 @@
--- The rows of the chunks in a package, in the order of the file, or the first fault.
+-- The rows of the chunks in a package, in the order of the file, or the first fault; and those of the types that are
+-- kept of it.
 use Rattle.std.specs.Prelude.{List, [], ◌==◌, Result, Ok, Err, if◌then◌else◌}
 use Rattle.contract_words.specs.Faults.{◌>>=◌}
 use Rattle.contract_words.specs.Sequences.{joined_each, joined_from, with_before}
-use Rattle.chunk_walk.specs.Chunk.{ChunkOf}
+use Rattle.chunk_walk.specs.Chunk.{ChunkOf, chunk_of}
 use Rattle.chunk_walk.specs.Chunks.{children_of}
 use Rattle.chunk_walk.specs.declared.chunk.ChunkFault.{ChunkFault}
 use Rattle.type_chunks.specs.declared.fault.TableFault.{TableFault}
 use Rattle.type_chunks.specs.declared.fault.TableFault.TheVariants as faults
 use Rattle.type_chunks.specs.declared.owner.Owner.{Owner}
+use Rattle.type_chunks.specs.declared.package_types.PackageTypes.{PackageTypes}
 use Rattle.type_chunks.specs.Layout.{type_kind, type_spec_kind}
 use Rattle.type_chunks.specs.Row.{RowOf}
 use Rattle.type_chunks.specs.TypeSpec.{type_spec_in}
 use Rattle.type_chunks.specs.TypeChunk.{TypeChunkOf, type_in}
 use Rattle.type_chunks.specs.Entry.{rows_of_entry}
+use Rattle.type_chunks.specs.TypePlaces.{rows_of_places}
 
 -- the rows of the entries of a type, in the order of their indexes
 abbrev pub rows_of_entries : TypeChunkOf → Result (List RowOf) TableFault
@@ -30,3 +33,7 @@ rows_of_child owner (before, Ok chunk) =
 -- the chunks in a package
 abbrev pub rows_of_children : Owner → ChunkOf → Result (List RowOf) TableFault
 rows_of_children owner chunk = joined_each (rows_of_child owner) (with_before [] (children_of chunk))
+
+-- the rows of the types that are kept of a package
+abbrev pub rows_of_kept : PackageTypes → List RowOf
+rows_of_kept types = rows_of_places types.owner (chunk_of types.container) types.places.items

@@ -1,4 +1,4 @@
--- Types of a package that are found anew where they stand. Contracts within the crate alone speak of this.
+-- Types of a package that are found anew where they stand. `rows_of_kept` sees the rows of a package by this.
 use Rattle.std.specs.Prelude.{◌≡◌, ℕ, ◌-◌, ◌<◌, ◌≤◌, ◌^◌, List, [], length, Some, Result, Ok, Err, IsOk, All}
 use Rattle.std.specs.Result.{ForOk}
 use Rattle.std.specs.List.{flat_map}
@@ -8,7 +8,7 @@ use Rattle.type_chunks.specs.declared.fault.TableFault.{TableFault}
 use Rattle.type_chunks.specs.declared.owner.Owner.{Owner}
 use Rattle.type_chunks.specs.declared.type_place.TypePlace.{TypePlace}
 use Rattle.type_chunks.specs.declared.type_spec.TypeSpec.{TypeSpec}
-use Rattle.type_chunks.specs.LowerFaults.{found_chunk}
+use Rattle.type_chunks.specs.FoundChunk.{found_chunk}
 use Rattle.type_chunks.specs.Row.{RowOf}
 use Rattle.type_chunks.specs.TypeSpec.{TypeSpecOf, type_spec_of, type_spec_in}
 use Rattle.type_chunks.specs.TypeChunk.{TypeChunkOf, type_with}
@@ -52,7 +52,3 @@ rows_at owner within place = rows_of_read (type_at owner within place)
 -- the rows of the types at these places, one type after the other
 unfoldable pub rows_of_places : Owner → ChunkOf → List TypePlace → List RowOf
 rows_of_places owner within places = flat_map (rows_at owner within) places
-
--- the rows of each of some types, one type after the other
-abbrev pub rows_of_each : List (List RowOf) → List RowOf
-rows_of_each types = flat_map (λ rows. rows) types

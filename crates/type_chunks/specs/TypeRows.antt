@@ -18,3 +18,7 @@ row_at checked index =
 -- the rows of types, one type after the other
 unfoldable pub rows_of_types : List CheckedType → List RowOf
 rows_of_types types = flat_map rows_of_type types
+
+-- the rows of each of some types, one type after the other
+abbrev pub rows_of_each : List (List RowOf) → List RowOf
+rows_of_each types = flat_map (λ rows. rows) types

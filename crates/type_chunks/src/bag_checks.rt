@@ -6,13 +6,8 @@ ghost use Rattle.res_value.specs.Layout.{row_size};
 ghost use Rattle.type_chunks.specs.WrongSizes.{is_wrong, CountWrong};
 
 use chunk_walk::u16_within;
-use res_value::Value;
+use res_value::{MapRows, ROW_SIZE, Value};
 use std::alloc::{AllocError, Global};
-
-// How many bytes a row of a bag has, and where its value stands.
-const ROW_SIZE: usize = 12;
-
-const VALUE: usize = 4;
 
 /// What opening remembers of the rows of bags of a type. Entries can share bags, or have bags that overlap.
 /// Once as many rows were looked at as the type has room for, all its rows are counted, and each further bag
@@ -22,8 +17,8 @@ pub(crate) struct BagChecks<'a> {
     whole: &'a [u8],
     /// How many rows may still be looked at one by one.
     left: usize,
-    /// For each place, how many rows with a wrong size stand before it, one directly before the other;
-    /// empty until it is needed.
+    /// For each place, how many of the rows that end there, one row before it, two rows before it and so on have
+    /// a wrong size; empty until it is needed.
     counts: Vec<u32>,
     ghost small: { length whole.now < 2 ^ 32 },
     ghost counted: { CountWrong whole.now counts.items },
@@ -120,8 +115,8 @@ fn count_at(whole: &[u8], counts: &[u32], place: usize) -> u32
 // Whether a row at a place has a value of another size than a value has.
 #[tactic(auto, unfolding(crate::specs::WrongSizes::is_wrong))]
 fn is_wrong(whole: &[u8], place: usize) -> bool
-    requires { place + 12 ≤ length whole.now }
+    requires { place + row_size ≤ length whole.now }
     ensures { result ≡ is_wrong whole.now place }
 {
-    u16_within(whole, place + VALUE) as usize != Value::SIZE
+    u16_within(whole, place + MapRows::value_place(0)) as usize != Value::SIZE
 }

@@ -1,21 +1,18 @@
-//! Reads a resource table: opening checks all of it but its strings, and gives its packages with
-//! their rows in the order of the file.
+//! Reads the types of a package: each entry of each type is checked, and of each type its place is kept.
 //!
-//! For the crates above: a `Table` is the list of its packages with their rows and names, and the
-//! strings of its values; `Table::open` gives those that the bytes spell, or the first fault with its
-//! place; `rows(id)` is the rows of an id, `all_rows` all, and `find` gives the id of the first row that
-//! has two names.
+//! For the crates above: `types_of_children` gives the types of a package, whose rows are those that the
+//! chunks in it spell, or the first fault with its place; `PackageTypes::rows` is these rows, and `types` the
+//! rows of each type.
 //!
 //! ```text
-//! let table = Table::open(alloc, &bytes)?;
-//! for row in table.all_rows() {
+//! let types = types_of_children(alloc, Owner { id: 0x7f, index: 0 }, &package)?;
+//! for row in types.rows() {
 //!     println!(rt; "{:#010x} of type {}", row.id.0, row.id.type_id())?;
 //! }
 //! ```
 //!
-//! A file is a table chunk, which holds packages, which hold type specs and types, which hold
-//! entries. What rows these are, and which fault is the first, is said of each in `specs/Table.antt`,
-//! `specs/Package.antt`, `specs/PackageChildren.antt`, `specs/TypeSpec.antt`, `specs/TypeChunk.antt` and
+//! A package holds type specs and types, and types hold entries. What rows these are, and which fault is the
+//! first, is said of each in `specs/PackageChildren.antt`, `specs/TypeSpec.antt`, `specs/TypeChunk.antt` and
 //! `specs/Entry.antt`.
 #![tactic(auto)]
 
@@ -26,20 +23,13 @@ mod entry_check;
 mod entry_flags;
 mod entry_offsets;
 mod fault;
-mod known_children;
 mod known_specs;
 mod layout;
-mod names;
 mod owner;
-mod package;
 mod package_children;
-mod package_header;
 mod package_rows;
 mod package_types;
-mod pool;
 mod row;
-mod rows;
-mod table;
 mod type_check;
 mod type_chunk;
 mod type_flags;
@@ -50,10 +40,10 @@ mod types;
 
 pub use checked_type::CheckedType;
 pub use fault::TableFault;
-pub use package::Package;
+pub use owner::Owner;
+pub use package_children::types_of_children;
 pub use package_rows::PackageRows;
+pub use package_types::PackageTypes;
 pub use row::Row;
-pub use rows::{AllRows, Rows};
-pub use table::Table;
 pub use type_rows::TypeRows;
 pub use types::Types;

@@ -2,7 +2,7 @@
 
 /// The package that a type stands in.
 #[derive(Clone, Copy, Debug, PartialEq, Eq)]
-pub(crate) struct Owner {
+pub struct Owner {
     pub id: u8,
     /// How many packages of the table stand before it.
     pub index: usize,

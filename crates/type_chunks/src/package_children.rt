@@ -9,7 +9,7 @@ ghost use Rattle.contract_words.specs.Sequences.{Pushes};
 ghost use Rattle.type_chunks.specs.declared.fault.TableFault.TheVariants.{OutOfMemory};
 ghost use Rattle.type_chunks.specs.Layout.{type_kind};
 ghost use Rattle.type_chunks.specs.KnownSpecs.{Knows, SpecsStand};
-ghost use Rattle.type_chunks.specs.Package.{rows_of_kept};
+ghost use Rattle.type_chunks.specs.PackageChildren.{rows_of_kept};
 ghost use Rattle.type_chunks.specs.TypePlaces.{AreKept, rows_of_places};
 ghost use Rattle.type_chunks.specs.PackageChildren.{rows_of_child, rows_of_children};
 
@@ -27,7 +27,7 @@ use std::alloc::Global;
 
 /// The types among the chunks in a package, each of its entries checked.
 #[tactic(auto, using(contract_words::proofs::SequenceSteps::knowing_steps))]
-pub(crate) fn types_of_children<'a>(
+pub fn types_of_children<'a>(
     alloc: Global,
     owner: Owner,
     container: &Chunk<'a>,

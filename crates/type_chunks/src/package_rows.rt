@@ -21,7 +21,7 @@ pub struct PackageRows<'t, 'a> {
 impl<'t, 'a> Model for PackageRows<'t, 'a> {
     ghost use Rattle.std.specs.Prelude.{List, [], ◌++◌};
     ghost use Rattle.std.specs.Option.{unwrap_or};
-    ghost use Rattle.type_chunks.specs.TypePlaces.{rows_of_each};
+    ghost use Rattle.type_chunks.specs.TypeRows.{rows_of_each};
     ghost use Rattle.type_chunks.specs.Row.{RowOf};
 
     ghost Value = { List RowOf };
@@ -30,7 +30,7 @@ impl<'t, 'a> Model for PackageRows<'t, 'a> {
 }
 
 impl<'t, 'a> PackageRows<'t, 'a> {
-    ghost use Rattle.type_chunks.specs.TypePlaces.{rows_of_each};
+    ghost use Rattle.type_chunks.specs.TypeRows.{rows_of_each};
 
     pub(crate) fn new(types: Types<'t, 'a>) -> Self
         ensures { result ≡ rows_of_each types.entry }

@@ -13,18 +13,18 @@ use chunk_walk::Chunk;
 /// The types of a package, each entry of which was checked. Of each the place alone is kept, so memory grows by
 /// eight bytes with each.
 #[derive(Debug, Drop)]
-pub(crate) struct PackageTypes<'a> {
-    pub owner: Owner,
-    pub container: Chunk<'a>,
-    pub places: Vec<TypePlace>,
+pub struct PackageTypes<'a> {
+    pub(crate) owner: Owner,
+    pub(crate) container: Chunk<'a>,
+    pub(crate) places: Vec<TypePlace>,
     ghost few: { length places.items < 2 ^ 29 },
     ghost kept: { AreKept owner (chunk_of container) places.items },
 }
 
 impl<'a> PackageTypes<'a> {
     ghost use Rattle.std.specs.Prelude.{◌≡◌};
-    ghost use Rattle.type_chunks.specs.TypePlaces.{rows_of_each};
-    ghost use Rattle.type_chunks.specs.Package.{rows_of_kept};
+    ghost use Rattle.type_chunks.specs.TypeRows.{rows_of_each};
+    ghost use Rattle.type_chunks.specs.PackageChildren.{rows_of_kept};
 
     /// The types, read anew one after the other.
     #[tactic(auto, using(crate::proofs::PlacesSteps::rows_of_places_each))]

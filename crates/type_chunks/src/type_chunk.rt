@@ -48,31 +48,30 @@ impl<'a> TypeChunk<'a> {
         ensures value { seen_type result ≡ type_with owner (option_map type_spec_of found.entry) (chunk_of chunk.now) }
         ensures spec { IfOk result (λ read. found.entry ≡ Some read.spec) }
     {
-        let place = chunk.place;
         if chunk.header.len() < header::LEAST_SIZE {
-            return Err(TableFault::Chunk(ChunkFault::HeaderShort(place)));
+            return Err(TableFault::Chunk(ChunkFault::HeaderShort(chunk.place)));
         }
         let id = chunk.header[header::ID];
         if id == 0 {
-            return Err(TableFault::TypeId(place));
+            return Err(TableFault::TypeId(chunk.place));
         }
         let Some(spec) = found else {
-            return Err(TableFault::TypeWithoutSpec(place));
+            return Err(TableFault::TypeWithoutSpec(chunk.place));
         };
         if TypeFlags::from_bits_retain(chunk.header[header::FLAGS]).is_sparse() {
-            return Err(TableFault::SparseType(place));
+            return Err(TableFault::SparseType(chunk.place));
         }
         let Ok(config) = Record::read(&chunk.header[header::CONFIG..]) else {
-            return Err(TableFault::Config(place));
+            return Err(TableFault::Config(chunk.place));
         };
         let entry_count = u32_within(chunk.header, header::ENTRY_COUNT);
         if chunk.body.len() < header::OFFSET_SIZE * entry_count as usize {
-            return Err(TableFault::Offsets(place));
+            return Err(TableFault::Offsets(chunk.place));
         }
         Ok(TypeChunk {
             owner,
             spec,
-            place,
+            place: chunk.place,
             id,
             entry_count,
             entries_start: u32_within(chunk.header, header::ENTRIES_START),

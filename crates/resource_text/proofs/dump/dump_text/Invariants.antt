@@ -1,6 +1,6 @@
 use Rattle.std.proofs.Common.{drop}
 use Rattle.contract_words.proofs.TextSteps.{PutsAllBut}
-use Rattle.type_chunks.specs.Package.{packages_of}
+use Rattle.resource_table.specs.Package.{packages_of}
 use Rattle.resource_text.specs.DumpText.{package_text}
 use Rattle.resource_text.proofs.dump.dump_text.Given as goal
 

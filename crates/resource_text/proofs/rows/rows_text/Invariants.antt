@@ -1,6 +1,6 @@
 use Rattle.std.proofs.Common.{◌≡◌, ◌+◌, ◌^◌, ◌<◌, ◌≤◌, length}
 use Rattle.contract_words.proofs.TextSteps.{PutsAllBut}
-use Rattle.type_chunks.specs.Table.{rows_of}
+use Rattle.resource_table.specs.Table.{rows_of}
 use Rattle.type_chunks.specs.Row.{set_aside_count}
 use Rattle.resource_text.specs.RowsText.{row_text}
 use Rattle.resource_text.proofs.rows.rows_text.Given as goal

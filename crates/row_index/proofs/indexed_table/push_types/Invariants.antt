@@ -1,7 +1,6 @@
 use Rattle.std.proofs.Common.{◌≡◌, ◌++◌}
-use Rattle.type_chunks.specs.TypeRows.{rows_of_types}
-use Rattle.type_chunks.specs.TypePlaces.{rows_of_each}
-use Rattle.type_chunks.specs.Package.{package_of}
+use Rattle.type_chunks.specs.TypeRows.{rows_of_types, rows_of_each}
+use Rattle.resource_table.specs.Package.{package_of}
 use Rattle.row_index.proofs.indexed_table.push_types.Given as goal
 
 -- the rows so far and those of the types that are left are all rows

@@ -12,13 +12,13 @@ pub half_of-requires-clause-askable : goal.half_of-requires-clause-askable
 half_of-requires-clause-askable c =
     subst (λ (s : SetOf). IsAskable s (test_of c.args.test.now))
     (ap (λ (k : Coord). set_at (sets_of c.as_slice-sets.result.now) k) (sym c.coord.ensures) ∙ sym c.set_at-set.ensures)
-    (askable (sets_of c.as_slice-sets.result.now) (test_of c.args.test.now) (sym c.is_wrong_kind.ensures ∙ c.if-is_wrong_kind.false))
+    (askable (sets_of c.as_slice-sets.result.now) (test_of c.args.test.now) (sym c.has_wrong_kind.ensures ∙ c.if-has_wrong_kind.false))
 
 pub half_of-requires-2-clause-askable : goal.half_of-requires-2-clause-askable
 half_of-requires-2-clause-askable c =
     subst (λ (s : SetOf). IsAskable s (test_of c.args.test.now))
     (ap (λ (k : Coord). set_at (sets_of c.as_slice-sets.result.now) k) (sym c.coord.ensures) ∙ sym c.set_at-set.ensures)
-    (askable (sets_of c.as_slice-sets.result.now) (test_of c.args.test.now) (sym c.is_wrong_kind.ensures ∙ c.if-is_wrong_kind.false))
+    (askable (sets_of c.as_slice-sets.result.now) (test_of c.args.test.now) (sym c.has_wrong_kind.ensures ∙ c.if-has_wrong_kind.false))
 
 pub returns-in_default-2 : goal.returns-in_default-2
 returns-in_default-2 c =
@@ -28,6 +28,6 @@ returns-in_default-2 c =
     let at : set_of c.set_at-set.result.now ≡ set_at sets (coord_of test) = c.set_at-set.ensures ∙ ap (λ (k : Coord). set_at sets k) c.coord.ensures in
     let none : NoneAnswers (set_of c.set_at-set.result.now) test false = rw c.in_default-2.is at c.in_ok-no.ensures in
     subst (λ (b : List SetOf). (has_wrong_kind b test ≡ false) × (AllAnswer (IsMember b) test true ⊎ AllAnswer (IsMember b) test false)) whole (
-      sym c.is_wrong_kind.ensures ∙ c.if-is_wrong_kind.false,
+      sym c.has_wrong_kind.ensures ∙ c.if-has_wrong_kind.false,
       inl (all-answer_yes sets test (subst (λ (s : SetOf). NoneAnswers s test false) at none)),
     )

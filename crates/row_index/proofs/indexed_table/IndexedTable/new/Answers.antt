@@ -1,6 +1,6 @@
 use Rattle.std.proofs.Common.{length, ap, arith}
-use Rattle.type_chunks.specs.Package.{rows_of_packages}
-use Rattle.type_chunks.proofs.RowsSteps.{length-rows_of_packages}
+use Rattle.resource_table.specs.Package.{rows_of_packages}
+use Rattle.resource_table.proofs.RowsSteps.{length-rows_of_packages}
 use Rattle.row_index.proofs.indexed_table.IndexedTable.new.Goals as goal
 
 pub returns-in-Ok-of_types-clause-few : goal.returns-in-Ok-of_types-clause-few

@@ -1,6 +1,6 @@
 use Rattle.std.proofs.Common.{◌≡◌, ◌++◌, [], length}
 use Rattle.std.specs.Option.{unwrap_or}
-use Rattle.type_chunks.specs.TypePlaces.{rows_of_each}
+use Rattle.type_chunks.specs.TypeRows.{rows_of_each}
 use Rattle.type_chunks.proofs.package_rows.PackageRowsIterator.next.Given as goal
 
 -- only types without rows were passed over

@@ -1,0 +1,3 @@
+pub mod ChildrenSteps
+pub mod ZeroSteps
+pub mod RowsSteps

@@ -1,0 +1,26 @@
+-- What the code keeps of the chunks of a table on its way through them. Contracts within the crate
+-- alone speak of this.
+use Rattle.std.specs.Prelude.{◌≡◌, List, reverse, Option, Some, None, Result, Ok, count_by}
+use Rattle.chunk_walk.specs.Chunk.{ChunkOf}
+use Rattle.chunk_walk.specs.declared.chunk.ChunkFault.{ChunkFault}
+use Rattle.string_pool.specs.Pool.{PoolOf, pool_of, empty_pool}
+use Rattle.string_pool.specs.declared.pool.Pool.{Pool}
+use Rattle.resource_table.specs.declared.known_children.KnownChildren.{KnownChildren}
+use Rattle.resource_table.specs.TablePools.{pool_of_chunk}
+use Rattle.resource_table.specs.Table.{is_package, first_pool}
+
+-- the pool that is kept is the one that this chunk is; none is kept where there is no chunk
+abbrev pub IsPoolOf : Option (Result ChunkOf ChunkFault) → Option Pool → Type 0
+IsPoolOf None None = Unit {0}
+IsPoolOf (Some (Ok chunk)) (Some pool) = pool_of_chunk chunk ≡ Ok (pool_of pool)
+IsPoolOf found kept = ⊥
+
+-- among these chunks, of which the nearest stands first, are so many packages, and this is the first pool
+pub record KnowsChildren (known : KnownChildren) (before : List (Result ChunkOf ChunkFault)) : Type 0 where
+  pub packages : known.packages ≡ count_by is_package before
+  pub strings : IsPoolOf (first_pool (reverse before)) known.strings
+
+-- the pool that is kept, or one without strings
+abbrev pub or_empty : Option Pool → PoolOf
+or_empty (Some pool) = pool_of pool
+or_empty None = empty_pool

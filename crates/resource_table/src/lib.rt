@@ -1,0 +1,32 @@
+//! Reads a resource table: opening checks all of it but its strings, and gives its packages with
+//! their rows in the order of the file.
+//!
+//! For the crates above: a `Table` is the list of its packages with their rows and names, and the
+//! strings of its values; `Table::open` gives those that the bytes spell, or the first fault with its
+//! place; `rows(id)` is the rows of an id, `all_rows` all, and `find` gives the id of the first row that
+//! has two names.
+//!
+//! ```text
+//! let table = Table::open(alloc, &bytes)?;
+//! for row in table.all_rows() {
+//!     println!(rt; "{:#010x} of type {}", row.id.0, row.id.type_id())?;
+//! }
+//! ```
+//!
+//! A file is a table chunk, which holds packages and a pool of strings; what stands in a package is read by
+//! `type_chunks`. What packages and rows these are, and which fault is the first, is said in `specs/Table.antt`
+//! and `specs/Package.antt`.
+#![tactic(auto)]
+
+mod known_children;
+mod layout;
+mod names;
+mod package;
+mod package_header;
+mod pool;
+mod rows;
+mod table;
+
+pub use package::Package;
+pub use rows::{AllRows, Rows};
+pub use table::Table;

@@ -1,0 +1,19 @@
+//! String pools in a table.
+
+ghost use Rattle.std.specs.Prelude.{◌≡◌};
+ghost use Rattle.chunk_walk.specs.Chunk.{chunk_of};
+ghost use Rattle.resource_table.specs.TablePools.{seen_table_pool, pool_of_chunk};
+
+use chunk_walk::Chunk;
+use string_pool::Pool;
+use type_chunks::TableFault;
+
+/// Opens the pool that a chunk is; its fault is told with the place of the chunk.
+pub(crate) fn open_pool<'a>(chunk: &Chunk<'a>) -> Result<Pool<'a>, TableFault>
+    ensures { seen_table_pool result ≡ pool_of_chunk (chunk_of chunk.now) }
+{
+    match Pool::open(chunk) {
+        Ok(pool) => Ok(pool),
+        Err(fault) => Err(TableFault::Pool(chunk.place, fault)),
+    }
+}
