@@ -2,3 +2,4 @@ pub mod LookSteps
 pub mod PairSteps
 pub mod EntrySteps
 pub mod FewRows
+pub mod SetAsideSteps

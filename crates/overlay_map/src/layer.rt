@@ -54,15 +54,14 @@ impl<'a> Layer<'a> {
     }
 
     /// How many rows of its table are set aside.
+    #[tactic(auto, using(crate::proofs::SetAsideSteps::set_aside_steps))]
     pub fn set_aside(&self) -> u128
         ensures count { result ≡ set_aside_in_layer self.now }
-        ensures few { result < 2 ^ 92 }
+        ensures few { result < 2 ^ 99 }
     {
         let mut count = 0;
-        for row in self.table.table().all_rows() {
-            if row.config.set_aside() {
-                count += 1;
-            }
+        for checked in self.table.types() {
+            count += u128::from(checked.set_aside());
         }
         count
     }

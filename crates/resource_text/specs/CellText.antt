@@ -13,7 +13,7 @@ use Rattle.res_value.specs.ResId.{id_text}
 use Rattle.res_value.specs.ValueText.{value_text}
 use Rattle.config_record.specs.Qualifiers.{record_text}
 use Rattle.type_chunks.specs.Row.{RowOf}
-use Rattle.resource_text.specs.NamedText.{named_id}
+use Rattle.fault_text.specs.NamedText.{named_id}
 use Rattle.resource_text.specs.declared.cell.RowFormat.{RowFormat}
 
 -- In what two texts of the same rows differ: what stands before each line of a row of a bag, and the

@@ -4,8 +4,8 @@ use Rattle.string_pool.specs.Pool.{PoolOf}
 use Rattle.res_value.specs.declared.value.Value.{Value}
 use Rattle.reference_resolver.specs.declared.end.End.{End}
 use Rattle.reference_resolver.specs.declared.end.End.TheVariants as of_end
-use Rattle.resource_text.specs.NamedText.{named_id}
-use Rattle.resource_text.specs.LayerText.{layer_text}
+use Rattle.fault_text.specs.NamedText.{named_id}
+use Rattle.fault_text.specs.LayerText.{layer_text}
 use Rattle.resource_text.specs.CellText.{value_with_string}
 
 -- `value layer L VALUE`

@@ -1,13 +1,3 @@
-pub mod NamedText
-pub mod LayerText
-pub mod ToolFault
-pub mod TableFaultText
-pub mod LayersFaultText
-pub mod MapFaultText
-pub mod DeviceFaultText
-pub mod BoxFaultText
-pub mod CertFaultText
-pub mod FaultText
 pub mod CellText
 pub mod RowsText
 pub mod DumpText
@@ -16,3 +6,4 @@ pub mod QueryText
 pub mod ExplainText
 pub mod VerdictText
 pub mod Line
+pub mod LastTypeName

@@ -10,7 +10,7 @@ ghost use Rattle.type_chunks.specs.Row.{row_of};
 ghost use Rattle.resource_text.specs.CellText.{format_of, string_behind, value_with_string, bag_text, cell_text, named_value_text, map_row_text, map_rows_text, config_and_cell, row_end_text};
 
 use crate::last_record::LastRecord;
-use crate::named::write_named_id;
+use fault_text::write_named_id;
 use res_value::{Cell, MapRows, ResId, Value, kind, write_id, write_value};
 use std::io::{self, Write};
 use string_pool::{Pool, write_string};

@@ -6,8 +6,7 @@ ghost use Rattle.string_pool.specs.Pool.{pool_of};
 ghost use Rattle.resource_text.specs.EndText.{value_end_text, end_with_string, end_text, end_line};
 
 use crate::cell::write_value_with_string;
-use crate::layer::write_layer;
-use crate::named::write_named_id;
+use fault_text::{write_layer, write_named_id};
 use reference_resolver::End;
 use res_value::Value;
 use std::io::{self, Write};

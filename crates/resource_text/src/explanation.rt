@@ -11,9 +11,8 @@ ghost use Rattle.resource_text.specs.ExplainText.{place_text, traced_text, candi
 
 use crate::decision::write_decision;
 use crate::end::write_end_line;
-use crate::layer::write_layer;
-use crate::named::{write_named_id, write_named_number};
 use config_record::Device;
+use fault_text::{write_layer, write_named_id, write_named_number};
 use overlay_map::Stack;
 use reference_resolver::{End, LookUps, TracedCandidate, TracedCandidates, resolve};
 use res_value::ResId;

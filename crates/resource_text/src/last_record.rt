@@ -1,6 +1,6 @@
 //! The text of a record that comes again.
 
-ghost use Rattle.std.specs.Prelude.{◌≡◌, true, OnOk};
+ghost use Rattle.std.specs.Prelude.{◌≡◌, OnOk};
 ghost use Rattle.std.specs.Option.{ForSome};
 ghost use Rattle.contract_words.specs.Writes.{Writes};
 ghost use Rattle.config_record.specs.Record.{record_bytes};
@@ -31,25 +31,27 @@ impl<'a> LastRecord<'a> {
         }
     }
 
-    // A record, and its text where it is short.
-    fn of(record: Record<'a>) -> Self {
+    // A record with its text, where that is short.
+    fn of(config: Record<'a>) -> Option<Self>
+        ensures { ForSome result (λ kept. kept.text.items ≡ record_text (record_bytes config.entry)) }
+    {
         let mut text = ArrayVec::new();
-        match record.write_qualifiers(&mut text) {
-            Ok(()) => LastRecord {
-                last: Some(record),
+        match config.write_qualifiers(&mut text) {
+            Ok(()) => Some(LastRecord {
+                last: Some(config),
                 text,
-            },
-            Err(_) => LastRecord::none(),
+            }),
+            Err(_) => None,
         }
     }
 
-    // Whether this is the record whose text is kept.
-    fn is_of(&self, other: &Record<'_>) -> bool
-        ensures { result ≡ true → self.now.text.items ≡ record_text (record_bytes other.now) }
+    // The text that is kept, where it is that of a record.
+    fn text_of(&self, config: &Record<'_>) -> Option<&[u8]>
+        ensures { ForSome result (λ text. text.now ≡ record_text (record_bytes config.now)) }
     {
         match &self.last {
-            Some(last) => last.has_bytes_of(other),
-            None => false,
+            Some(last) if last.has_bytes_of(config) => Some(&self.text),
+            _ => None,
         }
     }
 
@@ -57,12 +59,15 @@ impl<'a> LastRecord<'a> {
     pub fn write<W: Write + Drop>(&mut self, config: Record<'a>, out: &mut W) -> io::Result<()>
         ensures { Writes W.contents out.old out.new result (record_text (record_bytes config.entry)) }
     {
-        if !self.is_of(&config) {
-            *self = LastRecord::of(config);
+        if let Some(text) = self.text_of(&config) {
+            return out.write_all(text);
         }
-        if self.is_of(&config) {
-            return out.write_all(&self.text);
+        match LastRecord::of(config) {
+            Some(kept) => {
+                *self = kept;
+                out.write_all(&self.text)
+            }
+            None => config.write_qualifiers(out),
         }
-        config.write_qualifiers(out)
     }
 }

@@ -1,4 +1,5 @@
-//! The lines that commands of restool print, written straight to a writer.
+//! The lines that commands of restool print of rows, ends, explanations and verdicts, written straight to a
+//! writer.
 //!
 //! For the crates above: what each call appends is the one text of its value, as `specs/` define it,
 //! and nothing else; the only error is the writer's.
@@ -17,32 +18,21 @@
 //! ```
 #![tactic(auto)]
 
-mod box_fault;
 mod cell;
-mod cert_fault;
 mod decision;
-mod device_fault;
 mod dump;
 mod end;
 mod explanation;
-mod fault;
 mod last_record;
-mod layer;
-mod layers_fault;
+mod last_type_name;
 mod line;
-mod map_fault;
-mod named;
 mod query;
 mod rows;
-mod table_fault;
 mod verdict;
 
 pub use dump::dump_text;
 pub use end::end_text;
 pub use explanation::explain;
-pub use fault::{ToolFault, fault_text};
-pub use layer::write_layer;
-pub use layers_fault::LayersFault;
 pub use query::{query_line, set_aside_line};
 pub use rows::rows_text;
 pub use verdict::{device_with_end, verdict_text};

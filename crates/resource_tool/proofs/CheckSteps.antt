@@ -10,8 +10,8 @@ use Rattle.overlay_map.specs.Layer.{LayerOf}
 use Rattle.cert_tree.specs.declared.cert_fault.CertFault.{CertFault}
 use Rattle.cert_tree.specs.Certificate.{GoalOf}
 use Rattle.cert_tree.specs.CertJson.{cert_in}
-use Rattle.resource_text.specs.declared.fault.ToolFault.{ToolFault}
-use Rattle.resource_text.specs.ToolFault.{fault_of_box, fault_of_certificate}
+use Rattle.fault_text.specs.declared.fault.ToolFault.{ToolFault}
+use Rattle.fault_text.specs.ToolFault.{fault_of_box, fault_of_certificate}
 use Rattle.resource_tool.specs.declared.status.Status.{Status}
 use Rattle.resource_tool.specs.Output.{PrintsOneOf}
 use Rattle.resource_tool.specs.StackBytes.{LayerBytes, stack_in}

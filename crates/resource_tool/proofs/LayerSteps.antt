@@ -9,8 +9,8 @@ use Rattle.serde_json.specs.declared.value.Value.{Value}
 use Rattle.json_input.specs.Each.{list_items, list_of, each}
 use Rattle.json_input.proofs.EachSteps.{list_items-view}
 use Rattle.overlay_map.specs.Layer.{most_layers}
-use Rattle.resource_text.specs.declared.layers_fault.LayersFault.{LayersFault}
-use Rattle.resource_text.specs.declared.layers_fault.LayersFault.TheVariants.{Shape, TooManyLayers}
+use Rattle.fault_text.specs.declared.layers_fault.LayersFault.{LayersFault}
+use Rattle.fault_text.specs.declared.layers_fault.LayersFault.TheVariants.{Shape, TooManyLayers}
 use Rattle.resource_tool.specs.LayerList.{LayerPaths, layer_paths_in, layers_in_value}
 
 -- layers, where there are not too many

@@ -6,8 +6,8 @@ use Rattle.cert_maker.specs.declared.made.Made.{Made}
 use Rattle.cert_maker.specs.declared.made.Made.TheVariants.{Cert, Counter, NodeLimit}
 use Rattle.cert_maker.specs.Made.{IsMade, CanBeWritten}
 use Rattle.cert_maker.specs.Least.{IsLeast}
-use Rattle.resource_text.specs.declared.fault.ToolFault.{ToolFault}
-use Rattle.resource_text.specs.declared.fault.ToolFault.TheVariants as faults
+use Rattle.fault_text.specs.declared.fault.ToolFault.{ToolFault}
+use Rattle.fault_text.specs.declared.fault.ToolFault.TheVariants as faults
 use Rattle.resource_tool.specs.declared.status.Status.{Status}
 use Rattle.resource_tool.specs.declared.status.Status.TheVariants.{Done, Negative}
 use Rattle.resource_tool.specs.Output.{Output, Prints, PrintsOneOf}

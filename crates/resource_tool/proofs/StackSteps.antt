@@ -5,7 +5,7 @@ use Rattle.std.specs.Borrow.{Bor}
 use Rattle.contract_words.specs.Faults.{◌>>=◌}
 use Rattle.contract_words.specs.Sequences.{with_front}
 use Rattle.overlay_map.specs.Layer.{LayerOf}
-use Rattle.resource_text.specs.declared.fault.ToolFault.{ToolFault}
+use Rattle.fault_text.specs.declared.fault.ToolFault.{ToolFault}
 use Rattle.resource_tool.specs.StackBytes.{LayerBytes, layer_in, layers_from}
 use Rattle.resource_tool.specs.StackBytesSeen.{layer_bytes, with_layer}
 

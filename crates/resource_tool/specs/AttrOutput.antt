@@ -10,8 +10,8 @@ use Rattle.bags_themes.specs.declared.bag_fault.BagFault.{BagFault}
 use Rattle.bags_themes.specs.Theme.{AttributeValues, unset}
 use Rattle.bags_themes.specs.Styles.{values_after_styles}
 use Rattle.bags_themes.specs.Attribute.{attribute_of}
-use Rattle.resource_text.specs.declared.fault.ToolFault.{ToolFault}
-use Rattle.resource_text.specs.ToolFault.{fault_of_device}
+use Rattle.fault_text.specs.declared.fault.ToolFault.{ToolFault}
+use Rattle.fault_text.specs.ToolFault.{fault_of_device}
 use Rattle.resource_text.specs.EndText.{end_text}
 use Rattle.resource_tool.specs.Output.{Output}
 use Rattle.resource_tool.specs.StackBytes.{LayerBytes, stack_in}

@@ -14,8 +14,8 @@ use Rattle.cert_checker.specs.declared.verdict.Verdict.{Verdict}
 use Rattle.cert_checker.specs.declared.verdict.Verdict.TheVariants.{Accepted, Rejected}
 use Rattle.cert_checker.specs.Verdict.{IsVerdict}
 use Rattle.cert_checker.specs.Headline.{Headline}
-use Rattle.resource_text.specs.declared.fault.ToolFault.{ToolFault}
-use Rattle.resource_text.specs.ToolFault.{fault_of_box, fault_of_certificate}
+use Rattle.fault_text.specs.declared.fault.ToolFault.{ToolFault}
+use Rattle.fault_text.specs.ToolFault.{fault_of_box, fault_of_certificate}
 use Rattle.resource_text.specs.QueryText.{set_aside_line}
 use Rattle.resource_text.specs.VerdictText.{verdict_text}
 use Rattle.resource_tool.specs.declared.status.Status.{Status}

@@ -4,8 +4,8 @@ use Rattle.contract_words.specs.Faults.{◌>>=◌}
 use Rattle.config_record.specs.DeviceJson.{device_in_json}
 use Rattle.overlay_map.specs.Layer.{LayerOf}
 use Rattle.reference_resolver.specs.Ends.{references_followed, end_of}
-use Rattle.resource_text.specs.declared.fault.ToolFault.{ToolFault}
-use Rattle.resource_text.specs.ToolFault.{fault_of_device}
+use Rattle.fault_text.specs.declared.fault.ToolFault.{ToolFault}
+use Rattle.fault_text.specs.ToolFault.{fault_of_device}
 use Rattle.resource_text.specs.ExplainText.{explain_text}
 use Rattle.resource_tool.specs.declared.status.Status.{Status}
 use Rattle.resource_tool.specs.Output.{Output}

@@ -8,8 +8,8 @@ use Rattle.json_input.specs.Each.{list_of, each}
 use Rattle.json_input.specs.Json.{value_of}
 use Rattle.json_input.specs.Shape.{has_only, text_of}
 use Rattle.overlay_map.specs.Layer.{most_layers}
-use Rattle.resource_text.specs.declared.layers_fault.LayersFault.{LayersFault}
-use Rattle.resource_text.specs.declared.layers_fault.LayersFault.TheVariants.{Syntax, Shape, TooManyLayers}
+use Rattle.fault_text.specs.declared.layers_fault.LayersFault.{LayersFault}
+use Rattle.fault_text.specs.declared.layers_fault.LayersFault.TheVariants.{Syntax, Shape, TooManyLayers}
 
 -- the files of a layer: that of its table and, at an overlay, that of its id map
 pub record LayerPaths : Type 0 where

@@ -1,8 +1,8 @@
 -- What a command prints, and how it ends.
 use Rattle.std.specs.Prelude.{◌≡◌, ◌≢◌, ℕ, List, Option, Result, Ok, Err, IsOk, IfErr}
 use Rattle.std.specs.Io.KnownBytes.{Appends}
-use Rattle.resource_text.specs.declared.fault.ToolFault.{ToolFault}
-use Rattle.resource_text.specs.declared.fault.ToolFault.TheVariants.{OutOfMemory, Write}
+use Rattle.fault_text.specs.declared.fault.ToolFault.{ToolFault}
+use Rattle.fault_text.specs.declared.fault.ToolFault.TheVariants.{OutOfMemory, Write}
 use Rattle.resource_tool.specs.declared.status.Status.{Status}
 
 -- how a command ends, and the text that it prints

@@ -8,8 +8,8 @@ use Rattle.overlay_map.specs.Layer.{LayerOf}
 use Rattle.overlay_map.specs.SetAside.{set_aside_in_stack}
 use Rattle.reference_resolver.specs.declared.end.End.{End}
 use Rattle.reference_resolver.specs.Ends.{references_followed, end_of}
-use Rattle.resource_text.specs.declared.fault.ToolFault.{ToolFault}
-use Rattle.resource_text.specs.ToolFault.{fault_of_device}
+use Rattle.fault_text.specs.declared.fault.ToolFault.{ToolFault}
+use Rattle.fault_text.specs.ToolFault.{fault_of_device}
 use Rattle.resource_text.specs.QueryText.{query_line, set_aside_line}
 use Rattle.resource_tool.specs.declared.status.Status.{Status}
 use Rattle.resource_tool.specs.declared.status.Status.TheVariants.{Done, Negative}

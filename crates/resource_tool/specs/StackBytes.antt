@@ -5,10 +5,10 @@ use Rattle.contract_words.specs.Sequences.{with_front}
 use Rattle.resource_table.specs.Table.{TableOf, table_in}
 use Rattle.overlay_map.specs.IdMap.{MapOf, map_in}
 use Rattle.overlay_map.specs.Layer.{LayerOf, most_layers}
-use Rattle.resource_text.specs.declared.layers_fault.LayersFault.TheVariants.{TooManyLayers}
-use Rattle.resource_text.specs.declared.fault.ToolFault.{ToolFault}
-use Rattle.resource_text.specs.declared.fault.ToolFault.TheVariants.{Layers}
-use Rattle.resource_text.specs.ToolFault.{fault_of_layer_table, fault_of_layer_map}
+use Rattle.fault_text.specs.declared.layers_fault.LayersFault.TheVariants.{TooManyLayers}
+use Rattle.fault_text.specs.declared.fault.ToolFault.{ToolFault}
+use Rattle.fault_text.specs.declared.fault.ToolFault.TheVariants.{Layers}
+use Rattle.fault_text.specs.ToolFault.{fault_of_layer_table, fault_of_layer_map}
 use Rattle.resource_tool.specs.MapErr.{map_err}
 
 -- the bytes of a layer: those of its table and, at an overlay, those of its id map

@@ -3,7 +3,7 @@ use Rattle.std.specs.Prelude.{ℕ, List, [], ◌∷◌, ◌++◌, Option, Result
 use Rattle.std.specs.Borrow.{Bor}
 use Rattle.std.specs.Option.{option_map}
 use Rattle.overlay_map.specs.Layer.{LayerOf}
-use Rattle.resource_text.specs.declared.fault.ToolFault.{ToolFault}
+use Rattle.fault_text.specs.declared.fault.ToolFault.{ToolFault}
 use Rattle.resource_tool.specs.StackBytes.{LayerBytes}
 
 -- the bytes that are lent

@@ -2,8 +2,8 @@
 use Rattle.std.specs.Prelude.{ℕ, List, Result, Ok, Err}
 use Rattle.type_chunks.specs.declared.fault.TableFault.{TableFault}
 use Rattle.resource_table.specs.Table.{TableOf, table_in}
-use Rattle.resource_text.specs.declared.fault.ToolFault.{ToolFault}
-use Rattle.resource_text.specs.ToolFault.{fault_of_table}
+use Rattle.fault_text.specs.declared.fault.ToolFault.{ToolFault}
+use Rattle.fault_text.specs.ToolFault.{fault_of_table}
 use Rattle.resource_text.specs.RowsText.{rows_text}
 use Rattle.resource_text.specs.DumpText.{dump_text}
 use Rattle.resource_tool.specs.declared.status.Status.TheVariants.{Done}

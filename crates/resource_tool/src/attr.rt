@@ -12,9 +12,10 @@ use crate::stack::open_stack;
 use crate::status::Status;
 use bags_themes::Theme;
 use config_record::Device;
+use fault_text::ToolFault;
 use reference_resolver::End;
 use res_value::{ResId, write_id};
-use resource_text::{ToolFault, end_text};
+use resource_text::end_text;
 use std::alloc::Global;
 use std::io::{self, Write};
 

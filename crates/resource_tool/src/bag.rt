@@ -12,8 +12,8 @@ use crate::stack::open_stack;
 use crate::status::Status;
 use bags_themes::{BagRow, bag};
 use config_record::Device;
+use fault_text::{ToolFault, write_layer};
 use res_value::{ResId, write_id, write_value};
-use resource_text::{ToolFault, write_layer};
 use std::alloc::Global;
 use std::io::{self, Write};
 

@@ -3,7 +3,7 @@
 ghost use Rattle.std.specs.Prelude.{◌≡◌, map, Ok, IfOk};
 ghost use Rattle.contract_words.specs.Exact.{GivesOr};
 ghost use Rattle.contract_words.specs.Writes.{Writes};
-ghost use Rattle.resource_text.specs.declared.fault.ToolFault.TheVariants.{OutOfMemory};
+ghost use Rattle.fault_text.specs.declared.fault.ToolFault.TheVariants.{OutOfMemory};
 ghost use Rattle.resource_tool.specs.Output.{PrintsOneOf, IsOfInput};
 ghost use Rattle.resource_tool.specs.StackBytesSeen.{layer_bytes};
 ghost use Rattle.resource_tool.specs.CheckOutput.{IsCheckOutput, check_inputs, check_text, status_of_verdict};
@@ -15,9 +15,10 @@ use crate::status::Status;
 use cert_checker::{Verdict, check};
 use cert_tree::Cert;
 use config_box::ConfigBox;
+use fault_text::ToolFault;
 use overlay_map::Stack;
 use res_value::ResId;
-use resource_text::{ToolFault, set_aside_line, verdict_text};
+use resource_text::{set_aside_line, verdict_text};
 use std::alloc::Global;
 use std::io::{self, Write};
 

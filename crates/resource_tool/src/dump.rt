@@ -4,8 +4,9 @@ ghost use Rattle.resource_tool.specs.Output.{Prints};
 ghost use Rattle.resource_tool.specs.TableOutput.{dump_output};
 
 use crate::status::Status;
+use fault_text::ToolFault;
 use resource_table::Table;
-use resource_text::{ToolFault, dump_text};
+use resource_text::dump_text;
 use std::alloc::Global;
 use std::io::Write;
 

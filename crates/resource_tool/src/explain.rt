@@ -9,8 +9,9 @@ use crate::end_status::status_of_end;
 use crate::stack::open_stack;
 use crate::status::Status;
 use config_record::Device;
+use fault_text::ToolFault;
 use res_value::ResId;
-use resource_text::{ToolFault, explain};
+use resource_text::explain;
 use std::alloc::Global;
 use std::io::Write;
 

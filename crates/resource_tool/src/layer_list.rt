@@ -7,15 +7,14 @@ ghost use Rattle.contract_words.specs.FillsIn.{FillsIn};
 ghost use Rattle.serde_json.specs.Find.{as_array};
 ghost use Rattle.serde_json.specs.View.{items_view, view};
 ghost use Rattle.json_input.specs.Each.{each};
-ghost use Rattle.json_input.specs.Fault.{fault_of_text};
 ghost use Rattle.overlay_map.specs.Layer.{most_layers};
-ghost use Rattle.resource_text.specs.declared.layers_fault.LayersFault.TheVariants.{Syntax, Shape, TooManyLayers, OutOfMemory};
+ghost use Rattle.fault_text.specs.declared.layers_fault.LayersFault.TheVariants.{Shape, TooManyLayers, OutOfMemory};
 ghost use Rattle.resource_tool.specs.LayerList.{table_path, map_path, layer_paths_in, layers_in_value};
 ghost use Rattle.resource_tool.specs.LayerListSeen.{path_seen, optional_path_seen, lent_paths_of, lent_paths_seen, paths_of, all_paths_of, listed};
 
-use json_input::{JsonFault, has_only, read_value};
+use fault_text::LayersFault;
+use json_input::{has_only, read_value};
 use overlay_map::MOST_LAYERS;
-use resource_text::LayersFault;
 use serde_json::Value;
 use std::alloc::{AllocError, Global};
 
@@ -40,18 +39,8 @@ impl LayerList {
     pub fn read(alloc: Global, json: &[u8]) -> Result<LayerList, LayersFault>
         ensures { GivesOr OutOfMemory listed result (layers_in json.now) }
     {
-        let value = read_value(alloc, json).map_err(fault_of_text)?;
+        let value = read_value(alloc, json)?;
         read_list(alloc, &value)
-    }
-}
-
-// Why a text was not read.
-fn fault_of_text(fault: JsonFault) -> LayersFault
-    ensures { result ≡ fault_of_text Syntax OutOfMemory fault }
-{
-    match fault {
-        JsonFault::Syntax => LayersFault::Syntax,
-        JsonFault::OutOfMemory => LayersFault::OutOfMemory,
     }
 }
 

@@ -14,10 +14,11 @@ use crate::status::Status;
 use cert_maker::{Made, Progress, Unwatched, make_watched};
 use config_box::ConfigBox;
 use config_record::Device;
+use fault_text::ToolFault;
 use overlay_map::Stack;
 use reference_resolver::End;
 use res_value::ResId;
-use resource_text::{ToolFault, device_with_end};
+use resource_text::device_with_end;
 use std::alloc::Global;
 use std::io::{self, Write};
 

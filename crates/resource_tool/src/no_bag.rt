@@ -3,13 +3,13 @@
 ghost use Rattle.std.specs.Prelude.{◌≡◌, ◌≢◌, Ok, Err};
 ghost use Rattle.bags_themes.specs.declared.bag_fault.BagFault.TheVariants as of_bag;
 ghost use Rattle.contract_words.specs.Writes.{Writes};
-ghost use Rattle.resource_text.specs.declared.fault.ToolFault.TheVariants.{OutOfMemory};
+ghost use Rattle.fault_text.specs.declared.fault.ToolFault.TheVariants.{OutOfMemory};
 ghost use Rattle.resource_tool.specs.Output.{Prints};
 ghost use Rattle.resource_tool.specs.BagOutput.{no_bag, no_bag_line};
 
 use crate::status::Status;
 use bags_themes::BagFault;
-use resource_text::ToolFault;
+use fault_text::ToolFault;
 use std::io::{self, Write};
 
 /// Prints the line that tells why there is no bag. Want of memory is the command's own fault.

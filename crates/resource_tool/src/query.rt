@@ -11,10 +11,11 @@ use crate::end_status::is_unresolved;
 use crate::stack::open_stack;
 use crate::status::Status;
 use config_record::Device;
+use fault_text::ToolFault;
 use overlay_map::Stack;
 use reference_resolver::resolve;
 use res_value::ResId;
-use resource_text::{ToolFault, query_line, set_aside_line};
+use resource_text::{query_line, set_aside_line};
 use std::alloc::Global;
 use std::io::{self, Write};
 

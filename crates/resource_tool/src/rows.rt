@@ -4,8 +4,9 @@ ghost use Rattle.resource_tool.specs.Output.{Prints};
 ghost use Rattle.resource_tool.specs.TableOutput.{rows_output};
 
 use crate::status::Status;
+use fault_text::ToolFault;
 use resource_table::Table;
-use resource_text::{ToolFault, rows_text};
+use resource_text::rows_text;
 use std::alloc::Global;
 use std::io::Write;
 

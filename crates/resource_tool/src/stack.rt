@@ -4,16 +4,16 @@ ghost use Rattle.std.specs.Prelude.{◌≡◌, ◌<◌, ◌≤◌, ◌∷◌, �
 ghost use Rattle.std.specs.Option.{option_map};
 ghost use Rattle.contract_words.specs.Exact.{GivesOr};
 ghost use Rattle.overlay_map.specs.Layer.{most_layers};
-ghost use Rattle.resource_text.specs.declared.fault.ToolFault.TheVariants.{OutOfMemory};
-ghost use Rattle.resource_text.specs.ToolFault.{fault_of_layer_table, fault_of_layer_map};
+ghost use Rattle.fault_text.specs.declared.fault.ToolFault.TheVariants.{OutOfMemory};
+ghost use Rattle.fault_text.specs.ToolFault.{fault_of_layer_table, fault_of_layer_map};
 ghost use Rattle.resource_tool.specs.MapErr.{map_err};
 ghost use Rattle.resource_tool.specs.Output.{IsOfInput};
 ghost use Rattle.resource_tool.specs.StackBytes.{table_of_layer, map_of_layer, layer_in, layers_from, stack_in};
 ghost use Rattle.resource_tool.specs.StackBytesSeen.{layer_bytes, with_layer};
 
+use fault_text::{LayersFault, ToolFault};
 use overlay_map::{IdMap, MOST_LAYERS, MapFault, Stack};
 use resource_table::Table;
-use resource_text::{LayersFault, ToolFault};
 use std::alloc::Global;
 use type_chunks::TableFault;
 

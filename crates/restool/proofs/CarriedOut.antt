@@ -1,6 +1,6 @@
 -- A command that is done on what was read.
 use Rattle.std.proofs.Common.{◌≡◌, Option, Some, None, IfSome, Result, Ok}
-use Rattle.resource_text.specs.declared.fault.ToolFault.{ToolFault}
+use Rattle.fault_text.specs.declared.fault.ToolFault.{ToolFault}
 use Rattle.resource_tool.specs.declared.status.Status.{Status}
 use Rattle.restool.specs.Stop.{StopOf}
 use Rattle.restool.specs.Inputs.{Places}

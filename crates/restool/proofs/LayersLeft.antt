@@ -5,7 +5,7 @@ use Rattle.std.proofs.lemmas.List.{map-append}
 use Rattle.contract_words.specs.Sequences.{with_front}
 use Rattle.contract_words.proofs.SequenceSteps.{with_front_nil}
 use Rattle.json_input.specs.Each.{each}
-use Rattle.resource_text.specs.declared.fault.ToolFault.TheVariants.{OutOfMemory}
+use Rattle.fault_text.specs.declared.fault.ToolFault.TheVariants.{OutOfMemory}
 use Rattle.resource_tool.specs.LayerListSeen.{paths_of}
 use Rattle.resource_tool.specs.StackBytes.{LayerBytes}
 use Rattle.restool.specs.declared.stop.Stop.{Stop}

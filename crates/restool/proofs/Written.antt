@@ -6,8 +6,8 @@ use Rattle.std.specs.Io.Buffered.{writer_buffer, writer_contents, writer_inner}
 use Rattle.std.specs.Io.KnownBytes.{Appends, Keeps, append_known}
 use Rattle.std.specs.declared.alloc.Global.{Global}
 use Rattle.std.specs.declared.io.buffered.BufWriter.{BufWriter}
-use Rattle.resource_text.specs.declared.fault.ToolFault.{ToolFault}
-use Rattle.resource_text.specs.declared.fault.ToolFault.TheVariants.{Table, Layers, LayerTable, LayerMap, Device, Box, Certificate, OutOfMemory, Write}
+use Rattle.fault_text.specs.declared.fault.ToolFault.{ToolFault}
+use Rattle.fault_text.specs.declared.fault.ToolFault.TheVariants.{Table, Layers, LayerTable, LayerMap, Device, Box, Certificate, OutOfMemory, Write}
 use Rattle.resource_tool.specs.declared.status.Status.{Status}
 use Rattle.resource_tool.specs.Output.{Output, Prints, PrintsOneOf}
 use Rattle.resource_tool.specs.TableOutput.{rows_output, dump_output}

@@ -1,7 +1,7 @@
 -- What a request is answered.
 use Rattle.std.specs.Prelude.{◌≡◌, ◌≢◌, ◌⊎◌, ℕ, List, Option, Result, Ok, Err}
-use Rattle.resource_text.specs.declared.fault.ToolFault.{ToolFault}
-use Rattle.resource_text.specs.declared.fault.ToolFault.TheVariants.{OutOfMemory}
+use Rattle.fault_text.specs.declared.fault.ToolFault.{ToolFault}
+use Rattle.fault_text.specs.declared.fault.ToolFault.TheVariants.{OutOfMemory}
 use Rattle.resource_tool.specs.declared.status.Status.{Status}
 use Rattle.resource_tool.specs.Output.{Prints, PrintsOneOf}
 use Rattle.resource_tool.specs.TableOutput.{rows_output, dump_output}

@@ -1,7 +1,7 @@
 -- How the program ends.
 use Rattle.std.specs.Prelude.{ℕ}
-use Rattle.resource_text.specs.declared.fault.ToolFault.{ToolFault}
-use Rattle.resource_text.specs.declared.fault.ToolFault.TheVariants.{OutOfMemory, Write}
+use Rattle.fault_text.specs.declared.fault.ToolFault.{ToolFault}
+use Rattle.fault_text.specs.declared.fault.ToolFault.TheVariants.{OutOfMemory, Write}
 use Rattle.resource_tool.specs.declared.status.Status.{Status}
 use Rattle.resource_tool.specs.declared.status.Status.TheVariants as statuses
 use Rattle.restool.specs.declared.status.ExitStatus.{ExitStatus}

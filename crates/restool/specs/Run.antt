@@ -1,7 +1,7 @@
 -- From words to the exit status.
 use Rattle.std.specs.Prelude.{◌≡◌, ◌≢◌, ◌⊎◌, ℕ, Bool, true, false, List, Option, Result, Ok, Err, IfErr, IfSome}
 use Rattle.std.specs.Io.KnownBytes.{Appends}
-use Rattle.resource_text.specs.declared.fault.ToolFault.TheVariants.{Write}
+use Rattle.fault_text.specs.declared.fault.ToolFault.TheVariants.{Write}
 use Rattle.resource_tool.specs.declared.status.Status.{Status}
 use Rattle.command_words.specs.declared.words_fault.WordsFault.{WordsFault}
 use Rattle.command_words.specs.declared.request.Request.{Request}

@@ -1,7 +1,7 @@
 //! What a request is answered.
 
 ghost use Rattle.std.specs.Prelude.{◌≡◌, ◌≢◌, IfErr, IfSome};
-ghost use Rattle.resource_text.specs.declared.fault.ToolFault.TheVariants.{Write};
+ghost use Rattle.fault_text.specs.declared.fault.ToolFault.TheVariants.{Write};
 ghost use Rattle.resource_tool.specs.Output.{PrintsOneOf};
 ghost use Rattle.resource_tool.specs.MakeOutput.{IsMakeOutput, make_inputs};
 ghost use Rattle.resource_tool.specs.CheckOutput.{IsCheckOutput, check_inputs};

@@ -3,7 +3,7 @@
 ghost use Rattle.std.specs.Prelude.{◌≡◌, ◌≢◌, [], false, map, Ok, Err, OnOk, IsOk, IfOk, IfErr, IfSome, string_bytes};
 ghost use Rattle.std.specs.Io.Buffered.{writer_buffer, writer_contents, writer_inner};
 ghost use Rattle.std.specs.Io.KnownBytes.{Keeps};
-ghost use Rattle.resource_text.specs.declared.fault.ToolFault.TheVariants.{Write};
+ghost use Rattle.fault_text.specs.declared.fault.ToolFault.TheVariants.{Write};
 ghost use Rattle.restool.specs.Answers.{Answers};
 ghost use Rattle.restool.specs.Run.{EndsAs, Runs};
 ghost use Rattle.restool.specs.Stop.{stop_of, tool};

@@ -22,6 +22,7 @@ pub struct IndexedTable<'a> {
     /// All types of the table, in the order of the file.
     types: Vec<CheckedType<'a>>,
     places: RowPlaces,
+    ghost whole: { rows_of_types types.items ≡ rows_of table },
     ghost all: { ArePlacesOf (rows_of table) types.items places },
 }
 
@@ -59,6 +60,13 @@ impl<'a> IndexedTable<'a> {
         ensures { result.now ≡ self.now }
     {
         &self.table
+    }
+
+    /// All types of the table, in the order of the file.
+    pub fn types(&self) -> &[CheckedType<'a>]
+        ensures { rows_of_types result.now ≡ rows_of self.now }
+    {
+        &self.types
     }
 
     /// The rows of an id, in the order of the file: what `Table::rows` gives, without a walk over the

@@ -1,16 +1,18 @@
 -- How the rows of types go on.
 use Rattle.std.proofs.Common.{◌≡◌, ℕ, zero, suc, ◌+◌, ◌-◌, ◌*◌, ◌^◌, ◌<◌, ◌≤◌, Bool, true, false, List, [], ◌∷◌, ◌++◌, length, length-append, Result, Ok, Err, refl, sym, ap, subst, ◌∙◌, arith}
-use Rattle.std.specs.Prelude.{nat_le, if◌then◌else◌}
+use Rattle.std.specs.Prelude.{cond, nat_le, if◌then◌else◌}
 use Rattle.std.specs.List.{range_with_len, flat_map}
 use Rattle.std.proofs.lemmas.Bool.Decides.{nat_tests}
 use Rattle.std.proofs.lemmas.List.{append-nil}
 use Rattle.std.proofs.lemmas.List.Concat.{flat_map-append}
+use Rattle.std.proofs.lemmas.List.Sums.{sum_by-append}
 use Rattle.contract_words.specs.Sequences.{with_front}
 use Rattle.chunk_walk.specs.Number.{number}
 use Rattle.res_value.specs.Cell.{CellOf}
 use Rattle.type_chunks.specs.declared.fault.TableFault.{TableFault}
 use Rattle.type_chunks.specs.declared.checked_type.CheckedType.{CheckedType}
-use Rattle.type_chunks.specs.Row.{RowOf}
+use Rattle.config_record.specs.Record.{record_bytes, is_set_aside}
+use Rattle.type_chunks.specs.Row.{RowOf, set_aside_count}
 use Rattle.type_chunks.specs.TypeChunk.{TypeChunkOf, type_chunk_of}
 use Rattle.type_chunks.specs.Entry.{is_row, row_of_entry, rows_of_entry, rows_of_entry_at}
 use Rattle.type_chunks.specs.PackageChildren.{rows_of_entries}
@@ -79,31 +81,36 @@ pub rows_of_types-none : rows_of_types [] ≡ []
 unfolding rows_of_types
 rows_of_types-none = refl
 
+-- ---- what holds of the rows of an entry: there is one at most
+
+module _ (Holds : List RowOf → Type 0) (chunk : TypeChunkOf) (none : Holds []) (one : (index at : ℕ) (cell : CellOf) → Holds (row_of_entry chunk index at cell ∷ [])) where
+  abbrev of_result : Result (List RowOf) TableFault → Type 0
+  of_result rows = Holds (or_none rows)
+
+  row-or-none : (is : Bool) (index at : ℕ) (cell : CellOf) → of_result (Ok (if is then row_of_entry chunk index at cell ∷ [] else []))
+  row-or-none true index at cell = one index at cell
+  row-or-none false index at cell = none
+
+  of_held : (index at : ℕ) (held : Result CellOf TableFault) → of_result (rows_with chunk index at held)
+  of_held index at (Ok cell) = row-or-none (is_row chunk index) index at cell
+  of_held index at (Err fault) = none
+
+  of_read : (index at : ℕ) (read : Result (List RowOf) TableFault) → rows_of_entry_at chunk index at ≡ read → of_result read
+  of_read index at (Ok rows) e = subst of_result (sym (entry_at-with chunk index at (rw e refl)) ∙ e) (of_held index at (held_at chunk at))
+  of_read index at (Err fault) e = none
+
+  of_index : (index : ℕ) → Holds (row_of_index chunk index)
+  unfolding row_of_index rows_of_entry
+  of_index index = by (is_empty chunk index)
+    where
+      by : (empty : Bool) → of_result (if empty then Ok [] else rows_of_entry_at chunk index (chunk.entries_start + number 4 chunk.offsets (4 * index)))
+      by true = none
+      by false = of_read index (chunk.entries_start + number 4 chunk.offsets (4 * index)) (rows_of_entry_at chunk index (chunk.entries_start + number 4 chunk.offsets (4 * index))) refl
+
 -- ---- how many they are
 
--- an entry is one row at most
-abbrev one_at_most : Result (List RowOf) TableFault → Type 0
-one_at_most rows = length (or_none rows) ≤ 1
-
-row-or-none : (is : Bool) (row : RowOf) → one_at_most (Ok (if is then row ∷ [] else []))
-row-or-none true row = omega arith
-row-or-none false row = omega arith
-
-of_held : (chunk : TypeChunkOf) (index at : ℕ) (held : Result CellOf TableFault) → one_at_most (rows_with chunk index at held)
-of_held chunk index at (Ok cell) = row-or-none (is_row chunk index) (row_of_entry chunk index at cell)
-of_held chunk index at (Err fault) = omega arith
-
-of_read : (chunk : TypeChunkOf) (index at : ℕ) (read : Result (List RowOf) TableFault) → rows_of_entry_at chunk index at ≡ read → one_at_most read
-of_read chunk index at (Ok rows) e = subst one_at_most (sym (entry_at-with chunk index at (rw e refl)) ∙ e) (of_held chunk index at (held_at chunk at))
-of_read chunk index at (Err fault) e = omega arith
-
 length-row_of_index : (chunk : TypeChunkOf) (index : ℕ) → length (row_of_index chunk index) ≤ 1
-unfolding row_of_index rows_of_entry
-length-row_of_index chunk index = by (is_empty chunk index)
-  where
-    by : (none : Bool) → one_at_most (if none then Ok [] else rows_of_entry_at chunk index (chunk.entries_start + number 4 chunk.offsets (4 * index)))
-    by true = omega arith
-    by false = of_read chunk index (chunk.entries_start + number 4 chunk.offsets (4 * index)) (rows_of_entry_at chunk index (chunk.entries_start + number 4 chunk.offsets (4 * index))) refl
+length-row_of_index chunk index = of_index (λ rows. length rows ≤ 1) chunk (omega arith) (λ index at cell. omega arith) index
 
 length-rows_from : (chunk : TypeChunkOf) (n index : ℕ) → length (flat_map (row_of_index chunk) (range_with_len index n)) ≤ n
 length-rows_from chunk zero index = omega arith
@@ -114,3 +121,25 @@ length-rows_from chunk (suc n) index =
 pub length-rows_of_chunk : (chunk : TypeChunkOf) → length (rows_from chunk 0) ≤ chunk.entry_count
 unfolding rows_from
 length-rows_of_chunk chunk = omega (arith, length-rows_from chunk (chunk.entry_count - 0) 0)
+
+-- ---- how many are set aside: all have the record of their type
+
+one_aside : (row : RowOf) → is_set_aside row.config ≡ false → set_aside_count (row ∷ []) ≡ 0
+one_aside row not_aside = rw not_aside refl
+
+none_aside-from : (chunk : TypeChunkOf) (n index : ℕ) → is_set_aside chunk.config ≡ false → set_aside_count (flat_map (row_of_index chunk) (range_with_len index n)) ≡ 0
+none_aside-from chunk zero index not_aside = refl
+none_aside-from chunk (suc n) index not_aside =
+    let first = of_index (λ rows. set_aside_count rows ≡ 0) chunk refl (λ index at cell. one_aside (row_of_entry chunk index at cell) not_aside) index in
+    sum_by-append (λ row. cond (is_set_aside row.config) 1 0) (row_of_index chunk index) (flat_map (row_of_index chunk) (range_with_len (index + 1) n))
+    ∙ rw (first, none_aside-from chunk n (index + 1) not_aside) refl
+
+pub none_aside : (checked : CheckedType) → is_set_aside (record_bytes checked.chunk.config) ≡ false → set_aside_count (rows_of_type checked) ≡ 0
+unfolding rows_of_type rows_from
+none_aside checked not_aside = none_aside-from (type_chunk_of checked.chunk) (checked.chunk.entry_count - 0) 0 not_aside
+
+pub length-rows_of_type : (checked : CheckedType) → length (rows_of_type checked) ≤ checked.chunk.entry_count
+unfolding rows_of_type
+length-rows_of_type checked = length-rows_of_chunk (type_chunk_of checked.chunk)
+
+pub ruleset aside_steps = (none_aside, length-rows_of_type)

@@ -16,6 +16,7 @@ pub struct CheckedType<'a> {
 }
 
 impl<'a> CheckedType<'a> {
+    ghost use Rattle.type_chunks.specs.Row.{set_aside_count};
     ghost use Rattle.type_chunks.specs.TypeRows.{rows_of_type};
 
     /// The id of the package that it is of.
@@ -44,5 +45,23 @@ impl<'a> CheckedType<'a> {
         ensures { result ≡ rows_of_type self.now }
     {
         TypeRows::new(*self)
+    }
+
+    /// How many of its rows are set aside: none where its record is not, since all have that record. Then no
+    /// row is read.
+    #[tactic(auto, using(crate::proofs::TypeRowsSteps::aside_steps))]
+    pub fn set_aside(&self) -> u32
+        ensures { result ≡ set_aside_count (rows_of_type self.now) }
+    {
+        if !self.chunk.config.set_aside() {
+            return 0;
+        }
+        let mut count = 0;
+        for row in self.rows() {
+            if row.config.set_aside() {
+                count += 1;
+            }
+        }
+        count
     }
 }

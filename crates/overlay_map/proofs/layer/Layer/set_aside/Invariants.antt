@@ -1,13 +1,12 @@
-use Rattle.std.proofs.Common.{◌≡◌, ◌+◌, ◌^◌, ◌<◌, length}
+use Rattle.std.proofs.Common.{◌≡◌, ◌+◌, ◌*◌, ◌^◌, ◌≤◌, drop}
 use Rattle.type_chunks.specs.Row.{set_aside_count}
+use Rattle.type_chunks.specs.TypeRows.{rows_of_types}
 use Rattle.overlay_map.specs.SetAside.{set_aside_in_layer}
 use Rattle.overlay_map.proofs.layer.Layer.set_aside.Given as goal
 
--- the count so far and those of the rows that are left are all
-abbrev pub invariant-loop-row : goal.invariant-loop-row
-invariant-loop-row l = record {
-  can : (goal.iterator-loop-row).can_next l.row-iterator;
-  ends : (goal.iterator-loop-row).is_finite l.row-iterator;
-  all : l.count + set_aside_count l.row-iterator ≡ set_aside_in_layer l.self;
-  few : l.count + length l.row-iterator < 2 ^ 92;
+-- the count so far and those of the types that are left are all
+abbrev pub invariant-loop-checked : goal.invariant-loop-checked
+invariant-loop-checked l = record {
+  all : l.count + set_aside_count (rows_of_types (drop l.checked-index l.checked-items)) ≡ set_aside_in_layer l.self;
+  few : l.count ≤ l.checked-index * 2 ^ 32;
 }

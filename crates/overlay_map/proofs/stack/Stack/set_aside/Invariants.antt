@@ -6,5 +6,5 @@ use Rattle.overlay_map.proofs.stack.Stack.set_aside.Given as goal
 abbrev pub invariant-loop-layer : goal.invariant-loop-layer
 invariant-loop-layer l = record {
   all : l.count + set_aside_in_stack (drop l.layer-index l.layer-items) ≡ set_aside_in_stack l.layer-items;
-  few : l.count ≤ l.layer-index * 2 ^ 92;
+  few : l.count ≤ l.layer-index * 2 ^ 99;
 }

@@ -1,0 +1,10 @@
+pub mod NamedText
+pub mod LayerText
+pub mod ToolFault
+pub mod TableFaultText
+pub mod LayersFaultText
+pub mod MapFaultText
+pub mod DeviceFaultText
+pub mod BoxFaultText
+pub mod CertFaultText
+pub mod FaultText

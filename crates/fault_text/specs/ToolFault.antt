@@ -1,0 +1,58 @@
+-- The faults of the parts of an input, as faults of the command. Want of memory is the command's own.
+use Rattle.std.specs.Prelude.{ℕ}
+use Rattle.config_record.specs.declared.fields.DeviceFault.{DeviceFault}
+use Rattle.config_record.specs.declared.fields.DeviceFault.TheVariants as of_device
+use Rattle.config_box.specs.declared.box_fault.BoxFault.{BoxFault}
+use Rattle.config_box.specs.declared.box_fault.BoxFault.TheVariants as of_box
+use Rattle.cert_tree.specs.declared.cert_fault.CertFault.{CertFault}
+use Rattle.cert_tree.specs.declared.cert_fault.CertFault.TheVariants as of_certificate
+use Rattle.type_chunks.specs.declared.fault.TableFault.{TableFault}
+use Rattle.type_chunks.specs.declared.fault.TableFault.TheVariants as of_table
+use Rattle.overlay_map.specs.declared.map_fault.MapFault.{MapFault}
+use Rattle.overlay_map.specs.declared.map_fault.MapFault.TheVariants as of_map
+use Rattle.overlay_map.specs.declared.stack_fault.StackFault.{StackFault}
+use Rattle.overlay_map.specs.declared.stack_fault.StackFault.TheVariants as of_stack
+use Rattle.fault_text.specs.declared.layers_fault.LayersFault.{LayersFault}
+use Rattle.fault_text.specs.declared.layers_fault.LayersFault.TheVariants as of_layers
+use Rattle.fault_text.specs.declared.fault.ToolFault.{ToolFault}
+use Rattle.fault_text.specs.declared.fault.ToolFault.TheVariants as of_tool
+
+-- of the table that a command reads alone
+abbrev pub fault_of_table : TableFault → ToolFault
+fault_of_table of_table.OutOfMemory = of_tool.OutOfMemory
+fault_of_table fault = of_tool.Table fault
+
+-- of the list of layers
+abbrev pub fault_of_layers : LayersFault → ToolFault
+fault_of_layers of_layers.OutOfMemory = of_tool.OutOfMemory
+fault_of_layers fault = of_tool.Layers fault
+
+-- of the table of a layer, which is told by its place from 0
+abbrev pub fault_of_layer_table : ℕ → TableFault → ToolFault
+fault_of_layer_table layer of_table.OutOfMemory = of_tool.OutOfMemory
+fault_of_layer_table layer fault = of_tool.LayerTable layer fault
+
+-- of the id map of an overlay
+abbrev pub fault_of_layer_map : ℕ → MapFault → ToolFault
+fault_of_layer_map layer of_map.OutOfMemory = of_tool.OutOfMemory
+fault_of_layer_map layer fault = of_tool.LayerMap layer fault
+
+-- of a layer that does not go onto a stack
+abbrev pub fault_of_stack : StackFault → ToolFault
+fault_of_stack of_stack.TooManyLayers = of_tool.Layers of_layers.TooManyLayers
+fault_of_stack of_stack.OutOfMemory = of_tool.OutOfMemory
+
+-- of the device
+abbrev pub fault_of_device : DeviceFault → ToolFault
+fault_of_device of_device.OutOfMemory = of_tool.OutOfMemory
+fault_of_device fault = of_tool.Device fault
+
+-- of the box
+abbrev pub fault_of_box : BoxFault → ToolFault
+fault_of_box of_box.OutOfMemory = of_tool.OutOfMemory
+fault_of_box fault = of_tool.Box fault
+
+-- of the certificate
+abbrev pub fault_of_certificate : CertFault → ToolFault
+fault_of_certificate of_certificate.OutOfMemory = of_tool.OutOfMemory
+fault_of_certificate fault = of_tool.Certificate fault

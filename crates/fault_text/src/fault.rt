@@ -1,0 +1,273 @@
+//! Why a command was not carried out, and the line that says so.
+
+ghost use Rattle.std.specs.Prelude.{◌≡◌, if◌then◌else◌};
+ghost use Rattle.contract_words.specs.Writes.{Writes};
+ghost use Rattle.fault_text.specs.FaultText.{refused_text, refused_layer_text, table_line, layers_line, layer_table_line, layer_map_line, device_line, box_line, certificate_line, fault_line};
+ghost use Rattle.fault_text.specs.ToolFault.{fault_of_layer_table, fault_of_layer_map};
+ghost use Rattle.fault_text.specs.declared.fault.ToolFault.TheVariants.{OutOfMemory, Write};
+
+use crate::box_fault::write_box_fault;
+use crate::cert_fault::write_cert_fault;
+use crate::device_fault::write_device_fault;
+use crate::layer::write_layer;
+use crate::layers_fault::{LayersFault, write_layers_fault};
+use crate::map_fault::write_map_fault;
+use crate::table_fault::write_table_fault;
+use cert_tree::CertFault;
+use config_box::BoxFault;
+use config_record::DeviceFault;
+use overlay_map::{MapFault, StackFault};
+use std::alloc::AllocError;
+use std::io::{self, Write};
+use thiserror::Error;
+use type_chunks::TableFault;
+
+/// Why a command was not carried out: the part of its input that is refused, or what failed. Layers
+/// are told by their place, from 0.
+#[derive(Clone, Copy, Debug, PartialEq, Eq, Error)]
+pub enum ToolFault {
+    /// The table of a command that reads one alone.
+    #[error("refused: table: {0}")]
+    Table(TableFault),
+    /// The list of the layers' files.
+    #[error("refused: layers: {0}")]
+    Layers(LayersFault),
+    #[error("refused: layer {0} table: {1}")]
+    LayerTable(usize, TableFault),
+    /// The id map of an overlay.
+    #[error("refused: layer {0} map: {1}")]
+    LayerMap(usize, MapFault),
+    #[error("refused: device: {0}")]
+    Device(DeviceFault),
+    #[error("refused: box: {0}")]
+    Box(BoxFault),
+    #[error("refused: certificate: {0}")]
+    Certificate(CertFault),
+    #[error("out of memory")]
+    OutOfMemory,
+    /// The writer failed.
+    #[error("Write")]
+    Write,
+}
+
+impl ToolFault {
+    /// The fault of a layer's table; want of memory is the command's own.
+    pub fn of_layer_table(layer: usize, fault: TableFault) -> ToolFault
+        ensures { result ≡ fault_of_layer_table layer fault }
+    {
+        let ran_out = matches!(fault, TableFault::OutOfMemory);
+        or_memory(ran_out, ToolFault::LayerTable(layer, fault))
+    }
+
+    /// The fault of an overlay's id map; want of memory is the command's own.
+    pub fn of_layer_map(layer: usize, fault: MapFault) -> ToolFault
+        ensures { result ≡ fault_of_layer_map layer fault }
+    {
+        let ran_out = matches!(fault, MapFault::OutOfMemory);
+        or_memory(ran_out, ToolFault::LayerMap(layer, fault))
+    }
+}
+
+impl From<TableFault> for ToolFault {
+    ghost use Rattle.fault_text.specs.ToolFault.{fault_of_table};
+
+    ghost from_gives = { λ fault e. e ≡ fault_of_table fault };
+
+    fn from(fault: TableFault) -> ToolFault {
+        let ran_out = matches!(fault, TableFault::OutOfMemory);
+        or_memory(ran_out, ToolFault::Table(fault))
+    }
+}
+
+impl From<LayersFault> for ToolFault {
+    ghost use Rattle.fault_text.specs.ToolFault.{fault_of_layers};
+
+    ghost from_gives = { λ fault e. e ≡ fault_of_layers fault };
+
+    fn from(fault: LayersFault) -> ToolFault {
+        let ran_out = matches!(fault, LayersFault::OutOfMemory);
+        or_memory(ran_out, ToolFault::Layers(fault))
+    }
+}
+
+impl From<DeviceFault> for ToolFault {
+    ghost use Rattle.fault_text.specs.ToolFault.{fault_of_device};
+
+    ghost from_gives = { λ fault e. e ≡ fault_of_device fault };
+
+    fn from(fault: DeviceFault) -> ToolFault {
+        let ran_out = matches!(fault, DeviceFault::OutOfMemory);
+        or_memory(ran_out, ToolFault::Device(fault))
+    }
+}
+
+impl From<BoxFault> for ToolFault {
+    ghost use Rattle.fault_text.specs.ToolFault.{fault_of_box};
+
+    ghost from_gives = { λ fault e. e ≡ fault_of_box fault };
+
+    fn from(fault: BoxFault) -> ToolFault {
+        let ran_out = matches!(fault, BoxFault::OutOfMemory);
+        or_memory(ran_out, ToolFault::Box(fault))
+    }
+}
+
+impl From<CertFault> for ToolFault {
+    ghost use Rattle.fault_text.specs.ToolFault.{fault_of_certificate};
+
+    ghost from_gives = { λ fault e. e ≡ fault_of_certificate fault };
+
+    fn from(fault: CertFault) -> ToolFault {
+        let ran_out = matches!(fault, CertFault::OutOfMemory);
+        or_memory(ran_out, ToolFault::Certificate(fault))
+    }
+}
+
+impl From<StackFault> for ToolFault {
+    ghost use Rattle.fault_text.specs.ToolFault.{fault_of_stack};
+
+    ghost from_gives = { λ fault e. e ≡ fault_of_stack fault };
+
+    fn from(fault: StackFault) -> ToolFault {
+        match fault {
+            StackFault::TooManyLayers => ToolFault::Layers(LayersFault::TooManyLayers),
+            StackFault::OutOfMemory => ToolFault::OutOfMemory,
+        }
+    }
+}
+
+impl From<AllocError> for ToolFault {
+    ghost from_gives = { λ _ e. e ≡ OutOfMemory };
+
+    fn from(_error: AllocError) -> ToolFault {
+        ToolFault::OutOfMemory
+    }
+}
+
+/// A command has no errors of its own from streams but those of its writer.
+impl From<io::Error> for ToolFault {
+    ghost from_gives = { λ _ e. e ≡ Write };
+
+    fn from(_error: io::Error) -> ToolFault {
+        ToolFault::Write
+    }
+}
+
+// The fault of a part, or the command's own where memory ran out.
+fn or_memory(ran_out: bool, fault: ToolFault) -> ToolFault
+    ensures { result ≡ (if ran_out then OutOfMemory else fault) }
+{
+    if ran_out {
+        ToolFault::OutOfMemory
+    } else {
+        fault
+    }
+}
+
+/// Writes the line that tells of a fault: which part of the input is refused, and the names of its
+/// fault from outside in, with its place, id or coordinate. A writer that failed has no line.
+#[tactic(auto, unfolding(crate::specs::FaultText::fault_line))]
+pub fn fault_text<W: Write + Drop>(fault: &ToolFault, out: &mut W) -> io::Result<()>
+    ensures { Writes W.contents out.old out.new result (fault_line fault.now) }
+{
+    match *fault {
+        ToolFault::Table(fault) => write_table_line(fault, out),
+        ToolFault::Layers(fault) => write_layers_line(fault, out),
+        ToolFault::LayerTable(layer, fault) => write_layer_table_line(layer, fault, out),
+        ToolFault::LayerMap(layer, fault) => write_layer_map_line(layer, fault, out),
+        ToolFault::Device(fault) => write_device_line(fault, out),
+        ToolFault::Box(fault) => write_box_line(fault, out),
+        ToolFault::Certificate(fault) => write_certificate_line(fault, out),
+        ToolFault::OutOfMemory => out.write_all(b"out of memory\n"),
+        ToolFault::Write => Ok(()),
+    }
+}
+
+#[tactic(auto, unfolding(crate::specs::FaultText::table_line))]
+fn write_table_line<W: Write + Drop>(fault: TableFault, out: &mut W) -> io::Result<()>
+    ensures { Writes W.contents out.old out.new result (table_line fault) }
+{
+    write_refused("table: ", out)?;
+    write_table_fault(fault, out)?;
+    out.write_all(b"\n")
+}
+
+#[tactic(auto, unfolding(crate::specs::FaultText::layers_line))]
+fn write_layers_line<W: Write + Drop>(fault: LayersFault, out: &mut W) -> io::Result<()>
+    ensures { Writes W.contents out.old out.new result (layers_line fault) }
+{
+    write_refused("layers: ", out)?;
+    write_layers_fault(fault, out)?;
+    out.write_all(b"\n")
+}
+
+#[tactic(auto, unfolding(crate::specs::FaultText::layer_table_line))]
+fn write_layer_table_line<W: Write + Drop>(
+    layer: usize,
+    fault: TableFault,
+    out: &mut W,
+) -> io::Result<()>
+    ensures { Writes W.contents out.old out.new result (layer_table_line layer fault) }
+{
+    write_refused_layer(layer, out)?;
+    out.write_all(b" table: ")?;
+    write_table_fault(fault, out)?;
+    out.write_all(b"\n")
+}
+
+#[tactic(auto, unfolding(crate::specs::FaultText::layer_map_line))]
+fn write_layer_map_line<W: Write + Drop>(
+    layer: usize,
+    fault: MapFault,
+    out: &mut W,
+) -> io::Result<()>
+    ensures { Writes W.contents out.old out.new result (layer_map_line layer fault) }
+{
+    write_refused_layer(layer, out)?;
+    out.write_all(b" map: ")?;
+    write_map_fault(fault, out)?;
+    out.write_all(b"\n")
+}
+
+#[tactic(auto, unfolding(crate::specs::FaultText::device_line))]
+fn write_device_line<W: Write + Drop>(fault: DeviceFault, out: &mut W) -> io::Result<()>
+    ensures { Writes W.contents out.old out.new result (device_line fault) }
+{
+    write_refused("device: ", out)?;
+    write_device_fault(fault, out)?;
+    out.write_all(b"\n")
+}
+
+#[tactic(auto, unfolding(crate::specs::FaultText::box_line))]
+fn write_box_line<W: Write + Drop>(fault: BoxFault, out: &mut W) -> io::Result<()>
+    ensures { Writes W.contents out.old out.new result (box_line fault) }
+{
+    write_refused("box: ", out)?;
+    write_box_fault(fault, out)?;
+    out.write_all(b"\n")
+}
+
+#[tactic(auto, unfolding(crate::specs::FaultText::certificate_line))]
+fn write_certificate_line<W: Write + Drop>(fault: CertFault, out: &mut W) -> io::Result<()>
+    ensures { Writes W.contents out.old out.new result (certificate_line fault) }
+{
+    write_refused("certificate: ", out)?;
+    write_cert_fault(fault, out)?;
+    out.write_all(b"\n")
+}
+
+#[tactic(auto, unfolding(crate::specs::FaultText::refused_text))]
+fn write_refused<W: Write + Drop>(part: &str, out: &mut W) -> io::Result<()>
+    ensures { Writes W.contents out.old out.new result (refused_text part.now) }
+{
+    out.write_all(b"refused: ")?;
+    out.write_all(part.as_bytes())
+}
+
+#[tactic(auto, unfolding(crate::specs::FaultText::refused_layer_text))]
+fn write_refused_layer<W: Write + Drop>(layer: usize, out: &mut W) -> io::Result<()>
+    ensures { Writes W.contents out.old out.new result (refused_layer_text layer) }
+{
+    out.write_all(b"refused: ")?;
+    write_layer(layer, out)
+}
