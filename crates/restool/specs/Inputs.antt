@@ -24,21 +24,21 @@ Places = PlaceOf → Result (List ℕ) InputFault
 abbrev pub table_place : List ℕ → PlaceOf
 table_place path = if bytes_eq path (codes "-") then standard_input else at_path path
 
--- why the program stops where the bytes for a path are not read
-abbrev pub stop_at : List ℕ → InputFault → StopOf
-stop_at path Read = file path
-stop_at path TooLarge = file path
-stop_at path OutOfMemory = tool faults.OutOfMemory
+-- why the program stops where an input is not read: as `unread` says, which names its path, or for want of memory
+abbrev pub stop_at : StopOf → InputFault → StopOf
+stop_at unread Read = unread
+stop_at unread TooLarge = unread
+stop_at unread OutOfMemory = tool faults.OutOfMemory
 
 abbrev pub or_stop : {X E : Type 0} → (E → StopOf) → Result X E → Result X StopOf
 or_stop stop (Ok x) = Ok x
 or_stop stop (Err fault) = Err (stop fault)
 
 abbrev pub table_of : Places → List ℕ → Result (List ℕ) StopOf
-table_of places path = or_stop (stop_at path) (places (table_place path))
+table_of places path = or_stop (stop_at (file path)) (places (table_place path))
 
 abbrev pub file_of : Places → List ℕ → Result (List ℕ) StopOf
-file_of places path = or_stop (stop_at path) (places (at_path path))
+file_of places path = or_stop (stop_at (file path)) (places (at_path path))
 
 -- the id map of a layer, where it has one
 abbrev pub map_of : Places → Option (List ℕ) → Result (Option (List ℕ)) StopOf

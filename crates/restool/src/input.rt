@@ -81,7 +81,7 @@ pub fn table_bytes<'a, I: Inputs>(inputs: &I, path: &'a str) -> Result<Vec<u8>, 
 {
     match inputs.read(Place::of_table(path)) {
         Ok(bytes) => Ok(bytes),
-        Err(fault) => Err(stop_at(path, fault)),
+        Err(fault) => Err(stop_at(Stop::File(path), fault)),
     }
 }
 
@@ -91,7 +91,7 @@ pub fn file_bytes<'a, I: Inputs>(inputs: &I, path: &'a str) -> Result<Vec<u8>, S
 {
     match inputs.read(Place::File(path)) {
         Ok(bytes) => Ok(bytes),
-        Err(fault) => Err(stop_at(path, fault)),
+        Err(fault) => Err(stop_at(Stop::File(path), fault)),
     }
 }
 
@@ -101,25 +101,16 @@ pub fn layer_file_bytes<I: Inputs>(inputs: &I, path: String) -> Result<Vec<u8>, 
 {
     match inputs.read(Place::File(path.as_str())) {
         Ok(bytes) => Ok(bytes),
-        Err(fault) => Err(stop_at_layer(path, fault)),
+        Err(fault) => Err(stop_at(Stop::LayerFile(path), fault)),
     }
 }
 
-// Why the program stops where the bytes for a path are not read.
-fn stop_at<'a>(path: &'a str, fault: InputFault) -> Stop<'a>
-    ensures { stop_of result ≡ stop_at path.entry.now fault }
+// Why the program stops where an input is not read: as `unread` says, which names its path, or for want of memory.
+fn stop_at<'a>(unread: Stop<'a>, fault: InputFault) -> Stop<'a>
+    ensures { stop_of result ≡ stop_at (stop_of unread.entry) fault }
 {
     match fault {
-        InputFault::Read | InputFault::TooLarge => Stop::File(path),
-        InputFault::OutOfMemory => Stop::Tool(ToolFault::OutOfMemory),
-    }
-}
-
-fn stop_at_layer(path: String, fault: InputFault) -> Stop<'static>
-    ensures { stop_of result ≡ stop_at (string_bytes path) fault }
-{
-    match fault {
-        InputFault::Read | InputFault::TooLarge => Stop::LayerFile(path),
+        InputFault::Read | InputFault::TooLarge => unread,
         InputFault::OutOfMemory => Stop::Tool(ToolFault::OutOfMemory),
     }
 }
