@@ -18,5 +18,8 @@ set_aside_next types index d within =
     ∙ sum_by-append (λ row. cond (is_set_aside row.config) 1 0) (rows_of_type (get_or types index d)) (rows_of_types (drop (index + 1) types))
 
 -- none are left behind the last type
-pub set_aside-end : (types : List CheckedType) (index : ℕ) → length types ≤ index → set_aside_count (rows_of_types (drop index types)) ≡ 0
-set_aside-end types index past = ap (λ left. set_aside_count (rows_of_types left)) (drop_all index types past) ∙ ap set_aside_count rows_of_types-none
+pub set_aside-none : (types : List CheckedType) (index : ℕ) → length types ≤ index → set_aside_count (rows_of_types (drop index types)) ≡ 0
+set_aside-none types index past =
+    ap (λ left. set_aside_count (rows_of_types left)) (drop_all index types past) ∙ ap set_aside_count rows_of_types-none
+
+pub ruleset set_aside_steps = (set_aside-next, set_aside-none)
