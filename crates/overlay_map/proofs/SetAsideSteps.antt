@@ -10,9 +10,9 @@ use Rattle.type_chunks.specs.TypeRows.{rows_of_type, rows_of_types}
 use Rattle.type_chunks.proofs.TypeRowsSteps.{rows_of_types-next, rows_of_types-none}
 
 -- those of a type, and of the types behind it
-pub set_aside_next : (types : List CheckedType) (index : ℕ) (d : CheckedType) → index < length types
+pub set_aside-next : (types : List CheckedType) (index : ℕ) (d : CheckedType) → index < length types
     → set_aside_count (rows_of_types (drop index types)) ≡ set_aside_count (rows_of_type (get_or types index d)) + set_aside_count (rows_of_types (drop (index + 1) types))
-set_aside_next types index d within =
+set_aside-next types index d within =
     ap (λ left. set_aside_count (rows_of_types left)) (drop_more types index d within)
     ∙ ap set_aside_count (rows_of_types-next (get_or types index d) (drop (index + 1) types))
     ∙ sum_by-append (λ row. cond (is_set_aside row.config) 1 0) (rows_of_type (get_or types index d)) (rows_of_types (drop (index + 1) types))

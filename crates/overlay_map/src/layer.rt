@@ -54,7 +54,7 @@ impl<'a> Layer<'a> {
     }
 
     /// How many rows of its table are set aside.
-    #[tactic(auto, using(crate::proofs::SetAsideSteps::set_aside_next))]
+    #[tactic(auto, using(crate::proofs::SetAsideSteps::set_aside_steps))]
     pub fn set_aside(&self) -> u128
         ensures count { result ≡ set_aside_in_layer self.now }
         ensures few { result < 2 ^ 99 }
