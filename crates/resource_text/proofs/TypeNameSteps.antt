@@ -18,7 +18,7 @@ name_at table index id = do
   text_in in_package.header.type_names (id - (in_package.header.type_id_offset + 1))
 
 name_at-row : (table : TableOf) (row : RowOf) → type_name_in table row ≡ name_at table row.in_package (type_of (record { 0 = row.id }))
-unfolding type_name_in
+unfolding type_name_in name_at
 name_at-row table row = refl
 
 pub same_type_name : (table : TableOf) (a b : RowOf) → a.in_package ≡ b.in_package → type_of (record { 0 = a.id }) ≡ type_of (record { 0 = b.id })
