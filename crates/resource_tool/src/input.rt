@@ -12,6 +12,10 @@ use thiserror::Error;
 /// How many bytes are asked for in one read.
 const PIECE_SIZE: usize = 16_384;
 
+/// How many bytes there is room for at first. The C library gives so much in pages of its own, which take memory once
+/// they are written and are moved when more is needed; smaller rooms would stay with the process once outgrown.
+const FIRST_ROOM: usize = 1_048_576;
+
 /// Why an input was not read.
 #[derive(Clone, Copy, Debug, PartialEq, Eq, Error)]
 pub enum InputFault {
@@ -48,7 +52,7 @@ pub fn read_input<R: Read>(
     ensures read { IsErrOf result InputFault.Read
         → Gave (R.remaining reader.old) (R.remaining reader.new) (λ count. count ≤ limit) }
 {
-    let mut input = Vec::new(alloc);
+    let mut input = Vec::with_capacity(alloc, FIRST_ROOM)?;
     let mut piece = [0; PIECE_SIZE];
     for _ in 0..=limit {
         match reader.read(&mut piece) {
