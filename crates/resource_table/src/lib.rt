@@ -23,10 +23,12 @@ mod layout;
 mod names;
 mod package;
 mod package_header;
+mod package_rows;
 mod pool;
 mod rows;
 mod table;
 
 pub use package::Package;
+pub use package_rows::PackageRows;
 pub use rows::{AllRows, Rows};
 pub use table::Table;

@@ -3,10 +3,11 @@
 ghost use Rattle.std.specs.Prelude.{◌≡◌};
 
 use crate::package_header::PackageHeader;
+use crate::package_rows::PackageRows;
 use chunk_walk::Chunk;
 use std::alloc::Global;
 use string_pool::Text;
-use type_chunks::{Owner, PackageRows, PackageTypes, TableFault, Types, types_of_children};
+use type_chunks::{Owner, PackageTypes, TableFault, Types, types_of_children};
 
 /// A package (AOSP: `ResTable_package`): its rows, with their names.
 #[derive(Debug, Drop)]
@@ -58,7 +59,7 @@ impl<'a> Package<'a> {
     pub fn rows(&self) -> PackageRows<'_, 'a>
         ensures { result ≡ (package_of self.now).rows }
     {
-        self.types.rows()
+        PackageRows::new(self.types())
     }
 
     /// Its types, in the order of the file: each the entries of one type id for one configuration. They are read

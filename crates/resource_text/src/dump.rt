@@ -13,10 +13,10 @@ use crate::last_type_name::LastTypeName;
 use crate::line::Line;
 use hex_text::write_hex;
 use res_value::{write_id, write_word};
-use resource_table::{Package, Table};
+use resource_table::{Package, PackageRows, Table};
 use std::io::{self, Write};
 use string_pool::write_string;
-use type_chunks::{PackageRows, Row};
+use type_chunks::Row;
 
 /// Writes a line for each package of a table, in the order of the file, and behind it one for each of
 /// its rows with the names of its type and entry, with the lines of its bag. A string value is

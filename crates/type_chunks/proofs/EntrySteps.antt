@@ -50,10 +50,6 @@ held-ok : (chunk : TypeChunkOf) (index at : ℕ) (held : Result CellOf TableFaul
 held-ok chunk index at (Ok cell) is = refl
 held-ok chunk index at (Err fault) is = absurd cc
 
-not_false : (b : Bool) → not b ≡ false → b ≡ true
-not_false true e = refl
-not_false false e = absurd cc
-
 module _ (chunk : TypeChunkOf) (index at : ℕ) (is : IsOk (rows_of_entry_at chunk index at)) where
   abbrev size : ℕ
   size = number 2 chunk.whole at

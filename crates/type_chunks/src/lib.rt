@@ -1,13 +1,12 @@
 //! Reads the types of a package: each entry of each type is checked, and of each type its place is kept.
 //!
 //! For the crates above: `types_of_children` gives the types of a package, whose rows are those that the
-//! chunks in it spell, or the first fault with its place; `PackageTypes::rows` is these rows, and `types` the
-//! rows of each type.
+//! chunks in it spell, or the first fault with its place; `PackageTypes::types` gives each type with its rows.
 //!
 //! ```text
 //! let types = types_of_children(alloc, Owner { id: 0x7f, index: 0 }, &package)?;
-//! for row in types.rows() {
-//!     println!(rt; "{:#010x} of type {}", row.id.0, row.id.type_id())?;
+//! for checked in types.types() {
+//!     println!(rt; "type {} has indexes below {}", checked.id(), checked.entry_count())?;
 //! }
 //! ```
 //!
@@ -27,7 +26,6 @@ mod known_specs;
 mod layout;
 mod owner;
 mod package_children;
-mod package_rows;
 mod package_types;
 mod row;
 mod type_check;
@@ -42,7 +40,6 @@ pub use checked_type::CheckedType;
 pub use fault::TableFault;
 pub use owner::Owner;
 pub use package_children::types_of_children;
-pub use package_rows::PackageRows;
 pub use package_types::PackageTypes;
 pub use row::Row;
 pub use type_rows::TypeRows;

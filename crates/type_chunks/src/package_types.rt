@@ -5,7 +5,6 @@ ghost use Rattle.chunk_walk.specs.Chunk.{chunk_of};
 ghost use Rattle.type_chunks.specs.TypePlaces.{AreKept};
 
 use crate::owner::Owner;
-use crate::package_rows::PackageRows;
 use crate::type_place::TypePlace;
 use crate::types::Types;
 use chunk_walk::Chunk;
@@ -32,12 +31,5 @@ impl<'a> PackageTypes<'a> {
         ensures { rows_of_each result ≡ rows_of_kept self.now }
     {
         Types::new(self.owner, self.container, &self.places)
-    }
-
-    /// Their rows.
-    pub fn rows(&self) -> PackageRows<'_, 'a>
-        ensures { result ≡ rows_of_kept self.now }
-    {
-        PackageRows::new(self.types())
     }
 }

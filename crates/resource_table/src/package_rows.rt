@@ -5,10 +5,8 @@ ghost use Rattle.std.specs.Option.{unwrap_or};
 ghost use Rattle.std.specs.Iterator.{YieldsFirstBy};
 ghost use Rattle.type_chunks.specs.Row.{row_of};
 
-use crate::row::Row;
-use crate::type_rows::TypeRows;
-use crate::types::Types;
 use std::marker::Model;
+use type_chunks::{Row, TypeRows, Types};
 
 /// The rows of a package that are left, in the order of the file.
 #[derive(Drop)]
@@ -57,7 +55,7 @@ impl<'t, 'a> Iterator for PackageRows<'t, 'a> {
             let Some(checked) = self.types.next() else {
                 return None;
             };
-            self.left = Some(TypeRows::new(checked));
+            self.left = Some(checked.rows());
         }
     }
 }

@@ -1,7 +1,7 @@
 use Rattle.std.proofs.Common.{◌≡◌, ◌++◌, [], length}
 use Rattle.std.specs.Option.{unwrap_or}
 use Rattle.type_chunks.specs.TypeRows.{rows_of_each}
-use Rattle.type_chunks.proofs.package_rows.PackageRowsIterator.next.Given as goal
+use Rattle.resource_table.proofs.package_rows.PackageRowsIterator.next.Given as goal
 
 -- only types without rows were passed over
 abbrev pub invariant-types : goal.invariant-types
