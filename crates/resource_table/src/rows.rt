@@ -6,10 +6,11 @@ ghost use Rattle.std.specs.Iterator.{YieldsFirstBy};
 ghost use Rattle.type_chunks.specs.Row.{row_of};
 
 use crate::package::Package;
+use crate::package_rows::PackageRows;
 use res_value::ResId;
 use std::marker::Model;
 use std::slice::Iter;
-use type_chunks::{PackageRows, Row};
+use type_chunks::Row;
 
 /// All rows of a table that are left, in the order of the file.
 #[derive(Drop)]

@@ -1,5 +1,5 @@
 -- How the types of a package are kept by their places.
-use Rattle.std.proofs.Common.{◌≡◌, ℕ, ◌+◌, ◌-◌, ◌<◌, ◌≤◌, List, [], ◌∷◌, ◌++◌, map, length, length-append, Option, Some, None, Result, Ok, Err, Bor, Iter, refl, sym, ap, subst, ◌∙◌, arith}
+use Rattle.std.proofs.Common.{◌≡◌, ℕ, ◌-◌, ◌<◌, ◌≤◌, List, [], ◌∷◌, ◌++◌, map, length, length-append, Option, Some, None, Result, Ok, Err, Bor, Iter, refl, sym, ap, subst, ◌∙◌, arith}
 use Rattle.std.specs.Prelude.{◌*◌, ◌^◌, ◌==◌, Bool, true, false, IsOk, IfSome, All, slice_index, if◌then◌else◌}
 use Rattle.std.specs.Result.{ForOk}
 use Rattle.std.specs.List.{flat_map}
@@ -7,7 +7,7 @@ use Rattle.std.specs.Option.{option_map}
 use Rattle.std.specs.Slice.Iter.{iter_rest, iter_steps}
 use Rattle.std.proofs.lemmas.List.{append-nil}
 use Rattle.std.proofs.lemmas.List.Concat.{flat_map-append}
-use Rattle.std.proofs.lemmas.List.Elements.{All-nil, All-head, All-tail, All-rest, All-same, All-push}
+use Rattle.std.proofs.lemmas.List.Elements.{All-head, All-tail, All-rest, All-same, All-push}
 use Rattle.contract_words.specs.Faults.{◌>>=◌}
 use Rattle.contract_words.specs.Sequences.{with_front}
 use Rattle.chunk_walk.specs.Chunk.{ChunkOf, chunk_of, chunk_within}
@@ -22,10 +22,10 @@ use Rattle.type_chunks.specs.declared.type_spec.TypeSpec.{TypeSpec}
 use Rattle.type_chunks.specs.Layout.{type_kind, type_spec_kind}
 use Rattle.type_chunks.specs.FoundChunk.{found_chunk}
 use Rattle.type_chunks.specs.Row.{RowOf}
-use Rattle.type_chunks.specs.TypeSpec.{TypeSpecOf, type_spec_of, type_spec_in, last_spec}
+use Rattle.type_chunks.specs.TypeSpec.{TypeSpecOf, type_spec_of, type_spec_in}
 use Rattle.type_chunks.specs.TypeChunk.{TypeChunkOf, type_with, type_in}
 use Rattle.type_chunks.specs.Entries.{AreRead, rows_from}
-use Rattle.type_chunks.specs.KnownSpecs.{kept_for, kept_spec, Knows, SpecsStand}
+use Rattle.type_chunks.specs.KnownSpecs.{kept_for, Knows, SpecsStand}
 use Rattle.type_chunks.specs.PackageChildren.{rows_of_entries, rows_of_child, rows_of_kept}
 use Rattle.type_chunks.specs.TypePlaces.{spec_at, SpecStands, type_at, IsKept, AreKept, rows_of_read, rows_at, rows_of_places}
 use Rattle.type_chunks.specs.TypeRows.{rows_of_each}

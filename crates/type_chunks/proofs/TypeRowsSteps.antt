@@ -1,12 +1,9 @@
 -- How the rows of types go on.
-use Rattle.std.proofs.Common.{◌≡◌, ℕ, zero, suc, ◌+◌, ◌-◌, ◌*◌, ◌^◌, ◌<◌, ◌≤◌, Bool, true, false, List, [], ◌∷◌, ◌++◌, length, length-append, Result, Ok, Err, refl, sym, ap, subst, ◌∙◌, arith}
+use Rattle.std.proofs.Common.{◌≡◌, ℕ, zero, suc, ◌+◌, ◌-◌, ◌*◌, ◌<◌, ◌≤◌, Bool, true, false, List, [], ◌∷◌, ◌++◌, length, length-append, Result, Ok, Err, refl, sym, ap, subst, ◌∙◌, arith}
 use Rattle.std.specs.Prelude.{cond, nat_le, if◌then◌else◌}
 use Rattle.std.specs.List.{range_with_len, flat_map}
 use Rattle.std.proofs.lemmas.Bool.Decides.{nat_tests}
-use Rattle.std.proofs.lemmas.List.{append-nil}
-use Rattle.std.proofs.lemmas.List.Concat.{flat_map-append}
 use Rattle.std.proofs.lemmas.List.Sums.{sum_by-append}
-use Rattle.contract_words.specs.Sequences.{with_front}
 use Rattle.chunk_walk.specs.Number.{number}
 use Rattle.res_value.specs.Cell.{CellOf}
 use Rattle.type_chunks.specs.declared.fault.TableFault.{TableFault}
@@ -15,11 +12,10 @@ use Rattle.config_record.specs.Record.{record_bytes, is_set_aside}
 use Rattle.type_chunks.specs.Row.{RowOf, set_aside_count}
 use Rattle.type_chunks.specs.TypeChunk.{TypeChunkOf, type_chunk_of}
 use Rattle.type_chunks.specs.Entry.{is_row, row_of_entry, rows_of_entry, rows_of_entry_at}
-use Rattle.type_chunks.specs.PackageChildren.{rows_of_entries}
 use Rattle.type_chunks.specs.Entries.{is_empty, AreEmpty, or_none, row_of_index, rows_from, held_at}
 use Rattle.type_chunks.specs.TypeRows.{rows_of_type, rows_of_types}
 use Rattle.type_chunks.proofs.EntrySteps.{rows_with, entry_at-with}
-use Rattle.type_chunks.proofs.EntriesSteps.{empty-read, rows_of_entries-read}
+use Rattle.type_chunks.proofs.EntriesSteps.{empty-read}
 
 -- ---- the rows of a type
 

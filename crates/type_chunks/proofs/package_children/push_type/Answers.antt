@@ -4,7 +4,7 @@ use Rattle.std.proofs.lemmas.Result.{err_from_is_err_and}
 use Rattle.chunk_walk.specs.Chunk.{chunk_of}
 use Rattle.type_chunks.specs.declared.type_spec.TypeSpec.{TypeSpec}
 use Rattle.type_chunks.specs.TypeSpec.{type_spec_of}
-use Rattle.type_chunks.specs.TypeChunk.{TypeChunkOf, type_chunk_of, type_with}
+use Rattle.type_chunks.specs.TypeChunk.{type_chunk_of}
 use Rattle.type_chunks.specs.TypePlaces.{type_at}
 use Rattle.type_chunks.proofs.PlacesSteps.{type_at-found, keeps, kept-stands, type-fault, entries-fault, type-pushed}
 use Rattle.type_chunks.proofs.package_children.push_type.Goals as goal
