@@ -27,7 +27,7 @@ abbrev pub fault_of_layers : LayersFault → ToolFault
 fault_of_layers of_layers.OutOfMemory = of_tool.OutOfMemory
 fault_of_layers fault = of_tool.Layers fault
 
--- of the table of a layer, which is told by its place from 0
+-- of the table of a layer, which is named by its place from 0
 abbrev pub fault_of_layer_table : ℕ → TableFault → ToolFault
 fault_of_layer_table layer of_table.OutOfMemory = of_tool.OutOfMemory
 fault_of_layer_table layer fault = of_tool.LayerTable layer fault

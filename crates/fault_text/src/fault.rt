@@ -23,7 +23,7 @@ use thiserror::Error;
 use type_chunks::TableFault;
 
 /// Why a command was not carried out: the part of its input that is refused, or what failed. Layers
-/// are told by their place, from 0.
+/// are named by their place, from 0.
 #[derive(Clone, Copy, Debug, PartialEq, Eq, Error)]
 pub enum ToolFault {
     /// The table of a command that reads one alone.

@@ -8,7 +8,7 @@ use chunk_walk::Chunk;
 use string_pool::Pool;
 use type_chunks::TableFault;
 
-/// Opens the pool that a chunk is; its fault is told with the place of the chunk.
+/// Opens the pool that a chunk is; its fault is given with the place of the chunk.
 pub(crate) fn open_pool<'a>(chunk: &Chunk<'a>) -> Result<Pool<'a>, TableFault>
     ensures { seen_table_pool result ≡ pool_of_chunk (chunk_of chunk.now) }
 {

@@ -1,4 +1,4 @@
--- The name of a type that is kept as text.
+-- The name of a type that is kept as text. Contracts within the crate alone speak of this.
 use Rattle.std.specs.Prelude.{◌≡◌}
 use Rattle.std.specs.Option.{ForSome}
 use Rattle.res_value.specs.ResId.{type_of}
