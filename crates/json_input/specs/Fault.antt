@@ -1,4 +1,4 @@
--- Why a text was not read, as a crate above tells it.
+-- Why a text was not read, as the fault of a crate above.
 use Rattle.json_input.specs.declared.value.JsonFault.{JsonFault}
 use Rattle.json_input.specs.declared.value.JsonFault.TheVariants.{Syntax, OutOfMemory}
 

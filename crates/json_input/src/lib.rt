@@ -1,7 +1,7 @@
 //! JSON inputs: the value of some bytes, and the words that say which shape a value has.
 //!
 //! For the crates above: `value_of` is what `serde_json` reads of the bytes, none where it refuses
-//! them, and `read_value` gives it. A want of memory is told apart from a refusal.
+//! them, and `read_value` gives it. A lack of memory is another fault than a text that is rejected.
 //!
 //! | word | says | file |
 //! |---|---|---|
