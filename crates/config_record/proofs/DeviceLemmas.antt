@@ -1,7 +1,7 @@
 -- The numbers of a device are in their ranges.
 use Rattle.std.proofs.Common.{◌≡◌, ℕ, zero, suc, ◌<◌, ◌≤◌, ◌≢◌, ◌==◌, nat_lt, Bool, true, false, List, [], ◌∷◌, length, get_or, ◌⊎◌, inl, inr, Result, Ok, Err, IfOk, refl, sym, ap, subst, ◌∙◌, arith}
 use Rattle.std.specs.Prelude.{IfErr}
-use Rattle.std.proofs.lemmas.Bool.{ltb-false, eqb-false}
+use Rattle.std.proofs.lemmas.Bool.{ltb-false, eqb-false, or_parts}
 use Rattle.contract_words.specs.Faults.{◌>>=◌, checked_by}
 use Rattle.contract_words.specs.Sequences.{with_front}
 use Rattle.contract_words.proofs.FaultSteps.{checked_by-ok}
@@ -13,11 +13,11 @@ use Rattle.config_record.specs.declared.locale.LocaleFault.{LocaleFault}
 use Rattle.config_record.specs.declared.locale.LocaleFault.TheVariants as of_locale
 use Rattle.config_record.specs.declared.fields.DeviceFault.{DeviceFault}
 use Rattle.config_record.specs.declared.fields.DeviceFault.TheVariants.{FieldRange, RegionAlone, Density}
-use Rattle.config_record.specs.Coord.{all_coords, place_of, number_at, greatest_of_device}
+use Rattle.config_record.specs.Coord.{all_coords, place_of, number_at, greatest_of_device, is_outside}
 use Rattle.config_record.specs.declared.device.Device.{Device}
 use Rattle.config_record.specs.ComparedNumber.{locale_number, locale_of_number, device_number}
 use Rattle.config_record.specs.DeviceSeen.{device_numbers, seen}
-use Rattle.config_record.specs.Device.{density_in, field_in, locale_number_in, number_in, device_with, device_locale}
+use Rattle.config_record.specs.Device.{density_in, field_in, locale_number_in, number_in, device_with, device_locale, CanHave}
 use Rattle.config_record.proofs.LocaleLemmas.{locale_of-gives}
 use Rattle.config_record.specs.Locale.{locale_of, locale_faults, checked_locale, IsOfSomeText, IsGiven, locale_text}
 
@@ -66,29 +66,43 @@ number_at-given f numbers c e =
 same_number : (a b : ℕ) (r : Result ℕ DeviceFault) → r ≡ Ok a → r ≡ Ok b → a ≡ b
 same_number a b r e f = cc
 
+inside-within : (c : Coord) (n : ℕ) → is_outside c n ≡ false → n ≤ greatest_of_device c
+unfolding is_outside
+inside-within coords.Density n e = let h = or_parts (n == 0) (nat_lt (greatest_of_device coords.Density) n) e in let within = ltb-false (greatest_of_device coords.Density) n h.1 in omega arith
+inside-within c n e = let within = ltb-false (greatest_of_device c) n e in omega arith
+
+inside-some : (n : ℕ) → is_outside coords.Density n ≡ false → 1 ≤ n
+unfolding is_outside
+inside-some n e = let h = or_parts (n == 0) (nat_lt (greatest_of_device coords.Density) n) e in let some = eqb-false n 0 h.0 in omega arith
+
+pub inside-can : (c : Coord) (n : ℕ) → c ≢ coords.Locale → is_outside c n ≡ false → CanHave c n
+inside-can coords.Locale n other e = absurd (other refl)
+inside-can coords.Density n other e = (inside-some n e, inside-within coords.Density n e)
+inside-can c n other e = inside-within c n e
+
 field_in-within : (c : Coord) (asked n : ℕ) → field_in c asked ≡ Ok n → n ≤ greatest_of_device c
 field_in-within c asked n e =
-    let p = checked_by-ok ((nat_lt (greatest_of_device c) asked, FieldRange c) ∷ []) (Ok asked) n e in
-    let below = ltb-false (greatest_of_device c) asked p.0.0 in
+    let p = checked_by-ok ((is_outside c asked, FieldRange c) ∷ []) (Ok asked) n e in
+    let below = inside-within c asked p.0.0 in
     let same : asked ≡ n = same_number asked n (Ok asked) refl p.1 in
     omega arith
 
 field_in-asked : (c : Coord) (asked n : ℕ) → field_in c asked ≡ Ok n → n ≡ asked
 field_in-asked c asked n e =
-    let p = checked_by-ok ((nat_lt (greatest_of_device c) asked, FieldRange c) ∷ []) (Ok asked) n e in
+    let p = checked_by-ok ((is_outside c asked, FieldRange c) ∷ []) (Ok asked) n e in
     sym (same_number asked n (Ok asked) refl p.1)
 
 density_in-within : (asked n : ℕ) → density_in asked ≡ Ok n → (1 ≤ n) × (n ≤ greatest_of_device coords.Density)
 density_in-within asked n e =
-    let p = checked_by-ok ((asked == 0, Density) ∷ (nat_lt (greatest_of_device coords.Density) asked, Density) ∷ []) (Ok asked) n e in
-    let not_zero = eqb-false asked 0 p.0.0 in
-    let below = ltb-false (greatest_of_device coords.Density) asked p.0.1.0 in
+    let p = checked_by-ok ((is_outside coords.Density asked, Density) ∷ []) (Ok asked) n e in
+    let not_zero = inside-some asked p.0.0 in
+    let below = inside-within coords.Density asked p.0.0 in
     let same : asked ≡ n = same_number asked n (Ok asked) refl p.1 in
     (omega arith, omega arith)
 
 density_in-asked : (asked n : ℕ) → density_in asked ≡ Ok n → n ≡ asked
 density_in-asked asked n e =
-    let p = checked_by-ok ((asked == 0, Density) ∷ (nat_lt (greatest_of_device coords.Density) asked, Density) ∷ []) (Ok asked) n e in
+    let p = checked_by-ok ((is_outside coords.Density asked, Density) ∷ []) (Ok asked) n e in
     sym (same_number asked n (Ok asked) refl p.1)
 
 number_in-within : (asked : List ℕ) (l : Result ℕ DeviceFault) (c : Coord) (n : ℕ) → number_in asked l c ≡ Ok n → c ≢ coords.Locale → n ≤ greatest_of_device c
@@ -188,10 +202,6 @@ one_fault : (test : Bool) (n : ℕ) (f fault : DeviceFault) → checked_by ((tes
 one_fault true n f fault e = let same : f ≡ fault = cc in sym same
 one_fault false n f fault e = absurd cc
 
-two_faults : (test other : Bool) (n : ℕ) (f fault : DeviceFault) → checked_by ((test, f) ∷ (other, f) ∷ []) (Ok n) ≡ Err fault → fault ≡ f
-two_faults true other n f fault e = let same : f ≡ fault = cc in sym same
-two_faults false other n f fault e = one_fault other n f fault e
-
 -- no fault of a locale
 abbrev IsElsewhere : DeviceFault → Type 0
 IsElsewhere fault = (fault ≢ RegionAlone) × (fault ≢ FieldRange coords.Locale)
@@ -199,7 +209,7 @@ IsElsewhere fault = (fault ≢ RegionAlone) × (fault ≢ FieldRange coords.Loca
 number_in-elsewhere : (asked : List ℕ) (l : ℕ) (c : Coord) (fault : DeviceFault) → number_in asked (Ok l) c ≡ Err fault → IsElsewhere fault
 unfolding number_in
 number_in-elsewhere asked l coords.Locale fault e = absurd cc
-number_in-elsewhere asked l coords.Density fault e = let is = two_faults _ _ _ Density fault e in (λ h. cc, λ h. cc)
+number_in-elsewhere asked l coords.Density fault e = let is = one_fault _ _ Density fault e in (λ h. cc, λ h. cc)
 number_in-elsewhere asked l c fault e = let is = one_fault _ _ (FieldRange c) fault e in (λ h. cc, λ h. cc)
 
 pub device-not_refused : (asked : List ℕ) (own : Locale) (l : Result Locale LocaleFault) (r : Result Device DeviceFault) → seen r ≡ device_with asked l

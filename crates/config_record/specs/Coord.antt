@@ -1,5 +1,5 @@
 -- The coordinates of a configuration: their order, names and greatest numbers.
-use Rattle.std.specs.Prelude.{ℕ, List, [], ◌∷◌, codes, slice_index}
+use Rattle.std.specs.Prelude.{ℕ, ◌==◌, ◌||◌, nat_lt, Bool, List, [], ◌∷◌, codes, slice_index}
 use Rattle.config_record.specs.declared.coord.Coord.{Coord}
 use Rattle.config_record.specs.declared.coord.Coord.TheVariants.{Mcc, Mnc, Locale, LayoutDirection, SmallestWidthDp, WidthDp, HeightDp, ScreenSize, Long, Round, WideColor, Hdr, Orientation, UiType, Night, Density, Touchscreen, KeysHidden, NavHidden, Keyboard, Navigation, Width, Height, Sdk, Minor}
 
@@ -101,6 +101,11 @@ greatest_of Minor = 65535
 unfoldable pub greatest_of_device : Coord → ℕ
 greatest_of_device Density = 32767
 greatest_of_device c = greatest_of c
+
+-- no device has this number there
+unfoldable pub is_outside : Coord → ℕ → Bool
+is_outside Density n = n == 0 || nat_lt (greatest_of_device Density) n
+is_outside c n = nat_lt (greatest_of_device c) n
 
 -- of a list with a number for each coordinate, in their order, the number of one
 abbrev pub number_at : List ℕ → Coord → ℕ

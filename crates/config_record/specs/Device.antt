@@ -1,6 +1,6 @@
 -- Devices: the configurations that are asked for. A device is the list of the numbers that are compared,
 -- one for each coordinate, in their order.
-use Rattle.std.specs.Prelude.{ℕ, ◌≤◌, ◌==◌, nat_lt, List, [], ◌∷◌, Result, Ok, Err}
+use Rattle.std.specs.Prelude.{ℕ, ◌≤◌, List, [], ◌∷◌, Result, Ok, Err}
 use Rattle.contract_words.specs.Faults.{checked_by}
 use Rattle.json_input.specs.Each.{each}
 use Rattle.config_record.specs.declared.coord.Coord as coord
@@ -11,7 +11,7 @@ use Rattle.config_record.specs.declared.locale.LocaleFault.TheVariants as of_loc
 use Rattle.config_record.specs.declared.fields.Fields.{Fields}
 use Rattle.config_record.specs.declared.fields.DeviceFault.{DeviceFault}
 use Rattle.config_record.specs.declared.fields.DeviceFault.TheVariants.{FieldRange, RegionAlone, Density}
-use Rattle.config_record.specs.Coord.{all_coords, number_at, greatest_of_device}
+use Rattle.config_record.specs.Coord.{all_coords, number_at, greatest_of_device, is_outside}
 use Rattle.config_record.specs.Locale.{checked_locale, IsGiven}
 use Rattle.config_record.specs.ComparedNumber.{locale_number, locale_of_number, device_number}
 
@@ -19,7 +19,7 @@ use Rattle.config_record.specs.ComparedNumber.{locale_number, locale_of_number, 
 
 -- a device has a density; one that is too great is no FieldRange
 abbrev pub density_in : ℕ → Result ℕ DeviceFault
-density_in n = checked_by ((n == 0, Density) ∷ (nat_lt (greatest_of_device coords.Density) n, Density) ∷ []) (Ok n)
+density_in n = checked_by ((is_outside coords.Density n, Density) ∷ []) (Ok n)
 
 abbrev pub locale_number_in : Result Locale LocaleFault → Result ℕ DeviceFault
 locale_number_in (Ok l) = Ok (locale_number l)
@@ -27,7 +27,7 @@ locale_number_in (Err of_locale.RegionAlone) = Err RegionAlone
 locale_number_in (Err of_locale.Malformed) = Err (FieldRange coords.Locale)
 
 abbrev pub field_in : coord.Coord → ℕ → Result ℕ DeviceFault
-field_in c n = checked_by ((nat_lt (greatest_of_device c) n, FieldRange c) ∷ []) (Ok n)
+field_in c n = checked_by ((is_outside c n, FieldRange c) ∷ []) (Ok n)
 
 -- the number at a coordinate, or what is wrong with it; `locale` is that at the locale
 unfoldable pub number_in : List ℕ → Result ℕ DeviceFault → coord.Coord → Result ℕ DeviceFault

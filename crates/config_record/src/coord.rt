@@ -1,9 +1,12 @@
 //! The coordinates of a configuration.
 
-ghost use Rattle.std.specs.Prelude.{◌≡◌, ◌<◌, slice_get, map, length, Some};
-ghost use Rattle.config_record.specs.Coord.{all_coords, place_of, name_of, greatest_of, greatest_of_device};
+ghost use Rattle.std.specs.Prelude.{◌≡◌, ◌<◌, ◌^◌, false, slice_get, map, length, Some};
+ghost use Rattle.config_record.specs.Coord.{all_coords, place_of, name_of, greatest_of, greatest_of_device, is_outside};
 
 use std::fmt;
+
+/// How many coordinates a configuration has.
+pub const COORD_COUNT: usize = 25;
 
 /// The coordinates of a configuration, in their order. All but the locale are numbers; 0 says
 /// nothing.
@@ -63,7 +66,7 @@ pub enum Coord {
 
 impl Coord {
     /// All coordinates, in their order.
-    pub const ALL: [Coord; 25] = [
+    pub const ALL: [Coord; COORD_COUNT] = [
         Coord::Mcc,
         Coord::Mnc,
         Coord::Locale,
@@ -190,12 +193,25 @@ impl Coord {
         }
     }
 
+    /// Whether no device has this number at the coordinate. Of the locale, which is no number, it is said
+    /// of all but 0.
+    #[tactic(auto, unfolding(crate::specs::Coord::is_outside))]
+    pub fn is_outside(self, number: u64) -> bool
+        ensures value { result ≡ is_outside self number }
+        ensures fits { result ≡ false → number < 2 ^ 32 }
+    {
+        match self {
+            Coord::Density => number == 0 || number > u64::from(self.greatest_of_device()),
+            _ => number > u64::from(self.greatest_of_device()),
+        }
+    }
+
     /// The names of all coordinates, in their order.
     #[tactic(auto, unfolding(crate::specs::Coord::all_coords))]
-    pub fn names() -> [&'static str; 25]
+    pub fn names() -> [&'static str; COORD_COUNT]
         ensures { map (λ name. name.now) result ≡ map name_of all_coords }
     {
-        let mut names = [""; 25];
+        let mut names = [""; COORD_COUNT];
         fill_names(&Coord::ALL, &mut names);
         names
     }

@@ -7,7 +7,7 @@ ghost use Rattle.config_record.specs.Coord.{greatest_of_device, number_at};
 ghost use Rattle.config_record.specs.Device.{device_locale, CanHave};
 ghost use Rattle.config_record.specs.Locale.{IsGiven};
 
-use crate::coord::Coord;
+use crate::coord::{COORD_COUNT, Coord};
 use crate::fields::{DeviceFault, Fields, fill_numbers, locale_number_in};
 use crate::json::device_in_value;
 use crate::locale::{Locale, LocaleFault};
@@ -19,7 +19,7 @@ use std::alloc::Global;
 #[derive(Clone, Copy, Debug, PartialEq, Eq)]
 pub struct Device {
     /// What is compared at each coordinate, in their order; at the locale the number of its four bytes.
-    numbers: [u32; 25],
+    numbers: [u32; COORD_COUNT],
     ghost in_range: { (c : coord.Coord) → c ≢ coords.Locale → number_at numbers c ≤ greatest_of_device c },
     ghost with_density: { 1 ≤ number_at numbers coords.Density },
     ghost with_locale: { IsGiven (device_locale numbers) },
@@ -39,7 +39,7 @@ impl Device {
     /// system it runs on; a JSON text is for `read`.
     ///
     /// ```text
-    /// let mut numbers = [0; 25];
+    /// let mut numbers = [0; COORD_COUNT];
     /// numbers[Coord::Density.place()] = 420;
     /// numbers[Coord::Sdk.place()] = 27;
     /// let device = Device::check(&Fields { numbers, locale: Locale::read("fr-CA")? })?;
@@ -67,7 +67,7 @@ impl Device {
     }
 
     /// The device of the numbers that are compared at each coordinate, in their order.
-    pub fn of_numbers(numbers: [u32; 25]) -> Device
+    pub fn of_numbers(numbers: [u32; COORD_COUNT]) -> Device
         requires { (c : coord.Coord) → CanHave c (number_at numbers c) }
         ensures { device_numbers result ≡ numbers }
     {
@@ -76,13 +76,13 @@ impl Device {
 
     #[tactic(auto, unfolding(crate::specs::Device::device_with, crate::specs::Coord::all_coords))]
     pub(crate) fn with(
-        asked: &[u64; 25],
+        asked: &[u64; COORD_COUNT],
         locale: Result<Locale, LocaleFault>,
     ) -> Result<Device, DeviceFault>
         requires { IfOk locale (λ locale. IsGiven locale) }
         ensures { seen result ≡ device_with asked.now locale }
     {
-        let mut numbers = [0; 25];
+        let mut numbers = [0; COORD_COUNT];
         fill_numbers(asked, locale_number_in(locale), &Coord::ALL, &mut numbers)?;
         Ok(Device { numbers })
     }

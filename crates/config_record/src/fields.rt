@@ -9,7 +9,7 @@ ghost use Rattle.config_record.specs.ComparedNumber.{locale_of_number};
 ghost use Rattle.config_record.specs.Locale.{IsGiven};
 ghost use Rattle.config_record.specs.declared.fields.DeviceFault.TheVariants.{Syntax, OutOfMemory};
 
-use crate::coord::Coord;
+use crate::coord::{COORD_COUNT, Coord};
 use crate::locale::{Locale, LocaleFault};
 use json_input::JsonFault;
 use thiserror::Error;
@@ -18,7 +18,7 @@ use thiserror::Error;
 /// place of the locale is not used.
 #[derive(Clone, Copy, Debug, PartialEq, Eq)]
 pub struct Fields {
-    pub numbers: [u64; 25],
+    pub numbers: [u64; COORD_COUNT],
     pub locale: Locale,
 }
 
@@ -61,7 +61,7 @@ impl From<JsonFault> for DeviceFault {
 /// its fault.
 #[tactic(auto, using(crate::proofs::FillSteps::fill_steps))]
 pub(crate) fn fill_numbers(
-    asked: &[u64; 25],
+    asked: &[u64; COORD_COUNT],
     locale: Result<u32, DeviceFault>,
     coords: &[Coord],
     numbers: &mut [u32],
@@ -77,7 +77,7 @@ pub(crate) fn fill_numbers(
 
 #[tactic(auto, unfolding(crate::specs::Device::number_in))]
 fn number_in(
-    asked: &[u64; 25],
+    asked: &[u64; COORD_COUNT],
     locale: Result<u32, DeviceFault>,
     coord: Coord,
 ) -> Result<u32, DeviceFault>
@@ -105,7 +105,7 @@ pub(crate) fn locale_number_in(locale: Result<Locale, LocaleFault>) -> Result<u3
 fn density_in(density: u64) -> Result<u32, DeviceFault>
     ensures { result ≡ density_in density }
 {
-    if density == 0 || density > u64::from(Coord::Density.greatest_of_device()) {
+    if Coord::Density.is_outside(density) {
         return Err(DeviceFault::Density);
     }
     Ok(density as u32)
@@ -114,7 +114,7 @@ fn density_in(density: u64) -> Result<u32, DeviceFault>
 fn field_in(coord: Coord, number: u64) -> Result<u32, DeviceFault>
     ensures { result ≡ field_in coord number }
 {
-    if number > u64::from(coord.greatest_of_device()) {
+    if coord.is_outside(number) {
         return Err(DeviceFault::FieldRange(coord));
     }
     Ok(number as u32)

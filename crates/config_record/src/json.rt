@@ -6,7 +6,7 @@ ghost use Rattle.json_input.specs.Each.{each};
 ghost use Rattle.config_record.specs.DeviceJson.{number_asked, numbers_asked, locale_asked, device_in_value};
 ghost use Rattle.config_record.specs.DeviceSeen.{filled, seen, text_seen};
 
-use crate::coord::Coord;
+use crate::coord::{COORD_COUNT, Coord};
 use crate::device::Device;
 use crate::fields::DeviceFault;
 use crate::locale::Locale;
@@ -26,10 +26,10 @@ pub(crate) fn device_in_value(value: &Value) -> Result<Device, DeviceFault>
 }
 
 #[tactic(auto, unfolding(crate::specs::DeviceJson::numbers_asked, crate::specs::Coord::all_coords))]
-fn numbers_asked(value: &Value) -> Result<[u64; 25], DeviceFault>
+fn numbers_asked(value: &Value) -> Result<[u64; COORD_COUNT], DeviceFault>
     ensures { result ≡ numbers_asked (view value.now) }
 {
-    let mut numbers = [0; 25];
+    let mut numbers = [0; COORD_COUNT];
     fill_asked(value, &Coord::ALL, &mut numbers)?;
     Ok(numbers)
 }

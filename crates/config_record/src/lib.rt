@@ -26,7 +26,7 @@ mod record;
 mod separator;
 mod zero;
 
-pub use coord::Coord;
+pub use coord::{COORD_COUNT, Coord};
 pub use device::Device;
 pub use fields::{DeviceFault, Fields};
 pub use locale::{Locale, LocaleFault, write_locale};

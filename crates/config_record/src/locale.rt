@@ -34,11 +34,24 @@ const NO_PART: [u8; 2] = [0, 0];
 /// Bit 7 of the first byte says that the two bytes hold three letters or digits, of five bits each.
 const PACKED: u8 = 0x80;
 
+const SYMBOL_BITS: u32 = 5;
+
+const SYMBOL_MASK: u8 = 0x1f;
+
+// Of the second of the three, the upper two bits stand in the first byte, the lower three in the second.
+const UPPER_BITS: u32 = 2;
+
+const UPPER_MASK: u8 = 0x03;
+
+const LOWER_BITS: u32 = 3;
+
+const LOWER_MASK: u8 = 0x07;
+
 impl Locale {
     /// No language and no region.
     pub const NONE: Locale = Locale {
-        language: [0, 0],
-        region: [0, 0],
+        language: NO_PART,
+        region: NO_PART,
     };
 
     /// The locale of a text: of `""`, of two or three small letters, or of these, a dash, and two
@@ -195,7 +208,10 @@ fn packed(base: u8, first: u8, second: u8, third: u8) -> [u8; 2]
     ensures { result ≡ packed base first second third }
 {
     let (a, b, c) = (first - base, second - base, third - base);
-    [PACKED + (c << 2) + (b >> 3), ((b & 7) << 5) + a]
+    [
+        PACKED + (c << UPPER_BITS) + (b >> LOWER_BITS),
+        ((b & LOWER_MASK) << SYMBOL_BITS) + a,
+    ]
 }
 
 // ---- as a text
@@ -262,8 +278,8 @@ fn unpacked(base: u8, part: [u8; 2]) -> Symbols
         return Symbols::Two(part);
     }
     Symbols::Three([
-        base + (low & 31),
-        base + ((low >> 5) + ((high & 3) << 3)),
-        base + (high >> 2 & 31),
+        base + (low & SYMBOL_MASK),
+        base + ((low >> SYMBOL_BITS) + ((high & UPPER_MASK) << LOWER_BITS)),
+        base + (high >> UPPER_BITS & SYMBOL_MASK),
     ])
 }

@@ -1,5 +1,5 @@
-//! The fields of a record, as they stand. They are beside `Record` and not with it so that offsets
-//! are named in this file alone.
+//! The fields of a record, as they stand. They are beside `Record` and not with it so that all offsets
+//! but that of the size are named in this file alone.
 
 ghost use Rattle.std.specs.Prelude.{◌≡◌, ◌<◌};
 
