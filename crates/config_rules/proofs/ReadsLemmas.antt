@@ -1,5 +1,5 @@
 -- What a rule says depends on what it reads alone.
-use Rattle.std.proofs.Common.{◌≡◌, ℕ, List, [], ◌∷◌, refl, ap, ◌∙◌}
+use Rattle.std.proofs.Common.{◌≡◌, ℕ, refl, ap, ◌∙◌}
 use Rattle.config_record.specs.declared.coord.Coord.{Coord}
 use Rattle.config_rules.specs.declared.answer.Answer.{Answer}
 use Rattle.config_rules.specs.declared.kind.Kind.{Kind}

@@ -36,18 +36,12 @@ impl Answer {
     pub fn is_pass(self) -> bool
         ensures { result ≡ is_pass self }
     {
-        match self {
-            Answer::Pass => true,
-            Answer::Yes | Answer::No => false,
-        }
+        matches!(self, Answer::Pass)
     }
 
     pub fn is_yes(self) -> bool
         ensures { result ≡ is_yes self }
     {
-        match self {
-            Answer::Yes => true,
-            Answer::No | Answer::Pass => false,
-        }
+        matches!(self, Answer::Yes)
     }
 }

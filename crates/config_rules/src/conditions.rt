@@ -10,10 +10,11 @@ ghost use Rattle.config_rules.specs.Conditions.{is_equal, is_at_most, keys_suit,
 use crate::locale::{language, region};
 use config_record::{Coord, Device, Record};
 
-/// Keys that are exposed suit a device that has its keys on the screen.
-const EXPOSED: u32 = 1;
+/// Exposed keys, as a number of `Coord::KeysHidden`.
+const EXPOSED_KEYS: u32 = 1;
 
-const SOFT: u32 = 3;
+/// Keys on the screen, as a number of `Coord::KeysHidden`.
+pub const SOFT_KEYS: u32 = 3;
 
 pub(crate) fn is_equal(stored: u32, device: u32) -> bool
     ensures { result ≡ is_equal stored device }
@@ -30,7 +31,7 @@ pub(crate) fn is_at_most(stored: u32, device: u32) -> bool
 pub(crate) fn keys_suit(stored: u32, device: u32) -> bool
     ensures { result ≡ keys_suit stored device }
 {
-    is_equal(stored, device) || (stored == EXPOSED && device == SOFT)
+    is_equal(stored, device) || (stored == EXPOSED_KEYS && device == SOFT_KEYS)
 }
 
 /// Whether the locale of a record suits a device: what `Kind::LocaleSuits` asks, for callers that ask nothing

@@ -5,6 +5,9 @@
 //! another where the first rule that decides says yes. Both are tables over the one engine of this
 //! crate; the tables stand in the crates above.
 //!
+//! For the crates above: what a table answers is the answer of its first rule that does not pass
+//! (`answer_of_table`).
+//!
 //! ```text
 //! let rule = Rule { kind: Kind::Density, coord: Coord::Density };
 //! rule.answer(&low, &high, &device) // Answer::Yes
@@ -24,7 +27,7 @@ mod screen_size;
 mod table;
 
 pub use answer::Answer;
-pub use conditions::suits_locale;
+pub use conditions::{SOFT_KEYS, suits_locale};
 pub use kind::{Kind, Numbers};
 pub use rule::{Rule, beside};
 pub use table::{deciding_place, deciding_rule, table_answer};

@@ -7,16 +7,19 @@ ghost use Rattle.config_rules.specs.Comparisons.{locale_rank, locale_answer};
 use crate::answer::Answer;
 use crate::given::{always_larger, is_given};
 
+/// How many regions there are to a language: a region has two bytes.
+const REGIONS: u32 = 0x1_0000;
+
 pub(crate) fn language(locale: u32) -> u32
     ensures { result ≡ language locale }
 {
-    locale / 65536
+    locale / REGIONS
 }
 
 pub(crate) fn region(locale: u32) -> u32
     ensures { result ≡ region locale }
 {
-    locale % 65536
+    locale % REGIONS
 }
 
 /// The one that says more.
