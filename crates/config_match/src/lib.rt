@@ -1,6 +1,9 @@
 //! Does a record match a device? It does where it is not set aside and none of its 25 conditions
 //! fails, one for each coordinate.
 //!
+//! For the crates above: `matches` is `is_match` of the record and the device, and `mismatch` names
+//! what fails first, none exactly where the record matches.
+//!
 //! ```text
 //! if !matches(&record, &device) {
 //!     mismatch(&record, &device); // Some(Mismatch::At(Coord::Sdk))

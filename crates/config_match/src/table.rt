@@ -4,10 +4,10 @@ ghost use Rattle.std.specs.Prelude.{◌≡◌};
 ghost use Rattle.config_rules.specs.Reads.{AreReadInOrder};
 ghost use Rattle.config_match.specs.Conditions.{all_conditions};
 
-use config_record::Coord;
+use config_record::{COORD_COUNT, Coord};
 use config_rules::{Kind, Rule};
 
-const CONDITIONS: [Rule; 25] = [
+const CONDITIONS: [Rule; COORD_COUNT] = [
     Rule {
         kind: Kind::Equal,
         coord: Coord::Mcc,

@@ -1,6 +1,9 @@
 //! Which of two records is better for a device, and by which of the 23 rules? And are two records
 //! equal?
 //!
+//! For the crates above: `better` is `is_better`, and among records that match the device it is an
+//! order, but for a density of 0 against one of 160; `deciding` is the number of the rule that decides.
+//!
 //! ```text
 //! if better(&candidate, &best, &device) {
 //!     deciding(&candidate, &best, &device); // Some(15): the density
