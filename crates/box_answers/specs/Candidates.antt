@@ -1,6 +1,7 @@
 -- Where a rule is tried: at few numbers of a set, so chosen that a rule which says something anywhere in the set says it at
 -- one of them.
 use Rattle.std.specs.Prelude.{ℕ, ◌+◌, List, [], ◌∷◌, min, max}
+use Rattle.config_rules.specs.Conditions.{soft_keys}
 use Rattle.box_answers.specs.NumberSet.{SetOf, RangeOf, NumbersOf, LocalesOf}
 
 -- the number itself, or the end of the range that is nearer
@@ -12,6 +13,6 @@ clamped low high n = max low (min n high)
 abbrev pub candidates : SetOf → ℕ → ℕ → List ℕ
 candidates (RangeOf low high) a b =
     low ∷ high ∷ clamped low high (low + 1) ∷ clamped low high (low + 2)
-    ∷ clamped low high a ∷ clamped low high b ∷ clamped low high 3 ∷ []
+    ∷ clamped low high a ∷ clamped low high b ∷ clamped low high soft_keys ∷ []
 candidates (NumbersOf numbers) a b = numbers
 candidates (LocalesOf numbers) a b = numbers

@@ -1,4 +1,4 @@
--- Four facts about the rules, by which few numbers of a set tell what all of them say.
+-- Four facts about the rules, by which few numbers of a set are enough to know what all of them say.
 use Rattle.std.specs.Prelude.{◌≡◌, ◌⊎◌, ℕ, ◌<◌, ◌≤◌, ◌==◌, true, List, Contains}
 use Rattle.config_record.specs.declared.coord.Coord as coord
 use Rattle.config_record.specs.declared.coord.Coord.TheVariants as coords
@@ -7,7 +7,7 @@ use Rattle.config_record.specs.Record.{is_set_aside}
 use Rattle.config_rules.specs.declared.answer.Answer.TheVariants.{Yes, Pass}
 use Rattle.config_rules.specs.declared.kind.Kind.TheVariants as kinds
 use Rattle.config_rules.specs.declared.rule.Rule.{Rule}
-use Rattle.config_rules.specs.Comparisons.{counted_density}
+use Rattle.config_rules.specs.Comparisons.{counted_density, normal_size}
 use Rattle.config_rules.specs.Rule.{at, beside, rule_answer}
 use Rattle.config_match.specs.Conditions.{all_conditions}
 use Rattle.box_answers.specs.NumberSet.{SetOf}
@@ -30,7 +30,7 @@ size_rule = at coords.ScreenSize kinds.ScreenSize
 -- the rule of the screen's size says the same of all sizes from normal up
 abbrev pub SizesFromNormalUpAreAlike : (coord.Coord → ℕ) → (coord.Coord → ℕ) → Type 0
 SizesFromNormalUpAreAlike a b =
-    (d e : coord.Coord → ℕ) → 2 ≤ d coords.ScreenSize → 2 ≤ e coords.ScreenSize → rule_answer size_rule a b d ≡ rule_answer size_rule a b e
+    (d e : coord.Coord → ℕ) → normal_size ≤ d coords.ScreenSize → normal_size ≤ e coords.ScreenSize → rule_answer size_rule a b d ≡ rule_answer size_rule a b e
 
 -- a rule of two dimensions asks only which of the device's are 0
 abbrev pub DimensionsAskWhichAreZero : (coord.Coord → ℕ) → (coord.Coord → ℕ) → Type 0

@@ -5,9 +5,7 @@ ghost use Rattle.box_answers.specs.NumberSet.{SetOf, RangeOf, set_of};
 ghost use Rattle.box_answers.specs.Candidates.{clamped, candidates};
 
 use crate::number_set::NumberSet;
-
-/// The number by which keys on the screen are asked for: exposed keys suit them too.
-const SOFT_KEYS: u32 = 3;
+use config_rules::SOFT_KEYS;
 
 /// How many numbers of a range are tried.
 const OF_A_RANGE: usize = 7;

@@ -7,6 +7,14 @@
 //! member where each of its numbers lies in the set at its coordinate (`IsMember`), and an answer is
 //! `IsExact`: yes of all members, no of all, or else two members that differ in one coordinate alone
 //! and answer yes and no.
+//!
+//! ```text
+//! match match_all(&sets, &record) {
+//!     Sameness::Always => .., // of all members
+//!     Sameness::Never => .., // of none
+//!     Sameness::Mixed(yes, no, coord) => .., // two members
+//! }
+//! ```
 #![tactic(auto)]
 
 mod candidates;

@@ -9,7 +9,7 @@ ghost use Rattle.box_answers.specs.NumberSet.{set_of, IsIn, IsLeastIn};
 ghost use Rattle.box_answers.specs.Members.{sets_of, set_at, IsMember, IsBox, IsCorner};
 
 use crate::number_set::NumberSet;
-use config_record::{Coord, Device};
+use config_record::{COORD_COUNT, Coord, Device};
 
 /// The set at a coordinate.
 pub fn set_at(sets: &[NumberSet], at: Coord) -> &NumberSet
@@ -47,7 +47,7 @@ pub fn corner(sets: &[NumberSet]) -> Device
     requires { IsBox (sets_of sets.now) }
     ensures { IsCorner (sets_of sets.now) (device_numbers result) }
 {
-    let mut numbers = [0; 25];
+    let mut numbers = [0; COORD_COUNT];
     fill_least(sets, &Coord::ALL, &mut numbers);
     Device::of_numbers(numbers)
 }
