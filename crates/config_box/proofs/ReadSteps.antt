@@ -1,6 +1,6 @@
 -- The sets that are read are what a box has.
 use Rattle.std.proofs.Common.{◌≡◌, ◌≢◌, ℕ, ◌+◌, ◌<◌, ◌≤◌, ◌==◌, ◌||◌, nat_lt, arith, List, [], ◌∷◌, ◌++◌, length, map, get_or, take, ◌^◌, zero-add, length-append, inl, inr, Bool, true, false, Option, Some, ok_or, Result, Ok, refl, sym, ap, subst, ◌∙◌}
-use Rattle.std.proofs.lemmas.Bool.{ltb-false, eqb-false, or_parts}
+use Rattle.std.proofs.lemmas.Bool.{ltb-false, or_parts}
 use Rattle.std.specs.List.{list_any, range_with_len}
 use Rattle.std.specs.Borrow.{Bor}
 use Rattle.std.proofs.lemmas.Bool.{cases_eq}
@@ -18,15 +18,16 @@ use Rattle.json_input.specs.Each.{list_items, list_of, each}
 use Rattle.json_input.proofs.EachSteps.{list_items-view}
 use Rattle.config_record.specs.declared.coord.Coord.{Coord}
 use Rattle.config_record.specs.declared.coord.Coord.TheVariants as coords
-use Rattle.config_record.specs.Coord.{all_coords, place_of, greatest_of, greatest_of_device}
+use Rattle.config_record.specs.Coord.{all_coords, place_of, greatest_of, greatest_of_device, is_outside}
 use Rattle.config_record.specs.ComparedNumber.{locale_of_number}
 use Rattle.config_record.specs.Device.{CanHave}
 use Rattle.config_record.specs.Locale.{IsGiven, checked_locale}
+use Rattle.config_record.proofs.DeviceLemmas.{inside-can}
 use Rattle.box_answers.specs.declared.number_set.NumberSet.{NumberSet}
 use Rattle.box_answers.specs.NumberSet.{SetOf, set_of, RangeOf, NumbersOf, LocalesOf}
 use Rattle.box_answers.specs.Members.{sets_of, set_at, IsOfKind, IsBox}
 use Rattle.box_answers.proofs.Coords.{next-coord, every-coord, all_coords-count}
-use Rattle.config_box.specs.BoxJson.{is_outside, number_of_text}
+use Rattle.config_box.specs.BoxJson.{number_of_text}
 use Rattle.config_box.specs.declared.box_fault.BoxFault.{BoxFault}
 use Rattle.config_box.specs.declared.box_fault.BoxFault.TheVariants.{Shape}
 use Rattle.config_box.specs.Choices.{rising}
@@ -36,16 +37,6 @@ use Rattle.config_box.specs.HalfSets.{IsSetAt}
 use Rattle.config_box.proofs.ChoiceSteps.{rising-increases, rising-few, rising-some, rising-each, each-not, Each}
 
 -- ---- numbers in their range
-
-pub inside-can : (c : Coord) (n : ℕ) → c ≢ coords.Locale → is_outside c n ≡ false → CanHave c n
-unfolding is_outside
-inside-can coords.Locale n other e = absurd (other refl)
-inside-can coords.Density n other e =
-    let h = or_parts (n == 0) (nat_lt (greatest_of_device coords.Density) n) e in
-    let some = eqb-false n 0 h.0 in
-    let within = ltb-false (greatest_of_device coords.Density) n h.1 in
-    (omega arith, omega arith)
-inside-can c n other e = let within = ltb-false (greatest_of_device c) n e in omega arith
 
 between-can : (c : Coord) (from to n : ℕ) → c ≢ coords.Locale → CanHave c from → CanHave c to → from ≤ n → n ≤ to → CanHave c n
 between-can coords.Locale from to n other f t p q = absurd (other refl)

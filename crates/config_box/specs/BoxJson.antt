@@ -10,7 +10,7 @@ use Rattle.config_record.specs.declared.coord.Coord.TheVariants as coords
 use Rattle.config_record.specs.declared.locale.Locale.{Locale}
 use Rattle.config_record.specs.declared.locale.LocaleFault.{LocaleFault}
 use Rattle.config_record.specs.declared.locale.LocaleFault.TheVariants as of_locale
-use Rattle.config_record.specs.Coord.{greatest_of_device}
+use Rattle.config_record.specs.Coord.{is_outside}
 use Rattle.config_record.specs.ComparedNumber.{locale_number}
 use Rattle.config_record.specs.Locale.{locale_of}
 use Rattle.box_answers.specs.NumberSet as sets
@@ -21,11 +21,6 @@ use Rattle.config_box.specs.Choices.{rising}
 use Rattle.config_box.specs.Written as written
 
 -- ---- numbers
-
--- no device has this number there
-unfoldable pub is_outside : coord.Coord → ℕ → Bool
-is_outside coords.Density n = n == 0 || nat_lt (greatest_of_device coords.Density) n
-is_outside c n = nat_lt (greatest_of_device c) n
 
 unfoldable pub outside_fault : coord.Coord → BoxFault
 outside_fault coords.Density = Density

@@ -7,13 +7,13 @@ ghost use Rattle.serde_json.specs.View.{view};
 ghost use Rattle.json_input.specs.Each.{each};
 ghost use Rattle.box_answers.specs.NumberSet.{NumbersOf, LocalesOf, set_of};
 ghost use Rattle.config_record.specs.declared.coord.Coord.TheVariants as coords;
-ghost use Rattle.config_record.specs.Coord.{all_coords};
+ghost use Rattle.config_record.specs.Coord.{all_coords, is_outside};
 ghost use Rattle.config_record.specs.ComparedNumber.{locale_of_number};
 ghost use Rattle.config_record.specs.Locale.{IsGiven};
 ghost use Rattle.box_answers.specs.Members.{sets_of, IsBox};
 ghost use Rattle.config_box.specs.HalfSets.{IsSetAt};
 ghost use Rattle.config_box.specs.declared.box_fault.BoxFault.TheVariants.{OutOfMemory};
-ghost use Rattle.config_box.specs.BoxJson.{is_outside, outside_fault, set_of_range, set_of_numbers, is_malformed, is_region_alone, number_of_text, set_of_texts, set_of_nothing, set_in, box_in_value};
+ghost use Rattle.config_box.specs.BoxJson.{outside_fault, set_of_range, set_of_numbers, is_malformed, is_region_alone, number_of_text, set_of_texts, set_of_nothing, set_in, box_in_value};
 ghost use Rattle.config_box.specs.Choices.{rising};
 ghost use Rattle.config_box.specs.BoxSeen.{written_seen, pair_seen, set_seen};
 
@@ -45,7 +45,7 @@ fn sets_of_each(alloc: Global, written: &[(Coord, Written)]) -> Result<Vec<Numbe
     ensures value { GivesOr OutOfMemory (λ sets. sets_of sets.items) result (each set_in (map pair_seen written.now)) }
     ensures sets { IfOk result (λ sets. IsBox (sets_of sets.items)) }
 {
-    let mut sets = Vec::new(alloc);
+    let mut sets = Vec::with_capacity(alloc, written.len())?;
     for (coord, what) in written {
         let set = set_in(alloc, *coord, what)?;
         sets.push(set)?;
@@ -70,20 +70,10 @@ fn set_in(alloc: Global, at: Coord, written: &Written) -> Result<NumberSet, BoxF
 
 // ---- numbers
 
-#[tactic(auto, unfolding(crate::specs::BoxJson::is_outside))]
-fn is_outside(at: Coord, number: u64) -> bool
-    ensures { result ≡ is_outside at number }
-{
-    match at {
-        Coord::Density => number == 0 || number > u64::from(at.greatest_of_device()),
-        _ => number > u64::from(at.greatest_of_device()),
-    }
-}
-
 fn any_outside(at: Coord, numbers: &[u64]) -> bool
     ensures { result ≡ list_any (is_outside at) numbers.now }
 {
-    numbers.iter().any(|number| is_outside(at, *number))
+    numbers.iter().any(|number| at.is_outside(*number))
 }
 
 #[tactic(auto, unfolding(crate::specs::BoxJson::outside_fault))]
@@ -105,10 +95,10 @@ fn set_of_range(at: Coord, from: u64, to: u64) -> Result<NumberSet, BoxFault>
     if from > to {
         return Err(BoxFault::Empty(at));
     }
-    if is_outside(at, from) {
+    if at.is_outside(from) {
         return Err(outside_fault(at));
     }
-    if is_outside(at, to) {
+    if at.is_outside(to) {
         return Err(outside_fault(at));
     }
     Ok(NumberSet::Range(from as u32, to as u32))
@@ -219,7 +209,7 @@ fn numbers_of_texts(alloc: Global, texts: &[&str]) -> Result<Vec<u32>, AllocErro
     ensures value { IfOk result (λ numbers. numbers.items ≡ map number_of_text (map (λ text. text.now) texts.now)) }
     ensures given { IfOk result (λ numbers. (k : ℕ) → k < length numbers.items → IsGiven (locale_of_number (slice_index numbers.items k))) }
 {
-    let mut numbers = Vec::new(alloc);
+    let mut numbers = Vec::with_capacity(alloc, texts.len())?;
     for text in texts {
         numbers.push(number_of_text(text))?;
     }

@@ -42,10 +42,7 @@ pub(crate) fn has_wrong_kind(sets: &[NumberSet], test: &Test) -> bool
 fn is_range(set: &NumberSet) -> bool
     ensures { result ≡ is_range (set_of set.now) }
 {
-    match set {
-        NumberSet::Range(_, _) => true,
-        NumberSet::Numbers(_) | NumberSet::Locales(_) => false,
-    }
+    matches!(set, NumberSet::Range(_, _))
 }
 
 /// The same sets but for one. The lists of the others are shared.

@@ -56,7 +56,7 @@ fn written_at_each<'a>(
     ensures value { GivesOr OutOfMemory (λ pairs. map pair_seen pairs.items) result (each (written_at (view value.now)) coords.now) }
     ensures coords { IfOk result (λ pairs. map (λ pair. pair.0) pairs.items ≡ coords.now) }
 {
-    let mut pairs = Vec::new(alloc);
+    let mut pairs = Vec::with_capacity(alloc, coords.len())?;
     for coord in coords {
         let pair = written_at(alloc, value, *coord)?;
         pairs.push(pair)?;
@@ -109,7 +109,7 @@ fn numbers_in(alloc: Global, value: &Value) -> Result<Written<'_>, BoxFault>
 fn number_items(alloc: Global, items: &[Value]) -> Result<Vec<u64>, BoxFault>
     ensures { GivesOr OutOfMemory (λ numbers. numbers.items) result (each number_item (map view items.now)) }
 {
-    let mut numbers = Vec::new(alloc);
+    let mut numbers = Vec::with_capacity(alloc, items.len())?;
     for item in items {
         let number = number_item(item)?;
         numbers.push(number)?;
@@ -138,7 +138,7 @@ fn texts_in(alloc: Global, value: &Value) -> Result<Written<'_>, BoxFault>
 fn text_items(alloc: Global, items: &[Value]) -> Result<Vec<&str>, BoxFault>
     ensures { GivesOr OutOfMemory (λ texts. map (λ text. text.now) texts.items) result (each text_item (map view items.now)) }
 {
-    let mut texts = Vec::new(alloc);
+    let mut texts = Vec::with_capacity(alloc, items.len())?;
     for item in items {
         let text = text_item(item)?;
         texts.push(text)?;

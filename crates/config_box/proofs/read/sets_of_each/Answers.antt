@@ -11,7 +11,7 @@ use Rattle.config_box.proofs.read.sets_of_each.Goals as goal
 
 pub returns-in_err-set-clause-value : goal.returns-in_err-set-clause-value
 returns-in_err-set-clause-value c =
-    let p = err_from_is_err_and c.from_residual.result c.from_residual.ensures.1 in
+    let p = err_from_is_err_and c.from_residual-in_err-set.result c.from_residual-in_err-set.ensures.1 in
     rw (p.1, p.2)
     (λ other. EachAllBut-stops_item set_in pair_seen _ _ c.args.written.now _ _ c.loop-coord.invariant.read c.loop-coord-test.true
     (ap (λ v. set_in (pair_seen v)) (sym c.loop-coord-item.is) ∙ c.in_err-set.ensures.value other))

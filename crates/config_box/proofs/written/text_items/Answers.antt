@@ -8,6 +8,6 @@ use Rattle.config_box.proofs.written.text_items.Goals as goal
 
 pub returns-in_err-text : goal.returns-in_err-text
 returns-in_err-text c =
-    let p = err_from_is_err_and c.from_residual.result c.from_residual.ensures.1 in
+    let p = err_from_is_err_and c.from_residual-in_err-text.result c.from_residual-in_err-text.ensures.1 in
     let is = ap (λ v. text_item (view v)) (sym c.item-item.is) ∙ sym c.text_item.ensures ∙ ap text_seen c.in_err-text.was in
     rw (p.1, p.2) (λ other. EachAllBut-stops_item text_item view _ _ c.args.items.now _ _ c.loop-item.invariant c.loop-item-test.true is)

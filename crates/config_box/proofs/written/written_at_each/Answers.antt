@@ -11,7 +11,7 @@ use Rattle.config_box.proofs.written.written_at_each.Goals as goal
 
 pub returns-in_err-pair-clause-value : goal.returns-in_err-pair-clause-value
 returns-in_err-pair-clause-value c =
-    let p = err_from_is_err_and c.from_residual.result c.from_residual.ensures.1 in
+    let p = err_from_is_err_and c.from_residual-in_err-pair.result c.from_residual-in_err-pair.ensures.1 in
     rw (p.1, p.2) (λ other. EachAllBut-stops (written_at (view c.args.value.now)) _ _ c.args.coords.now _ _ c.loop-coord.invariant.read c.loop-coord-test.true (c.in_err-pair.ensures.value other))
 
 pub loop-coord-preserved : goal.loop-coord-preserved
