@@ -1,5 +1,5 @@
 -- The sets that are read are what a box has.
-use Rattle.std.proofs.Common.{◌≡◌, ◌≢◌, ℕ, ◌+◌, ◌<◌, ◌≤◌, ◌==◌, ◌||◌, nat_lt, arith, List, [], ◌∷◌, ◌++◌, length, map, get_or, take, ◌^◌, zero-add, length-append, inl, inr, Bool, true, false, Option, Some, ok_or, Result, Ok, refl, sym, ap, subst, ◌∙◌}
+use Rattle.std.proofs.Common.{◌≡◌, ◌≢◌, ℕ, ◌+◌, ◌<◌, ◌≤◌, ◌==◌, nat_lt, arith, List, [], ◌∷◌, ◌++◌, length, map, get_or, take, ◌^◌, zero-add, length-append, inl, inr, false, Option, Some, ok_or, Result, Ok, refl, sym, ap, subst, ◌∙◌}
 use Rattle.std.proofs.lemmas.Bool.{ltb-false, or_parts}
 use Rattle.std.specs.List.{list_any, range_with_len}
 use Rattle.std.specs.Borrow.{Bor}
