@@ -75,7 +75,7 @@ fn is_version_1(value: &Value) -> bool
 fn goals_of_items(alloc: Global, items: &[Value]) -> Result<Vec<CertGoal>, CertFault>
     ensures { GivesOr OutOfMemory (λ goals. map goal_of goals.items) result (read_on goal_after [] (map view items.now)) }
 {
-    let mut goals = Vec::new(alloc);
+    let mut goals = Vec::with_capacity(alloc, items.len())?;
     let mut nodes_before = 0;
     for item in items {
         let goal = goal_in(alloc, item, goals.len(), nodes_before)?;

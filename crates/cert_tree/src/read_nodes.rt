@@ -124,7 +124,7 @@ fn choice_in(
 fn number_items(alloc: Global, items: &[Value], shape: CertFault) -> Result<Vec<u32>, CertFault>
     ensures { GivesOr OutOfMemory (λ numbers. numbers.items) result (each (number_item shape) (map view items.now)) }
 {
-    let mut numbers = Vec::new(alloc);
+    let mut numbers = Vec::with_capacity(alloc, items.len())?;
     for item in items {
         let number = number_within(item, LAST_WORD, shape)?;
         numbers.push(number as u32)?;
@@ -136,7 +136,7 @@ fn number_items(alloc: Global, items: &[Value], shape: CertFault) -> Result<Vec<
 fn locale_items(alloc: Global, items: &[Value], shape: CertFault) -> Result<Vec<Locale>, CertFault>
     ensures { GivesOr OutOfMemory (λ locales. locales.items) result (each (locale_item shape) (map view items.now)) }
 {
-    let mut locales = Vec::new(alloc);
+    let mut locales = Vec::with_capacity(alloc, items.len())?;
     for item in items {
         let locale = locale_item(item, shape)?;
         locales.push(locale)?;

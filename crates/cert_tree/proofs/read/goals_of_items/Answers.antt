@@ -10,7 +10,7 @@ use Rattle.cert_tree.proofs.read.goals_of_items.Goals as goal
 
 pub returns-in_err-goal : goal.returns-in_err-goal
 returns-in_err-goal c =
-    let p = err_from_is_err_and c.from_residual.result c.from_residual.ensures.1 in
+    let p = err_from_is_err_and c.from_residual-in_err-goal.result c.from_residual-in_err-goal.ensures.1 in
     rw (p.1, p.2)
     (λ other. ReadOnAllBut-stops_seen goal_after view goal_of c.loop-item.goals.items c.loop-item.item-index c.args.items.now _ _ c.loop-item.invariant.read c.loop-item-test.true
     (goal_after-is c.loop-item.goals.items _ _ _ _ _ (c.in_err-goal.ensures.value other) c.item-item.is (omega arith) c.loop-item.invariant.count))

@@ -7,6 +7,6 @@ use Rattle.cert_tree.proofs.read_nodes.locale_items.Goals as goal
 
 pub returns-in_err-locale : goal.returns-in_err-locale
 returns-in_err-locale c =
-    let p = err_from_is_err_and c.from_residual.result c.from_residual.ensures.1 in
+    let p = err_from_is_err_and c.from_residual-in_err-locale.result c.from_residual-in_err-locale.ensures.1 in
     let is = ap (λ v. locale_item c.args.shape (view v)) (sym c.item-item.is) ∙ sym c.locale_item.ensures ∙ c.in_err-locale.was in
     rw (p.1, p.2) (λ other. EachAllBut-stops_item (locale_item c.args.shape) view _ _ c.args.items.now _ _ c.loop-item.invariant c.loop-item-test.true is)

@@ -7,6 +7,6 @@ use Rattle.cert_tree.proofs.read_nodes.number_items.Goals as goal
 
 pub returns-in_err-number : goal.returns-in_err-number
 returns-in_err-number c =
-    let p = err_from_is_err_and c.from_residual.result c.from_residual.ensures.1 in
+    let p = err_from_is_err_and c.from_residual-in_err-number.result c.from_residual-in_err-number.ensures.1 in
     let is = ap (λ v. number_item c.args.shape (view v)) (sym c.item-item.is) ∙ sym c.number_within.ensures.value ∙ c.in_err-number.was in
     rw (p.1, p.2) (λ other. EachAllBut-stops_item (number_item c.args.shape) view _ _ c.args.items.now _ _ c.loop-item.invariant c.loop-item-test.true is)
