@@ -10,6 +10,10 @@ use thiserror::Error;
 /// The bytes that each chunk begins with: a kind, the header's size, the chunk's size.
 pub(crate) const LEAST_HEADER_SIZE: usize = 8;
 
+/// Chunks, their bodies and entries start at multiples of so many bytes (AOSP: `validate_chunk`,
+/// `ResTable::getEntry`).
+pub const ALIGNMENT: usize = 4;
+
 /// What is wrong with a chunk, and its place. Of several faults the first of this list is named.
 #[derive(Clone, Copy, Debug, PartialEq, Eq, Error)]
 pub enum ChunkFault {

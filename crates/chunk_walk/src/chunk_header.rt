@@ -4,7 +4,7 @@ ghost use Rattle.std.specs.Prelude.{◌≡◌, ◌+◌, ◌^◌, ◌<◌, ◌≤
 ghost use Rattle.chunk_walk.specs.Layout.{least_header_size};
 ghost use Rattle.chunk_walk.specs.Chunk.{seen, chunk_in};
 
-use crate::chunk::{Chunk, ChunkFault, LEAST_HEADER_SIZE};
+use crate::chunk::{ALIGNMENT, Chunk, ChunkFault, LEAST_HEADER_SIZE};
 use crate::number::{u16_within, u32_within};
 
 // Where the numbers of a chunk's first eight bytes stand.
@@ -45,7 +45,7 @@ pub(crate) fn first_chunk(place: usize, left: &[u8], min: usize) -> Result<Chunk
     if size < header_size {
         return Err(ChunkFault::HeaderLong(place));
     }
-    if header_size % 4 != 0 || size % 4 != 0 {
+    if header_size % ALIGNMENT != 0 || size % ALIGNMENT != 0 {
         return Err(ChunkFault::Misaligned(place));
     }
     if left.len() < size {

@@ -45,7 +45,7 @@ impl<'a> Chunks<'a> {
     {
         match bytes.get(from..) {
             Some(left) => Chunks { place: from, left },
-            // No chunk follows, so the place is never told.
+            // No chunk follows, so no one sees the place.
             None => Chunks {
                 place: 0,
                 left: &bytes[..0],

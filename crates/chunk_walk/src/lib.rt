@@ -18,7 +18,7 @@ mod chunk_header;
 mod chunks;
 mod number;
 
-pub use chunk::{Chunk, ChunkFault};
+pub use chunk::{ALIGNMENT, Chunk, ChunkFault};
 pub use chunk_header::chunk_at;
 pub use chunks::Chunks;
 pub use number::{u16_at, u16_within, u32_at, u32_within};

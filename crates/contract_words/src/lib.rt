@@ -7,6 +7,8 @@
 //! | `FillsIn` | a call that takes no memory filled in what is meant, or has the fault that is meant | `specs/FillsIn.antt` |
 //! | `checked_by` | the fault of the first condition that holds, else what comes then | `specs/Faults.antt` |
 //! | `refuse`, `>>=` | the same as steps of a `do` | `specs/Faults.antt` |
+//! | `with_front` | a list, and behind it what is read | `specs/Sequences.antt` |
+//! | `joined` | the lists one after the other, or the first fault | `specs/Sequences.antt` |
 //! | `joined_each` | what is read of each item, one after the other, or the first fault | `specs/Sequences.antt` |
 //! | `joined_from` | the same for the numbers from one on and below another | `specs/Sequences.antt` |
 //! | `with_before` | each item with the items that stand before it | `specs/Sequences.antt` |

@@ -1,5 +1,5 @@
-//! The kinds of values that have a name (AOSP: `Res_value::TYPE_NULL` and on), and what their words
-//! mean.
+//! The kinds of values that are printed by a name or a sign (AOSP: `Res_value::TYPE_NULL` and on; 0x08, a dynamic
+//! attribute, is printed by its number), and what their words mean.
 
 /// Nothing: word 0 is undefined, word 1 is empty.
 pub const NULL: u8 = 0x00;

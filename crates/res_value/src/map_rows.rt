@@ -88,9 +88,9 @@ impl<'a> MapRows<'a> {
         self.count == 0
     }
 
-    // Whether the value of a row has another size than a value has.
+    /// Whether the value of a row has another size than a value has.
     #[tactic(auto, unfolding(crate::specs::MapRows::has_wrong_size))]
-    fn has_wrong_size(bytes: &[u8], index: u32) -> bool
+    pub fn has_wrong_size(bytes: &[u8], index: u32) -> bool
         requires { row_size * index + row_size ≤ length bytes.now }
         ensures { result ≡ has_wrong_size bytes.now index }
     {

@@ -18,6 +18,9 @@ pub(crate) mod table_header {
 pub(crate) mod package_header {
     pub const ID: usize = 8;
 
+    /// An id of a resource has one byte for that of its package.
+    pub const GREATEST_ID: u32 = 255;
+
     pub const NAME: usize = 12;
 
     /// How many bytes a unit of the name has.

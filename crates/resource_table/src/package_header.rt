@@ -10,7 +10,7 @@ ghost use Rattle.resource_table.specs.TablePools.{seen_table_pool};
 
 use crate::layout::{kind, package_header as header};
 use crate::pool::open_pool;
-use chunk_walk::{Chunk, ChunkFault, u32_within};
+use chunk_walk::{ALIGNMENT, Chunk, ChunkFault, u32_within};
 use string_pool::{Pool, Text};
 use type_chunks::TableFault;
 
@@ -36,7 +36,7 @@ impl<'a> PackageHeader<'a> {
             return Err(TableFault::Chunk(ChunkFault::HeaderShort(chunk.place)));
         }
         let id = u32_within(chunk.header, header::ID);
-        if id == 0 || id > 255 {
+        if id == 0 || id > header::GREATEST_ID {
             return Err(TableFault::PackageId(chunk.place));
         }
         let type_names = open_names(chunk, u32_within(chunk.header, header::TYPE_NAMES))?;
@@ -109,7 +109,7 @@ fn open_names<'a>(chunk: &Chunk<'a>, at: u32) -> Result<Pool<'a>, TableFault>
 fn open_names_at<'a>(chunk: &Chunk<'a>, at: usize) -> Result<Pool<'a>, TableFault>
     ensures { seen_table_pool result ≡ names_at (chunk_of chunk.now) at }
 {
-    if at % 4 != 0 || at < chunk.header.len() || at >= chunk.whole.len() {
+    if at % ALIGNMENT != 0 || at < chunk.header.len() || at >= chunk.whole.len() {
         return Err(TableFault::PackageHeader(chunk.place));
     }
     let names = chunk.chunk_at(at)?;

@@ -52,9 +52,7 @@ impl<'t, 'a> Iterator for PackageRows<'t, 'a> {
             if let Some(row) = next_of(&mut self.left) {
                 return Some(row);
             }
-            let Some(checked) = self.types.next() else {
-                return None;
-            };
+            let checked = self.types.next()?;
             self.left = Some(checked.rows());
         }
     }

@@ -63,9 +63,7 @@ impl<'t, 'a> Iterator for AllRows<'t, 'a> {
             if let Some(row) = next_of(&mut self.left) {
                 return Some(row);
             }
-            let Some(package) = self.packages.next() else {
-                return None;
-            };
+            let package = self.packages.next()?;
             self.left = Some(package.rows());
         }
     }

@@ -111,7 +111,7 @@ impl<'a> Table<'a> {
     }
 }
 
-// Pushes a chunk in a table, where it is a package; `known` tells of the chunks before it.
+// Pushes a chunk in a table, where it is a package; `known` says what the chunks before it are.
 #[tactic(auto, unfolding(crate::specs::Table::packages_of_child))]
 fn push_child<'a>(
     alloc: Global,

@@ -31,7 +31,8 @@ pub fn write_string<W: Write + Drop>(
     }
 }
 
-/// How many bytes of UTF-16 that is shown as it stands are put together before they are written.
+/// How many bytes of UTF-8 are put together before they are written, from characters of UTF-16 that stand for
+/// themselves.
 const RUN: usize = 64;
 
 /// Writes bytes that are read as UTF-8.

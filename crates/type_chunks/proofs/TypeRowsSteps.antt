@@ -120,19 +120,44 @@ length-rows_of_chunk chunk = omega (arith, length-rows_from chunk (chunk.entry_c
 
 -- ---- how many are set aside: all have the record of their type
 
-one_aside : (row : RowOf) → is_set_aside row.config ≡ false → set_aside_count (row ∷ []) ≡ 0
-one_aside row not_aside = rw not_aside refl
+-- how many of so many rows are set aside
+abbrev share : Bool → ℕ → ℕ
+share aside n = cond aside n 0
 
-none_aside-from : (chunk : TypeChunkOf) (n index : ℕ) → is_set_aside chunk.config ≡ false → set_aside_count (flat_map (row_of_index chunk) (range_with_len index n)) ≡ 0
-none_aside-from chunk zero index not_aside = refl
-none_aside-from chunk (suc n) index not_aside =
-    let first = of_index (λ rows. set_aside_count rows ≡ 0) chunk refl (λ index at cell. one_aside (row_of_entry chunk index at cell) not_aside) index in
-    sum_by-append (λ row. cond (is_set_aside row.config) 1 0) (row_of_index chunk index) (flat_map (row_of_index chunk) (range_with_len (index + 1) n))
-    ∙ rw (first, none_aside-from chunk n (index + 1) not_aside) refl
+one_aside : (aside : Bool) (row : RowOf) → is_set_aside row.config ≡ aside → set_aside_count (row ∷ []) ≡ share aside 1
+one_aside true row is = rw is refl
+one_aside false row is = rw is refl
+
+share-add : (aside : Bool) (m n : ℕ) → share aside m + share aside n ≡ share aside (m + n)
+share-add true m n = refl
+share-add false m n = refl
+
+aside_from : (aside : Bool) (chunk : TypeChunkOf) (n index : ℕ) → is_set_aside chunk.config ≡ aside
+    → set_aside_count (flat_map (row_of_index chunk) (range_with_len index n)) ≡ share aside (length (flat_map (row_of_index chunk) (range_with_len index n)))
+aside_from true chunk zero index is = refl
+aside_from false chunk zero index is = refl
+aside_from aside chunk (suc n) index is =
+    let here = row_of_index chunk index in
+    let behind = flat_map (row_of_index chunk) (range_with_len (index + 1) n) in
+    let none : share aside 0 ≡ 0 = by_none aside in
+    let first = of_index (λ rows. set_aside_count rows ≡ share aside (length rows)) chunk (sym none) (λ index at cell. one_aside aside (row_of_entry chunk index at cell) is) index in
+    sum_by-append (λ row. cond (is_set_aside row.config) 1 0) here behind
+    ∙ rw (first, aside_from aside chunk n (index + 1) is, length-append here behind) (share-add aside (length here) (length behind))
+  where
+    by_none : (aside : Bool) → share aside 0 ≡ 0
+    by_none true = refl
+    by_none false = refl
+
+aside_of_type : (aside : Bool) (checked : CheckedType) → is_set_aside (record_bytes checked.chunk.config) ≡ aside
+    → set_aside_count (rows_of_type checked) ≡ share aside (length (rows_of_type checked))
+unfolding rows_of_type rows_from
+aside_of_type aside checked is = aside_from aside (type_chunk_of checked.chunk) (checked.chunk.entry_count - 0) 0 is
 
 pub none_aside : (checked : CheckedType) → is_set_aside (record_bytes checked.chunk.config) ≡ false → set_aside_count (rows_of_type checked) ≡ 0
-unfolding rows_of_type rows_from
-none_aside checked not_aside = none_aside-from (type_chunk_of checked.chunk) (checked.chunk.entry_count - 0) 0 not_aside
+none_aside = aside_of_type false
+
+pub all_aside : (checked : CheckedType) → is_set_aside (record_bytes checked.chunk.config) ≡ true → set_aside_count (rows_of_type checked) ≡ length (rows_of_type checked)
+all_aside = aside_of_type true
 
 pub length-rows_of_type : (checked : CheckedType) → length (rows_of_type checked) ≤ checked.chunk.entry_count
 unfolding rows_of_type

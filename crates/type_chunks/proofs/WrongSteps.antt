@@ -4,7 +4,6 @@ use Rattle.std.specs.Prelude.{IsOk, find, nat_lt, if◌then◌else◌}
 use Rattle.std.specs.List.{range_with_len}
 use Rattle.std.proofs.lemmas.Bool.Decides.{nat_tests}
 use Rattle.std.proofs.lemmas.List.{drop-drop, get_or_append_left, get_or-append_right, get_or_push}
-use Rattle.chunk_walk.specs.Number.{number}
 use Rattle.res_value.specs.MapRows.{map_rows_in, has_wrong_size}
 use Rattle.type_chunks.specs.WrongSizes.{is_wrong, CountWrong}
 
@@ -71,10 +70,10 @@ module _ (whole counts : List ℕ) (counted : CountWrong whole counts) where
       one-right (place + 12 * k) (omega (arith, within)) (omega (arith, before, rw (sym rest) at behind, equal))
 
   same-row : (place k : ℕ) → has_wrong_size (drop place whole) k ≡ is_wrong whole (place + 12 * k)
-  unfolding has_wrong_size is_wrong number
+  unfolding has_wrong_size is_wrong
   same-row place k =
       let there : place + (12 * k + 4) ≡ place + 12 * k + 4 = omega arith in
-      rw (drop-drop (12 * k + 4) place whole, there) refl
+      rw (drop-drop (12 * k + 4) place whole, drop-drop 4 (place + 12 * k) whole, there) refl
 
   find-none : (p : ℕ → Bool) (n s : ℕ) → ((k : ℕ) → s ≤ k → k < s + n → p k ≡ false) → find p (range_with_len s n) ≡ None
   find-none p zero s none = refl

@@ -1,5 +1,5 @@
 -- Rows.
-use Rattle.std.specs.Prelude.{ℕ, List, map, filter, count_by, ◌==◌}
+use Rattle.std.specs.Prelude.{ℕ, List, filter, count_by, ◌==◌}
 use Rattle.config_record.specs.Record.{record_bytes, is_set_aside}
 use Rattle.res_value.specs.Cell.{CellOf, cell_of}
 use Rattle.type_chunks.specs.declared.row.Row.{Row}
@@ -20,9 +20,6 @@ pub record RowOf : Type 0 where
 
 abbrev pub row_of : Row → RowOf
 row_of row = record { id = row.id.0; config = record_bytes row.config; cell = cell_of row.cell; flags = row.flags; key = row.key; in_package = row.package }
-
-abbrev pub views_of : List Row → List RowOf
-views_of rows = map row_of rows
 
 -- the rows of one id, in their order
 abbrev pub with_id : ℕ → List RowOf → List RowOf

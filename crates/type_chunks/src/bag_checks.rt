@@ -5,8 +5,7 @@ ghost use Rattle.res_value.specs.MapRows.{map_rows_in};
 ghost use Rattle.res_value.specs.Layout.{row_size};
 ghost use Rattle.type_chunks.specs.WrongSizes.{is_wrong, CountWrong};
 
-use chunk_walk::u16_within;
-use res_value::{MapRows, ROW_SIZE, Value};
+use res_value::{MapRows, ROW_SIZE};
 use std::alloc::{AllocError, Global};
 
 /// What opening remembers of the rows of bags of a type. Entries can share bags, or have bags that overlap.
@@ -65,7 +64,7 @@ impl<'a> BagChecks<'a> {
         self.whole.len() - place >= ROW_SIZE * count && self.are_right(place, count)
     }
 
-    // Whether as many wrong rows stand before these rows as behind them.
+    // Whether none of these rows is wrong: as many wrong rows are counted up to their end as up to their start.
     fn are_right(&self, place: usize, count: usize) -> bool
         requires { place + row_size * count ≤ length self.now.whole.now }
         ensures { result ≡ true → IsOk (map_rows_in count (drop place self.now.whole.now)) }
@@ -118,5 +117,5 @@ fn is_wrong(whole: &[u8], place: usize) -> bool
     requires { place + row_size ≤ length whole.now }
     ensures { result ≡ is_wrong whole.now place }
 {
-    u16_within(whole, place + MapRows::value_place(0)) as usize != Value::SIZE
+    MapRows::has_wrong_size(&whole[place..], 0)
 }

@@ -47,8 +47,7 @@ impl<'a> CheckedType<'a> {
         TypeRows::new(*self)
     }
 
-    /// How many of its rows are set aside: none where its record is not, since all have that record. Then no
-    /// row is read.
+    /// How many of its rows are set aside: all or none, since all have its record. Where none is, no row is read.
     #[tactic(auto, using(crate::proofs::TypeRowsSteps::aside_steps))]
     pub fn set_aside(&self) -> u32
         ensures { result ≡ set_aside_count (rows_of_type self.now) }
@@ -56,12 +55,6 @@ impl<'a> CheckedType<'a> {
         if !self.chunk.config.set_aside() {
             return 0;
         }
-        let mut count = 0;
-        for row in self.rows() {
-            if row.config.set_aside() {
-                count += 1;
-            }
-        }
-        count
+        self.rows().count() as u32
     }
 }

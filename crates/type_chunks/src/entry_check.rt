@@ -9,7 +9,7 @@ use crate::fault::TableFault;
 use crate::layout::{bag_header, entry_header, type_header};
 use crate::type_chunk::TypeChunk;
 use bitflags::Flags;
-use chunk_walk::{u16_within, u32_within};
+use chunk_walk::{ALIGNMENT, u16_within, u32_within};
 use res_value::{MapRows, MapRowsFault, Value};
 
 impl<'a> TypeChunk<'a> {
@@ -48,7 +48,7 @@ impl<'a> TypeChunk<'a> {
     {
         let whole = self.whole;
         let fault = TableFault::Entry(self.place + at);
-        if at % 4 != 0 || whole.len() < at + entry_header::LEAST_SIZE {
+        if at % ALIGNMENT != 0 || whole.len() < at + entry_header::LEAST_SIZE {
             return Err(fault);
         }
         let size = u16_within(whole, at + entry_header::SIZE_FIELD) as usize;

@@ -12,7 +12,7 @@ use crate::type_chunk::TypeChunk;
 use std::alloc::Global;
 
 /// The first fault of the entries of a type. Memory is asked for between the checks, and only where entries share
-/// bags.
+/// bags, or bags overlap.
 #[tactic(auto, using(crate::proofs::EntriesSteps::check_steps))]
 pub(crate) fn check_entries(alloc: Global, chunk: &TypeChunk<'_>) -> Result<(), TableFault>
     ensures read { OnOk result (AreRead (type_chunk_of chunk.now) chunk.now.entry_count) }

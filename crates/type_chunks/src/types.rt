@@ -62,10 +62,8 @@ impl<'t, 'a> Iterator for Types<'t, 'a> {
     ghost remaining = { item_count (λ s. s) };
 
     fn next(&mut self) -> Option<CheckedType<'a>> {
-        match self.places.next() {
-            Some(place) => Some(type_anew(self.owner, &self.container, *place)),
-            None => None,
-        }
+        let place = self.places.next()?;
+        Some(type_anew(self.owner, &self.container, *place))
     }
 }
 
