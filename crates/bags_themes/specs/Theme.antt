@@ -57,7 +57,7 @@ values_after force rows values attr = value_after force (values attr) (values_fo
 abbrev pub AppliesRows : Bool → List BagRow → ThemeOf → ThemeOf → Type 0
 AppliesRows force rows old new = (attr : ℕ) → value_of new attr ≡ values_after force rows (value_of old) attr
 
--- A call applied the rows of a style's bag, which are meant, or told why there are none. Then, and where memory ran
+-- A call applied the rows of a style's bag, which are meant, or gave why there are none. Then, and where memory ran
 -- out, the theme is unchanged.
 abbrev pub AppliesStyle : Bool → ThemeOf → ThemeOf → Result (Unit {0}) BagFault → Result (List BagRow) BagFault → Type 0
 AppliesStyle force old new (Ok _) meant = (rows : List BagRow) × (meant ≡ Ok rows) × AppliesRows force rows old new

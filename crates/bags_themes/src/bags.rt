@@ -23,8 +23,8 @@ const MOST_PARENTS: u8 = 64;
 
 /// The rows of the bag that an id selects, merged into those of its parents (AOSP:
 /// `ResTable::getBagLocked`): in file order, each own row goes after the inherited rows of smaller names that are
-/// left, and replaces the next one if that has its name. Parents are found by selection alone. Refused where the id selects
-/// nothing or a value, and where there are more than 64 parents.
+/// left, and replaces the next one if that has its name. Parents are found by selection alone. Refused where the id
+/// selects nothing or a value, and where there are more than 64 parents.
 #[tactic(auto, unfolding(crate::specs::Bag::bag_of))]
 pub fn bag(
     alloc: Global,

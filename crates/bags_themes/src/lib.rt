@@ -1,8 +1,8 @@
 //! Bags, with the rows that they inherit from their parents, and themes, to which bags are applied as styles.
 //!
 //! For the crates above: `bag` gives the rows of a bag merged into those of its parents, each with the layer that
-//! it came from, or tells why there are none. A `Theme` is a finite map from attributes to values; `apply` sets
-//! what the rows of a style set, or leaves the theme unchanged, and `attribute` tells where an attribute ends.
+//! it came from, or why there are none. A `Theme` is a finite map from attributes to values; `apply` sets
+//! what the rows of a style set, or leaves the theme unchanged, and `attribute` gives where an attribute ends.
 //!
 //! ```text
 //! let rows = bag(alloc, &stack, id, &device)?;

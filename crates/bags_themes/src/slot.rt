@@ -5,7 +5,7 @@ ghost use Rattle.std.specs.Option.{option_copied};
 ghost use Rattle.bags_themes.specs.Attribute.{step_of};
 
 use crate::theme_value::ThemeValue;
-use reference_resolver::End;
+use reference_resolver::{End, is_reference};
 use res_value::{ResId, kind};
 
 /// What following attributes arrives at.
@@ -42,7 +42,7 @@ impl AttributeStep {
             AttributeStep::Reaches(Slot::Ends(End::Absent { id: attr }))
         } else if value.kind == kind::ATTRIBUTE {
             AttributeStep::Follows(ResId(value.word))
-        } else if value.kind == kind::REFERENCE && value.word != 0 {
+        } else if is_reference(value) {
             AttributeStep::Reaches(Slot::Refers(ResId(value.word)))
         } else {
             AttributeStep::Reaches(Slot::Ends(End::Value {

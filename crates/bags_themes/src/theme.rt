@@ -7,7 +7,7 @@ ghost use Rattle.config_record.specs.DeviceSeen.{device_numbers};
 ghost use Rattle.bags_themes.specs.Bag.{bag_of};
 ghost use Rattle.bags_themes.specs.Theme.{value_of, unset, is_undefined, AppliesRows, AppliesStyle};
 ghost use Rattle.bags_themes.specs.Styles.{values_after_styles};
-ghost use Rattle.bags_themes.specs.Attribute.{slot_of, attributes_followed, attribute_of};
+ghost use Rattle.bags_themes.specs.Attribute.{slot_of, attribute_of};
 ghost use Rattle.bags_themes.specs.declared.bag_fault.BagFault.TheVariants.{OutOfMemory};
 
 use crate::bag_fault::BagFault;

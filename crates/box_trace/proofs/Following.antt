@@ -1,15 +1,15 @@
 -- The chain of look-ups for all members of a box, look-up by look-up.
-use Rattle.std.proofs.Common.{◌≡◌, ◌<◌, ◌-◌, ℕ, zero, suc, List, [], ◌∷◌, ◌++◌, Option, refl, sym, ◌∙◌, ap, append_assoc, arith}
+use Rattle.std.proofs.Common.{◌≡◌, ◌-◌, ℕ, zero, suc, List, [], ◌∷◌, ◌++◌, Option, refl, sym, ◌∙◌, ap, append_assoc}
 use Rattle.std.specs.List.{flat_map}
 use Rattle.res_value.specs.declared.res_id.ResId.{ResId}
 use Rattle.overlay_map.specs.Layer.{LayerOf}
 use Rattle.overlay_map.specs.Candidates.{CandOf}
 use Rattle.reference_resolver.specs.declared.end.End.{End}
-use Rattle.reference_resolver.specs.declared.end.End.TheVariants.{TooLong}
+use Rattle.reference_resolver.specs.declared.next.Next.{Next}
 use Rattle.reference_resolver.specs.declared.next.Next.TheVariants.{LookUp, EndsAt}
 use Rattle.reference_resolver.specs.declared.step.Step.{Step}
 use Rattle.reference_resolver.specs.Selection.{selected, step_of}
-use Rattle.reference_resolver.specs.Ends.{next_of, next_within, end_of}
+use Rattle.reference_resolver.specs.Ends.{next_of, cut_off, next_within, end_of}
 use Rattle.reference_resolver.specs.Trace.{look_ups_of, scan_look_up, scan_chain, trace_of}
 use Rattle.reference_resolver.proofs.Chains.{ends_within, goes_on_within}
 use Rattle.box_trace.specs.Division.{Divides}
@@ -27,47 +27,36 @@ pub record IsSelectedBy (members : List ℕ → Type 0) (stack : List LayerOf) (
   pub steps : (d : List ℕ) → members d → scan_look_up step_of stack d id ≡ taken
   pub picks : (d : List ℕ) → members d → selected stack id d ≡ picked
 
--- ---- where the look-up leads
-
-end_within : (stack : List LayerOf) (left id : ℕ) (d : List ℕ) (end : End) → next_of id (selected stack id d) ≡ EndsAt end → next_within stack left id d ≡ EndsAt end
-end_within stack zero id d end e = rw e refl
-end_within stack (suc left) id d end e = e
-
-long_within : (stack : List LayerOf) (left id : ℕ) (d : List ℕ) (target : ResId) → left ≡ 0 → next_of id (selected stack id d) ≡ LookUp target → next_within stack left id d ≡ EndsAt (TooLong target)
-long_within stack zero id d target none e = rw e refl
-long_within stack (suc left) id d target none e = absurd (omega arith)
-
-more_within : (stack : List LayerOf) (left id : ℕ) (d : List ℕ) (target : ResId) → 0 < left → next_of id (selected stack id d) ≡ LookUp target → next_within stack left id d ≡ LookUp target
-more_within stack zero id d target some e = absurd (omega arith)
-more_within stack (suc left) id d target some e = e
-
--- ---- for all members
+-- where the look-up leads, for each of them
+leads_within : (members : List ℕ → Type 0) (stack : List LayerOf) (left id : ℕ) (taken : List Step) (picked : Option CandOf) (next : Next)
+    → IsSelectedBy members stack id taken picked → cut_off left (next_of id picked) ≡ next → (d : List ℕ) → members d → next_within stack left id d ≡ next
+leads_within members stack left id taken picked next selects leads d m = ap (λ (o : Option CandOf). cut_off left (next_of id o)) (selects.picks d m) ∙ leads
 
 -- the chain goes on
 pub follow_more : (members : List ℕ → Type 0) (stack : List LayerOf) (most first left id : ℕ) (taken : List Step) (picked : Option CandOf) (target : ResId)
-    → IsFollowed members stack most first left id → IsSelectedBy members stack id taken picked → 0 < left → next_of id picked ≡ LookUp target
+    → IsFollowed members stack most first left id → IsSelectedBy members stack id taken picked → cut_off left (next_of id picked) ≡ LookUp target
     → IsFollowed members stack most first (left - 1) target.0
-follow_more members stack most first left id taken picked target followed selects some leads = record {
+follow_more members stack most first left id taken picked target followed selects leads = record {
   before = followed.before ++ taken;
   steps = λ d m.
-      let goes = goes_on_within stack left id d target (more_within stack left id d target some (ap (next_of id) (selects.picks d m) ∙ leads)) in
+      let goes = goes_on_within stack left id d target (leads_within members stack left id taken picked (LookUp target) selects leads d m) in
       followed.steps d m
       ∙ ap (λ (ids : List ℕ). followed.before ++ flat_map (scan_look_up step_of stack d) ids) goes.2
       ∙ ap (λ (steps : List Step). followed.before ++ (steps ++ scan_chain step_of stack (left - 1) target.0 d)) (selects.steps d m)
       ∙ sym (append_assoc followed.before taken (scan_chain step_of stack (left - 1) target.0 d));
   ends = λ d m.
-      let goes = goes_on_within stack left id d target (more_within stack left id d target some (ap (next_of id) (selects.picks d m) ∙ leads)) in
+      let goes = goes_on_within stack left id d target (leads_within members stack left id taken picked (LookUp target) selects leads d m) in
       followed.ends d m ∙ goes.1;
 }
 
 -- it ends here
-last_look_up : (members : List ℕ → Type 0) (stack : List LayerOf) (most first left id : ℕ) (taken : List Step) (picked : Option CandOf) (end : End)
-    → IsFollowed members stack most first left id → IsSelectedBy members stack id taken picked → ((d : List ℕ) → members d → next_within stack left id d ≡ EndsAt end)
+pub follow_end : (members : List ℕ → Type 0) (stack : List LayerOf) (most first left id : ℕ) (taken : List Step) (picked : Option CandOf) (end : End)
+    → IsFollowed members stack most first left id → IsSelectedBy members stack id taken picked → cut_off left (next_of id picked) ≡ EndsAt end
     → (steps : List Step) × SharesTrace members (trace_of stack most first) (record { steps = steps; end = end })
-last_look_up members stack most first left id taken picked end followed selects last = (
+follow_end members stack most first left id taken picked end followed selects leads = (
   followed.before ++ (taken ++ []),
   λ d m.
-      let ends = ends_within stack left id d end (last d m) in
+      let ends = ends_within stack left id d end (leads_within members stack left id taken picked (EndsAt end) selects leads d m) in
       let steps : scan_chain step_of stack most first d ≡ followed.before ++ (taken ++ []) =
       followed.steps d m
       ∙ ap (λ (ids : List ℕ). followed.before ++ flat_map (scan_look_up step_of stack d) ids) ends.1
@@ -75,18 +64,6 @@ last_look_up members stack most first left id taken picked end followed selects 
       let end_is : end_of stack most first d ≡ end = followed.ends d m ∙ ends.0 in
       rw (steps, end_is) refl,
 )
-
-pub follow_end : (members : List ℕ → Type 0) (stack : List LayerOf) (most first left id : ℕ) (taken : List Step) (picked : Option CandOf) (end : End)
-    → IsFollowed members stack most first left id → IsSelectedBy members stack id taken picked → next_of id picked ≡ EndsAt end
-    → (steps : List Step) × SharesTrace members (trace_of stack most first) (record { steps = steps; end = end })
-follow_end members stack most first left id taken picked end followed selects leads =
-    last_look_up members stack most first left id taken picked end followed selects (λ d m. end_within stack left id d end (ap (next_of id) (selects.picks d m) ∙ leads))
-
-pub follow_long : (members : List ℕ → Type 0) (stack : List LayerOf) (most first left id : ℕ) (taken : List Step) (picked : Option CandOf) (target : ResId)
-    → IsFollowed members stack most first left id → IsSelectedBy members stack id taken picked → left ≡ 0 → next_of id picked ≡ LookUp target
-    → (steps : List Step) × SharesTrace members (trace_of stack most first) (record { steps = steps; end = TooLong target })
-follow_long members stack most first left id taken picked target followed selects none leads =
-    last_look_up members stack most first left id taken picked (TooLong target) followed selects (λ d m. long_within stack left id d target none (ap (next_of id) (selects.picks d m) ∙ leads))
 
 -- ---- where members are divided
 

@@ -1,6 +1,6 @@
 //! One candidate more, for all members of a box.
 
-ghost use Rattle.std.specs.Prelude.{◌≡◌, ℕ, List, IsTrue};
+ghost use Rattle.std.specs.Prelude.{ℕ, List, IsTrue};
 ghost use Rattle.std.specs.Option.{option_map};
 ghost use Rattle.config_match.specs.Matching.{is_match};
 ghost use Rattle.box_answers.specs.Members.{IsMember};

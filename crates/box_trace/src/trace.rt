@@ -8,7 +8,7 @@ use crate::common::{CommonSelection, CommonTrace};
 use crate::selection::common_selection;
 use config_box::ConfigBox;
 use overlay_map::Stack;
-use reference_resolver::{End, Next, REFERENCES_FOLLOWED};
+use reference_resolver::{Next, REFERENCES_FOLLOWED};
 use res_value::ResId;
 
 /// Whether an id has one trace at all members of a box, where at most twenty references are followed, and
@@ -33,11 +33,8 @@ fn common_trace_within(stack: &Stack<'_>, id: ResId, members: &ConfigBox, most: 
             CommonSelection::One(picked) => picked,
             CommonSelection::Mixed(yes, no, coord) => return CommonTrace::Mixed(yes, no, coord),
         };
-        match Next::of(id, &picked) {
+        match Next::of(id, &picked).cut_off(left) {
             Next::EndsAt(end) => return CommonTrace::One(end),
-            Next::LookUp(target) if left == 0 => {
-                return CommonTrace::One(End::TooLong { id: target });
-            }
             Next::LookUp(target) => id = target,
         }
         left -= 1;

@@ -15,7 +15,8 @@ use Rattle.cert_tree.specs.Certificate.{NodeOf, TestAt, ValueAt, BagAt}
 use Rattle.cert_checker.specs.declared.rule.Rule.{Rule}
 use Rattle.cert_checker.specs.declared.rule.Rule.TheVariants.{EndsEarly, MixedTrace, NoValue, OtherValue}
 use Rattle.cert_checker.specs.Paths.{Path, Follows, IsAt, after, after_all, root, open_at, FollowsFirst, leaf_end, Reaches}
-use Rattle.cert_checker.specs.Fails.{is_value, FailsAtLeaf, FailsAt, Fails, NoRuleFails}
+use Rattle.reference_resolver.specs.Ends.{is_value}
+use Rattle.cert_checker.specs.Fails.{FailsAtLeaf, FailsAt, Fails, NoRuleFails}
 
 -- ---- each device that follows an open path reaches a leaf
 

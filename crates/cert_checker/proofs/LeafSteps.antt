@@ -17,7 +17,8 @@ use Rattle.cert_checker.specs.declared.rule.Rule.TheVariants.{GoalList, EndsEarl
 use Rattle.cert_checker.specs.declared.verdict.Shown.TheVariants.{Two, One}
 use Rattle.cert_checker.specs.Rule.{number_of}
 use Rattle.cert_checker.specs.Paths.{Path, IsAt}
-use Rattle.cert_checker.specs.Fails.{is_value, FailsAtLeaf}
+use Rattle.reference_resolver.specs.Ends.{is_value}
+use Rattle.cert_checker.specs.Fails.{FailsAtLeaf}
 use Rattle.cert_checker.specs.Shown.{ShowsEnd}
 use Rattle.cert_checker.specs.OpenBoxes.{IsBoxAt, rule_of_end, TakesLeaf}
 use Rattle.cert_checker.proofs.MarkSteps.{alike-near}

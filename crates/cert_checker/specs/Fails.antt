@@ -1,8 +1,9 @@
--- Which rules fail at the nodes of a tree. A trace tells for each device what the rules of the platform do: the trace of an
+-- Which rules fail at the nodes of a tree. A trace says for each device what the rules of the platform do: the trace of an
 -- id (`trace_of`).
-use Rattle.std.specs.Prelude.{◌≡◌, ◌≢◌, ◌⊎◌, ℕ, ◌<◌, Bool, true, false, List, [], ◌∷◌, Option, Some, None, slice_get}
+use Rattle.std.specs.Prelude.{◌≡◌, ◌≢◌, ◌⊎◌, ℕ, ◌<◌, true, false, List, [], ◌∷◌, Option, Some, None, slice_get}
 use Rattle.reference_resolver.specs.declared.end.End.{End}
 use Rattle.reference_resolver.specs.declared.end.End.TheVariants as ends
+use Rattle.reference_resolver.specs.Ends.{is_value}
 use Rattle.reference_resolver.specs.Trace.{Trace}
 use Rattle.box_answers.specs.NumberSet.{SetOf}
 use Rattle.box_trace.specs.CommonTrace.{SharesTrace}
@@ -25,13 +26,6 @@ FailsAtTest sets members test rule = ⊥
 
 abbrev pub HaveTwoTraces : (List ℕ → Type 0) → (List ℕ → Trace) → Type 0
 HaveTwoTraces members trace = (x : List ℕ) × (y : List ℕ) × members x × members y × (trace x ≢ trace y)
-
--- at a value or a bag
-abbrev pub is_value : End → Bool
-is_value (ends.Value layer value) = true
-is_value (ends.Bag id) = true
-is_value (ends.Absent id) = false
-is_value (ends.TooLong id) = false
 
 -- all members have one trace, which ends at no value, or at another than the leaf says
 abbrev pub FailsAtLeaf : (List ℕ → Trace) → (List ℕ → Type 0) → End → Rule → Type 0

@@ -1,10 +1,9 @@
 //! The rules of leaves.
 
 ghost use Rattle.std.specs.Prelude.{◌≡◌, ◌≢◌, true, MatchBool};
-ghost use Rattle.reference_resolver.specs.Ends.{references_followed};
+ghost use Rattle.reference_resolver.specs.Ends.{references_followed, is_value};
 ghost use Rattle.reference_resolver.specs.Trace.{trace_of};
-ghost use Rattle.cert_checker.specs.Fails.{is_value};
-ghost use Rattle.cert_checker.specs.OpenBoxes.{TakesLeaf};
+ghost use Rattle.cert_checker.specs.OpenBoxes.{TakesLeaf, rule_of_end};
 
 use crate::failure::Failure;
 use crate::rule::Rule;
@@ -38,8 +37,6 @@ pub(crate) fn take_leaf(
         }),
     }
 }
-
-ghost use Rattle.cert_checker.specs.OpenBoxes.{rule_of_end};
 
 /// The rule that fails where all members end here, and the leaf says another end.
 fn rule_of(end: End) -> Rule

@@ -20,17 +20,6 @@ both-do : (step_at : List ℕ → Step) (step : Step) (x y : List ℕ) → step 
 both-do step_at step x y e f d (inl is) = ap step_at is ∙ sym e
 both-do step_at step x y e f d (inr is) = ap step_at is ∙ f
 
--- the best stays where the candidate does not take over
-pub stays-best : (step : Step) (best : Option CandOf) (candidate : CandOf) → step ≢ TookOver → best ≡ best_after step best candidate
-stays-best NoMatch best candidate other = refl
-stays-best KeptOut best candidate other = refl
-stays-best TookOver best candidate other = absurd (other refl)
-
-pub new-best : (step : Step) (best : Option CandOf) (candidate : CandOf) → step ≡ TookOver → Some candidate ≡ best_after step best candidate
-new-best NoMatch best candidate e = absurd cc
-new-best KeptOut best candidate e = absurd cc
-new-best TookOver best candidate e = refl
-
 all-matched : (step_at : List ℕ → Step) (x y : List ℕ) → IsTrue (has_matched (step_at x)) → IsTrue (has_matched (step_at y)) → (d : List ℕ) → IsOneOf x y d → IsTrue (has_matched (step_at d))
 all-matched step_at x y mx my d (inl is) = subst (λ (z : List ℕ). IsTrue (has_matched (step_at z))) (sym is) mx
 all-matched step_at x y mx my d (inr is) = subst (λ (z : List ℕ). IsTrue (has_matched (step_at z))) (sym is) my

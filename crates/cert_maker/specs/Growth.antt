@@ -10,7 +10,8 @@ use Rattle.config_box.specs.Tests.{TestOf}
 use Rattle.cert_tree.specs.Certificate.{NodeOf, NodeFits, node_of}
 use Rattle.cert_checker.specs.declared.rule.Rule.{Rule}
 use Rattle.cert_checker.specs.Paths.{Path, IsAt, after}
-use Rattle.cert_checker.specs.Fails.{FailsAtTest, FailsAtNode, NoRuleFails, is_value}
+use Rattle.reference_resolver.specs.Ends.{is_value}
+use Rattle.cert_checker.specs.Fails.{FailsAtTest, FailsAtNode, NoRuleFails}
 use Rattle.cert_checker.specs.OpenBoxes.{IsBoxAt, Stand}
 use Rattle.least_tree.specs.Needed.{IsNeededAt, IsNeeded}
 use Rattle.cert_maker.specs.declared.tree.Grown.{Grown}

@@ -8,7 +8,7 @@ use Rattle.box_answers.specs.NumberSet.{SetOf}
 use Rattle.box_answers.specs.Members.{IsMember}
 use Rattle.cert_tree.specs.declared.goal.Goal.{Goal}
 use Rattle.cert_tree.specs.Certificate.{GoalOf, NodeFits, goals_of, node_count}
-use Rattle.cert_checker.specs.Fails.{is_value}
+use Rattle.reference_resolver.specs.Ends.{is_value}
 use Rattle.cert_checker.specs.FirstFault.{goal_trace, goals_in, IsAccepted}
 use Rattle.cert_checker.specs.Headline.{RulesEndAt}
 use Rattle.least_tree.specs.Needed.{IsNeeded}

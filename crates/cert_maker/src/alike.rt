@@ -49,9 +49,8 @@ fn have_one_trace_within(
             Selections::Alike(picked) => picked,
             Selections::Apart => return false,
         };
-        match Next::of(id, &picked) {
+        match Next::of(id, &picked).cut_off(left) {
             Next::EndsAt(_) => return true,
-            Next::LookUp(_) if left == 0 => return true,
             Next::LookUp(target) => id = target,
         }
         left -= 1;
@@ -70,15 +69,11 @@ fn selected_by_both<'a>(
     let mut best = None;
     for candidate in stack.candidates(id) {
         let step = Step::of(&best, &candidate, first);
-        let other = Step::of(&best, &candidate, second);
-        let alike = is_same(step, other);
+        let alike = is_same(step, Step::of(&best, &candidate, second));
         if !alike {
             return Selections::Apart;
         }
-        let takes_over = is_same(step, Step::TookOver);
-        if takes_over {
-            best = Some(candidate);
-        }
+        best = step.best_after(best, candidate);
     }
     Selections::Alike(best)
 }
@@ -87,9 +82,5 @@ fn is_same(step: Step, other: Step) -> bool
     ensures alike { result ≡ true → step ≡ other }
     ensures apart { result ≡ false → step ≢ other }
 {
-    match step {
-        Step::NoMatch => matches!(other, Step::NoMatch),
-        Step::KeptOut => matches!(other, Step::KeptOut),
-        Step::TookOver => matches!(other, Step::TookOver),
-    }
+    step == other
 }

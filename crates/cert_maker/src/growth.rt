@@ -2,13 +2,12 @@
 
 ghost use Rattle.std.specs.Prelude.{◌≡◌, ℕ, List, ◌+◌, map, length, IfOk, IfNone, IfSome, MatchOption, false};
 ghost use Rattle.config_record.specs.DeviceSeen.{device_numbers};
-ghost use Rattle.reference_resolver.specs.Ends.{references_followed};
+ghost use Rattle.reference_resolver.specs.Ends.{references_followed, is_value};
 ghost use Rattle.reference_resolver.specs.Trace.{Trace, trace_of};
 ghost use Rattle.box_answers.specs.Members.{IsMember};
 ghost use Rattle.config_box.specs.Tests.{test_of};
 ghost use Rattle.cert_tree.specs.Certificate.{TestAt, NodeFits, node_of};
 ghost use Rattle.cert_checker.specs.Paths.{leaf_end};
-ghost use Rattle.cert_checker.specs.Fails.{is_value};
 ghost use Rattle.least_tree.specs.Needed.{IsNeededTest};
 ghost use Rattle.cert_maker.specs.Growth.{Grows, IsCounterexampleOf, CanBeAsked};
 

@@ -4,7 +4,8 @@
 //! For the crate above: `make` answers a certificate that `check` accepts, whose tests are all needed (each parts two
 //! such devices) and whose nodes are within the limit; or a device of the box for which a goal ends at no value and no
 //! bag; or `NodeLimit`, where trees of needed tests have more nodes together. Where at most one coordinate of the box
-//! has several values, no certificate with fewer nodes is accepted. `make_watched` does the same, and says after each goal how far it is.
+//! has several values, no certificate with fewer nodes is accepted. `make_watched` does the same, and says after each
+//! goal how far it is.
 //!
 //! ```text
 //! match make(alloc, &stack, &phones, &asked, 1_000_000)? {

@@ -1,12 +1,12 @@
 -- Each box has a member.
-use Rattle.std.proofs.Common.{◌≡◌, ℕ, ◌<◌, inl, inr, arith, List, [], ◌∷◌, length, map, sym, ◌∙◌, refl, subst}
+use Rattle.std.proofs.Common.{◌≡◌, ℕ, inl, arith, [], ◌∷◌, length, map, sym, ◌∙◌, refl, subst}
 use Rattle.std.proofs.lemmas.List.{get_or-map, length-map}
 use Rattle.config_record.specs.declared.coord.Coord.{Coord}
 use Rattle.config_record.specs.Coord.{place_of}
 use Rattle.config_record.specs.ComparedNumber.{device_number}
 use Rattle.config_record.proofs.DeviceLemmas.{place_of-within}
 use Rattle.box_answers.specs.NumberSet.{SetOf, RangeOf, NumbersOf, LocalesOf, IsIn, IsProper}
-use Rattle.box_answers.specs.Members.{set_at, IsBox}
+use Rattle.box_answers.specs.Members.{set_at}
 use Rattle.box_answers.proofs.Coords.{all_coords-count}
 use Rattle.least_tree.specs.Least.{HasMember}
 use Rattle.config_box.proofs.Filters.{contained}

@@ -1,6 +1,6 @@
 -- Where a chain of references ends (AOSP: ResTable::resolveReference). An id is looked up by selection; what it
 -- selects is a reference to the next id, or the end.
-use Rattle.std.specs.Prelude.{ℕ, zero, suc, ◌≡◌, ◌≤◌, ◌⊎◌, ◌==◌, Bool, ◌&&◌, not, List, [], ◌∷◌, length, Option, Some, None, if◌then◌else◌}
+use Rattle.std.specs.Prelude.{ℕ, zero, suc, ◌≡◌, ◌≤◌, ◌⊎◌, ◌==◌, Bool, true, false, ◌&&◌, not, List, [], ◌∷◌, length, Option, Some, None, if◌then◌else◌}
 use Rattle.res_value.specs.declared.res_id.ResId.{ResId}
 use Rattle.res_value.specs.declared.value.Value.{Value}
 use Rattle.res_value.specs.Cell.{CellOf, PlainOf, BagOf}
@@ -34,7 +34,7 @@ next_of id None = EndsAt (ends.Absent (record { 0 = id }))
 next_of id (Some candidate) = next_of_cell id candidate.layer candidate.row.cell
 
 -- a reference beyond those that may still be followed leads no further
-abbrev cut_off : ℕ → Next → Next
+abbrev pub cut_off : ℕ → Next → Next
 cut_off zero (LookUp target) = EndsAt (ends.TooLong target)
 cut_off zero (EndsAt end) = EndsAt end
 cut_off (suc left) next = next
@@ -44,6 +44,13 @@ abbrev pub next_within : List LayerOf → ℕ → ℕ → List ℕ → Next
 next_within stack left id d = cut_off left (next_of id (selected stack id d))
 
 -- ---- the end, look-up by look-up
+
+-- a value or a bag
+abbrev pub is_value : End → Bool
+is_value (ends.Value layer value) = true
+is_value (ends.Bag id) = true
+is_value (ends.Absent id) = false
+is_value (ends.TooLong id) = false
 
 abbrev end_by : (ResId → End) → Next → End
 end_by follow (LookUp target) = follow target

@@ -32,11 +32,11 @@ best_after NoMatch best candidate = best
 best_after KeptOut best candidate = best
 best_after TookOver best candidate = Some candidate
 
--- What is told of each candidate in turn, by the best before it. This one is the best before them all.
+-- A note of each candidate in turn, by the best before it. This one is the best before them all.
 abbrev pub scan_candidates : {X : Type 0} → (Option CandOf → CandOf → List ℕ → X) → Option CandOf → List CandOf → List ℕ → List X
-scan_candidates tell best [] d = []
-scan_candidates tell best (candidate ∷ candidates) d =
-    tell best candidate d ∷ scan_candidates tell (best_after (step_of best candidate d) best candidate) candidates d
+scan_candidates note best [] d = []
+scan_candidates note best (candidate ∷ candidates) d =
+    note best candidate d ∷ scan_candidates note (best_after (step_of best candidate d) best candidate) candidates d
 
 -- the best after them
 abbrev pub best_of : Option CandOf → List CandOf → List ℕ → Option CandOf

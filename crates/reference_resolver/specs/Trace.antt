@@ -31,15 +31,15 @@ abbrev pub look_ups_from : List LayerOf → ℕ → Option ResId → List ℕ �
 look_ups_from stack most None d = []
 look_ups_from stack most (Some id) d = look_ups_of stack most id.0 d
 
--- ---- what is told of the candidates
+-- ---- a note of each candidate
 
 -- of those of an id, in their order
 abbrev pub scan_look_up : {X : Type 0} → (Option CandOf → CandOf → List ℕ → X) → List LayerOf → List ℕ → ℕ → List X
-scan_look_up tell stack d id = scan_candidates tell None (candidates_of stack id) d
+scan_look_up note stack d id = scan_candidates note None (candidates_of stack id) d
 
 -- of those of each id that is looked up
 abbrev pub scan_chain : {X : Type 0} → (Option CandOf → CandOf → List ℕ → X) → List LayerOf → ℕ → ℕ → List ℕ → List X
-scan_chain tell stack most id d = flat_map (scan_look_up tell stack d) (look_ups_of stack most id d)
+scan_chain note stack most id d = flat_map (scan_look_up note stack d) (look_ups_of stack most id d)
 
 -- a candidate, and what it does to the best before it and why
 pub record TracedCandidateOf : Type 0 where

@@ -15,3 +15,18 @@ pub enum End {
     /// The id that a reference names that is one too many to be followed.
     TooLong { id: ResId },
 }
+
+impl End {
+    ghost use Rattle.std.specs.Prelude.{◌≡◌};
+    ghost use Rattle.reference_resolver.specs.Ends.{is_value};
+
+    /// Whether it is a value or a bag.
+    pub fn is_value(self) -> bool
+        ensures { result ≡ is_value self }
+    {
+        match self {
+            End::Value { .. } | End::Bag { .. } => true,
+            End::Absent { .. } | End::TooLong { .. } => false,
+        }
+    }
+}

@@ -31,9 +31,7 @@ mod traced_candidates;
 pub use decision::Decision;
 pub use end::End;
 pub use look_ups::LookUps;
-pub use next::Next;
-/// What is selected is a candidate.
-pub use overlay_map::Cand as Pick;
+pub use next::{Next, is_reference};
 pub use references::{REFERENCES_FOLLOWED, resolve, resolve_within};
 pub use selection::select;
 pub use step::Step;

@@ -26,7 +26,7 @@ pub fn resolve(stack: &Stack<'_>, id: ResId, device: &Device) -> End
 
 /// Where the references of an id end at a device if at most so many are followed (AOSP:
 /// `ResTable::resolveReference`). An id that selects nothing or a bag is the end, and so is a value that
-/// is no reference. A reference that is met after the last that may be followed ends as too long.
+/// is no reference. A reference that is met after the last that may be followed is too long.
 pub fn resolve_within(stack: &Stack<'_>, id: ResId, device: &Device, most: u8) -> End
     ensures value { result ≡ end_of stack.now most id.0 (device_numbers device.now) }
     ensures chain { IsTheEnd stack.now id.0 (device_numbers device.now) most result }
@@ -46,8 +46,5 @@ pub fn resolve_within(stack: &Stack<'_>, id: ResId, device: &Device, most: u8) -
 pub(crate) fn next_within(stack: &Stack<'_>, id: ResId, device: &Device, left: u8) -> Next
     ensures { result ≡ next_within stack.now left id.0 (device_numbers device.now) }
 {
-    match Next::of(id, &select(stack, id, device)) {
-        Next::LookUp(target) if left == 0 => Next::EndsAt(End::TooLong { id: target }),
-        next => next,
-    }
+    Next::of(id, &select(stack, id, device)).cut_off(left)
 }

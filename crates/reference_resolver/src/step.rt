@@ -43,11 +43,7 @@ impl Step {
     }
 
     /// The best after a candidate that did this, where `best` was the best before it.
-    pub(crate) fn best_after<'a>(
-        self,
-        best: Option<Cand<'a>>,
-        candidate: Cand<'a>,
-    ) -> Option<Cand<'a>>
+    pub fn best_after<'a>(self, best: Option<Cand<'a>>, candidate: Cand<'a>) -> Option<Cand<'a>>
         ensures { option_map cand_of result ≡ best_after
             self (option_map cand_of best.entry) (cand_of candidate.entry) }
     {

@@ -1,11 +1,12 @@
-use Rattle.std.proofs.Common.{sym, arith}
+use Rattle.std.proofs.Common.{sym, ◌∙◌, ap}
 use Rattle.std.specs.Option.{option_map}
 use Rattle.overlay_map.specs.Candidates.{cand_of}
+use Rattle.reference_resolver.specs.Ends.{cut_off}
 use Rattle.reference_resolver.specs.Trace.{trace_of}
 use Rattle.box_trace.specs.CommonTrace.{IsCommonTrace}
 use Rattle.box_trace.specs.declared.common.CommonTrace.TheVariants.{Mixed}
 use Rattle.box_trace.proofs.Divisions.{traces_differ}
-use Rattle.box_trace.proofs.Following.{follow_more, follow_end, follow_long, follow_divided}
+use Rattle.box_trace.proofs.Following.{follow_more, follow_end, follow_divided}
 use Rattle.box_trace.proofs.trace.common_trace_within.Goals as goal
 
 divided : (c : goal.In-Mixed) → IsCommonTrace (Mixed c.in-Mixed.yes c.in-Mixed.no c.in-Mixed.coord) c.args.members.now (trace_of c.args.stack.now c.args.most c.args.id.0)
@@ -20,14 +21,9 @@ returns-in-Mixed-clause-two c = let parts = divided c in traces_differ _ (trace_
 pub returns-in-EndsAt-clause-value : goal.returns-in-EndsAt-clause-value
 returns-in-EndsAt-clause-value c =
     let selection = c.in-One.ensures in
-    follow_end _ _ _ _ _ _ selection.0 (option_map cand_of c.in-One.picked) c.in-EndsAt.end c.chain.invariant (record { steps = selection.1; picks = selection.2 }) (sym c.in-EndsAt.ensures)
-
-pub returns-in-LookUp-clause-value : goal.returns-in-LookUp-clause-value
-returns-in-LookUp-clause-value c =
-    let selection = c.in-One.ensures in
-    follow_long _ _ _ _ _ _ selection.0 (option_map cand_of c.in-One.picked) c.in-LookUp.target c.chain.invariant (record { steps = selection.1; picks = selection.2 }) (omega arith) (sym c.in-LookUp.ensures)
+    follow_end _ _ _ _ _ _ selection.0 (option_map cand_of c.in-One.picked) c.in-EndsAt.end c.chain.invariant (record { steps = selection.1; picks = selection.2 }) (ap (cut_off c.chain.left) (sym c.of.ensures) ∙ sym c.in-EndsAt.ensures)
 
 pub chain-preserved : goal.chain-preserved
 chain-preserved c =
     let selection = c.in-One.ensures in
-    follow_more _ _ _ _ _ _ selection.0 (option_map cand_of c.in-One.picked) c.in-LookUp.target c.chain.invariant (record { steps = selection.1; picks = selection.2 }) (omega arith) (sym c.in-LookUp.ensures)
+    follow_more _ _ _ _ _ _ selection.0 (option_map cand_of c.in-One.picked) c.in-LookUp.target c.chain.invariant (record { steps = selection.1; picks = selection.2 }) (ap (cut_off c.chain.left) (sym c.of.ensures) ∙ sym c.in-LookUp.ensures)

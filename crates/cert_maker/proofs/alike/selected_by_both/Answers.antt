@@ -4,36 +4,22 @@ use Rattle.overlay_map.specs.Candidates.{cand_of}
 use Rattle.reference_resolver.specs.Selection.{selected}
 use Rattle.config_record.specs.DeviceSeen.{device_numbers}
 use Rattle.box_trace.proofs.Scans.{scan_at, scan_end}
-use Rattle.cert_maker.proofs.Agreement.{scan-alike, stays-best, new-best, scan-apart}
+use Rattle.cert_maker.proofs.Agreement.{scan-alike, scan-apart}
 use Rattle.cert_maker.proofs.alike.selected_by_both.Goals as goal
 
 pub returns-then-not-alike : goal.returns-then-not-alike
 returns-then-not-alike c =
     let ne = c.is_same-alike.ensures.apart (cc) in
     scan-apart (device_numbers c.args.first.now) (device_numbers c.args.second.now) _ _ (option_map cand_of c.loop-candidate.best) (cand_of c.in-Some.candidate)
-    (scan_at _ _ _ _ _ c.loop-candidate.invariant.scanned c.in-Some.ensures.steps) (λ e. ne (c.of-step.ensures ∙ e ∙ sym c.of-other.ensures))
+    (scan_at _ _ _ _ _ c.loop-candidate.invariant.scanned c.in-Some.ensures.steps) (λ e. ne (c.of-step.ensures ∙ e ∙ sym c.of.ensures))
 
 pub loop-candidate-preserved : goal.loop-candidate-preserved
-loop-candidate-preserved c =
-    let same = c.is_same-alike.ensures.alike (cc) in
-    let other = c.is_same-takes_over.ensures.apart (cc) in
-    record {
-      can = tt;
-      ends = tt;
-      scanned = scan-alike (device_numbers c.args.first.now) (device_numbers c.args.second.now) _ _ _ _ (cand_of c.in-Some.candidate) c.of-step.result c.of-other.result
-          (scan_at _ _ _ _ _ c.loop-candidate.invariant.scanned c.in-Some.ensures.steps) c.of-step.ensures c.of-other.ensures same (stays-best c.of-step.result (option_map cand_of c.loop-candidate.best) (cand_of c.in-Some.candidate) other);
-    }
-
-pub loop-candidate-preserved-then-takes_over : goal.loop-candidate-preserved-then-takes_over
-loop-candidate-preserved-then-takes_over c =
-    let same = c.is_same-alike.ensures.alike (cc) in
-    let takes = c.is_same-takes_over.ensures.alike (cc) in
-    record {
-      can = tt;
-      ends = tt;
-      scanned = scan-alike (device_numbers c.args.first.now) (device_numbers c.args.second.now) _ _ _ _ (cand_of c.in-Some.candidate) c.of-step.result c.of-other.result
-          (scan_at _ _ _ _ _ c.loop-candidate.invariant.scanned c.in-Some.ensures.steps) c.of-step.ensures c.of-other.ensures same (new-best c.of-step.result (option_map cand_of c.loop-candidate.best) (cand_of c.in-Some.candidate) takes);
-    }
+loop-candidate-preserved c = record {
+  can = tt;
+  ends = tt;
+  scanned = scan-alike (device_numbers c.args.first.now) (device_numbers c.args.second.now) _ _ _ _ (cand_of c.in-Some.candidate) c.of-step.result c.of.result
+      (scan_at _ _ _ _ _ c.loop-candidate.invariant.scanned c.in-Some.ensures.steps) c.of-step.ensures c.of.ensures (c.is_same-alike.ensures.alike (cc)) c.best_after-best.ensures;
+}
 
 pub returns : goal.returns
 unfolding selected
