@@ -15,6 +15,8 @@ mod long_texts;
 #[cfg(test)]
 mod made;
 #[cfg(test)]
+mod maker;
+#[cfg(test)]
 mod refused;
 #[cfg(test)]
 mod rejected;

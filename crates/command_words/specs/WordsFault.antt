@@ -6,7 +6,7 @@ use Rattle.clap.specs.declared.error.kind.ErrorKind.TheVariants as kinds
 use Rattle.command_words.specs.declared.words_fault.WordsFault.{WordsFault}
 use Rattle.command_words.specs.declared.words_fault.WordsFault.TheVariants as faults
 
--- for what clap says of words: want of memory is told apart
+-- for what clap says of words: want of memory is a fault of its own
 abbrev pub fault_of_kind : ErrorKind → Error → WordsFault
 fault_of_kind kinds.OutOfMemory error = faults.OutOfMemory
 fault_of_kind _ error = faults.CommandLine error

@@ -1,10 +1,10 @@
 //! The words of a command line: which commands there are, what each of them takes, and what words ask for.
 //!
-//! A command is what a name such as `query` stands for, a `Command`. A request is a command with what its words ask for,
-//! a `Request`. Both are of a table, of a device or of a box.
+//! A command is what a name such as `query` stands for, a `Command`. A request is a command with what its words
+//! ask for, a `Request`. Both are of a table, of a device or of a box.
 //!
-//! For the program above: `read_words` gives the request, or why there is none. What clap says of the words comes first,
-//! and then the first word that is no id.
+//! For the program above: `read_words` gives the request, or why there is none. What clap says of the words comes
+//! first, and then the first word that is no id.
 //!
 //! ```text
 //! let words = program_words(&rt)?;     // restool query layers.json device.json 0x7f010000

@@ -1,4 +1,4 @@
--- The line that tells of a fault.
+-- The line for a fault.
 use Rattle.std.specs.Prelude.{ℕ, List, [], ◌∷◌, ◌++◌, codes}
 use Rattle.config_record.specs.declared.fields.DeviceFault.{DeviceFault}
 use Rattle.config_box.specs.declared.box_fault.BoxFault.{BoxFault}

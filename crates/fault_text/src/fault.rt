@@ -164,8 +164,8 @@ fn or_memory(ran_out: bool, fault: ToolFault) -> ToolFault
     }
 }
 
-/// Writes the line that tells of a fault: which part of the input is refused, and the names of its
-/// fault from outside in, with its place, id or coordinate. A writer that failed has no line.
+/// Writes the line for a fault: which part of the input is refused, and the names of its fault from outside
+/// in, with its place, its id, its coordinate, or its goal and node. A writer that failed has no line.
 #[tactic(auto, unfolding(crate::specs::FaultText::fault_line))]
 pub fn fault_text<W: Write + Drop>(fault: &ToolFault, out: &mut W) -> io::Result<()>
     ensures { Writes W.contents out.old out.new result (fault_line fault.now) }

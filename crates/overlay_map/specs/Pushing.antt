@@ -19,7 +19,7 @@ RefusesLayer old new TooManyLayers = (length old ≡ most_layers) × (new ≡ ol
 RefusesLayer old new OutOfMemory = (length old < most_layers) × (new ≡ old)
 
 -- A call pushed a layer onto a stack, which was old and is new: it stands behind those that stood. Or it
--- refused the layer; `fault_of` is the fault that its error tells.
+-- refused the layer; `fault_of` is the fault that its error has.
 abbrev pub PushesLayer : {E : Type 0} → (E → StackFault) → LayerOf → List LayerOf → List LayerOf → Result (Unit {0}) E → Type 0
 PushesLayer fault_of layer old new (Ok _) = (length old < most_layers) × (new ≡ old ++ layer ∷ [])
 PushesLayer fault_of layer old new (Err refusal) = RefusesLayer old new (fault_of refusal)

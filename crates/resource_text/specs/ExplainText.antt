@@ -1,4 +1,4 @@
--- How an id comes to its end, as text: the candidates of each look-up, what is told of each, and the end.
+-- How an id comes to its end, as text: the candidates of each look-up, what each does there, and the end.
 use Rattle.std.specs.Prelude.{ℕ, List, [], ◌∷◌, ◌++◌, codes, Option, Some, None}
 use Rattle.std.specs.List.{flat_map, enumerate_from}
 use Rattle.std.specs.Fmt.{decimal}

@@ -33,7 +33,7 @@ named_device_line name d = name ++ codes " " ++ device_text d ++ 10 ∷ []
 unfoldable pub device_with_end : List ℕ → End → List ℕ
 device_with_end d end = named_device_line (codes "device") d ++ end_line end
 
--- the devices that show why a node fails: two that are decided in different ways, or one with its end
+-- the devices that show why a node fails: two with different traces, or one with its end
 unfoldable pub shown_text : Shown → List ℕ
 shown_text Nothing = []
 shown_text (Two first second) =

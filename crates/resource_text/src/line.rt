@@ -1,6 +1,6 @@
 //! A line in memory.
 
-ghost use Rattle.std.specs.Prelude.{◌≡◌, ◌≤◌, ◌++◌, [], Some, OnOk, OnErr};
+ghost use Rattle.std.specs.Prelude.{◌≡◌, ◌≤◌, ◌++◌, [], Some, OnOk, OnErr, length};
 
 use std::io::{self, ErrorKind, Write};
 
@@ -13,7 +13,7 @@ const ROOM: usize = 1024;
 pub(crate) struct Line {
     bytes: [u8; ROOM],
     size: usize,
-    ghost fits: { size ≤ 1024 },
+    ghost fits: { size ≤ length bytes },
 }
 
 impl Line {

@@ -1,4 +1,4 @@
-//! What ids end as, written.
+//! Where ids end, written.
 
 ghost use Rattle.std.specs.Prelude.{◌≡◌};
 ghost use Rattle.std.specs.Option.{option_map};
@@ -31,7 +31,7 @@ pub fn query_line<W: Write + Drop>(
     out.write_all(b"\n")
 }
 
-/// Writes the line that tells how many rows of all layers are set aside.
+/// Writes the line with the number of rows of all layers that are set aside.
 #[tactic(auto, unfolding(crate::specs::QueryText::set_aside_line))]
 pub fn set_aside_line<W: Write + Drop>(count: u128, out: &mut W) -> io::Result<()>
     ensures { Writes W.contents out.old out.new result (set_aside_line count) }

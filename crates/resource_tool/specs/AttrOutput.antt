@@ -23,7 +23,7 @@ use Rattle.resource_tool.specs.BagOutput.{no_bag}
 unfoldable pub attribute_line : ℕ → End → List ℕ
 attribute_line attr end = id_text attr ++ codes " " ++ end_text end ++ 10 ∷ []
 
--- it is done where the attribute does not end as absent or as too long
+-- it is done where the end is not absent and not too long
 abbrev pub end_output : ℕ → End → Output
 end_output attr end = record { status = status_of_end end; text = attribute_line attr end }
 

@@ -13,7 +13,7 @@ use Rattle.resource_tool.specs.StackBytes.{LayerBytes, stack_in}
 use Rattle.resource_tool.specs.MapErr.{map_err}
 use Rattle.resource_tool.specs.EndStatus.{status_of_end}
 
--- it is done where the id does not end as absent or as too long
+-- it is done where the end is not absent and not too long
 abbrev pub explain_status : List LayerOf → List ℕ → ℕ → Status
 explain_status stack device id = status_of_end (end_of stack references_followed id device)
 

@@ -7,7 +7,7 @@ ghost use Rattle.resource_tool.specs.StackBytesSeen.{layer_bytes};
 ghost use Rattle.resource_tool.specs.AttrOutput.{attribute_line, attr_output};
 
 use crate::end_status::status_of_end;
-use crate::no_bag::tell_no_bag;
+use crate::no_bag::print_no_bag;
 use crate::stack::open_stack;
 use crate::status::Status;
 use bags_themes::Theme;
@@ -20,9 +20,9 @@ use std::alloc::Global;
 use std::io::{self, Write};
 
 /// Prints where an attribute ends for a device after styles that are applied in their order, with `force` or
-/// without, or why the first style that is no bag, or has too many parents, is refused. The status is Negative there, and where the
-/// attribute ends as absent or as too long. A layer is the bytes of a table and, at an overlay, those of an id
-/// map.
+/// without, or why the first style that is no bag, or has too many parents, is refused. The status is Negative
+/// there, and where the end is absent or too long. A layer is the bytes of a table and, at an overlay, those of
+/// an id map.
 #[tactic(auto, unfolding(crate::specs::AttrOutput::attr_output))]
 pub fn attr_bytes<W: Write + Drop>(
     alloc: Global,
@@ -44,7 +44,7 @@ pub fn attr_bytes<W: Write + Drop>(
             write_attribute(attr, end, out)?;
             Ok(status_of_end(end))
         }
-        Err(fault) => tell_no_bag(fault, out),
+        Err(fault) => print_no_bag(fault, out),
     }
 }
 

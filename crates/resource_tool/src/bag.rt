@@ -7,7 +7,7 @@ ghost use Rattle.resource_tool.specs.Output.{Prints};
 ghost use Rattle.resource_tool.specs.StackBytesSeen.{layer_bytes};
 ghost use Rattle.resource_tool.specs.BagOutput.{name_and_layer, bag_row_line, bag_output};
 
-use crate::no_bag::tell_no_bag;
+use crate::no_bag::print_no_bag;
 use crate::stack::open_stack;
 use crate::status::Status;
 use bags_themes::{BagRow, bag};
@@ -18,7 +18,7 @@ use std::alloc::Global;
 use std::io::{self, Write};
 
 /// Prints a line for each row of the bag that an id selects for a device, those that it inherits among them, or
-/// one that tells why there is no such bag; then the status is Negative. A layer is the bytes of a table and, at an
+/// one that says why there is no such bag; then the status is Negative. A layer is the bytes of a table and, at an
 /// overlay, those of an id map.
 #[tactic(auto, unfolding(crate::specs::BagOutput::bag_output))]
 pub fn bag_bytes<W: Write + Drop>(
@@ -37,7 +37,7 @@ pub fn bag_bytes<W: Write + Drop>(
             write_rows(rows.as_slice(), out)?;
             Ok(Status::Done)
         }
-        Err(fault) => tell_no_bag(fault, out),
+        Err(fault) => print_no_bag(fault, out),
     }
 }
 

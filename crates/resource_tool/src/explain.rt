@@ -17,7 +17,7 @@ use std::io::Write;
 
 /// Prints how an id comes to its end for a device: a line for each id that is looked up and one for each
 /// of its candidates, with the rule that decided, and last the end. A layer is the bytes of a table and, at
-/// an overlay, those of an id map. The status is Negative where the id ends as absent or as too long.
+/// an overlay, those of an id map. The status is Negative where the end is absent or too long.
 #[tactic(auto, unfolding(crate::specs::ExplainOutput::explain_output))]
 pub fn explain_bytes<W: Write + Drop>(
     alloc: Global,

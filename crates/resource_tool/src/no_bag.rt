@@ -1,4 +1,4 @@
-//! Why there is no bag, told.
+//! Why there is no bag, printed.
 
 ghost use Rattle.std.specs.Prelude.{◌≡◌, ◌≢◌, Ok, Err};
 ghost use Rattle.bags_themes.specs.declared.bag_fault.BagFault.TheVariants as of_bag;
@@ -12,13 +12,13 @@ use bags_themes::BagFault;
 use fault_text::ToolFault;
 use std::io::{self, Write};
 
-/// Prints the line that tells why there is no bag. Want of memory is the command's own fault.
+/// Prints the line that says why there is no bag. Want of memory is the command's own fault.
 #[tactic(auto, unfolding(crate::specs::BagOutput::no_bag))]
-pub(crate) fn tell_no_bag<W: Write + Drop>(
+pub(crate) fn print_no_bag<W: Write + Drop>(
     fault: BagFault,
     out: &mut W,
 ) -> Result<Status, ToolFault>
-    ensures told { fault ≢ of_bag.OutOfMemory → Prints W.contents out.old out.new result (Ok (no_bag fault)) }
+    ensures printed { fault ≢ of_bag.OutOfMemory → Prints W.contents out.old out.new result (Ok (no_bag fault)) }
     ensures has_memory { fault ≢ of_bag.OutOfMemory → result ≢ Err OutOfMemory }
     ensures memory { fault ≡ of_bag.OutOfMemory → (result ≡ Err OutOfMemory) × (out.new ≡ out.old) }
 {

@@ -19,9 +19,9 @@ use resource_text::{query_line, set_aside_line};
 use std::alloc::Global;
 use std::io::{self, Write};
 
-/// Prints a line for each of some ids with what it ends as for a device, in the order of the ids, and one
-/// with the number of rows of all layers that are set aside. A layer is the bytes of a table and, at an
-/// overlay, those of an id map. The status is Negative where an id ends as absent or as too long.
+/// Prints a line for each of some ids with its end for a device, in the order of the ids, and one with the
+/// number of rows of all layers that are set aside. A layer is the bytes of a table and, at an overlay, those of
+/// an id map. The status is Negative where an end is absent or too long.
 #[tactic(auto, unfolding(crate::specs::QueryOutput::query_output))]
 pub fn query_bytes<W: Write + Drop>(
     alloc: Global,

@@ -1,3 +1,4 @@
+pub mod NodeLimits
 pub mod LayersLeft
 pub mod CarriedOut
 pub mod Written

@@ -38,7 +38,7 @@ EndsAs says before after (Err stop) ended =
     × (is_output (stop_of stop) ≡ true → after.errors ≡ before.errors)
 
 -- A run of the program: the work, and then the end. Where there is no answer, the work wrote nothing, unless a write
--- failed. While it works only a terminal is told how far it is.
+-- failed. While it works only a terminal shows how far it is.
 abbrev pub Runs : {W V : Type 0} → (W → Option (List ℕ)) → (V → Option (List ℕ)) → Option Places → List (List ℕ) → Bool → Streams W V → Streams W V → ExitStatus → Type 0
 Runs {W} {V} contents says known words is_terminal before after ended =
     (worked : Streams W V) × (outcome : Result Status Stop)

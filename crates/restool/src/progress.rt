@@ -4,6 +4,9 @@ use resource_tool::Progress;
 use std::io::Write;
 use std::time::{Clock, Duration, Instant};
 
+/// Puts the cursor of a terminal at the start of its line, and erases the line.
+const ERASE_LINE: &[u8] = b"\r\x1b[K";
+
 /// Work that ends within so many milliseconds shows nothing.
 const BEFORE_THE_FIRST: u64 = 1_000;
 
@@ -36,7 +39,7 @@ impl<'a, E: Write, C: Clock> ProgressLine<'a, E, C> {
     /// Takes the line away.
     pub fn clear(&mut self) {
         if self.is_shown {
-            let _ = self.errors.write_all(b"\r\x1b[K");
+            let _ = self.errors.write_all(ERASE_LINE);
             self.is_shown = false;
         }
     }

@@ -1,4 +1,4 @@
-//! What ids end as for devices, printed.
+//! Where ids end for devices, printed.
 
 use crate::row::check;
 use config_record::{Coord, DeviceFault};

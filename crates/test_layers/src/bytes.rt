@@ -2,6 +2,9 @@
 
 use std::alloc::AllocError;
 
+/// What each chunk begins with: its kind, the size of its header and its own.
+const CHUNK_HEAD: usize = 8;
+
 /// Appends a number of two bytes.
 pub fn push_u16(out: &mut Vec<u8>, number: u16) -> Result<(), AllocError> {
     out.extend_from_slice(&number.to_le_bytes())
@@ -24,7 +27,7 @@ pub fn push_chunk(
     header: &[u8],
     body: &[u8],
 ) -> Result<(), AllocError> {
-    let header_size = header.len().saturating_add(8);
+    let header_size = header.len().saturating_add(CHUNK_HEAD);
     push_u16(out, kind)?;
     push_u16(out, u16::try_from(header_size).unwrap_or(u16::MAX))?;
     push_u32(out, short(header_size.saturating_add(body.len())))?;

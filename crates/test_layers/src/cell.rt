@@ -21,6 +21,16 @@ const STRING: u8 = 3;
 
 const DECIMAL: u8 = 0x10;
 
+/// The sizes of an entry with a value, without it, and of one with a bag.
+const ENTRY_SIZE: u16 = 8;
+
+const BAG_ENTRY_SIZE: u16 = 16;
+
+/// The flag of an entry that has a bag.
+const IS_BAG: u16 = 1;
+
+const VALUE_SIZE: u16 = 8;
+
 impl<'a> Cell<'a> {
     /// The cell that a text spells. The rows of a bag are read when its entry is made.
     pub fn read(text: &'a str) -> Option<Cell<'a>> {
@@ -37,11 +47,11 @@ impl<'a> Cell<'a> {
         let mut entry = Vec::new(alloc);
         match self {
             Cell::Plain(value) => {
-                push_head(&mut entry, 8, 0)?;
+                push_head(&mut entry, ENTRY_SIZE, 0)?;
                 push_value(&mut entry, value)?;
             }
             Cell::Bag { parent, rows } => {
-                push_head(&mut entry, 16, 1)?;
+                push_head(&mut entry, BAG_ENTRY_SIZE, IS_BAG)?;
                 push_u32(&mut entry, parent.0)?;
                 push_map_rows(alloc, &mut entry, rows)?;
             }
@@ -93,7 +103,7 @@ fn push_head(entry: &mut Vec<u8>, size: u16, flags: u16) -> Result<(), AllocErro
 }
 
 fn push_value(out: &mut Vec<u8>, value: Value) -> Result<(), AllocError> {
-    push_u16(out, 8)?;
+    push_u16(out, VALUE_SIZE)?;
     out.extend_from_slice(&[0, value.kind])?;
     push_u32(out, value.word)
 }

@@ -3,7 +3,7 @@
 use crate::bytes::{push_chunk, push_u32};
 use std::alloc::{AllocError, Global};
 
-const STRING_POOL: u16 = 0x0001;
+pub(crate) const STRING_POOL: u16 = 0x0001;
 
 /// Set where the strings of a pool are UTF-8.
 const UTF8_FLAG: u32 = 1 << 8;

@@ -51,7 +51,7 @@ const VARIANT: usize = 40;
 /// The record of these qualifiers, as `density=160,locale=fr`; None where one is not known.
 pub fn record_of(qualifiers: &str) -> Option<[u8; RECORD_SIZE]> {
     let mut record = [0; RECORD_SIZE];
-    record[0] = 52;
+    record[0] = u8::try_from(RECORD_SIZE).ok()?;
     if qualifiers.is_empty() {
         return Some(record);
     }

@@ -3,11 +3,9 @@
 use crate::bytes::{push_chunk, push_u32};
 use crate::cell::Cell;
 use crate::fault::LayerFault;
-use crate::pool::pool_of_string;
+use crate::pool::{STRING_POOL, pool_of_string};
 use crate::qualifier::record_of;
 use std::alloc::Global;
-
-const STRING_POOL: u16 = 0x0001;
 
 const TABLE: u16 = 0x0002;
 
@@ -21,6 +19,9 @@ const TYPE_SPEC: u16 = 0x0202;
 const STRING_POOL_HEADER: usize = 20;
 
 const PACKAGE_HEADER: usize = 280;
+
+/// The size of a type chunk's header, with those eight.
+const TYPE_HEADER: u32 = 72;
 
 const PACKAGE_ID: u8 = 0x7f;
 
@@ -152,7 +153,7 @@ fn push_type_of(
     let mut header = Vec::new(alloc);
     header.extend_from_slice(&[TYPE_ID, 0, 0, 0])?;
     push_u32(&mut header, count)?;
-    push_u32(&mut header, count.saturating_mul(4).saturating_add(72))?;
+    push_u32(&mut header, count.saturating_mul(4).saturating_add(TYPE_HEADER))?;
     header.extend_from_slice(record)?;
     let mut body = Vec::new(alloc);
     for offset in offsets {
