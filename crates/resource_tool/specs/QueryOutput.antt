@@ -18,11 +18,11 @@ use Rattle.resource_tool.specs.StackBytes.{LayerBytes, stack_in}
 use Rattle.resource_tool.specs.MapErr.{map_err}
 use Rattle.resource_tool.specs.EndStatus.{is_unresolved}
 
--- what an id ends as
+-- where an id ends
 abbrev pub end_for : List LayerOf → List ℕ → ResId → End
 end_for stack device id = end_of stack references_followed id.0 device
 
--- it ends as absent or as too long
+-- at no value and no bag
 abbrev pub is_unresolved_for : List LayerOf → List ℕ → ResId → Bool
 is_unresolved_for stack device id = is_unresolved (end_for stack device id)
 

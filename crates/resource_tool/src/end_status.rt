@@ -10,19 +10,16 @@ use reference_resolver::End;
 pub(crate) fn is_unresolved(end: End) -> bool
     ensures { result ≡ is_unresolved end }
 {
-    match end {
-        End::Value { .. } | End::Bag { .. } => false,
-        End::Absent { .. } | End::TooLong { .. } => true,
-    }
+    !end.is_value()
 }
 
-/// Negative where nothing was found, or too many references.
+/// Done at a value or a bag, else Negative.
 pub(crate) fn status_of_end(end: End) -> Status
     ensures { result ≡ status_of_end end }
 {
-    if is_unresolved(end) {
-        Status::Negative
-    } else {
+    if end.is_value() {
         Status::Done
+    } else {
+        Status::Negative
     }
 }
