@@ -1,5 +1,5 @@
 -- Two devices, candidate by candidate and look-up by look-up.
-use Rattle.std.proofs.Common.{◌≡◌, ◌≢◌, ℕ, ◌⊎◌, inl, inr, List, ◌∷◌, Option, Some, None, true, false, IsTrue, sym, ◌∙◌, ap, refl, subst}
+use Rattle.std.proofs.Common.{◌≡◌, ◌≢◌, ℕ, ◌⊎◌, inl, inr, List, ◌∷◌, Option, None, true, false, IsTrue, sym, ◌∙◌, ap, refl, subst}
 use Rattle.overlay_map.specs.Candidates.{CandOf}
 use Rattle.overlay_map.specs.Layer.{LayerOf}
 use Rattle.reference_resolver.specs.declared.step.Step.{Step}

@@ -1,5 +1,5 @@
 -- Each box has a member.
-use Rattle.std.proofs.Common.{◌≡◌, ℕ, inl, arith, [], ◌∷◌, length, map, sym, ◌∙◌, refl, subst}
+use Rattle.std.proofs.Common.{◌≡◌, ℕ, inl, arith, [], ◌∷◌, map, sym, ◌∙◌, refl, subst}
 use Rattle.std.proofs.lemmas.List.{get_or-map, length-map}
 use Rattle.config_record.specs.declared.coord.Coord.{Coord}
 use Rattle.config_record.specs.Coord.{place_of}
