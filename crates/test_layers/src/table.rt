@@ -153,7 +153,10 @@ fn push_type_of(
     let mut header = Vec::new(alloc);
     header.extend_from_slice(&[TYPE_ID, 0, 0, 0])?;
     push_u32(&mut header, count)?;
-    push_u32(&mut header, count.saturating_mul(4).saturating_add(TYPE_HEADER))?;
+    push_u32(
+        &mut header,
+        count.saturating_mul(4).saturating_add(TYPE_HEADER),
+    )?;
     header.extend_from_slice(record)?;
     let mut body = Vec::new(alloc);
     for offset in offsets {
