@@ -7,6 +7,7 @@
 here=$(CDPATH='' cd "$(dirname "$0")/.." && pwd) || exit 1
 program=$(basename "$0")
 rt=${RT:-rt}
+. "$here/tools/crates_below.sh"
 
 # measure WORK CRATE PART COMMAND..: runs a command in the crate's folder, and keeps the processor seconds, of user and
 # system, that it and its children took. What it printed is shown where it failed.
@@ -47,22 +48,13 @@ if [ "$1" = --rest ]; then
     exit 0
 fi
 
-listed=$(sed -n 's/^\([a-z0-9_]*\).*:.*/\1/p' "$here/crates.txt")
+listed=$(all_crates "$here/crates.txt")
 for crate in "$@"; do
     echo "$listed" | grep -qx "$crate" || { echo "$program: no crate $crate" >&2; exit 2; }
 done
 named=" $(echo "${*:-$listed}" | tr '\n' ' ') "
 # The crates that are named and all that they stand on, lowest first.
-needed=$(awk -v crates="$named" '
-    BEGIN { split(crates, given, " "); for (it in given) wanted[given[it]] = 1 }
-    !/^#/ && /:/ { lines[++last] = $0 }
-    END {
-        for (at = last; at > 0; at--) {
-            split(lines[at], halves, ":"); split(halves[1], head, " "); name = head[1]
-            if (name in wanted) { split(halves[2], below, " "); for (it in below) wanted[below[it]] = 1; order = name " " order }
-        }
-        print order
-    }' "$here/crates.txt")
+needed=$(crates_below "$here/crates.txt" $named)
 
 work=$(mktemp -d) || exit 1
 trap 'rm -rf "$work"' EXIT

@@ -412,6 +412,9 @@ ends "dump of two tables" 2 '"$0" dump a b'
 ends "too many words" 2 '"$0" rows a b'
 ends "a word that is not UTF-8" 2 '"$0" rows "$(printf "\377")"'
 
+# ---- what the compiler refuses
+ends "a row of bytes that a function owns" 0 "sh '$here/tests/own_bytes.sh' >&2"
+
 # ---- each way to stop
 ends "each way to stop" 0 "sh '$here/tests/stops/stops.sh' \"\$0\" >&2"
 

@@ -1,17 +1,18 @@
 #!/bin/sh
 # Rows borrow from the input's bytes. So a function cannot return a row of bytes that it owns: the compiler has to
 # refuse it, and has to accept the same function where the caller owns the bytes. The crates below have to be proved:
-# run ./restool first. The environment may give RT, the command that proves in place of rt.
+# run ./restool first, as tests/end_to_end.sh does. The environment may give RT, the command that proves in place of rt.
 here=$(CDPATH='' cd "$(dirname "$0")/.." && pwd) || exit 1
 program=$(basename "$0")
 rt=${RT:-rt}
+. "$here/tools/crates_below.sh"
 work=$(mktemp -d) || exit 1
 trap 'rm -rf "$work"' EXIT
 trap 'exit 130' INT TERM
 
 # Links share the files: rt writes none of these in place.
 mkdir -p "$work/crates/own_bytes/src" || exit 1
-for crate in contract_words hex_text chunk_walk string_pool res_value json_input config_record type_chunks resource_table; do
+for crate in $(crates_below "$here/crates.txt" resource_table type_chunks); do
     cp -al "$here/crates/$crate" "$work/crates/" 2>/dev/null || cp -a "$here/crates/$crate" "$work/crates/" || exit 1
     grep "^${crate}[ :]" "$here/crates.txt" >>"$work/crates.txt"
 done

@@ -13,6 +13,7 @@
 here=$(CDPATH='' cd "$(dirname "$0")/.." && pwd) || exit 1
 program=$(basename "$0")
 rt=${RT:-rt}
+. "$here/tools/crates_below.sh"
 
 # try_part WORK LIST: tries the edits that the file LIST, CRATE.PART, names, in a copy of its own, since rt locks
 # the folders of a crate and of those below it.
@@ -52,7 +53,7 @@ while :; do
     esac
     shift
 done
-listed=$(sed -n 's/^\([a-z0-9_]*\).*:.*/\1/p' "$here/crates.txt")
+listed=$(all_crates "$here/crates.txt")
 for crate in "$@"; do
     echo "$listed" | grep -qx "$crate" || { echo "$program: no crate $crate" >&2; exit 2; }
 done
@@ -103,16 +104,7 @@ if [ "$applies" ]; then
 fi
 
 # What the crates stand on, themselves with it, lowest first.
-needed=$(awk -v crates="$tried" '
-    BEGIN { split(crates, given, " "); for (it in given) wanted[given[it]] = 1 }
-    !/^#/ && /:/ { lines[++last] = $0 }
-    END {
-        for (at = last; at > 0; at--) {
-            split(lines[at], halves, ":"); split(halves[1], head, " "); name = head[1]
-            if (name in wanted) { split(halves[2], below, " "); for (it in below) wanted[below[it]] = 1; order = name " " order }
-        }
-        print order
-    }' "$here/crates.txt")
+needed=$(crates_below "$here/crates.txt" $tried)
 [ -f "$here/HANDLES" ] && cp "$here/HANDLES" "$work/base/"
 for crate in $needed; do
     grep "^${crate}[ :]" "$here/crates.txt" >>"$work/base/crates.txt"
