@@ -5,9 +5,6 @@ ghost use Rattle.bags_themes.specs.Theme.{is_undefined_value};
 
 use res_value::{Value, kind};
 
-// The word of "empty", a value of kind 0 that is not undefined.
-const EMPTY: u32 = 1;
-
 /// A value that is set for an attribute (AOSP: `ResTable::Theme::theme_entry`).
 #[derive(Clone, Copy, Debug)]
 pub(crate) struct ThemeValue {
@@ -21,6 +18,6 @@ impl ThemeValue {
     pub fn is_undefined(&self) -> bool
         ensures { result ≡ is_undefined_value self.now }
     {
-        self.value.kind == kind::NULL && self.value.word != EMPTY
+        self.value.kind == kind::NULL && self.value.word != kind::NULL_EMPTY
     }
 }

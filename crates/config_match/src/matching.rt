@@ -10,7 +10,8 @@ use crate::table::conditions;
 use config_record::{Device, Record};
 use config_rules::{deciding_rule, suits_locale, table_answer};
 
-/// Whether a record matches a device. One with a region and no language matches none.
+/// Whether a record matches a device (AOSP: `ResTable_config::match`). One with a region and no language matches
+/// none.
 ///
 /// The locale is asked first, since most rows of a table are for a locale that is not the device's.
 #[tactic(auto, using(crate::proofs::OtherLocale::no_match), unfolding(crate::specs::Matching::is_match))]

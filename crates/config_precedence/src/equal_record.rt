@@ -7,7 +7,8 @@ ghost use Rattle.config_precedence.specs.EqualRecord.{same_operator, same_locale
 
 use config_record::Record;
 
-/// Whether two records are equal. A row of an overlay takes the place of one with an equal record.
+/// Whether two records are equal (AOSP: `ResTable_config::compare` is 0). A row of an overlay takes the place of one
+/// with an equal record.
 #[tactic(auto, unfolding(crate::specs::EqualRecord::is_same))]
 pub fn same(a: &Record, b: &Record) -> bool
     ensures { result ≡ is_same (record_bytes a.now) (record_bytes b.now) }

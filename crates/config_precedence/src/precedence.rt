@@ -10,8 +10,8 @@ use crate::table::rules;
 use config_record::{Device, Record};
 use config_rules::{deciding_place, table_answer};
 
-/// Whether the first of two records is better for a device. The first rule that decides answers; where
-/// none does it is not.
+/// Whether the first of two records is better for a device (AOSP: `ResTable_config::isBetterThan`). The first rule
+/// that decides answers; where none does it is not.
 ///
 /// Among records that match the device this is an order: of two at most one is better than the other,
 /// and one that is better than a second is better than a third than which the second is better. Only

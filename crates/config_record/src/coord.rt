@@ -8,6 +8,18 @@ use std::fmt;
 /// How many coordinates a configuration has.
 pub const COORD_COUNT: usize = 25;
 
+// The greatest numbers that the fields of a record hold, by their width.
+const TWO_BITS: u32 = 3;
+
+const FOUR_BITS: u32 = 15;
+
+const ONE_BYTE: u32 = 255;
+
+const TWO_BYTES: u32 = 65535;
+
+// The greatest density of a device: up to it the products of the rule of density fit AOSP's 32 bits.
+const MOST_DENSITY: u32 = 32767;
+
 /// The coordinates of a configuration, in their order. All but the locale are numbers; 0 says
 /// nothing.
 #[derive(Clone, Copy, Debug, PartialEq, Eq)]
@@ -159,9 +171,10 @@ impl Coord {
             | Coord::Hdr
             | Coord::Night
             | Coord::KeysHidden
-            | Coord::NavHidden => 3,
-            Coord::ScreenSize | Coord::UiType => 15,
-            Coord::Orientation | Coord::Touchscreen | Coord::Keyboard | Coord::Navigation => 255,
+            | Coord::NavHidden => TWO_BITS,
+            Coord::ScreenSize | Coord::UiType => FOUR_BITS,
+            Coord::Orientation | Coord::Touchscreen | Coord::Keyboard | Coord::Navigation =>
+                ONE_BYTE,
             Coord::Mcc
             | Coord::Mnc
             | Coord::SmallestWidthDp
@@ -171,7 +184,7 @@ impl Coord {
             | Coord::Width
             | Coord::Height
             | Coord::Sdk
-            | Coord::Minor => 65535,
+            | Coord::Minor => TWO_BYTES,
         }
     }
 
@@ -188,7 +201,7 @@ impl Coord {
         ensures { result ≡ greatest_of_device self }
     {
         match self {
-            Coord::Density => 32767,
+            Coord::Density => MOST_DENSITY,
             _ => self.greatest(),
         }
     }

@@ -1,7 +1,7 @@
 //! The kinds of values that are printed by a name or a sign (AOSP: `Res_value::TYPE_NULL` and on; 0x08, a dynamic
 //! attribute, is printed by its number), and what their words mean.
 
-/// Nothing: word 0 is undefined, word 1 is empty.
+/// Nothing: undefined or empty, as its word says.
 pub const NULL: u8 = 0x00;
 /// The id of another resource.
 pub const REFERENCE: u8 = 0x01;
@@ -31,3 +31,8 @@ pub const INT_COLOR_RGB8: u8 = 0x1d;
 pub const INT_COLOR_ARGB4: u8 = 0x1e;
 /// A colour that was written as `#rgb`.
 pub const INT_COLOR_RGB4: u8 = 0x1f;
+
+/// The word of `NULL` for undefined (AOSP: `Res_value::DATA_NULL_UNDEFINED`).
+pub const NULL_UNDEFINED: u32 = 0;
+/// The word of `NULL` for empty (AOSP: `Res_value::DATA_NULL_EMPTY`).
+pub const NULL_EMPTY: u32 = 1;

@@ -14,11 +14,6 @@ use hex_text::write_hex;
 use itoa::Buffer;
 use std::io::{self, Write};
 
-// The words of kind `NULL` that have a name (AOSP: `Res_value::DATA_NULL_UNDEFINED` and on).
-const UNDEFINED: u32 = 0;
-
-const EMPTY: u32 = 1;
-
 /// Writes a value: the sign or the name of its kind, and what its word means there.
 #[tactic(auto, unfolding(crate::specs::ValueText::value_text))]
 pub fn write_value<W: Write + Drop>(value: Value, out: &mut W) -> io::Result<()>
@@ -68,8 +63,8 @@ fn write_null<W: Write + Drop>(word: u32, out: &mut W) -> io::Result<()>
     ensures { Writes W.contents out.old out.new result (null_text word) }
 {
     match word {
-        UNDEFINED => write!(out, "null"),
-        EMPTY => write!(out, "empty"),
+        kind::NULL_UNDEFINED => write!(out, "null"),
+        kind::NULL_EMPTY => write!(out, "empty"),
         _ => write_digits("null 0x", word, out),
     }
 }

@@ -33,6 +33,7 @@ mod verdict;
 pub use dump::dump_text;
 pub use end::end_text;
 pub use explanation::explain;
+pub use fault_text::{LayersFault, ToolFault, fault_text};
 pub use query::{query_line, set_aside_line};
 pub use rows::rows_text;
 pub use verdict::{device_with_end, verdict_text};
