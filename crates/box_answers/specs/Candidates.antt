@@ -9,7 +9,9 @@ abbrev pub clamped : ℕ → ℕ → ℕ → ℕ
 clamped low high n = max low (min n high)
 
 -- Of a range the ends, the two numbers behind the first, and the numbers of which a rule may speak: those of the two
--- records, a and b, and soft keys. Of a choice all numbers.
+-- records, a and b, and soft keys. Of a choice all numbers. Most rules single out two numbers at most and say the same of
+-- all others: of the first three one at least is such another. Where a rule turns once, an end shows it; and the sizes of a
+-- screen are alike from 2, normal, up.
 abbrev pub candidates : SetOf → ℕ → ℕ → List ℕ
 candidates (RangeOf low high) a b =
     low ∷ high ∷ clamped low high (low + 1) ∷ clamped low high (low + 2)

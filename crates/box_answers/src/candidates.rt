@@ -7,7 +7,7 @@ ghost use Rattle.box_answers.specs.Candidates.{clamped, candidates};
 use crate::number_set::NumberSet;
 use config_rules::SOFT_KEYS;
 
-/// How many numbers of a range are tried.
+/// How many numbers of a range are tried: `candidates` in `specs/` says which, and why these.
 const OF_A_RANGE: usize = 7;
 
 impl NumberSet {
