@@ -1,3 +1,5 @@
+//! What a box answers for all its members: worked rows.
+
 use config_box::{ConfigBox, Sameness};
 use config_record::{Coord, Record};
 use std::alloc::Global;

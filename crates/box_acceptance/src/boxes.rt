@@ -1,3 +1,5 @@
+//! Boxes that are read from JSON, and the first fault of those that are not.
+
 use config_box::{BoxFault, ConfigBox, Values};
 use config_record::{Coord, Device, Locale};
 use std::alloc::Global;

@@ -1,3 +1,5 @@
+//! What a box answers, compared with what each of its members answers, over random boxes.
+
 use crate::random::{Axes, Random};
 use config_box::{ConfigBox, Sameness};
 use config_match::matches;

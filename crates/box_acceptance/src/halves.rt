@@ -1,3 +1,5 @@
+//! The halves of a box by a test.
+
 use config_box::{Choice, ConfigBox, Split, Test, Values};
 use config_record::{Coord, Locale};
 use std::alloc::Global;

@@ -1,3 +1,5 @@
+//! Certificates that are not read, and the first fault of each.
+
 use cert_tree::{Cert, CertFault};
 use std::alloc::Global;
 

@@ -1,3 +1,5 @@
+//! The limit of nodes of a certificate.
+
 use cert_tree::{Cert, CertFault};
 use std::alloc::{AllocError, Global};
 use std::test::Fail;

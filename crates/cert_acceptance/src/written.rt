@@ -1,3 +1,5 @@
+//! Certificates that are written, and read again.
+
 use cert_tree::{Cert, CertGoal, Goal, Node};
 use config_box::{Choice, Test};
 use config_record::{Coord, Locale};
