@@ -1,6 +1,7 @@
 -- What an attribute is in a theme (AOSP: ResTable::Theme::getAttribute, and resolveAttributeReference).
 use Rattle.std.specs.Prelude.{ℕ, zero, suc, ◌==◌, List, Option, Some, None, if◌then◌else◌}
 use Rattle.res_value.specs.declared.res_id.ResId.{ResId}
+use Rattle.res_value.specs.Kind.{attribute_kind}
 use Rattle.overlay_map.specs.Layer.{LayerOf}
 use Rattle.reference_resolver.specs.declared.end.End.{End}
 use Rattle.reference_resolver.specs.declared.end.End.TheVariants as of_end
@@ -23,11 +24,11 @@ references_after_slot = 19
 abbrev step_of_value : ℕ → ThemeValue → AttributeStep
 step_of_value attr set =
     if is_undefined_value set then Reaches (Ends (of_end.Absent (record { 0 = attr })))
-    else if set.value.kind == 2 then Follows (record { 0 = set.value.word })
+    else if set.value.kind == attribute_kind then Follows (record { 0 = set.value.word })
     else if is_reference set.value then Reaches (Refers (record { 0 = set.value.word }))
     else Reaches (Ends (of_end.Value set.layer set.value))
 
--- Where an attribute leads for which this is set: to the attribute that a value of kind 2 names, to the id that a
+-- Where an attribute leads for which this is set: to the attribute that its value names, to the id that a
 -- reference names, or to an end. It is absent where it is undefined.
 abbrev pub step_of : ℕ → Option ThemeValue → AttributeStep
 step_of attr None = Reaches (Ends (of_end.Absent (record { 0 = attr })))

@@ -4,6 +4,7 @@ use Rattle.std.specs.List.{last_or}
 use Rattle.std.specs.Map.{lookup}
 use Rattle.std.specs.Option.{option_or}
 use Rattle.res_value.specs.declared.res_id.ResId.{ResId}
+use Rattle.res_value.specs.Kind.{null_kind, empty_word}
 use Rattle.bags_themes.specs.declared.bag_row.BagRow.{BagRow}
 use Rattle.bags_themes.specs.declared.bag_fault.BagFault.{BagFault}
 use Rattle.bags_themes.specs.declared.bag_fault.BagFault.TheVariants.{OutOfMemory}
@@ -25,9 +26,9 @@ value_of theme attr = lookup (λ key. attr == key.0) theme
 abbrev pub unset : AttributeValues
 unset attr = None
 
--- null, but not empty: of kind 0, and the word is not 1
+-- null, but not empty
 abbrev pub is_undefined_value : ThemeValue → Bool
-is_undefined_value set = set.value.kind == 0 && not (set.value.word == 1)
+is_undefined_value set = set.value.kind == null_kind && not (set.value.word == empty_word)
 
 -- unset, or set to such a value
 abbrev pub is_undefined : Option ThemeValue → Bool

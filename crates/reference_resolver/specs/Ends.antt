@@ -4,6 +4,7 @@ use Rattle.std.specs.Prelude.{ℕ, zero, suc, ◌≡◌, ◌≤◌, ◌⊎◌, �
 use Rattle.res_value.specs.declared.res_id.ResId.{ResId}
 use Rattle.res_value.specs.declared.value.Value.{Value}
 use Rattle.res_value.specs.Cell.{CellOf, PlainOf, BagOf}
+use Rattle.res_value.specs.Kind.{reference_kind}
 use Rattle.overlay_map.specs.Layer.{LayerOf}
 use Rattle.overlay_map.specs.Candidates.{CandOf}
 use Rattle.reference_resolver.specs.declared.end.End.{End}
@@ -18,9 +19,9 @@ references_followed = 20
 
 -- ---- one look-up
 
--- a value of kind 1 with a word other than 0
+-- a reference to some id; id 0 is none
 abbrev pub is_reference : Value → Bool
-is_reference value = value.kind == 1 && not (value.word == 0)
+is_reference value = value.kind == reference_kind && not (value.word == 0)
 
 -- a reference leads to the id that its word is; any other value, and a bag, is an end
 abbrev next_of_cell : ℕ → ℕ → CellOf → Next

@@ -7,6 +7,7 @@ use Rattle.string_pool.specs.Pool.{PoolOf, pool_of}
 use Rattle.string_pool.specs.Text.{text_in}
 use Rattle.string_pool.specs.Shown.{string_text}
 use Rattle.res_value.specs.Cell.{CellOf, PlainOf, BagOf}
+use Rattle.res_value.specs.Kind.{string_kind}
 use Rattle.res_value.specs.declared.res_id.ResId.{ResId}
 use Rattle.res_value.specs.declared.value.Value.{Value}
 use Rattle.res_value.specs.ResId.{id_text}
@@ -25,9 +26,9 @@ pub record RowFormatOf : Type 0 where
 abbrev pub format_of : RowFormat → RowFormatOf
 format_of format = record { indent = format.indent.now; strings = option_map pool_of format.strings }
 
--- behind a value of kind 3, which is a string (AOSP: Res_value::TYPE_STRING), the string of its word
+-- behind a string value the string of its word
 unfoldable pub string_behind : PoolOf → Value → List ℕ
-string_behind strings value = if value.kind == 3 then codes " " ++ string_text (text_in strings value.word) else []
+string_behind strings value = if value.kind == string_kind then codes " " ++ string_text (text_in strings value.word) else []
 
 unfoldable pub value_with_string : Option PoolOf → Value → List ℕ
 value_with_string None value = value_text value
