@@ -1,6 +1,7 @@
 pub mod Word
 pub mod Layout
 pub mod ResId
+pub mod Kind
 pub mod Value
 pub mod Complex
 pub mod ValueText
