@@ -57,7 +57,7 @@ through F p q r (inl e) = inl (ap F e)
 through F p q r (inr e) = inr (ap F e)
 
 -- being zero is as at one of the ends
-zero-ends : (low high v : ℕ) → low ≤ v → v ≤ high → ((v == 0) ≡ (low == 0)) ⊎ ((v == 0) ≡ (high == 0))
+pub zero-ends : (low high v : ℕ) → low ≤ v → v ≤ high → ((v == 0) ≡ (low == 0)) ⊎ ((v == 0) ≡ (high == 0))
 zero-ends low high v p q = grind (arith, nat_tests)
 
 -- and so is being at least as much as another

@@ -1,6 +1,6 @@
 -- A comparison of two records that say the same passes at every device.
-use Rattle.std.proofs.Common.{◌≡◌, ◌≢◌, ℕ, refl, ap, sym, ◌∙◌, arith, Bool, true}
-use Rattle.std.proofs.lemmas.Bool.{and_parts}
+use Rattle.std.proofs.Common.{◌≡◌, ◌≢◌, ℕ, refl, ap, sym, ◌∙◌, arith, Bool}
+use Rattle.std.proofs.lemmas.Bool.{and_parts, eqb-true}
 use Rattle.std.proofs.lemmas.Bool.Decides.{nat_tests}
 use Rattle.std.proofs.lemmas.Int.{ints}
 use Rattle.std.specs.Prelude.{ℤ, ◌==◌, ◌&&◌, IsTrue}
@@ -68,11 +68,8 @@ same-passes rule a b e m k l same d =
     ap (λ (y : Numbers). kind_answer rule.kind (numbers_at rule.coord a) y (numbers_at rule.coord d)) (sym same)
     ∙ kind-same rule.kind (numbers_at rule.coord a) (numbers_at rule.coord d) e m k l
 
-equal-numbers : (n m : ℕ) → (n == m) ≡ true → n ≡ m
-equal-numbers n m e = grind (arith, nat_tests, e)
-
 pub numbers-same : (x y : Numbers) (same : Bool) → same ≡ (x.first == y.first && x.second == y.second) → IsTrue same → x ≡ y
 numbers-same x y same is holds =
     let parts = and_parts (x.first == y.first) (x.second == y.second) (sym is ∙ holds) in
-    ap (λ (n : ℕ). record { first = n; second = x.second }) (equal-numbers x.first y.first parts.0)
-    ∙ ap (λ (n : ℕ). record { first = y.first; second = n }) (equal-numbers x.second y.second parts.1)
+    ap (λ (n : ℕ). record { first = n; second = x.second }) (eqb-true x.first y.first parts.0)
+    ∙ ap (λ (n : ℕ). record { first = y.first; second = n }) (eqb-true x.second y.second parts.1)

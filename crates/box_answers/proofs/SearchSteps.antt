@@ -1,5 +1,5 @@
 -- The search along a table of rules.
-use Rattle.std.proofs.Common.{◌≡◌, ℕ, ◌+◌, ◌<◌, ◌≤◌, ◌≢◌, ◌==◌, ◌⊎◌, inl, inr, List, [], ◌∷◌, ◌++◌, length, get_or, map, refl, sym, ap, subst, ◌∙◌, arith, true, false, Option, Some, None, IfSome, IfNone}
+use Rattle.std.proofs.Common.{◌≡◌, ℕ, ◌+◌, ◌<◌, ◌≤◌, ◌≢◌, ◌==◌, inl, inr, List, [], ◌∷◌, ◌++◌, length, get_or, map, refl, sym, ap, subst, ◌∙◌, arith, true, false, Option, Some, None, IfSome, IfNone}
 use Rattle.std.specs.List.{flat_map}
 use Rattle.std.proofs.lemmas.Bool.{and_parts, leb-true}
 use Rattle.std.proofs.lemmas.Bool.Decides.{nat_tests}
@@ -24,7 +24,7 @@ use Rattle.box_answers.specs.Members.{set_at, IsMember}
 use Rattle.box_answers.specs.Candidates.{candidates}
 use Rattle.box_answers.specs.Changes.{PassesEverywhere, AgreeBelow, ChangesTo, IsNowhere, answer_at}
 use Rattle.box_answers.specs.Facts.{OneFails}
-use Rattle.box_answers.proofs.Covers.{IsMissedBy, missed}
+use Rattle.box_answers.proofs.Covers.{IsMissedBy, missed, zero-ends}
 use Rattle.box_answers.proofs.Dimensions.{dimensions-alike}
 
 -- ---- what a rule reads stands before what the next ones read
@@ -270,9 +270,6 @@ two_alike rule second a b v w x y two p q =
     ap (λ (k : Kind). kind_answer k A B (record { first = v; second = w })) is
     ∙ by_dimensions A B v w x y p q
     ∙ sym (ap (λ (k : Kind). kind_answer k A B (record { first = x; second = y })) is)
-
-zero-ends : (low high v : ℕ) → low ≤ v → v ≤ high → ((v == 0) ≡ (low == 0)) ⊎ ((v == 0) ≡ (high == 0))
-zero-ends low high v p q = grind (arith, nat_tests)
 
 -- the second coordinate stands behind the rule's
 pub second-behind : (rule : Rule) (second : Coord) → reads rule ≡ rule.coord ∷ second ∷ [] → AreReadInOrder (rule ∷ []) → place_of rule.coord < place_of second

@@ -3,6 +3,7 @@ use Rattle.std.proofs.Common.{◌≡◌, ℕ, zero, suc, ◌+◌, ◌-◌, ◌<�
 use Rattle.std.specs.Prelude.{Contains}
 use Rattle.std.specs.List.Sorted.{IsStrictlyIncreasing}
 use Rattle.std.proofs.lemmas.List.{get_or_default, get_or-map}
+use Rattle.std.proofs.lemmas.List.Elements.{Contains-get_or}
 use Rattle.config_record.specs.declared.coord.Coord.{Coord}
 use Rattle.config_record.specs.Coord.{all_coords, place_of, number_at}
 use Rattle.config_record.specs.ComparedNumber.{device_number}
@@ -18,9 +19,6 @@ use Rattle.box_answers.specs.Changes.{ChangesTo}
 use Rattle.box_answers.proofs.Coords.{next-coord}
 
 -- ---- lists
-
-pub contains-at : (xs : List ℕ) (k : ℕ) → k < length xs → Contains xs (get_or xs k 0)
-contains-at xs k q = (k, q, get_or_default xs k (get_or xs k 0) 0 q)
 
 pub get_or_same : (xs : List ℕ) (k n : ℕ) → k < length xs → get_or xs k n ≡ n → n ≡ get_or xs k 0
 get_or_same xs k n q e = sym e ∙ get_or_default xs k n 0 q
@@ -55,14 +53,14 @@ last-greatest xs rises m is =
 
 pub least-of : (set : SetOf) → IsProper set → IsLeastIn set (get_or (listed set) 0 0)
 least-of (RangeOf low high) p = record { is_in = (omega arith, p.rises); below = λ m is. is.0 }
-least-of (NumbersOf numbers) p = record { is_in = contains-at numbers 0 p.nonempty; below = first-least numbers p.rises }
-least-of (LocalesOf locales) p = record { is_in = contains-at locales 0 p.nonempty; below = first-least locales p.rises }
+least-of (NumbersOf numbers) p = record { is_in = Contains-get_or numbers 0 0 p.nonempty; below = first-least numbers p.rises }
+least-of (LocalesOf locales) p = record { is_in = Contains-get_or locales 0 0 p.nonempty; below = first-least locales p.rises }
 
 pub greatest-of : (set : SetOf) → IsProper set → IsGreatestIn set (get_or (listed set) (length (listed set) - 1) 0)
 greatest-of (RangeOf low high) p = record { is_in = (p.rises, omega arith); above = λ m is. is.1 }
-greatest-of (NumbersOf numbers) p = record { is_in = contains-at numbers (length numbers - 1) (omega (arith, p.nonempty)); above = last-greatest numbers p.rises }
+greatest-of (NumbersOf numbers) p = record { is_in = Contains-get_or numbers (length numbers - 1) 0 (omega (arith, p.nonempty)); above = last-greatest numbers p.rises }
 greatest-of (LocalesOf locales) p =
-    record { is_in = contains-at locales (length locales - 1) (omega (arith, p.nonempty)); above = last-greatest locales p.rises }
+    record { is_in = Contains-get_or locales (length locales - 1) 0 (omega (arith, p.nonempty)); above = last-greatest locales p.rises }
 
 -- ---- candidates
 
@@ -81,8 +79,8 @@ range-candidate low high a b (suc (suc (suc (suc (suc (suc (suc k))))))) le q = 
 
 pub candidate-in : (set : SetOf) (a b k : ℕ) → IsProper set → k < length (candidates set a b) → IsIn set (get_or (candidates set a b) k 0)
 candidate-in (RangeOf low high) a b k p q = range-candidate low high a b k p.rises q
-candidate-in (NumbersOf numbers) a b k p q = contains-at numbers k q
-candidate-in (LocalesOf locales) a b k p q = contains-at locales k q
+candidate-in (NumbersOf numbers) a b k p q = Contains-get_or numbers k 0 q
+candidate-in (LocalesOf locales) a b k p q = Contains-get_or locales k 0 q
 
 -- ---- the set at a coordinate
 

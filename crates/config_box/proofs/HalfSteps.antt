@@ -1,10 +1,11 @@
 -- The halves of sets and of boxes.
-use Rattle.std.proofs.Common.{◌≡◌, ◌≢◌, ℕ, ◌+◌, ◌<◌, ◌≤◌, arith, List, length, set, Bool, true, false, not, filter, sym, ◌∙◌, ap, refl, subst}
+use Rattle.std.proofs.Common.{◌≡◌, ◌≢◌, ℕ, ◌+◌, ◌<◌, ◌≤◌, arith, List, length, set, Bool, true, false, not, filter, sym, ◌∙◌, ap, subst}
 use Rattle.std.specs.Prelude.{Contains, min, max}
 use Rattle.std.proofs.lemmas.Bool.{not-true, false_from_ne_true, true_from_ne_false}
 use Rattle.std.proofs.lemmas.Bool.Decides.{nat_tests}
-use Rattle.std.proofs.lemmas.List.{get_or-set_same, get_or-set_other, length-map}
+use Rattle.std.proofs.lemmas.List.{get_or-set_same, get_or-set_other}
 use Rattle.std.proofs.Math.ListN.{length-set}
+use Rattle.std.proofs.lemmas.List.Sums.{length-filter, count_by-le-length}
 use Rattle.std.proofs.lemmas.List.Kept.{IsStrictlyIncreasing-filter}
 use Rattle.config_record.specs.declared.coord.Coord.{Coord}
 use Rattle.config_record.specs.declared.coord.Coord.TheVariants as coords
@@ -20,7 +21,7 @@ use Rattle.config_box.specs.Marks.{AreMarkedAlike}
 use Rattle.config_box.specs.Tests.{ChoiceOf, TestOf, AtMostOf, AmongOf, coord_of, passes, is_range, has_wrong_kind}
 use Rattle.config_box.specs.HalfSets.{gives, IsAskable, NoneAnswers, IsHalfSet}
 use Rattle.config_box.specs.Halves.{IsHalf, AllAnswer}
-use Rattle.config_box.proofs.Filters.{kept-in, kept-all, kept-few, map-filter}
+use Rattle.config_box.proofs.Filters.{kept-in, kept-all, map-filter}
 
 -- ---- what gives an answer
 
@@ -36,15 +37,17 @@ is-gives test false n e = ap not e
 
 pub numbers-half : (numbers kept : List ℕ) (test : TestOf) (answer : Bool) → IsProper (NumbersOf numbers) → kept ≡ filter (λ n. gives test answer n) numbers → 0 < length kept
     → IsHalfSet (NumbersOf numbers) test answer (NumbersOf kept)
-numbers-half numbers kept test answer proper e some = record {
-  numbers = λ n. (
-    λ is. let r = kept-in (λ m. gives test answer m) n numbers (subst (λ (xs : List ℕ). Contains xs n) e is) in (r.0, gives-is test answer n r.1),
-    λ is. subst (λ (xs : List ℕ). Contains xs n) (sym e) (kept-all (λ m. gives test answer m) n numbers is.0 (is-gives test answer n is.1)),
-  );
-  mark = tt;
-  proper = record { nonempty = some; rises = rw e (IsStrictlyIncreasing-filter (λ n. gives test answer n) numbers proper.rises) };
-  few = rw e (kept-few (λ n. gives test answer n) numbers);
-}
+numbers-half numbers kept test answer proper e some =
+    let gives_it : ℕ → Bool = λ n. gives test answer n in
+    let count : length kept ≤ length numbers = omega (arith, ap (λ (ns : List ℕ). length ns) e, length-filter gives_it numbers, count_by-le-length gives_it numbers) in record {
+      numbers = λ n. (
+        λ is. let r = kept-in (λ m. gives test answer m) n numbers (subst (λ (xs : List ℕ). Contains xs n) e is) in (r.0, gives-is test answer n r.1),
+        λ is. subst (λ (xs : List ℕ). Contains xs n) (sym e) (kept-all (λ m. gives test answer m) n numbers is.0 (is-gives test answer n is.1)),
+      );
+      mark = tt;
+      proper = record { nonempty = some; rises = rw e (IsStrictlyIncreasing-filter (λ n. gives test answer n) numbers proper.rises) };
+      few = count;
+    }
 
 -- locales are kept as their numbers are
 pub locales-kept : (locales kept : List Locale) (test : TestOf) (answer : Bool) → kept ≡ filter (λ l. gives test answer (locale_number l)) locales
@@ -56,9 +59,6 @@ pub locales-half : (locales kept : List ℕ) (test : TestOf) (answer : Bool) →
 locales-half locales kept test answer proper e some =
     let h = numbers-half locales kept test answer (record { nonempty = proper.nonempty; rises = proper.rises }) e some in
     record { numbers = h.numbers; mark = tt; proper = record { nonempty = some; rises = h.proper.rises }; few = h.few }
-
-pub same_count : (locales : List Locale) → length (locale_numbers locales) ≡ length locales
-same_count locales = simp length-map refl
 
 -- nothing is kept
 pub numbers-none : (numbers kept : List ℕ) (test : TestOf) (answer : Bool) → kept ≡ filter (λ n. gives test answer n) numbers → length kept ≡ 0 → NoneAnswers (NumbersOf numbers) test answer

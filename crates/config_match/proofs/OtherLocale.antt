@@ -1,5 +1,6 @@
 -- A record for a locale that does not suit the device does not match it.
-use Rattle.std.proofs.Common.{◌≡◌, Bool, true, false, not, ◌&&◌, ℕ, List, refl}
+use Rattle.std.proofs.Common.{◌≡◌, false, not, ℕ, List}
+use Rattle.std.proofs.lemmas.Bool.{and_right}
 use Rattle.config_record.specs.declared.coord.Coord.TheVariants as coords
 use Rattle.config_record.specs.ComparedNumber.{record_number, device_number}
 use Rattle.config_record.specs.Record.{is_set_aside}
@@ -10,12 +11,8 @@ use Rattle.config_match.specs.Conditions.{all_conditions}
 use Rattle.config_match.specs.Matching.{is_match}
 use Rattle.config_match.proofs.RegionAlone.{unsuited}
 
-neither : (a b : Bool) → b ≡ false → (a && b) ≡ false
-neither true b e = e
-neither false b e = refl
-
 pub no_match : (r d : List ℕ) → locale_suits (record_number r coords.Locale) (device_number d coords.Locale) ≡ false → is_match r d ≡ false
 unfolding is_match
 no_match r d e =
-    neither (not (is_set_aside r)) (is_pass (answer_of_table all_conditions (record_number r) (record_number r) (device_number d)))
+    and_right (not (is_set_aside r)) (is_pass (answer_of_table all_conditions (record_number r) (record_number r) (device_number d)))
     (unsuited (record_number r) (device_number d) e)

@@ -1,7 +1,7 @@
 -- The comparison of densities is an order, but for the tie of 0 and 160.
 use Rattle.std.proofs.Common.{◌≡◌, ℕ, ◌-◌, ◌*◌, ◌≤◌, ◌<◌, ◌≢◌, Bool, true, false, not, ◌&&◌, ◌||◌, ◌==◌, nat_lt, nat_le, arith, refl, sym, ap, ◌∙◌, inl, inr, subst}
 use Rattle.std.specs.Prelude.{if◌then◌else◌}
-use Rattle.std.proofs.lemmas.Bool.{cases_lt, cases_eq}
+use Rattle.std.proofs.lemmas.Bool.{cases_lt, cases_eq, ltb-true}
 use Rattle.std.proofs.lemmas.Bool.Decides.{nat_tests}
 use Rattle.std.proofs.lemmas.Nat.{mul-le}
 use Rattle.config_rules.specs.declared.answer.Answer.TheVariants.{Yes, No, Pass}
@@ -61,20 +61,17 @@ not_so false h = refl
 less : (x y : ℕ) → (y ≤ x → ⊥) → nat_lt x y ≡ true
 less x y h = elim (cases_lt x y) [ inl lt ↦ grind (arith, nat_tests) | inr le ↦ absurd (h le) ]
 
-is_less : (x y : ℕ) → nat_lt x y ≡ true → x < y
-is_less x y h = grind (arith, nat_tests)
-
 nearer-trans : (x y z d : ℕ) → x ≢ y → y ≢ z → x ≢ z → nearer x y d ≡ true → nearer y z d ≡ true → nearer x z d ≡ true
 nearer-trans x y z d xy yz xz first second =
     elim (cases_lt d x) [
       | inl hx ↦ elim (cases_lt d y) [
         | inl hy ↦ elim (cases_lt d z) [
           | inl hz ↦
-              let e = is_less x y (sym (high_high x y d hx hy xy) ∙ first) in
-              let f = is_less y z (sym (high_high y z d hy hz yz) ∙ second) in
+              let e = ltb-true x y (sym (high_high x y d hx hy xy) ∙ first) in
+              let f = ltb-true y z (sym (high_high y z d hy hz yz) ∙ second) in
               high_high x z d hx hz xz ∙ less x z (λ le. omega arith)
           | inr lz ↦
-              let e = is_less x y (sym (high_high x y d hx hy xy) ∙ first) in
+              let e = ltb-true x y (sym (high_high x y d hx hy xy) ∙ first) in
               let f = sym (high_low y z d hy lz) ∙ second in
               high_low x z d hx lz ∙ not_so (is_lower_better z x d) (λ is. not_both (is_lower_better z y d) (higher z x y d (omega arith) is) f)
         ]
@@ -85,7 +82,7 @@ nearer-trans x y z d xy yz xz first second =
               high_high x z d hx hz xz ∙ less x z (λ le. not_both (is_lower_better y x d) (higher y z x d le f) e)
           | inr lz ↦
               let e = sym (high_low x y d hx ly) ∙ first in
-              let f = is_less z y (sym (low_low y z d ly lz yz) ∙ second) in
+              let f = ltb-true z y (sym (low_low y z d ly lz yz) ∙ second) in
               high_low x z d hx lz ∙ not_so (is_lower_better z x d) (λ is. not_both (is_lower_better y x d) (lower z y x d (omega arith) is) e)
         ]
       ]
@@ -93,7 +90,7 @@ nearer-trans x y z d xy yz xz first second =
         | inl hy ↦ elim (cases_lt d z) [
           | inl hz ↦
               let e = sym (low_high x y d lx hy) ∙ first in
-              let f = is_less y z (sym (high_high y z d hy hz yz) ∙ second) in
+              let f = ltb-true y z (sym (high_high y z d hy hz yz) ∙ second) in
               low_high x z d lx hz ∙ higher x y z d (omega arith) e
           | inr lz ↦
               let e = sym (low_high x y d lx hy) ∙ first in
@@ -102,12 +99,12 @@ nearer-trans x y z d xy yz xz first second =
         ]
         | inr ly ↦ elim (cases_lt d z) [
           | inl hz ↦
-              let e = is_less y x (sym (low_low x y d lx ly xy) ∙ first) in
+              let e = ltb-true y x (sym (low_low x y d lx ly xy) ∙ first) in
               let f = sym (low_high y z d ly hz) ∙ second in
               low_high x z d lx hz ∙ lower y x z d (omega arith) f
           | inr lz ↦
-              let e = is_less y x (sym (low_low x y d lx ly xy) ∙ first) in
-              let f = is_less z y (sym (low_low y z d ly lz yz) ∙ second) in
+              let e = ltb-true y x (sym (low_low x y d lx ly xy) ∙ first) in
+              let f = ltb-true z y (sym (low_low y z d ly lz yz) ∙ second) in
               low_low x z d lx lz xz ∙ less z x (λ le. omega arith)
         ]
       ]

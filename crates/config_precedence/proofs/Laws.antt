@@ -1,7 +1,7 @@
 -- The laws of 'better': each rule is an order among the records that match a device, and so is the table.
 use Rattle.std.proofs.Common.{◌≡◌, ℕ, zero, suc, Bool, true, false, not, ◌&&◌, List, [], ◌∷◌, take, refl, sym, ap, ◌∙◌, arith}
 use Rattle.std.specs.List.{AllByRecursion, list_all}
-use Rattle.std.proofs.lemmas.Bool.{and_parts}
+use Rattle.std.proofs.lemmas.Bool.{and_parts, and_right}
 use Rattle.std.proofs.lemmas.Bool.Decides.{nat_tests}
 use Rattle.config_record.specs.declared.coord.Coord.{Coord}
 use Rattle.config_record.specs.declared.coord.Coord.TheVariants as coords
@@ -198,12 +198,8 @@ each : {P Q : Rule → Type 0} → ((rule : Rule) → P rule → Q rule) → (ru
 each f [] all = tt
 each f (rule ∷ rules) all = (f rule all.0, each f rules all.1)
 
-untied_everywhere : (density t : Bool) → t ≡ false → (density && t) ≡ false
-untied_everywhere true t e = e
-untied_everywhere false t e = refl
-
 all_oppose : (a b d : Coord → ℕ) → Suits a d → Suits b d → tie (a coords.Density) (b coords.Density) ≡ false → Opposes (answer_of_table all_rules a b d) (answer_of_table all_rules b a d)
-all_oppose a b d s t untied = opposes all_rules a b d (each (λ rule o. o.two a b s t (untied_everywhere (is_density rule.kind) _ untied)) all_rules (orders d))
+all_oppose a b d s t untied = opposes all_rules a b d (each (λ rule o. o.two a b s t (and_right (is_density rule.kind) _ untied)) all_rules (orders d))
 
 earlier_oppose : (a b d : Coord → ℕ) → Suits a d → Suits b d → Opposes (answer_of_table earlier_rules a b d) (answer_of_table earlier_rules b a d)
 unfolding all_rules

@@ -2,8 +2,9 @@
 use Rattle.std.proofs.Common.{◌≡◌, List, [], ◌∷◌, ◌++◌, Result, Ok, Err, sym, ap, ◌∙◌, arith}
 use Rattle.std.proofs.lemmas.List.{append-nil}
 use Rattle.contract_words.specs.Sequences.{with_front}
+use Rattle.contract_words.proofs.SequenceSteps.{with_front-twice}
 use Rattle.json_input.specs.Each.{each}
-use Rattle.json_input.proofs.EachSteps.{with_front-twice, each-ok, each-err, EachAllBut-none, EachAllBut-end}
+use Rattle.json_input.proofs.EachSteps.{each-ok, each-err, EachAllBut-none, EachAllBut-end}
 
 pub each-nil : {A X E : Type 0} (f : A → Result X E) → each f [] ≡ Ok []
 each-nil f = EachAllBut-end f [] 0 [] (EachAllBut-none f []) (omega arith)

@@ -1,9 +1,9 @@
 -- How a loop reads several things, one after the other.
-use Rattle.std.proofs.Common.{◌≡◌, ℕ, ◌+◌, ◌<◌, ◌≤◌, List, [], ◌∷◌, ◌++◌, map, length, drop, get_or, Option, Some, Result, Ok, Err, refl, sym, ap, subst, ◌∙◌, append_assoc}
+use Rattle.std.proofs.Common.{◌≡◌, ℕ, ◌+◌, ◌<◌, ◌≤◌, List, [], ◌∷◌, ◌++◌, map, length, drop, get_or, Option, Some, Result, Ok, Err, refl, sym, ap, subst, ◌∙◌}
 use Rattle.std.proofs.lemmas.List.{append-nil, drop_more, drop_all, map-append, get_or-map, length-map}
 use Rattle.contract_words.specs.Faults.{◌>>=◌}
 use Rattle.contract_words.specs.Sequences.{with_front}
-use Rattle.contract_words.proofs.SequenceSteps.{with_front_nil}
+use Rattle.contract_words.proofs.SequenceSteps.{with_front_nil, with_front-twice}
 use Rattle.serde_json.specs.Data.{Data}
 use Rattle.serde_json.specs.View.{view, items_view}
 use Rattle.serde_json.specs.declared.value.Value.{Value}
@@ -12,10 +12,6 @@ use Rattle.json_input.specs.Each.{list_items, each}
 -- what was read so far, and what is read of those from a place on, is what is read of all
 pub record EachAllBut {A X E : Type 0} (f : A → Result X E) (so_far : List X) (place : ℕ) (all : List A) : Type 0 where
   pub others : with_front so_far (each f (drop place all)) ≡ each f all
-
-pub with_front-twice : {X E : Type 0} (a b : List X) (r : Result (List X) E) → with_front a (with_front b r) ≡ with_front (a ++ b) r
-with_front-twice {X} {E} a b (Ok xs) = let wrapped : List X → Result (List X) E = λ t. Ok t in ap wrapped (sym (append_assoc a b xs))
-with_front-twice a b (Err e) = refl
 
 pub EachAllBut-none : {A X E : Type 0} (f : A → Result X E) (all : List A) → EachAllBut f [] 0 all
 EachAllBut-none f all = record { others = with_front_nil (each f all) }

@@ -1,9 +1,9 @@
 -- How the spans of a style go on.
-use Rattle.std.proofs.Common.{◌≡◌, ◌≢◌, ℕ, zero, suc, ◌+◌, ◌-◌, ◌*◌, ◌<◌, ◌≤◌, List, [], ◌∷◌, ◌++◌, length, drop, Result, Ok, Err, refl, sym, ap, ◌∙◌, arith, length-drop, drop-drop, inl, inr, append_assoc, ne_eqb}
+use Rattle.std.proofs.Common.{◌≡◌, ◌≢◌, ℕ, zero, suc, ◌+◌, ◌-◌, ◌*◌, ◌<◌, ◌≤◌, List, [], ◌∷◌, ◌++◌, length, drop, Result, Ok, Err, refl, sym, ap, ◌∙◌, arith, length-drop, drop-drop, inl, inr, ne_eqb}
 use Rattle.std.proofs.lemmas.Bool.{cases_lt, lt-ltb, le-ltb}
 use Rattle.std.proofs.lemmas.List.{append-nil}
 use Rattle.contract_words.specs.Sequences.{with_front}
-use Rattle.contract_words.proofs.SequenceSteps.{with_front_nil}
+use Rattle.contract_words.proofs.SequenceSteps.{with_front_nil, with_front-twice}
 use Rattle.chunk_walk.specs.Number.{number}
 use Rattle.string_pool.specs.declared.fault.StringFault.{StringFault}
 use Rattle.string_pool.specs.declared.fault.StringFault.TheVariants.{Cut}
@@ -82,10 +82,6 @@ spans_in-next left long is_name = goes_on (length left) refl
         (ap (λ (spans : Result (List Span) StringFault). with_front (span_in left ∷ []) spans) (more_than_enough n (length (drop 12 left)) (drop 12 left) (omega (arith, length-drop 12 left)) (omega arith)))
 
 -- ---- a loop that counts spans
-
-with_front-twice : (a b : List Span) (r : Result (List Span) StringFault) → with_front a (with_front b r) ≡ with_front (a ++ b) r
-with_front-twice a b (Ok xs) = let wrapped : List Span → Result (List Span) StringFault = λ t. Ok t in ap wrapped (sym (append_assoc a b xs))
-with_front-twice a b (Err e) = refl
 
 -- so many spans were counted, and behind them those of what is left are still to come
 pub record CountsSpans (count : ℕ) (behind left : List ℕ) : Type 0 where

@@ -1,5 +1,4 @@
-use Rattle.config_record.specs.declared.locale.Locale.{Locale}
-use Rattle.std.proofs.Common.{List, ◌≡◌, ◌≢◌, false, true, get_or, arith, sym, ◌∙◌, length, refl}
+use Rattle.std.proofs.Common.{◌≡◌, ◌≢◌, false, true, get_or, arith, sym, ◌∙◌}
 use Rattle.std.proofs.lemmas.List.{get_or-map, length-map}
 use borrow.Author.Count.{below_more}
 use Rattle.config_record.specs.ComparedNumber.{locale_number}
@@ -13,11 +12,8 @@ loop-locale-preserved c =
     get_or-map locale_number c.args.locales.now c.loop-locale.locale-index _ 0 c.loop-locale-test.true ∙ sym c.number.ensures.value in
     below_more (λ k. get_or (locale_numbers c.args.locales.now) k 0 ≢ c.args.number) c.loop-locale.locale-index c.loop-locale.invariant (λ e. c.if-number.false (sym here ∙ e))
 
-same_count : (locales : List Locale) → length (locale_numbers locales) ≡ length locales
-same_count locales = simp length-map refl
-
 pub returns : goal.returns
 returns c = (
   λ h. absurd (let x : false ≡ true = h in cc),
-  λ is. absurd (c.loop-locale.invariant is.0 (omega (arith, is.1, c.loop-locale-test.false, same_count c.args.locales.now)) (sym (get_or_same (locale_numbers c.args.locales.now) is.0 c.args.number is.1 is.2))),
+  λ is. absurd (c.loop-locale.invariant is.0 (omega (arith, is.1, c.loop-locale-test.false, length-map c.args.locales.now locale_number)) (sym (get_or_same (locale_numbers c.args.locales.now) is.0 c.args.number is.1 is.2))),
 )
