@@ -1,6 +1,6 @@
 -- The test that parts two members with different traces is needed.
 use Rattle.std.proofs.Common.{◌≡◌, ◌≢◌, ℕ, ◌+◌, ◌⊎◌, inl, inr, arith, List, length, min, true, false, sym, ◌∙◌, ap, refl, set}
-use Rattle.std.proofs.lemmas.Bool.{cases_Bool}
+use Rattle.std.proofs.lemmas.Bool.{cases_Bool, le-leb, lt-leb}
 use Rattle.config_record.specs.declared.coord.Coord as coord
 use Rattle.config_record.specs.declared.coord.Coord.TheVariants as coords
 use Rattle.std.proofs.lemmas.List.{get_or-map, length-map}
@@ -17,7 +17,6 @@ use Rattle.config_box.specs.Tests.{ChoiceOf, AtMostOf, AmongOf, is_listed, answe
 use Rattle.least_tree.specs.Needed.{AgreeBut, IsNeededTest}
 use Rattle.least_tree.specs.Runs.{trace_with}
 use Rattle.reference_resolver.proofs.SameTraces.{trace-cases}
-use Rattle.least_tree.proofs.Lines.{takes-le, takes-gt}
 use Rattle.least_tree.proofs.ByNumbers.{GoesByNumbers}
 use Rattle.cert_maker.specs.Pair.{ArePair, numbers_of, keeps}
 use Rattle.cert_maker.proofs.Steps.{test-passes}
@@ -35,8 +34,8 @@ numbers-differ trace sets x y c by pair e =
 by-range : (trace : List ℕ → Trace) (sets : List SetOf) (x y : List ℕ) (c : coord.Coord) (m : ℕ) → is_range (set_at sets c) ≡ true → has_wrong_kind sets (AtMostOf c m) ≡ false → IsMember sets x → IsMember sets y
     → trace x ≢ trace y → AgreeBut c x y → device_number x c ≡ m → device_number y c ≡ m + 1 → IsNeededTest trace sets (IsMember sets) (AtMostOf c m)
 by-range trace sets x y c m range right mx my differ others ex ey =
-    let x_is : answers (AtMostOf c m) x ≡ true = takes-le (device_number x c) m (omega arith) in
-    let y_is : answers (AtMostOf c m) y ≡ false = takes-gt (device_number y c) m (omega arith) in
+    let x_is : answers (AtMostOf c m) x ≡ true = le-leb (device_number x c) m (omega arith) in
+    let y_is : answers (AtMostOf c m) y ≡ false = lt-leb (device_number y c) m (omega arith) in
     record {
       passes = test-passes sets (IsMember sets) (AtMostOf c m) x y right mx my x_is y_is;
       x = x;

@@ -1,11 +1,12 @@
 -- The values of a choice with which a device keeps its trace.
-use Rattle.std.proofs.Common.{◌≡◌, ◌≢◌, ℕ, ◌⊎◌, inl, inr, arith, ◌≤◌, List, [], ◌∷◌, length, filter, get_or, Bool, true, false, sym, ◌∙◌, ap, refl, subst}
-use Rattle.std.specs.Prelude.{◌==◌, if◌then◌else◌}
+use Rattle.std.proofs.Common.{◌≡◌, ◌≢◌, ℕ, inl, inr, arith, ◌≤◌, List, length, filter, get_or, Bool, true, false, sym, ◌∙◌, ap, refl, subst}
+use Rattle.std.specs.Prelude.{◌==◌, ◌&&◌, Contains}
 use Rattle.std.specs.List.{All, list_any}
-use Rattle.std.proofs.lemmas.Bool.{false≢true, cases_Bool}
-use Rattle.std.proofs.lemmas.Bool.Decides.{nat_tests}
+use Rattle.std.proofs.lemmas.Bool.{cases_Bool, eq-eqb, eqb-true}
 use Rattle.std.proofs.lemmas.List.{get_or-map, length-map}
+use Rattle.std.proofs.lemmas.List.Folds.{list_any_at}
 use Rattle.std.proofs.lemmas.List.Sums.{length-filter, count_by-le-length}
+use Rattle.std.proofs.lemmas.Map.Views.{any-filter_same}
 use Rattle.config_record.specs.declared.coord.Coord as coord
 use Rattle.config_record.specs.declared.coord.Coord.TheVariants as coords
 use Rattle.config_record.specs.declared.locale.Locale.{Locale}
@@ -26,7 +27,7 @@ use Rattle.cert_tree.specs.declared.goal.Goal.TheVariants.{Id}
 use Rattle.reference_resolver.specs.SameTrace.{same_trace}
 use Rattle.least_tree.specs.Needed.{AgreeBut, IsNeededTest}
 use Rattle.least_tree.specs.Runs.{trace_with}
-use Rattle.config_box.proofs.Filters.{Among, among}
+use Rattle.config_box.proofs.Filters.{map-filter}
 use Rattle.least_tree.proofs.ByNumbers.{GoesByNumbers, goal-by-numbers}
 use Rattle.cert_maker.specs.Pair.{ArePair, numbers_of, keeps, keeps_locale}
 use Rattle.cert_maker.proofs.Cut.{on-line, ListsKept, cut-choice}
@@ -40,63 +41,12 @@ changed-keeps stack id x z c n here others =
 
 -- ---- which are listed
 
-any-among : (n : ℕ) (ms : List ℕ) → Among n ms → list_any (λ m. m == n) ms ≡ true
-any-among n [] a = absurd a
-any-among n (m ∷ ms) (inl e) = let is : (m == n) ≡ true = grind (arith, nat_tests) in rw is
-any-among n (m ∷ ms) (inr a) =
-    let rest = any-among n ms a in
-    elim (cases_Bool (m == n)) [ inl is ↦ rw is | inr isnt ↦ rw (isnt, rest) ]
-
-none-among : (n : ℕ) (ms : List ℕ) → (Among n ms → ⊥) → list_any (λ m. m == n) ms ≡ false
-none-among n [] none = refl
-none-among n (m ∷ ms) none =
-    let rest = none-among n ms (λ a. none (inr a)) in
-    elim (cases_Bool (m == n)) [
-      | inl is ↦ (let e : m ≡ n = grind (arith, nat_tests) in absurd (none (inl e)))
-      | inr isnt ↦ rw (isnt, rest)
-    ]
-
-filter-first : (b : Bool) (f : ℕ → Bool) (m n : ℕ) (ms : List ℕ) → f m ≡ b → Among n (if b then m ∷ filter f ms else filter f ms) → ((m ≡ n) × (f m ≡ true)) ⊎ Among n (filter f ms)
-filter-first true f m n ms e (inl same) = inl (same, e)
-filter-first true f m n ms e (inr a) = inr a
-filter-first false f m n ms e a = inr a
-
-passed : (f : ℕ → Bool) (n : ℕ) (ms : List ℕ) → Among n (filter f ms) → f n ≡ true
-passed f n [] a = absurd a
-passed f n (m ∷ ms) a =
-    elim (filter-first (f m) f m n ms refl a) [
-      | inl h ↦ ap f (sym h.0) ∙ h.1
-      | inr h ↦ passed f n ms h
-    ]
-
-first-kept : (b : Bool) (m n : ℕ) (ms : List ℕ) → m ≡ n → b ≡ true → Among n (if b then m ∷ ms else ms)
-first-kept true m n ms e is = inl e
-first-kept false m n ms e is = absurd (false≢true is)
-
-rest-kept : (b : Bool) (m n : ℕ) (ms : List ℕ) → Among n ms → Among n (if b then m ∷ ms else ms)
-rest-kept true m n ms a = inr a
-rest-kept false m n ms a = a
-
-passes-on : (f : ℕ → Bool) (n : ℕ) (ms : List ℕ) → Among n ms → f n ≡ true → Among n (filter f ms)
-passes-on f n [] a is = absurd a
-passes-on f n (m ∷ ms) (inl e) is = first-kept (f m) m n (filter f ms) e (ap f e ∙ is)
-passes-on f n (m ∷ ms) (inr a) is = rest-kept (f m) m n (filter f ms) (passes-on f n ms a is)
-
-listed-filter : (f : ℕ → Bool) (n : ℕ) (ms : List ℕ) → Among n ms → list_any (λ m. m == n) (filter f ms) ≡ f n
-listed-filter f n ms a =
-    elim (cases_Bool (f n)) [
-      | inl is ↦ any-among n (filter f ms) (passes-on f n ms a is) ∙ sym is
-      | inr isnt ↦ none-among n (filter f ms) (λ b. let is = passed f n ms b in absurd cc) ∙ sym isnt
-    ]
-
-map-filter : (f : ℕ → Bool) (locales : List Locale) → locale_numbers (filter (λ locale. f (locale_number locale)) locales) ≡ filter f (locale_numbers locales)
-map-filter f [] = refl
-map-filter f (locale ∷ locales) =
-    let rest = map-filter f locales in
-    elim (cases_Bool (f (locale_number locale))) [
-      | inl is ↦ rw (is, rest)
-      | inr isnt ↦ rw (isnt, rest)
-    ]
+-- a number of a list is kept by a filter just where it passes
+listed-filter : (f : ℕ → Bool) (n : ℕ) (ms : List ℕ) → Contains ms n → list_any (λ m. m == n) (filter f ms) ≡ f n
+listed-filter f n ms c =
+    let stands : list_any (λ m. m == n) ms ≡ true = list_any_at (λ m. m == n) ms c.0 n c.1 (eq-eqb (get_or ms c.0 n) n c.2) in
+    let kept : list_any (λ m. m == n) (filter f ms) ≡ (f n && list_any (λ m. m == n) ms) = any-filter_same (λ m. m == n) f (f n) (λ m same. ap f (eqb-true m n same)) ms in
+    kept ∙ elim (cases_Bool (f n)) [ inl is ↦ rw is stands | inr isnt ↦ rw isnt refl ]
 
 -- ---- numbers stand anywhere but at the locale, and locales there
 
@@ -115,7 +65,7 @@ locales-listed kept n = refl
 lists-numbers : (trace : List ℕ → Trace) (sets : List SetOf) (x : List ℕ) (c : coord.Coord) (numbers kept : List ℕ) → IsOfKind c (set_at sets c) → set_at sets c ≡ NumbersOf numbers → kept ≡ filter (keeps trace x c) numbers
     → ListsKept trace sets x c (seen.NumbersOf kept)
 lists-numbers trace sets x c numbers kept kind e is n in_set =
-    let a = among n numbers (subst (λ (s : SetOf). IsIn s n) e in_set) in
+    let a : Contains numbers n = subst (λ (s : SetOf). IsIn s n) e in_set in
     numbers-listed c kept n (no-numbers c (set_at sets c) numbers e kind) ∙ ap (list_any (λ m. m == n)) is ∙ listed-filter (keeps trace x c) n numbers a
 
 only-locales : (c : coord.Coord) (numbers : List ℕ) → IsOfKind c (LocalesOf numbers) → c ≡ coords.Locale
@@ -128,10 +78,10 @@ at-locale sets c numbers kind e = only-locales c numbers (subst (λ (s : SetOf).
 lists-locales : (trace : List ℕ → Trace) (sets : List SetOf) (x : List ℕ) (c : coord.Coord) (locales kept : List Locale) → IsOfKind c (set_at sets c) → set_at sets c ≡ LocalesOf (locale_numbers locales)
     → kept ≡ filter (keeps_locale trace x) locales → ListsKept trace sets x c (seen.LocalesOf kept)
 lists-locales trace sets x c locales kept kind e is n in_set =
-    let a = among n (locale_numbers locales) (subst (λ (s : SetOf). IsIn s n) e in_set) in
+    let a : Contains (locale_numbers locales) n = subst (λ (s : SetOf). IsIn s n) e in_set in
     let at = at-locale sets c (locale_numbers locales) kind e in
     ap (λ k. is_listed k (seen.LocalesOf kept) n) at ∙ locales-listed kept n ∙ ap (λ ls. list_any (λ m. m == n) (locale_numbers ls)) is
-    ∙ ap (list_any (λ m. m == n)) (map-filter (keeps trace x coords.Locale) locales) ∙ listed-filter (keeps trace x coords.Locale) n (locale_numbers locales) a
+    ∙ ap (list_any (λ m. m == n)) (map-filter locale_number (keeps trace x coords.Locale) locales) ∙ listed-filter (keeps trace x coords.Locale) n (locale_numbers locales) a
     ∙ ap (λ k. keeps trace x k n) (sym at)
 
 -- ---- they can be written

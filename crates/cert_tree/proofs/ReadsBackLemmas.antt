@@ -1,8 +1,8 @@
 -- What is written of a certificate is read as the same goals and nodes.
-use Rattle.std.proofs.Common.{◌≡◌, ℕ, ◌+◌, ◌≤◌, nat_le, nat_lt, true, false, List, [], ◌∷◌, ◌++◌, map, length, get_or, Option, Some, ok_or, Result, Ok, append_assoc, refl, sym, ap, ◌∙◌, arith}
+use Rattle.std.proofs.Common.{◌≡◌, ℕ, ◌+◌, ◌≤◌, false, List, [], ◌∷◌, ◌++◌, map, length, get_or, Option, Some, ok_or, Result, Ok, append_assoc, refl, sym, ap, ◌∙◌, arith}
 use Rattle.std.specs.List.{All}
 use Rattle.std.specs.Result.{result_ok}
-use Rattle.std.proofs.lemmas.Bool.Decides.{nat_tests}
+use Rattle.std.proofs.lemmas.Bool.{le-leb, le-ltb}
 use Rattle.std.proofs.lemmas.List.{append-nil, length-map}
 use Rattle.std.proofs.lemmas.List.Elements.{All-head, All-tail}
 use Rattle.contract_words.specs.Faults.{◌>>=◌}
@@ -12,6 +12,7 @@ use Rattle.serde_json.specs.View.{items_of}
 use Rattle.serde_json.specs.Read.{max_depth}
 use Rattle.serde_json.specs.Written.{has_float, items_have_float}
 use Rattle.json_input.specs.Each.{list_items, each}
+use Rattle.json_input.proofs.EachSteps.{each-ok}
 use Rattle.json_input.specs.Json.{value_of}
 use Rattle.json_input.specs.Shape.{has_only, are_among, is_among}
 use Rattle.config_record.specs.declared.coord.Coord as coord
@@ -47,17 +48,14 @@ each-back : {X E : Type 0} (f : Data → Result X E) (data_of : X → Data) (xs 
 unfolding each
 each-back f data_of [] back = refl
 each-back {X} {E} f data_of (x ∷ xs) back =
-    ap (λ (r : Result X E). r >>= (λ y. with_front (y ∷ []) (each f (map data_of xs)))) (All-head (λ y. f (data_of y) ≡ Ok y) x xs back)
+    each-ok f (data_of x) (map data_of xs) x (All-head (λ y. f (data_of y) ≡ Ok y) x xs back)
     ∙ ap (with_front (x ∷ [])) (each-back f data_of xs (All-tail (λ y. f (data_of y) ≡ Ok y) x xs back))
 
 -- ---- numbers and texts
 
-within : (most n : ℕ) → n ≤ most → nat_le n most ≡ true
-within most n le = grind (arith, nat_tests)
-
 pub number-back : (n : ℕ) → n ≤ last_word → NumberReadsBack n
 unfolding number_within
-number-back n le shape = rw (within last_word n le) refl
+number-back n le shape = rw (le-leb n last_word le) refl
 
 locale-read : (shape : CertFault) (r : Result Locale LocaleFault) (locale : Locale) → r ≡ Ok locale → ok_or (result_ok r) shape ≡ Ok locale
 locale-read shape r locale given = rw given refl
@@ -123,20 +121,17 @@ few-listed c (LocalesOf locales) fits = absurd fits
 
 pub at_most-back : (c : coord.Coord) (most : ℕ) → most ≤ last_word → NodeReadsBack (TestAt (AtMostOf c most))
 unfolding node_in at_most_in coord_at number_at number_within has_only are_among is_among
-at_most-back c most le fits shape = rw (coord-back c, within last_word most le) refl
-
-not-above : (most n : ℕ) → n ≤ most → nat_lt most n ≡ false
-not-above most n le = grind (arith, nat_tests)
+at_most-back c most le fits shape = rw (coord-back c, le-leb most last_word le) refl
 
 pub among-back : (c : coord.Coord) (choice : ChoiceOf) → ChoiceReadsBack choice → NodeReadsBack (TestAt (AmongOf c choice))
 unfolding node_in among_in coord_at list_at has_only are_among is_among
 among-back c choice back fits shape =
-    rw (coord-back c, list_items-items_of (choice_items choice), not-above most_listed (length (choice_items choice)) (few-listed c choice fits))
+    rw (coord-back c, list_items-items_of (choice_items choice), le-ltb most_listed (length (choice_items choice)) (few-listed c choice fits))
     (ap (λ (r : Result ChoiceOf CertFault). r >>= λ ch. Ok (TestAt (AmongOf c ch))) (back c fits shape))
 
 pub value-back : (layer : ℕ) (value : Value) → value.kind ≤ last_kind → value.word ≤ last_word → NodeReadsBack (ValueAt layer value)
 unfolding node_in value_in number_at number_within has_only are_among is_among
-value-back layer value kind word fits shape = rw (within last_layer layer fits, within last_kind value.kind kind, within last_word value.word word) refl
+value-back layer value kind word fits shape = rw (le-leb layer last_layer fits, le-leb value.kind last_kind kind, le-leb value.word last_word word) refl
 
 pub bag-back : (id : ResId) → id_of (id_text id.0) ≡ Some id → NodeReadsBack (BagAt id)
 unfolding node_in bag_in id_at has_only are_among is_among
@@ -159,7 +154,7 @@ pub goal-back : (id : ResId) (nodes : List NodeOf) → id_of (id_text id.0) ≡ 
 unfolding goal_in goal_members id_at list_at has_only are_among is_among
 goal-back id nodes same back fits place nodes_before few =
     let count : length (map node_data nodes) ≡ length nodes = length-map nodes node_data in
-    rw (same, list_items-items_of (map node_data nodes), not-above most_nodes (nodes_before + length (map node_data nodes)) (omega arith))
+    rw (same, list_items-items_of (map node_data nodes), le-ltb most_nodes (nodes_before + length (map node_data nodes)) (omega arith))
     (ap (λ (r : Result (List NodeOf) CertFault). r >>= λ ns. Ok (record { goal = Id id; nodes = ns })) (nodes-read place [] nodes back fits))
 
 goals-read : (before goals : List GoalOf) → All GoalReadsBack goals → All (λ g. All NodeFits g.nodes) goals → node_count before + node_count goals ≤ most_nodes

@@ -1,51 +1,17 @@
 -- The different traces that the numbers of a list have, and how many there are on the two sides of a test.
-use Rattle.std.proofs.Common.{◌≡◌, ◌≢◌, ℕ, ◌+◌, ◌≤◌, ◌⊎◌, inl, inr, arith, List, [], ◌∷◌, map, Bool, true, false, not, sym, ◌∙◌, ap, refl, subst}
+use Rattle.std.proofs.Common.{◌≡◌, ◌≢◌, ℕ, ◌+◌, ◌≤◌, ◌⊎◌, inl, inr, arith, List, [], ◌∷◌, map, Bool, true, false, not, cond, filter, sym, ◌∙◌, ap, refl, subst}
 use Rattle.std.proofs.lemmas.Bool.{cases_Bool}
 use Rattle.std.specs.List.{list_any}
 use Rattle.reference_resolver.specs.Trace.{Trace}
 use Rattle.reference_resolver.specs.SameTrace.{same_trace}
 use Rattle.least_tree.specs.Runs.{different}
 use Rattle.reference_resolver.proofs.SameTraces.{trace-cases}
-use Rattle.config_box.proofs.Filters.{Among}
+use Rattle.config_box.proofs.Filters.{Among, among-kept, kept-among}
 
 -- ---- the numbers that pass
 
-abbrev pub put : Bool → ℕ → List ℕ → List ℕ
-put true n ns = n ∷ ns
-put false n ns = ns
-
-abbrev pub pick : (ℕ → Bool) → List ℕ → List ℕ
-pick q [] = []
-pick q (n ∷ ns) = put (q n) n (pick q ns)
-
 abbrev pub fails : (ℕ → Bool) → ℕ → Bool
 fails q n = not (q n)
-
-put-in : (b : Bool) (m n : ℕ) (ns : List ℕ) → Among m (put b n ns) → ((n ≡ m) × (b ≡ true)) ⊎ Among m ns
-put-in true m n ns (inl e) = inl (e, refl)
-put-in true m n ns (inr a) = inr a
-put-in false m n ns a = inr a
-
-in-put : (b : Bool) (m n : ℕ) (ns : List ℕ) → Among m ns → Among m (put b n ns)
-in-put true m n ns a = inr a
-in-put false m n ns a = a
-
-head-put : (b : Bool) (m n : ℕ) (ns : List ℕ) → n ≡ m → b ≡ true → Among m (put b n ns)
-head-put true m n ns e is = inl e
-head-put false m n ns e is = absurd (cc)
-
-pub picked : (q : ℕ → Bool) (m : ℕ) (ns : List ℕ) → Among m (pick q ns) → Among m ns × (q m ≡ true)
-picked q m [] a = absurd a
-picked q m (n ∷ ns) a =
-    elim (put-in (q n) m n (pick q ns) a) [
-      | inl h ↦ (inl h.0, ap q (sym h.0) ∙ h.1)
-      | inr h ↦ (let r = picked q m ns h in (inr r.0, r.1))
-    ]
-
-pub pick-all : (q : ℕ → Bool) (m : ℕ) (ns : List ℕ) → Among m ns → q m ≡ true → Among m (pick q ns)
-pick-all q m [] a e = absurd a
-pick-all q m (n ∷ ns) (inl h) e = head-put (q n) m n (pick q ns) h (ap q h ∙ e)
-pick-all q m (n ∷ ns) (inr a) e = in-put (q n) m n (pick q ns) (pick-all q m ns a e)
 
 -- one passes, or none does
 pub find : (q : ℕ → Bool) (ns : List ℕ) → ((m : ℕ) × Among m ns × (q m ≡ true)) ⊎ ((m : ℕ) → Among m ns → q m ≡ false)
@@ -106,13 +72,13 @@ side-eq w ts ls rs up down h =
     ]
 
 -- the traces of one side are traces of the whole
-up : (t : ℕ → Trace) (q : ℕ → Bool) (w : Trace) (ns : List ℕ) → Among w (map t (pick q ns)) → Among w (map t ns)
+up : (t : ℕ → Trace) (q : ℕ → Bool) (w : Trace) (ns : List ℕ) → Among w (map t (filter q ns)) → Among w (map t ns)
 up t q w ns a =
-    let h = among-map t w (pick q ns) a in
-    subst (λ (z : Trace). Among z (map t ns)) h.2 (map-among t h.0 ns (picked q h.0 ns h.1).0)
+    let h = among-map t w (filter q ns) a in
+    subst (λ (z : Trace). Among z (map t ns)) h.2 (map-among t h.0 ns (among-kept q h.0 ns h.1).0)
 
 put-le : (b : Bool) (t : ℕ → Trace) (n : ℕ) (ns ls rs : List ℕ) → (Among (t n) (map t ls) → Among (t n) (map t ns)) → (Among (t n) (map t rs) → Among (t n) (map t ns))
-    → different (map t ns) ≤ different (map t ls) + different (map t rs) → different (t n ∷ map t ns) ≤ different (map t (put b n ls)) + different (map t (put (not b) n rs))
+    → different (map t ns) ≤ different (map t ls) + different (map t rs) → different (t n ∷ map t ns) ≤ different (map t (cond b (n ∷ ls) ls)) + different (map t (cond (not b) (n ∷ rs) rs))
 put-le true t n ns ls rs f g h = side-le (t n) (map t ns) (map t ls) (map t rs) f h
 put-le false t n ns ls rs f g h =
     let turned : different (map t ns) ≤ different (map t rs) + different (map t ls) = omega arith in
@@ -120,14 +86,14 @@ put-le false t n ns ls rs f g h =
     omega (arith, r)
 
 -- the two sides have together no fewer different traces
-pub different-le : (t : ℕ → Trace) (q : ℕ → Bool) (ns : List ℕ) → different (map t ns) ≤ different (map t (pick q ns)) + different (map t (pick (fails q) ns))
+pub different-le : (t : ℕ → Trace) (q : ℕ → Bool) (ns : List ℕ) → different (map t ns) ≤ different (map t (filter q ns)) + different (map t (filter (fails q) ns))
 different-le t q [] = omega arith
 different-le t q (n ∷ ns) =
-    put-le (q n) t n ns (pick q ns) (pick (fails q) ns) (up t q (t n) ns) (up t (fails q) (t n) ns) (different-le t q ns)
+    put-le (q n) t n ns (filter q ns) (filter (fails q) ns) (up t q (t n) ns) (up t (fails q) (t n) ns) (different-le t q ns)
 
 put-eq : (b : Bool) (t : ℕ → Trace) (n : ℕ) (ns ls rs : List ℕ) → (Among (t n) (map t ls) → Among (t n) (map t ns)) → (Among (t n) (map t rs) → Among (t n) (map t ns))
     → (b ≡ true → Among (t n) (map t ns) → Among (t n) (map t ls)) → (b ≡ false → Among (t n) (map t ns) → Among (t n) (map t rs))
-    → different (map t ns) ≡ different (map t ls) + different (map t rs) → different (t n ∷ map t ns) ≡ different (map t (put b n ls)) + different (map t (put (not b) n rs))
+    → different (map t ns) ≡ different (map t ls) + different (map t rs) → different (t n ∷ map t ns) ≡ different (map t (cond b (n ∷ ls) ls)) + different (map t (cond (not b) (n ∷ rs) rs))
 put-eq true t n ns ls rs f g k l h = side-eq (t n) (map t ns) (map t ls) (map t rs) f (k refl) h
 put-eq false t n ns ls rs f g k l h =
     let turned : different (map t ns) ≡ different (map t rs) + different (map t ls) = omega arith in
@@ -138,27 +104,27 @@ put-eq false t n ns ls rs f g k l h =
 abbrev pub Apart : (ℕ → Trace) → (ℕ → Bool) → List ℕ → Type 0
 Apart t q ns = (m n : ℕ) → Among m ns → Among n ns → q m ≡ true → q n ≡ false → t m ≢ t n
 
-stays : (t : ℕ → Trace) (q : ℕ → Bool) (n : ℕ) (ns : List ℕ) → Apart t q (n ∷ ns) → q n ≡ true → Among (t n) (map t ns) → Among (t n) (map t (pick q ns))
+stays : (t : ℕ → Trace) (q : ℕ → Bool) (n : ℕ) (ns : List ℕ) → Apart t q (n ∷ ns) → q n ≡ true → Among (t n) (map t ns) → Among (t n) (map t (filter q ns))
 stays t q n ns apart is a =
     let h = among-map t (t n) ns a in
     elim (cases_Bool (q h.0)) [
-      | inl y ↦ subst (λ (z : Trace). Among z (map t (pick q ns))) h.2 (map-among t h.0 (pick q ns) (pick-all q h.0 ns h.1 y))
+      | inl y ↦ subst (λ (z : Trace). Among z (map t (filter q ns))) h.2 (map-among t h.0 (filter q ns) (kept-among q h.0 ns h.1 y))
       | inr f ↦ absurd (apart n h.0 (inl refl) (inr h.1) is f (sym h.2))
     ]
 
-stays-no : (t : ℕ → Trace) (q : ℕ → Bool) (n : ℕ) (ns : List ℕ) → Apart t q (n ∷ ns) → q n ≡ false → Among (t n) (map t ns) → Among (t n) (map t (pick (fails q) ns))
+stays-no : (t : ℕ → Trace) (q : ℕ → Bool) (n : ℕ) (ns : List ℕ) → Apart t q (n ∷ ns) → q n ≡ false → Among (t n) (map t ns) → Among (t n) (map t (filter (fails q) ns))
 stays-no t q n ns apart is a =
     let h = among-map t (t n) ns a in
     elim (cases_Bool (q h.0)) [
       | inl y ↦ absurd (apart h.0 n (inr h.1) (inl refl) y is h.2)
-      | inr f ↦ subst (λ (z : Trace). Among z (map t (pick (fails q) ns))) h.2 (map-among t h.0 (pick (fails q) ns) (pick-all (fails q) h.0 ns h.1 (ap not f)))
+      | inr f ↦ subst (λ (z : Trace). Among z (map t (filter (fails q) ns))) h.2 (map-among t h.0 (filter (fails q) ns) (kept-among (fails q) h.0 ns h.1 (ap not f)))
     ]
 
 -- then they have no more
-pub different-eq : (t : ℕ → Trace) (q : ℕ → Bool) (ns : List ℕ) → Apart t q ns → different (map t ns) ≡ different (map t (pick q ns)) + different (map t (pick (fails q) ns))
+pub different-eq : (t : ℕ → Trace) (q : ℕ → Bool) (ns : List ℕ) → Apart t q ns → different (map t ns) ≡ different (map t (filter q ns)) + different (map t (filter (fails q) ns))
 different-eq t q [] apart = refl
 different-eq t q (n ∷ ns) apart =
-    put-eq (q n) t n ns (pick q ns) (pick (fails q) ns) (up t q (t n) ns) (up t (fails q) (t n) ns) (stays t q n ns apart) (stays-no t q n ns apart)
+    put-eq (q n) t n ns (filter q ns) (filter (fails q) ns) (up t q (t n) ns) (up t (fails q) (t n) ns) (stays t q n ns apart) (stays-no t q n ns apart)
     (different-eq t q ns (λ m k a b. apart m k (inr a) (inr b)))
 
 pub different-some : (w : Trace) (ts : List Trace) → Among w ts → 1 ≤ different ts

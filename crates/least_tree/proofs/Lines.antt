@@ -1,16 +1,15 @@
 -- The numbers that are left at one coordinate behind tests of it, and the runs along them.
-use Rattle.std.proofs.Common.{◌≡◌, ◌≢◌, ℕ, ◌+◌, ◌-◌, ◌<◌, ◌≤◌, ◌⊎◌, inl, inr, arith, List, [], ◌∷◌, map, Bool, true, false, not, sym, ◌∙◌, ap, refl}
+use Rattle.std.proofs.Common.{◌≡◌, ◌≢◌, ℕ, ◌+◌, ◌-◌, ◌≤◌, ◌⊎◌, inl, inr, arith, List, [], ◌∷◌, map, Bool, true, false, not, filter, sym, ◌∙◌, ap, refl}
 use Rattle.std.specs.Prelude.{nat_le}
-use Rattle.std.proofs.lemmas.Bool.{cases_lt, not-true, not-false}
-use Rattle.std.proofs.lemmas.Bool.Decides.{nat_tests}
+use Rattle.std.proofs.lemmas.Bool.{cases_lt, not-true, not-false, leb-true, leb-false, le-leb, lt-leb}
 use Rattle.config_record.specs.ComparedNumber.{device_number}
 use Rattle.reference_resolver.specs.Trace.{Trace}
 use Rattle.box_answers.specs.NumberSet.{SetOf, RangeOf, NumbersOf, LocalesOf, IsIn}
 use Rattle.config_box.specs.Tests.{TestOf, AtMostOf, AmongOf, coord_of, is_listed, answers, is_range}
 use Rattle.cert_checker.specs.Paths.{Path}
 use Rattle.least_tree.specs.Runs.{changes, different, runs}
-use Rattle.config_box.proofs.Filters.{Among, among, contained}
-use Rattle.least_tree.proofs.Different.{pick, picked, pick-all, fails, find, map-among, different-le, different-eq, different-some, different-one}
+use Rattle.config_box.proofs.Filters.{Among, among, contained, among-kept, kept-among}
+use Rattle.least_tree.proofs.Different.{fails, find, map-among, different-le, different-eq, different-some, different-one}
 use Rattle.least_tree.proofs.Changes.{change-most, change-one, changes-at, changes-same}
 
 -- ---- a test at a number of its coordinate
@@ -22,18 +21,6 @@ takes (AmongOf c choice) n = is_listed c choice n
 pub answers-takes : (test : TestOf) (d : List ℕ) → answers test d ≡ takes test (device_number d (coord_of test))
 answers-takes (AtMostOf c most) d = refl
 answers-takes (AmongOf c choice) d = refl
-
-pub le-takes : (n m : ℕ) → nat_le n m ≡ true → n ≤ m
-le-takes n m e = grind (arith, nat_tests)
-
-pub gt-takes : (n m : ℕ) → nat_le n m ≡ false → m < n
-gt-takes n m e = grind (arith, nat_tests)
-
-pub takes-le : (n m : ℕ) → n ≤ m → nat_le n m ≡ true
-takes-le n m e = grind (arith, nat_tests)
-
-pub takes-gt : (n m : ℕ) → m < n → nat_le n m ≡ false
-takes-gt n m e = grind (arith, nat_tests)
 
 -- ---- the numbers that are left
 
@@ -68,8 +55,8 @@ abbrev pub half : Kept → TestOf → Bool → Kept
 half (between low high) (AtMostOf c m) true = between low m
 half (between low high) (AtMostOf c m) false = between (m + 1) high
 half (between low high) (AmongOf c choice) answer = between low high
-half (chosen ns) test true = chosen (pick (takes test) ns)
-half (chosen ns) test false = chosen (pick (fails (takes test)) ns)
+half (chosen ns) test true = chosen (filter (takes test) ns)
+half (chosen ns) test false = chosen (filter (fails (takes test)) ns)
 
 abbrev pub at_path : Kept → Path → Kept
 at_path k [] = k
@@ -108,30 +95,30 @@ pub record Both (k : Kept) (test : TestOf) : Type 0 where
 -- the two halves of what is left, by the numbers
 pub half-in : (k : Kept) (test : TestOf) (answer : Bool) → Fits k test → Both k test → (n : ℕ) → In (half k test answer) n → In k n × (takes test n ≡ answer)
 half-in (between low high) (AtMostOf c m) true fits h n is =
-    let a = gt-takes h.high m h.high_fails in
+    let a = leb-false h.high m h.high_fails in
     let i = h.high_in in
-    ((is.0, omega (arith, a, i.1, is.1)), takes-le n m is.1)
+    ((is.0, omega (arith, a, i.1, is.1)), le-leb n m is.1)
 half-in (between low high) (AtMostOf c m) false fits h n is =
-    let a = le-takes h.low m h.low_takes in
+    let a = leb-true h.low m h.low_takes in
     let i = h.low_in in
-    ((omega (arith, a, i.0, is.0), is.1), takes-gt n m (omega (arith, is.0)))
+    ((omega (arith, a, i.0, is.0), is.1), lt-leb n m (omega (arith, is.0)))
 half-in (between low high) (AmongOf c choice) answer fits h n is = absurd (cc fits)
-half-in (chosen ns) test true fits h n is = picked (takes test) n ns is
-half-in (chosen ns) test false fits h n is = let r = picked (fails (takes test)) n ns is in (r.0, not-true (takes test n) r.1)
+half-in (chosen ns) test true fits h n is = among-kept (takes test) n ns is
+half-in (chosen ns) test false fits h n is = let r = among-kept (fails (takes test)) n ns is in (r.0, not-true (takes test n) r.1)
 
 pub in-half : (k : Kept) (test : TestOf) (answer : Bool) → Fits k test → (n : ℕ) → In k n → takes test n ≡ answer → In (half k test answer) n
-in-half (between low high) (AtMostOf c m) true fits n is e = (is.0, le-takes n m e)
-in-half (between low high) (AtMostOf c m) false fits n is e = let a = gt-takes n m e in (omega arith, is.1)
+in-half (between low high) (AtMostOf c m) true fits n is e = (is.0, leb-true n m e)
+in-half (between low high) (AtMostOf c m) false fits n is e = let a = leb-false n m e in (omega arith, is.1)
 in-half (between low high) (AmongOf c choice) answer fits n is e = absurd (cc fits)
-in-half (chosen ns) test true fits n is e = pick-all (takes test) n ns is e
-in-half (chosen ns) test false fits n is e = pick-all (fails (takes test)) n ns is (ap not e)
+in-half (chosen ns) test true fits n is e = kept-among (takes test) n ns is e
+in-half (chosen ns) test false fits n is e = kept-among (fails (takes test)) n ns is (ap not e)
 
 -- a number that answers yes, or none does
 pub some-takes : (k : Kept) (test : TestOf) → Fits k test → (s : ℕ) → In k s → ((n : ℕ) × In k n × (takes test n ≡ true)) ⊎ ((n : ℕ) → In k n → takes test n ≡ false)
 some-takes (between low high) (AtMostOf c m) fits s is =
     elim (cases_lt m low) [
-      | inl lt ↦ inr (λ n a. takes-gt n m (omega (arith, a.0)))
-      | inr le ↦ inl (low, (omega arith, omega (arith, is.0, is.1)), takes-le low m le)
+      | inl lt ↦ inr (λ n a. lt-leb n m (omega (arith, a.0)))
+      | inr le ↦ inl (low, (omega arith, omega (arith, is.0, is.1)), le-leb low m le)
     ]
 some-takes (between low high) (AmongOf c choice) fits s is = absurd (cc fits)
 some-takes (chosen ns) test fits s is = find (takes test) ns
@@ -139,8 +126,8 @@ some-takes (chosen ns) test fits s is = find (takes test) ns
 pub some-fails : (k : Kept) (test : TestOf) → Fits k test → (s : ℕ) → In k s → ((n : ℕ) × In k n × (takes test n ≡ false)) ⊎ ((n : ℕ) → In k n → takes test n ≡ true)
 some-fails (between low high) (AtMostOf c m) fits s is =
     elim (cases_lt m high) [
-      | inl lt ↦ inl (high, (omega (arith, is.0, is.1), omega arith), takes-gt high m lt)
-      | inr le ↦ inr (λ n a. takes-le n m (omega (arith, a.1)))
+      | inl lt ↦ inl (high, (omega (arith, is.0, is.1), omega arith), lt-leb high m lt)
+      | inr le ↦ inr (λ n a. le-leb n m (omega (arith, a.1)))
     ]
 some-fails (between low high) (AmongOf c choice) fits s is = absurd (cc fits)
 some-fails (chosen ns) test fits s is =
@@ -163,8 +150,8 @@ spread-runs t (LocalesOf numbers) = refl
 -- a test leaves no fewer on its two sides
 pub spread-le : (t : ℕ → Trace) (k : Kept) (test : TestOf) → Fits k test → Both k test → spread t k ≤ spread t (half k test true) + spread t (half k test false)
 spread-le t (between low high) (AtMostOf c m) fits h =
-    let a = gt-takes h.high m h.high_fails in
-    let b = le-takes h.low m h.low_takes in
+    let a = leb-false h.high m h.high_fails in
+    let b = leb-true h.low m h.low_takes in
     let i = h.high_in in
     let j = h.low_in in
     let s = changes-at t low m high (omega (arith, b, j.0)) (omega (arith, a, i.1)) in
@@ -182,8 +169,8 @@ Cuts t (chosen ns) test = (m n : ℕ) → Among m ns → Among n ns → takes te
 -- a needed test leaves no more
 pub spread-eq : (t : ℕ → Trace) (k : Kept) (test : TestOf) → Fits k test → Both k test → Cuts t k test → spread t k ≡ spread t (half k test true) + spread t (half k test false)
 spread-eq t (between low high) (AtMostOf c m) fits h cuts =
-    let a = gt-takes h.high m h.high_fails in
-    let b = le-takes h.low m h.low_takes in
+    let a = leb-false h.high m h.high_fails in
+    let b = leb-true h.low m h.low_takes in
     let i = h.high_in in
     let j = h.low_in in
     let s = changes-at t low m high (omega (arith, b, j.0)) (omega (arith, a, i.1)) in

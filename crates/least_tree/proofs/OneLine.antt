@@ -1,6 +1,6 @@
 -- Trees of a box whose members differ at one coordinate alone.
 use Rattle.std.proofs.Common.{◌≡◌, ◌≢◌, ℕ, ◌+◌, ◌*◌, ◌<◌, ◌≤◌, inl, inr, arith, List, [], ◌∷◌, length, Bool, true, false, sym, ◌∙◌, ap, subst, set}
-use Rattle.std.proofs.lemmas.Bool.{cases_lt, cases_Bool}
+use Rattle.std.proofs.lemmas.Bool.{cases_lt, cases_Bool, leb-true, leb-false}
 use Rattle.config_record.specs.declared.coord.Coord.{Coord}
 use Rattle.config_record.specs.Coord.{place_of}
 use Rattle.config_record.specs.ComparedNumber.{device_number}
@@ -18,7 +18,7 @@ use Rattle.least_tree.specs.Runs.{trace_with, runs_along, IsOnLine}
 use Rattle.least_tree.specs.Walk.{Walk}
 use Rattle.reference_resolver.proofs.SameTraces.{trace-cases}
 use Rattle.config_box.proofs.Filters.{Among}
-use Rattle.least_tree.proofs.Lines.{Kept, between, chosen, kept, In, in-set, set-in, takes, answers-takes, le-takes, gt-takes, is_between, half, at_path, mark-path, Fits, Both, half-in, in-half, some-takes, some-fails, spread-runs, spread-le, Cuts, spread-eq, spread-some, spread-one}
+use Rattle.least_tree.proofs.Lines.{Kept, between, chosen, kept, In, in-set, set-in, takes, answers-takes, is_between, half, at_path, mark-path, Fits, Both, half-in, in-half, some-takes, some-fails, spread-runs, spread-le, Cuts, spread-eq, spread-some, spread-one}
 use Rattle.least_tree.proofs.Counting.{IsLeaf, Shrinks, at-most, Grows, at-least}
 use Rattle.least_tree.proofs.Passing.{Passes}
 use Rattle.least_tree.proofs.ByNumbers.{GoesByNumbers}
@@ -96,8 +96,8 @@ cut-at : (trace : List ℕ → Trace) (sets : List SetOf) (c : Coord) (t : ℕ �
 cut-at trace sets c t path low high m line s sp eq =
     let x = device_number s.x c in
     let y = device_number s.y c in
-    let xl : x ≤ m = le-takes x m s.x_answers in
-    let yl : m < y = gt-takes y m s.y_answers in
+    let xl : x ≤ m = leb-true x m s.x_answers in
+    let yl : m < y = leb-false y m s.y_answers in
     let xi = sp.within s.x s.x_member in
     let yi = sp.within s.y s.y_member in
     let none : (n : ℕ) → low ≤ n → n ≤ high → x < n → n < y → ⊥ =

@@ -1,19 +1,12 @@
 -- How many candidates an id has at most.
-use Rattle.std.proofs.Common.{◌≡◌, ◌==◌, ℕ, ◌+◌, ◌*◌, ◌^◌, ◌≤◌, ◌<◌, Bool, true, false, List, [], ◌∷◌, ◌++◌, length, is_some, Option, Some, None, All, cond, sym, subst, ap, ◌∙◌, arith, length-append}
-use Rattle.std.specs.List.{filter}
+use Rattle.std.proofs.Common.{◌≡◌, ◌==◌, ℕ, ◌+◌, ◌*◌, ◌^◌, ◌≤◌, ◌<◌, Bool, List, [], ◌∷◌, ◌++◌, length, is_some, Option, Some, None, All, sym, subst, ap, ◌∙◌, arith, length-append}
 use Rattle.std.proofs.lemmas.List.{length-map}
+use Rattle.std.proofs.lemmas.List.Sums.{length-filter, count_by-le-length}
 use Rattle.std.proofs.lemmas.List.Elements.{All-head, All-tail, All-push}
+use Rattle.type_chunks.specs.Row.{RowOf}
 use Rattle.resource_table.specs.Table.{rows_of}
 use Rattle.overlay_map.specs.Layer.{LayerOf, most_layers, HasFewRows, own_id, rows_with, rows_for}
 use Rattle.overlay_map.specs.Candidates.{candidates_at, candidates_from}
-
-first_kept : {X : Type 0} (kept : Bool) (x : X) (xs ys : List X) → length xs ≤ length ys → length (cond kept (x ∷ xs) xs) ≤ length (x ∷ ys)
-first_kept true x xs ys few = omega (arith, few)
-first_kept false x xs ys few = omega (arith, few)
-
-length-filter_below : {X : Type 0} (test : X → Bool) (xs : List X) → length (filter test xs) ≤ length xs
-length-filter_below test [] = omega arith
-length-filter_below test (x ∷ xs) = first_kept (test x) x (filter test xs) xs (length-filter_below test xs)
 
 -- the candidates of a layer are some of its rows
 length-rows_for : (layer : LayerOf) (id : ℕ) → HasFewRows layer → length (rows_for layer id) < 2 ^ 92
@@ -21,7 +14,10 @@ length-rows_for layer id few = at_id (own_id layer id)
   where
     at_id : (own : Option ℕ) → length (rows_with layer.table own) < 2 ^ 92
     at_id None = omega arith
-    at_id (Some own) = omega (arith, few, length-filter_below (λ row. row.id == own) (rows_of layer.table))
+    at_id (Some own) =
+        let rows = rows_of layer.table in
+        let has_own : RowOf → Bool = λ row. row.id == own in
+        omega (arith, few, length-filter has_own rows, count_by-le-length has_own rows)
 
 pub length-candidates_from : (place : ℕ) (layers : List LayerOf) (id : ℕ) → All HasFewRows layers → length (candidates_from place layers id) ≤ length layers * 2 ^ 92
 length-candidates_from place [] id few = omega arith

@@ -1,7 +1,7 @@
 -- Traces that are compared part by part, and their ends.
 use Rattle.std.proofs.Common.{◌≡◌, ◌≢◌, ℕ, Bool, true, false, List, [], ◌∷◌, ◌⊎◌, inl, inr, refl, sym, ◌∙◌, ap, arith}
 use Rattle.std.specs.Prelude.{◌==◌, ◌&&◌, IsTrue}
-use Rattle.std.proofs.lemmas.Bool.{and_parts, cases_Bool}
+use Rattle.std.proofs.lemmas.Bool.{and_parts, cases_Bool, eqb-true}
 use Rattle.std.proofs.lemmas.Bool.Decides.{nat_tests}
 use Rattle.res_value.specs.declared.value.Value.{Value as Word}
 use Rattle.res_value.specs.declared.res_id.ResId.{ResId}
@@ -11,9 +11,6 @@ use Rattle.reference_resolver.specs.declared.end.End.{End}
 use Rattle.reference_resolver.specs.declared.end.End.TheVariants.{Value, Bag, Absent, TooLong}
 use Rattle.reference_resolver.specs.Trace.{Trace}
 use Rattle.reference_resolver.specs.SameTrace.{same_step, same_steps, same_end, same_trace, IsTrueOfEqualTraces}
-
-number-equal : (m n : ℕ) → (m == n) ≡ true → m ≡ n
-number-equal m n e = grind (arith, nat_tests)
 
 number-same : (n : ℕ) → (n == n) ≡ true
 number-same n = grind (arith, nat_tests)
@@ -47,17 +44,17 @@ word-equal v w e =
     let h = and_parts (v.kind == w.kind) (v.word == w.word) e in
     let with_kind : ℕ → Word = λ n. record { kind = n; word = v.word } in
     let with_word : ℕ → Word = λ n. record { kind = w.kind; word = n } in
-    ap with_kind (number-equal v.kind w.kind h.0) ∙ ap with_word (number-equal v.word w.word h.1)
+    ap with_kind (eqb-true v.kind w.kind h.0) ∙ ap with_word (eqb-true v.word w.word h.1)
 
 id-equal : (a b : ResId) → (a.0 == b.0) ≡ true → a ≡ b
 id-equal a b e =
     let of_number : ℕ → ResId = λ n. record { 0 = n } in
-    ap of_number (number-equal a.0 b.0 e)
+    ap of_number (eqb-true a.0 b.0 e)
 
 end-equal : (a b : End) → same_end a b ≡ true → a ≡ b
 end-equal (Value layer value) (Value other_layer other) e =
     let h = and_parts (layer == other_layer) (value.kind == other.kind && value.word == other.word) e in
-    let l = number-equal layer other_layer h.0 in
+    let l = eqb-true layer other_layer h.0 in
     let v = word-equal value other h.1 in
     cc
 end-equal (Bag id) (Bag other) e = ap Bag (id-equal id other e)

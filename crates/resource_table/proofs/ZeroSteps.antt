@@ -2,7 +2,8 @@
 use Rattle.std.proofs.Common.{◌≡◌, ℕ, ◌+◌, ◌<◌, ◌≤◌, true, false, List, [], ◌∷◌, ◌++◌, length, take, drop, slice_index, refl, sym, ap, ◌∙◌, append_assoc, arith}
 use Rattle.std.specs.Prelude.{◌==◌, ◌&&◌, not}
 use Rattle.std.proofs.lemmas.Bool.{not-true, not-false}
-use Rattle.std.proofs.lemmas.List.{take-append-drop, take-take, drop-take, drop-drop}
+use Rattle.std.proofs.lemmas.List.{drop-drop}
+use Rattle.std.proofs.Math.Seq.{take-add}
 use Rattle.resource_table.specs.Package.{before_zero}
 use Rattle.resource_table.specs.Units.{has_unit}
 
@@ -41,13 +42,6 @@ before_zero-none (a ∷ []) none = refl
 before_zero-none (low ∷ high ∷ units) none =
     let both : (low == 0 && high == 0) ≡ true = not-false _ none in rw both refl
 
--- the front of a list, and more of it
-take-more : (n m : ℕ) (xs : List ℕ) → take (n + m) xs ≡ take n xs ++ take m (drop n xs)
-take-more n m xs =
-    sym (take-append-drop n (take (n + m) xs))
-    ∙ ap (λ (t : List ℕ). t ++ drop n (take (n + m) xs)) (take-take n (n + m) xs (omega arith))
-    ∙ ap (λ (t : List ℕ). take n xs ++ t) (drop-take n m xs)
-
 pub passed-drop : (units left : List ℕ) (size : ℕ) → left ≡ drop size units → drop 2 left ≡ drop (size + 2) units
 passed-drop units left size behind = ap (λ (t : List ℕ). drop 2 t) behind ∙ drop-drop 2 size units
 
@@ -55,7 +49,7 @@ passed-drop units left size behind = ap (λ (t : List ℕ). drop 2 t) behind ∙
 pub passed-next : (units left : List ℕ) (size : ℕ) → left ≡ drop size units → has_unit left ≡ true
     → take size units ++ before_zero left ≡ before_zero units → take (size + 2) units ++ before_zero (drop 2 left) ≡ before_zero units
 passed-next units left size behind has before =
-    ap (λ (t : List ℕ). t ++ before_zero (drop 2 left)) (take-more size 2 units ∙ ap (λ (t : List ℕ). take size units ++ take 2 t) (sym behind))
+    ap (λ (t : List ℕ). t ++ before_zero (drop 2 left)) (take-add size 2 units ∙ ap (λ (t : List ℕ). take size units ++ take 2 t) (sym behind))
     ∙ append_assoc (take size units) (take 2 left) (before_zero (drop 2 left))
     ∙ ap (λ (t : List ℕ). take size units ++ t) (sym (before_zero-step left has))
     ∙ before
