@@ -1,9 +1,1 @@
-pub mod CellText
-pub mod RowsText
-pub mod DumpText
-pub mod EndText
-pub mod QueryText
-pub mod ExplainText
 pub mod VerdictText
-pub mod Line
-pub mod LastTypeName

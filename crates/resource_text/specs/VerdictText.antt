@@ -10,7 +10,7 @@ use Rattle.cert_checker.specs.declared.verdict.Shown.TheVariants.{Nothing, Two, 
 use Rattle.cert_checker.specs.declared.verdict.Verdict.{Verdict}
 use Rattle.cert_checker.specs.declared.verdict.Verdict.TheVariants.{Accepted, Rejected}
 use Rattle.cert_checker.specs.Rule.{number_of, name_of}
-use Rattle.resource_text.specs.EndText.{end_line}
+use Rattle.answer_text.specs.EndText.{end_line}
 
 -- the line `accepted goals G nodes N`
 unfoldable pub accepted_line : ℕ → ℕ → List ℕ

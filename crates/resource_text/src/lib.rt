@@ -1,39 +1,18 @@
-//! The lines that commands of restool print of rows, ends, explanations and verdicts, written straight to a
-//! writer.
+//! The lines that commands print, written straight to a writer: those of verdicts stand here, those of rows,
+//! ends, explanations and faults are handed on.
 //!
 //! For the crates above: what each call appends is the one text of its value, as `specs/` define it,
 //! and nothing else; the only error is the writer's.
 //!
 //! ```text
-//! rows_text(&table, &mut out)?; // row 0x7f010000 [] decimal 5
-//!                               // rows 1 set-aside 0
-//! dump_text(&table, &mut out)?; // package 0x7f "app"
-//!                               //   0x7f010000 "integer"/"five" flags 0x00000000 [] decimal 5
-//! end_text(end, &mut out)?; // value layer 0 decimal 5
-//! explain(&stack, id, &device, &mut out)?; // lookup 0x7f010000
-//!                                          // candidate 0 layer 0 [] first
-//!                                          // candidate 1 layer 0 [sdk=21] took over P22
-//!                                          // end value layer 0 decimal 5
 //! verdict_text(&verdict, &certificate, &mut out)?; // accepted goals 1 nodes 3
+//! device_with_end(&device, end, &mut out)?; // device sdk=21 density=160
+//!                                           // end value layer 0 decimal 5
 //! ```
 #![tactic(auto)]
 
-mod cell;
-mod decision;
-mod dump;
-mod end;
-mod explanation;
-mod last_record;
-mod last_type_name;
-mod line;
-mod query;
-mod rows;
 mod verdict;
 
-pub use dump::dump_text;
-pub use end::end_text;
-pub use explanation::explain;
+pub use answer_text::{dump_text, end_text, explain, query_line, rows_text, set_aside_line};
 pub use fault_text::{LayersFault, ToolFault, fault_text};
-pub use query::{query_line, set_aside_line};
-pub use rows::rows_text;
 pub use verdict::{device_with_end, verdict_text};

@@ -6,7 +6,7 @@ ghost use Rattle.config_record.specs.DeviceSeen.{device_numbers};
 ghost use Rattle.cert_tree.specs.Certificate.{goals_of, node_count};
 ghost use Rattle.resource_text.specs.VerdictText.{accepted_line, accepted_text, rejected_line, named_device_line, device_with_end, shown_text, verdict_text};
 
-use crate::end::write_end_line;
+use answer_text::write_end_line;
 use cert_checker::{Shown, Verdict};
 use cert_tree::Cert;
 use config_record::Device;

@@ -12,10 +12,10 @@ use Rattle.cert_tree.specs.Certificate.{GoalOf}
 use Rattle.cert_tree.specs.CertJson.{cert_in}
 use Rattle.fault_text.specs.declared.fault.ToolFault.{ToolFault}
 use Rattle.fault_text.specs.ToolFault.{fault_of_box, fault_of_certificate}
-use Rattle.resource_tool.specs.declared.status.Status.{Status}
-use Rattle.resource_tool.specs.Output.{PrintsOneOf}
-use Rattle.resource_tool.specs.StackBytes.{LayerBytes, stack_in}
-use Rattle.resource_tool.specs.MapErr.{map_err}
+use Rattle.command_base.specs.declared.status.Status.{Status}
+use Rattle.command_base.specs.Output.{PrintsOneOf}
+use Rattle.command_base.specs.StackBytes.{LayerBytes, stack_in}
+use Rattle.command_base.specs.MapErr.{map_err}
 use Rattle.resource_tool.specs.CheckOutput.{CheckInputs, check_inputs, IsCheckOutput}
 use Rattle.resource_tool.specs.CheckHeadline.{HeadlineHolds}
 

@@ -8,9 +8,9 @@ use Rattle.cert_maker.specs.Made.{IsMade, CanBeWritten}
 use Rattle.cert_maker.specs.Least.{IsLeast}
 use Rattle.fault_text.specs.declared.fault.ToolFault.{ToolFault}
 use Rattle.fault_text.specs.declared.fault.ToolFault.TheVariants as faults
-use Rattle.resource_tool.specs.declared.status.Status.{Status}
-use Rattle.resource_tool.specs.declared.status.Status.TheVariants.{Done, Negative}
-use Rattle.resource_tool.specs.Output.{Output, Prints, PrintsOneOf}
+use Rattle.command_base.specs.declared.status.Status.{Status}
+use Rattle.command_base.specs.declared.status.Status.TheVariants.{Done, Negative}
+use Rattle.command_base.specs.Output.{Output, Prints, PrintsOneOf}
 use Rattle.resource_tool.specs.CheckOutput.{goals_asked}
 use Rattle.resource_tool.specs.MakeOutput.{MakeInputs, IsReadAccepted, IsMakeOutput, made_output, made_text}
 use Rattle.resource_tool.specs.LineReadsBack.{LineReadsBack}

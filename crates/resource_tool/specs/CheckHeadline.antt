@@ -9,8 +9,8 @@ use Rattle.cert_tree.specs.Certificate.{GoalOf}
 use Rattle.cert_tree.specs.CertJson.{cert_in}
 use Rattle.cert_checker.specs.declared.verdict.Verdict.{Verdict}
 use Rattle.cert_checker.specs.Headline.{Headline}
-use Rattle.resource_tool.specs.declared.status.Status.{Status}
-use Rattle.resource_tool.specs.StackBytes.{LayerBytes, stack_in}
+use Rattle.command_base.specs.declared.status.Status.{Status}
+use Rattle.command_base.specs.StackBytes.{LayerBytes, stack_in}
 use Rattle.resource_tool.specs.CheckOutput.{goals_asked, status_of_verdict, check_text}
 
 -- The bytes mean layers, a box and a certificate, and a verdict was printed, of which the headline holds: if the checker

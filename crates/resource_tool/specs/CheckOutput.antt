@@ -16,13 +16,13 @@ use Rattle.cert_checker.specs.Verdict.{IsVerdict}
 use Rattle.cert_checker.specs.Headline.{Headline}
 use Rattle.fault_text.specs.declared.fault.ToolFault.{ToolFault}
 use Rattle.fault_text.specs.ToolFault.{fault_of_box, fault_of_certificate}
-use Rattle.resource_text.specs.QueryText.{set_aside_line}
+use Rattle.answer_text.specs.QueryText.{set_aside_line}
 use Rattle.resource_text.specs.VerdictText.{verdict_text}
-use Rattle.resource_tool.specs.declared.status.Status.{Status}
-use Rattle.resource_tool.specs.declared.status.Status.TheVariants.{Done, Negative}
-use Rattle.resource_tool.specs.Output.{Output}
-use Rattle.resource_tool.specs.StackBytes.{LayerBytes, stack_in}
-use Rattle.resource_tool.specs.MapErr.{map_err}
+use Rattle.command_base.specs.declared.status.Status.{Status}
+use Rattle.command_base.specs.declared.status.Status.TheVariants.{Done, Negative}
+use Rattle.command_base.specs.Output.{Output}
+use Rattle.command_base.specs.StackBytes.{LayerBytes, stack_in}
+use Rattle.command_base.specs.MapErr.{map_err}
 
 -- ---- the inputs
 

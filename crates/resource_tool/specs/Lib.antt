@@ -1,16 +1,3 @@
-pub mod Input
-pub mod LayerList
-pub mod LayerListSeen
-pub mod MapErr
-pub mod StackBytes
-pub mod StackBytesSeen
-pub mod Output
-pub mod TableOutput
-pub mod EndStatus
-pub mod QueryOutput
-pub mod ExplainOutput
-pub mod BagOutput
-pub mod AttrOutput
 pub mod CheckOutput
 pub mod CheckHeadline
 pub mod CheckInputsSeen

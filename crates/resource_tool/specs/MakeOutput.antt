@@ -20,11 +20,11 @@ use Rattle.cert_maker.specs.Least.{IsLeast}
 use Rattle.fault_text.specs.declared.fault.ToolFault.{ToolFault}
 use Rattle.fault_text.specs.ToolFault.{fault_of_box}
 use Rattle.resource_text.specs.VerdictText.{device_with_end}
-use Rattle.resource_tool.specs.declared.status.Status.{Status}
-use Rattle.resource_tool.specs.declared.status.Status.TheVariants.{Done, Negative}
-use Rattle.resource_tool.specs.Output.{Output}
-use Rattle.resource_tool.specs.StackBytes.{LayerBytes, stack_in}
-use Rattle.resource_tool.specs.MapErr.{map_err}
+use Rattle.command_base.specs.declared.status.Status.{Status}
+use Rattle.command_base.specs.declared.status.Status.TheVariants.{Done, Negative}
+use Rattle.command_base.specs.Output.{Output}
+use Rattle.command_base.specs.StackBytes.{LayerBytes, stack_in}
+use Rattle.command_base.specs.MapErr.{map_err}
 use Rattle.resource_tool.specs.CheckOutput.{goals_asked}
 
 -- ---- the inputs

@@ -4,14 +4,14 @@ ghost use Rattle.std.specs.Prelude.{◌≡◌, map, Ok, IfOk};
 ghost use Rattle.contract_words.specs.Exact.{GivesOr};
 ghost use Rattle.contract_words.specs.Writes.{Writes};
 ghost use Rattle.fault_text.specs.declared.fault.ToolFault.TheVariants.{OutOfMemory};
-ghost use Rattle.resource_tool.specs.Output.{PrintsOneOf, IsOfInput};
-ghost use Rattle.resource_tool.specs.StackBytesSeen.{layer_bytes};
+ghost use Rattle.command_base.specs.Output.{PrintsOneOf, IsOfInput};
+ghost use Rattle.command_base.specs.StackBytesSeen.{layer_bytes};
 ghost use Rattle.resource_tool.specs.CheckOutput.{IsCheckOutput, check_inputs, check_text, status_of_verdict};
 ghost use Rattle.resource_tool.specs.CheckHeadline.{HeadlineHolds};
 
 use crate::goals::goals_asked;
-use crate::stack::open_stack;
-use crate::status::Status;
+use command_base::open_stack;
+use command_base::Status;
 use cert_checker::{Verdict, check};
 use cert_tree::Cert;
 use config_box::ConfigBox;

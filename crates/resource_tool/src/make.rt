@@ -3,14 +3,14 @@
 ghost use Rattle.std.specs.Prelude.{◌≡◌, ◌∷◌, ◌++◌, [], map, Ok, OnOk};
 ghost use Rattle.contract_words.specs.Writes.{Writes};
 ghost use Rattle.config_record.specs.DeviceSeen.{device_numbers};
-ghost use Rattle.resource_tool.specs.Output.{Prints, PrintsOneOf};
-ghost use Rattle.resource_tool.specs.StackBytesSeen.{layer_bytes};
+ghost use Rattle.command_base.specs.Output.{Prints, PrintsOneOf};
+ghost use Rattle.command_base.specs.StackBytesSeen.{layer_bytes};
 ghost use Rattle.resource_tool.specs.MakeOutput.{IsMakeOutput, make_inputs, counterexample_line, counterexample_text, status_of_made, made_output};
 ghost use Rattle.resource_tool.specs.LineReadsBack.{LineReadsBack};
 
 use crate::goals::goals_asked;
-use crate::stack::open_stack;
-use crate::status::Status;
+use command_base::open_stack;
+use command_base::Status;
 use cert_maker::{Made, Progress, Unwatched, make_watched};
 use config_box::ConfigBox;
 use config_record::Device;

@@ -1,9 +1,9 @@
 -- A command that is done on what was read.
 use Rattle.std.proofs.Common.{◌≡◌, Option, Some, None, IfSome, Result, Ok}
 use Rattle.fault_text.specs.declared.fault.ToolFault.{ToolFault}
-use Rattle.resource_tool.specs.declared.status.Status.{Status}
-use Rattle.restool.specs.Stop.{StopOf}
-use Rattle.restool.specs.Inputs.{Places}
+use Rattle.command_base.specs.declared.status.Status.{Status}
+use Rattle.program_run.specs.Stop.{StopOf}
+use Rattle.program_run.specs.Inputs.{Places}
 use Rattle.restool.specs.Answers.{CarriesOut}
 
 pub carried_out : {X : Type 0} (Command : X → Result Status ToolFault → Type 0) (known : Option Places) (meant : Places → Result X StopOf) (read : X) (status : Status)

@@ -1,4 +1,3 @@
 pub mod NodeLimits
-pub mod LayersLeft
 pub mod CarriedOut
 pub mod Written

@@ -8,22 +8,22 @@ use Rattle.std.specs.declared.alloc.Global.{Global}
 use Rattle.std.specs.declared.io.buffered.BufWriter.{BufWriter}
 use Rattle.fault_text.specs.declared.fault.ToolFault.{ToolFault}
 use Rattle.fault_text.specs.declared.fault.ToolFault.TheVariants.{Table, Layers, LayerTable, LayerMap, Device, Box, Certificate, OutOfMemory, Write}
-use Rattle.resource_tool.specs.declared.status.Status.{Status}
-use Rattle.resource_tool.specs.Output.{Output, Prints, PrintsOneOf}
-use Rattle.resource_tool.specs.TableOutput.{rows_output, dump_output}
-use Rattle.resource_tool.specs.QueryOutput.{query_output}
-use Rattle.resource_tool.specs.ExplainOutput.{explain_output}
-use Rattle.resource_tool.specs.BagOutput.{bag_output}
-use Rattle.resource_tool.specs.AttrOutput.{attr_output}
+use Rattle.command_base.specs.declared.status.Status.{Status}
+use Rattle.command_base.specs.Output.{Output, Prints, PrintsOneOf}
+use Rattle.table_commands.specs.TableOutput.{rows_output, dump_output}
+use Rattle.device_commands.specs.QueryOutput.{query_output}
+use Rattle.device_commands.specs.ExplainOutput.{explain_output}
+use Rattle.device_commands.specs.BagOutput.{bag_output}
+use Rattle.device_commands.specs.AttrOutput.{attr_output}
 use Rattle.resource_tool.specs.MakeOutput.{IsMakeOutput, make_inputs}
 use Rattle.resource_tool.specs.CheckOutput as check
 use Rattle.command_words.specs.declared.request.Request.{Request}
 use Rattle.command_words.specs.declared.request.Request.TheVariants.{Rows, Dump, OfDevice, OfBox}
 use Rattle.command_words.specs.declared.request.DeviceRequest.TheVariants.{Query, Explain, Bag, Attr}
 use Rattle.command_words.specs.declared.request.BoxRequest.TheVariants.{Make, Check}
-use Rattle.restool.specs.declared.stop.Stop.{Stop}
-use Rattle.restool.specs.Stop.{StopOf, stop_of, tool}
-use Rattle.restool.specs.Inputs.{Places, DeviceInputs, CheckInputs, table_of, device_files, check_files}
+use Rattle.program_run.specs.declared.stop.Stop.{Stop}
+use Rattle.program_run.specs.Stop.{StopOf, stop_of, tool}
+use Rattle.program_run.specs.Inputs.{Places, DeviceInputs, CheckInputs, table_of, device_files, check_files}
 use Rattle.restool.specs.Answers.{Answers, CarriesOut}
 
 -- Nothing is kept back before an answer. What was appended is not kept back any more, so it came to the writer behind.

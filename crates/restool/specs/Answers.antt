@@ -2,13 +2,13 @@
 use Rattle.std.specs.Prelude.{◌≡◌, ◌≢◌, ◌⊎◌, ℕ, List, Option, Result, Ok, Err}
 use Rattle.fault_text.specs.declared.fault.ToolFault.{ToolFault}
 use Rattle.fault_text.specs.declared.fault.ToolFault.TheVariants.{OutOfMemory}
-use Rattle.resource_tool.specs.declared.status.Status.{Status}
-use Rattle.resource_tool.specs.Output.{Prints, PrintsOneOf}
-use Rattle.resource_tool.specs.TableOutput.{rows_output, dump_output}
-use Rattle.resource_tool.specs.QueryOutput.{query_output}
-use Rattle.resource_tool.specs.ExplainOutput.{explain_output}
-use Rattle.resource_tool.specs.BagOutput.{bag_output}
-use Rattle.resource_tool.specs.AttrOutput.{attr_output}
+use Rattle.command_base.specs.declared.status.Status.{Status}
+use Rattle.command_base.specs.Output.{Prints, PrintsOneOf}
+use Rattle.table_commands.specs.TableOutput.{rows_output, dump_output}
+use Rattle.device_commands.specs.QueryOutput.{query_output}
+use Rattle.device_commands.specs.ExplainOutput.{explain_output}
+use Rattle.device_commands.specs.BagOutput.{bag_output}
+use Rattle.device_commands.specs.AttrOutput.{attr_output}
 use Rattle.resource_tool.specs.MakeOutput.{IsMakeOutput, make_inputs}
 use Rattle.resource_tool.specs.CheckOutput as check
 use Rattle.command_words.specs.declared.request.Request.{Request}
@@ -17,9 +17,9 @@ use Rattle.command_words.specs.declared.request.DeviceRequest.{DeviceRequest}
 use Rattle.command_words.specs.declared.request.DeviceRequest.TheVariants.{Query, Explain, Bag, Attr}
 use Rattle.command_words.specs.declared.request.BoxRequest.{BoxRequest}
 use Rattle.command_words.specs.declared.request.BoxRequest.TheVariants.{Make, Check}
-use Rattle.restool.specs.declared.stop.Stop.{Stop}
-use Rattle.restool.specs.Stop.{StopOf, stop_of, tool}
-use Rattle.restool.specs.Inputs.{Places, DeviceInputs, table_of, device_files, check_files}
+use Rattle.program_run.specs.declared.stop.Stop.{Stop}
+use Rattle.program_run.specs.Stop.{StopOf, stop_of, tool}
+use Rattle.program_run.specs.Inputs.{Places, DeviceInputs, table_of, device_files, check_files}
 
 -- A command is carried out on what is read: it is done as the command does it. A stop is why something is not read, or
 -- the command's fault. Where memory ran out, nothing is said.

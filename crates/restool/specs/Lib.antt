@@ -1,7 +1,2 @@
-pub mod ExitStatus
-pub mod Stop
-pub mod Place
-pub mod Inputs
-pub mod FilesSeen
 pub mod Answers
 pub mod Run

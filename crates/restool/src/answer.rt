@@ -2,17 +2,15 @@
 
 ghost use Rattle.std.specs.Prelude.{◌≡◌, ◌≢◌, IfErr, IfSome};
 ghost use Rattle.fault_text.specs.declared.fault.ToolFault.TheVariants.{Write};
-ghost use Rattle.resource_tool.specs.Output.{PrintsOneOf};
+ghost use Rattle.command_base.specs.Output.{PrintsOneOf};
 ghost use Rattle.resource_tool.specs.MakeOutput.{IsMakeOutput, make_inputs};
 ghost use Rattle.resource_tool.specs.CheckOutput.{IsCheckOutput, check_inputs};
 ghost use Rattle.restool.specs.Answers.{Answers, AnswersOfBox, AnswersOfDevice};
-ghost use Rattle.restool.specs.FilesSeen.{devices_held, layers_held};
-ghost use Rattle.restool.specs.Stop.{stop_of, tool};
+ghost use Rattle.program_run.specs.FilesSeen.{devices_held, layers_held};
+ghost use Rattle.program_run.specs.Stop.{stop_of, tool};
 
-use crate::files::{CheckFiles, DeviceFiles};
-use crate::input::{Inputs, table_bytes};
-use crate::stop::Stop;
 use command_words::{BoxRequest, DeviceRequest, Request};
+use program_run::{CheckFiles, DeviceFiles, Inputs, Stop, table_bytes};
 use res_value::ResId;
 use resource_tool::{
     Progress, Status, ToolFault, attr_bytes, bag_bytes, check_bytes, dump_bytes, explain_bytes,

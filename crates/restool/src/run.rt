@@ -5,16 +5,13 @@ ghost use Rattle.std.specs.Io.Buffered.{writer_buffer, writer_contents, writer_i
 ghost use Rattle.std.specs.Io.KnownBytes.{Keeps};
 ghost use Rattle.fault_text.specs.declared.fault.ToolFault.TheVariants.{Write};
 ghost use Rattle.restool.specs.Answers.{Answers};
-ghost use Rattle.restool.specs.Run.{EndsAs, Runs};
-ghost use Rattle.restool.specs.Stop.{stop_of, tool};
+ghost use Rattle.restool.specs.Run.{Runs};
+ghost use Rattle.program_run.specs.Stop.{stop_of, tool};
 
 use crate::answer::answer;
-use crate::input::Inputs;
-use crate::progress::ProgressLine;
-use crate::status::ExitStatus;
-use crate::stop::Stop;
 use command_words::{Request, read_words};
-use resource_tool::{Status, ToolFault, Unwatched};
+use program_run::{ExitStatus, Inputs, ProgressLine, Stop, end, written_out};
+use resource_tool::{Status, Unwatched};
 use std::alloc::Global;
 use std::io::{BufWriter, Write};
 use std::time::Clock;
@@ -64,21 +61,6 @@ pub fn run_words<I: Inputs, C: Clock, O: Write + Drop, E: Write + Drop>(
     }
 }
 
-/// Says why the program stops, if it does, and gives the exit status.
-pub fn end<O: Write + Drop, E: Write + Drop>(
-    outcome: Result<Status, Stop<'_>>,
-    out: &mut O,
-    errors: &mut E,
-) -> ExitStatus
-    ensures { EndsAs E.contents (record { out = out.old; errors = errors.old }) (record { out = out.new; errors = errors.new })
-        outcome.entry result }
-{
-    match outcome {
-        Ok(status) => ExitStatus::after_status(status),
-        Err(stop) => stop.tell(out, errors).status,
-    }
-}
-
 // Answers a request, and writes what was kept back of the output.
 fn carry_out<'a, I: Inputs, C: Clock, O: Write + Drop, E: Write>(
     alloc: Global,
@@ -120,27 +102,4 @@ fn answer_watched<'a, I: Inputs, C: Clock, O: Write + Drop, E: Write>(
     let answered = answer(alloc, inputs, request, &mut line, out);
     line.clear();
     answered
-}
-
-// Writes what is kept back of an answer, and hands the output back. Where there is none, or a write fails, nothing more
-// is written, as it would be if the writer was dropped.
-fn written_out<'a, O: Write + Drop>(
-    answered: Result<Status, Stop<'a>>,
-    mut out: BufWriter<O>,
-) -> (Result<Status, Stop<'a>>, O)
-    ensures whole { OnOk result.0 (Keeps (writer_contents O.contents out) (O.contents result.1)) }
-    ensures status { IfOk result.0 (λ status. answered.entry ≡ Ok status) }
-    ensures stop { IfErr answered.entry (λ stop. result.0 ≡ Err stop) }
-    ensures unwritten { IfErr answered.entry (λ stop. result.1 ≡ writer_inner out) }
-    ensures write { IsOk answered.entry → IfErr result.0 (λ stop. stop_of stop ≡ tool Write) }
-{
-    let written = match answered {
-        Ok(status) => match out.flush() {
-            Ok(()) => Ok(status),
-            Err(_) => Err(Stop::Tool(ToolFault::Write)),
-        },
-        Err(stop) => Err(stop),
-    };
-    let (out, _unwritten) = out.into_parts();
-    (written, out)
 }

@@ -1,7 +1,7 @@
-use Rattle.resource_tool.specs.Output.{PrintsOneOf}
+use Rattle.command_base.specs.Output.{PrintsOneOf}
 use Rattle.resource_tool.specs.MakeOutput.{IsMakeOutput, make_inputs}
-use Rattle.restool.specs.Inputs.{DeviceInputs, device_files}
-use Rattle.restool.specs.FilesSeen.{devices_held}
+use Rattle.program_run.specs.Inputs.{DeviceInputs, device_files}
+use Rattle.program_run.specs.FilesSeen.{devices_held}
 use Rattle.restool.proofs.CarriedOut.{carried_out}
 use Rattle.restool.proofs.answer.answer_of_box.Goals as goal
 

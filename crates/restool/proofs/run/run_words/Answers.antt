@@ -1,6 +1,6 @@
 use Rattle.std.proofs.Common.{Err, refl, inl, inr}
 use Rattle.std.specs.Io.Buffered.{writer_inner}
-use Rattle.restool.specs.declared.stop.Stop.TheVariants.{Words}
+use Rattle.program_run.specs.declared.stop.Stop.TheVariants.{Words}
 use Rattle.restool.proofs.run.run_words.Goals as goal
 
 pub returns-in-Ok : goal.returns-in-Ok

@@ -1,0 +1,13 @@
+use Rattle.std.proofs.Common.{drop}
+use Rattle.contract_words.proofs.TextSteps.{PutsAllBut}
+use Rattle.resource_table.specs.Package.{packages_of}
+use Rattle.answer_text.specs.LastTypeName.{KeepsNameIn}
+use Rattle.answer_text.specs.DumpText.{package_text}
+use Rattle.answer_text.proofs.dump.dump_text.Given as goal
+
+-- the lines of all packages were written but of those that are left
+abbrev pub invariant-loop-package : goal.invariant-loop-package
+invariant-loop-package g l = record {
+  keeps : KeepsNameIn l.table l.type_name;
+  texts : PutsAllBut (package_text l.table) (g.W.Write.contents l.fn.out) (g.W.Write.contents l.out) (packages_of l.packages) (packages_of (drop l.package-index l.packages));
+}

@@ -1,0 +1,50 @@
+-- The packages of a table and their rows as text, with names.
+use Rattle.std.specs.Prelude.{ℕ, List, [], ◌∷◌, ◌++◌, codes, Some}
+use Rattle.std.specs.List.{flat_map}
+use Rattle.hex.specs.Hex.{encode_lower}
+use Rattle.string_pool.specs.Pool.{PoolOf}
+use Rattle.string_pool.specs.Shown.{shown_text, string_text}
+use Rattle.res_value.specs.ResId.{id_text}
+use Rattle.res_value.specs.Word.{word_text}
+use Rattle.type_chunks.specs.Row.{RowOf}
+use Rattle.resource_table.specs.Package.{PackageOf}
+use Rattle.resource_table.specs.Table.{TableOf}
+use Rattle.resource_table.specs.Names.{type_name_in, key_name_in}
+use Rattle.answer_text.specs.CellText.{RowFormatOf, row_end_text}
+
+-- four spaces before the lines of a bag, and these strings
+unfoldable pub dump_format : PoolOf → RowFormatOf
+dump_format strings = record { indent = codes "    "; strings = Some strings }
+
+-- `package 0xKK`
+unfoldable pub package_id_text : ℕ → List ℕ
+package_id_text id = codes "package 0x" ++ encode_lower (id ∷ [])
+
+-- the line `package 0xKK NAME`
+unfoldable pub package_line : PackageOf → List ℕ
+package_line owner = package_id_text owner.header.id ++ codes " " ++ shown_text owner.header.name ++ 10 ∷ []
+
+-- `TYPE/KEY`
+unfoldable pub names_text : TableOf → RowOf → List ℕ
+names_text table row = string_text (type_name_in table row) ++ codes "/" ++ string_text (key_name_in table row)
+
+-- `  ID TYPE/KEY`
+unfoldable pub row_front_text : TableOf → RowOf → List ℕ
+row_front_text table row = codes "  " ++ id_text row.id ++ codes " " ++ names_text table row
+
+-- ` flags FLAGS`
+unfoldable pub flags_text : ℕ → List ℕ
+flags_text flags = codes " flags " ++ word_text flags
+
+-- the line `  ID TYPE/KEY flags FLAGS RECORD VALUE`, and those of a bag
+unfoldable pub row_text : TableOf → RowOf → List ℕ
+row_text table row =
+    row_front_text table row ++ flags_text row.flags ++ codes " " ++ row_end_text (dump_format table.strings) row
+
+-- the line of a package, and those of its rows in their order
+unfoldable pub package_text : TableOf → PackageOf → List ℕ
+package_text table owner = package_line owner ++ flat_map (row_text table) owner.rows
+
+-- the packages of a table, in the order of the file
+unfoldable pub dump_text : TableOf → List ℕ
+dump_text table = flat_map (package_text table) table.packages

@@ -1,0 +1,62 @@
+-- How an id comes to its end, as text: the candidates of each look-up, what each does there, and the end.
+use Rattle.std.specs.Prelude.{ℕ, List, [], ◌∷◌, ◌++◌, codes, Option, Some, None}
+use Rattle.std.specs.List.{flat_map, enumerate_from}
+use Rattle.std.specs.Fmt.{decimal}
+use Rattle.config_record.specs.Qualifiers.{record_text}
+use Rattle.overlay_map.specs.Layer.{LayerOf}
+use Rattle.reference_resolver.specs.declared.decision.Decision.{Decision}
+use Rattle.reference_resolver.specs.declared.decision.Decision.TheVariants.{SetAside, NoMatch, First, TookOver, TookOverEqual, KeptOut}
+use Rattle.reference_resolver.specs.Ends.{references_followed, end_of}
+use Rattle.reference_resolver.specs.Trace.{look_ups_of, TracedCandidateOf, traced, scan_look_up}
+use Rattle.fault_text.specs.NamedText.{named_id, named_coord, named_number}
+use Rattle.fault_text.specs.LayerText.{layer_text}
+use Rattle.answer_text.specs.EndText.{end_line}
+
+-- ---- a candidate
+
+-- ` Pn`, where a rule decided
+unfoldable pub rule_text : Option ℕ → List ℕ
+rule_text None = []
+rule_text (Some rule) = codes " P" ++ decimal rule
+
+unfoldable pub decision_text : Decision → List ℕ
+decision_text SetAside = codes "set aside"
+decision_text (NoMatch coord) = named_coord (codes "no match") coord
+decision_text First = codes "first"
+decision_text (TookOver rule) = codes "took over" ++ rule_text rule
+decision_text TookOverEqual = codes "took over equal"
+decision_text (KeptOut rule) = codes "kept out" ++ rule_text rule
+
+-- `candidate K layer L`
+unfoldable pub place_text : ℕ → ℕ → List ℕ
+place_text place layer = named_number (codes "candidate") place ++ codes " " ++ layer_text layer
+
+-- `RECORD DECISION`
+unfoldable pub traced_text : TracedCandidateOf → List ℕ
+traced_text traced = record_text traced.candidate.row.config ++ codes " " ++ decision_text traced.decision
+
+-- the line `candidate K layer L RECORD DECISION`
+unfoldable pub candidate_line : (ℕ × TracedCandidateOf) → List ℕ
+candidate_line numbered =
+    place_text numbered.0 numbered.1.candidate.layer ++ codes " " ++ traced_text numbered.1 ++ 10 ∷ []
+
+-- ---- a look-up
+
+-- the line `lookup ID`
+unfoldable pub look_up_line : ℕ → List ℕ
+look_up_line id = named_id (codes "lookup") id ++ 10 ∷ []
+
+-- the lines of candidates, which are counted from 0
+unfoldable pub candidate_lines : List TracedCandidateOf → List ℕ
+candidate_lines candidates = flat_map candidate_line (enumerate_from 0 candidates)
+
+unfoldable pub look_up_text : List LayerOf → List ℕ → ℕ → List ℕ
+look_up_text stack d id = look_up_line id ++ candidate_lines (scan_look_up traced stack d id)
+
+-- ---- all look-ups
+
+-- the lines of each look-up, also of one without candidates, and that of the end
+unfoldable pub explain_text : List LayerOf → ℕ → List ℕ → List ℕ
+explain_text stack id d =
+    flat_map (look_up_text stack d) (look_ups_of stack references_followed id d)
+    ++ end_line (end_of stack references_followed id d)

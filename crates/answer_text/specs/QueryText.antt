@@ -1,0 +1,27 @@
+-- Where ids end, as text.
+use Rattle.std.specs.Prelude.{ℕ, List, [], ◌∷◌, ◌++◌, codes, slice_get, Option, None}
+use Rattle.std.specs.Option.{option_map}
+use Rattle.std.specs.Fmt.{decimal}
+use Rattle.string_pool.specs.Pool.{PoolOf}
+use Rattle.res_value.specs.ResId.{id_text}
+use Rattle.overlay_map.specs.Layer.{LayerOf}
+use Rattle.reference_resolver.specs.declared.end.End.{End}
+use Rattle.reference_resolver.specs.declared.end.End.TheVariants as of_end
+use Rattle.answer_text.specs.EndText.{end_with_string}
+
+-- the strings that the values of a layer name: those of its own table
+abbrev pub strings_of_layer : List LayerOf → ℕ → Option PoolOf
+strings_of_layer stack place = option_map (λ layer. layer.table.strings) (slice_get stack place)
+
+-- those of the layer of an end's value
+abbrev pub strings_of_end : List LayerOf → End → Option PoolOf
+strings_of_end stack (of_end.Value layer value) = strings_of_layer stack layer
+strings_of_end stack end = None
+
+-- the line `ID END`; a string value is followed by its string
+unfoldable pub query_line : List LayerOf → ℕ → End → List ℕ
+query_line stack id end = id_text id ++ codes " " ++ end_with_string (strings_of_end stack end) end ++ 10 ∷ []
+
+-- the line `set-aside M`
+unfoldable pub set_aside_line : ℕ → List ℕ
+set_aside_line count = codes "set-aside " ++ decimal count ++ 10 ∷ []

@@ -1,0 +1,172 @@
+//! The packages of a table and their rows, written with names.
+
+ghost use Rattle.std.specs.List.{flat_map};
+ghost use Rattle.contract_words.specs.Writes.{Writes};
+ghost use Rattle.type_chunks.specs.Row.{row_of};
+ghost use Rattle.resource_table.specs.Package.{package_of};
+ghost use Rattle.answer_text.specs.LastTypeName.{KeepsNameIn};
+ghost use Rattle.answer_text.specs.DumpText.{package_id_text, package_line, names_text, row_front_text, flags_text, row_text, package_text, dump_text};
+
+use crate::cell::{RowFormat, write_row_end};
+use crate::last_record::LastRecord;
+use crate::last_type_name::LastTypeName;
+use crate::line::Line;
+use hex_text::write_hex;
+use res_value::{write_id, write_word};
+use resource_table::{Package, PackageRows, Table};
+use std::io::{self, Write};
+use string_pool::write_string;
+use type_chunks::Row;
+
+/// Writes a line for each package of a table, in the order of the file, and behind it one for each of
+/// its rows with the names of its type and entry, with the lines of its bag. A string value is
+/// followed by its string.
+#[tactic(auto, using(contract_words::proofs::TextSteps::puts_slice), unfolding(crate::specs::DumpText::dump_text))]
+pub fn dump_text<W: Write + Drop>(table: &Table<'_>, out: &mut W) -> io::Result<()>
+    ensures { Writes W.contents out.old out.new result (dump_text table.now) }
+{
+    let mut records = LastRecord::none();
+    let mut type_name = LastTypeName::none();
+    let packages = table.packages();
+    for package in packages {
+        write_package(table, package, &mut records, &mut type_name, out)?;
+    }
+    Ok(())
+}
+
+#[tactic(auto, unfolding(crate::specs::DumpText::package_text))]
+fn write_package<'a, W: Write + Drop>(
+    table: &Table<'_>,
+    owner: &Package<'a>,
+    records: &mut LastRecord<'a>,
+    type_name: &mut LastTypeName,
+    out: &mut W,
+) -> io::Result<()>
+    requires { KeepsNameIn table.now type_name.old }
+    ensures text { Writes W.contents out.old out.new result (package_text table.now (package_of owner.now)) }
+    ensures keeps { KeepsNameIn table.now type_name.new }
+{
+    write_package_line(owner, out)?;
+    write_rows(table, owner.rows(), records, type_name, out)
+}
+
+#[tactic(auto, unfolding(crate::specs::DumpText::package_line))]
+fn write_package_line<W: Write + Drop>(owner: &Package<'_>, out: &mut W) -> io::Result<()>
+    ensures { Writes W.contents out.old out.new result (package_line (package_of owner.now)) }
+{
+    write_package_id(owner.id(), out)?;
+    out.write_all(b" ")?;
+    owner.name().write_shown(out)?;
+    out.write_all(b"\n")
+}
+
+#[tactic(auto, unfolding(crate::specs::DumpText::package_id_text))]
+fn write_package_id<W: Write + Drop>(id: u8, out: &mut W) -> io::Result<()>
+    ensures { Writes W.contents out.old out.new result (package_id_text id) }
+{
+    out.write_all(b"package 0x")?;
+    write_hex(&[id], out)
+}
+
+#[tactic(auto, using(contract_words::proofs::TextSteps::puts))]
+fn write_rows<'a, W: Write + Drop>(
+    table: &Table<'_>,
+    rows: PackageRows<'_, 'a>,
+    records: &mut LastRecord<'a>,
+    type_name: &mut LastTypeName,
+    out: &mut W,
+) -> io::Result<()>
+    requires { KeepsNameIn table.now type_name.old }
+    ensures text { Writes W.contents out.old out.new result (flat_map (row_text table.now) rows.entry) }
+    ensures keeps { KeepsNameIn table.now type_name.new }
+{
+    let mut line = Line::new();
+    for row in rows {
+        write_in_one_piece(table, &row, records, type_name, &mut line, out)?;
+    }
+    Ok(())
+}
+
+// Writes a row and its bag. What is short is put together in `line` first, since a writer takes one piece faster
+// than many.
+fn write_in_one_piece<'a, W: Write + Drop>(
+    table: &Table<'_>,
+    row: &Row<'a>,
+    records: &mut LastRecord<'a>,
+    type_name: &mut LastTypeName,
+    line: &mut Line,
+    out: &mut W,
+) -> io::Result<()>
+    requires { KeepsNameIn table.now type_name.old }
+    ensures text { Writes W.contents out.old out.new result (row_text table.now (row_of row.now)) }
+    ensures keeps { KeepsNameIn table.now type_name.new }
+{
+    line.clear();
+    match write_row(table, row, records, type_name, line) {
+        Ok(()) => out.write_all(line.text()),
+        Err(_) => write_row(table, row, records, type_name, out),
+    }
+}
+
+#[tactic(auto, unfolding(crate::specs::DumpText::row_text, crate::specs::DumpText::dump_format))]
+fn write_row<'a, W: Write + Drop>(
+    table: &Table<'_>,
+    row: &Row<'a>,
+    records: &mut LastRecord<'a>,
+    type_name: &mut LastTypeName,
+    out: &mut W,
+) -> io::Result<()>
+    requires { KeepsNameIn table.now type_name.old }
+    ensures text { Writes W.contents out.old out.new result (row_text table.now (row_of row.now)) }
+    ensures keeps { KeepsNameIn table.now type_name.new }
+{
+    let format = RowFormat {
+        indent: "    ",
+        strings: Some(table.strings()),
+    };
+    write_row_front(table, row, type_name, out)?;
+    write_flags(row.flags, out)?;
+    out.write_all(b" ")?;
+    write_row_end(format, row, records, out)
+}
+
+#[tactic(auto, unfolding(crate::specs::DumpText::row_front_text))]
+fn write_row_front<W: Write + Drop>(
+    table: &Table<'_>,
+    row: &Row<'_>,
+    type_name: &mut LastTypeName,
+    out: &mut W,
+) -> io::Result<()>
+    requires { KeepsNameIn table.now type_name.old }
+    ensures text { Writes W.contents out.old out.new result (row_front_text table.now (row_of row.now)) }
+    ensures keeps { KeepsNameIn table.now type_name.new }
+{
+    out.write_all(b"  ")?;
+    write_id(row.id, out)?;
+    out.write_all(b" ")?;
+    write_names(table, row, type_name, out)
+}
+
+#[tactic(auto, unfolding(crate::specs::DumpText::flags_text))]
+fn write_flags<W: Write + Drop>(flags: u32, out: &mut W) -> io::Result<()>
+    ensures { Writes W.contents out.old out.new result (flags_text flags) }
+{
+    out.write_all(b" flags ")?;
+    write_word(flags, out)
+}
+
+#[tactic(auto, unfolding(crate::specs::DumpText::names_text))]
+fn write_names<W: Write + Drop>(
+    table: &Table<'_>,
+    row: &Row<'_>,
+    type_name: &mut LastTypeName,
+    out: &mut W,
+) -> io::Result<()>
+    requires { KeepsNameIn table.now type_name.old }
+    ensures text { Writes W.contents out.old out.new result (names_text table.now (row_of row.now)) }
+    ensures keeps { KeepsNameIn table.now type_name.new }
+{
+    type_name.write(table, row, out)?;
+    out.write_all(b"/")?;
+    write_string(table.key_name(row), out)
+}

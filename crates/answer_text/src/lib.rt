@@ -1,0 +1,34 @@
+//! The lines that commands print of rows, ends and explanations, written straight to a writer.
+//!
+//! For the crates above: what each call appends is the one text of its value, as `specs/` define it,
+//! and nothing else; the only error is the writer's.
+//!
+//! ```text
+//! rows_text(&table, &mut out)?; // row 0x7f010000 [] decimal 5
+//!                               // rows 1 set-aside 0
+//! dump_text(&table, &mut out)?; // package 0x7f "app"
+//!                               //   0x7f010000 "integer"/"five" flags 0x00000000 [] decimal 5
+//! end_text(end, &mut out)?; // value layer 0 decimal 5
+//! explain(&stack, id, &device, &mut out)?; // lookup 0x7f010000
+//!                                          // candidate 0 layer 0 [] first
+//!                                          // candidate 1 layer 0 [sdk=21] took over P22
+//!                                          // end value layer 0 decimal 5
+//! ```
+#![tactic(auto)]
+
+mod cell;
+mod decision;
+mod dump;
+mod end;
+mod explanation;
+mod last_record;
+mod last_type_name;
+mod line;
+mod query;
+mod rows;
+
+pub use dump::dump_text;
+pub use end::{end_text, write_end_line};
+pub use explanation::explain;
+pub use query::{query_line, set_aside_line};
+pub use rows::rows_text;

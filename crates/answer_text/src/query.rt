@@ -1,0 +1,59 @@
+//! Where ids end, written.
+
+ghost use Rattle.std.specs.Prelude.{◌≡◌};
+ghost use Rattle.std.specs.Option.{option_map};
+ghost use Rattle.contract_words.specs.Writes.{Writes};
+ghost use Rattle.string_pool.specs.Pool.{pool_of};
+ghost use Rattle.answer_text.specs.QueryText.{strings_of_layer, strings_of_end, query_line, set_aside_line};
+
+use crate::end::write_end_with_string;
+use overlay_map::Stack;
+use reference_resolver::End;
+use res_value::{ResId, write_id};
+use std::io::{self, Write};
+use string_pool::Pool;
+
+/// Writes the line of an id with its end. A string value is followed by its string, which is one of the
+/// table of its layer.
+#[tactic(auto, unfolding(crate::specs::QueryText::query_line))]
+pub fn query_line<W: Write + Drop>(
+    stack: &Stack<'_>,
+    id: ResId,
+    end: End,
+    out: &mut W,
+) -> io::Result<()>
+    ensures { Writes W.contents out.old out.new result (query_line stack.now id.0 end) }
+{
+    let strings = strings_of_end(stack, end);
+    write_id(id, out)?;
+    out.write_all(b" ")?;
+    write_end_with_string(strings, end, out)?;
+    out.write_all(b"\n")
+}
+
+/// Writes the line with the number of rows of all layers that are set aside.
+#[tactic(auto, unfolding(crate::specs::QueryText::set_aside_line))]
+pub fn set_aside_line<W: Write + Drop>(count: u128, out: &mut W) -> io::Result<()>
+    ensures { Writes W.contents out.old out.new result (set_aside_line count) }
+{
+    writeln!(out, "set-aside {count}")
+}
+
+// The strings of the layer that an end's value is of.
+fn strings_of_end<'a>(stack: &Stack<'a>, end: End) -> Option<Pool<'a>>
+    ensures { option_map pool_of result ≡ strings_of_end stack.now end }
+{
+    match end {
+        End::Value { layer, .. } => strings_of_layer(stack, layer),
+        _ => None,
+    }
+}
+
+fn strings_of_layer<'a>(stack: &Stack<'a>, layer: usize) -> Option<Pool<'a>>
+    ensures { option_map pool_of result ≡ strings_of_layer stack.now layer }
+{
+    match stack.layer_table(layer) {
+        Some(table) => Some(table.strings()),
+        None => None,
+    }
+}

@@ -1,0 +1,2 @@
+pub mod LayerSteps
+pub mod StackSteps

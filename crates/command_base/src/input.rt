@@ -1,0 +1,76 @@
+//! Inputs of bounded length.
+
+ghost use Rattle.std.specs.Prelude.{◌≡◌, ◌<◌, ◌≤◌, vec_len, OnOk, IfOk, IfSome, IfErr, IsErrOf};
+ghost use Rattle.std.specs.Io.KnownBytes.{IsAtEnd};
+ghost use Rattle.command_base.specs.Input.{Gave};
+ghost use Rattle.command_base.specs.declared.input.InputFault.TheVariants.{OutOfMemory};
+
+use std::alloc::{AllocError, Global};
+use std::io::{self, ErrorKind, Read};
+use thiserror::Error;
+
+/// How many bytes are asked for in one read.
+const PIECE_SIZE: usize = 16_384;
+
+/// How many bytes there is room for at first. The C library gives so much in pages of its own, which take memory once
+/// they are written and are moved when more is needed; smaller rooms would stay with the process once outgrown.
+const FIRST_ROOM: usize = 1_048_576;
+
+/// Why an input was not read.
+#[derive(Clone, Copy, Debug, PartialEq, Eq, Error)]
+pub enum InputFault {
+    /// A read failed, or the end did not come within the reads that are made at most.
+    #[error("Read")]
+    Read,
+    /// More bytes came than the limit.
+    #[error("TooLarge")]
+    TooLarge,
+    #[error("OutOfMemory")]
+    OutOfMemory,
+}
+
+impl From<AllocError> for InputFault {
+    ghost from_gives = { λ _ e. e ≡ OutOfMemory };
+
+    fn from(_error: AllocError) -> InputFault {
+        InputFault::OutOfMemory
+    }
+}
+
+/// All bytes that a reader gives up to its end, `limit` bytes at most. At most `limit + 1` reads are
+/// made; one that was interrupted is made again, and counts.
+pub fn read_input<R: Read>(
+    alloc: Global,
+    reader: &mut R,
+    limit: usize,
+) -> Result<Vec<u8>, InputFault>
+    ensures whole { IfOk result (λ input. IfSome (R.remaining reader.old) (λ bytes. input.items ≡ bytes)) }
+    ensures end { OnOk result (IsAtEnd (R.remaining reader.new)) }
+    ensures within { IfOk result (λ input. vec_len input ≤ limit) }
+    ensures too_large { IsErrOf result InputFault.TooLarge
+        → Gave (R.remaining reader.old) (R.remaining reader.new) (λ count. limit < count) }
+    ensures read { IsErrOf result InputFault.Read
+        → Gave (R.remaining reader.old) (R.remaining reader.new) (λ count. count ≤ limit) }
+{
+    let mut input = Vec::with_capacity(alloc, FIRST_ROOM)?;
+    let mut piece = [0; PIECE_SIZE];
+    for _ in 0..=limit {
+        match reader.read(&mut piece) {
+            Ok(0) => return Ok(input),
+            Ok(count) if count > limit - input.len() => return Err(InputFault::TooLarge),
+            Ok(count) => input.extend_from_slice(&piece[..count])?,
+            Err(error) => check_interrupted(&error)?,
+        }
+    }
+    Err(InputFault::Read)
+}
+
+// Whether a read was interrupted, which is then made again. Any other error ends the reading.
+fn check_interrupted(error: &io::Error) -> Result<(), InputFault>
+    ensures { IfErr result (λ fault. fault ≡ InputFault.Read) }
+{
+    match error.kind() {
+        ErrorKind::Interrupted => Ok(()),
+        _ => Err(InputFault::Read),
+    }
+}

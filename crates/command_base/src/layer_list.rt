@@ -1,0 +1,159 @@
+//! Lists of layers: which files the layers of a stack are.
+
+ghost use Rattle.std.specs.Prelude.{◌≡◌, map, length, nat_lt, None, Some, IfOk, IfErr, OnErr};
+ghost use Rattle.contract_words.specs.Faults.{refuse};
+ghost use Rattle.contract_words.specs.Exact.{GivesOr};
+ghost use Rattle.contract_words.specs.FillsIn.{FillsIn};
+ghost use Rattle.serde_json.specs.Find.{as_array};
+ghost use Rattle.serde_json.specs.View.{items_view, view};
+ghost use Rattle.json_input.specs.Each.{each};
+ghost use Rattle.overlay_map.specs.Layer.{most_layers};
+ghost use Rattle.fault_text.specs.declared.layers_fault.LayersFault.TheVariants.{Shape, TooManyLayers, OutOfMemory};
+ghost use Rattle.command_base.specs.LayerList.{table_path, map_path, layer_paths_in, layers_in_value};
+ghost use Rattle.command_base.specs.LayerListSeen.{path_seen, optional_path_seen, lent_paths_of, lent_paths_seen, paths_of, all_paths_of, listed};
+
+use fault_text::LayersFault;
+use json_input::{has_only, read_value};
+use overlay_map::MOST_LAYERS;
+use serde_json::Value;
+use std::alloc::{AllocError, Global};
+
+/// The name of the member that has the path of a layer's table.
+const TABLE: &str = "table";
+
+/// The name of the member that has the path of an overlay's id map.
+const MAP: &str = "map";
+
+/// The files of a stack's layers, the later over the earlier. Any text is a path.
+#[derive(Drop)]
+pub struct LayerList {
+    /// The path of each layer's table and, at an overlay, of its id map.
+    pub paths: Vec<(String, Option<String>)>,
+}
+
+impl LayerList {
+    ghost use Rattle.command_base.specs.LayerList.{layers_in};
+
+    /// The layers of a JSON text: a list of at most 64 objects, each with the path of a table and, at an
+    /// overlay, that of its id map.
+    pub fn read(alloc: Global, json: &[u8]) -> Result<LayerList, LayersFault>
+        ensures { GivesOr OutOfMemory listed result (layers_in json.now) }
+    {
+        let value = read_value(alloc, json)?;
+        read_list(alloc, &value)
+    }
+}
+
+#[tactic(auto, unfolding(crate::specs::LayerList::layers_in_value))]
+fn read_list<'v>(alloc: Global, value: &'v Value) -> Result<LayerList, LayersFault>
+    ensures { GivesOr OutOfMemory listed result (layers_in_value (view value.now)) }
+{
+    let items = items_of(value)?;
+    let mut layers: Vec<(&'v str, Option<&'v str>)> = vec![in alloc; ("", None); items.len()]?;
+    fill_layers(items, &mut layers)?;
+    check_count(layers.len())?;
+    let paths = owned_paths(alloc, &layers)?;
+    Ok(LayerList { paths })
+}
+
+// The items of a value that is a list.
+fn items_of(value: &Value) -> Result<&Vec<Value>, LayersFault>
+    ensures list { IfOk result (λ items. Some (items_view items.now.items) ≡ as_array (view value.now)) }
+    ensures no_list { OnErr result (as_array (view value.now) ≡ None) }
+    ensures fault { IfErr result (λ fault. fault ≡ Shape) }
+{
+    match value.as_array() {
+        Some(items) => Ok(items),
+        None => Err(LayersFault::Shape),
+    }
+}
+
+// Whether there may be so many layers.
+fn check_count(count: usize) -> Result<(), LayersFault>
+    ensures { result ≡ refuse (nat_lt most_layers count) TooManyLayers }
+{
+    if count > MOST_LAYERS {
+        Err(LayersFault::TooManyLayers)
+    } else {
+        Ok(())
+    }
+}
+
+// Fills in the paths of each layer.
+fn fill_layers<'v>(
+    items: &'v [Value],
+    layers: &mut [(&'v str, Option<&'v str>)],
+) -> Result<(), LayersFault>
+    requires { length layers.old ≡ length items.now }
+    ensures { FillsIn (map lent_paths_of layers.new) result (each layer_paths_in (map view items.now)) }
+{
+    for (place, item) in items.iter().enumerate() {
+        layers[place] = layer_paths(item)?;
+    }
+    Ok(())
+}
+
+// The paths of one layer.
+#[tactic(auto, unfolding(crate::specs::LayerList::layer_paths_in))]
+fn layer_paths(value: &Value) -> Result<(&str, Option<&str>), LayersFault>
+    ensures { lent_paths_seen result ≡ layer_paths_in (view value.now) }
+{
+    if !has_only(value, &[TABLE, MAP]) {
+        return Err(LayersFault::Shape);
+    }
+    let table = table_path(value)?;
+    let map = map_path(value)?;
+    Ok((table, map))
+}
+
+fn owned_paths<'v>(
+    alloc: Global,
+    layers: &[(&'v str, Option<&'v str>)],
+) -> Result<Vec<(String, Option<String>)>, AllocError>
+    ensures { IfOk result (λ paths. all_paths_of paths ≡ map lent_paths_of layers.now) }
+{
+    let mut paths = Vec::new(alloc);
+    for (table, map) in layers {
+        let layer = owned_layer(alloc, table, *map)?;
+        paths.push(layer)?;
+    }
+    Ok(paths)
+}
+
+fn owned_layer(
+    alloc: Global,
+    table: &str,
+    map: Option<&str>,
+) -> Result<(String, Option<String>), AllocError>
+    ensures { IfOk result (λ paths. paths_of paths ≡ lent_paths_of (table.entry, map.entry)) }
+{
+    let table = String::from_str(alloc, table)?;
+    match map {
+        Some(map) => Ok((table, Some(String::from_str(alloc, map)?))),
+        None => Ok((table, None)),
+    }
+}
+
+#[tactic(auto, unfolding(crate::specs::LayerList::table_path))]
+fn table_path(value: &Value) -> Result<&str, LayersFault>
+    ensures { path_seen result ≡ table_path (view value.now) }
+{
+    match value.get(TABLE) {
+        Some(path) => path.as_str().ok_or(LayersFault::Shape),
+        None => Err(LayersFault::Shape),
+    }
+}
+
+// The path of the id map, None at a base.
+#[tactic(auto, unfolding(crate::specs::LayerList::map_path))]
+fn map_path(value: &Value) -> Result<Option<&str>, LayersFault>
+    ensures { optional_path_seen result ≡ map_path (view value.now) }
+{
+    match value.get(MAP) {
+        Some(path) => match path.as_str() {
+            Some(path) => Ok(Some(path)),
+            None => Err(LayersFault::Shape),
+        },
+        None => Ok(None),
+    }
+}

@@ -1,0 +1,131 @@
+//! Stacks of layers, opened from bytes.
+
+ghost use Rattle.std.specs.Prelude.{◌≡◌, ◌<◌, ◌≤◌, ◌∷◌, ◌++◌, [], map, length, Ok};
+ghost use Rattle.std.specs.Option.{option_map};
+ghost use Rattle.contract_words.specs.Exact.{GivesOr};
+ghost use Rattle.overlay_map.specs.Layer.{most_layers};
+ghost use Rattle.fault_text.specs.declared.fault.ToolFault.TheVariants.{OutOfMemory};
+ghost use Rattle.fault_text.specs.ToolFault.{fault_of_layer_table, fault_of_layer_map};
+ghost use Rattle.command_base.specs.MapErr.{map_err};
+ghost use Rattle.command_base.specs.Output.{IsOfInput};
+ghost use Rattle.command_base.specs.StackBytes.{table_of_layer, map_of_layer, layer_in, layers_from, stack_in};
+ghost use Rattle.command_base.specs.StackBytesSeen.{layer_bytes, with_layer};
+
+use fault_text::{LayersFault, ToolFault};
+use overlay_map::{IdMap, MOST_LAYERS, MapFault, Stack};
+use resource_table::Table;
+use std::alloc::Global;
+use type_chunks::TableFault;
+
+/// The stack of layers of which each is the bytes of a table and, at an overlay, those of an id map. More
+/// than 64 are refused before any is read; then each table is read and, behind it, its map.
+#[tactic(auto, unfolding(crate::specs::StackBytes::stack_in))]
+pub fn open_stack<'a>(
+    alloc: Global,
+    layers: &[(&'a [u8], Option<&[u8]>)],
+) -> Result<Stack<'a>, ToolFault>
+    ensures value { GivesOr OutOfMemory (λ stack. stack) result (stack_in (map layer_bytes layers.now)) }
+    ensures of_input { IsOfInput result }
+{
+    if layers.len() > MOST_LAYERS {
+        return Err(ToolFault::Layers(LayersFault::TooManyLayers));
+    }
+    open_layers(alloc, layers)
+}
+
+#[tactic(auto, using(crate::proofs::StackSteps::stack_steps))]
+fn open_layers<'a>(
+    alloc: Global,
+    layers: &[(&'a [u8], Option<&[u8]>)],
+) -> Result<Stack<'a>, ToolFault>
+    requires { length layers.now ≤ most_layers }
+    ensures value { GivesOr OutOfMemory (λ stack. stack) result (layers_from 0 (map layer_bytes layers.now)) }
+    ensures of_input { IsOfInput result }
+{
+    let mut stack = Stack::new(alloc);
+    for layer in layers {
+        push_layer(alloc, *layer, &mut stack)?;
+    }
+    Ok(stack)
+}
+
+// Reads a layer and pushes it onto the stack.
+#[tactic(auto, unfolding(crate::specs::StackBytes::layer_in))]
+fn push_layer<'a>(
+    alloc: Global,
+    layer: (&'a [u8], Option<&[u8]>),
+    stack: &mut Stack<'a>,
+) -> Result<(), ToolFault>
+    requires { length stack.old < most_layers }
+    ensures value { GivesOr OutOfMemory (λ _. stack.new) result
+        (with_layer stack.old (layer_in (length stack.old) (layer_bytes layer.entry))) }
+    ensures of_input { IsOfInput result }
+{
+    let place = stack.len();
+    let (table, json) = layer;
+    let table = open_table(alloc, place, table)?;
+    let map = read_map(alloc, place, json)?;
+    push(table, map, stack)
+}
+
+// The table of the layer at a place.
+fn open_table(alloc: Global, layer: usize, bytes: &[u8]) -> Result<Table<'_>, ToolFault>
+    ensures value { GivesOr OutOfMemory (λ table. table) result (table_of_layer layer bytes.now) }
+    ensures of_input { IsOfInput result }
+{
+    layer_table(layer, Table::open(alloc, bytes))
+}
+
+// The table that was read for the layer at a place.
+fn layer_table<'a>(
+    layer: usize,
+    read: Result<Table<'a>, TableFault>,
+) -> Result<Table<'a>, ToolFault>
+    ensures { result ≡ map_err (fault_of_layer_table layer) read.entry }
+{
+    match read {
+        Ok(table) => Ok(table),
+        Err(fault) => Err(ToolFault::of_layer_table(layer, fault)),
+    }
+}
+
+// The id map of the layer at a place, None at a base.
+fn read_map(alloc: Global, layer: usize, json: Option<&[u8]>) -> Result<Option<IdMap>, ToolFault>
+    ensures value { GivesOr OutOfMemory (λ map. map) result (map_of_layer layer (option_map (λ bytes. bytes.now) json.entry)) }
+    ensures of_input { IsOfInput result }
+{
+    let Some(json) = json else {
+        return Ok(None);
+    };
+    let map = layer_map(layer, IdMap::read(alloc, json))?;
+    Ok(Some(map))
+}
+
+// The id map that was read for the layer at a place.
+fn layer_map(layer: usize, read: Result<IdMap, MapFault>) -> Result<IdMap, ToolFault>
+    ensures { result ≡ map_err (fault_of_layer_map layer) read }
+{
+    match read {
+        Ok(map) => Ok(map),
+        Err(fault) => Err(ToolFault::of_layer_map(layer, fault)),
+    }
+}
+
+// Pushes a table as an overlay with its id map or, without one, as a base.
+fn push<'a>(table: Table<'a>, map: Option<IdMap>, stack: &mut Stack<'a>) -> Result<(), ToolFault>
+    requires { length stack.old < most_layers }
+    ensures value { GivesOr OutOfMemory (λ _. stack.new) result
+        (Ok (stack.old ++ record { table = table.entry; map = map } ∷ [])) }
+    ensures of_input { IsOfInput result }
+{
+    match map {
+        Some(map) => match stack.push_overlay(table, map) {
+            Ok(()) => Ok(()),
+            Err((fault, _, _)) => Err(ToolFault::from(fault)),
+        },
+        None => match stack.push_base(table) {
+            Ok(()) => Ok(()),
+            Err((fault, _)) => Err(ToolFault::from(fault)),
+        },
+    }
+}

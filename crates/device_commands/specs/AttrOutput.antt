@@ -1,0 +1,41 @@
+-- What the command `attr` prints.
+use Rattle.std.specs.Prelude.{ℕ, Bool, List, [], ◌∷◌, ◌++◌, codes, Result, Ok, Err}
+use Rattle.contract_words.specs.Faults.{◌>>=◌}
+use Rattle.res_value.specs.declared.res_id.ResId.{ResId}
+use Rattle.res_value.specs.ResId.{id_text}
+use Rattle.config_record.specs.DeviceJson.{device_in_json}
+use Rattle.overlay_map.specs.Layer.{LayerOf}
+use Rattle.reference_resolver.specs.declared.end.End.{End}
+use Rattle.bags_themes.specs.declared.bag_fault.BagFault.{BagFault}
+use Rattle.bags_themes.specs.Theme.{AttributeValues, unset}
+use Rattle.bags_themes.specs.Styles.{values_after_styles}
+use Rattle.bags_themes.specs.Attribute.{attribute_of}
+use Rattle.fault_text.specs.declared.fault.ToolFault.{ToolFault}
+use Rattle.fault_text.specs.ToolFault.{fault_of_device}
+use Rattle.answer_text.specs.EndText.{end_text}
+use Rattle.command_base.specs.Output.{Output}
+use Rattle.command_base.specs.StackBytes.{LayerBytes, stack_in}
+use Rattle.command_base.specs.MapErr.{map_err}
+use Rattle.device_commands.specs.EndStatus.{status_of_end}
+use Rattle.device_commands.specs.BagOutput.{no_bag}
+
+-- the line `ID END`
+unfoldable pub attribute_line : ℕ → End → List ℕ
+attribute_line attr end = id_text attr ++ codes " " ++ end_text end ++ 10 ∷ []
+
+-- it is done where the end is not absent and not too long
+abbrev pub end_output : ℕ → End → Output
+end_output attr end = record { status = status_of_end end; text = attribute_line attr end }
+
+-- where an attribute ends after styles, or why the first of them that is no bag, or has too many parents, is refused
+abbrev pub attr_answer : List LayerOf → ℕ → List ℕ → Result AttributeValues BagFault → Output
+attr_answer stack attr d (Ok values) = end_output attr (attribute_of stack values attr d)
+attr_answer stack attr d (Err fault) = no_bag fault
+
+-- What `attr` prints of these layers, a device's text, an attribute and styles that are applied to nothing in
+-- their order, with or without force. The layers are read before the device.
+unfoldable pub attr_output : List LayerBytes → List ℕ → ℕ → List ResId → Bool → Result Output ToolFault
+attr_output layers device_json attr styles force = do
+  stack ← stack_in layers
+  device ← map_err fault_of_device (device_in_json device_json)
+  Ok (attr_answer stack attr device (values_after_styles stack force styles unset device))

@@ -1,0 +1,52 @@
+-- What the command `bag` prints.
+use Rattle.std.specs.Prelude.{ℕ, List, [], ◌∷◌, ◌++◌, codes, Result, Ok, Err}
+use Rattle.std.specs.List.{flat_map}
+use Rattle.contract_words.specs.Faults.{◌>>=◌}
+use Rattle.res_value.specs.ResId.{id_text}
+use Rattle.res_value.specs.ValueText.{value_text}
+use Rattle.config_record.specs.DeviceJson.{device_in_json}
+use Rattle.bags_themes.specs.declared.bag_row.BagRow.{BagRow}
+use Rattle.bags_themes.specs.declared.bag_fault.BagFault.{BagFault}
+use Rattle.bags_themes.specs.declared.bag_fault.BagFault.TheVariants as of_bag
+use Rattle.bags_themes.specs.Bag.{bag_of}
+use Rattle.fault_text.specs.declared.fault.ToolFault.{ToolFault}
+use Rattle.fault_text.specs.ToolFault.{fault_of_device}
+use Rattle.fault_text.specs.LayerText.{layer_text}
+use Rattle.command_base.specs.declared.status.Status.TheVariants.{Done, Negative}
+use Rattle.command_base.specs.Output.{Output}
+use Rattle.command_base.specs.StackBytes.{LayerBytes, stack_in}
+use Rattle.command_base.specs.MapErr.{map_err}
+
+-- `NAME layer L`
+unfoldable pub name_and_layer : ℕ → ℕ → List ℕ
+name_and_layer name layer = id_text name ++ codes " " ++ layer_text layer
+
+-- the line of a row, `NAME layer L VALUE`
+unfoldable pub bag_row_line : BagRow → List ℕ
+bag_row_line row = name_and_layer row.name.0 row.layer ++ codes " " ++ value_text row.value ++ 10 ∷ []
+
+-- the line `no bag FAULT`
+unfoldable pub no_bag_line : List ℕ → List ℕ
+no_bag_line fault = codes "no bag " ++ fault ++ 10 ∷ []
+
+-- why there is no bag; want of memory is the command's own fault and has no line
+abbrev pub reason_of : BagFault → List ℕ
+reason_of of_bag.Absent = no_bag_line (codes "Absent")
+reason_of of_bag.Plain = no_bag_line (codes "Plain")
+reason_of of_bag.BagDepth = no_bag_line (codes "BagDepth")
+reason_of of_bag.OutOfMemory = []
+
+abbrev pub no_bag : BagFault → Output
+no_bag fault = record { status = Negative; text = reason_of fault }
+
+-- a line for each row, or why there are none
+abbrev pub bag_answer : Result (List BagRow) BagFault → Output
+bag_answer (Ok rows) = record { status = Done; text = flat_map bag_row_line rows }
+bag_answer (Err fault) = no_bag fault
+
+-- What `bag` prints of these layers, a device's text and this id. The layers are read before the device.
+unfoldable pub bag_output : List LayerBytes → List ℕ → ℕ → Result Output ToolFault
+bag_output layers device_json id = do
+  stack ← stack_in layers
+  device ← map_err fault_of_device (device_in_json device_json)
+  Ok (bag_answer (bag_of stack id device))

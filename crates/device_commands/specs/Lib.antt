@@ -1,0 +1,5 @@
+pub mod EndStatus
+pub mod QueryOutput
+pub mod ExplainOutput
+pub mod BagOutput
+pub mod AttrOutput

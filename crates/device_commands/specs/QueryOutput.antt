@@ -1,0 +1,46 @@
+-- What the command `query` prints.
+use Rattle.std.specs.Prelude.{ℕ, ◌++◌, Bool, List, Result, Ok, if◌then◌else◌}
+use Rattle.std.specs.List.{flat_map, list_any}
+use Rattle.contract_words.specs.Faults.{◌>>=◌}
+use Rattle.res_value.specs.declared.res_id.ResId.{ResId}
+use Rattle.config_record.specs.DeviceJson.{device_in_json}
+use Rattle.overlay_map.specs.Layer.{LayerOf}
+use Rattle.overlay_map.specs.SetAside.{set_aside_in_stack}
+use Rattle.reference_resolver.specs.declared.end.End.{End}
+use Rattle.reference_resolver.specs.Ends.{references_followed, end_of}
+use Rattle.fault_text.specs.declared.fault.ToolFault.{ToolFault}
+use Rattle.fault_text.specs.ToolFault.{fault_of_device}
+use Rattle.answer_text.specs.QueryText.{query_line, set_aside_line}
+use Rattle.command_base.specs.declared.status.Status.{Status}
+use Rattle.command_base.specs.declared.status.Status.TheVariants.{Done, Negative}
+use Rattle.command_base.specs.Output.{Output}
+use Rattle.command_base.specs.StackBytes.{LayerBytes, stack_in}
+use Rattle.command_base.specs.MapErr.{map_err}
+use Rattle.device_commands.specs.EndStatus.{is_unresolved}
+
+-- where an id ends
+abbrev pub end_for : List LayerOf → List ℕ → ResId → End
+end_for stack device id = end_of stack references_followed id.0 device
+
+-- at no value and no bag
+abbrev pub is_unresolved_for : List LayerOf → List ℕ → ResId → Bool
+is_unresolved_for stack device id = is_unresolved (end_for stack device id)
+
+-- it is done where no id does
+abbrev pub query_status : List LayerOf → List ℕ → List ResId → Status
+query_status stack device ids = if list_any (is_unresolved_for stack device) ids then Negative else Done
+
+-- the line of an id
+abbrev pub line_of : List LayerOf → List ℕ → ResId → List ℕ
+line_of stack device id = query_line stack id.0 (end_for stack device id)
+
+-- a line for each id in the order asked, and one with the number of rows of all layers that are set aside
+unfoldable pub query_text : List LayerOf → List ℕ → List ResId → List ℕ
+query_text stack device ids = flat_map (line_of stack device) ids ++ set_aside_line (set_aside_in_stack stack)
+
+-- What `query` prints of these layers, a device's text and these ids. The layers are read before the device.
+unfoldable pub query_output : List LayerBytes → List ℕ → List ResId → Result Output ToolFault
+query_output layers device_json ids = do
+  stack ← stack_in layers
+  device ← map_err fault_of_device (device_in_json device_json)
+  Ok (record { status = query_status stack device ids; text = query_text stack device ids })

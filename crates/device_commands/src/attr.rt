@@ -1,0 +1,59 @@
+//! The command `attr`.
+
+ghost use Rattle.std.specs.Prelude.{map};
+ghost use Rattle.contract_words.specs.Writes.{Writes};
+ghost use Rattle.command_base.specs.Output.{Prints};
+ghost use Rattle.command_base.specs.StackBytesSeen.{layer_bytes};
+ghost use Rattle.device_commands.specs.AttrOutput.{attribute_line, attr_output};
+
+use crate::end_status::status_of_end;
+use crate::no_bag::print_no_bag;
+use command_base::open_stack;
+use command_base::Status;
+use bags_themes::Theme;
+use config_record::Device;
+use fault_text::ToolFault;
+use reference_resolver::End;
+use res_value::{ResId, write_id};
+use answer_text::end_text;
+use std::alloc::Global;
+use std::io::{self, Write};
+
+/// Prints where an attribute ends for a device after styles that are applied in their order, with `force` or
+/// without, or why the first style that is no bag, or has too many parents, is refused. The status is Negative
+/// there, and where the end is absent or too long. A layer is the bytes of a table and, at an overlay, those of
+/// an id map.
+#[tactic(auto, unfolding(crate::specs::AttrOutput::attr_output))]
+pub fn attr_bytes<W: Write + Drop>(
+    alloc: Global,
+    layers: &[(&[u8], Option<&[u8]>)],
+    device: &[u8],
+    attr: ResId,
+    styles: &[ResId],
+    force: bool,
+    out: &mut W,
+) -> Result<Status, ToolFault>
+    ensures { Prints W.contents out.old out.new result
+        (attr_output (map layer_bytes layers.now) device.now attr.0 styles.now force) }
+{
+    let stack = open_stack(alloc, layers)?;
+    let device = Device::read(alloc, device)?;
+    match Theme::of_styles(alloc, &stack, styles, force, &device) {
+        Ok(theme) => {
+            let end = theme.attribute(&stack, attr, &device);
+            write_attribute(attr, end, out)?;
+            Ok(status_of_end(end))
+        }
+        Err(fault) => print_no_bag(fault, out),
+    }
+}
+
+#[tactic(auto, unfolding(crate::specs::AttrOutput::attribute_line))]
+fn write_attribute<W: Write + Drop>(attr: ResId, end: End, out: &mut W) -> io::Result<()>
+    ensures { Writes W.contents out.old out.new result (attribute_line attr.0 end) }
+{
+    write_id(attr, out)?;
+    out.write_all(b" ")?;
+    end_text(end, out)?;
+    out.write_all(b"\n")
+}

@@ -1,0 +1,71 @@
+//! The command `bag`.
+
+ghost use Rattle.std.specs.Prelude.{map};
+ghost use Rattle.std.specs.List.{flat_map};
+ghost use Rattle.contract_words.specs.Writes.{Writes};
+ghost use Rattle.command_base.specs.Output.{Prints};
+ghost use Rattle.command_base.specs.StackBytesSeen.{layer_bytes};
+ghost use Rattle.device_commands.specs.BagOutput.{name_and_layer, bag_row_line, bag_output};
+
+use crate::no_bag::print_no_bag;
+use command_base::open_stack;
+use command_base::Status;
+use bags_themes::{BagRow, bag};
+use config_record::Device;
+use fault_text::{ToolFault, write_layer};
+use res_value::{ResId, write_id, write_value};
+use std::alloc::Global;
+use std::io::{self, Write};
+
+/// Prints a line for each row of the bag that an id selects for a device, those that it inherits among them, or
+/// one that says why there is no such bag; then the status is Negative. A layer is the bytes of a table and, at an
+/// overlay, those of an id map.
+#[tactic(auto, unfolding(crate::specs::BagOutput::bag_output))]
+pub fn bag_bytes<W: Write + Drop>(
+    alloc: Global,
+    layers: &[(&[u8], Option<&[u8]>)],
+    device: &[u8],
+    id: ResId,
+    out: &mut W,
+) -> Result<Status, ToolFault>
+    ensures { Prints W.contents out.old out.new result (bag_output (map layer_bytes layers.now) device.now id.0) }
+{
+    let stack = open_stack(alloc, layers)?;
+    let device = Device::read(alloc, device)?;
+    match bag(alloc, &stack, id, &device) {
+        Ok(rows) => {
+            write_rows(rows.as_slice(), out)?;
+            Ok(Status::Done)
+        }
+        Err(fault) => print_no_bag(fault, out),
+    }
+}
+
+#[tactic(auto, using(crate::proofs::LineSteps::line_steps))]
+fn write_rows<W: Write + Drop>(rows: &[BagRow], out: &mut W) -> io::Result<()>
+    ensures { Writes W.contents out.old out.new result (flat_map bag_row_line rows.now) }
+{
+    for row in rows {
+        write_row(*row, out)?;
+    }
+    Ok(())
+}
+
+#[tactic(auto, unfolding(crate::specs::BagOutput::bag_row_line))]
+fn write_row<W: Write + Drop>(row: BagRow, out: &mut W) -> io::Result<()>
+    ensures { Writes W.contents out.old out.new result (bag_row_line row) }
+{
+    write_name_and_layer(row.name, row.layer, out)?;
+    out.write_all(b" ")?;
+    write_value(row.value, out)?;
+    out.write_all(b"\n")
+}
+
+#[tactic(auto, unfolding(crate::specs::BagOutput::name_and_layer))]
+fn write_name_and_layer<W: Write + Drop>(name: ResId, layer: usize, out: &mut W) -> io::Result<()>
+    ensures { Writes W.contents out.old out.new result (name_and_layer name.0 layer) }
+{
+    write_id(name, out)?;
+    out.write_all(b" ")?;
+    write_layer(layer, out)
+}

@@ -1,0 +1,61 @@
+//! The command `query`.
+
+ghost use Rattle.std.specs.Prelude.{◌≡◌, map, OnOk, IfOk};
+ghost use Rattle.contract_words.specs.Writes.{Writes};
+ghost use Rattle.config_record.specs.DeviceSeen.{device_numbers};
+ghost use Rattle.command_base.specs.Output.{Prints};
+ghost use Rattle.command_base.specs.StackBytesSeen.{layer_bytes};
+ghost use Rattle.device_commands.specs.QueryOutput.{query_status, query_text, query_output};
+
+use crate::end_status::is_unresolved;
+use command_base::open_stack;
+use command_base::Status;
+use config_record::Device;
+use fault_text::ToolFault;
+use overlay_map::Stack;
+use reference_resolver::resolve;
+use res_value::ResId;
+use answer_text::{query_line, set_aside_line};
+use std::alloc::Global;
+use std::io::{self, Write};
+
+/// Prints a line for each of some ids with its end for a device, in the order of the ids, and one with the
+/// number of rows of all layers that are set aside. A layer is the bytes of a table and, at an overlay, those of
+/// an id map. The status is Negative where an end is absent or too long.
+#[tactic(auto, unfolding(crate::specs::QueryOutput::query_output))]
+pub fn query_bytes<W: Write + Drop>(
+    alloc: Global,
+    layers: &[(&[u8], Option<&[u8]>)],
+    device: &[u8],
+    ids: &[ResId],
+    out: &mut W,
+) -> Result<Status, ToolFault>
+    ensures { Prints W.contents out.old out.new result (query_output (map layer_bytes layers.now) device.now ids.now) }
+{
+    let stack = open_stack(alloc, layers)?;
+    let device = Device::read(alloc, device)?;
+    Ok(write_ends(&stack, &device, ids, out)?)
+}
+
+// Writes a line for each id, and one with the number of rows that are set aside.
+#[tactic(auto, using(crate::proofs::QuerySteps::query_steps), unfolding(crate::specs::QueryOutput::query_text))]
+fn write_ends<W: Write + Drop>(
+    stack: &Stack<'_>,
+    device: &Device,
+    ids: &[ResId],
+    out: &mut W,
+) -> io::Result<Status>
+    ensures text { Writes W.contents out.old out.new result (query_text stack.now (device_numbers device.now) ids.now) }
+    ensures status { IfOk result (λ status. status ≡ query_status stack.now (device_numbers device.now) ids.now) }
+{
+    let mut status = Status::Done;
+    for id in ids {
+        let end = resolve(stack, *id, device);
+        query_line(stack, *id, end, out)?;
+        if is_unresolved(end) {
+            status = Status::Negative;
+        }
+    }
+    set_aside_line(stack.set_aside(), out)?;
+    Ok(status)
+}

@@ -1,0 +1,29 @@
+-- How contracts see the bytes of files.
+use Rattle.std.specs.Prelude.{ℕ, List, map, Option, Vec}
+use Rattle.std.specs.Option.{option_map}
+use Rattle.std.specs.declared.alloc.Global.{Global}
+use Rattle.command_base.specs.StackBytes.{LayerBytes}
+use Rattle.program_run.specs.declared.files.LayerFiles.{LayerFiles}
+use Rattle.program_run.specs.declared.files.DeviceFiles.{DeviceFiles}
+use Rattle.program_run.specs.declared.files.CheckFiles.{CheckFiles}
+use Rattle.program_run.specs.Inputs.{DeviceInputs, CheckInputs}
+
+abbrev pub bytes_of : Vec ℕ Global → List ℕ
+bytes_of bytes = bytes.items
+
+-- the bytes of a layer
+abbrev pub layer_held : (Vec ℕ Global × Option (Vec ℕ Global)) → LayerBytes
+layer_held layer = record { table = layer.0.items; map = option_map bytes_of layer.1 }
+
+-- those of all layers
+abbrev pub all_held : Vec (Vec ℕ Global × Option (Vec ℕ Global)) Global → List LayerBytes
+all_held layers = map layer_held layers.items
+
+abbrev pub layers_held : LayerFiles → List LayerBytes
+layers_held files = all_held files.files
+
+abbrev pub devices_held : DeviceFiles → DeviceInputs
+devices_held files = record { layers = layers_held files.layers; devices = files.devices.items }
+
+abbrev pub check_held : CheckFiles → CheckInputs
+check_held files = record { asked = devices_held files.asked; certificate = files.certificate.items }

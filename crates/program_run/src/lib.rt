@@ -1,0 +1,32 @@
+//! What a run of the program has to do with, apart from the commands: where inputs are read from, the files of a
+//! request in their order, why the program stops and what it says then, its exit status, the line that shows how
+//! far long work is, and the end of a run.
+//!
+//! For the program above: the files of a request are what their places have, or the program stops at the first
+//! that is not read; a stop has its line, its stream and its exit status.
+//!
+//! ```text
+//! let inputs = ProcessInputs { rt: &rt }; // files, and the standard input
+//! let files = DeviceFiles::read(alloc, &inputs, "layers.json", "device.json")?; // all of them, or Stop::File(path)
+//! let layers = files.layers.layers(alloc)?; // lent, as the commands take them
+//!
+//! let status = end(outcome, &mut out, &mut errors); // file: layers.json
+//! ExitCode::from(status.number()) // 5
+//! ```
+#![tactic(auto)]
+
+mod ending;
+mod files;
+mod input;
+mod place;
+mod progress;
+mod status;
+mod stop;
+
+pub use ending::{end, written_out};
+pub use files::{CheckFiles, DeviceFiles, LayerFiles};
+pub use input::{Inputs, ProcessInputs, table_bytes};
+pub use place::Place;
+pub use progress::ProgressLine;
+pub use status::ExitStatus;
+pub use stop::{Stop, Told};

@@ -1,0 +1,29 @@
+//! Where bytes are read from.
+
+ghost use Rattle.std.specs.Prelude.{◌≡◌};
+
+use command_words::STANDARD_INPUT;
+
+/// Where the bytes of an input are read from.
+#[derive(Clone, Copy)]
+pub enum Place<'a> {
+    StandardInput,
+    /// The file at a path.
+    File(&'a str),
+}
+
+impl<'a> Place<'a> {
+    ghost use Rattle.program_run.specs.Place.{place_of};
+    ghost use Rattle.program_run.specs.Inputs.{table_place};
+
+    /// Where the table at a path is read from: `-` is the standard input.
+    pub fn of_table(path: &'a str) -> Place<'a>
+        ensures { place_of result ≡ table_place path.entry.now }
+    {
+        if path == STANDARD_INPUT {
+            Place::StandardInput
+        } else {
+            Place::File(path)
+        }
+    }
+}

@@ -1,0 +1,179 @@
+//! What keeps the program from doing what it was asked for.
+
+ghost use Rattle.std.specs.Prelude.{◌≡◌, ◌++◌, ◌∷◌, [], true, false, OnOk, IfSome};
+ghost use Rattle.std.specs.Io.KnownBytes.{Appends};
+ghost use Rattle.contract_words.specs.Writes.{Writes};
+ghost use Rattle.clap.specs.Values.{kind_of};
+ghost use Rattle.fault_text.specs.declared.fault.ToolFault.TheVariants.{OutOfMemory};
+ghost use Rattle.program_run.specs.declared.stop.Stop.TheVariants.{Tool, Words};
+ghost use Rattle.program_run.specs.Stop.{is_asked_for, is_output, status_of_stop, stop_line, stop_of_words};
+
+use crate::status::ExitStatus;
+use clap::error::ErrorKind;
+use command_words::WordsFault;
+use fault_text::{LayersFault, ToolFault, fault_text};
+use std::alloc::{AllocError, AllocFailed};
+use std::io::{self, Write};
+
+/// Why the program stops.
+#[derive(Drop)]
+pub enum Stop<'a> {
+    /// The words ask for nothing that can be done.
+    Words(WordsFault<'a>),
+    /// The file at this path was not read.
+    File(&'a str),
+    /// The file of a layer was not read, whose path a list of layers names.
+    LayerFile(String),
+    /// The command failed.
+    Tool(ToolFault),
+}
+
+/// What came of telling why the program stops.
+#[derive(Drop)]
+pub struct Told {
+    /// How the program ends.
+    pub status: ExitStatus,
+    /// Whether the stream took the text.
+    pub was_written: bool,
+}
+
+impl Stop<'_> {
+    ghost use Rattle.program_run.specs.Stop.{stop_of};
+
+    /// Tells why, on the stream where that belongs, and gives the exit status.
+    pub fn tell<O: Write + Drop, E: Write + Drop>(&self, out: &mut O, errors: &mut E) -> Told
+        ensures status { result.status ≡ status_of_stop result.was_written (stop_of self.now) }
+        ensures line { result.was_written ≡ true → IfSome (stop_line (stop_of self.now))
+            (Appends (E.contents errors.old) (E.contents errors.new)) }
+        ensures output { is_output (stop_of self.now) ≡ false → out.new ≡ out.old }
+        ensures errors { is_output (stop_of self.now) ≡ true → errors.new ≡ errors.old }
+    {
+        let was_written = self.write(out, errors).is_ok();
+        Told {
+            status: self.status(was_written),
+            was_written,
+        }
+    }
+
+    fn write<O: Write + Drop, E: Write + Drop>(&self, out: &mut O, errors: &mut E) -> io::Result<()>
+        ensures line { OnOk result (IfSome (stop_line (stop_of self.now))
+            (Appends (E.contents errors.old) (E.contents errors.new))) }
+        ensures output { is_output (stop_of self.now) ≡ false → out.new ≡ out.old }
+        ensures errors { is_output (stop_of self.now) ≡ true → errors.new ≡ errors.old }
+    {
+        match self {
+            Stop::Words(fault) => write_fault_of_words(fault, out, errors),
+            Stop::File(path) => write_line("file: ", path, errors),
+            Stop::LayerFile(path) => write_line("file: ", path.as_str(), errors),
+            Stop::Tool(fault) => fault_text(fault, errors),
+        }
+    }
+
+    // How the program ends, where the text was written or was not.
+    fn status(&self, was_written: bool) -> ExitStatus
+        ensures { result ≡ status_of_stop was_written (stop_of self.now) }
+    {
+        match self {
+            Stop::Words(fault) => status_after_words(fault, was_written),
+            Stop::File(_) | Stop::LayerFile(_) => ExitStatus::Failed,
+            Stop::Tool(fault) => ExitStatus::after_fault(fault),
+        }
+    }
+}
+
+fn write_fault_of_words<O: Write + Drop, E: Write + Drop>(
+    fault: &WordsFault<'_>,
+    out: &mut O,
+    errors: &mut E,
+) -> io::Result<()>
+    ensures line { OnOk result (IfSome (stop_line (stop_of_words fault.now))
+        (Appends (E.contents errors.old) (E.contents errors.new))) }
+    ensures output { is_output (stop_of_words fault.now) ≡ false → out.new ≡ out.old }
+    ensures errors { is_output (stop_of_words fault.now) ≡ true → errors.new ≡ errors.old }
+{
+    match fault {
+        WordsFault::CommandLine(error) if is_asked_for(error) => write!(out, "{error}"),
+        WordsFault::CommandLine(error) => write!(errors, "{error}"),
+        WordsFault::NotText => errors.write_all(b"command: a word is not UTF-8\n"),
+        WordsFault::BadId(word) => write_line("command: bad id ", word, errors),
+        WordsFault::OutOfMemory => fault_text(&ToolFault::OutOfMemory, errors),
+    }
+}
+
+fn status_after_words(fault: &WordsFault<'_>, was_written: bool) -> ExitStatus
+    ensures { result ≡ status_of_stop was_written (stop_of_words fault.now) }
+{
+    match fault {
+        WordsFault::CommandLine(error) if is_asked_for(error) => {
+            if was_written {
+                ExitStatus::Done
+            } else {
+                ExitStatus::Failed
+            }
+        }
+        WordsFault::CommandLine(_) | WordsFault::NotText | WordsFault::BadId(_) => {
+            ExitStatus::BadCommandLine
+        }
+        WordsFault::OutOfMemory => ExitStatus::Memory,
+    }
+}
+
+// Whether the words ask for help or for the version.
+fn is_asked_for(error: &clap::Error) -> bool
+    ensures { result ≡ is_asked_for (kind_of error.now) }
+{
+    matches!(
+        error.kind(),
+        ErrorKind::DisplayHelp | ErrorKind::DisplayVersion
+    )
+}
+
+fn write_line<E: Write + Drop>(before: &str, text: &str, errors: &mut E) -> io::Result<()>
+    ensures { Writes E.contents errors.old errors.new result (before.now ++ text.now ++ 10 ∷ []) }
+{
+    errors.write_all(before.as_bytes())?;
+    errors.write_all(text.as_bytes())?;
+    errors.write_all(b"\n")
+}
+
+impl<'a> From<WordsFault<'a>> for Stop<'a> {
+    ghost from_gives = { λ fault e. e ≡ Words fault };
+
+    fn from(fault: WordsFault<'a>) -> Self {
+        Stop::Words(fault)
+    }
+}
+
+impl From<ToolFault> for Stop<'_> {
+    ghost from_gives = { λ fault e. e ≡ Tool fault };
+
+    fn from(fault: ToolFault) -> Self {
+        Stop::Tool(fault)
+    }
+}
+
+impl From<LayersFault> for Stop<'_> {
+    ghost use Rattle.fault_text.specs.ToolFault.{fault_of_layers};
+
+    ghost from_gives = { λ fault e. e ≡ Tool (fault_of_layers fault) };
+
+    fn from(fault: LayersFault) -> Self {
+        Stop::Tool(ToolFault::from(fault))
+    }
+}
+
+impl<T: Drop> From<AllocFailed<T>> for Stop<'_> {
+    ghost from_gives = { λ _ e. e ≡ Tool OutOfMemory };
+
+    fn from(_error: AllocFailed<T>) -> Self {
+        Stop::Tool(ToolFault::OutOfMemory)
+    }
+}
+
+impl From<AllocError> for Stop<'_> {
+    ghost from_gives = { λ _ e. e ≡ Tool OutOfMemory };
+
+    fn from(_error: AllocError) -> Self {
+        Stop::Tool(ToolFault::OutOfMemory)
+    }
+}
