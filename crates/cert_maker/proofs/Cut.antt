@@ -14,10 +14,10 @@ use Rattle.box_answers.specs.NumberSet.{SetOf, RangeOf, NumbersOf, LocalesOf, Is
 use Rattle.box_answers.specs.Members.{set_at, IsMember}
 use Rattle.box_answers.specs.Sameness.{AreNeighbours}
 use Rattle.config_box.specs.Tests.{ChoiceOf, AtMostOf, AmongOf, is_listed, answers, is_range, has_wrong_kind}
-use Rattle.least_tree.specs.Needed.{AgreeBut, IsNeededTest}
-use Rattle.least_tree.specs.Runs.{trace_with}
+use Rattle.cert_maker.specs.Needed.{AgreeBut, IsNeededTest}
+use Rattle.cert_maker.specs.Runs.{trace_with}
 use Rattle.reference_resolver.proofs.SameTraces.{trace-cases}
-use Rattle.least_tree.proofs.ByNumbers.{GoesByNumbers}
+use Rattle.cert_maker.proofs.ByNumbers.{GoesByNumbers}
 use Rattle.cert_maker.specs.Pair.{ArePair, numbers_of, keeps}
 use Rattle.cert_maker.proofs.Steps.{test-passes}
 

@@ -16,7 +16,7 @@ use Rattle.cert_tree.specs.declared.goal.Goal.{Goal}
 use Rattle.cert_tree.specs.declared.goal.Goal.TheVariants.{Id}
 use Rattle.cert_tree.specs.Certificate.{BagAt, GoalOf, NodeFits, node_count}
 use Rattle.cert_checker.specs.FirstFault.{goal_trace, goals_in, IsAccepted}
-use Rattle.least_tree.specs.Needed.{IsNeeded}
+use Rattle.cert_maker.specs.Needed.{IsNeeded}
 use Rattle.cert_maker.specs.Made.{AreNeeded, IsCounterexample}
 use Rattle.cert_maker.specs.Growth.{IsCounterexampleOf}
 use Rattle.cert_maker.specs.Trees.{IsGoodTree, AreDone}

@@ -25,10 +25,10 @@ use Rattle.config_box.specs.Tests as seen
 use Rattle.cert_tree.specs.Certificate.{ChoiceFits}
 use Rattle.cert_tree.specs.declared.goal.Goal.TheVariants.{Id}
 use Rattle.reference_resolver.specs.SameTrace.{same_trace}
-use Rattle.least_tree.specs.Needed.{AgreeBut, IsNeededTest}
-use Rattle.least_tree.specs.Runs.{trace_with}
+use Rattle.cert_maker.specs.Needed.{AgreeBut, IsNeededTest}
+use Rattle.cert_maker.specs.Runs.{trace_with}
 use Rattle.config_box.proofs.Filters.{map-filter}
-use Rattle.least_tree.proofs.ByNumbers.{GoesByNumbers, goal-by-numbers}
+use Rattle.cert_maker.proofs.ByNumbers.{GoesByNumbers, goal-by-numbers}
 use Rattle.cert_maker.specs.Pair.{ArePair, numbers_of, keeps, keeps_locale}
 use Rattle.cert_maker.proofs.Cut.{on-line, ListsKept, cut-choice}
 

@@ -8,9 +8,9 @@ use Rattle.cert_tree.specs.declared.goal.Goal.{Goal}
 use Rattle.cert_tree.specs.Certificate.{GoalOf, node_count}
 use Rattle.cert_checker.specs.Fails.{NoRuleFails}
 use Rattle.cert_checker.specs.FirstFault.{goal_trace, goals_in, NoRuleFailsIn}
-use Rattle.least_tree.specs.Needed.{IsNeeded}
-use Rattle.least_tree.specs.Runs.{IsOnLine}
-use Rattle.least_tree.proofs.LeastTree.{small, large, least}
+use Rattle.cert_maker.specs.Needed.{IsNeeded}
+use Rattle.cert_maker.specs.Runs.{IsOnLine}
+use Rattle.cert_maker.proofs.LeastTree.{small, large, least}
 use Rattle.cert_maker.specs.declared.made.Made.{Made}
 use Rattle.cert_maker.specs.declared.made.Made.TheVariants.{Cert, Counter, NodeLimit}
 use Rattle.cert_maker.specs.Made.{AreNeeded, IsMade}

@@ -1,3 +1,12 @@
+pub mod Different
+pub mod Changes
+pub mod Lines
+pub mod Counting
+pub mod Passing
+pub mod ByNumbers
+pub mod OneLine
+pub mod LeastTree
+pub mod OneMember
 pub mod Layers
 pub mod Parts
 pub mod Steps

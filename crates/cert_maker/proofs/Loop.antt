@@ -10,9 +10,9 @@ use Rattle.cert_checker.specs.Paths.{Path, after, root}
 use Rattle.cert_checker.specs.Fails.{NoRuleFails}
 use Rattle.cert_checker.specs.OpenBoxes.{Stand}
 use Rattle.cert_checker.proofs.BoxSteps.{whole, popped}
-use Rattle.least_tree.specs.Walk.{Walk}
-use Rattle.least_tree.specs.Needed.{IsNeeded, IsNeededAt}
-use Rattle.least_tree.proofs.Passing.{Passes, walk-passes}
+use Rattle.cert_maker.specs.Walk.{Walk}
+use Rattle.cert_maker.specs.Needed.{IsNeeded, IsNeededAt}
+use Rattle.cert_maker.proofs.Passing.{Passes, walk-passes}
 use Rattle.cert_maker.specs.Growth.{IsGood, Grows}
 use Rattle.cert_maker.proofs.Parts.{Part, part-more, part-walk, walk-map, walk-all, part-map, leaves, length-leaves, part-leaves, stand-length}
 

@@ -6,7 +6,7 @@ use Rattle.box_answers.specs.NumberSet.{SetOf}
 use Rattle.cert_tree.specs.Certificate.{NodeOf, BagAt}
 use Rattle.cert_checker.specs.Paths.{Path, after}
 use Rattle.cert_checker.specs.OpenBoxes.{Stand}
-use Rattle.least_tree.specs.Walk.{Walk}
+use Rattle.cert_maker.specs.Walk.{Walk}
 
 -- the nodes are the first of trees for open paths, of which these are left, and each is as `holds` says
 abbrev pub Part : (NodeOf → Path → Type 0) → List NodeOf → List Path → List Path → Type 0

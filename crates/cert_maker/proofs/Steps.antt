@@ -23,7 +23,7 @@ use Rattle.cert_checker.proofs.MarkSteps.{alike-kind, alike-range}
 use Rattle.cert_checker.proofs.LeafSteps.{as_said}
 use Rattle.cert_checker.proofs.NodeSteps.{halves}
 use Rattle.cert_checker.proofs.BoxSteps.{some_member}
-use Rattle.least_tree.specs.Needed.{NoneBetween, IsNeededTest}
+use Rattle.cert_maker.specs.Needed.{NoneBetween, IsNeededTest}
 use Rattle.cert_maker.specs.Growth.{Grows}
 use Rattle.cert_maker.proofs.Layers.{EndBelow}
 

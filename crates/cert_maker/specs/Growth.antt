@@ -13,7 +13,7 @@ use Rattle.cert_checker.specs.Paths.{Path, IsAt, after}
 use Rattle.reference_resolver.specs.Ends.{is_value}
 use Rattle.cert_checker.specs.Fails.{FailsAtTest, FailsAtNode, NoRuleFails}
 use Rattle.cert_checker.specs.OpenBoxes.{IsBoxAt, Stand}
-use Rattle.least_tree.specs.Needed.{IsNeededAt, IsNeeded}
+use Rattle.cert_maker.specs.Needed.{IsNeededAt, IsNeeded}
 use Rattle.cert_maker.specs.declared.tree.Grown.{Grown}
 use Rattle.cert_maker.specs.declared.tree.Grown.TheVariants.{Tree, Counterexample, TooLarge}
 

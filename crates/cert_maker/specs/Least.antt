@@ -7,7 +7,7 @@ use Rattle.cert_tree.specs.declared.goal.Goal.{Goal}
 use Rattle.cert_tree.specs.Certificate.{NodeOf, GoalOf, goals_of, node_count}
 use Rattle.cert_checker.specs.Fails.{NoRuleFails}
 use Rattle.cert_checker.specs.FirstFault.{goal_trace, IsAccepted}
-use Rattle.least_tree.specs.Runs.{runs_along, IsOnLine}
+use Rattle.cert_maker.specs.Runs.{runs_along, IsOnLine}
 use Rattle.cert_maker.specs.declared.made.Made.{Made}
 use Rattle.cert_maker.specs.declared.made.Made.TheVariants.{Cert, Counter, NodeLimit}
 

@@ -11,7 +11,7 @@ use Rattle.cert_tree.specs.Certificate.{GoalOf, NodeFits, goals_of, node_count}
 use Rattle.reference_resolver.specs.Ends.{is_value}
 use Rattle.cert_checker.specs.FirstFault.{goal_trace, goals_in, IsAccepted}
 use Rattle.cert_checker.specs.Headline.{RulesEndAt}
-use Rattle.least_tree.specs.Needed.{IsNeeded}
+use Rattle.cert_maker.specs.Needed.{IsNeeded}
 use Rattle.cert_maker.specs.declared.made.Made.{Made}
 use Rattle.cert_maker.specs.declared.made.Made.TheVariants.{Cert, Counter, NodeLimit}
 

@@ -15,7 +15,7 @@ use Rattle.reference_resolver.specs.declared.step.Step.{Step}
 use Rattle.reference_resolver.specs.Selection.{selected, step_of}
 use Rattle.reference_resolver.specs.Trace.{Trace, scan_look_up}
 use Rattle.reference_resolver.specs.SameTrace.{same_trace}
-use Rattle.least_tree.specs.Runs.{trace_with}
+use Rattle.cert_maker.specs.Runs.{trace_with}
 use Rattle.cert_maker.specs.declared.alike.Selections.{Selections}
 use Rattle.cert_maker.specs.declared.alike.Selections.TheVariants.{Alike, Apart}
 

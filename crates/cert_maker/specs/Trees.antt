@@ -6,7 +6,7 @@ use Rattle.box_answers.specs.NumberSet.{SetOf}
 use Rattle.cert_tree.specs.declared.goal.Goal.{Goal}
 use Rattle.cert_tree.specs.Certificate.{GoalOf, NodeFits, goal_of, node_count}
 use Rattle.cert_checker.specs.FirstFault.{goal_trace, goals_in, NoRuleFailsIn}
-use Rattle.least_tree.specs.Needed.{IsNeeded}
+use Rattle.cert_maker.specs.Needed.{IsNeeded}
 use Rattle.cert_maker.specs.declared.made.Made.{Made}
 use Rattle.cert_maker.specs.declared.trees.Trees.{Trees}
 use Rattle.cert_maker.specs.Made.{IsMade, CanBeWritten}

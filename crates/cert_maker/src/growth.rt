@@ -8,7 +8,7 @@ ghost use Rattle.box_answers.specs.Members.{IsMember};
 ghost use Rattle.config_box.specs.Tests.{test_of};
 ghost use Rattle.cert_tree.specs.Certificate.{TestAt, NodeFits, node_of};
 ghost use Rattle.cert_checker.specs.Paths.{leaf_end};
-ghost use Rattle.least_tree.specs.Needed.{IsNeededTest};
+ghost use Rattle.cert_maker.specs.Needed.{IsNeededTest};
 ghost use Rattle.cert_maker.specs.Growth.{Grows, IsCounterexampleOf, CanBeAsked};
 
 use crate::parting::parting_test;

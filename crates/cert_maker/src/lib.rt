@@ -4,8 +4,8 @@
 //! For the crate above: `make` answers a certificate that `check` accepts, whose tests are all needed (each parts two
 //! such devices) and whose nodes are within the limit; or a device of the box for which a goal ends at no value and no
 //! bag; or `NodeLimit`, where trees of needed tests have more nodes together. Where at most one coordinate of the box
-//! has several values, no certificate with fewer nodes is accepted. `make_watched` does the same, and says after each
-//! goal how far it is.
+//! has several values, no certificate with fewer nodes is accepted: `least_tree` has the law. `make_watched` does the
+//! same as `make`, and says after each goal how far it is.
 //!
 //! ```text
 //! match make(alloc, &stack, &phones, &asked, 1_000_000)? {
@@ -18,13 +18,14 @@
 
 mod alike;
 mod growth;
+mod laws;
 mod made;
 mod making;
 mod parting;
-mod progress;
 mod tree;
 mod trees;
 
+pub use cert_tree::{Progress, Unwatched};
+pub use laws::{least_tree, trace_equality};
 pub use made::Made;
 pub use making::{make, make_watched};
-pub use progress::{Progress, Unwatched};

@@ -5,9 +5,8 @@ ghost use Rattle.cert_maker.specs.Made.{IsMade, CanBeWritten};
 ghost use Rattle.cert_maker.specs.Least.{IsLeast};
 
 use crate::made::Made;
-use crate::progress::{Progress, Unwatched};
 use crate::trees::Trees;
-use cert_tree::{Cert, Goal, OutOfMemory};
+use cert_tree::{Cert, Goal, OutOfMemory, Progress, Unwatched};
 use config_box::ConfigBox;
 use overlay_map::Stack;
 use std::alloc::Global;

@@ -10,7 +10,7 @@ ghost use Rattle.reference_resolver.specs.Trace.{trace_of};
 ghost use Rattle.box_answers.specs.Members.{IsMember};
 ghost use Rattle.config_box.specs.Tests.{test_of};
 ghost use Rattle.cert_tree.specs.Certificate.{TestAt, NodeFits};
-ghost use Rattle.least_tree.specs.Needed.{IsNeededTest};
+ghost use Rattle.cert_maker.specs.Needed.{IsNeededTest};
 ghost use Rattle.cert_maker.specs.Pair.{ArePair, keeps, keeps_locale};
 
 use crate::alike::have_one_trace;

@@ -5,7 +5,7 @@ use Rattle.reference_resolver.specs.Trace.{trace_of}
 use Rattle.box_answers.specs.Members.{set_at}
 use Rattle.config_box.specs.Tests.{is_range}
 use Rattle.cert_tree.specs.declared.goal.Goal.TheVariants.{Id}
-use Rattle.least_tree.proofs.ByNumbers.{goal-by-numbers}
+use Rattle.cert_maker.proofs.ByNumbers.{goal-by-numbers}
 use Rattle.cert_maker.specs.Pair.{keeps, keeps_locale}
 use Rattle.cert_maker.proofs.Cut.{cut-range}
 use Rattle.cert_maker.proofs.Kept.{needed-numbers, needed-locales, can-locales, numbers-fit, locales-fit, right-range}

@@ -11,7 +11,7 @@ use Rattle.cert_tree.specs.Certificate.{NodeOf, TestAt, ValueAt, BagAt}
 use Rattle.cert_checker.specs.declared.rule.Rule.{Rule}
 use Rattle.cert_checker.specs.Paths.{Path, IsAt}
 use Rattle.cert_checker.specs.Fails.{FailsAtTest}
-use Rattle.least_tree.specs.Walk.{HoldsOfTree}
+use Rattle.cert_maker.specs.Walk.{HoldsOfTree}
 
 -- two devices have the same number at each coordinate but this one
 abbrev pub AgreeBut : Coord → List ℕ → List ℕ → Type 0

@@ -8,7 +8,7 @@ use Rattle.cert_checker.specs.declared.rule.Rule.{Rule}
 use Rattle.cert_checker.specs.declared.rule.Rule.TheVariants.{EndsEarly, LeftOver}
 use Rattle.cert_checker.specs.Paths.{Path, IsAt, after, after_all, root, open_at}
 use Rattle.cert_checker.specs.Fails.{FailsAtNode, FailsAt, Fails, NoRuleFails}
-use Rattle.least_tree.specs.Walk.{Walk}
+use Rattle.cert_maker.specs.Walk.{Walk}
 
 -- no rule fails at a node
 abbrev pub Passes : (List ℕ → Trace) → List SetOf → NodeOf → Path → Type 0

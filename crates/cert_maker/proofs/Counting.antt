@@ -4,8 +4,8 @@ use Rattle.reference_resolver.specs.Trace.{Trace}
 use Rattle.config_box.specs.Tests.{TestOf}
 use Rattle.cert_tree.specs.Certificate.{NodeOf, TestAt, ValueAt, BagAt}
 use Rattle.cert_checker.specs.Paths.{Path}
-use Rattle.least_tree.specs.Walk.{Walk}
-use Rattle.least_tree.proofs.Lines.{Kept, at_path, spread, half}
+use Rattle.cert_maker.specs.Walk.{Walk}
+use Rattle.cert_maker.proofs.Lines.{Kept, at_path, spread, half}
 
 -- the runs at all open paths
 abbrev pub total : (ℕ → Trace) → Kept → List Path → ℕ

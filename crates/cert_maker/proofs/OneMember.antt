@@ -8,7 +8,7 @@ use Rattle.config_record.proofs.DeviceLemmas.{place_of-within}
 use Rattle.box_answers.specs.NumberSet.{SetOf, RangeOf, NumbersOf, LocalesOf, IsIn, IsProper}
 use Rattle.box_answers.specs.Members.{set_at}
 use Rattle.box_answers.proofs.Coords.{all_coords-count}
-use Rattle.least_tree.specs.Least.{HasMember}
+use Rattle.cert_maker.specs.LeastTree.{HasMember}
 use Rattle.config_box.proofs.Filters.{contained}
 
 first : SetOf → ℕ

@@ -1,10 +1,10 @@
 -- The law of the least tree.
 use Rattle.std.proofs.Common.{arith}
 use Rattle.cert_checker.specs.FirstFault.{goal_trace}
-use Rattle.least_tree.specs.Least.{NeededIsSmall, AcceptedIsLarge, NeededIsLeast}
-use Rattle.least_tree.proofs.Passing.{passes-walk}
-use Rattle.least_tree.proofs.ByNumbers.{goal-by-numbers}
-use Rattle.least_tree.proofs.OneLine.{needed-is-small, accepted-is-large}
+use Rattle.cert_maker.specs.LeastTree.{NeededIsSmall, AcceptedIsLarge, NeededIsLeast}
+use Rattle.cert_maker.proofs.Passing.{passes-walk}
+use Rattle.cert_maker.proofs.ByNumbers.{goal-by-numbers}
+use Rattle.cert_maker.proofs.OneLine.{needed-is-small, accepted-is-large}
 
 pub small : NeededIsSmall
 small stack goal sets c d nodes l w = needed-is-small (goal_trace stack goal) sets c d nodes (goal-by-numbers stack goal) l w

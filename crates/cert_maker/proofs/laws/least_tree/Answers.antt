@@ -1,6 +1,6 @@
-use Rattle.least_tree.proofs.OneMember.{has-member}
-use Rattle.least_tree.proofs.LeastTree.{small, large, least}
-use Rattle.least_tree.proofs.laws.least_tree.Goals as goal
+use Rattle.cert_maker.proofs.OneMember.{has-member}
+use Rattle.cert_maker.proofs.LeastTree.{small, large, least}
+use Rattle.cert_maker.proofs.laws.least_tree.Goals as goal
 
 pub returns-clause-needed : goal.returns-clause-needed
 returns-clause-needed c = small

@@ -13,15 +13,15 @@ use Rattle.config_box.specs.Tests.{TestOf, AtMostOf, AmongOf, coord_of, answers,
 use Rattle.cert_tree.specs.Certificate.{NodeOf, TestAt, ValueAt, BagAt}
 use Rattle.cert_checker.specs.declared.rule.Rule.TheVariants.{TestKind, EmptyHalf, MixedTrace}
 use Rattle.cert_checker.specs.Paths.{Path, IsAt, root}
-use Rattle.least_tree.specs.Needed.{AgreeBut, IsNeededTest, IsNeededAt, IsNeeded}
-use Rattle.least_tree.specs.Runs.{trace_with, runs_along, IsOnLine}
-use Rattle.least_tree.specs.Walk.{Walk}
+use Rattle.cert_maker.specs.Needed.{AgreeBut, IsNeededTest, IsNeededAt, IsNeeded}
+use Rattle.cert_maker.specs.Runs.{trace_with, runs_along, IsOnLine}
+use Rattle.cert_maker.specs.Walk.{Walk}
 use Rattle.reference_resolver.proofs.SameTraces.{trace-cases}
 use Rattle.config_box.proofs.Filters.{Among}
-use Rattle.least_tree.proofs.Lines.{Kept, between, chosen, kept, In, in-set, set-in, takes, answers-takes, is_between, half, at_path, mark-path, Fits, Both, half-in, in-half, some-takes, some-fails, spread-runs, spread-le, Cuts, spread-eq, spread-some, spread-one}
-use Rattle.least_tree.proofs.Counting.{IsLeaf, Shrinks, at-most, Grows, at-least}
-use Rattle.least_tree.proofs.Passing.{Passes}
-use Rattle.least_tree.proofs.ByNumbers.{GoesByNumbers}
+use Rattle.cert_maker.proofs.Lines.{Kept, between, chosen, kept, In, in-set, set-in, takes, answers-takes, is_between, half, at_path, mark-path, Fits, Both, half-in, in-half, some-takes, some-fails, spread-runs, spread-le, Cuts, spread-eq, spread-some, spread-one}
+use Rattle.cert_maker.proofs.Counting.{IsLeaf, Shrinks, at-most, Grows, at-least}
+use Rattle.cert_maker.proofs.Passing.{Passes}
+use Rattle.cert_maker.proofs.ByNumbers.{GoesByNumbers}
 
 -- members differ at c alone, and their number there tells their trace
 pub record Line (trace : List ℕ → Trace) (sets : List SetOf) (c : Coord) (t : ℕ → Trace) : Type 0 where

@@ -4,7 +4,7 @@ use Rattle.std.proofs.lemmas.Bool.{cases_Bool}
 use Rattle.std.specs.List.{list_any}
 use Rattle.reference_resolver.specs.Trace.{Trace}
 use Rattle.reference_resolver.specs.SameTrace.{same_trace}
-use Rattle.least_tree.specs.Runs.{different}
+use Rattle.cert_maker.specs.Runs.{different}
 use Rattle.reference_resolver.proofs.SameTraces.{trace-cases}
 use Rattle.config_box.proofs.Filters.{Among, among-kept, kept-among}
 

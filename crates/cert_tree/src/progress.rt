@@ -1,8 +1,8 @@
-//! How far the work is.
+//! How far long work over goals is.
 
 /// Where the caller wants to know how far the work is.
 pub trait Progress {
-    /// `done` of `all` goals have their tree.
+    /// `done` of `all` goals are done.
     fn goals_done(&mut self, done: usize, all: usize);
 }
 

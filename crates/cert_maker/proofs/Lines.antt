@@ -7,10 +7,10 @@ use Rattle.reference_resolver.specs.Trace.{Trace}
 use Rattle.box_answers.specs.NumberSet.{SetOf, RangeOf, NumbersOf, LocalesOf, IsIn}
 use Rattle.config_box.specs.Tests.{TestOf, AtMostOf, AmongOf, coord_of, is_listed, answers, is_range}
 use Rattle.cert_checker.specs.Paths.{Path}
-use Rattle.least_tree.specs.Runs.{changes, different, runs}
+use Rattle.cert_maker.specs.Runs.{changes, different, runs}
 use Rattle.config_box.proofs.Filters.{Among, among, contained, among-kept, kept-among}
-use Rattle.least_tree.proofs.Different.{fails, find, map-among, different-le, different-eq, different-some, different-one}
-use Rattle.least_tree.proofs.Changes.{change-most, change-one, changes-at, changes-same}
+use Rattle.cert_maker.proofs.Different.{fails, find, map-among, different-le, different-eq, different-some, different-one}
+use Rattle.cert_maker.proofs.Changes.{change-most, change-one, changes-at, changes-same}
 
 -- ---- a test at a number of its coordinate
 

@@ -8,8 +8,8 @@ use Rattle.cert_tree.specs.declared.goal.Goal.{Goal}
 use Rattle.cert_tree.specs.Certificate.{NodeOf}
 use Rattle.cert_checker.specs.Fails.{NoRuleFails}
 use Rattle.cert_checker.specs.FirstFault.{goal_trace}
-use Rattle.least_tree.specs.Needed.{IsNeeded}
-use Rattle.least_tree.specs.Runs.{runs_along, VariesAlone, IsOnLine}
+use Rattle.cert_maker.specs.Needed.{IsNeeded}
+use Rattle.cert_maker.specs.Runs.{runs_along, VariesAlone, IsOnLine}
 
 -- each such box has a member of which the laws speak
 abbrev pub HasMember : Type 0

@@ -3,7 +3,7 @@ use Rattle.std.proofs.Common.{◌≡◌, ◌≢◌, ℕ, zero, suc, ◌+◌, ◌
 use Rattle.std.specs.Prelude.{if◌then◌else◌}
 use Rattle.reference_resolver.specs.Trace.{Trace}
 use Rattle.reference_resolver.specs.SameTrace.{same_trace}
-use Rattle.least_tree.specs.Runs.{changes}
+use Rattle.cert_maker.specs.Runs.{changes}
 use Rattle.reference_resolver.proofs.SameTraces.{trace-cases}
 
 -- whether it changes behind a number

@@ -1,4 +1,0 @@
-pub mod Walk
-pub mod Needed
-pub mod Runs
-pub mod Least
