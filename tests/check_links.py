@@ -1,0 +1,81 @@
+#!/usr/bin/env python3
+"""Checks the links of all pages (*.md), and the pages that code and scripts name: the file is there, and where a
+heading is named (#..), the page has it. Prints what is broken; the status is 1 then."""
+import os
+import re
+import sys
+
+ROOT = os.path.dirname(os.path.dirname(os.path.realpath(__file__)))
+LINK = re.compile(r"\]\(([^()\s]+)\)")
+NAMED_PAGE = re.compile(r"(?:\$here/)?([\w./-]*\w\.md(?:#[\w-]+)?)")
+CODE = (".rt", ".antt", ".sh", ".py", ".edit", ".json", ".txt")
+
+
+def lines_of(file):
+    with open(file, encoding="utf-8", errors="replace") as it:
+        return it.read().splitlines()
+
+
+def files():
+    """All files of the repository but those that a build makes."""
+    for folder, folders, names in os.walk(ROOT):
+        folders[:] = sorted(it for it in folders if it not in (".git", "out"))
+        yield from (f"{folder}/{name}" for name in sorted(names))
+
+
+def without_blocks(lines):
+    """The lines of a page that are no code block."""
+    is_block = False
+    for line in lines:
+        if line.startswith("```"):
+            is_block = not is_block
+        elif not is_block:
+            yield line
+
+
+def anchors(page):
+    """The anchors of a page's headings, as GitHub makes them."""
+    found = set()
+    for line in without_blocks(lines_of(page)):
+        if re.match(r"#+ ", line):
+            title = line.lstrip("#").strip().lower()
+            found.add(re.sub(r"[^\w\- ]", "", title).replace(" ", "-"))
+    return found
+
+
+def fault(link, folders):
+    """Why a link does not lead anywhere from any of these folders, or None."""
+    path, _, anchor = link.partition("#")
+    targets = [os.path.normpath(f"{folder}/{path}") for folder in folders]
+    target = next((it for it in targets if os.path.exists(it)), None)
+    if target is None:
+        return "no such file"
+    if anchor and anchor not in anchors(target):
+        return "no such heading"
+    return None
+
+
+def broken():
+    for file in files():
+        here = os.path.dirname(file)
+        if file.endswith(".md"):
+            for line in without_blocks(lines_of(file)):
+                for link in LINK.findall(line):
+                    own = os.path.basename(file) if link.startswith("#") else ""
+                    if "://" not in link:
+                        yield file, link, fault(own + link, [here])
+        elif file.endswith(CODE):
+            for line in lines_of(file):
+                for link in NAMED_PAGE.findall(line):
+                    yield file, link, fault(link, [ROOT, f"{ROOT}/docs", here])
+
+
+def main():
+    found = [(file, link, why) for file, link, why in broken() if why]
+    for file, link, why in found:
+        print(f"{os.path.relpath(file, ROOT)}: {link}: {why}")
+    return 1 if found else 0
+
+
+if __name__ == "__main__":
+    sys.exit(main())
