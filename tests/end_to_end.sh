@@ -309,14 +309,6 @@ for page in README.md docs/GUIDE.md; do
     done
 done
 
-# ---- the pages: their links, and the page that is made from the definitions
-if command -v python3 >/dev/null; then
-    ends "links and headings of all pages" 0 "python3 '$here/tests/check_links.py' >&2"
-    ends "DEFINITIONS.md is up to date" 0 "python3 '$here/tools/definitions.py' --check"
-else
-    echo "not run, since python3 is missing: links and headings of all pages, DEFINITIONS.md"
-fi
-
 # the guide's commands that make an id map
 awk '/^names\(\)/ { shown = 1 } /^```/ { shown = 0 } shown' "$here/docs/GUIDE.md" >map.sh
 ln -s "$here/examples" examples
@@ -335,6 +327,14 @@ if command -v python3 >/dev/null; then
     ends "what is no table has no newer features" 2 "python3 '$here/examples/newer_format.py' '$here/examples/porcelain/map.json'"
 else
     echo "not run, since python3 is missing: a search for newer features"
+fi
+
+# ---- the pages: their links, and the page that is made from the definitions
+if command -v python3 >/dev/null; then
+    ends "links and headings of all pages" 0 "python3 '$here/tests/check_links.py' >&2"
+    ends "DEFINITIONS.md is up to date" 0 "python3 '$here/tools/definitions.py' --check"
+else
+    echo "not run, since python3 is missing: links and headings of all pages, DEFINITIONS.md"
 fi
 
 # ---- files and streams
