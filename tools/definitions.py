@@ -5,8 +5,8 @@ usage: tools/definitions.py            writes the page
        tools/definitions.py --check    ends with status 1 where the page is not up to date
 
 What a file says is its first comment, in crates/NAME/specs/. Carried by means: a contract of this public
-function names a definition of the file. Where none does, these are the nearest: the functions whose contracts
-name a definition that is made of it.
+function names a definition of the file. Where none does, the nearest are named whose contracts name a definition
+that is made of it.
 """
 import os
 import re
@@ -207,20 +207,28 @@ class Reader:
     def carriers(self, specs):
         """The functions that carry a file, and how: as words of a row."""
         own = [(specs.crate, specs.name, name) for name in specs.names]
-        seen, level, word = set(own), own, ""
-        while level:
-            found = []
-            for home in level:
-                found += [it for it in self.public.get(home, []) if it not in found]
-            if found:
-                return word + shown(found, specs.crate, self.crates)
-            above = [it for home in level for it in self.made_of.get(home, [])]
-            level = [it for at, it in enumerate(above) if it not in seen and it not in above[:at]]
+        levels = self.levels_above(own)
+        carried = [[it for home in level for it in self.public.get(home, [])] for level in levels]
+        if carried[0]:
+            return shown(carried[0], specs.crate, self.crates)
+        # The nearest of the crate itself, or else of another one.
+        in_crate = [[it for it in found if it[0] == specs.crate] for found in carried]
+        nearest = next((found for found in in_crate + carried if found), [])
+        if nearest:
+            return "within " + shown(nearest, specs.crate, self.crates)
+        is_private = any(home in self.private for level in levels for home in level)
+        return "private contracts" if is_private else ""
+
+    def levels_above(self, own):
+        """These definitions, those that are made of them, and so on; each once."""
+        levels, seen = [], set()
+        level = own
+        while level or not levels:
+            levels.append(level)
             seen.update(level)
-            word = "within "
-        if any(home in self.private for home in seen):
-            return "private contracts"
-        return ""
+            above = [it for home in level for it in self.made_of.get(home, [])]
+            level = [it for it in dict.fromkeys(above) if it not in seen]
+        return levels
 
 
 def shown(found, crate, order):
