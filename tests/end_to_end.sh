@@ -329,12 +329,12 @@ else
     echo "not run, since python3 is missing: a search for newer features"
 fi
 
-# ---- the pages: their links, and the page that is made from the definitions
+# ---- the pages: their links, the files that they name, and the page that is made from the definitions
 if command -v python3 >/dev/null; then
-    ends "links and headings of all pages" 0 "python3 '$here/tests/check_links.py' >&2"
+    ends "links and files that pages name" 0 "python3 '$here/tests/check_pages.py' >&2"
     ends "DEFINITIONS.md is up to date" 0 "python3 '$here/tools/definitions.py' --check"
 else
-    echo "not run, since python3 is missing: links and headings of all pages, DEFINITIONS.md"
+    echo "not run, since python3 is missing: links and files that pages name, DEFINITIONS.md"
 fi
 
 # ---- files and streams

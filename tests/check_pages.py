@@ -1,6 +1,7 @@
 #!/usr/bin/env python3
 """Checks the links of all pages (*.md), and the pages that code and scripts name: the file is there, and where a
-heading is named (#..), the page has it. Prints what is broken; the status is 1 then."""
+heading is named (#..), the page has it. Of the tables in docs/ARCHITECTURE.md that say where a rule or a message is,
+each file that a row names is in a crate that the row names. Prints what is broken; the status is 1 then."""
 import os
 import re
 import sys
@@ -70,8 +71,26 @@ def broken():
                     yield file, link, fault(link, [ROOT, f"{ROOT}/docs", here])
 
 
+def lost_files():
+    """The files in rows of ARCHITECTURE.md that are in none of the crates that the row names."""
+    page = f"{ROOT}/docs/ARCHITECTURE.md"
+    crates = os.listdir(f"{ROOT}/crates")
+    in_tables = False
+    for line in lines_of(page):
+        if line.startswith("## "):
+            in_tables = line.startswith("## Where each")
+        if not in_tables or not line.startswith("|"):
+            continue
+        named = [it for it in crates if re.search(rf"\b{it}\b", line)]
+        for file in re.findall(r"[\w/]+\.(?:rt|antt)\b", line):
+            crate, _, path = file.partition("/")
+            places = [file] if crate in named else [f"{it}/{part}/{file}" for it in named for part in ("src", "specs")]
+            if not any(os.path.exists(f"{ROOT}/crates/{it}") for it in places):
+                yield page, file, "in no crate that the row names"
+
+
 def main():
-    found = [(file, link, why) for file, link, why in broken() if why]
+    found = [(file, link, why) for file, link, why in [*broken(), *lost_files()] if why]
     for file, link, why in found:
         print(f"{os.path.relpath(file, ROOT)}: {link}: {why}")
     return 1 if found else 0
