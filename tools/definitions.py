@@ -20,7 +20,7 @@ HEAD = """# Definitions
 
 Contracts cite these definitions. `tools/definitions.py` makes this page from the files in `specs/` and the contracts in `src/`; do not edit it. Crates and files stand in the order to read them. [ARCHITECTURE.md](ARCHITECTURE.md#contracts-and-definitions) says how the definitions are named.
 
-**Carried by** lists public functions whose contracts name a definition of the file, or a type whose contracts do (of the type itself, or of its iterator). *Within* means that no public contract names it: these are the nearest that name a definition made of it. *Private contracts*: none but those of private functions name it, so no public promise rests on the file.
+A definition in bold is named by a public contract; the others are what it is made of. **Carried by** lists public functions whose contracts name a definition of the file, or a type whose contracts do (of the type itself, or of its iterator). *Within* means that no public contract names it: these are the nearest that name a definition made of it. *Private contracts*: none but those of private functions name it, so no public promise rests on the file.
 """
 
 USE = re.compile(r"^\s*(?:ghost )?(?:unfoldable )?(pub )?use Rattle\.(\w+)\.specs\.(\w+)(?:\.\{([^}]*)\}| as (\w+))?;?\s*$", re.M)
@@ -204,6 +204,11 @@ class Reader:
                     if (crate, name) not in carriers:
                         carriers.append((crate, name))
 
+    def shown_name(self, specs, name):
+        """The name of a definition; in bold where a public contract names it."""
+        words = f"`{' '.join(parts_of(name))}`"
+        return f"**{words}**" if (specs.crate, specs.name, name) in self.public else words
+
     def carriers(self, specs):
         """The functions that carry a file, and how: as words of a row."""
         own = [(specs.crate, specs.name, name) for name in specs.names]
@@ -302,7 +307,7 @@ def page():
             continue
         lines += [f"## {crate}", "", "| file | says | definitions | carried by |", "|---|---|---|---|"]
         for specs in files:
-            names = ", ".join(f"`{' '.join(parts_of(name))}`" for name in specs.names)
+            names = ", ".join(reader.shown_name(specs, name) for name in specs.names)
             link = f"[{specs.name}](../crates/{crate}/specs/{specs.name}.antt)"
             lines.append(f"| {link} | {cell(specs.says)} | {cell(names)} | {reader.carriers(specs)} |")
         lines.append("")
