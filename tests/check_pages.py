@@ -56,35 +56,47 @@ def fault(link, folders):
     return None
 
 
+def links_of(page):
+    """The links of a page that lead to files, and why one leads nowhere."""
+    own = os.path.basename(page)
+    for link in LINK.findall("\n".join(without_blocks(lines_of(page)))):
+        if "://" not in link:
+            yield link, fault(own + link if link.startswith("#") else link, [os.path.dirname(page)])
+
+
+def pages_named_in(file):
+    """The pages that code or a script names, and why one is not there."""
+    for link in NAMED_PAGE.findall("\n".join(lines_of(file))):
+        yield link, fault(link, [ROOT, f"{ROOT}/docs", os.path.dirname(file)])
+
+
 def broken():
     for file in files():
-        here = os.path.dirname(file)
         if file.endswith(".md"):
-            for line in without_blocks(lines_of(file)):
-                for link in LINK.findall(line):
-                    own = os.path.basename(file) if link.startswith("#") else ""
-                    if "://" not in link:
-                        yield file, link, fault(own + link, [here])
+            yield from ((file, *it) for it in links_of(file))
         elif file.endswith(CODE):
-            for line in lines_of(file):
-                for link in NAMED_PAGE.findall(line):
-                    yield file, link, fault(link, [ROOT, f"{ROOT}/docs", here])
+            yield from ((file, *it) for it in pages_named_in(file))
+
+
+def rows_of_places(page):
+    """The rows of the tables that say where a rule or a message is."""
+    is_told = False
+    for line in lines_of(page):
+        if line.startswith("## "):
+            is_told = line.startswith("## Where each")
+        if is_told and line.startswith("|"):
+            yield line
 
 
 def lost_files():
     """The files in rows of ARCHITECTURE.md that are in none of the crates that the row names."""
     page = f"{ROOT}/docs/ARCHITECTURE.md"
     crates = os.listdir(f"{ROOT}/crates")
-    in_tables = False
-    for line in lines_of(page):
-        if line.startswith("## "):
-            in_tables = line.startswith("## Where each")
-        if not in_tables or not line.startswith("|"):
-            continue
-        named = [it for it in crates if re.search(rf"\b{it}\b", line)]
-        for file in re.findall(r"[\w/]+\.(?:rt|antt)\b", line):
-            crate, _, path = file.partition("/")
-            places = [file] if crate in named else [f"{it}/{part}/{file}" for it in named for part in ("src", "specs")]
+    for row in rows_of_places(page):
+        named = [it for it in crates if re.search(rf"\b{it}\b", row)]
+        for file in re.findall(r"[\w/]+\.(?:rt|antt)\b", row):
+            is_whole = file.split("/")[0] in named
+            places = [file] if is_whole else [f"{it}/{part}/{file}" for it in named for part in ("src", "specs")]
             if not any(os.path.exists(f"{ROOT}/crates/{it}") for it in places):
                 yield page, file, "in no crate that the row names"
 

@@ -124,18 +124,15 @@ class Reader:
         self.moved = {}  # modules that a Lib.antt passes on
         for crate in self.crates:
             lib = f"{ROOT}/crates/{crate}/specs/Lib.antt"
-            for given_on, below, name, names, alias in uses_in(text_of(lib)) if os.path.exists(lib) else []:
-                if given_on and not names:
-                    self.moved[crate, alias or name] = (below, name)
+            given_on = [use for use in uses_in(text_of(lib)) if use[0]] if os.path.exists(lib) else []
+            self.moved.update({(crate, alias or name): (below, name) for _, below, name, names, alias in given_on if not names})
         self.made_of = {}  # definition: the definitions that are made of it
         for file in self.specs.values():
             known = self.known(file.uses)
             known.update({name: (file.crate, file.name, owner) for name, owner in file.owners.items()})
             for name, body in file.bodies.items():
                 above = (file.crate, file.name, name)
-                for below in self.named_in(body, known):
-                    if below != above:
-                        self.made_of.setdefault(below, []).append(above)
+                self.note(self.made_of, [below for below in self.named_in(body, known) if below != above], above)
         self.public, self.private = {}, {}  # definition: the functions whose contracts name it
         for crate in self.crates:
             self.read_code(crate)
@@ -198,11 +195,15 @@ class Reader:
                 outer = owner or function
                 is_public = is_public and (handed_on is None or outer in handed_on)
                 name = f"{owner}::{function}" if owner and function else outer
-                carried = self.public if is_public else self.private
-                for home in self.named_in(clause, known):
-                    carriers = carried.setdefault(home, [])
-                    if (crate, name) not in carriers:
-                        carriers.append((crate, name))
+                self.note(self.public if is_public else self.private, self.named_in(clause, known), (crate, name))
+
+    @staticmethod
+    def note(carried, homes, carrier):
+        """Notes that a function carries these definitions."""
+        for home in homes:
+            carriers = carried.setdefault(home, [])
+            if carrier not in carriers:
+                carriers.append(carrier)
 
     def shown_name(self, specs, name):
         """The name of a definition; in bold where a public contract names it."""
