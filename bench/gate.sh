@@ -1,12 +1,14 @@
 #!/bin/sh
 # Prints the processor seconds that the gate takes for each crate: for its proof, its tests and its must-fail edits, and
-# the sums, as a table for docs/ARCHITECTURE.md: gate.sh [CRATE..]. Without a crate it measures all, and takes as long as
-# the gate. Each part works from nothing, on a copy of the repository; those below a named crate are proved too, unmeasured.
+# the sums, as a table: gate.sh [CRATE..]. Without a crate it measures all, and takes as long as the gate. Each part works
+# from nothing, on a copy of the repository; those below a named crate are proved too, unmeasured. Where the crates of the
+# fixed proof (README.md) are among them, the sum is printed as a multiple of that too.
 # The environment may give RT, the command that proves in place of rt, and JOBS, how many tests and edits run side by
 # side, beside one proof.
 here=$(CDPATH='' cd "$(dirname "$0")/.." && pwd) || exit 1
 program=$(basename "$0")
 rt=${RT:-rt}
+fixed="contract_words hex_text chunk_walk json_input config_record"
 . "$here/tools/crates_below.sh"
 
 # measure WORK CRATE PART COMMAND..: runs a command in the crate's folder, and keeps the processor seconds, of user and
@@ -76,11 +78,17 @@ for crate in $needed; do
     case $named in *" $crate "*) echo "$crate" ;; esac
 done | xargs -r -P "${JOBS:-$jobs}" -n 1 sh "$0" --rest "$work"
 
-for crate in $named; do
-    for part in proof tests edits; do
-        echo "$crate $part $(cat "$work/seconds/$crate.$part" 2>/dev/null || echo 0)"
+{
+    for crate in $fixed; do
+        echo "fixed $(cat "$work/seconds/$crate.proof" 2>/dev/null || echo none)"
     done
-done | awk '
+    for crate in $named; do
+        for part in proof tests edits; do
+            echo "$crate $part $(cat "$work/seconds/$crate.$part" 2>/dev/null || echo 0)"
+        done
+    done
+} | awk '
+    $1 == "fixed" { fixed += $2; if ($2 == "none") unmeasured = 1; next }
     { took[$1, $2] = $3; all[$1] += $3; sum[$2] += $3; total += $3; if (!($1 in seen)) { seen[$1] = 1; names[++count] = $1 } }
     function cell(seconds) { return seconds ? sprintf("%.0f", seconds) : "" }
     function row(name, proof, tests, edits, seconds) {
@@ -97,5 +105,6 @@ done | awk '
         }
         row("all", sum["proof"], sum["tests"], sum["edits"], total)
         printf "\n%.0f processor minutes\n", total / 60
+        if (fixed && !unmeasured) printf "%.1f times the fixed proof, which took %.0f s\n", total / fixed, fixed
     }'
 [ ! -e "$work/failed" ]

@@ -4,7 +4,7 @@
 SHAPE says how the entries do it:
   shared   all are one bag of so many rows
   overlap  they are 1,000 bags of so many rows, each of which begins one row behind the one before it
-  turns    they are two bags of half as many rows, which take turns"""
+  turns    they are two bags of half as many rows, in alternation"""
 import struct
 import sys
 

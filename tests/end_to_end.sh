@@ -329,6 +329,14 @@ else
     echo "not run, since python3 is missing: a search for newer features"
 fi
 
+# ---- the pages: their links, the files that they name, and the page that is made from the definitions
+if command -v python3 >/dev/null; then
+    ends "links and files that pages name" 0 "python3 '$here/tests/check_pages.py' >&2"
+    ends "DEFINITIONS.md is up to date" 0 "python3 '$here/tools/definitions.py' --check"
+else
+    echo "not run, since python3 is missing: links and files that pages name, DEFINITIONS.md"
+fi
+
 # ---- files and streams
 line absent.err 'file: absent'
 check "an absent file" 5 $none absent.err rows absent

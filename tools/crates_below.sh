@@ -20,3 +20,18 @@ crates_below() {
             print order
         }' "$list"
 }
+
+# crates_above LIST CRATE..: the crates that stand on these, without themselves, lowest first.
+crates_above() {
+    list=$1
+    shift
+    awk -v crates="$*" '
+        BEGIN { split(crates, given, " "); for (it in given) changed[given[it]] = 1 }
+        !/^#/ && /:/ {
+            split($0, halves, ":"); split(halves[1], head, " "); name = head[1]
+            if (name in changed) next
+            count = split(halves[2], below, " ")
+            for (at = 1; at <= count; at++) if (below[at] in changed) { changed[name] = 1; order = order name " "; break }
+        }
+        END { print order }' "$list"
+}

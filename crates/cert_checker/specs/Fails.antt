@@ -17,6 +17,7 @@ use Rattle.cert_checker.specs.Paths.{Path, IsAt, open_at}
 
 -- ---- at a test, to which these members come
 
+-- The kind of a test is judged by the whole box: halves keep ranges as ranges and choices as choices.
 abbrev pub FailsAtTest : List SetOf → (List ℕ → Type 0) → TestOf → Rule → Type 0
 FailsAtTest sets members test TestKind = has_wrong_kind sets test ≡ true
 FailsAtTest sets members test EmptyHalf = AllAnswer members test true ⊎ AllAnswer members test false
