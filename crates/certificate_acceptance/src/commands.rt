@@ -1,0 +1,11 @@
+//! Worked rows of what `check` and `make` print.
+
+mod accepted;
+mod command;
+mod goals;
+mod long_texts;
+mod made;
+mod maker;
+mod refused;
+mod rejected;
+mod watched;

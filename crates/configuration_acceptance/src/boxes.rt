@@ -1,0 +1,7 @@
+//! Boxes, by worked rows, and random ones of which all members are asked one by one.
+
+mod answers;
+mod every_member;
+mod halves;
+mod random;
+mod texts;

@@ -1,0 +1,9 @@
+//! Layer lists and id maps, the layers of a stack, and where the ids end that a device asks for.
+
+mod explain;
+mod id_maps;
+mod layer_list;
+mod layers;
+mod lent;
+mod query;
+mod selection;

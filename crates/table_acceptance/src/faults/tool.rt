@@ -1,0 +1,93 @@
+//! Faults of stacks, of bags, of inputs, and of commands.
+
+use crate::faults::other_text;
+use bags_themes::BagFault;
+use cert_tree::CertFault;
+use config_box::BoxFault;
+use config_record::DeviceFault;
+use overlay_map::{MapFault, StackFault};
+use resource_tool::{InputFault, LayersFault, ToolFault};
+use type_chunks::TableFault;
+
+#[test]
+fn shows_faults_of_stacks_and_bags(rt: HostRuntime) {
+    assert_eq!(rt;
+        other_text(
+            rt.alloc(),
+            &[
+                (StackFault::TooManyLayers, "TooManyLayers"),
+                (StackFault::OutOfMemory, "OutOfMemory"),
+            ]
+        ),
+        None
+    );
+    assert_eq!(rt;
+        other_text(
+            rt.alloc(),
+            &[
+                (BagFault::Absent, "Absent"),
+                (BagFault::Plain, "Plain"),
+                (BagFault::BagDepth, "BagDepth"),
+                (BagFault::OutOfMemory, "OutOfMemory"),
+            ]
+        ),
+        None
+    );
+}
+
+#[test]
+fn shows_faults_of_inputs(rt: HostRuntime) {
+    assert_eq!(rt;
+        other_text(
+            rt.alloc(),
+            &[
+                (InputFault::Read, "Read"),
+                (InputFault::TooLarge, "TooLarge"),
+                (InputFault::OutOfMemory, "OutOfMemory"),
+            ]
+        ),
+        None
+    );
+}
+
+#[test]
+fn shows_faults_of_commands(rt: HostRuntime) {
+    assert_eq!(rt;
+        other_text(
+            rt.alloc(),
+            &[
+                (
+                    ToolFault::Table(TableFault::Entry(400)),
+                    "refused: table: Entry 400",
+                ),
+                (
+                    ToolFault::Layers(LayersFault::Shape),
+                    "refused: layers: Shape",
+                ),
+                (
+                    ToolFault::LayerTable(2, TableFault::NotTable),
+                    "refused: layer 2 table: NotTable",
+                ),
+                (
+                    ToolFault::LayerMap(63, MapFault::Syntax),
+                    "refused: layer 63 map: Syntax",
+                ),
+                (
+                    ToolFault::Device(DeviceFault::Density),
+                    "refused: device: Density",
+                ),
+                (
+                    ToolFault::Box(BoxFault::RegionAlone),
+                    "refused: box: RegionAlone",
+                ),
+                (
+                    ToolFault::Certificate(CertFault::Shape(0, 3)),
+                    "refused: certificate: Shape 0 3",
+                ),
+                (ToolFault::OutOfMemory, "out of memory"),
+                (ToolFault::Write, "Write"),
+            ]
+        ),
+        None
+    );
+}

@@ -1,0 +1,13 @@
+//! Worked rows of tables and of their parts: chunks, ids, values and rows of bags, strings and styles, inputs of
+//! bounded length; tables that are wrong in one place, and ones whose bytes are changed one by one.
+
+mod chunks;
+mod dump;
+mod hostile;
+mod input;
+mod many_entries;
+mod rows;
+mod rows_by_id;
+mod shared_bags;
+mod strings;
+mod values;
