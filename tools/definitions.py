@@ -24,6 +24,8 @@ A definition in bold is named by a public contract; the others are what it is ma
 """
 
 USE = re.compile(r"^\s*(?:ghost )?(?:unfoldable )?(pub )?use Rattle\.(\w+)\.specs\.(\w+)(?:\.\{([^}]*)\}| as (\w+))?;?\s*$", re.M)
+# A crate below, as one that stands on it hands it on: Rattle.overlay_map.specs.res_value.ResId is res_value's.
+HANDED_ON = re.compile(r"Rattle\.\w+\.specs\.(?!declared\b|contracts\b)([a-z]\w*)\.")
 DEFINITION = re.compile(r"^(?:(?:abbrev|unfoldable|pub|record|data) )*(?!mod\b|use\b|pub\b|infix)(\S+)(?= :| \(| \{)")
 CONSTRUCTOR = re.compile(r"^ +(\w+) :")
 MODULE = re.compile(r"^pub mod (\w+)")
@@ -105,7 +107,7 @@ def head_of(lines):
 def uses_in(text):
     """Each line that names a file of definitions: is it passed on, crate, file, names, alias."""
     found = []
-    for given_on, crate, name, names, alias in USE.findall(text):
+    for given_on, crate, name, names, alias in USE.findall(HANDED_ON.sub(r"Rattle.\1.specs.", text)):
         listed = [it.strip() for it in names.split(",") if it.strip()]
         found.append((bool(given_on), crate, name, listed, alias))
     return found

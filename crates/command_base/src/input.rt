@@ -1,8 +1,7 @@
 //! Inputs of bounded length.
 
-ghost use Rattle.std.specs.Prelude.{◌≡◌, ◌<◌, ◌≤◌, vec_len, OnOk, IfOk, IfSome, IfErr, IsErrOf};
-ghost use Rattle.std.specs.Io.KnownBytes.{IsAtEnd};
-ghost use Rattle.command_base.specs.Input.{Gave};
+ghost use Rattle.std.specs.Prelude.{◌≡◌, IfErr};
+ghost use Rattle.command_base.specs.Input.{ReadsWithin};
 ghost use Rattle.command_base.specs.declared.input.InputFault.TheVariants.{OutOfMemory};
 
 use std::alloc::{AllocError, Global};
@@ -44,13 +43,7 @@ pub fn read_input<R: Read>(
     reader: &mut R,
     limit: usize,
 ) -> Result<Vec<u8>, InputFault>
-    ensures whole { IfOk result (λ input. IfSome (R.remaining reader.old) (λ bytes. input.items ≡ bytes)) }
-    ensures end { OnOk result (IsAtEnd (R.remaining reader.new)) }
-    ensures within { IfOk result (λ input. vec_len input ≤ limit) }
-    ensures too_large { IsErrOf result InputFault.TooLarge
-        → Gave (R.remaining reader.old) (R.remaining reader.new) (λ count. limit < count) }
-    ensures read { IsErrOf result InputFault.Read
-        → Gave (R.remaining reader.old) (R.remaining reader.new) (λ count. count ≤ limit) }
+    ensures { ReadsWithin limit (R.remaining reader.old) (R.remaining reader.new) result }
 {
     let mut input = Vec::with_capacity(alloc, FIRST_ROOM)?;
     let mut piece = [0; PIECE_SIZE];
