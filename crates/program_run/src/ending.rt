@@ -24,7 +24,7 @@ pub fn end<O: Write + Drop, E: Write + Drop>(
 {
     match outcome {
         Ok(status) => ExitStatus::after_status(status),
-        Err(stop) => stop.tell(out, errors).status,
+        Err(stop) => stop.report(out, errors).status,
     }
 }
 

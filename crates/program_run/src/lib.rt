@@ -29,4 +29,4 @@ pub use input::{Inputs, ProcessInputs, table_bytes};
 pub use place::Place;
 pub use progress::ProgressLine;
 pub use status::ExitStatus;
-pub use stop::{Stop, Told};
+pub use stop::{Stop, Reported};

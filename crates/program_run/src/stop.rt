@@ -28,9 +28,9 @@ pub enum Stop<'a> {
     Tool(ToolFault),
 }
 
-/// What came of telling why the program stops.
+/// What came of the report why the program stops.
 #[derive(Drop)]
-pub struct Told {
+pub struct Reported {
     /// How the program ends.
     pub status: ExitStatus,
     /// Whether the stream took the text.
@@ -40,8 +40,8 @@ pub struct Told {
 impl Stop<'_> {
     ghost use Rattle.program_run.specs.Stop.{stop_of};
 
-    /// Tells why, on the stream where that belongs, and gives the exit status.
-    pub fn tell<O: Write + Drop, E: Write + Drop>(&self, out: &mut O, errors: &mut E) -> Told
+    /// Says why, on the stream where that belongs, and gives the exit status.
+    pub fn report<O: Write + Drop, E: Write + Drop>(&self, out: &mut O, errors: &mut E) -> Reported
         ensures status { result.status ≡ status_of_stop result.was_written (stop_of self.now) }
         ensures line { result.was_written ≡ true → IfSome (stop_line (stop_of self.now))
             (Appends (E.contents errors.old) (E.contents errors.new)) }
@@ -49,7 +49,7 @@ impl Stop<'_> {
         ensures errors { is_output (stop_of self.now) ≡ true → errors.new ≡ errors.old }
     {
         let was_written = self.write(out, errors).is_ok();
-        Told {
+        Reported {
             status: self.status(was_written),
             was_written,
         }
