@@ -14,7 +14,7 @@ from itertools import pairwise
 from pathlib import Path
 
 # What the names of modules begin with, before the function, and end with, behind it.
-BEFORE = re.compile(r"^(proofs|specs\.contracts|specs\.declared|specs)\.")
+BEFORE = re.compile(r"^(proofs|specs\.contracts|specs\.declared|specs)(\.|$)")
 BEHIND = re.compile(r"(\.(decls|[A-Z]\w*|[0-9]+))+$")
 
 
@@ -37,7 +37,7 @@ def main(folder, crate, seconds, limit="20"):
     share = min(1, float(seconds) / max(sum(found.values()), 1e-9))
     for function, time in found.most_common():
         if time * share >= float(limit):
-            print(f"{crate}: {function or '(the crate)'}: {time * share:.0f} s")
+            print(f"{crate}: {function or '(what its proofs share)'}: {time * share:.0f} s")
 
 
 if __name__ == "__main__":
