@@ -1,8 +1,9 @@
 #!/bin/sh
 # Prints the processor seconds that the gate takes for each crate: for its proof, its tests and its must-fail edits, and
-# the sums, as a table: gate.sh [CRATE..]. Without a crate it measures all, and takes as long as the gate. Each part works
-# from nothing, on a copy of the repository; those below a named crate are proved too, unmeasured. Where the crates of the
-# fixed proof (README.md) are among them, the sum is printed as a multiple of that too.
+# the sums, as a table: gate.sh [CRATE..]. Behind it stand the functions whose proofs took more than twenty of these
+# seconds. Without a crate it measures all, and takes as long as the gate. Each part works from nothing, on a copy of the
+# repository; those below a named crate are proved too. Where the crates of the fixed proof (README.md) are among them, the
+# sum is printed as a multiple of that too.
 # The environment may give RT, the command that proves in place of rt, and JOBS, how many tests and edits run side by
 # side, beside one proof.
 here=$(CDPATH='' cd "$(dirname "$0")/.." && pwd) || exit 1
@@ -61,7 +62,7 @@ needed=$(crates_below "$here/crates.txt" $named)
 work=$(mktemp -d) || exit 1
 trap 'rm -rf "$work"' EXIT
 trap 'exit 130' INT TERM
-mkdir "$work/copy" "$work/seconds" "$work/printed" || exit 1
+mkdir "$work/copy" "$work/seconds" "$work/printed" && : >"$work/dear" || exit 1
 (cd "$here" && tar -cf - --exclude=.git --exclude=out .) | tar -xf - -C "$work/copy" || exit 1
 
 # One proof at a time, and beside it tests and edits of crates that are proved, with 4 GB of free memory for each.
@@ -75,6 +76,8 @@ for crate in $needed; do
     else
         measure "$work" "$crate" proof "$rt" lib --jobs 1 || break
     fi
+    kept=$work/copy/crates/$crate/out/incremental
+    python3 "$here/bench/dear_functions.py" "$kept" "$crate" "$(cat "$work/seconds/$crate.proof")" >>"$work/dear"
     case $named in *" $crate "*) echo "$crate" ;; esac
 done | xargs -r -P "${JOBS:-$jobs}" -n 1 sh "$0" --rest "$work"
 
@@ -107,4 +110,6 @@ done | xargs -r -P "${JOBS:-$jobs}" -n 1 sh "$0" --rest "$work"
         printf "\n%.0f processor minutes\n", total / 60
         if (fixed && !unmeasured) printf "%.1f times the fixed proof, which took %.0f s\n", total / fixed, fixed
     }'
+printf '\nFunctions whose proofs took more than 20 processor seconds:\n'
+cat "$work/dear"
 [ ! -e "$work/failed" ]

@@ -423,6 +423,9 @@ ends "a word that is not UTF-8" 2 '"$0" rows "$(printf "\377")"'
 # ---- what the compiler refuses
 ends "a row of bytes that a function owns" 0 "sh '$here/tests/own_bytes.sh' >&2"
 
+# ---- what the toolchain reads
+ends "few paths through crates.txt" 0 "python3 '$here/tools/paths.py' --check >&2"
+
 # ---- each way to stop
 ends "each way to stop" 0 "sh '$here/tests/stops/stops.sh' \"\$0\" >&2"
 

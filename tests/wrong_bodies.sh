@@ -2,11 +2,15 @@
 # Tries the edits crates/NAME/wrong-bodies/*.edit: the prover has to refuse each, as it refuses those of must-fail/.
 #   wrong_bodies.sh [--all] [--apply] [CRATE..]
 #   wrong_bodies.sh --seen [CRATE..]
+#   wrong_bodies.sh --control [CRATE..]
 # Without a crate it takes all. It works on a copy, so the checkout stays as it is and may be used meanwhile.
 #   --all    tries those of must-fail/ too
 #   --apply  proves nothing: checks that each edit of these and of seen-by-tests/ still applies (each `old:` text
 #            stands once)
 #   --seen   tries those of seen-by-tests/ alone: of each, the test that it names has to fail (planted_bugs.py)
+#   --control  tries the controls of the edits that name one: the prover has to let each through (planted_bugs.py)
+# A line `control: TEXT` behind a `new:` line says what stands there in the control, the right body in the same form.
+# An edit shows a bug only where its control is let through: else it may be refused for its form.
 # The last line is 'N refused, M let through' (with --apply 'N apply, M do not'), and the status is 0 only where
 # M is 0. An edit that could not be tried counts as let through.
 # The environment may give RT, the command that proves in place of rt, and JOBS, how many runs go side by side.
@@ -45,6 +49,7 @@ while :; do
         shift
         exec python3 "$here/tests/planted_bugs.py" "$@"
         ;;
+    --control) exec python3 "$here/tests/planted_bugs.py" "$@" ;;
     -*)
         sed -n '2,/^here=/{/^#/s/^# \{0,1\}//p;}' "$0" >&2
         exit 2

@@ -6,7 +6,8 @@ usage: tools/prove.py [CRATE]        CRATE is restool if it is left out
 A crate is proved once those below it are, first those with the most work behind them, each with the
 jobs that processors and memory allow. A run of rt locks its crate and all crates below it, so each
 run here works on a copy of what it reads, and what it made is then moved to the crate's out/, whole
-or not at all. What rt finds up to date is not proved again.
+or not at all. Nobody edits such a copy, so rt computes each stamp in it once (rt_once.py). What rt
+finds up to date is not proved again.
 """
 import fcntl
 import glob
@@ -21,6 +22,9 @@ from concurrent.futures import FIRST_COMPLETED, ThreadPoolExecutor, wait
 
 ROOT = os.path.dirname(os.path.dirname(os.path.realpath(__file__)))
 LIST = f"{ROOT}/crates.txt"
+RT = ("rt",)
+# rt, where nobody edits the sources.
+RT_ONCE = (sys.executable, f"{ROOT}/tools/rt_once.py")
 LOGS = f"{ROOT}/out/proofs"
 # How the name of the folder begins, in out/ of the crate that is asked for, in which the copies lie.
 ROOMS = "proofs-"
@@ -144,8 +148,14 @@ def work_behind(crates):
     return found
 
 
+def copy_tree(source, target, copy):
+    """Copies a folder, if it is there, file by file."""
+    if os.path.isdir(source):
+        shutil.copytree(source, target, copy_function=copy)
+
+
 def link_tree(source, target):
-    """Copies a folder, if it is there: its files by hard links where the system has them."""
+    """The same by hard links, where the system has them."""
 
     def link(file, to):
         try:
@@ -153,8 +163,7 @@ def link_tree(source, target):
         except OSError:
             shutil.copy2(file, to)
 
-    if os.path.isdir(source):
-        shutil.copytree(source, target, copy_function=link)
+    copy_tree(source, target, link)
 
 
 class Room:
@@ -163,9 +172,11 @@ class Room:
     def __init__(self, rooms, crate):
         self.crate, self.top = crate, f"{rooms}/{crate.name}"
         self.folder = f"{self.top}/crates/{crate.name}"
+        self.begun = time.time()
         for it in [*crate.below, crate]:
             for part in SOURCES:
-                link_tree(f"{it.folder}/{part}", f"{self.top}/crates/{it.name}/{part}")
+                # no links: some editors write into the file that is there
+                copy_tree(f"{it.folder}/{part}", f"{self.top}/crates/{it.name}/{part}", shutil.copy2)
             link_tree(f"{it.folder}/out/rlib", f"{self.top}/crates/{it.name}/out/rlib")
         link_tree(f"{crate.folder}/out/incremental", f"{self.folder}/out/incremental")
         with open(f"{self.top}/crates.txt", "w", encoding="utf-8") as file:
@@ -173,7 +184,8 @@ class Room:
 
     def give_back(self):
         """Moves what was made to the crate: the library last, and by a rename, so that no half of it is ever there."""
-        os.utime(f"{self.folder}/out/rlib/stamp")
+        # older than what was edited meanwhile
+        os.utime(f"{self.folder}/out/rlib/stamp", (self.begun, self.begun))
         os.makedirs(f"{self.crate.folder}/out", exist_ok=True)
         for part in MADE:
             made, to = f"{self.folder}/out/{part}", f"{self.crate.folder}/out/{part}"
@@ -257,7 +269,7 @@ class Prover:
     def prove_library(self, crate, jobs):
         if not self.is_ending:
             room = Room(self.rooms, crate)
-            self.run(crate, room.folder, "lib", "--jobs", str(jobs))
+            self.run(crate, room.folder, *RT_ONCE, "lib", "--jobs", str(jobs))
         if not self.is_ending:
             room.give_back()
 
@@ -267,16 +279,16 @@ class Prover:
         self.is_ending = False
         jobs = ["--jobs", str(max(1, min(self.crate.jobs_within(free_memory()), processors())))]
         if os.path.isfile(f"{self.crate.folder}/src/main.rt"):
-            self.run(self.crate, self.crate.folder, "run", *jobs, "--", "--version")
+            self.run(self.crate, self.crate.folder, *RT, "run", *jobs, "--", "--version")
         else:
-            self.run(self.crate, self.crate.folder, "lib", *jobs)
+            self.run(self.crate, self.crate.folder, *RT, "lib", *jobs)
 
     def run(self, crate, folder, *words):
-        """Runs rt in a folder. Its output goes to the crate's log."""
+        """Runs a command in a folder. Its output goes to the crate's log."""
         log = f"{LOGS}/{crate.name}.log"
         with open(log, "w", encoding="utf-8") as out:
             how = {"cwd": folder, "stdin": subprocess.DEVNULL, "stdout": out, "stderr": subprocess.STDOUT}
-            ran = self.runs[crate.name] = subprocess.Popen(["rt", *words], **how)
+            ran = self.runs[crate.name] = subprocess.Popen(words, **how)
             if self.is_ending:
                 ran.terminate()
             status = ran.wait()
