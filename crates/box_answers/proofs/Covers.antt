@@ -1,4 +1,4 @@
--- A rule that says something anywhere in a set says it at one of the set's candidates.
+-- A rule that says something anywhere in a set says it at one of the numbers that are tried.
 use Rattle.std.proofs.Common.{◌≡◌, ℕ, ◌+◌, ◌*◌, ◌/◌, ◌%◌, ◌<◌, ◌≤◌, ◌≢◌, true, false, arith, nat_lt, nat_le, ◌==◌, refl, Bool, ◌⊎◌, inl, inr, sym, ◌∙◌, ap, not, ◌&&◌, ◌||◌, List, length, get_or, lit<}
 use Rattle.std.proofs.lemmas.Bool.Decides.{nat_tests}
 use Rattle.std.proofs.lemmas.Bool.{cases_eq}
@@ -13,7 +13,7 @@ use Rattle.config_rules.specs.Comparisons.{is_given, differ, given_answer, large
 use Rattle.config_rules.specs.Conditions.{is_equal, is_at_most, keys_suit, locale_suits}
 use Rattle.config_rules.specs.Kind.{kind_answer}
 use Rattle.box_answers.specs.NumberSet.{SetOf, RangeOf, NumbersOf, LocalesOf, IsIn}
-use Rattle.box_answers.specs.Candidates.{clamped, candidates}
+use Rattle.box_answers.specs.TriedNumbers.{clamped, tried_numbers}
 use Rattle.box_answers.proofs.Sets.{get_or_same}
 use Rattle.box_answers.proofs.Monotone.{by_bool, is_larger_better-ends}
 
@@ -22,7 +22,7 @@ by_eq a b same other = elim (cases_eq a b) [ inl e ↦ same e | inr n ↦ other 
 
 -- ---- where an answer is looked for in a range
 
--- the answer is none of these: at the ends, at the two numbers behind the first, at three given numbers
+-- the answer is none of these: at the ends, at the two numbers after the first, at three given numbers
 record FailsAt (f : ℕ → Answer) (a b low high : ℕ) (want : Answer) : Type 0 where
   at_low : f low ≡ want → ⊥
   at_high : f high ≡ want → ⊥
@@ -220,7 +220,7 @@ size-missed a b low high want fails v p q h =
 suits : ℕ → ℕ → Bool
 suits a d = a == 0 || (a / 65536 == d / 65536 && (a % 65536 == 0 || a % 65536 == d % 65536))
 
--- a record without a region suits the locales of its language, which stand one behind the other
+-- a record without a region suits the locales of its language, which stand one after the other
 suits-language : (a d : ℕ) → (a ≡ 0 → ⊥) → a % 65536 ≡ 0 → suits a d ≡ (nat_le a d && nat_lt d (a + 65536))
 unfolding suits
 suits-language a d az r =
@@ -306,11 +306,11 @@ locale-missed a b low high want fails =
 -- ---- each kind
 
 -- what a rule of a kind says at a device's number
-abbrev pub told : Kind → Numbers → Numbers → ℕ → ℕ → Answer
-told kind a b m n = kind_answer kind a b (record { first = n; second = m })
+abbrev pub says : Kind → Numbers → Numbers → ℕ → ℕ → Answer
+says kind a b m n = kind_answer kind a b (record { first = n; second = m })
 
-range-missed : (kind : Kind) (a b : Numbers) (m low high : ℕ) (want : Answer) → kind ≢ kinds.Dimensions → FailsAt (told kind a b m) a.first b.first low high want
-    → IsMissed (told kind a b m) low high want
+range-missed : (kind : Kind) (a b : Numbers) (m low high : ℕ) (want : Answer) → kind ≢ kinds.Dimensions → FailsAt (says kind a b m) a.first b.first low high want
+    → IsMissed (says kind a b m) low high want
 unfolding kind_answer
 range-missed kinds.Given a b m low high want one fails = by_ends _ a.first b.first low high want (given-ends a.first b.first) fails
 range-missed kinds.Larger a b m low high want one fails = by_ends _ a.first b.first low high want (larger-ends a.first b.first) fails
@@ -330,11 +330,11 @@ range-missed kinds.Always a b m low high want one fails = by_ends _ a.first b.fi
 clamped-same : (low high n : ℕ) → low ≤ n → n ≤ high → clamped low high n ≡ n
 clamped-same low high n p q = omega arith
 
--- what is wanted is told at no candidate
+-- what is wanted is said at no number that is tried
 abbrev pub IsMissedBy : (ℕ → Answer) → List ℕ → Answer → Type 0
 IsMissedBy f numbers want = (k : ℕ) → k < length numbers → f (get_or numbers k 0) ≢ want
 
-fails_at : (f : ℕ → Answer) (low high a b : ℕ) (want : Answer) → IsMissedBy f (candidates (RangeOf low high) a b) want → FailsAt f a b low high want
+fails_at : (f : ℕ → Answer) (low high a b : ℕ) (want : Answer) → IsMissedBy f (tried_numbers (RangeOf low high) a b) want → FailsAt f a b low high want
 fails_at f low high a b want h = record {
   at_low = h 0 (lit< tt);
   at_high = h 1 (lit< tt);
@@ -345,10 +345,10 @@ fails_at f low high a b want h = record {
   at_soft = λ p q e. h 6 (lit< tt) (ap f (clamped-same low high 3 p q) ∙ e);
 }
 
--- where it is told at no candidate it is told nowhere in the set
-pub missed : (kind : Kind) (a b : Numbers) (m : ℕ) (set : SetOf) (want : Answer) → kind ≢ kinds.Dimensions → IsMissedBy (told kind a b m) (candidates set a.first b.first) want
-    → (n : ℕ) → IsIn set n → told kind a b m n ≢ want
+-- where it is said at none of them it is said nowhere in the set
+pub missed : (kind : Kind) (a b : Numbers) (m : ℕ) (set : SetOf) (want : Answer) → kind ≢ kinds.Dimensions → IsMissedBy (says kind a b m) (tried_numbers set a.first b.first) want
+    → (n : ℕ) → IsIn set n → says kind a b m n ≢ want
 unfolding IsMissed
-missed kind a b m (RangeOf low high) want one h n is = range-missed kind a b m low high want one (fails_at (told kind a b m) low high a.first b.first want h) n is.0 is.1
-missed kind a b m (NumbersOf numbers) want one h n is = λ e. h is.0 is.1 (ap (told kind a b m) (sym (get_or_same numbers is.0 n is.1 is.2)) ∙ e)
-missed kind a b m (LocalesOf locales) want one h n is = λ e. h is.0 is.1 (ap (told kind a b m) (sym (get_or_same locales is.0 n is.1 is.2)) ∙ e)
+missed kind a b m (RangeOf low high) want one h n is = range-missed kind a b m low high want one (fails_at (says kind a b m) low high a.first b.first want h) n is.0 is.1
+missed kind a b m (NumbersOf numbers) want one h n is = λ e. h is.0 is.1 (ap (says kind a b m) (sym (get_or_same numbers is.0 n is.1 is.2)) ∙ e)
+missed kind a b m (LocalesOf locales) want one h n is = λ e. h is.0 is.1 (ap (says kind a b m) (sym (get_or_same locales is.0 n is.1 is.2)) ∙ e)

@@ -21,7 +21,7 @@ use Rattle.config_rules.specs.Table.{answer_of_table}
 use Rattle.config_rules.proofs.ReadsLemmas.{depends}
 use Rattle.box_answers.specs.NumberSet.{SetOf, IsIn, IsLeastIn, IsGreatestIn}
 use Rattle.box_answers.specs.Members.{set_at, IsMember}
-use Rattle.box_answers.specs.Candidates.{candidates}
+use Rattle.box_answers.specs.TriedNumbers.{tried_numbers}
 use Rattle.box_answers.specs.Changes.{PassesEverywhere, AgreeBelow, ChangesTo, IsNowhere, answer_at}
 use Rattle.box_answers.specs.Facts.{OneFails}
 use Rattle.box_answers.proofs.Covers.{IsMissedBy, missed, zero-ends}
@@ -32,11 +32,11 @@ use Rattle.box_answers.proofs.Dimensions.{dimensions-alike}
 rises-parts : (n place : ℕ) (places : List ℕ) → rises_from n (place ∷ places) ≡ true → (n ≤ place) × (rises_from (place + 1) places ≡ true)
 rises-parts n place places h = let p = and_parts _ _ h in (leb-true n place p.0, p.1)
 
--- what is known of a rule in its place, of which the ones before read nothing at n or behind
+-- what is known of a rule in its place, of which the ones before read nothing at n or after
 pub record InPlace (n : ℕ) (rule : Rule) (rest : List Rule) : Type 0 where
   pub next : ℕ
   pub first : n ≤ place_of rule.coord
-  pub behind : rises_from next (places_read rest) ≡ true
+  pub after : rises_from next (places_read rest) ≡ true
   pub past : place_of rule.coord < next
   pub agree : (x y : List ℕ) → AgreeBelow next x y → AgreeAt (reads rule) (device_number x) (device_number y)
 
@@ -54,7 +54,7 @@ in_place-two n rule rest is h =
     record {
       next = place_of (beside rule.coord) + 1;
       first = p.0;
-      behind = q.1;
+      after = q.1;
       past = omega (arith, q.0);
       agree = λ x y h. subst (λ (k : Kind). AgreeAt (reads_of k rule.coord) (device_number x) (device_number y)) (sym is) (two-agree rule.coord x y (omega (arith, q.0)) h);
     }
@@ -65,7 +65,7 @@ in_place-one n rule rest is h =
     record {
       next = place_of rule.coord + 1;
       first = p.0;
-      behind = p.1;
+      after = p.1;
       past = omega arith;
       agree = λ x y h. subst (λ (cs : List Coord). AgreeAt cs (device_number x) (device_number y)) (sym is) (one-agree rule.coord x y h);
     }
@@ -78,19 +78,19 @@ pub in_place : (n : ℕ) (rule : Rule) (rest : List Rule) → rises_from n (plac
 in_place n rule rest h = by_kind n rule rest rule.kind refl h
 
 -- a rule of a table that is read in order is so by itself
-one_behind : (x y : ℕ) → x ≤ y → rises_from x (y ∷ []) ≡ true
-one_behind x y le = grind (arith, nat_tests)
+one_after : (x y : ℕ) → x ≤ y → rises_from x (y ∷ []) ≡ true
+one_after x y le = grind (arith, nat_tests)
 
-two_behind : (x y z : ℕ) → x ≤ y → y + 1 ≤ z → rises_from x (y ∷ z ∷ []) ≡ true
-two_behind x y z le lt = grind (arith, nat_tests)
+two_after : (x y z : ℕ) → x ≤ y → y + 1 ≤ z → rises_from x (y ∷ z ∷ []) ≡ true
+two_after x y z le lt = grind (arith, nat_tests)
 
 alone-of_kind : (n : ℕ) (c : Coord) (rest : List Rule) (kind : Kind) → rises_from n (map place_of (reads_of kind c ++ flat_map reads rest)) ≡ true
     → rises_from 0 (map place_of (reads_of kind c ++ [])) ≡ true
 alone-of_kind n c rest kinds.Dimensions h =
     let p = rises-parts n (place_of c) (place_of (beside c) ∷ places_read rest) h in
     let q = rises-parts (place_of c + 1) (place_of (beside c)) (places_read rest) p.1 in
-    two_behind 0 (place_of c) (place_of (beside c)) (omega arith) q.0
-alone-of_kind n c rest kind h = one_behind 0 (place_of c) (omega arith)
+    two_after 0 (place_of c) (place_of (beside c)) (omega arith) q.0
+alone-of_kind n c rest kind h = one_after 0 (place_of c) (omega arith)
 
 pub alone : (n : ℕ) (rule : Rule) (rest : List Rule) → rises_from n (places_read (rule ∷ rest)) ≡ true → AreReadInOrder (rule ∷ [])
 alone n rule rest h = alone-of_kind n rule.coord rest rule.kind h
@@ -157,7 +157,7 @@ Reaches-next sets rules left rest rule a b want device next so_far split change 
     let place = in_place so_far.place rule rest (ap (λ (rs : List Rule). rises_from so_far.place (places_read rs)) (sym split) ∙ so_far.in_order) in
     record {
       place = place.next;
-      in_order = place.behind;
+      in_order = place.after;
       member = change.member;
       passed = λ d agree.
           so_far.passed d (λ c q. agree c (omega (arith, place.first, place.past)) ∙ change.before c (omega (arith, place.first)))
@@ -232,10 +232,10 @@ unfolding rule_answer
 one_answer rule a b d one = kind-one rule.kind (numbers_at rule.coord a) (numbers_at rule.coord b) (numbers_at rule.coord d) (not_dimensions rule one)
 
 pub one-none : (sets : List SetOf) (rule : Rule) (a b : Coord → ℕ) (set : SetOf) (x y : ℕ) (want : Answer) → reads rule ≡ rule.coord ∷ [] → set ≡ set_at sets rule.coord → x ≡ a rule.coord → y ≡ b rule.coord
-    → IsMissedBy (λ n. answer_at rule a b n 0) (candidates set x y) want → IsNowhere sets rule a b want
+    → IsMissedBy (λ n. answer_at rule a b n 0) (tried_numbers set x y) want → IsNowhere sets rule a b want
 one-none sets rule a b set x y want one at first second none d m e =
     missed rule.kind (numbers_at rule.coord a) (numbers_at rule.coord b) 0 (set_at sets rule.coord) want (not_dimensions rule one)
-    (subst (λ (cs : List ℕ). IsMissedBy (λ n. answer_at rule a b n 0) cs want) (ap (λ (s : SetOf). candidates s x y) at ∙ ap (λ (n : ℕ). candidates (set_at sets rule.coord) n y) first ∙ ap (candidates (set_at sets rule.coord) (a rule.coord)) second) none)
+    (subst (λ (cs : List ℕ). IsMissedBy (λ n. answer_at rule a b n 0) cs want) (ap (λ (s : SetOf). tried_numbers s x y) at ∙ ap (λ (n : ℕ). tried_numbers (set_at sets rule.coord) n y) first ∙ ap (tried_numbers (set_at sets rule.coord) (a rule.coord)) second) none)
     (device_number d rule.coord) (m rule.coord)
     (sym (one_answer rule a b (device_number d) one) ∙ e)
 
@@ -271,9 +271,9 @@ two_alike rule second a b v w x y two p q =
     ∙ by_dimensions A B v w x y p q
     ∙ sym (ap (λ (k : Kind). kind_answer k A B (record { first = x; second = y })) is)
 
--- the second coordinate stands behind the rule's
-pub second-behind : (rule : Rule) (second : Coord) → reads rule ≡ rule.coord ∷ second ∷ [] → AreReadInOrder (rule ∷ []) → place_of rule.coord < place_of second
-second-behind rule second two h =
+-- the second coordinate stands after the rule's
+pub second-after : (rule : Rule) (second : Coord) → reads rule ≡ rule.coord ∷ second ∷ [] → AreReadInOrder (rule ∷ []) → place_of rule.coord < place_of second
+second-after rule second two h =
     let g : rises_from 0 (place_of rule.coord ∷ place_of second ∷ []) ≡ true = ap (λ (cs : List Coord). rises_from 0 (map place_of (cs ++ []))) (sym two) ∙ h in
     let p = rises-parts 0 (place_of rule.coord) (place_of second ∷ []) g in
     let q = rises-parts (place_of rule.coord + 1) (place_of second) [] p.1 in

@@ -1,9 +1,13 @@
 -- What is listed of a set, and what is tried in it, lies in it.
 use Rattle.std.proofs.Common.{◌≡◌, ℕ, zero, suc, ◌+◌, ◌-◌, ◌<◌, ◌≤◌, ◌≢◌, List, length, get_or, set, sym, ap, subst, ◌∙◌, arith}
-use Rattle.std.specs.Prelude.{Contains}
+use Rattle.std.specs.Prelude.{◌↔◌, ◌==◌, true, Contains}
+use Rattle.std.specs.List.{list_any}
 use Rattle.std.specs.List.Sorted.{IsStrictlyIncreasing}
 use Rattle.std.proofs.lemmas.List.{get_or_default, get_or-map}
+use Rattle.std.proofs.lemmas.Bool.{eq-eqb, eqb-true}
 use Rattle.std.proofs.lemmas.List.Elements.{Contains-get_or}
+use Rattle.std.proofs.lemmas.List.Folds.{list_any_at}
+use Rattle.std.proofs.lemmas.Map.Views.{Contains-from_any}
 use Rattle.config_record.specs.declared.coord.Coord.{Coord}
 use Rattle.config_record.specs.Coord.{all_coords, place_of, number_at}
 use Rattle.config_record.specs.ComparedNumber.{device_number}
@@ -14,7 +18,7 @@ use Rattle.config_rules.specs.Rule.{rule_answer}
 use Rattle.box_answers.specs.declared.number_set.NumberSet.{NumberSet}
 use Rattle.box_answers.specs.NumberSet.{SetOf, RangeOf, NumbersOf, LocalesOf, set_of, listed, IsIn, IsProper, IsLeastIn, IsGreatestIn}
 use Rattle.box_answers.specs.Members.{sets_of, set_at, IsMember}
-use Rattle.box_answers.specs.Candidates.{clamped, candidates}
+use Rattle.box_answers.specs.TriedNumbers.{clamped, tried_numbers}
 use Rattle.box_answers.specs.Changes.{ChangesTo}
 use Rattle.box_answers.proofs.Coords.{next-coord}
 
@@ -49,6 +53,13 @@ last-greatest xs rises m is =
     let le = rises-between xs is.0 (length xs - 1) rises (omega (arith, is.1)) (omega (arith, is.1)) in
     omega arith
 
+-- the two ways in which a number is one of a list
+pub listed-in : (ns : List ℕ) (n : ℕ) → (list_any (λ m. m == n) ns ≡ true) ↔ Contains ns n
+listed-in ns n = (
+  Contains-from_any {eq = λ q m. m == q} (λ q m e. sym (eqb-true m q e)) n ns,
+  λ is. list_any_at (λ m. m == n) ns is.0 n is.1 (eq-eqb (get_or ns is.0 n) n is.2),
+)
+
 -- ---- the ends of a set
 
 pub least-of : (set : SetOf) → IsProper set → IsLeastIn set (get_or (listed set) 0 0)
@@ -62,25 +73,25 @@ greatest-of (NumbersOf numbers) p = record { is_in = Contains-get_or numbers (le
 greatest-of (LocalesOf locales) p =
     record { is_in = Contains-get_or locales (length locales - 1) 0 (omega (arith, p.nonempty)); above = last-greatest locales p.rises }
 
--- ---- candidates
+-- ---- the numbers that are tried
 
 clamped-in : (low high n : ℕ) → low ≤ high → (low ≤ clamped low high n) × (clamped low high n ≤ high)
 clamped-in low high n le = (omega arith, omega arith)
 
-range-candidate : (low high a b k : ℕ) → low ≤ high → k < 7 → IsIn (RangeOf low high) (get_or (candidates (RangeOf low high) a b) k 0)
-range-candidate low high a b zero le q = (omega arith, le)
-range-candidate low high a b (suc zero) le q = (le, omega arith)
-range-candidate low high a b (suc (suc zero)) le q = clamped-in low high (low + 1) le
-range-candidate low high a b (suc (suc (suc zero))) le q = clamped-in low high (low + 2) le
-range-candidate low high a b (suc (suc (suc (suc zero)))) le q = clamped-in low high a le
-range-candidate low high a b (suc (suc (suc (suc (suc zero))))) le q = clamped-in low high b le
-range-candidate low high a b (suc (suc (suc (suc (suc (suc zero)))))) le q = clamped-in low high 3 le
-range-candidate low high a b (suc (suc (suc (suc (suc (suc (suc k))))))) le q = absurd (omega arith)
+range-tried : (low high a b k : ℕ) → low ≤ high → k < 7 → IsIn (RangeOf low high) (get_or (tried_numbers (RangeOf low high) a b) k 0)
+range-tried low high a b zero le q = (omega arith, le)
+range-tried low high a b (suc zero) le q = (le, omega arith)
+range-tried low high a b (suc (suc zero)) le q = clamped-in low high (low + 1) le
+range-tried low high a b (suc (suc (suc zero))) le q = clamped-in low high (low + 2) le
+range-tried low high a b (suc (suc (suc (suc zero)))) le q = clamped-in low high a le
+range-tried low high a b (suc (suc (suc (suc (suc zero))))) le q = clamped-in low high b le
+range-tried low high a b (suc (suc (suc (suc (suc (suc zero)))))) le q = clamped-in low high 3 le
+range-tried low high a b (suc (suc (suc (suc (suc (suc (suc k))))))) le q = absurd (omega arith)
 
-pub candidate-in : (set : SetOf) (a b k : ℕ) → IsProper set → k < length (candidates set a b) → IsIn set (get_or (candidates set a b) k 0)
-candidate-in (RangeOf low high) a b k p q = range-candidate low high a b k p.rises q
-candidate-in (NumbersOf numbers) a b k p q = Contains-get_or numbers k 0 q
-candidate-in (LocalesOf locales) a b k p q = Contains-get_or locales k 0 q
+pub tried-in : (set : SetOf) (a b k : ℕ) → IsProper set → k < length (tried_numbers set a b) → IsIn set (get_or (tried_numbers set a b) k 0)
+tried-in (RangeOf low high) a b k p q = range-tried low high a b k p.rises q
+tried-in (NumbersOf numbers) a b k p q = Contains-get_or numbers k 0 q
+tried-in (LocalesOf locales) a b k p q = Contains-get_or locales k 0 q
 
 -- ---- the set at a coordinate
 
@@ -103,9 +114,9 @@ before-other c k q e = let same = ap place_of e in omega arith
 pub change-found : (sets : List SetOf) (rule : Rule) (a b : Coord → ℕ) (from d : List ℕ) (c : Coord) (n : ℕ) (want : Answer) → IsMember sets from
     → place_of rule.coord ≤ place_of c → IsIn (set_at sets c) n → device_number d c ≡ n → ((k : Coord) → k ≢ c → device_number d k ≡ device_number from k)
     → rule_answer rule a b (device_number d) ≡ want → ChangesTo sets rule a b from want d
-change-found sets rule a b from d c n want member behind is same others told = record {
+change-found sets rule a b from d c n want member after is same others answer = record {
   member = member-changed sets from d c n member is same others;
-  answer = told;
+  answer = answer;
   before = λ k q. others k (before-other c k (omega arith));
 }
 

@@ -1,7 +1,8 @@
 pub mod NumberSet
 pub mod Members
-pub mod Candidates
+pub mod TriedNumbers
 pub mod Changes
 pub mod Question
+pub mod RuleSearch
 pub mod Sameness
 pub mod Facts

@@ -17,15 +17,18 @@
 //! ```
 #![tactic(auto)]
 
-mod candidates;
+mod member_pair;
 mod members;
 mod neighbours;
 mod number_set;
 mod passing;
 mod question;
+mod rule_search;
 mod sameness;
 mod search;
+mod tried_numbers;
 
+pub use member_pair::MemberPair;
 pub use members::{corner, is_member, set_at};
-pub use number_set::NumberSet;
+pub use number_set::{NumberSet, has_locale};
 pub use sameness::{Sameness, better_all, match_all};

@@ -1,6 +1,7 @@
 //! The numbers that a box allows at a coordinate.
 
-ghost use Rattle.std.specs.Prelude.{◌≡◌, ◌<◌, ◌↔◌, IsTrue, Contains, length, slice_index};
+ghost use Rattle.std.specs.Prelude.{◌≡◌, ◌<◌, ◌↔◌, ◌==◌, IsTrue, length, slice_index};
+ghost use Rattle.std.specs.List.{list_any};
 ghost use Rattle.box_answers.specs.NumberSet.{set_of, locale_numbers, IsIn, listed, IsProper, IsLeastIn, IsGreatestIn};
 
 use config_record::Locale;
@@ -25,7 +26,7 @@ impl NumberSet {
         match self {
             NumberSet::Range(low, high) => *low <= number && number <= *high,
             NumberSet::Numbers(numbers) => numbers.as_ref().as_slice().contains(&number),
-            NumberSet::Locales(locales) => is_among(locales.as_ref().as_slice(), number),
+            NumberSet::Locales(locales) => has_locale(locales.as_ref().as_slice(), number),
         }
     }
 
@@ -66,8 +67,9 @@ impl NumberSet {
     }
 }
 
-fn is_among(locales: &[Locale], number: u32) -> bool
-    ensures { IsTrue result ↔ Contains (locale_numbers locales.now) number }
+/// Whether one of these locales has the number.
+pub fn has_locale(locales: &[Locale], number: u32) -> bool
+    ensures { result ≡ list_any (λ m. m == number) (locale_numbers locales.now) }
 {
     for locale in locales {
         if locale.number() == number {

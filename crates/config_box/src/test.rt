@@ -1,8 +1,8 @@
 //! Tests of one coordinate.
 
-ghost use Rattle.std.specs.Prelude.{◌≡◌, ◌==◌};
-ghost use Rattle.std.specs.List.{list_any};
+ghost use Rattle.std.specs.Prelude.{◌≡◌};
 
+use box_answers::has_locale;
 use config_record::{Coord, Locale};
 
 /// A test of one coordinate. It is answered by each device.
@@ -58,17 +58,4 @@ impl Choice {
             (_, Choice::Locales(_)) => false,
         }
     }
-}
-
-ghost use Rattle.box_answers.specs.NumberSet.{locale_numbers};
-
-fn has_locale(locales: &[Locale], number: u32) -> bool
-    ensures { result ≡ list_any (λ m. m == number) (locale_numbers locales.now) }
-{
-    for locale in locales {
-        if locale.number() == number {
-            return true;
-        }
-    }
-    false
 }

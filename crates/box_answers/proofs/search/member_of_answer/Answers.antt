@@ -2,14 +2,24 @@ use Rattle.std.proofs.lemmas.List.{drop_more}
 use Rattle.box_answers.proofs.SearchSteps.{Reaches-found, Reaches-alone, Reaches-stops, Reaches-next, Reaches-passing, one-fails}
 use Rattle.box_answers.proofs.search.member_of_answer.Goals as goal
 
+pub find_deciding-requires : goal.find_deciding-requires
+find_deciding-requires c = record {
+  sets = c.requires.sets;
+  member = c.loop-rule.invariant.member;
+  in_order = Reaches-alone _ _ _ _ _ _ _ c.args.want _ c.loop-rule.invariant (drop_more c.args.question.now.rules.now c.loop-rule.rule-index _ c.loop-rule-test.true);
+}
+
 pub returns-in-Some-clause-found : goal.returns-in-Some-clause-found
 returns-in-Some-clause-found c =
     Reaches-found _ _ _ _ _ _ _ c.args.want _ _ c.loop-rule.invariant (drop_more c.args.question.now.rules.now c.loop-rule.rule-index _ c.loop-rule-test.true)
     c.in-Some.ensures.found.0 c.in-Some.ensures.found.1
 
-pub change_where-requires-clause-in_order : goal.change_where-requires-clause-in_order
-change_where-requires-clause-in_order c =
-    Reaches-alone _ _ _ _ _ _ _ c.args.want _ c.loop-rule.invariant (drop_more c.args.question.now.rules.now c.loop-rule.rule-index _ c.loop-rule-test.true)
+pub find-requires : goal.find-requires
+find-requires c = record {
+  sets = c.requires.sets;
+  member = c.loop-rule.invariant.member;
+  in_order = Reaches-alone _ _ _ _ _ _ _ c.args.want _ c.loop-rule.invariant (drop_more c.args.question.now.rules.now c.loop-rule.rule-index _ c.loop-rule-test.true);
+}
 
 pub returns-in-None-clause-none : goal.returns-in-None-clause-none
 returns-in-None-clause-none c =
@@ -19,7 +29,7 @@ returns-in-None-clause-none c =
 pub loop-rule-preserved : goal.loop-rule-preserved
 loop-rule-preserved c =
     Reaches-next _ _ _ _ _ _ _ c.args.want _ _ c.loop-rule.invariant (drop_more c.args.question.now.rules.now c.loop-rule.rule-index _ c.loop-rule-test.true)
-    c.in-Some-change_where.ensures.found c.in_default.ensures.none
+    c.in-Some-find.ensures.found c.in_default.ensures.none
 
 pub returns-in-None-clause-fails : goal.returns-in-None-clause-fails
 returns-in-None-clause-fails c = λ _. one-fails _ c.args.question.now.rules.now _ _ c.loop-rule.rule-index _ c.loop-rule-test.true c.in-None.ensures.none
@@ -28,7 +38,3 @@ pub loop-rule-preserved-then-passes_everywhere : goal.loop-rule-preserved-then-p
 loop-rule-preserved-then-passes_everywhere c =
     Reaches-passing _ _ _ _ _ _ _ c.args.want _ c.loop-rule.invariant (drop_more c.args.question.now.rules.now c.loop-rule.rule-index _ c.loop-rule-test.true)
     (c.passes_everywhere.ensures c.if-passes_everywhere.true)
-
-pub change_deciding-requires-clause-in_order : goal.change_deciding-requires-clause-in_order
-change_deciding-requires-clause-in_order c =
-    Reaches-alone _ _ _ _ _ _ _ c.args.want _ c.loop-rule.invariant (drop_more c.args.question.now.rules.now c.loop-rule.rule-index _ c.loop-rule-test.true)

@@ -1,19 +1,19 @@
-//! Where a rule is tried in a set.
+//! The numbers of a set at which a rule is tried.
 
 ghost use Rattle.std.specs.Prelude.{◌≡◌, ℕ, ◌<◌, ◌≤◌, length, slice_index};
 ghost use Rattle.box_answers.specs.NumberSet.{SetOf, RangeOf, set_of};
-ghost use Rattle.box_answers.specs.Candidates.{clamped, candidates};
+ghost use Rattle.box_answers.specs.TriedNumbers.{clamped, tried_numbers};
 
 use crate::number_set::NumberSet;
 use config_rules::SOFT_KEYS;
 
-/// How many numbers of a range are tried: `candidates` in `specs/` says which, and why these.
+/// How many numbers of a range are tried: `tried_numbers` in `specs/` says which, and why these.
 const OF_A_RANGE: usize = 7;
 
 impl NumberSet {
     /// At how many numbers a rule is tried: at a few of a range, at all of a choice.
-    pub(crate) fn candidate_count(&self) -> usize
-        ensures { (a b : ℕ) → result ≡ length (candidates (set_of self.now) a b) }
+    pub(crate) fn tried_count(&self) -> usize
+        ensures { (a b : ℕ) → result ≡ length (tried_numbers (set_of self.now) a b) }
     {
         match self {
             NumberSet::Range(_, _) => OF_A_RANGE,
@@ -22,20 +22,20 @@ impl NumberSet {
     }
 
     /// One of these numbers; `a` and `b` are the numbers of the two records.
-    pub(crate) fn candidate(&self, place: usize, a: u32, b: u32) -> u32
-        requires { place < length (candidates (set_of self.now) a b) }
-        ensures { result ≡ slice_index (candidates (set_of self.now) a b) place }
+    pub(crate) fn tried_number(&self, place: usize, a: u32, b: u32) -> u32
+        requires { place < length (tried_numbers (set_of self.now) a b) }
+        ensures { result ≡ slice_index (tried_numbers (set_of self.now) a b) place }
     {
         match self {
-            NumberSet::Range(low, high) => candidate_between(*low, *high, place, a, b),
+            NumberSet::Range(low, high) => tried_between(*low, *high, place, a, b),
             _ => self.listed(place),
         }
     }
 }
 
-fn candidate_between(low: u32, high: u32, place: usize, a: u32, b: u32) -> u32
+fn tried_between(low: u32, high: u32, place: usize, a: u32, b: u32) -> u32
     requires { place < 7 }
-    ensures { result ≡ slice_index (candidates (RangeOf low high) a b) place }
+    ensures { result ≡ slice_index (tried_numbers (RangeOf low high) a b) place }
 {
     match place {
         0 => low,

@@ -1,7 +1,7 @@
 use Rattle.std.proofs.Common.{◌≡◌, ◌==◌, drop}
 use Rattle.std.specs.List.{list_any}
 use Rattle.box_answers.specs.NumberSet.{locale_numbers}
-use Rattle.config_box.proofs.test.has_locale.Given as goal
+use Rattle.box_answers.proofs.number_set.has_locale.Given as goal
 
 -- the answer is that for the locales that are left
 abbrev pub invariant-loop-locale : goal.invariant-loop-locale

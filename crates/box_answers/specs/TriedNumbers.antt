@@ -1,5 +1,5 @@
--- Where a rule is tried: at few numbers of a set, so chosen that a rule which says something anywhere in the set says it at
--- one of them.
+-- The numbers of a set at which a rule is tried. They are few, and chosen so that a rule which says something anywhere in the
+-- set says it at one of them.
 use Rattle.std.specs.Prelude.{ℕ, ◌+◌, List, [], ◌∷◌, min, max}
 use Rattle.config_rules.specs.Conditions.{soft_keys}
 use Rattle.box_answers.specs.NumberSet.{SetOf, RangeOf, NumbersOf, LocalesOf}
@@ -8,13 +8,13 @@ use Rattle.box_answers.specs.NumberSet.{SetOf, RangeOf, NumbersOf, LocalesOf}
 abbrev pub clamped : ℕ → ℕ → ℕ → ℕ
 clamped low high n = max low (min n high)
 
--- Of a range the ends, the two numbers behind the first, and the numbers of which a rule may speak: those of the two
+-- Of a range the ends, the two numbers after the first, and the numbers of which a rule may speak: those of the two
 -- records, a and b, and soft keys. Of a choice all numbers. Most rules single out two numbers at most and say the same of
 -- all others: of the first three one at least is such another. Where a rule turns once, an end shows it; and the sizes of a
 -- screen are alike from 2, normal, up.
-abbrev pub candidates : SetOf → ℕ → ℕ → List ℕ
-candidates (RangeOf low high) a b =
+abbrev pub tried_numbers : SetOf → ℕ → ℕ → List ℕ
+tried_numbers (RangeOf low high) a b =
     low ∷ high ∷ clamped low high (low + 1) ∷ clamped low high (low + 2)
     ∷ clamped low high a ∷ clamped low high b ∷ clamped low high soft_keys ∷ []
-candidates (NumbersOf numbers) a b = numbers
-candidates (LocalesOf numbers) a b = numbers
+tried_numbers (NumbersOf numbers) a b = numbers
+tried_numbers (LocalesOf numbers) a b = numbers
