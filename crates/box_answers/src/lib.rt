@@ -18,6 +18,7 @@
 #![tactic(auto)]
 
 mod candidates;
+mod member_pair;
 mod members;
 mod neighbours;
 mod number_set;
@@ -26,6 +27,7 @@ mod question;
 mod sameness;
 mod search;
 
+pub use member_pair::MemberPair;
 pub use members::{corner, is_member, set_at};
 pub use number_set::NumberSet;
 pub use sameness::{Sameness, better_all, match_all};

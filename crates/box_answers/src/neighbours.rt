@@ -9,6 +9,7 @@ ghost use Rattle.box_answers.specs.Members.{sets_of, set_at, IsMember, IsBox};
 ghost use Rattle.box_answers.specs.Question.{answered};
 ghost use Rattle.box_answers.specs.Sameness.{Parts, DifferByOne, IsConvex, Separates};
 
+use crate::member_pair::MemberPair;
 use crate::members::set_at;
 use crate::number_set::NumberSet;
 use crate::question::{Question, answered};
@@ -22,13 +23,13 @@ pub(crate) fn neighbours(
     question: &Question,
     yes: &Device,
     no: &Device,
-) -> (Device, Device, Coord)
+) -> MemberPair
     requires sets { IsBox (sets_of sets.now) }
     requires yes_member { IsMember (sets_of sets.now) (device_numbers yes.now) }
     requires no_member { IsMember (sets_of sets.now) (device_numbers no.now) }
     requires yes_answer { answered question.now (device_numbers yes.now) ≡ true }
     requires no_answer { answered question.now (device_numbers no.now) ≡ false }
-    ensures { Separates (sets_of sets.now) (answered question.now) (device_numbers result.0) (device_numbers result.1) result.2 }
+    ensures { Separates (sets_of sets.now) (answered question.now) (device_numbers result.yes) (device_numbers result.no) result.coord }
 {
     neighbours_among(sets, question, yes, no, &Coord::ALL)
 }
@@ -39,21 +40,25 @@ fn neighbours_among(
     yes: &Device,
     no: &Device,
     coords: &[Coord],
-) -> (Device, Device, Coord)
+) -> MemberPair
     requires sets { IsBox (sets_of sets.now) }
     requires yes_member { IsMember (sets_of sets.now) (device_numbers yes.now) }
     requires no_member { IsMember (sets_of sets.now) (device_numbers no.now) }
     requires yes_answer { answered question.now (device_numbers yes.now) ≡ true }
     requires no_answer { answered question.now (device_numbers no.now) ≡ false }
     requires coords { coords.now ≡ all_coords }
-    ensures { Separates (sets_of sets.now) (answered question.now) (device_numbers result.0) (device_numbers result.1) result.2 }
+    ensures { Separates (sets_of sets.now) (answered question.now) (device_numbers result.yes) (device_numbers result.no) result.coord }
 {
     let mut device = *yes;
     for coord in coords {
         let next = device.changed(*coord, no.compared_number(*coord));
         if !answered(question, &next) {
-            let (first, second) = nearest(sets, question, *coord, &device, &next);
-            return (first, second, *coord);
+            let pair = MemberPair {
+                yes: device,
+                no: next,
+                coord: *coord,
+            };
+            return nearest(sets, question, pair);
         }
         device = next;
     }
@@ -61,47 +66,40 @@ fn neighbours_among(
 }
 
 /// In a range the two are brought together.
-fn nearest(
-    sets: &[NumberSet],
-    question: &Question,
-    at: Coord,
-    yes: &Device,
-    no: &Device,
-) -> (Device, Device)
+fn nearest(sets: &[NumberSet], question: &Question, pair: MemberPair) -> MemberPair
     requires sets { IsBox (sets_of sets.now) }
-    requires parts { Parts (sets_of sets.now) (answered question.now) (device_numbers yes.now) (device_numbers no.now) at }
-    ensures { Separates (sets_of sets.now) (answered question.now) (device_numbers result.0) (device_numbers result.1) at }
+    requires parts { Parts (sets_of sets.now) (answered question.now) (device_numbers pair.yes) (device_numbers pair.no) pair.coord }
+    ensures { Separates (sets_of sets.now) (answered question.now) (device_numbers result.yes) (device_numbers result.no) result.coord }
 {
-    match set_at(sets, at) {
-        NumberSet::Range(_, _) => halved(sets, question, at, yes, no),
-        _ => (*yes, *no),
+    match set_at(sets, pair.coord) {
+        NumberSet::Range(_, _) => halved(sets, question, pair),
+        _ => pair,
     }
 }
 
 /// The distance is halved until there is no number between them.
-fn halved(
-    sets: &[NumberSet],
-    question: &Question,
-    at: Coord,
-    yes: &Device,
-    no: &Device,
-) -> (Device, Device)
+fn halved(sets: &[NumberSet], question: &Question, pair: MemberPair) -> MemberPair
     requires sets { IsBox (sets_of sets.now) }
-    requires parts { Parts (sets_of sets.now) (answered question.now) (device_numbers yes.now) (device_numbers no.now) at }
-    requires range { IsConvex (set_at (sets_of sets.now) at) }
-    ensures parts { Parts (sets_of sets.now) (answered question.now) (device_numbers result.0) (device_numbers result.1) at }
-    ensures near { DifferByOne (device_number (device_numbers result.0) at) (device_number (device_numbers result.1) at) }
+    requires parts { Parts (sets_of sets.now) (answered question.now) (device_numbers pair.yes) (device_numbers pair.no) pair.coord }
+    requires range { IsConvex (set_at (sets_of sets.now) pair.coord) }
+    ensures coord { result.coord ≡ pair.coord }
+    ensures parts { Parts (sets_of sets.now) (answered question.now) (device_numbers result.yes) (device_numbers result.no) result.coord }
+    ensures near { DifferByOne (device_number (device_numbers result.yes) result.coord) (device_number (device_numbers result.no) result.coord) }
 {
-    let (mut first, mut second) = (*yes, *no);
-    while let Some(middle) = between(first.compared_number(at), second.compared_number(at)) {
-        let device = first.changed(at, middle);
+    let MemberPair {
+        mut yes,
+        mut no,
+        coord,
+    } = pair;
+    while let Some(middle) = between(yes.compared_number(coord), no.compared_number(coord)) {
+        let device = yes.changed(coord, middle);
         if answered(question, &device) {
-            first = device;
+            yes = device;
         } else {
-            second = device;
+            no = device;
         }
     }
-    (first, second)
+    MemberPair { yes, no, coord }
 }
 
 /// A number strictly between two, if there is one.

@@ -83,6 +83,6 @@ fn answer_of_all(sets: &[NumberSet], question: &Question) -> Sameness
     let Some(no) = member_where(sets, question, false) else {
         return Sameness::Always;
     };
-    let (first, second, coord) = neighbours(sets, question, &yes, &no);
-    Sameness::Mixed(first, second, coord)
+    let pair = neighbours(sets, question, &yes, &no);
+    Sameness::Mixed(pair.yes, pair.no, pair.coord)
 }

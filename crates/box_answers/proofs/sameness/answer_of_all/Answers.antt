@@ -8,4 +8,4 @@ pub returns-in_default-member_where-clause-value : goal.returns-in_default-membe
 returns-in_default-member_where-clause-value c = λ d m. true_from_ne_false _ (c.in_default-member_where.ensures.none d m)
 
 pub returns-clause-value : goal.returns-clause-value
-returns-clause-value c = c.neighbours-coord.ensures
+returns-clause-value c = c.neighbours-pair.ensures
