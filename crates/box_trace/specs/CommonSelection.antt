@@ -21,9 +21,9 @@ IsCommonStep (One after) sets best candidate =
     (step : Step)
     × ((d : List ℕ) → IsMember sets d → step_of best candidate d ≡ step)
     × (option_map cand_of after ≡ best_after step best candidate)
-IsCommonStep (Mixed x y c) sets best candidate =
-    AreSideBySide sets (device_numbers x) (device_numbers y) c
-    × DividesAt (IsMember sets) (step_of best candidate) (device_numbers x) (device_numbers y)
+IsCommonStep (Mixed pair) sets best candidate =
+    AreSideBySide sets (device_numbers pair.yes) (device_numbers pair.no) pair.coord
+    × DividesAt (IsMember sets) (step_of best candidate) (device_numbers pair.yes) (device_numbers pair.no)
 
 -- A whole look-up: all members select this candidate, or none, by the same steps; or one divides two of them, side by side.
 abbrev pub IsCommonSelection : CommonSelection → List SetOf → List LayerOf → ℕ → Type 0
@@ -31,6 +31,6 @@ IsCommonSelection (One picked) sets stack id =
     (steps : List Step)
     × ((d : List ℕ) → IsMember sets d → scan_look_up step_of stack d id ≡ steps)
     × ((d : List ℕ) → IsMember sets d → selected stack id d ≡ option_map cand_of picked)
-IsCommonSelection (Mixed x y c) sets stack id =
-    AreSideBySide sets (device_numbers x) (device_numbers y) c
-    × Divides (IsMember sets) (λ d. scan_look_up step_of stack d id) (device_numbers x) (device_numbers y)
+IsCommonSelection (Mixed pair) sets stack id =
+    AreSideBySide sets (device_numbers pair.yes) (device_numbers pair.no) pair.coord
+    × Divides (IsMember sets) (λ d. scan_look_up step_of stack d id) (device_numbers pair.yes) (device_numbers pair.no)

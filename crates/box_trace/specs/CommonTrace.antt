@@ -28,11 +28,11 @@ pub record AreSideBySide (sets : List SetOf) (x y : List ℕ) (c : Coord) : Type
 -- members answer differently
 abbrev pub IsCommonTrace : CommonTrace → List SetOf → (List ℕ → Trace) → Type 0
 IsCommonTrace (One end) sets trace = (steps : List Step) × SharesTrace (IsMember sets) trace (record { steps = steps; end = end })
-IsCommonTrace (Mixed x y c) sets trace =
-    AreSideBySide sets (device_numbers x) (device_numbers y) c
-    × Divides (IsMember sets) (λ d. (trace d).steps) (device_numbers x) (device_numbers y)
+IsCommonTrace (Mixed pair) sets trace =
+    AreSideBySide sets (device_numbers pair.yes) (device_numbers pair.no) pair.coord
+    × Divides (IsMember sets) (λ d. (trace d).steps) (device_numbers pair.yes) (device_numbers pair.no)
 
 -- So two that are named have different traces.
 abbrev pub NamesTwoTraces : CommonTrace → (List ℕ → Trace) → Type 0
 NamesTwoTraces (One end) trace = Unit {0}
-NamesTwoTraces (Mixed x y c) trace = trace (device_numbers x) ≢ trace (device_numbers y)
+NamesTwoTraces (Mixed pair) trace = trace (device_numbers pair.yes) ≢ trace (device_numbers pair.no)

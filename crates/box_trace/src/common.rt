@@ -1,6 +1,6 @@
 //! What all members of a box have in common, or two that differ.
 
-use config_record::{Coord, Device};
+use config_box::MemberPair;
 use overlay_map::Cand;
 use reference_resolver::End;
 
@@ -9,10 +9,10 @@ use reference_resolver::End;
 pub enum CommonTrace {
     /// All members have one trace, and this is its end.
     One(End),
-    /// Two members that differ in this coordinate alone, and by one where it is a range. At the first
-    /// question that members answer differently the first answers yes, the second no. The questions are, of
-    /// each candidate in turn, whether it matches, and, where it matches all, whether it takes over.
-    Mixed(Device, Device, Coord),
+    /// Two members with different traces: the first question that members answer differently tells them apart.
+    /// The questions are, of each candidate in turn, whether it matches, and, where it matches all, whether it
+    /// takes over.
+    Mixed(MemberPair),
 }
 
 /// What all members of a box select, among the candidates so far.
@@ -21,5 +21,5 @@ pub(crate) enum CommonSelection<'a> {
     /// All take the same steps to this candidate, or to none.
     One(Option<Cand<'a>>),
     /// Two members, as above.
-    Mixed(Device, Device, Coord),
+    Mixed(MemberPair),
 }

@@ -9,7 +9,7 @@
 //! ```text
 //! match common_trace(&stack, id, &phones) {
 //!     CommonTrace::One(end) => .., // where the references of the id end for every phone
-//!     CommonTrace::Mixed(yes, no, coord) => .., // two phones with different traces
+//!     CommonTrace::Mixed(pair) => .., // two phones with different traces
 //! }
 //! ```
 #![tactic(auto)]

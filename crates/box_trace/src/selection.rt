@@ -20,7 +20,7 @@ pub(crate) fn common_selection<'a>(
     for candidate in stack.candidates(id) {
         match best_after(best, candidate, members) {
             CommonSelection::One(picked) => best = picked,
-            CommonSelection::Mixed(yes, no, coord) => return CommonSelection::Mixed(yes, no, coord),
+            CommonSelection::Mixed(pair) => return CommonSelection::Mixed(pair),
         }
     }
     CommonSelection::One(best)

@@ -10,7 +10,7 @@ ghost use Rattle.reference_resolver.specs.Selection.{beats, beats_best};
 ghost use Rattle.box_trace.specs.CommonSelection.{IsCommonStep};
 
 use crate::common::CommonSelection;
-use config_box::{ConfigBox, Sameness};
+use config_box::{ConfigBox, MemberPair, Sameness};
 use config_precedence::same;
 use overlay_map::Cand;
 
@@ -25,7 +25,7 @@ pub(crate) fn best_after<'a>(
     match members.match_all(&candidate.row.config) {
         Sameness::Always => best_after_match(best, candidate, members),
         Sameness::Never => CommonSelection::One(best),
-        Sameness::Mixed(yes, no, coord) => CommonSelection::Mixed(yes, no, coord),
+        Sameness::Mixed(yes, no, coord) => CommonSelection::Mixed(MemberPair { yes, no, coord }),
     }
 }
 
@@ -41,7 +41,7 @@ fn best_after_match<'a>(
     match is_best_beaten(&best, &candidate, members) {
         Sameness::Always => CommonSelection::One(Some(candidate)),
         Sameness::Never => CommonSelection::One(best),
-        Sameness::Mixed(yes, no, coord) => CommonSelection::Mixed(yes, no, coord),
+        Sameness::Mixed(yes, no, coord) => CommonSelection::Mixed(MemberPair { yes, no, coord }),
     }
 }
 

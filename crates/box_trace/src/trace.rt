@@ -31,7 +31,7 @@ fn common_trace_within(stack: &Stack<'_>, id: ResId, members: &ConfigBox, most: 
     'chain: loop {
         let picked = match common_selection(stack, id, members) {
             CommonSelection::One(picked) => picked,
-            CommonSelection::Mixed(yes, no, coord) => return CommonTrace::Mixed(yes, no, coord),
+            CommonSelection::Mixed(pair) => return CommonTrace::Mixed(pair),
         };
         match Next::of(id, &picked).cut_off(left) {
             Next::EndsAt(end) => return CommonTrace::One(end),

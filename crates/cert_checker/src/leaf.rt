@@ -26,9 +26,9 @@ pub(crate) fn take_leaf(
     ensures { TakesLeaf (trace_of stack.now references_followed id.0) said members.now result }
 {
     match common_trace(stack, id, members) {
-        CommonTrace::Mixed(first, second, _) => Some(Failure {
+        CommonTrace::Mixed(pair) => Some(Failure {
             rule: Rule::MixedTrace,
-            shown: Shown::Two(first, second),
+            shown: Shown::Two(pair.yes, pair.no),
         }),
         CommonTrace::One(end) if is_same(end, said) => None,
         CommonTrace::One(end) => Some(Failure {

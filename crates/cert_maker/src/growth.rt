@@ -46,8 +46,8 @@ pub(crate) fn add_node(
             }
             None => Ok(Some((members.corner(), end))),
         },
-        CommonTrace::Mixed(first, second, at) => {
-            let test = parting_test(alloc, stack, id, members, &first, &second, at)?;
+        CommonTrace::Mixed(pair) => {
+            let test = parting_test(alloc, stack, id, members, pair)?;
             add_test(alloc, members, test, nodes, open_boxes)?;
             Ok(None)
         }

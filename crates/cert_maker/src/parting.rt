@@ -15,7 +15,7 @@ ghost use Rattle.cert_maker.specs.Pair.{ArePair, keeps, keeps_locale};
 
 use crate::alike::have_one_trace;
 use cert_tree::OutOfMemory;
-use config_box::{Choice, ConfigBox, Test, Values};
+use config_box::{Choice, ConfigBox, MemberPair, Test, Values};
 use config_record::{Coord, Device, Locale};
 use overlay_map::Stack;
 use res_value::ResId;
@@ -28,26 +28,28 @@ pub(crate) fn parting_test(
     stack: &Stack<'_>,
     id: ResId,
     members: &ConfigBox,
-    first: &Device,
-    second: &Device,
-    at: Coord,
+    pair: MemberPair,
 ) -> Result<Test, OutOfMemory>
-    requires { ArePair (trace_of stack.now references_followed id.0) members.now (device_numbers first.now) (device_numbers second.now) at }
+    requires { ArePair (trace_of stack.now references_followed id.0) members.now (device_numbers pair.yes) (device_numbers pair.no) pair.coord }
     ensures needed { IfOk result (λ test. IsNeededTest (trace_of stack.now references_followed id.0) members.now (IsMember members.now) (test_of test)) }
     ensures fits { IfOk result (λ test. NodeFits (TestAt (test_of test))) }
 {
-    match members.values(at) {
+    let coord = pair.coord;
+    match members.values(coord) {
         Values::Range(_, _) => {
-            let lesser = first.compared_number(at).min(second.compared_number(at));
-            Ok(Test::AtMost(at, lesser))
+            let lesser = pair
+                .yes
+                .compared_number(coord)
+                .min(pair.no.compared_number(coord));
+            Ok(Test::AtMost(coord, lesser))
         }
         Values::Numbers(numbers) => {
-            let kept = kept_numbers(alloc, stack, id, first, at, numbers)?;
-            Ok(Test::Among(at, Choice::Numbers(kept)))
+            let kept = kept_numbers(alloc, stack, id, &pair.yes, coord, numbers)?;
+            Ok(Test::Among(coord, Choice::Numbers(kept)))
         }
         Values::Locales(locales) => {
-            let kept = kept_locales(alloc, stack, id, first, locales)?;
-            Ok(Test::Among(at, Choice::Locales(kept)))
+            let kept = kept_locales(alloc, stack, id, &pair.yes, locales)?;
+            Ok(Test::Among(coord, Choice::Locales(kept)))
         }
     }
 }

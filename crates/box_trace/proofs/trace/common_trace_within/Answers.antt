@@ -9,7 +9,7 @@ use Rattle.box_trace.proofs.Divisions.{traces_differ}
 use Rattle.box_trace.proofs.Following.{follow_more, follow_end, follow_divided}
 use Rattle.box_trace.proofs.trace.common_trace_within.Goals as goal
 
-divided : (c : goal.In-Mixed) → IsCommonTrace (Mixed c.in-Mixed.yes c.in-Mixed.no c.in-Mixed.coord) c.args.members.now (trace_of c.args.stack.now c.args.most c.args.id.0)
+divided : (c : goal.In-Mixed) → IsCommonTrace (Mixed c.in-Mixed.pair) c.args.members.now (trace_of c.args.stack.now c.args.most c.args.id.0)
 divided c = (c.in-Mixed.ensures.0, follow_divided _ _ _ _ _ _ _ _ c.chain.invariant c.in-Mixed.ensures.1)
 
 pub returns-in-Mixed-clause-value : goal.returns-in-Mixed-clause-value

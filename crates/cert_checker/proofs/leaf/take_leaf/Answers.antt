@@ -11,7 +11,7 @@ use Rattle.cert_checker.proofs.leaf.take_leaf.Goals as goal
 pub returns-in-Mixed : goal.returns-in-Mixed
 returns-in-Mixed c =
     let e = c.in-Mixed.ensures in
-    two_traces (trace_of c.args.stack.now references_followed c.args.id.0) c.args.said c.args.members.now c.in-Mixed.first c.in-Mixed.second c.in-Mixed.field-2 e.value.0 e.value.1 e.two
+    two_traces (trace_of c.args.stack.now references_followed c.args.id.0) c.args.said c.args.members.now c.in-Mixed.pair.yes c.in-Mixed.pair.no c.in-Mixed.pair.coord e.value.0 e.value.1 e.two
 
 pub returns-in-One : goal.returns-in-One
 returns-in-One c =
