@@ -1,8 +1,9 @@
 //! Why a command was not carried out, and the line that says so.
 
-ghost use Rattle.std.specs.Prelude.{◌≡◌, if◌then◌else◌};
+ghost use Rattle.std.specs.Prelude.{◌≡◌, ◌++◌, if◌then◌else◌, codes};
 ghost use Rattle.contract_words.specs.Writes.{Writes};
-ghost use Rattle.fault_text.specs.FaultText.{refused_text, refused_layer_text, table_line, layers_line, layer_table_line, layer_map_line, device_line, box_line, certificate_line, fault_line};
+ghost use Rattle.fault_text.specs.LayerText.{layer_text};
+ghost use Rattle.fault_text.specs.FaultText.{part_text, reason_text, fault_line};
 ghost use Rattle.fault_text.specs.ToolFault.{fault_of_layer_table, fault_of_layer_map};
 ghost use Rattle.fault_text.specs.declared.fault.ToolFault.TheVariants.{OutOfMemory, Write};
 
@@ -170,104 +171,52 @@ fn or_memory(ran_out: bool, fault: ToolFault) -> ToolFault
 pub fn fault_text<W: Write + Drop>(fault: &ToolFault, out: &mut W) -> io::Result<()>
     ensures { Writes W.contents out.old out.new result (fault_line fault.now) }
 {
+    if let ToolFault::Write = fault {
+        return Ok(());
+    }
+    write_part(fault, out)?;
+    write_reason(fault, out)?;
+    out.write_all(b"\n")
+}
+
+// Which part of the input is refused, where one is.
+#[tactic(auto, unfolding(crate::specs::FaultText::part_text))]
+fn write_part<W: Write + Drop>(fault: &ToolFault, out: &mut W) -> io::Result<()>
+    ensures { Writes W.contents out.old out.new result (part_text fault.now) }
+{
     match *fault {
-        ToolFault::Table(fault) => write_table_line(fault, out),
-        ToolFault::Layers(fault) => write_layers_line(fault, out),
-        ToolFault::LayerTable(layer, fault) => write_layer_table_line(layer, fault, out),
-        ToolFault::LayerMap(layer, fault) => write_layer_map_line(layer, fault, out),
-        ToolFault::Device(fault) => write_device_line(fault, out),
-        ToolFault::Box(fault) => write_box_line(fault, out),
-        ToolFault::Certificate(fault) => write_certificate_line(fault, out),
-        ToolFault::OutOfMemory => out.write_all(b"out of memory\n"),
-        ToolFault::Write => Ok(()),
+        ToolFault::Table(_) => out.write_all(b"refused: table: "),
+        ToolFault::Layers(_) => out.write_all(b"refused: layers: "),
+        ToolFault::LayerTable(layer, _) => write_layer_part(layer, " table: ", out),
+        ToolFault::LayerMap(layer, _) => write_layer_part(layer, " map: ", out),
+        ToolFault::Device(_) => out.write_all(b"refused: device: "),
+        ToolFault::Box(_) => out.write_all(b"refused: box: "),
+        ToolFault::Certificate(_) => out.write_all(b"refused: certificate: "),
+        ToolFault::OutOfMemory | ToolFault::Write => Ok(()),
     }
 }
 
-#[tactic(auto, unfolding(crate::specs::FaultText::table_line))]
-fn write_table_line<W: Write + Drop>(fault: TableFault, out: &mut W) -> io::Result<()>
-    ensures { Writes W.contents out.old out.new result (table_line fault) }
-{
-    write_refused("table: ", out)?;
-    write_table_fault(fault, out)?;
-    out.write_all(b"\n")
-}
-
-#[tactic(auto, unfolding(crate::specs::FaultText::layers_line))]
-fn write_layers_line<W: Write + Drop>(fault: LayersFault, out: &mut W) -> io::Result<()>
-    ensures { Writes W.contents out.old out.new result (layers_line fault) }
-{
-    write_refused("layers: ", out)?;
-    write_layers_fault(fault, out)?;
-    out.write_all(b"\n")
-}
-
-#[tactic(auto, unfolding(crate::specs::FaultText::layer_table_line))]
-fn write_layer_table_line<W: Write + Drop>(
-    layer: usize,
-    fault: TableFault,
-    out: &mut W,
-) -> io::Result<()>
-    ensures { Writes W.contents out.old out.new result (layer_table_line layer fault) }
-{
-    write_refused_layer(layer, out)?;
-    out.write_all(b" table: ")?;
-    write_table_fault(fault, out)?;
-    out.write_all(b"\n")
-}
-
-#[tactic(auto, unfolding(crate::specs::FaultText::layer_map_line))]
-fn write_layer_map_line<W: Write + Drop>(
-    layer: usize,
-    fault: MapFault,
-    out: &mut W,
-) -> io::Result<()>
-    ensures { Writes W.contents out.old out.new result (layer_map_line layer fault) }
-{
-    write_refused_layer(layer, out)?;
-    out.write_all(b" map: ")?;
-    write_map_fault(fault, out)?;
-    out.write_all(b"\n")
-}
-
-#[tactic(auto, unfolding(crate::specs::FaultText::device_line))]
-fn write_device_line<W: Write + Drop>(fault: DeviceFault, out: &mut W) -> io::Result<()>
-    ensures { Writes W.contents out.old out.new result (device_line fault) }
-{
-    write_refused("device: ", out)?;
-    write_device_fault(fault, out)?;
-    out.write_all(b"\n")
-}
-
-#[tactic(auto, unfolding(crate::specs::FaultText::box_line))]
-fn write_box_line<W: Write + Drop>(fault: BoxFault, out: &mut W) -> io::Result<()>
-    ensures { Writes W.contents out.old out.new result (box_line fault) }
-{
-    write_refused("box: ", out)?;
-    write_box_fault(fault, out)?;
-    out.write_all(b"\n")
-}
-
-#[tactic(auto, unfolding(crate::specs::FaultText::certificate_line))]
-fn write_certificate_line<W: Write + Drop>(fault: CertFault, out: &mut W) -> io::Result<()>
-    ensures { Writes W.contents out.old out.new result (certificate_line fault) }
-{
-    write_refused("certificate: ", out)?;
-    write_cert_fault(fault, out)?;
-    out.write_all(b"\n")
-}
-
-#[tactic(auto, unfolding(crate::specs::FaultText::refused_text))]
-fn write_refused<W: Write + Drop>(part: &str, out: &mut W) -> io::Result<()>
-    ensures { Writes W.contents out.old out.new result (refused_text part.now) }
+fn write_layer_part<W: Write + Drop>(layer: usize, part: &str, out: &mut W) -> io::Result<()>
+    ensures { Writes W.contents out.old out.new result (codes "refused: " ++ layer_text layer ++ part.now) }
 {
     out.write_all(b"refused: ")?;
+    write_layer(layer, out)?;
     out.write_all(part.as_bytes())
 }
 
-#[tactic(auto, unfolding(crate::specs::FaultText::refused_layer_text))]
-fn write_refused_layer<W: Write + Drop>(layer: usize, out: &mut W) -> io::Result<()>
-    ensures { Writes W.contents out.old out.new result (refused_layer_text layer) }
+// The names of a fault from outside in.
+#[tactic(auto, unfolding(crate::specs::FaultText::reason_text))]
+fn write_reason<W: Write + Drop>(fault: &ToolFault, out: &mut W) -> io::Result<()>
+    ensures { Writes W.contents out.old out.new result (reason_text fault.now) }
 {
-    out.write_all(b"refused: ")?;
-    write_layer(layer, out)
+    match *fault {
+        ToolFault::Table(fault) | ToolFault::LayerTable(_, fault) => write_table_fault(fault, out),
+        ToolFault::Layers(fault) => write_layers_fault(fault, out),
+        ToolFault::LayerMap(_, fault) => write_map_fault(fault, out),
+        ToolFault::Device(fault) => write_device_fault(fault, out),
+        ToolFault::Box(fault) => write_box_fault(fault, out),
+        ToolFault::Certificate(fault) => write_cert_fault(fault, out),
+        ToolFault::OutOfMemory => out.write_all(b"out of memory"),
+        ToolFault::Write => Ok(()),
+    }
 }
