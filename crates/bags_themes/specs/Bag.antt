@@ -21,7 +21,7 @@ most_parents = 64
 
 -- ---- one bag
 
--- A bag that was selected, without where it lies in memory: the id of its parent, 0 where it has none, and its
+-- A bag that was selected, by its content, not its address: the id of its parent, 0 where it has none, and its
 -- own rows.
 pub record FoundBagOf : Type 0 where
   pub parent : ℕ

@@ -1,4 +1,4 @@
--- Bags that were found, as contracts within the crate see them: without where they lie in memory.
+-- Bags that were found, as contracts within the crate see them: by their content, not their address.
 use Rattle.std.specs.Prelude.{List, map, Result, Ok, Err}
 use Rattle.res_value.specs.MapRows.{map_rows_of}
 use Rattle.bags_themes.specs.declared.bag_fault.BagFault.{BagFault}

@@ -29,7 +29,7 @@ pub(crate) fn check_tree(
     check_nodes(alloc, stack, *id, members, tree.nodes.as_slice())
 }
 
-/// The same of the tree of an id. The boxes of the paths that are open lie in a list, the next one last.
+/// The same for the tree of an id. The boxes of open paths are kept in a list, the next one last.
 fn check_nodes(
     alloc: Global,
     stack: &Stack<'_>,

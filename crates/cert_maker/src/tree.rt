@@ -25,9 +25,9 @@ pub(crate) enum Grown {
     TooLarge,
 }
 
-/// The tree of an id for a box, of at most so many nodes. The boxes of the paths that are open lie in a list, the
-/// next one last. Each of them needs one node at least, so a tree is given up where its nodes and the open boxes are
-/// together more than the limit.
+/// The tree of an id for a box, of at most so many nodes. The boxes of open paths are kept in a list, the next one
+/// last. Each of them needs at least one node, so a tree is given up where its nodes and the open boxes together
+/// exceed the limit.
 pub(crate) fn grow_tree(
     alloc: Global,
     stack: &Stack<'_>,

@@ -1,4 +1,4 @@
--- Certificates as contracts see them: goals and nodes, without where they lie in memory.
+-- Certificates as contracts see them: goals and nodes, by their content, not their address.
 use Rattle.std.specs.Prelude.{ℕ, ◌+◌, ◌≤◌, List, [], ◌∷◌, map, length}
 use Rattle.std.specs.List.{All}
 use Rattle.config_record.specs.declared.coord.Coord as coord

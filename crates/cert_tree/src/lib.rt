@@ -6,7 +6,7 @@
 //! before what stands behind its answer no. So a tree of any depth is read and written item by item.
 //!
 //! For the crates above: contracts see a certificate as the list of its goals with their nodes,
-//! without where they lie in memory (`goals_of`), and a node as `node_of` says. What is read of a text
+//! by their content, not their address (`goals_of`), and a node as `node_of` says. What is read of a text
 //! is exactly what it means (`cert_in`), or its first fault. What is written of a certificate within
 //! the limits (`CertFits`) is read as the same goals and nodes.
 //!

@@ -1,4 +1,4 @@
-//! Members of JSON objects, each of a shape; what has not the shape has the fault that is handed in.
+//! Members of JSON objects. A member of another shape than asked for has the fault that the caller names.
 
 ghost use Rattle.std.specs.Prelude.{◌≡◌, ◌≤◌, bytes_eq, find, ok_or, IfOk};
 ghost use Rattle.serde_json.specs.View.{view};

@@ -19,7 +19,7 @@ pub record ChunkOf : Type 0 where
 abbrev pub chunk_of : Chunk → ChunkOf
 chunk_of chunk = record { kind = chunk.kind; place = chunk.place; header = chunk.header.now; body = chunk.body.now; whole = chunk.whole.now }
 
--- how contracts see what a call returned: without where it lies in memory
+-- how contracts see what a call returned: by its content, not its address
 abbrev pub seen : Result Chunk ChunkFault → Result ChunkOf ChunkFault
 seen (Ok chunk) = Ok (chunk_of chunk)
 seen (Err fault) = Err fault

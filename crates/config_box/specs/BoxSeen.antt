@@ -17,7 +17,7 @@ values_seen (Range low high) = sets.RangeOf low high
 values_seen (Numbers numbers) = sets.NumbersOf numbers.now
 values_seen (Locales locales) = sets.LocalesOf (sets.locale_numbers locales.now)
 
--- what is written, without where it lies in memory
+-- what is written, by its content, not its address
 abbrev pub written_seen : Written → written.WrittenOf
 written_seen code.Nothing = written.NothingOf
 written_seen (code.Range from to) = written.RangeOf from to

@@ -14,7 +14,7 @@ use Rattle.config_record.specs.Zero.{is_zero}
 abbrev pub record_bytes : Record → List ℕ
 record_bytes r = r.bytes.now
 
--- what a call returned, without where it lies in memory
+-- what a call returned, by its content, not its address
 abbrev pub seen : Result Record RecordFault → Result (List ℕ) RecordFault
 seen (Ok r) = Ok (record_bytes r)
 seen (Err fault) = Err fault

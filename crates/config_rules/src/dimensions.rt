@@ -6,7 +6,7 @@ ghost use Rattle.config_rules.specs.Comparisons.{rest_of, rest_of_both, smaller_
 use crate::answer::Answer;
 use crate::kind::Numbers;
 
-/// The record of which less is left of the device's dimensions.
+/// The record that leaves less of the device's dimensions unused.
 #[tactic(auto, unfolding(crate::specs::Comparisons::dimensions_answer))]
 pub(crate) fn by_dimensions(a: Numbers, b: Numbers, device: Numbers) -> Answer
     ensures { result ≡ dimensions_answer a b device }

@@ -4,7 +4,7 @@ use Rattle.type_chunks.specs.Row.{RowOf, row_of}
 use Rattle.overlay_map.specs.declared.candidate.Cand.{Cand}
 use Rattle.overlay_map.specs.Layer.{LayerOf, rows_for}
 
--- A candidate, without where it lies in memory.
+-- A candidate, by its content, not its address.
 pub record CandOf : Type 0 where
   -- the index of its layer, from 0
   pub layer : ℕ

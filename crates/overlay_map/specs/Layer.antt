@@ -4,7 +4,7 @@ use Rattle.type_chunks.specs.Row.{RowOf, with_id}
 use Rattle.resource_table.specs.Table.{TableOf, rows_of}
 use Rattle.overlay_map.specs.IdMap.{MapOf, look_of}
 
--- A layer, without where it lies in memory: a table, as a base or as an overlay with its id map.
+-- A layer, by its content, not its address: a table, as a base or as an overlay with its id map.
 pub record LayerOf : Type 0 where
   pub table : TableOf
   -- none at a base

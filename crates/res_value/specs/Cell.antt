@@ -1,4 +1,4 @@
--- Cells, without where they lie in memory.
+-- Cells, by their content, not their address.
 use Rattle.std.specs.Prelude.{List}
 use Rattle.res_value.specs.declared.cell.Cell.{Cell}
 use Rattle.res_value.specs.declared.cell.Cell.TheVariants.{Plain, Bag}

@@ -39,7 +39,7 @@ map_rows_in count bytes =
     if nat_lt (length bytes) (row_size * count) then Err Short
     else unless_wrong count bytes (find (has_wrong_size bytes) (range_with_len 0 count))
 
--- how contracts see what a call returned: without where it lies in memory
+-- how contracts see what a call returned: by its content, not its address
 abbrev pub seen_rows : Result MapRows MapRowsFault → Result (List (ResId × Value)) MapRowsFault
 seen_rows (Ok rows) = Ok (map_rows_of rows)
 seen_rows (Err fault) = Err fault

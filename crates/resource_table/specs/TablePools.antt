@@ -16,7 +16,7 @@ opened_pool (Err fault) chunk = Err (faults.Pool chunk.place fault)
 abbrev pub pool_of_chunk : ChunkOf → Result PoolOf TableFault
 pool_of_chunk chunk = opened_pool (pool_in chunk) chunk
 
--- how contracts see what a call returned: without where it lies in memory
+-- how contracts see what a call returned: by its content, not its address
 abbrev pub seen_table_pool : Result Pool TableFault → Result PoolOf TableFault
 seen_table_pool (Ok pool) = Ok (pool_of pool)
 seen_table_pool (Err fault) = Err fault

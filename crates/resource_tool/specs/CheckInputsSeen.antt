@@ -3,6 +3,6 @@ use Rattle.cert_tree.specs.Certificate.{goals_of}
 use Rattle.resource_tool.specs.declared.check.Inputs.{Inputs}
 use Rattle.resource_tool.specs.CheckOutput.{CheckInputs}
 
--- without where they lie in memory
+-- by their content, not their address
 abbrev pub inputs_of : Inputs → CheckInputs
 inputs_of inputs = record { stack = inputs.stack; sets = inputs.members; trees = goals_of inputs.certificate }

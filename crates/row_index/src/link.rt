@@ -5,6 +5,6 @@
 pub(crate) struct Link {
     /// The number of its type among the types of the table. The id says the index of its entry there.
     pub(crate) type_number: u32,
-    /// How many links stand up to the next one, with that one; 0 where no row of the id is left.
+    /// How many links further the next row of the id is; 0 at its last row.
     pub(crate) next: u32,
 }

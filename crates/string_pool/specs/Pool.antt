@@ -30,7 +30,7 @@ pool_of pool = record {
   styles = pool.styles.now;
 }
 
--- how contracts see what a call returned: without where it lies in memory
+-- how contracts see what a call returned: by its content, not its address
 abbrev pub seen_pool : Result Pool PoolFault → Result PoolOf PoolFault
 seen_pool (Ok pool) = Ok (pool_of pool)
 seen_pool (Err fault) = Err fault

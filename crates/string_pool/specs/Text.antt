@@ -11,7 +11,7 @@ use Rattle.string_pool.specs.Layout.{offset_size}
 use Rattle.string_pool.specs.Pool.{PoolOf}
 use Rattle.string_pool.specs.Units.{units_in, units_of}
 
--- The bytes of a string, without where they lie in memory, and whether they are UTF-8 or UTF-16.
+-- The bytes of a string, by their content, not their address, and whether they are UTF-8 or UTF-16.
 pub record TextOf : Type 0 where
   pub utf8 : Bool
   pub bytes : List ℕ
@@ -20,7 +20,7 @@ abbrev pub text_of : Text → TextOf
 text_of (Utf8 bytes) = record { utf8 = true; bytes = bytes.now }
 text_of (Utf16 bytes) = record { utf8 = false; bytes = bytes.now }
 
--- how contracts see what a call returned: without where it lies in memory
+-- how contracts see what a call returned: by its content, not its address
 abbrev pub seen_text : Result Text StringFault → Result TextOf StringFault
 seen_text (Ok text) = Ok (text_of text)
 seen_text (Err fault) = Err fault

@@ -4,7 +4,7 @@ use Rattle.config_record.specs.Record.{record_bytes, is_set_aside}
 use Rattle.res_value.specs.Cell.{CellOf, cell_of}
 use Rattle.type_chunks.specs.declared.row.Row.{Row}
 
--- A row of a table, without where it lies in memory.
+-- A row of a table, by its content, not its address.
 pub record RowOf : Type 0 where
   -- the id of its resource
   pub id : ℕ

@@ -16,8 +16,8 @@ pub(crate) struct BagChecks<'a> {
     whole: &'a [u8],
     /// How many rows may still be looked at one by one.
     left: usize,
-    /// For each place, how many of the rows that end there, one row before it, two rows before it and so on have
-    /// a wrong size; empty until it is needed.
+    /// For each place: how many rows have a wrong size among those that end there or any number of whole rows
+    /// before it. Empty until it is needed.
     counts: Vec<u32>,
     ghost small: { length whole.now < 2 ^ 32 },
     ghost counted: { CountWrong whole.now counts.items },

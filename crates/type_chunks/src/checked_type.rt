@@ -33,7 +33,7 @@ impl<'a> CheckedType<'a> {
         self.chunk.id
     }
 
-    /// How many indexes it has: one more than that of its last entry, or more.
+    /// How many entries it has room for; some of them may be absent.
     pub fn entry_count(&self) -> usize
         ensures { result ≡ self.now.chunk.entry_count }
     {
