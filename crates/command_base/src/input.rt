@@ -1,11 +1,11 @@
 //! Inputs of bounded length.
 
-ghost use Rattle.std.specs.Prelude.{◌≡◌, IfErr};
+ghost use Rattle.std.specs.Prelude.{◌≡◌};
 ghost use Rattle.command_base.specs.Input.{ReadsWithin};
 ghost use Rattle.command_base.specs.declared.input.InputFault.TheVariants.{OutOfMemory};
 
 use std::alloc::{AllocError, Global};
-use std::io::{self, ErrorKind, Read};
+use std::io::{ErrorKind, Read};
 use thiserror::Error;
 
 /// How many bytes are asked for in one read.
@@ -52,18 +52,10 @@ pub fn read_input<R: Read>(
             Ok(0) => return Ok(input),
             Ok(count) if count > limit - input.len() => return Err(InputFault::TooLarge),
             Ok(count) => input.extend_from_slice(&piece[..count])?,
-            Err(error) => check_interrupted(&error)?,
+            // A read that was interrupted is made again.
+            Err(error) if error.kind() == ErrorKind::Interrupted => {}
+            Err(_) => return Err(InputFault::Read),
         }
     }
     Err(InputFault::Read)
-}
-
-// Whether a read was interrupted, which is then made again. Any other error ends the reading.
-fn check_interrupted(error: &io::Error) -> Result<(), InputFault>
-    ensures { IfErr result (λ fault. fault ≡ InputFault.Read) }
-{
-    match error.kind() {
-        ErrorKind::Interrupted => Ok(()),
-        _ => Err(InputFault::Read),
-    }
 }

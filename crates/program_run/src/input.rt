@@ -1,9 +1,8 @@
 //! What gives the bytes of inputs.
 
-ghost use Rattle.std.specs.Prelude.{◌≡◌, ◌≢◌, ◌<◌, ◌≤◌, Option, None, vec_len, IfOk, IfSome, OnOk, IsErrOf, string_bytes};
+ghost use Rattle.std.specs.Prelude.{◌≡◌, ◌≢◌, Option, None, IfSome, string_bytes};
 ghost use Rattle.std.specs.IoError.{error_kind};
-ghost use Rattle.std.specs.Io.KnownBytes.{IsAtEnd};
-ghost use Rattle.command_base.specs.Input.{Gave};
+ghost use Rattle.command_base.specs.Input.{ReadsWithin};
 ghost use Rattle.command_base.specs.declared.input.InputFault.TheVariants as input_faults;
 ghost use Rattle.contract_words.specs.Exact.{GivesOr};
 ghost use Rattle.program_run.specs.Place.{place_of};
@@ -65,13 +64,7 @@ fn fault_of_opening(error: &io::Error) -> InputFault
 }
 
 fn read_within_limit<R: Read>(alloc: Global, reader: &mut R) -> Result<Vec<u8>, InputFault>
-    ensures whole { IfOk result (λ input. IfSome (R.remaining reader.old) (λ bytes. input.items ≡ bytes)) }
-    ensures end { OnOk result (IsAtEnd (R.remaining reader.new)) }
-    ensures within { IfOk result (λ input. vec_len input ≤ most_bytes) }
-    ensures too_large { IsErrOf result InputFault.TooLarge
-        → Gave (R.remaining reader.old) (R.remaining reader.new) (λ count. most_bytes < count) }
-    ensures read { IsErrOf result InputFault.Read
-        → Gave (R.remaining reader.old) (R.remaining reader.new) (λ count. count ≤ most_bytes) }
+    ensures { ReadsWithin most_bytes (R.remaining reader.old) (R.remaining reader.new) result }
 {
     read_input(alloc, reader, INPUT_LIMIT)
 }
