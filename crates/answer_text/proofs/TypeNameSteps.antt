@@ -2,13 +2,13 @@
 use Rattle.std.proofs.Common.{◌≡◌, ℕ, ◌+◌, ◌-◌, Result, refl, sym, ap, ◌∙◌}
 use Rattle.std.specs.Prelude.{slice_get, nat_lt}
 use Rattle.contract_words.specs.Faults.{◌>>=◌, refuse}
-use Rattle.res_value.specs.ResId.{type_of}
-use Rattle.string_pool.specs.Text.{TextOf, text_in}
-use Rattle.string_pool.specs.declared.fault.StringFault.{StringFault}
-use Rattle.string_pool.specs.declared.fault.StringFault.TheVariants.{NoSuch}
-use Rattle.type_chunks.specs.Row.{RowOf}
-use Rattle.resource_table.specs.Table.{TableOf}
-use Rattle.resource_table.specs.Names.{found_package, type_name_in}
+use Rattle.fault_text.specs.res_value.ResId.{type_of}
+use Rattle.reference_resolver.specs.string_pool.Text.{TextOf, text_in}
+use Rattle.reference_resolver.specs.string_pool.declared.fault.StringFault.{StringFault}
+use Rattle.reference_resolver.specs.string_pool.declared.fault.StringFault.TheVariants.{NoSuch}
+use Rattle.reference_resolver.specs.type_chunks.Row.{RowOf}
+use Rattle.reference_resolver.specs.resource_table.Table.{TableOf}
+use Rattle.reference_resolver.specs.resource_table.Names.{found_package, type_name_in}
 
 -- the name of the type of an id in a package
 name_at : TableOf → ℕ → ℕ → Result TextOf StringFault

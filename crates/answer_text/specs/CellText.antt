@@ -3,17 +3,17 @@ use Rattle.std.specs.Prelude.{ℕ, List, [], ◌∷◌, ◌++◌, codes, length,
 use Rattle.std.specs.List.{flat_map}
 use Rattle.std.specs.Option.{option_map}
 use Rattle.std.specs.Fmt.{decimal}
-use Rattle.string_pool.specs.Pool.{PoolOf, pool_of}
-use Rattle.string_pool.specs.Text.{text_in}
-use Rattle.string_pool.specs.Shown.{string_text}
-use Rattle.res_value.specs.Cell.{CellOf, PlainOf, BagOf}
-use Rattle.res_value.specs.Kind.{string_kind}
-use Rattle.res_value.specs.declared.res_id.ResId.{ResId}
-use Rattle.res_value.specs.declared.value.Value.{Value}
-use Rattle.res_value.specs.ResId.{id_text}
-use Rattle.res_value.specs.ValueText.{value_text}
-use Rattle.config_record.specs.Qualifiers.{record_text}
-use Rattle.type_chunks.specs.Row.{RowOf}
+use Rattle.reference_resolver.specs.string_pool.Pool.{PoolOf, pool_of}
+use Rattle.reference_resolver.specs.string_pool.Text.{text_in}
+use Rattle.reference_resolver.specs.string_pool.Shown.{string_text}
+use Rattle.fault_text.specs.res_value.Cell.{CellOf, PlainOf, BagOf}
+use Rattle.fault_text.specs.res_value.Kind.{string_kind}
+use Rattle.fault_text.specs.res_value.declared.res_id.ResId.{ResId}
+use Rattle.fault_text.specs.res_value.declared.value.Value.{Value}
+use Rattle.fault_text.specs.res_value.ResId.{id_text}
+use Rattle.fault_text.specs.res_value.ValueText.{value_text}
+use Rattle.reference_resolver.specs.config_record.Qualifiers.{record_text}
+use Rattle.reference_resolver.specs.type_chunks.Row.{RowOf}
 use Rattle.fault_text.specs.NamedText.{named_id}
 use Rattle.answer_text.specs.declared.cell.RowFormat.{RowFormat}
 

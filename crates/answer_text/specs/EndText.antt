@@ -1,7 +1,7 @@
 -- Ends of references as text.
 use Rattle.std.specs.Prelude.{ℕ, List, [], ◌∷◌, ◌++◌, codes, Option, None}
-use Rattle.string_pool.specs.Pool.{PoolOf}
-use Rattle.res_value.specs.declared.value.Value.{Value}
+use Rattle.reference_resolver.specs.string_pool.Pool.{PoolOf}
+use Rattle.fault_text.specs.res_value.declared.value.Value.{Value}
 use Rattle.reference_resolver.specs.declared.end.End.{End}
 use Rattle.reference_resolver.specs.declared.end.End.TheVariants as of_end
 use Rattle.fault_text.specs.NamedText.{named_id}

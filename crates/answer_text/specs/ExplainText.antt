@@ -2,8 +2,8 @@
 use Rattle.std.specs.Prelude.{ℕ, List, [], ◌∷◌, ◌++◌, codes, Option, Some, None}
 use Rattle.std.specs.List.{flat_map, enumerate_from}
 use Rattle.std.specs.Fmt.{decimal}
-use Rattle.config_record.specs.Qualifiers.{record_text}
-use Rattle.overlay_map.specs.Layer.{LayerOf}
+use Rattle.reference_resolver.specs.config_record.Qualifiers.{record_text}
+use Rattle.reference_resolver.specs.overlay_map.Layer.{LayerOf}
 use Rattle.reference_resolver.specs.declared.decision.Decision.{Decision}
 use Rattle.reference_resolver.specs.declared.decision.Decision.TheVariants.{SetAside, NoMatch, First, TookOver, TookOverEqual, KeptOut}
 use Rattle.reference_resolver.specs.Ends.{references_followed, end_of}

@@ -2,9 +2,9 @@
 use Rattle.std.specs.Prelude.{ℕ, List, [], ◌∷◌, ◌++◌, codes, slice_get, Option, None}
 use Rattle.std.specs.Option.{option_map}
 use Rattle.std.specs.Fmt.{decimal}
-use Rattle.string_pool.specs.Pool.{PoolOf}
-use Rattle.res_value.specs.ResId.{id_text}
-use Rattle.overlay_map.specs.Layer.{LayerOf}
+use Rattle.reference_resolver.specs.string_pool.Pool.{PoolOf}
+use Rattle.fault_text.specs.res_value.ResId.{id_text}
+use Rattle.reference_resolver.specs.overlay_map.Layer.{LayerOf}
 use Rattle.reference_resolver.specs.declared.end.End.{End}
 use Rattle.reference_resolver.specs.declared.end.End.TheVariants as of_end
 use Rattle.answer_text.specs.EndText.{end_with_string}

@@ -2,15 +2,13 @@
 
 ghost use Rattle.std.specs.Option.{option_map};
 ghost use Rattle.contract_words.specs.Writes.{Writes};
-ghost use Rattle.string_pool.specs.Pool.{pool_of};
+ghost use Rattle.reference_resolver.specs.string_pool.Pool.{pool_of};
 ghost use Rattle.answer_text.specs.EndText.{value_end_text, end_with_string, end_text, end_line};
 
 use crate::cell::write_value_with_string;
-use fault_text::{write_layer, write_named_id};
-use reference_resolver::End;
-use res_value::Value;
+use fault_text::{Value, write_layer, write_named_id};
+use reference_resolver::{End, Pool};
 use std::io::{self, Write};
-use string_pool::Pool;
 
 /// Writes an end: a value with the place of its layer, counted from 0; the id that selected a bag, or
 /// nothing; or the id that a reference names which is one too many.

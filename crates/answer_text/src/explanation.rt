@@ -3,7 +3,7 @@
 ghost use Rattle.std.specs.Prelude.{◌≡◌, ◌<◌, ◌^◌, length, IfOk};
 ghost use Rattle.std.specs.List.{flat_map};
 ghost use Rattle.contract_words.specs.Writes.{Writes};
-ghost use Rattle.config_record.specs.DeviceSeen.{device_numbers};
+ghost use Rattle.reference_resolver.specs.config_record.DeviceSeen.{device_numbers};
 ghost use Rattle.reference_resolver.specs.Ends.{references_followed, end_of};
 ghost use Rattle.reference_resolver.specs.Trace.{look_ups_of, IsTraced};
 ghost use Rattle.reference_resolver.specs.Traced.{traced_of};
@@ -11,11 +11,8 @@ ghost use Rattle.answer_text.specs.ExplainText.{place_text, traced_text, candida
 
 use crate::decision::write_decision;
 use crate::end::write_end_line;
-use config_record::Device;
-use fault_text::{write_layer, write_named_id, write_named_number};
-use overlay_map::Stack;
-use reference_resolver::{End, LookUps, TracedCandidate, TracedCandidates, resolve};
-use res_value::ResId;
+use fault_text::{ResId, write_layer, write_named_id, write_named_number};
+use reference_resolver::{Device, End, LookUps, Stack, TracedCandidate, TracedCandidates, resolve};
 use std::io::{self, Write};
 
 /// Writes how an id comes to its end at a device: a line for each id that is looked up, behind it one for

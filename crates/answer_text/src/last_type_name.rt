@@ -2,18 +2,16 @@
 
 ghost use Rattle.std.specs.Prelude.{◌≡◌, true, Some};
 ghost use Rattle.contract_words.specs.Writes.{Writes};
-ghost use Rattle.string_pool.specs.Shown.{string_text};
-ghost use Rattle.res_value.specs.ResId.{type_of};
-ghost use Rattle.type_chunks.specs.Row.{row_of};
-ghost use Rattle.resource_table.specs.Table.{TableOf};
-ghost use Rattle.resource_table.specs.Names.{type_name_in};
+ghost use Rattle.reference_resolver.specs.string_pool.Shown.{string_text};
+ghost use Rattle.fault_text.specs.res_value.ResId.{type_of};
+ghost use Rattle.reference_resolver.specs.type_chunks.Row.{row_of};
+ghost use Rattle.reference_resolver.specs.resource_table.Table.{TableOf};
+ghost use Rattle.reference_resolver.specs.resource_table.Names.{type_name_in};
 ghost use Rattle.answer_text.specs.LastTypeName.{KeepsNameIn};
 
 use arrayvec::ArrayVec;
-use resource_table::Table;
+use reference_resolver::{Row, Table, write_string};
 use std::io::{self, Write};
-use string_pool::write_string;
-use type_chunks::Row;
 
 /// How many bytes of text are kept; a longer text is written anew each time.
 const KEPT: usize = 128;

@@ -3,15 +3,13 @@
 ghost use Rattle.std.specs.Prelude.{◌≡◌};
 ghost use Rattle.std.specs.Option.{option_map};
 ghost use Rattle.contract_words.specs.Writes.{Writes};
-ghost use Rattle.string_pool.specs.Pool.{pool_of};
+ghost use Rattle.reference_resolver.specs.string_pool.Pool.{pool_of};
 ghost use Rattle.answer_text.specs.QueryText.{strings_of_layer, strings_of_end, query_line, set_aside_line};
 
 use crate::end::write_end_with_string;
-use overlay_map::Stack;
-use reference_resolver::End;
-use res_value::{ResId, write_id};
+use fault_text::{ResId, write_id};
+use reference_resolver::{End, Pool, Stack};
 use std::io::{self, Write};
-use string_pool::Pool;
 
 /// Writes the line of an id with its end. A string value is followed by its string, which is one of the
 /// table of its layer.

@@ -1,15 +1,14 @@
 //! The rows of a table, written.
 
 ghost use Rattle.contract_words.specs.Writes.{Writes};
-ghost use Rattle.type_chunks.specs.Row.{row_of};
+ghost use Rattle.reference_resolver.specs.type_chunks.Row.{row_of};
 ghost use Rattle.answer_text.specs.RowsText.{row_text, totals_text, rows_text};
 
 use crate::cell::{RowFormat, write_row_end};
 use crate::last_record::LastRecord;
-use res_value::write_id;
-use resource_table::Table;
+use fault_text::write_id;
+use reference_resolver::{Row, Table};
 use std::io::{self, Write};
-use type_chunks::Row;
 
 /// Two spaces before the rows of a bag, and no strings.
 const FORMAT: RowFormat<'static> = RowFormat {

@@ -4,7 +4,7 @@ use Rattle.std.specs.Map.{lookup}
 use Rattle.std.proofs.lemmas.Grind.{common_steps}
 use Rattle.std.proofs.lemmas.List.{take_more}
 use Rattle.std.proofs.lemmas.List.Elements.{filter-append}
-use Rattle.res_value.specs.declared.res_id.ResId.{ResId}
+use Rattle.reference_resolver.specs.res_value.declared.res_id.ResId.{ResId}
 use Rattle.reference_resolver.specs.declared.end.End.TheVariants as ends
 use Rattle.bags_themes.specs.declared.bag_row.BagRow.{BagRow}
 use Rattle.bags_themes.specs.declared.theme_value.ThemeValue.{ThemeValue}

@@ -1,8 +1,8 @@
 -- What an attribute is in a theme (AOSP: ResTable::Theme::getAttribute, and resolveAttributeReference).
 use Rattle.std.specs.Prelude.{ℕ, zero, suc, ◌==◌, List, Option, Some, None, if◌then◌else◌}
-use Rattle.res_value.specs.declared.res_id.ResId.{ResId}
-use Rattle.res_value.specs.Kind.{attribute_kind}
-use Rattle.overlay_map.specs.Layer.{LayerOf}
+use Rattle.reference_resolver.specs.res_value.declared.res_id.ResId.{ResId}
+use Rattle.reference_resolver.specs.res_value.Kind.{attribute_kind}
+use Rattle.reference_resolver.specs.overlay_map.Layer.{LayerOf}
 use Rattle.reference_resolver.specs.declared.end.End.{End}
 use Rattle.reference_resolver.specs.declared.end.End.TheVariants as of_end
 use Rattle.reference_resolver.specs.Ends.{is_reference, end_of}

@@ -4,11 +4,11 @@ use Rattle.std.specs.Prelude.{ℕ, zero, suc, ◌==◌, List, [], ◌∷◌, map
 use Rattle.std.specs.Result.{result_ok}
 use Rattle.contract_words.specs.Faults.{◌>>=◌}
 use Rattle.contract_words.specs.Sequences.{with_front}
-use Rattle.res_value.specs.declared.res_id.ResId.{ResId}
-use Rattle.res_value.specs.declared.value.Value.{Value}
-use Rattle.res_value.specs.Cell.{CellOf, PlainOf, BagOf}
-use Rattle.overlay_map.specs.Layer.{LayerOf}
-use Rattle.overlay_map.specs.Candidates.{CandOf}
+use Rattle.reference_resolver.specs.res_value.declared.res_id.ResId.{ResId}
+use Rattle.reference_resolver.specs.res_value.declared.value.Value.{Value}
+use Rattle.reference_resolver.specs.res_value.Cell.{CellOf, PlainOf, BagOf}
+use Rattle.reference_resolver.specs.overlay_map.Layer.{LayerOf}
+use Rattle.reference_resolver.specs.overlay_map.Candidates.{CandOf}
 use Rattle.reference_resolver.specs.Selection.{selected}
 use Rattle.bags_themes.specs.declared.bag_row.BagRow.{BagRow}
 use Rattle.bags_themes.specs.declared.bag_fault.BagFault.{BagFault}

@@ -1,6 +1,6 @@
 -- Bags that were found, as contracts within the crate see them: by their content, not their address.
 use Rattle.std.specs.Prelude.{List, map, Result, Ok, Err}
-use Rattle.res_value.specs.MapRows.{map_rows_of}
+use Rattle.reference_resolver.specs.res_value.MapRows.{map_rows_of}
 use Rattle.bags_themes.specs.declared.bag_fault.BagFault.{BagFault}
 use Rattle.bags_themes.specs.declared.found_bag.FoundBag.{FoundBag}
 use Rattle.bags_themes.specs.Bag.{FoundBagOf, rows_in}

@@ -4,3 +4,6 @@ pub mod FoundBag
 pub mod Theme
 pub mod Styles
 pub mod Attribute
+pub use Rattle.reference_resolver.specs as reference_resolver
+pub use Rattle.reference_resolver.specs.config_record
+pub use Rattle.reference_resolver.specs.overlay_map

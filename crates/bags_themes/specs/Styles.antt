@@ -1,8 +1,8 @@
 -- Styles, applied one after the other.
 use Rattle.std.specs.Prelude.{ℕ, Bool, List, [], ◌∷◌, Result, Ok}
 use Rattle.contract_words.specs.Faults.{◌>>=◌}
-use Rattle.res_value.specs.declared.res_id.ResId.{ResId}
-use Rattle.overlay_map.specs.Layer.{LayerOf}
+use Rattle.reference_resolver.specs.res_value.declared.res_id.ResId.{ResId}
+use Rattle.reference_resolver.specs.overlay_map.Layer.{LayerOf}
 use Rattle.bags_themes.specs.declared.bag_fault.BagFault.{BagFault}
 use Rattle.bags_themes.specs.Bag.{bag_of}
 use Rattle.bags_themes.specs.Theme.{AttributeValues, values_after}

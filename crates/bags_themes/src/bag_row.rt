@@ -1,6 +1,6 @@
 //! Rows of merged bags.
 
-use res_value::{ResId, Value};
+use reference_resolver::{ResId, Value};
 
 /// A row of a bag, its own or an inherited one (AOSP: `ResTable::bag_entry`).
 #[derive(Clone, Copy, Debug, PartialEq, Eq)]

@@ -2,7 +2,7 @@
 
 ghost use Rattle.std.specs.Prelude.{◌≡◌, IfOk};
 ghost use Rattle.contract_words.specs.Exact.{GivesOr};
-ghost use Rattle.config_record.specs.DeviceSeen.{device_numbers};
+ghost use Rattle.reference_resolver.specs.config_record.DeviceSeen.{device_numbers};
 ghost use Rattle.bags_themes.specs.Bag.{bag_of, merged};
 ghost use Rattle.bags_themes.specs.FoundBag.{found_bags_of};
 ghost use Rattle.bags_themes.specs.declared.bag_fault.BagFault.TheVariants.{OutOfMemory};
@@ -13,9 +13,7 @@ use crate::bag_rows::BagRows;
 use crate::found_bag::FoundBag;
 use crate::merging::merge;
 use crate::parents::with_parents;
-use config_record::Device;
-use overlay_map::Stack;
-use res_value::ResId;
+use reference_resolver::{Device, ResId, Stack};
 use std::alloc::{AllocError, Global};
 
 // The most parents that a bag can have, one above the other.

@@ -3,10 +3,7 @@
 ghost use Rattle.std.specs.Prelude.{◌≡◌};
 
 use crate::bag_fault::BagFault;
-use config_record::Device;
-use overlay_map::Stack;
-use reference_resolver::select;
-use res_value::{Cell, MapRows, ResId};
+use reference_resolver::{Cell, Device, MapRows, ResId, Stack, select};
 
 /// A bag that was selected. What it lends is lent from the bytes of its table.
 #[derive(Clone, Copy, Debug)]
@@ -21,7 +18,7 @@ pub(crate) struct FoundBag<'a> {
 
 impl<'a> FoundBag<'a> {
     ghost use Rattle.std.specs.Option.{option_map};
-    ghost use Rattle.config_record.specs.DeviceSeen.{device_numbers};
+    ghost use Rattle.reference_resolver.specs.config_record.DeviceSeen.{device_numbers};
     ghost use Rattle.reference_resolver.specs.Selection.{selected};
     ghost use Rattle.bags_themes.specs.Bag.{bag_in, parent_of};
     ghost use Rattle.bags_themes.specs.FoundBag.{found_bag_of, seen_bag};

@@ -32,4 +32,5 @@ pub use bag_fault::BagFault;
 pub use bag_row::BagRow;
 pub use bag_rows::BagRows;
 pub use bags::bag;
+pub use reference_resolver::{Device, End, Stack, resolve};
 pub use theme::Theme;

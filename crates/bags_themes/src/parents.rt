@@ -3,15 +3,14 @@
 ghost use Rattle.std.specs.Prelude.{◌≡◌, ◌<◌, vec_len, vec_capacity};
 ghost use Rattle.contract_words.specs.Exact.{GivesOr};
 ghost use Rattle.contract_words.specs.FillsIn.{FillsIn};
-ghost use Rattle.config_record.specs.DeviceSeen.{device_numbers};
+ghost use Rattle.reference_resolver.specs.config_record.DeviceSeen.{device_numbers};
 ghost use Rattle.bags_themes.specs.Bag.{chain_of};
 ghost use Rattle.bags_themes.specs.FoundBag.{found_bag_of, found_bags_of};
 ghost use Rattle.bags_themes.specs.declared.bag_fault.BagFault.TheVariants.{OutOfMemory};
 
 use crate::bag_fault::BagFault;
 use crate::found_bag::FoundBag;
-use config_record::Device;
-use overlay_map::Stack;
+use reference_resolver::{Device, Stack};
 use std::alloc::Global;
 
 /// A bag, its parent, and so on to the topmost one; there may be so many parents.

@@ -5,8 +5,7 @@ ghost use Rattle.std.specs.Option.{option_copied};
 ghost use Rattle.bags_themes.specs.Attribute.{step_of};
 
 use crate::theme_value::ThemeValue;
-use reference_resolver::{End, is_reference};
-use res_value::{ResId, kind};
+use reference_resolver::{End, ResId, is_reference, kind};
 
 /// What following attributes arrives at.
 #[derive(Clone, Copy, Debug, PartialEq, Eq)]

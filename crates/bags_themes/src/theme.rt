@@ -3,7 +3,7 @@
 ghost use Rattle.std.specs.Prelude.{◌≡◌, ◌≤◌, ◌<◌, ◌+◌, [], length, ◌∷◌};
 ghost use Rattle.indexmap.specs.IndexMap.{spare};
 ghost use Rattle.contract_words.specs.Exact.{GivesOr};
-ghost use Rattle.config_record.specs.DeviceSeen.{device_numbers};
+ghost use Rattle.reference_resolver.specs.config_record.DeviceSeen.{device_numbers};
 ghost use Rattle.bags_themes.specs.Bag.{bag_of};
 ghost use Rattle.bags_themes.specs.Theme.{value_of, unset, is_undefined, AppliesRows, AppliesStyle};
 ghost use Rattle.bags_themes.specs.Styles.{values_after_styles};
@@ -15,11 +15,8 @@ use crate::bag_row::BagRow;
 use crate::bags::bag;
 use crate::slot::{AttributeStep, Slot};
 use crate::theme_value::ThemeValue;
-use config_record::Device;
 use indexmap::IndexMap;
-use overlay_map::Stack;
-use reference_resolver::{End, resolve_within};
-use res_value::ResId;
+use reference_resolver::{Device, End, ResId, Stack, resolve_within};
 use std::alloc::Global;
 use std::marker::Model;
 

@@ -3,7 +3,7 @@
 ghost use Rattle.std.specs.Prelude.{◌≡◌};
 ghost use Rattle.bags_themes.specs.Theme.{is_undefined_value};
 
-use res_value::{Value, kind};
+use reference_resolver::{Value, kind};
 
 /// A value that is set for an attribute (AOSP: `ResTable::Theme::theme_entry`).
 #[derive(Clone, Copy, Debug)]

@@ -1,11 +1,11 @@
 -- Coordinate by coordinate, in their order.
 use Rattle.std.proofs.Common.{◌≡◌, ℕ, ◌+◌, ◌<◌, ◌≤◌, ◌≢◌, List, length, get_or, refl, sym, ap, subst, ◌∙◌, arith}
 use Rattle.std.proofs.lemmas.List.{get_or_default}
-use Rattle.config_record.specs.declared.coord.Coord.{Coord}
-use Rattle.config_record.specs.declared.coord.Coord.TheVariants as coords
-use Rattle.config_record.specs.Coord.{all_coords, place_of}
-use Rattle.config_record.proofs.DeviceLemmas.{coordinate-at_place, place_of-within}
-use Rattle.config_record.proofs.ChangedNumber.{by_coord}
+use Rattle.config_precedence.specs.config_record.declared.coord.Coord.{Coord}
+use Rattle.config_precedence.specs.config_record.declared.coord.Coord.TheVariants as coords
+use Rattle.config_precedence.specs.config_record.Coord.{all_coords, place_of}
+use Rattle.config_precedence.proofs.config_record.DeviceLemmas.{coordinate-at_place, place_of-within}
+use Rattle.config_precedence.proofs.config_record.ChangedNumber.{by_coord}
 
 pub all_coords-count : length all_coords ≡ 25
 unfolding all_coords

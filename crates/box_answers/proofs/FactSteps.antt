@@ -2,13 +2,13 @@
 use Rattle.std.proofs.Common.{◌≡◌, ℕ, ◌<◌, ◌≤◌, ◌==◌, true, false, not, arith, nat_le, Bool, refl, ap}
 use Rattle.std.specs.Prelude.{if◌then◌else◌}
 use Rattle.std.proofs.lemmas.Bool.Decides.{nat_tests}
-use Rattle.config_record.specs.declared.coord.Coord.{Coord}
-use Rattle.config_record.specs.declared.coord.Coord.TheVariants as coords
-use Rattle.config_rules.specs.declared.answer.Answer.TheVariants.{Yes}
-use Rattle.config_rules.specs.Answer.{answer_where}
-use Rattle.config_rules.specs.Comparisons.{differ, is_larger_better, any_density, counted_density, is_better_density}
-use Rattle.config_rules.specs.Kind.{kind_answer}
-use Rattle.config_rules.specs.Rule.{numbers_at, rule_answer}
+use Rattle.config_precedence.specs.config_record.declared.coord.Coord.{Coord}
+use Rattle.config_precedence.specs.config_record.declared.coord.Coord.TheVariants as coords
+use Rattle.config_precedence.specs.config_rules.declared.answer.Answer.TheVariants.{Yes}
+use Rattle.config_precedence.specs.config_rules.Answer.{answer_where}
+use Rattle.config_precedence.specs.config_rules.Comparisons.{differ, is_larger_better, any_density, counted_density, is_better_density}
+use Rattle.config_precedence.specs.config_rules.Kind.{kind_answer}
+use Rattle.config_precedence.specs.config_rules.Rule.{numbers_at, rule_answer}
 use Rattle.box_answers.specs.Facts.{DensityTurnsOnce, SizesFromNormalUpAreAlike, DimensionsAskWhichAreZero}
 use Rattle.box_answers.proofs.Covers.{size-alike}
 use Rattle.box_answers.proofs.Dimensions.{dimensions-alike}

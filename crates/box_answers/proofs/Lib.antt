@@ -7,3 +7,4 @@ pub mod Sets
 pub mod SearchSteps
 pub mod Sides
 pub mod FactSteps
+pub use Rattle.config_precedence.proofs.config_record

@@ -4,21 +4,21 @@ use Rattle.std.specs.List.{flat_map}
 use Rattle.std.proofs.lemmas.Bool.{and_parts, leb-true}
 use Rattle.std.proofs.lemmas.Bool.Decides.{nat_tests}
 use Rattle.std.proofs.lemmas.List.{get_or_default}
-use Rattle.config_record.specs.declared.coord.Coord.{Coord}
-use Rattle.config_record.specs.Coord.{place_of}
-use Rattle.config_record.specs.ComparedNumber.{device_number}
-use Rattle.config_rules.specs.declared.answer.Answer.{Answer}
-use Rattle.config_rules.specs.declared.answer.Answer.TheVariants.{Yes, No, Pass}
-use Rattle.config_rules.specs.declared.kind.Kind.{Kind}
-use Rattle.config_rules.specs.declared.kind.Kind.TheVariants as kinds
-use Rattle.config_rules.specs.declared.kind.Numbers.{Numbers}
-use Rattle.config_rules.specs.declared.rule.Rule.{Rule}
-use Rattle.config_rules.specs.Answer.{is_pass, or_else}
-use Rattle.config_rules.specs.Kind.{kind_answer}
-use Rattle.config_rules.specs.Rule.{beside, numbers_at, rule_answer}
-use Rattle.config_rules.specs.Reads.{reads, reads_of, AgreeAt, places_read, rises_from, AreReadInOrder}
-use Rattle.config_rules.specs.Table.{answer_of_table}
-use Rattle.config_rules.proofs.ReadsLemmas.{depends}
+use Rattle.config_precedence.specs.config_record.declared.coord.Coord.{Coord}
+use Rattle.config_precedence.specs.config_record.Coord.{place_of}
+use Rattle.config_precedence.specs.config_record.ComparedNumber.{device_number}
+use Rattle.config_precedence.specs.config_rules.declared.answer.Answer.{Answer}
+use Rattle.config_precedence.specs.config_rules.declared.answer.Answer.TheVariants.{Yes, No, Pass}
+use Rattle.config_precedence.specs.config_rules.declared.kind.Kind.{Kind}
+use Rattle.config_precedence.specs.config_rules.declared.kind.Kind.TheVariants as kinds
+use Rattle.config_precedence.specs.config_rules.declared.kind.Numbers.{Numbers}
+use Rattle.config_precedence.specs.config_rules.declared.rule.Rule.{Rule}
+use Rattle.config_precedence.specs.config_rules.Answer.{is_pass, or_else}
+use Rattle.config_precedence.specs.config_rules.Kind.{kind_answer}
+use Rattle.config_precedence.specs.config_rules.Rule.{beside, numbers_at, rule_answer}
+use Rattle.config_precedence.specs.config_rules.Reads.{reads, reads_of, AgreeAt, places_read, rises_from, AreReadInOrder}
+use Rattle.config_precedence.specs.config_rules.Table.{answer_of_table}
+use Rattle.config_precedence.proofs.config_rules.ReadsLemmas.{depends}
 use Rattle.box_answers.specs.NumberSet.{SetOf, IsIn, IsLeastIn, IsGreatestIn}
 use Rattle.box_answers.specs.Members.{set_at, IsMember}
 use Rattle.box_answers.specs.TriedNumbers.{tried_numbers}

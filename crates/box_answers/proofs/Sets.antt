@@ -8,13 +8,13 @@ use Rattle.std.proofs.lemmas.Bool.{eq-eqb, eqb-true}
 use Rattle.std.proofs.lemmas.List.Elements.{Contains-get_or}
 use Rattle.std.proofs.lemmas.List.Folds.{list_any_at}
 use Rattle.std.proofs.lemmas.Map.Views.{Contains-from_any}
-use Rattle.config_record.specs.declared.coord.Coord.{Coord}
-use Rattle.config_record.specs.Coord.{all_coords, place_of, number_at}
-use Rattle.config_record.specs.ComparedNumber.{device_number}
-use Rattle.config_record.proofs.ChangedNumber.{by_coord, number_at-set_same, number_at-set_other}
-use Rattle.config_rules.specs.declared.answer.Answer.{Answer}
-use Rattle.config_rules.specs.declared.rule.Rule.{Rule}
-use Rattle.config_rules.specs.Rule.{rule_answer}
+use Rattle.config_precedence.specs.config_record.declared.coord.Coord.{Coord}
+use Rattle.config_precedence.specs.config_record.Coord.{all_coords, place_of, number_at}
+use Rattle.config_precedence.specs.config_record.ComparedNumber.{device_number}
+use Rattle.config_precedence.proofs.config_record.ChangedNumber.{by_coord, number_at-set_same, number_at-set_other}
+use Rattle.config_precedence.specs.config_rules.declared.answer.Answer.{Answer}
+use Rattle.config_precedence.specs.config_rules.declared.rule.Rule.{Rule}
+use Rattle.config_precedence.specs.config_rules.Rule.{rule_answer}
 use Rattle.box_answers.specs.declared.number_set.NumberSet.{NumberSet}
 use Rattle.box_answers.specs.NumberSet.{SetOf, RangeOf, NumbersOf, LocalesOf, set_of, listed, IsIn, IsProper, IsLeastIn, IsGreatestIn}
 use Rattle.box_answers.specs.Members.{sets_of, set_at, IsMember}

@@ -2,17 +2,17 @@
 use Rattle.std.proofs.Common.{◌≡◌, ℕ, ◌+◌, ◌<◌, ◌≤◌, ◌≢◌, inl, inr, List, [], ◌∷◌, length, get_or, refl, sym, ap, ◌∙◌, arith, Bool, true, false}
 use Rattle.std.specs.Prelude.{min, max}
 use Rattle.std.proofs.lemmas.Bool.{cases_eq}
-use Rattle.config_record.specs.declared.coord.Coord.{Coord}
-use Rattle.config_record.specs.Coord.{all_coords, place_of}
-use Rattle.config_record.specs.ComparedNumber.{device_number, record_number}
-use Rattle.config_record.specs.Record.{record_bytes}
-use Rattle.config_record.proofs.ChangedNumber.{by_coord}
-use Rattle.config_rules.specs.declared.rule.Rule.{Rule}
-use Rattle.config_rules.specs.Answer.{or_else}
-use Rattle.config_rules.specs.Rule.{rule_answer}
-use Rattle.config_rules.specs.Reads.{reads, AgreeAt}
-use Rattle.config_rules.specs.Table.{answer_of_table}
-use Rattle.config_rules.proofs.ReadsLemmas.{depends}
+use Rattle.config_precedence.specs.config_record.declared.coord.Coord.{Coord}
+use Rattle.config_precedence.specs.config_record.Coord.{all_coords, place_of}
+use Rattle.config_precedence.specs.config_record.ComparedNumber.{device_number, record_number}
+use Rattle.config_precedence.specs.config_record.Record.{record_bytes}
+use Rattle.config_precedence.proofs.config_record.ChangedNumber.{by_coord}
+use Rattle.config_precedence.specs.config_rules.declared.rule.Rule.{Rule}
+use Rattle.config_precedence.specs.config_rules.Answer.{or_else}
+use Rattle.config_precedence.specs.config_rules.Rule.{rule_answer}
+use Rattle.config_precedence.specs.config_rules.Reads.{reads, AgreeAt}
+use Rattle.config_precedence.specs.config_rules.Table.{answer_of_table}
+use Rattle.config_precedence.proofs.config_rules.ReadsLemmas.{depends}
 use Rattle.box_answers.specs.declared.question.Question.{Question}
 use Rattle.box_answers.specs.NumberSet.{SetOf, RangeOf, NumbersOf, LocalesOf, IsIn}
 use Rattle.box_answers.specs.Members.{IsMember}

@@ -1,13 +1,13 @@
 -- Members that are found by a change of another member.
 use Rattle.std.specs.Prelude.{◌≡◌, ◌≢◌, ℕ, ◌<◌, List}
-use Rattle.config_record.specs.declared.coord.Coord.{Coord}
-use Rattle.config_record.specs.Coord.{place_of}
-use Rattle.config_record.specs.ComparedNumber.{device_number}
-use Rattle.config_rules.specs.declared.answer.Answer.{Answer}
-use Rattle.config_rules.specs.declared.answer.Answer.TheVariants.{Pass}
-use Rattle.config_rules.specs.declared.rule.Rule.{Rule}
-use Rattle.config_rules.specs.Kind.{kind_answer}
-use Rattle.config_rules.specs.Rule.{numbers_at, rule_answer}
+use Rattle.config_precedence.specs.config_record.declared.coord.Coord.{Coord}
+use Rattle.config_precedence.specs.config_record.Coord.{place_of}
+use Rattle.config_precedence.specs.config_record.ComparedNumber.{device_number}
+use Rattle.config_precedence.specs.config_rules.declared.answer.Answer.{Answer}
+use Rattle.config_precedence.specs.config_rules.declared.answer.Answer.TheVariants.{Pass}
+use Rattle.config_precedence.specs.config_rules.declared.rule.Rule.{Rule}
+use Rattle.config_precedence.specs.config_rules.Kind.{kind_answer}
+use Rattle.config_precedence.specs.config_rules.Rule.{numbers_at, rule_answer}
 use Rattle.box_answers.specs.NumberSet.{SetOf}
 use Rattle.box_answers.specs.Members.{IsMember}
 

@@ -1,15 +1,15 @@
 -- Four facts about the rules, by which few numbers of a set are enough to know what all of them say.
 use Rattle.std.specs.Prelude.{◌≡◌, ◌⊎◌, ℕ, ◌<◌, ◌≤◌, ◌==◌, true, List, Contains}
-use Rattle.config_record.specs.declared.coord.Coord as coord
-use Rattle.config_record.specs.declared.coord.Coord.TheVariants as coords
-use Rattle.config_record.specs.ComparedNumber.{record_number}
-use Rattle.config_record.specs.Record.{is_set_aside}
-use Rattle.config_rules.specs.declared.answer.Answer.TheVariants.{Yes, Pass}
-use Rattle.config_rules.specs.declared.kind.Kind.TheVariants as kinds
-use Rattle.config_rules.specs.declared.rule.Rule.{Rule}
-use Rattle.config_rules.specs.Comparisons.{counted_density, normal_size}
-use Rattle.config_rules.specs.Rule.{at, beside, rule_answer}
-use Rattle.config_match.specs.Conditions.{all_conditions}
+use Rattle.config_precedence.specs.config_record.declared.coord.Coord as coord
+use Rattle.config_precedence.specs.config_record.declared.coord.Coord.TheVariants as coords
+use Rattle.config_precedence.specs.config_record.ComparedNumber.{record_number}
+use Rattle.config_precedence.specs.config_record.Record.{is_set_aside}
+use Rattle.config_precedence.specs.config_rules.declared.answer.Answer.TheVariants.{Yes, Pass}
+use Rattle.config_precedence.specs.config_rules.declared.kind.Kind.TheVariants as kinds
+use Rattle.config_precedence.specs.config_rules.declared.rule.Rule.{Rule}
+use Rattle.config_precedence.specs.config_rules.Comparisons.{counted_density, normal_size}
+use Rattle.config_precedence.specs.config_rules.Rule.{at, beside, rule_answer}
+use Rattle.config_precedence.specs.config_match.Conditions.{all_conditions}
 use Rattle.box_answers.specs.NumberSet.{SetOf}
 use Rattle.box_answers.specs.Changes.{IsNowhere}
 

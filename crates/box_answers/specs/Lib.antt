@@ -6,3 +6,7 @@ pub mod Question
 pub mod RuleSearch
 pub mod Sameness
 pub mod Facts
+pub mod Unfolded
+pub use Rattle.config_precedence.specs as config_precedence
+pub use Rattle.config_precedence.specs.config_match
+pub use Rattle.config_precedence.specs.config_record

@@ -1,10 +1,10 @@
 -- Boxes of devices: 25 sets of numbers, one for each coordinate, in their order. A device is the list of its numbers.
 use Rattle.std.specs.Prelude.{◌≡◌, ℕ, ◌≤◌, List, map, length, slice_index_or}
-use Rattle.config_record.specs.declared.coord.Coord as coord
-use Rattle.config_record.specs.declared.coord.Coord.TheVariants as coords
-use Rattle.config_record.specs.Coord.{place_of}
-use Rattle.config_record.specs.ComparedNumber.{device_number}
-use Rattle.config_record.specs.Device.{CanHave}
+use Rattle.config_precedence.specs.config_record.declared.coord.Coord as coord
+use Rattle.config_precedence.specs.config_record.declared.coord.Coord.TheVariants as coords
+use Rattle.config_precedence.specs.config_record.Coord.{place_of}
+use Rattle.config_precedence.specs.config_record.ComparedNumber.{device_number}
+use Rattle.config_precedence.specs.config_record.Device.{CanHave}
 use Rattle.box_answers.specs.declared.number_set.NumberSet.{NumberSet}
 use Rattle.box_answers.specs.NumberSet.{SetOf, RangeOf, LocalesOf, set_of, listed, IsIn, IsProper, IsLeastIn}
 

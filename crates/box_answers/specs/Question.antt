@@ -1,10 +1,10 @@
 -- What is asked of the members of a box: what a table of rules says of two records.
 use Rattle.std.specs.Prelude.{ℕ, Bool, List}
-use Rattle.config_record.specs.ComparedNumber.{record_number, device_number}
-use Rattle.config_record.specs.Record.{record_bytes}
-use Rattle.config_rules.specs.declared.answer.Answer.{Answer}
-use Rattle.config_rules.specs.Answer.{is_pass, is_yes}
-use Rattle.config_rules.specs.Table.{answer_of_table}
+use Rattle.config_precedence.specs.config_record.ComparedNumber.{record_number, device_number}
+use Rattle.config_precedence.specs.config_record.Record.{record_bytes}
+use Rattle.config_precedence.specs.config_rules.declared.answer.Answer.{Answer}
+use Rattle.config_precedence.specs.config_rules.Answer.{is_pass, is_yes}
+use Rattle.config_precedence.specs.config_rules.Table.{answer_of_table}
 use Rattle.box_answers.specs.declared.question.Asked.{Asked}
 use Rattle.box_answers.specs.declared.question.Asked.TheVariants.{Matches, IsBetter}
 use Rattle.box_answers.specs.declared.question.Question.{Question}

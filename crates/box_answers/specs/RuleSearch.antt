@@ -1,11 +1,11 @@
 -- The search for a member of which one rule says something.
 use Rattle.std.specs.Prelude.{◌≡◌, ℕ, List, [], ◌∷◌}
-use Rattle.config_record.specs.Record.{record_bytes}
-use Rattle.config_record.specs.ComparedNumber.{record_number, device_number}
-use Rattle.config_record.specs.DeviceSeen.{device_numbers}
-use Rattle.config_rules.specs.declared.answer.Answer.{Answer}
-use Rattle.config_rules.specs.Rule.{rule_answer}
-use Rattle.config_rules.specs.Reads.{AreReadInOrder}
+use Rattle.config_precedence.specs.config_record.Record.{record_bytes}
+use Rattle.config_precedence.specs.config_record.ComparedNumber.{record_number, device_number}
+use Rattle.config_precedence.specs.config_record.DeviceSeen.{device_numbers}
+use Rattle.config_precedence.specs.config_rules.declared.answer.Answer.{Answer}
+use Rattle.config_precedence.specs.config_rules.Rule.{rule_answer}
+use Rattle.config_precedence.specs.config_rules.Reads.{AreReadInOrder}
 use Rattle.box_answers.specs.declared.rule_search.RuleSearch.{RuleSearch}
 use Rattle.box_answers.specs.Members.{sets_of, IsMember, IsBox}
 use Rattle.box_answers.specs.Changes.{ChangesTo, IsNowhere, answer_at}

@@ -1,8 +1,8 @@
 -- Is a question answered alike by all members of a box? If not, by which two that stand side by side?
 use Rattle.std.specs.Prelude.{◌≡◌, ◌≢◌, ℕ, ◌+◌, ◌≤◌, min, max, ◌⊎◌, Bool, true, false, List}
-use Rattle.config_record.specs.declared.coord.Coord.{Coord}
-use Rattle.config_record.specs.ComparedNumber.{device_number}
-use Rattle.config_record.specs.DeviceSeen.{device_numbers}
+use Rattle.config_precedence.specs.config_record.declared.coord.Coord.{Coord}
+use Rattle.config_precedence.specs.config_record.ComparedNumber.{device_number}
+use Rattle.config_precedence.specs.config_record.DeviceSeen.{device_numbers}
 use Rattle.box_answers.specs.declared.sameness.Sameness.{Sameness}
 use Rattle.box_answers.specs.declared.sameness.Sameness.TheVariants.{Always, Never, Mixed}
 use Rattle.box_answers.specs.NumberSet.{SetOf, RangeOf, IsIn}

@@ -1,7 +1,7 @@
 -- The numbers of a set at which a rule is tried. They are few, and chosen so that a rule which says something anywhere in the
 -- set says it at one of them.
 use Rattle.std.specs.Prelude.{ℕ, ◌+◌, List, [], ◌∷◌, min, max}
-use Rattle.config_rules.specs.Conditions.{soft_keys}
+use Rattle.config_precedence.specs.config_rules.Conditions.{soft_keys}
 use Rattle.box_answers.specs.NumberSet.{SetOf, RangeOf, NumbersOf, LocalesOf}
 
 -- the number itself, or the end of the range that is nearer

@@ -1,6 +1,6 @@
 //! Two members side by side.
 
-use config_record::{Coord, Device};
+use config_precedence::{Coord, Device};
 
 /// Two members of a box that differ in one coordinate alone, and by one where the box holds it as a range. A
 /// question tells them apart: `yes` answers yes, and `no` answers no.

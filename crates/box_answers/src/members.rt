@@ -1,15 +1,15 @@
 //! The members of a box.
 
 ghost use Rattle.std.specs.Prelude.{◌≡◌, ◌↔◌, IsTrue, length};
-ghost use Rattle.config_record.specs.declared.coord.Coord as coord;
-ghost use Rattle.config_record.specs.Coord.{all_coords, number_at};
-ghost use Rattle.config_record.specs.ComparedNumber.{device_number};
-ghost use Rattle.config_record.specs.DeviceSeen.{device_numbers};
+ghost use Rattle.config_precedence.specs.config_record.declared.coord.Coord as coord;
+ghost use Rattle.config_precedence.specs.config_record.Coord.{all_coords, number_at};
+ghost use Rattle.config_precedence.specs.config_record.ComparedNumber.{device_number};
+ghost use Rattle.config_precedence.specs.config_record.DeviceSeen.{device_numbers};
 ghost use Rattle.box_answers.specs.NumberSet.{set_of, IsIn, IsLeastIn};
 ghost use Rattle.box_answers.specs.Members.{sets_of, set_at, IsMember, IsBox, IsCorner};
 
 use crate::number_set::NumberSet;
-use config_record::{COORD_COUNT, Coord, Device};
+use config_precedence::{COORD_COUNT, Coord, Device};
 
 /// The set at a coordinate.
 pub fn set_at(sets: &[NumberSet], at: Coord) -> &NumberSet
@@ -20,7 +20,7 @@ pub fn set_at(sets: &[NumberSet], at: Coord) -> &NumberSet
 }
 
 /// Whether each number of a device is one of the set at its coordinate.
-#[tactic(auto, unfolding(crate::specs::Members::IsMember, config_record::specs::Coord::all_coords))]
+#[tactic(auto, unfolding(crate::specs::Members::IsMember, crate::specs::Unfolded::all_coords))]
 pub fn is_member(sets: &[NumberSet], device: &Device) -> bool
     requires { length sets.now ≡ 25 }
     ensures { IsTrue result ↔ IsMember (sets_of sets.now) (device_numbers device.now) }
@@ -42,7 +42,7 @@ fn is_member_at(sets: &[NumberSet], device: &Device, coords: &[Coord]) -> bool
 }
 
 /// The member that has the least number of each set.
-#[tactic(auto, unfolding(config_record::specs::Coord::all_coords))]
+#[tactic(auto, unfolding(crate::specs::Unfolded::all_coords))]
 pub fn corner(sets: &[NumberSet]) -> Device
     requires { IsBox (sets_of sets.now) }
     ensures { IsCorner (sets_of sets.now) (device_numbers result) }

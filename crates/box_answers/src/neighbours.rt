@@ -1,9 +1,9 @@
 //! Two members that differ in one coordinate alone, from two that answer differently.
 
 ghost use Rattle.std.specs.Prelude.{◌≡◌, ℕ, ◌+◌, ◌<◌, ◌≤◌, min, max, true, false, IfSome, IfNone};
-ghost use Rattle.config_record.specs.Coord.{all_coords};
-ghost use Rattle.config_record.specs.ComparedNumber.{device_number};
-ghost use Rattle.config_record.specs.DeviceSeen.{device_numbers};
+ghost use Rattle.config_precedence.specs.config_record.Coord.{all_coords};
+ghost use Rattle.config_precedence.specs.config_record.ComparedNumber.{device_number};
+ghost use Rattle.config_precedence.specs.config_record.DeviceSeen.{device_numbers};
 ghost use Rattle.box_answers.specs.NumberSet.{IsIn};
 ghost use Rattle.box_answers.specs.Members.{sets_of, set_at, IsMember, IsBox};
 ghost use Rattle.box_answers.specs.Question.{answered};
@@ -13,11 +13,11 @@ use crate::member_pair::MemberPair;
 use crate::members::set_at;
 use crate::number_set::NumberSet;
 use crate::question::{Question, answered};
-use config_record::{Coord, Device};
+use config_precedence::{Coord, Device};
 
 /// Two members side by side, and the coordinate in which they differ. Coordinate by coordinate the member
 /// that answers yes is changed into the one that answers no.
-#[tactic(auto, unfolding(config_record::specs::Coord::all_coords))]
+#[tactic(auto, unfolding(crate::specs::Unfolded::all_coords))]
 pub(crate) fn neighbours(
     sets: &[NumberSet],
     question: &Question,

@@ -4,7 +4,7 @@ ghost use Rattle.std.specs.Prelude.{◌≡◌, ◌<◌, ◌↔◌, ◌==◌, IsT
 ghost use Rattle.std.specs.List.{list_any};
 ghost use Rattle.box_answers.specs.NumberSet.{set_of, locale_numbers, IsIn, listed, IsProper, IsLeastIn, IsGreatestIn};
 
-use config_record::Locale;
+use config_precedence::Locale;
 use std::rc::Rc;
 
 /// The numbers that a box allows at a coordinate. The list of a choice is shared by the boxes that have

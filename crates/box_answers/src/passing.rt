@@ -1,16 +1,15 @@
 //! Rules that pass at every device.
 
 ghost use Rattle.std.specs.Prelude.{IsTrue};
-ghost use Rattle.config_record.specs.Record.{record_bytes};
-ghost use Rattle.config_record.specs.ComparedNumber.{record_number};
+ghost use Rattle.config_precedence.specs.config_record.Record.{record_bytes};
+ghost use Rattle.config_precedence.specs.config_record.ComparedNumber.{record_number};
 ghost use Rattle.box_answers.specs.Changes.{PassesEverywhere};
 
-use config_record::Record;
-use config_rules::{Kind, Rule};
+use config_precedence::{Kind, Record, Rule};
 
 /// Whether the two records alone show that a rule passes at every device: a comparison of records that say the
 /// same passes, and so does a condition of a record that says nothing.
-#[tactic(auto, unfolding(config_rules::specs::Rule::rule_answer, config_rules::specs::Kind::kind_answer))]
+#[tactic(auto, unfolding(crate::specs::Unfolded::rule_answer, crate::specs::Unfolded::kind_answer))]
 pub(crate) fn passes_everywhere(rule: Rule, a: &Record, b: &Record) -> bool
     ensures { IsTrue result → PassesEverywhere rule (record_number (record_bytes a.now)) (record_number (record_bytes b.now)) }
 {

@@ -1,11 +1,10 @@
 //! What is asked of all members of a box.
 
 ghost use Rattle.std.specs.Prelude.{◌≡◌};
-ghost use Rattle.config_record.specs.DeviceSeen.{device_numbers};
+ghost use Rattle.config_precedence.specs.config_record.DeviceSeen.{device_numbers};
 ghost use Rattle.box_answers.specs.Question.{says_yes, answered};
 
-use config_record::{Device, Record};
-use config_rules::{Answer, Rule, table_answer};
+use config_precedence::{Answer, Device, Record, Rule, table_answer};
 
 /// Which answer of a table is a yes.
 #[derive(Clone, Copy)]

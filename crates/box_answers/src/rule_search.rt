@@ -1,16 +1,15 @@
 //! The search for a member of which one rule says something.
 
 ghost use Rattle.std.specs.Prelude.{◌≡◌, ◌≢◌, ◌↔◌, ℕ, [], ◌∷◌, IfSome, IfNone, IsTrue, false};
-ghost use Rattle.config_record.specs.DeviceSeen.{device_numbers};
-ghost use Rattle.config_rules.specs.Answer.{is_pass};
-ghost use Rattle.config_rules.specs.Reads.{reads};
+ghost use Rattle.config_precedence.specs.config_record.DeviceSeen.{device_numbers};
+ghost use Rattle.config_precedence.specs.config_rules.Answer.{is_pass};
+ghost use Rattle.config_precedence.specs.config_rules.Reads.{reads};
 ghost use Rattle.box_answers.specs.Members.{sets_of, set_at};
 ghost use Rattle.box_answers.specs.NumberSet.{IsIn};
 
 use crate::members::set_at;
 use crate::number_set::NumberSet;
-use config_record::{Coord, Device, Record};
-use config_rules::{Answer, Rule};
+use config_precedence::{Answer, Coord, Device, Record, Rule};
 
 /// One rule of a table, asked about two records. What is found is the member `from`, changed in what the
 /// rule reads alone.

@@ -1,12 +1,12 @@
 //! The two questions, asked of all members of a box at once.
 
 ghost use Rattle.std.specs.Prelude.{◌≡◌, true};
-ghost use Rattle.config_record.specs.Record.{record_bytes};
-ghost use Rattle.config_record.specs.ComparedNumber.{record_number};
-ghost use Rattle.config_rules.specs.declared.answer.Answer.TheVariants.{Pass};
-ghost use Rattle.config_match.specs.Matching.{is_match};
+ghost use Rattle.config_precedence.specs.config_record.Record.{record_bytes};
+ghost use Rattle.config_precedence.specs.config_record.ComparedNumber.{record_number};
+ghost use Rattle.config_precedence.specs.config_rules.declared.answer.Answer.TheVariants.{Pass};
+ghost use Rattle.config_precedence.specs.config_match.Matching.{is_match};
 ghost use Rattle.config_precedence.specs.Precedence.{is_better};
-ghost use Rattle.config_rules.specs.Reads.{AreReadInOrder};
+ghost use Rattle.config_precedence.specs.config_rules.Reads.{AreReadInOrder};
 ghost use Rattle.box_answers.specs.Members.{sets_of, IsBox};
 ghost use Rattle.box_answers.specs.Question.{says_yes, answered};
 ghost use Rattle.box_answers.specs.Facts.{DensityTurnsOnce, SizesFromNormalUpAreAlike, DimensionsAskWhichAreZero, OneFails, FailsOnOneSide};
@@ -15,9 +15,7 @@ use crate::neighbours::neighbours;
 use crate::number_set::NumberSet;
 use crate::question::{Asked, Question};
 use crate::search::member_where;
-use config_match::conditions;
-use config_precedence::rules;
-use config_record::{Coord, Device, Record};
+use config_precedence::{Coord, Device, Record, conditions, rules};
 
 /// What all members of a box answer.
 #[derive(Clone, Copy, Debug, PartialEq, Eq)]
@@ -34,7 +32,7 @@ pub enum Sameness {
 ghost use Rattle.box_answers.specs.Sameness.{IsExact};
 
 /// Does a record match all members, none, or some?
-#[tactic(auto, unfolding(config_match::specs::Matching::is_match))]
+#[tactic(auto, unfolding(crate::specs::Unfolded::is_match))]
 pub fn match_all(sets: &[NumberSet], stored: &Record) -> Sameness
     requires { IsBox (sets_of sets.now) }
     ensures value { IsExact result (sets_of sets.now) (is_match (record_bytes stored.now)) }

@@ -1,11 +1,11 @@
 //! The search for a member at which a question has a given answer.
 
 ghost use Rattle.std.specs.Prelude.{◌≡◌, ◌≢◌, ℕ, List, IfSome, IfNone};
-ghost use Rattle.config_record.specs.Record.{record_bytes};
-ghost use Rattle.config_record.specs.ComparedNumber.{record_number};
-ghost use Rattle.config_record.specs.DeviceSeen.{device_numbers};
-ghost use Rattle.config_rules.specs.declared.answer.Answer.TheVariants.{Pass};
-ghost use Rattle.config_rules.specs.Reads.{AreReadInOrder};
+ghost use Rattle.config_precedence.specs.config_record.Record.{record_bytes};
+ghost use Rattle.config_precedence.specs.config_record.ComparedNumber.{record_number};
+ghost use Rattle.config_precedence.specs.config_record.DeviceSeen.{device_numbers};
+ghost use Rattle.config_precedence.specs.config_rules.declared.answer.Answer.TheVariants.{Pass};
+ghost use Rattle.config_precedence.specs.config_rules.Reads.{AreReadInOrder};
 ghost use Rattle.box_answers.specs.Members.{sets_of, IsMember, IsBox};
 ghost use Rattle.box_answers.specs.Question.{says_yes, table_says, answered};
 ghost use Rattle.box_answers.specs.Facts.{OneFails};
@@ -15,8 +15,7 @@ use crate::number_set::NumberSet;
 use crate::passing::passes_everywhere;
 use crate::question::Question;
 use crate::rule_search::RuleSearch;
-use config_record::Device;
-use config_rules::Answer;
+use config_precedence::{Answer, Device};
 
 /// A member at which the answer is yes, or one at which it is no; none where no member has that answer.
 pub(crate) fn member_where(sets: &[NumberSet], question: &Question, wanted: bool) -> Option<Device>

@@ -5,7 +5,7 @@ ghost use Rattle.box_answers.specs.NumberSet.{SetOf, RangeOf, set_of};
 ghost use Rattle.box_answers.specs.TriedNumbers.{clamped, tried_numbers};
 
 use crate::number_set::NumberSet;
-use config_rules::SOFT_KEYS;
+use config_precedence::SOFT_KEYS;
 
 /// How many numbers of a range are tried: `tried_numbers` in `specs/` says which, and why these.
 const OF_A_RANGE: usize = 7;

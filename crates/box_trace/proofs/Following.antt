@@ -1,9 +1,9 @@
 -- The chain of look-ups for all members of a box, look-up by look-up.
 use Rattle.std.proofs.Common.{◌≡◌, ◌-◌, ℕ, zero, suc, List, [], ◌∷◌, ◌++◌, Option, refl, sym, ◌∙◌, ap, append_assoc}
 use Rattle.std.specs.List.{flat_map}
-use Rattle.res_value.specs.declared.res_id.ResId.{ResId}
-use Rattle.overlay_map.specs.Layer.{LayerOf}
-use Rattle.overlay_map.specs.Candidates.{CandOf}
+use Rattle.reference_resolver.specs.res_value.declared.res_id.ResId.{ResId}
+use Rattle.reference_resolver.specs.overlay_map.Layer.{LayerOf}
+use Rattle.reference_resolver.specs.overlay_map.Candidates.{CandOf}
 use Rattle.reference_resolver.specs.declared.end.End.{End}
 use Rattle.reference_resolver.specs.declared.next.Next.{Next}
 use Rattle.reference_resolver.specs.declared.next.Next.TheVariants.{LookUp, EndsAt}

@@ -1,3 +1,5 @@
 pub mod Divisions
 pub mod Scans
 pub mod Following
+pub use Rattle.reference_resolver.proofs as reference_resolver
+pub use Rattle.reference_resolver.proofs.config_record

@@ -1,6 +1,6 @@
 -- One look-up for all members of a box, candidate by candidate.
 use Rattle.std.proofs.Common.{◌≡◌, ℕ, List, [], ◌∷◌, ◌++◌, Option, None, sym, ◌∙◌, ap, subst, append_assoc}
-use Rattle.overlay_map.specs.Candidates.{CandOf}
+use Rattle.reference_resolver.specs.overlay_map.Candidates.{CandOf}
 use Rattle.reference_resolver.specs.declared.step.Step.{Step}
 use Rattle.reference_resolver.specs.Selection.{step_of, best_after, scan_candidates, best_of}
 use Rattle.box_trace.specs.Division.{DividesAt, Divides}

@@ -1,11 +1,11 @@
 -- What do all members of a box do alike at one candidate, and at one look-up? (Cited by contracts of this crate alone.)
 use Rattle.std.specs.Prelude.{◌≡◌, ℕ, List, Option}
 use Rattle.std.specs.Option.{option_map}
-use Rattle.config_record.specs.DeviceSeen.{device_numbers}
-use Rattle.box_answers.specs.NumberSet.{SetOf}
-use Rattle.box_answers.specs.Members.{IsMember}
-use Rattle.overlay_map.specs.Layer.{LayerOf}
-use Rattle.overlay_map.specs.Candidates.{CandOf, cand_of}
+use Rattle.reference_resolver.specs.config_record.DeviceSeen.{device_numbers}
+use Rattle.config_box.specs.box_answers.NumberSet.{SetOf}
+use Rattle.config_box.specs.box_answers.Members.{IsMember}
+use Rattle.reference_resolver.specs.overlay_map.Layer.{LayerOf}
+use Rattle.reference_resolver.specs.overlay_map.Candidates.{CandOf, cand_of}
 use Rattle.reference_resolver.specs.declared.step.Step.{Step}
 use Rattle.reference_resolver.specs.Selection.{selected, step_of, best_after}
 use Rattle.reference_resolver.specs.Trace.{scan_look_up}

@@ -1,12 +1,12 @@
 -- What do the traces of all members of a box have in common? They are one, or two members side by side show where they
 -- part first.
 use Rattle.std.specs.Prelude.{◌≡◌, ◌≢◌, ℕ, List}
-use Rattle.config_record.specs.declared.coord.Coord.{Coord}
-use Rattle.config_record.specs.ComparedNumber.{device_number}
-use Rattle.config_record.specs.DeviceSeen.{device_numbers}
-use Rattle.box_answers.specs.NumberSet.{SetOf}
-use Rattle.box_answers.specs.Members.{set_at, IsMember}
-use Rattle.box_answers.specs.Sameness.{AreNeighbours}
+use Rattle.reference_resolver.specs.config_record.declared.coord.Coord.{Coord}
+use Rattle.reference_resolver.specs.config_record.ComparedNumber.{device_number}
+use Rattle.reference_resolver.specs.config_record.DeviceSeen.{device_numbers}
+use Rattle.config_box.specs.box_answers.NumberSet.{SetOf}
+use Rattle.config_box.specs.box_answers.Members.{set_at, IsMember}
+use Rattle.config_box.specs.box_answers.Sameness.{AreNeighbours}
 use Rattle.reference_resolver.specs.declared.step.Step.{Step}
 use Rattle.reference_resolver.specs.Trace.{Trace}
 use Rattle.box_trace.specs.declared.common.CommonTrace.{CommonTrace}

@@ -1,8 +1,7 @@
 //! What all members of a box have in common, or two that differ.
 
 use config_box::MemberPair;
-use overlay_map::Cand;
-use reference_resolver::End;
+use reference_resolver::{Cand, End};
 
 /// What the traces of all members of a box have in common.
 #[derive(Clone, Copy, Debug, PartialEq, Eq)]

@@ -20,4 +20,7 @@ mod step;
 mod trace;
 
 pub use common::CommonTrace;
+pub use reference_resolver::{
+    Cand, Coord, Device, End, Locale, MOST_LAYERS, Next, REFERENCES_FOLLOWED, Stack, Step, resolve,
+};
 pub use trace::common_trace;

@@ -5,8 +5,7 @@ ghost use Rattle.box_trace.specs.CommonSelection.{IsCommonSelection};
 use crate::common::CommonSelection;
 use crate::step::best_after;
 use config_box::ConfigBox;
-use overlay_map::Stack;
-use res_value::ResId;
+use reference_resolver::{ResId, Stack};
 
 /// The candidate of an id that all members select, and by the same steps.
 pub(crate) fn common_selection<'a>(

@@ -2,17 +2,16 @@
 
 ghost use Rattle.std.specs.Prelude.{ℕ, List, IsTrue};
 ghost use Rattle.std.specs.Option.{option_map};
-ghost use Rattle.config_match.specs.Matching.{is_match};
-ghost use Rattle.box_answers.specs.Members.{IsMember};
-ghost use Rattle.box_answers.specs.Sameness.{IsExact};
-ghost use Rattle.overlay_map.specs.Candidates.{cand_of};
+ghost use Rattle.reference_resolver.specs.config_match.Matching.{is_match};
+ghost use Rattle.config_box.specs.box_answers.Members.{IsMember};
+ghost use Rattle.config_box.specs.box_answers.Sameness.{IsExact};
+ghost use Rattle.reference_resolver.specs.overlay_map.Candidates.{cand_of};
 ghost use Rattle.reference_resolver.specs.Selection.{beats, beats_best};
 ghost use Rattle.box_trace.specs.CommonSelection.{IsCommonStep};
 
 use crate::common::CommonSelection;
 use config_box::{ConfigBox, MemberPair, Sameness};
-use config_precedence::same;
-use overlay_map::Cand;
+use reference_resolver::{Cand, same};
 
 /// The best after a candidate, for all members. Whether it matches is asked first.
 pub(crate) fn best_after<'a>(

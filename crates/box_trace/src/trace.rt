@@ -7,9 +7,7 @@ ghost use Rattle.box_trace.specs.CommonTrace.{IsCommonTrace, NamesTwoTraces};
 use crate::common::{CommonSelection, CommonTrace};
 use crate::selection::common_selection;
 use config_box::ConfigBox;
-use overlay_map::Stack;
-use reference_resolver::{Next, REFERENCES_FOLLOWED};
-use res_value::ResId;
+use reference_resolver::{Next, REFERENCES_FOLLOWED, ResId, Stack};
 
 /// Whether an id has one trace at all members of a box, where at most twenty references are followed, and
 /// where it ends; or two members with different traces.

@@ -1,15 +1,15 @@
 -- Boxes of open paths.
 use Rattle.std.proofs.Common.{◌≡◌, ℕ, arith, Bool, List, [], ◌∷◌, ◌++◌, map, get_or, reverse, sym, ◌∙◌, ap, subst}
 use Rattle.std.proofs.lemmas.List.{reverse-append, get_or-map}
-use Rattle.config_record.specs.Coord.{place_of}
-use Rattle.config_record.specs.ComparedNumber.{device_number}
-use Rattle.box_answers.specs.NumberSet.{SetOf, RangeOf, listed, IsLeastIn}
-use Rattle.box_answers.specs.Members.{set_at, IsMember, IsBox, IsCorner}
-use Rattle.box_answers.proofs.Coords.{place_of-below}
-use Rattle.box_answers.proofs.Sets.{least-of}
-use Rattle.config_box.specs.Halves.{IsHalf}
-use Rattle.config_box.specs.Tests.{TestOf}
-use Rattle.config_box.proofs.HalfSteps.{marks-self}
+use Rattle.box_trace.specs.config_record.Coord.{place_of}
+use Rattle.box_trace.specs.config_record.ComparedNumber.{device_number}
+use Rattle.cert_tree.specs.box_answers.NumberSet.{SetOf, RangeOf, listed, IsLeastIn}
+use Rattle.cert_tree.specs.box_answers.Members.{set_at, IsMember, IsBox, IsCorner}
+use Rattle.cert_tree.proofs.box_answers.Coords.{place_of-below}
+use Rattle.cert_tree.proofs.box_answers.Sets.{least-of}
+use Rattle.cert_tree.specs.config_box.Halves.{IsHalf}
+use Rattle.cert_tree.specs.config_box.Tests.{TestOf}
+use Rattle.cert_tree.proofs.config_box.HalfSteps.{marks-self}
 use Rattle.cert_checker.specs.Paths.{Path}
 use Rattle.cert_checker.specs.OpenBoxes.{IsBoxAt, Stand}
 use Rattle.cert_checker.proofs.MarkSteps.{alike-next}

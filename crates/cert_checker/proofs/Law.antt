@@ -3,19 +3,19 @@
 use Rattle.std.proofs.Common.{◌≡◌, ℕ, ◌⊎◌, inl, inr, suc, List, [], ◌∷◌, Option, Some, take, sym, ◌∙◌, refl, subst}
 use Rattle.std.specs.Prelude.{slice_get}
 use Rattle.std.proofs.lemmas.Bool.{cases_Bool}
-use Rattle.reference_resolver.specs.declared.end.End.{End}
-use Rattle.reference_resolver.specs.declared.end.End.TheVariants as ends
-use Rattle.reference_resolver.specs.Trace.{Trace}
-use Rattle.reference_resolver.proofs.SameTraces.{end-cases, trace-cases}
-use Rattle.box_answers.specs.NumberSet.{SetOf}
-use Rattle.box_answers.specs.Members.{IsMember}
+use Rattle.box_trace.specs.reference_resolver.declared.end.End.{End}
+use Rattle.box_trace.specs.reference_resolver.declared.end.End.TheVariants as ends
+use Rattle.box_trace.specs.reference_resolver.Trace.{Trace}
+use Rattle.box_trace.proofs.reference_resolver.SameTraces.{end-cases, trace-cases}
+use Rattle.cert_tree.specs.box_answers.NumberSet.{SetOf}
+use Rattle.cert_tree.specs.box_answers.Members.{IsMember}
 use Rattle.box_trace.specs.CommonTrace.{SharesTrace}
-use Rattle.config_box.specs.Tests.{TestOf, answers}
+use Rattle.cert_tree.specs.config_box.Tests.{TestOf, answers}
 use Rattle.cert_tree.specs.Certificate.{NodeOf, TestAt, ValueAt, BagAt}
 use Rattle.cert_checker.specs.declared.rule.Rule.{Rule}
 use Rattle.cert_checker.specs.declared.rule.Rule.TheVariants.{EndsEarly, MixedTrace, NoValue, OtherValue}
 use Rattle.cert_checker.specs.Paths.{Path, Follows, IsAt, after, after_all, root, open_at, FollowsFirst, leaf_end, Reaches}
-use Rattle.reference_resolver.specs.Ends.{is_value}
+use Rattle.box_trace.specs.reference_resolver.Ends.{is_value}
 use Rattle.cert_checker.specs.Fails.{FailsAtLeaf, FailsAt, Fails, NoRuleFails}
 
 -- ---- each device that follows an open path reaches a leaf

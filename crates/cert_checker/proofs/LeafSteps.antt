@@ -1,14 +1,14 @@
 -- The rules of a leaf, told of the box of its path.
 use Rattle.std.proofs.Common.{◌≡◌, ◌≢◌, ℕ, ◌<◌, arith, true, false, List, Some, None, sym, ◌∙◌, ap, refl, subst}
-use Rattle.config_record.specs.declared.coord.Coord.{Coord}
-use Rattle.config_record.specs.declared.device.Device.{Device}
-use Rattle.config_record.specs.ComparedNumber.{device_number}
-use Rattle.config_record.specs.DeviceSeen.{device_numbers}
-use Rattle.reference_resolver.specs.declared.end.End.{End}
-use Rattle.reference_resolver.specs.declared.end.End.TheVariants as ends
-use Rattle.reference_resolver.specs.Trace.{Trace}
-use Rattle.box_answers.specs.NumberSet.{SetOf}
-use Rattle.box_answers.specs.Members.{set_at, IsMember, IsCorner}
+use Rattle.box_trace.specs.config_record.declared.coord.Coord.{Coord}
+use Rattle.box_trace.specs.config_record.declared.device.Device.{Device}
+use Rattle.box_trace.specs.config_record.ComparedNumber.{device_number}
+use Rattle.box_trace.specs.config_record.DeviceSeen.{device_numbers}
+use Rattle.box_trace.specs.reference_resolver.declared.end.End.{End}
+use Rattle.box_trace.specs.reference_resolver.declared.end.End.TheVariants as ends
+use Rattle.box_trace.specs.reference_resolver.Trace.{Trace}
+use Rattle.cert_tree.specs.box_answers.NumberSet.{SetOf}
+use Rattle.cert_tree.specs.box_answers.Members.{set_at, IsMember, IsCorner}
 use Rattle.box_trace.specs.CommonTrace.{SharesTrace, AreSideBySide}
 use Rattle.box_trace.specs.Division.{Divides}
 use Rattle.box_trace.proofs.Divisions.{divides_over}
@@ -17,7 +17,7 @@ use Rattle.cert_checker.specs.declared.rule.Rule.TheVariants.{GoalList, EndsEarl
 use Rattle.cert_checker.specs.declared.verdict.Shown.TheVariants.{Two, One}
 use Rattle.cert_checker.specs.Rule.{number_of}
 use Rattle.cert_checker.specs.Paths.{Path, IsAt}
-use Rattle.reference_resolver.specs.Ends.{is_value}
+use Rattle.box_trace.specs.reference_resolver.Ends.{is_value}
 use Rattle.cert_checker.specs.Fails.{FailsAtLeaf}
 use Rattle.cert_checker.specs.Shown.{ShowsEnd}
 use Rattle.cert_checker.specs.OpenBoxes.{IsBoxAt, rule_of_end, TakesLeaf}

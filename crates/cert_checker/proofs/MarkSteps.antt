@@ -1,12 +1,12 @@
 -- Sets that are marked alike, as those of a box and of its parts are.
 use Rattle.std.proofs.Common.{◌≡◌, ℕ, List, refl}
-use Rattle.config_record.specs.declared.coord.Coord as coord
-use Rattle.config_record.specs.declared.coord.Coord.TheVariants as coords
-use Rattle.box_answers.specs.NumberSet.{SetOf, RangeOf, NumbersOf, LocalesOf}
-use Rattle.box_answers.specs.Members.{set_at}
-use Rattle.box_answers.specs.Sameness.{AreNeighbours}
-use Rattle.config_box.specs.Marks.{AreMarkedAlike}
-use Rattle.config_box.specs.Tests.{TestOf, AtMostOf, AmongOf, is_range, has_wrong_kind}
+use Rattle.box_trace.specs.config_record.declared.coord.Coord as coord
+use Rattle.box_trace.specs.config_record.declared.coord.Coord.TheVariants as coords
+use Rattle.cert_tree.specs.box_answers.NumberSet.{SetOf, RangeOf, NumbersOf, LocalesOf}
+use Rattle.cert_tree.specs.box_answers.Members.{set_at}
+use Rattle.cert_tree.specs.box_answers.Sameness.{AreNeighbours}
+use Rattle.cert_tree.specs.config_box.Marks.{AreMarkedAlike}
+use Rattle.cert_tree.specs.config_box.Tests.{TestOf, AtMostOf, AmongOf, is_range, has_wrong_kind}
 
 pub alike-next : (a b c : SetOf) → AreMarkedAlike a b → AreMarkedAlike b c → AreMarkedAlike a c
 alike-next (RangeOf l h) (RangeOf m i) c first next = elim c as (λ s. AreMarkedAlike (RangeOf m i) s → AreMarkedAlike (RangeOf l h) s) [ RangeOf x y ↦ λ n. tt | NumbersOf x ↦ λ n. n | LocalesOf x ↦ λ n. n ] next

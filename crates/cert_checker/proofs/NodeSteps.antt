@@ -1,14 +1,14 @@
 -- What one node does to the boxes of open paths.
 use Rattle.std.proofs.Common.{◌≡◌, ◌≢◌, ℕ, ◌<◌, ◌⊎◌, inl, inr, arith, Bool, true, false, List, [], ◌∷◌, ◌++◌, reverse, Option, Some, None, sym, ◌∙◌, ap, refl, subst}
 use Rattle.std.specs.Prelude.{IfNone}
-use Rattle.reference_resolver.specs.declared.end.End.TheVariants as ends
-use Rattle.reference_resolver.specs.Trace.{Trace}
-use Rattle.res_value.specs.declared.res_id.ResId.{ResId}
-use Rattle.res_value.specs.declared.value.Value.{Value}
-use Rattle.box_answers.specs.NumberSet.{SetOf}
-use Rattle.box_answers.specs.Members.{IsMember}
-use Rattle.config_box.specs.Tests.{TestOf, has_wrong_kind}
-use Rattle.config_box.specs.Halves.{IsHalf, AllAnswer}
+use Rattle.box_trace.specs.reference_resolver.declared.end.End.TheVariants as ends
+use Rattle.box_trace.specs.reference_resolver.Trace.{Trace}
+use Rattle.cert_tree.specs.res_value.declared.res_id.ResId.{ResId}
+use Rattle.cert_tree.specs.res_value.declared.value.Value.{Value}
+use Rattle.cert_tree.specs.box_answers.NumberSet.{SetOf}
+use Rattle.cert_tree.specs.box_answers.Members.{IsMember}
+use Rattle.cert_tree.specs.config_box.Tests.{TestOf, has_wrong_kind}
+use Rattle.cert_tree.specs.config_box.Halves.{IsHalf, AllAnswer}
 use Rattle.cert_tree.specs.Certificate.{NodeOf, TestAt, ValueAt, BagAt}
 use Rattle.cert_checker.specs.declared.rule.Rule.{Rule}
 use Rattle.cert_checker.specs.declared.rule.Rule.TheVariants.{GoalList, EndsEarly, LeftOver, TestKind, EmptyHalf, MixedTrace, NoValue, OtherValue}

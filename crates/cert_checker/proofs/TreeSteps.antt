@@ -5,8 +5,8 @@ use Rattle.std.specs.Option.{option_map}
 use Rattle.std.proofs.lemmas.List.{take_more, take_all}
 use Rattle.std.proofs.lemmas.Bool.{cases_lt}
 use Rattle.std.proofs.lemmas.Option.{slice_get_past, slice_get_within, slice_get_read, slice_get-map, get_or_from_slice_get}
-use Rattle.reference_resolver.specs.Trace.{Trace}
-use Rattle.box_answers.specs.NumberSet.{SetOf}
+use Rattle.box_trace.specs.reference_resolver.Trace.{Trace}
+use Rattle.cert_tree.specs.box_answers.NumberSet.{SetOf}
 use Rattle.cert_tree.specs.Certificate.{NodeOf}
 use Rattle.cert_checker.specs.declared.rule.Rule.{Rule}
 use Rattle.cert_checker.specs.declared.rule.Rule.TheVariants.{EndsEarly}

@@ -1,14 +1,14 @@
 -- Which rules fail at the nodes of a tree. A trace says for each device what the rules of the platform do: the trace of an
 -- id (`trace_of`).
 use Rattle.std.specs.Prelude.{◌≡◌, ◌≢◌, ◌⊎◌, ℕ, ◌<◌, true, false, List, [], ◌∷◌, Option, Some, None, slice_get}
-use Rattle.reference_resolver.specs.declared.end.End.{End}
-use Rattle.reference_resolver.specs.declared.end.End.TheVariants as ends
-use Rattle.reference_resolver.specs.Ends.{is_value}
-use Rattle.reference_resolver.specs.Trace.{Trace}
-use Rattle.box_answers.specs.NumberSet.{SetOf}
+use Rattle.box_trace.specs.reference_resolver.declared.end.End.{End}
+use Rattle.box_trace.specs.reference_resolver.declared.end.End.TheVariants as ends
+use Rattle.box_trace.specs.reference_resolver.Ends.{is_value}
+use Rattle.box_trace.specs.reference_resolver.Trace.{Trace}
+use Rattle.cert_tree.specs.box_answers.NumberSet.{SetOf}
 use Rattle.box_trace.specs.CommonTrace.{SharesTrace}
-use Rattle.config_box.specs.Tests.{TestOf, has_wrong_kind}
-use Rattle.config_box.specs.Halves.{AllAnswer}
+use Rattle.cert_tree.specs.config_box.Tests.{TestOf, has_wrong_kind}
+use Rattle.cert_tree.specs.config_box.Halves.{AllAnswer}
 use Rattle.cert_tree.specs.Certificate.{NodeOf, TestAt, ValueAt, BagAt}
 use Rattle.cert_checker.specs.declared.rule.Rule.{Rule}
 use Rattle.cert_checker.specs.declared.rule.Rule.TheVariants.{EndsEarly, LeftOver, TestKind, EmptyHalf, MixedTrace, NoValue, OtherValue}

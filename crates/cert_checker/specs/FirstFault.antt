@@ -1,10 +1,10 @@
 -- Is a certificate accepted, and which fault comes first where it is not? It has a tree for each goal; `asked` are the goals
 -- that it has to be for.
 use Rattle.std.specs.Prelude.{◌≡◌, ◌≢◌, ℕ, ◌<◌, List, map, Some, slice_get}
-use Rattle.reference_resolver.specs.Ends.{references_followed}
-use Rattle.reference_resolver.specs.Trace.{Trace, trace_of}
-use Rattle.overlay_map.specs.Layer.{LayerOf}
-use Rattle.box_answers.specs.NumberSet.{SetOf}
+use Rattle.box_trace.specs.reference_resolver.Ends.{references_followed}
+use Rattle.box_trace.specs.reference_resolver.Trace.{Trace, trace_of}
+use Rattle.box_trace.specs.overlay_map.Layer.{LayerOf}
+use Rattle.cert_tree.specs.box_answers.NumberSet.{SetOf}
 use Rattle.cert_tree.specs.declared.goal.Goal.{Goal}
 use Rattle.cert_tree.specs.declared.goal.Goal.TheVariants.{Id}
 use Rattle.cert_tree.specs.Certificate.{GoalOf}

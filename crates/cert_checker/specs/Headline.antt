@@ -1,10 +1,10 @@
 -- What a verdict says of all devices.
 use Rattle.std.specs.Prelude.{◌≡◌, ℕ, List, Some, slice_get}
-use Rattle.reference_resolver.specs.declared.end.End.{End}
-use Rattle.reference_resolver.specs.Ends.{IsTheEnd, references_followed}
-use Rattle.overlay_map.specs.Layer.{LayerOf}
-use Rattle.box_answers.specs.NumberSet.{SetOf}
-use Rattle.box_answers.specs.Members.{IsMember}
+use Rattle.box_trace.specs.reference_resolver.declared.end.End.{End}
+use Rattle.box_trace.specs.reference_resolver.Ends.{IsTheEnd, references_followed}
+use Rattle.box_trace.specs.overlay_map.Layer.{LayerOf}
+use Rattle.cert_tree.specs.box_answers.NumberSet.{SetOf}
+use Rattle.cert_tree.specs.box_answers.Members.{IsMember}
 use Rattle.cert_tree.specs.declared.goal.Goal.{Goal}
 use Rattle.cert_tree.specs.declared.goal.Goal.TheVariants.{Id}
 use Rattle.cert_tree.specs.Certificate.{NodeOf, GoalOf}

@@ -1,13 +1,13 @@
 -- The boxes of open paths, and what one node does to them. (Cited by contracts of this crate alone.)
 use Rattle.std.specs.Prelude.{◌↔◌, ℕ, ◌<◌, List, [], ◌∷◌, Option, Some, None, reverse, IfNone}
-use Rattle.config_record.specs.declared.coord.Coord.{Coord}
-use Rattle.reference_resolver.specs.declared.end.End.{End}
-use Rattle.reference_resolver.specs.declared.end.End.TheVariants as ends
-use Rattle.reference_resolver.specs.Trace.{Trace}
-use Rattle.box_answers.specs.NumberSet.{SetOf}
-use Rattle.box_answers.specs.Members.{set_at, IsMember, IsBox}
-use Rattle.config_box.specs.Marks.{AreMarkedAlike}
-use Rattle.config_box.specs.Tests.{TestOf}
+use Rattle.box_trace.specs.config_record.declared.coord.Coord.{Coord}
+use Rattle.box_trace.specs.reference_resolver.declared.end.End.{End}
+use Rattle.box_trace.specs.reference_resolver.declared.end.End.TheVariants as ends
+use Rattle.box_trace.specs.reference_resolver.Trace.{Trace}
+use Rattle.cert_tree.specs.box_answers.NumberSet.{SetOf}
+use Rattle.cert_tree.specs.box_answers.Members.{set_at, IsMember, IsBox}
+use Rattle.cert_tree.specs.config_box.Marks.{AreMarkedAlike}
+use Rattle.cert_tree.specs.config_box.Tests.{TestOf}
 use Rattle.cert_tree.specs.Certificate.{NodeOf, TestAt}
 use Rattle.cert_checker.specs.declared.rule.Rule.{Rule}
 use Rattle.cert_checker.specs.declared.rule.Rule.TheVariants.{NoValue, OtherValue}

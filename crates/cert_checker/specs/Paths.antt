@@ -2,11 +2,11 @@
 -- behind its answer no. A path is the answers that lead to a node, the last one first. Paths are open where the tree goes on;
 -- the next node of the list stands at the first of them.
 use Rattle.std.specs.Prelude.{◌≡◌, ℕ, Bool, true, false, List, [], ◌∷◌, Option, Some, None, take, slice_get}
-use Rattle.reference_resolver.specs.declared.end.End.{End}
-use Rattle.reference_resolver.specs.declared.end.End.TheVariants as ends
-use Rattle.box_answers.specs.NumberSet.{SetOf}
-use Rattle.box_answers.specs.Members.{IsMember}
-use Rattle.config_box.specs.Tests.{TestOf, answers}
+use Rattle.box_trace.specs.reference_resolver.declared.end.End.{End}
+use Rattle.box_trace.specs.reference_resolver.declared.end.End.TheVariants as ends
+use Rattle.cert_tree.specs.box_answers.NumberSet.{SetOf}
+use Rattle.cert_tree.specs.box_answers.Members.{IsMember}
+use Rattle.cert_tree.specs.config_box.Tests.{TestOf, answers}
 use Rattle.cert_tree.specs.Certificate.{NodeOf, TestAt, ValueAt, BagAt}
 
 abbrev pub Path : Type 0

@@ -1,12 +1,12 @@
 -- The devices that show why a rule fails.
 use Rattle.std.specs.Prelude.{◌≡◌, ℕ, ◌≤◌, List, Some, slice_get}
-use Rattle.config_record.specs.declared.coord.Coord.{Coord}
-use Rattle.config_record.specs.ComparedNumber.{device_number}
-use Rattle.config_record.specs.DeviceSeen.{device_numbers}
-use Rattle.reference_resolver.specs.declared.end.End.{End}
-use Rattle.reference_resolver.specs.Trace.{Trace}
-use Rattle.overlay_map.specs.Layer.{LayerOf}
-use Rattle.box_answers.specs.NumberSet.{SetOf}
+use Rattle.box_trace.specs.config_record.declared.coord.Coord.{Coord}
+use Rattle.box_trace.specs.config_record.ComparedNumber.{device_number}
+use Rattle.box_trace.specs.config_record.DeviceSeen.{device_numbers}
+use Rattle.box_trace.specs.reference_resolver.declared.end.End.{End}
+use Rattle.box_trace.specs.reference_resolver.Trace.{Trace}
+use Rattle.box_trace.specs.overlay_map.Layer.{LayerOf}
+use Rattle.cert_tree.specs.box_answers.NumberSet.{SetOf}
 use Rattle.box_trace.specs.CommonTrace.{AreSideBySide}
 use Rattle.box_trace.specs.Division.{Divides}
 use Rattle.cert_tree.specs.Certificate.{NodeOf, GoalOf}

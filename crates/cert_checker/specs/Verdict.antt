@@ -1,7 +1,7 @@
 -- What a check says of a certificate.
 use Rattle.std.specs.Prelude.{List}
-use Rattle.overlay_map.specs.Layer.{LayerOf}
-use Rattle.box_answers.specs.NumberSet.{SetOf}
+use Rattle.box_trace.specs.overlay_map.Layer.{LayerOf}
+use Rattle.cert_tree.specs.box_answers.NumberSet.{SetOf}
 use Rattle.cert_tree.specs.declared.goal.Goal.{Goal}
 use Rattle.cert_tree.specs.Certificate.{GoalOf}
 use Rattle.cert_checker.specs.declared.verdict.Verdict.{Verdict}

@@ -9,9 +9,8 @@ use crate::goals::first_difference;
 use crate::rule::Rule;
 use crate::tree::check_tree;
 use crate::verdict::{Shown, Verdict};
-use cert_tree::{Cert, Goal, OutOfMemory};
-use config_box::ConfigBox;
-use overlay_map::Stack;
+use box_trace::Stack;
+use cert_tree::{Cert, ConfigBox, Goal, OutOfMemory};
 use std::alloc::Global;
 
 /// Whether a certificate is true for these goals and all devices of a box; or the first node at which a rule

@@ -1,18 +1,15 @@
 //! The rules of leaves.
 
 ghost use Rattle.std.specs.Prelude.{◌≡◌, ◌≢◌, true, MatchBool};
-ghost use Rattle.reference_resolver.specs.Ends.{references_followed, is_value};
-ghost use Rattle.reference_resolver.specs.Trace.{trace_of};
+ghost use Rattle.box_trace.specs.reference_resolver.Ends.{references_followed, is_value};
+ghost use Rattle.box_trace.specs.reference_resolver.Trace.{trace_of};
 ghost use Rattle.cert_checker.specs.OpenBoxes.{TakesLeaf, rule_of_end};
 
 use crate::failure::Failure;
 use crate::rule::Rule;
 use crate::verdict::Shown;
-use box_trace::{CommonTrace, common_trace};
-use config_box::ConfigBox;
-use overlay_map::Stack;
-use reference_resolver::End;
-use res_value::ResId;
+use box_trace::{CommonTrace, End, Stack, common_trace};
+use cert_tree::{ConfigBox, ResId};
 
 /// Why a leaf fails to which the members of this box come, if it does: they have several traces, or one that
 /// ends elsewhere than the leaf says.

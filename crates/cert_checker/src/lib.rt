@@ -23,6 +23,14 @@ mod rule;
 mod tree;
 mod verdict;
 
+pub use box_trace::{
+    Cand, CommonTrace, Coord, Device, End, Locale, MOST_LAYERS, Next, REFERENCES_FOLLOWED, Stack,
+    Step, common_trace, resolve,
+};
+pub use cert_tree::{
+    Cert, CertGoal, Choice, ConfigBox, Goal, MemberPair, Node, OutOfMemory, Progress, ResId, Split,
+    Test, Unwatched, Values,
+};
 pub use checking::check;
 pub use rule::Rule;
 pub use verdict::{Shown, Verdict};

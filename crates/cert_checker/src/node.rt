@@ -1,20 +1,17 @@
 //! One node of a tree.
 
 ghost use Rattle.std.specs.Prelude.{IfOk};
-ghost use Rattle.reference_resolver.specs.Ends.{references_followed};
-ghost use Rattle.reference_resolver.specs.Trace.{trace_of};
-ghost use Rattle.config_box.specs.Tests.{test_of};
+ghost use Rattle.box_trace.specs.reference_resolver.Ends.{references_followed};
+ghost use Rattle.box_trace.specs.reference_resolver.Trace.{trace_of};
+ghost use Rattle.cert_tree.specs.config_box.Tests.{test_of};
 ghost use Rattle.cert_tree.specs.Certificate.{node_of};
 ghost use Rattle.cert_checker.specs.OpenBoxes.{TakesNode, TakesTest};
 
 use crate::failure::Failure;
 use crate::leaf::take_leaf;
 use crate::rule::Rule;
-use cert_tree::{Node, OutOfMemory};
-use config_box::{ConfigBox, Split, Test};
-use overlay_map::Stack;
-use reference_resolver::End;
-use res_value::ResId;
+use box_trace::{End, Stack};
+use cert_tree::{ConfigBox, Node, OutOfMemory, ResId, Split, Test};
 use std::alloc::Global;
 
 /// Takes the next node, to which the members of the last open box come: why it fails, if it does. Else the boxes

@@ -1,8 +1,8 @@
 //! The tree of one goal.
 
 ghost use Rattle.std.specs.Prelude.{IfOk, map};
-ghost use Rattle.reference_resolver.specs.Ends.{references_followed};
-ghost use Rattle.reference_resolver.specs.Trace.{trace_of};
+ghost use Rattle.box_trace.specs.reference_resolver.Ends.{references_followed};
+ghost use Rattle.box_trace.specs.reference_resolver.Trace.{trace_of};
 ghost use Rattle.cert_tree.specs.Certificate.{node_of, goal_of};
 ghost use Rattle.cert_checker.specs.FirstFault.{goal_trace};
 ghost use Rattle.cert_checker.specs.OpenBoxes.{IsOutcome};
@@ -10,10 +10,8 @@ ghost use Rattle.cert_checker.specs.OpenBoxes.{IsOutcome};
 use crate::failure::Failure;
 use crate::node::take_node;
 use crate::rule::Rule;
-use cert_tree::{CertGoal, Goal, Node, OutOfMemory};
-use config_box::ConfigBox;
-use overlay_map::Stack;
-use res_value::ResId;
+use box_trace::Stack;
+use cert_tree::{CertGoal, ConfigBox, Goal, Node, OutOfMemory, ResId};
 use std::alloc::Global;
 
 /// The first of a tree's nodes that fails, with its place, if one does.

@@ -1,8 +1,7 @@
 //! What a check says.
 
 use crate::rule::Rule;
-use config_record::Device;
-use reference_resolver::End;
+use box_trace::{Device, End};
 
 /// What a check says of a certificate.
 #[derive(Clone, Copy, Debug, PartialEq, Eq)]

@@ -1,18 +1,18 @@
 -- Two devices, candidate by candidate and look-up by look-up.
 use Rattle.std.proofs.Common.{◌≡◌, ◌≢◌, ℕ, ◌⊎◌, inl, inr, List, ◌∷◌, Option, None, true, false, IsTrue, sym, ◌∙◌, ap, refl, subst}
-use Rattle.overlay_map.specs.Candidates.{CandOf}
-use Rattle.overlay_map.specs.Layer.{LayerOf}
-use Rattle.reference_resolver.specs.declared.step.Step.{Step}
-use Rattle.reference_resolver.specs.declared.step.Step.TheVariants.{NoMatch, KeptOut, TookOver}
-use Rattle.reference_resolver.specs.Selection.{step_of, best_after, scan_candidates}
-use Rattle.reference_resolver.specs.Trace.{Trace, trace_of, scan_look_up}
-use Rattle.box_trace.specs.Division.{has_matched, DividesAt, Divides}
-use Rattle.box_trace.specs.CommonTrace.{SharesTrace}
-use Rattle.box_trace.proofs.Divisions.{traces_differ}
-use Rattle.box_trace.proofs.Scans.{IsScanned, scan_more, scan_divided}
-use Rattle.box_trace.proofs.Following.{IsFollowed, follow_divided}
-use Rattle.reference_resolver.specs.SameTrace.{same_trace}
-use Rattle.reference_resolver.proofs.SameTraces.{trace-cases}
+use Rattle.cert_checker.specs.overlay_map.Candidates.{CandOf}
+use Rattle.cert_checker.specs.overlay_map.Layer.{LayerOf}
+use Rattle.cert_checker.specs.reference_resolver.declared.step.Step.{Step}
+use Rattle.cert_checker.specs.reference_resolver.declared.step.Step.TheVariants.{NoMatch, KeptOut, TookOver}
+use Rattle.cert_checker.specs.reference_resolver.Selection.{step_of, best_after, scan_candidates}
+use Rattle.cert_checker.specs.reference_resolver.Trace.{Trace, trace_of, scan_look_up}
+use Rattle.cert_checker.specs.box_trace.Division.{has_matched, DividesAt, Divides}
+use Rattle.cert_checker.specs.box_trace.CommonTrace.{SharesTrace}
+use Rattle.cert_checker.proofs.box_trace.Divisions.{traces_differ}
+use Rattle.cert_checker.proofs.box_trace.Scans.{IsScanned, scan_more, scan_divided}
+use Rattle.cert_checker.proofs.box_trace.Following.{IsFollowed, follow_divided}
+use Rattle.cert_checker.specs.reference_resolver.SameTrace.{same_trace}
+use Rattle.cert_checker.proofs.reference_resolver.SameTraces.{trace-cases}
 use Rattle.cert_maker.specs.Pair.{IsOneOf}
 
 -- both do the same

@@ -3,24 +3,24 @@ use Rattle.std.proofs.Common.{◌≡◌, ℕ, zero, suc, not, List, [], ◌∷�
 use Rattle.std.proofs.Math.Path.{fun_ext}
 use Rattle.std.specs.Prelude.{◌&&◌}
 use Rattle.std.specs.List.{flat_map}
-use Rattle.config_record.specs.declared.coord.Coord.{Coord}
-use Rattle.config_record.specs.ComparedNumber.{record_number, device_number}
-use Rattle.config_record.specs.Record.{is_set_aside}
-use Rattle.config_rules.specs.Answer.{is_pass, is_yes}
-use Rattle.config_rules.specs.Table.{answer_of_table}
-use Rattle.config_match.specs.Conditions.{all_conditions}
-use Rattle.config_match.specs.Matching.{is_match}
-use Rattle.config_precedence.specs.Rules.{all_rules}
-use Rattle.config_precedence.specs.Precedence.{is_better}
-use Rattle.overlay_map.specs.Layer.{LayerOf}
-use Rattle.overlay_map.specs.Candidates.{CandOf, candidates_of}
-use Rattle.reference_resolver.specs.declared.step.Step.{Step}
-use Rattle.reference_resolver.specs.declared.end.End.{End}
-use Rattle.reference_resolver.specs.Selection.{beats, beats_best, step_of, best_after, scan_candidates, best_of, selected}
-use Rattle.reference_resolver.specs.Ends.{next_of, end_of}
-use Rattle.reference_resolver.specs.Trace.{Trace, look_ups_of, scan_look_up, scan_chain}
-use Rattle.cert_tree.specs.declared.goal.Goal.{Goal}
-use Rattle.cert_tree.specs.declared.goal.Goal.TheVariants.{Id}
+use Rattle.cert_checker.specs.config_record.declared.coord.Coord.{Coord}
+use Rattle.cert_checker.specs.config_record.ComparedNumber.{record_number, device_number}
+use Rattle.cert_checker.specs.config_record.Record.{is_set_aside}
+use Rattle.cert_checker.specs.config_rules.Answer.{is_pass, is_yes}
+use Rattle.cert_checker.specs.config_rules.Table.{answer_of_table}
+use Rattle.cert_checker.specs.config_match.Conditions.{all_conditions}
+use Rattle.cert_checker.specs.config_match.Matching.{is_match}
+use Rattle.cert_checker.specs.config_precedence.Rules.{all_rules}
+use Rattle.cert_checker.specs.config_precedence.Precedence.{is_better}
+use Rattle.cert_checker.specs.overlay_map.Layer.{LayerOf}
+use Rattle.cert_checker.specs.overlay_map.Candidates.{CandOf, candidates_of}
+use Rattle.cert_checker.specs.reference_resolver.declared.step.Step.{Step}
+use Rattle.cert_checker.specs.reference_resolver.declared.end.End.{End}
+use Rattle.cert_checker.specs.reference_resolver.Selection.{beats, beats_best, step_of, best_after, scan_candidates, best_of, selected}
+use Rattle.cert_checker.specs.reference_resolver.Ends.{next_of, end_of}
+use Rattle.cert_checker.specs.reference_resolver.Trace.{Trace, look_ups_of, scan_look_up, scan_chain}
+use Rattle.cert_checker.specs.cert_tree.declared.goal.Goal.{Goal}
+use Rattle.cert_checker.specs.cert_tree.declared.goal.Goal.TheVariants.{Id}
 use Rattle.cert_checker.specs.FirstFault.{goal_trace}
 
 -- devices of the same numbers have one trace

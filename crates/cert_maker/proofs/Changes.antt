@@ -1,10 +1,10 @@
 -- The changes of a trace along a range.
 use Rattle.std.proofs.Common.{◌≡◌, ◌≢◌, ℕ, zero, suc, ◌+◌, ◌-◌, ◌<◌, ◌≤◌, inl, inr, arith, sym, ◌∙◌, ap, refl}
 use Rattle.std.specs.Prelude.{if◌then◌else◌}
-use Rattle.reference_resolver.specs.Trace.{Trace}
-use Rattle.reference_resolver.specs.SameTrace.{same_trace}
+use Rattle.cert_checker.specs.reference_resolver.Trace.{Trace}
+use Rattle.cert_checker.specs.reference_resolver.SameTrace.{same_trace}
 use Rattle.cert_maker.specs.Runs.{changes}
-use Rattle.reference_resolver.proofs.SameTraces.{trace-cases}
+use Rattle.cert_checker.proofs.reference_resolver.SameTraces.{trace-cases}
 
 -- whether it changes behind a number
 abbrev pub change : (ℕ → Trace) → ℕ → ℕ

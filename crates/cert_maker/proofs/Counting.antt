@@ -1,8 +1,8 @@
 -- The nodes of trees, counted against the runs at their open paths.
 use Rattle.std.proofs.Common.{ℕ, ◌+◌, ◌*◌, ◌≤◌, arith, List, [], ◌∷◌, length, true, false}
-use Rattle.reference_resolver.specs.Trace.{Trace}
-use Rattle.config_box.specs.Tests.{TestOf}
-use Rattle.cert_tree.specs.Certificate.{NodeOf, TestAt, ValueAt, BagAt}
+use Rattle.cert_checker.specs.reference_resolver.Trace.{Trace}
+use Rattle.cert_checker.specs.config_box.Tests.{TestOf}
+use Rattle.cert_checker.specs.cert_tree.Certificate.{NodeOf, TestAt, ValueAt, BagAt}
 use Rattle.cert_checker.specs.Paths.{Path}
 use Rattle.cert_maker.specs.Walk.{Walk}
 use Rattle.cert_maker.proofs.Lines.{Kept, at_path, spread, half}

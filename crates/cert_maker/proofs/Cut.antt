@@ -1,22 +1,22 @@
 -- The test that parts two members with different traces is needed.
 use Rattle.std.proofs.Common.{◌≡◌, ◌≢◌, ℕ, ◌+◌, ◌⊎◌, inl, inr, arith, List, length, min, true, false, sym, ◌∙◌, ap, refl, set}
 use Rattle.std.proofs.lemmas.Bool.{cases_Bool, le-leb, lt-leb}
-use Rattle.config_record.specs.declared.coord.Coord as coord
-use Rattle.config_record.specs.declared.coord.Coord.TheVariants as coords
+use Rattle.cert_checker.specs.config_record.declared.coord.Coord as coord
+use Rattle.cert_checker.specs.config_record.declared.coord.Coord.TheVariants as coords
 use Rattle.std.proofs.lemmas.List.{get_or-map, length-map}
-use Rattle.config_record.specs.Coord.{all_coords, place_of}
-use Rattle.config_record.proofs.DeviceLemmas.{coordinate-at_place, place_of-within}
-use Rattle.box_answers.proofs.Coords.{all_coords-count}
-use Rattle.config_record.specs.ComparedNumber.{device_number}
-use Rattle.config_record.proofs.ChangedNumber.{by_coord, number_at-set_same, number_at-set_other}
-use Rattle.reference_resolver.specs.Trace.{Trace}
-use Rattle.box_answers.specs.NumberSet.{SetOf, RangeOf, NumbersOf, LocalesOf, IsIn}
-use Rattle.box_answers.specs.Members.{set_at, IsMember}
-use Rattle.box_answers.specs.Sameness.{AreNeighbours}
-use Rattle.config_box.specs.Tests.{ChoiceOf, AtMostOf, AmongOf, is_listed, answers, is_range, has_wrong_kind}
+use Rattle.cert_checker.specs.config_record.Coord.{all_coords, place_of}
+use Rattle.cert_checker.proofs.config_record.DeviceLemmas.{coordinate-at_place, place_of-within}
+use Rattle.cert_checker.proofs.box_answers.Coords.{all_coords-count}
+use Rattle.cert_checker.specs.config_record.ComparedNumber.{device_number}
+use Rattle.cert_checker.proofs.config_record.ChangedNumber.{by_coord, number_at-set_same, number_at-set_other}
+use Rattle.cert_checker.specs.reference_resolver.Trace.{Trace}
+use Rattle.cert_checker.specs.box_answers.NumberSet.{SetOf, RangeOf, NumbersOf, LocalesOf, IsIn}
+use Rattle.cert_checker.specs.box_answers.Members.{set_at, IsMember}
+use Rattle.cert_checker.specs.box_answers.Sameness.{AreNeighbours}
+use Rattle.cert_checker.specs.config_box.Tests.{ChoiceOf, AtMostOf, AmongOf, is_listed, answers, is_range, has_wrong_kind}
 use Rattle.cert_maker.specs.Needed.{AgreeBut, IsNeededTest}
 use Rattle.cert_maker.specs.Runs.{trace_with}
-use Rattle.reference_resolver.proofs.SameTraces.{trace-cases}
+use Rattle.cert_checker.proofs.reference_resolver.SameTraces.{trace-cases}
 use Rattle.cert_maker.proofs.ByNumbers.{GoesByNumbers}
 use Rattle.cert_maker.specs.Pair.{ArePair, numbers_of, keeps}
 use Rattle.cert_maker.proofs.Steps.{test-passes}

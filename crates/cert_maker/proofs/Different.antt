@@ -2,11 +2,11 @@
 use Rattle.std.proofs.Common.{◌≡◌, ◌≢◌, ℕ, ◌+◌, ◌≤◌, ◌⊎◌, inl, inr, arith, List, [], ◌∷◌, map, Bool, true, false, not, cond, filter, sym, ◌∙◌, ap, refl, subst}
 use Rattle.std.proofs.lemmas.Bool.{cases_Bool}
 use Rattle.std.specs.List.{list_any}
-use Rattle.reference_resolver.specs.Trace.{Trace}
-use Rattle.reference_resolver.specs.SameTrace.{same_trace}
+use Rattle.cert_checker.specs.reference_resolver.Trace.{Trace}
+use Rattle.cert_checker.specs.reference_resolver.SameTrace.{same_trace}
 use Rattle.cert_maker.specs.Runs.{different}
-use Rattle.reference_resolver.proofs.SameTraces.{trace-cases}
-use Rattle.config_box.proofs.Filters.{Among, among-kept, kept-among}
+use Rattle.cert_checker.proofs.reference_resolver.SameTraces.{trace-cases}
+use Rattle.cert_checker.proofs.config_box.Filters.{Among, among-kept, kept-among}
 
 -- ---- the numbers that pass
 

@@ -7,27 +7,27 @@ use Rattle.std.proofs.lemmas.List.{get_or-map, length-map}
 use Rattle.std.proofs.lemmas.List.Folds.{list_any_at}
 use Rattle.std.proofs.lemmas.List.Sums.{length-filter, count_by-le-length}
 use Rattle.std.proofs.lemmas.Map.Views.{any-filter_same}
-use Rattle.config_record.specs.declared.coord.Coord as coord
-use Rattle.config_record.specs.declared.coord.Coord.TheVariants as coords
-use Rattle.config_record.specs.declared.locale.Locale.{Locale}
-use Rattle.config_record.specs.ComparedNumber.{device_number, locale_number, locale_of_number}
-use Rattle.config_record.specs.Locale.{IsGiven, IsOfSomeText, locale_text}
-use Rattle.config_record.proofs.LocaleGiven.{TwoBytes, given, numbered}
-use Rattle.config_record.specs.Device.{CanHave}
-use Rattle.res_value.specs.declared.res_id.ResId.{ResId}
-use Rattle.overlay_map.specs.Layer.{LayerOf}
-use Rattle.reference_resolver.specs.Ends.{references_followed}
-use Rattle.reference_resolver.specs.Trace.{Trace, trace_of}
-use Rattle.box_answers.specs.NumberSet.{SetOf, RangeOf, NumbersOf, LocalesOf, IsIn, listed, locale_numbers}
-use Rattle.box_answers.specs.Members.{set_at, IsMember, IsOfKind, IsBox}
-use Rattle.config_box.specs.Tests.{is_listed, is_range, has_wrong_kind}
-use Rattle.config_box.specs.Tests as seen
-use Rattle.cert_tree.specs.Certificate.{ChoiceFits}
-use Rattle.cert_tree.specs.declared.goal.Goal.TheVariants.{Id}
-use Rattle.reference_resolver.specs.SameTrace.{same_trace}
+use Rattle.cert_checker.specs.config_record.declared.coord.Coord as coord
+use Rattle.cert_checker.specs.config_record.declared.coord.Coord.TheVariants as coords
+use Rattle.cert_checker.specs.config_record.declared.locale.Locale.{Locale}
+use Rattle.cert_checker.specs.config_record.ComparedNumber.{device_number, locale_number, locale_of_number}
+use Rattle.cert_checker.specs.config_record.Locale.{IsGiven, IsOfSomeText, locale_text}
+use Rattle.cert_checker.proofs.config_record.LocaleGiven.{TwoBytes, given, numbered}
+use Rattle.cert_checker.specs.config_record.Device.{CanHave}
+use Rattle.cert_checker.specs.res_value.declared.res_id.ResId.{ResId}
+use Rattle.cert_checker.specs.overlay_map.Layer.{LayerOf}
+use Rattle.cert_checker.specs.reference_resolver.Ends.{references_followed}
+use Rattle.cert_checker.specs.reference_resolver.Trace.{Trace, trace_of}
+use Rattle.cert_checker.specs.box_answers.NumberSet.{SetOf, RangeOf, NumbersOf, LocalesOf, IsIn, listed, locale_numbers}
+use Rattle.cert_checker.specs.box_answers.Members.{set_at, IsMember, IsOfKind, IsBox}
+use Rattle.cert_checker.specs.config_box.Tests.{is_listed, is_range, has_wrong_kind}
+use Rattle.cert_checker.specs.config_box.Tests as seen
+use Rattle.cert_checker.specs.cert_tree.Certificate.{ChoiceFits}
+use Rattle.cert_checker.specs.cert_tree.declared.goal.Goal.TheVariants.{Id}
+use Rattle.cert_checker.specs.reference_resolver.SameTrace.{same_trace}
 use Rattle.cert_maker.specs.Needed.{AgreeBut, IsNeededTest}
 use Rattle.cert_maker.specs.Runs.{trace_with}
-use Rattle.config_box.proofs.Filters.{map-filter}
+use Rattle.cert_checker.proofs.config_box.Filters.{map-filter}
 use Rattle.cert_maker.proofs.ByNumbers.{GoesByNumbers, goal-by-numbers}
 use Rattle.cert_maker.specs.Pair.{ArePair, numbers_of, keeps, keeps_locale}
 use Rattle.cert_maker.proofs.Cut.{on-line, ListsKept, cut-choice}

@@ -16,3 +16,4 @@ pub mod GoalSteps
 pub mod Least
 pub mod Agreement
 pub mod Kept
+pub use Rattle.cert_checker.proofs.cert_tree

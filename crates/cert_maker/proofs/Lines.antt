@@ -2,13 +2,13 @@
 use Rattle.std.proofs.Common.{◌≡◌, ◌≢◌, ℕ, ◌+◌, ◌-◌, ◌≤◌, ◌⊎◌, inl, inr, arith, List, [], ◌∷◌, map, Bool, true, false, not, filter, sym, ◌∙◌, ap, refl}
 use Rattle.std.specs.Prelude.{nat_le}
 use Rattle.std.proofs.lemmas.Bool.{cases_lt, not-true, not-false, leb-true, leb-false, le-leb, lt-leb}
-use Rattle.config_record.specs.ComparedNumber.{device_number}
-use Rattle.reference_resolver.specs.Trace.{Trace}
-use Rattle.box_answers.specs.NumberSet.{SetOf, RangeOf, NumbersOf, LocalesOf, IsIn}
-use Rattle.config_box.specs.Tests.{TestOf, AtMostOf, AmongOf, coord_of, is_listed, answers, is_range}
+use Rattle.cert_checker.specs.config_record.ComparedNumber.{device_number}
+use Rattle.cert_checker.specs.reference_resolver.Trace.{Trace}
+use Rattle.cert_checker.specs.box_answers.NumberSet.{SetOf, RangeOf, NumbersOf, LocalesOf, IsIn}
+use Rattle.cert_checker.specs.config_box.Tests.{TestOf, AtMostOf, AmongOf, coord_of, is_listed, answers, is_range}
 use Rattle.cert_checker.specs.Paths.{Path}
 use Rattle.cert_maker.specs.Runs.{changes, different, runs}
-use Rattle.config_box.proofs.Filters.{Among, among, contained, among-kept, kept-among}
+use Rattle.cert_checker.proofs.config_box.Filters.{Among, among, contained, among-kept, kept-among}
 use Rattle.cert_maker.proofs.Different.{fails, find, map-among, different-le, different-eq, different-some, different-one}
 use Rattle.cert_maker.proofs.Changes.{change-most, change-one, changes-at, changes-same}
 

@@ -2,10 +2,10 @@
 use Rattle.std.proofs.Common.{◌≡◌, ℕ, ◌+◌, ◌<◌, arith, List, [], ◌∷◌, ◌++◌, length, length-append, reverse, sym, ◌∙◌, ap, refl, subst}
 use Rattle.std.specs.List.{All}
 use Rattle.std.proofs.lemmas.List.{length-reverse}
-use Rattle.reference_resolver.specs.Trace.{Trace}
-use Rattle.box_answers.specs.NumberSet.{SetOf}
-use Rattle.box_answers.specs.Members.{IsMember, IsBox}
-use Rattle.cert_tree.specs.Certificate.{NodeOf, NodeFits}
+use Rattle.cert_checker.specs.reference_resolver.Trace.{Trace}
+use Rattle.cert_checker.specs.box_answers.NumberSet.{SetOf}
+use Rattle.cert_checker.specs.box_answers.Members.{IsMember, IsBox}
+use Rattle.cert_checker.specs.cert_tree.Certificate.{NodeOf, NodeFits}
 use Rattle.cert_checker.specs.Paths.{Path, after, root}
 use Rattle.cert_checker.specs.Fails.{NoRuleFails}
 use Rattle.cert_checker.specs.OpenBoxes.{Stand}

@@ -1,23 +1,23 @@
 -- Trees of a box whose members differ at one coordinate alone.
 use Rattle.std.proofs.Common.{◌≡◌, ◌≢◌, ℕ, ◌+◌, ◌*◌, ◌<◌, ◌≤◌, inl, inr, arith, List, [], ◌∷◌, length, Bool, true, false, sym, ◌∙◌, ap, subst, set}
 use Rattle.std.proofs.lemmas.Bool.{cases_lt, cases_Bool, leb-true, leb-false}
-use Rattle.config_record.specs.declared.coord.Coord.{Coord}
-use Rattle.config_record.specs.Coord.{place_of}
-use Rattle.config_record.specs.ComparedNumber.{device_number}
-use Rattle.config_record.proofs.ChangedNumber.{by_coord, number_at-set_same, number_at-set_other}
-use Rattle.reference_resolver.specs.Trace.{Trace}
-use Rattle.box_answers.specs.NumberSet.{SetOf}
-use Rattle.box_answers.specs.Members.{set_at, IsMember}
-use Rattle.box_answers.proofs.Sets.{member-changed}
-use Rattle.config_box.specs.Tests.{TestOf, AtMostOf, AmongOf, coord_of, answers, is_range, has_wrong_kind}
-use Rattle.cert_tree.specs.Certificate.{NodeOf, TestAt, ValueAt, BagAt}
+use Rattle.cert_checker.specs.config_record.declared.coord.Coord.{Coord}
+use Rattle.cert_checker.specs.config_record.Coord.{place_of}
+use Rattle.cert_checker.specs.config_record.ComparedNumber.{device_number}
+use Rattle.cert_checker.proofs.config_record.ChangedNumber.{by_coord, number_at-set_same, number_at-set_other}
+use Rattle.cert_checker.specs.reference_resolver.Trace.{Trace}
+use Rattle.cert_checker.specs.box_answers.NumberSet.{SetOf}
+use Rattle.cert_checker.specs.box_answers.Members.{set_at, IsMember}
+use Rattle.cert_checker.proofs.box_answers.Sets.{member-changed}
+use Rattle.cert_checker.specs.config_box.Tests.{TestOf, AtMostOf, AmongOf, coord_of, answers, is_range, has_wrong_kind}
+use Rattle.cert_checker.specs.cert_tree.Certificate.{NodeOf, TestAt, ValueAt, BagAt}
 use Rattle.cert_checker.specs.declared.rule.Rule.TheVariants.{TestKind, EmptyHalf, MixedTrace}
 use Rattle.cert_checker.specs.Paths.{Path, IsAt, root}
 use Rattle.cert_maker.specs.Needed.{AgreeBut, IsNeededTest, IsNeededAt, IsNeeded}
 use Rattle.cert_maker.specs.Runs.{trace_with, runs_along, IsOnLine}
 use Rattle.cert_maker.specs.Walk.{Walk}
-use Rattle.reference_resolver.proofs.SameTraces.{trace-cases}
-use Rattle.config_box.proofs.Filters.{Among}
+use Rattle.cert_checker.proofs.reference_resolver.SameTraces.{trace-cases}
+use Rattle.cert_checker.proofs.config_box.Filters.{Among}
 use Rattle.cert_maker.proofs.Lines.{Kept, between, chosen, kept, In, in-set, set-in, takes, answers-takes, is_between, half, at_path, mark-path, Fits, Both, half-in, in-half, some-takes, some-fails, spread-runs, spread-le, Cuts, spread-eq, spread-some, spread-one}
 use Rattle.cert_maker.proofs.Counting.{IsLeaf, Shrinks, at-most, Grows, at-least}
 use Rattle.cert_maker.proofs.Passing.{Passes}

@@ -1,15 +1,15 @@
 -- Each box has a member.
 use Rattle.std.proofs.Common.{◌≡◌, ℕ, inl, arith, [], ◌∷◌, map, sym, ◌∙◌, refl, subst}
 use Rattle.std.proofs.lemmas.List.{get_or-map, length-map}
-use Rattle.config_record.specs.declared.coord.Coord.{Coord}
-use Rattle.config_record.specs.Coord.{place_of}
-use Rattle.config_record.specs.ComparedNumber.{device_number}
-use Rattle.config_record.proofs.DeviceLemmas.{place_of-within}
-use Rattle.box_answers.specs.NumberSet.{SetOf, RangeOf, NumbersOf, LocalesOf, IsIn, IsProper}
-use Rattle.box_answers.specs.Members.{set_at}
-use Rattle.box_answers.proofs.Coords.{all_coords-count}
+use Rattle.cert_checker.specs.config_record.declared.coord.Coord.{Coord}
+use Rattle.cert_checker.specs.config_record.Coord.{place_of}
+use Rattle.cert_checker.specs.config_record.ComparedNumber.{device_number}
+use Rattle.cert_checker.proofs.config_record.DeviceLemmas.{place_of-within}
+use Rattle.cert_checker.specs.box_answers.NumberSet.{SetOf, RangeOf, NumbersOf, LocalesOf, IsIn, IsProper}
+use Rattle.cert_checker.specs.box_answers.Members.{set_at}
+use Rattle.cert_checker.proofs.box_answers.Coords.{all_coords-count}
 use Rattle.cert_maker.specs.LeastTree.{HasMember}
-use Rattle.config_box.proofs.Filters.{contained}
+use Rattle.cert_checker.proofs.config_box.Filters.{contained}
 
 first : SetOf → ℕ
 first (RangeOf low high) = low

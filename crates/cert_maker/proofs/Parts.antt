@@ -2,8 +2,8 @@
 use Rattle.std.proofs.Common.{◌≡◌, ℕ, zero, suc, arith, List, [], ◌∷◌, ◌++◌, length, sym, refl, subst}
 use Rattle.std.specs.List.{All}
 use Rattle.std.proofs.lemmas.List.Elements.{All-nil, All-cons}
-use Rattle.box_answers.specs.NumberSet.{SetOf}
-use Rattle.cert_tree.specs.Certificate.{NodeOf, BagAt}
+use Rattle.cert_checker.specs.box_answers.NumberSet.{SetOf}
+use Rattle.cert_checker.specs.cert_tree.Certificate.{NodeOf, BagAt}
 use Rattle.cert_checker.specs.Paths.{Path, after}
 use Rattle.cert_checker.specs.OpenBoxes.{Stand}
 use Rattle.cert_maker.specs.Walk.{Walk}

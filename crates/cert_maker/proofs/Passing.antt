@@ -1,9 +1,9 @@
 -- No rule fails at any place of a list of nodes exactly where none fails along the walk.
 use Rattle.std.proofs.Common.{ℕ, zero, suc, List, [], ◌∷◌, take, refl}
 use Rattle.std.specs.Prelude.{slice_get}
-use Rattle.reference_resolver.specs.Trace.{Trace}
-use Rattle.box_answers.specs.NumberSet.{SetOf}
-use Rattle.cert_tree.specs.Certificate.{NodeOf}
+use Rattle.cert_checker.specs.reference_resolver.Trace.{Trace}
+use Rattle.cert_checker.specs.box_answers.NumberSet.{SetOf}
+use Rattle.cert_checker.specs.cert_tree.Certificate.{NodeOf}
 use Rattle.cert_checker.specs.declared.rule.Rule.{Rule}
 use Rattle.cert_checker.specs.declared.rule.Rule.TheVariants.{EndsEarly, LeftOver}
 use Rattle.cert_checker.specs.Paths.{Path, IsAt, after, after_all, root, open_at}

@@ -3,17 +3,17 @@ use Rattle.std.proofs.Common.{◌≡◌, ℕ, arith, inl, inr, true, false, List
 use Rattle.std.proofs.lemmas.Bool.{cases_Bool}
 use Rattle.std.specs.Prelude.{IfNone, IfSome}
 use Rattle.std.proofs.lemmas.List.{map-append}
-use Rattle.res_value.specs.declared.res_id.ResId.{ResId}
-use Rattle.res_value.specs.declared.value.Value.{Value}
-use Rattle.reference_resolver.specs.declared.end.End.TheVariants as ends
-use Rattle.overlay_map.specs.Layer.{most_layers}
-use Rattle.reference_resolver.specs.Trace.{Trace}
-use Rattle.box_answers.specs.NumberSet.{SetOf}
-use Rattle.box_answers.specs.Members.{set_at, IsMember}
-use Rattle.config_box.specs.Tests.{TestOf, AtMostOf, AmongOf, coord_of, answers, has_wrong_kind}
-use Rattle.config_box.specs.Halves.{IsHalf}
-use Rattle.box_trace.specs.CommonTrace.{SharesTrace}
-use Rattle.cert_tree.specs.Certificate.{NodeOf, TestAt, ValueAt, BagAt, NodeFits}
+use Rattle.cert_checker.specs.res_value.declared.res_id.ResId.{ResId}
+use Rattle.cert_checker.specs.res_value.declared.value.Value.{Value}
+use Rattle.cert_checker.specs.reference_resolver.declared.end.End.TheVariants as ends
+use Rattle.cert_checker.specs.overlay_map.Layer.{most_layers}
+use Rattle.cert_checker.specs.reference_resolver.Trace.{Trace}
+use Rattle.cert_checker.specs.box_answers.NumberSet.{SetOf}
+use Rattle.cert_checker.specs.box_answers.Members.{set_at, IsMember}
+use Rattle.cert_checker.specs.config_box.Tests.{TestOf, AtMostOf, AmongOf, coord_of, answers, has_wrong_kind}
+use Rattle.cert_checker.specs.config_box.Halves.{IsHalf}
+use Rattle.cert_checker.specs.box_trace.CommonTrace.{SharesTrace}
+use Rattle.cert_checker.specs.cert_tree.Certificate.{NodeOf, TestAt, ValueAt, BagAt, NodeFits}
 use Rattle.cert_checker.specs.declared.rule.Rule.{Rule}
 use Rattle.cert_checker.specs.declared.rule.Rule.TheVariants.{TestKind, EmptyHalf}
 use Rattle.cert_checker.specs.Paths.{Path, IsAt, leaf_end}

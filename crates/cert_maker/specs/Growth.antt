@@ -1,16 +1,16 @@
 -- How a tree grows: node by node, with the boxes of its open paths. (Cited by contracts of this crate alone.)
 use Rattle.std.specs.Prelude.{◌≡◌, ℕ, ◌<◌, ◌≤◌, false, List, [], ◌∷◌, ◌++◌, map, reverse, length}
 use Rattle.std.specs.List.{All}
-use Rattle.config_record.specs.DeviceSeen.{device_numbers}
-use Rattle.reference_resolver.specs.declared.end.End.{End}
-use Rattle.reference_resolver.specs.Trace.{Trace}
-use Rattle.box_answers.specs.NumberSet.{SetOf}
-use Rattle.box_answers.specs.Members.{IsMember}
-use Rattle.config_box.specs.Tests.{TestOf}
-use Rattle.cert_tree.specs.Certificate.{NodeOf, NodeFits, node_of}
+use Rattle.cert_checker.specs.config_record.DeviceSeen.{device_numbers}
+use Rattle.cert_checker.specs.reference_resolver.declared.end.End.{End}
+use Rattle.cert_checker.specs.reference_resolver.Trace.{Trace}
+use Rattle.cert_checker.specs.box_answers.NumberSet.{SetOf}
+use Rattle.cert_checker.specs.box_answers.Members.{IsMember}
+use Rattle.cert_checker.specs.config_box.Tests.{TestOf}
+use Rattle.cert_checker.specs.cert_tree.Certificate.{NodeOf, NodeFits, node_of}
 use Rattle.cert_checker.specs.declared.rule.Rule.{Rule}
 use Rattle.cert_checker.specs.Paths.{Path, IsAt, after}
-use Rattle.reference_resolver.specs.Ends.{is_value}
+use Rattle.cert_checker.specs.reference_resolver.Ends.{is_value}
 use Rattle.cert_checker.specs.Fails.{FailsAtTest, FailsAtNode, NoRuleFails}
 use Rattle.cert_checker.specs.OpenBoxes.{IsBoxAt, Stand}
 use Rattle.cert_maker.specs.Needed.{IsNeededAt, IsNeeded}

@@ -1,10 +1,10 @@
 -- What more it promises where at most one coordinate of the box has several values.
 use Rattle.std.specs.Prelude.{◌≡◌, ℕ, ◌+◌, ◌*◌, ◌<◌, ◌≤◌, List, Some, length, slice_get}
-use Rattle.config_record.specs.declared.coord.Coord.{Coord}
-use Rattle.overlay_map.specs.Layer.{LayerOf}
-use Rattle.box_answers.specs.NumberSet.{SetOf}
-use Rattle.cert_tree.specs.declared.goal.Goal.{Goal}
-use Rattle.cert_tree.specs.Certificate.{NodeOf, GoalOf, goals_of, node_count}
+use Rattle.cert_checker.specs.config_record.declared.coord.Coord.{Coord}
+use Rattle.cert_checker.specs.overlay_map.Layer.{LayerOf}
+use Rattle.cert_checker.specs.box_answers.NumberSet.{SetOf}
+use Rattle.cert_checker.specs.cert_tree.declared.goal.Goal.{Goal}
+use Rattle.cert_checker.specs.cert_tree.Certificate.{NodeOf, GoalOf, goals_of, node_count}
 use Rattle.cert_checker.specs.Fails.{NoRuleFails}
 use Rattle.cert_checker.specs.FirstFault.{goal_trace, IsAccepted}
 use Rattle.cert_maker.specs.Runs.{runs_along, IsOnLine}

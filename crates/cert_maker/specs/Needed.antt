@@ -1,13 +1,13 @@
 -- Trees each of whose tests separates two devices that have different traces. A trace says for each device what the rules of
 -- the platform do.
 use Rattle.std.specs.Prelude.{◌≡◌, ◌≢◌, ℕ, ◌<◌, true, false, List}
-use Rattle.config_record.specs.declared.coord.Coord.{Coord}
-use Rattle.config_record.specs.ComparedNumber.{device_number}
-use Rattle.reference_resolver.specs.Trace.{Trace}
-use Rattle.box_answers.specs.NumberSet.{SetOf}
-use Rattle.box_answers.specs.Members.{set_at}
-use Rattle.config_box.specs.Tests.{TestOf, AtMostOf, AmongOf, coord_of, answers, is_range}
-use Rattle.cert_tree.specs.Certificate.{NodeOf, TestAt, ValueAt, BagAt}
+use Rattle.cert_checker.specs.config_record.declared.coord.Coord.{Coord}
+use Rattle.cert_checker.specs.config_record.ComparedNumber.{device_number}
+use Rattle.cert_checker.specs.reference_resolver.Trace.{Trace}
+use Rattle.cert_checker.specs.box_answers.NumberSet.{SetOf}
+use Rattle.cert_checker.specs.box_answers.Members.{set_at}
+use Rattle.cert_checker.specs.config_box.Tests.{TestOf, AtMostOf, AmongOf, coord_of, answers, is_range}
+use Rattle.cert_checker.specs.cert_tree.Certificate.{NodeOf, TestAt, ValueAt, BagAt}
 use Rattle.cert_checker.specs.declared.rule.Rule.{Rule}
 use Rattle.cert_checker.specs.Paths.{Path, IsAt}
 use Rattle.cert_checker.specs.Fails.{FailsAtTest}

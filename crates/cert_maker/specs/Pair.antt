@@ -1,20 +1,20 @@
 -- Two devices with the same trace, or with different ones. (Cited by contracts of this crate alone.)
 use Rattle.std.specs.Prelude.{◌≡◌, ◌≢◌, ◌⊎◌, ℕ, Bool, List, map}
 use Rattle.std.specs.Option.{option_map}
-use Rattle.config_record.specs.declared.coord.Coord.{Coord}
-use Rattle.config_record.specs.Coord.{all_coords}
-use Rattle.config_record.specs.declared.coord.Coord.TheVariants.{Locale as at_locale}
-use Rattle.config_record.specs.declared.locale.Locale.{Locale}
-use Rattle.config_record.specs.ComparedNumber.{device_number, locale_number}
-use Rattle.box_answers.specs.NumberSet.{SetOf}
-use Rattle.box_trace.specs.CommonTrace.{AreSideBySide}
-use Rattle.box_trace.specs.Division.{Divides}
-use Rattle.overlay_map.specs.Layer.{LayerOf}
-use Rattle.overlay_map.specs.Candidates.{cand_of}
-use Rattle.reference_resolver.specs.declared.step.Step.{Step}
-use Rattle.reference_resolver.specs.Selection.{selected, step_of}
-use Rattle.reference_resolver.specs.Trace.{Trace, scan_look_up}
-use Rattle.reference_resolver.specs.SameTrace.{same_trace}
+use Rattle.cert_checker.specs.config_record.declared.coord.Coord.{Coord}
+use Rattle.cert_checker.specs.config_record.Coord.{all_coords}
+use Rattle.cert_checker.specs.config_record.declared.coord.Coord.TheVariants.{Locale as at_locale}
+use Rattle.cert_checker.specs.config_record.declared.locale.Locale.{Locale}
+use Rattle.cert_checker.specs.config_record.ComparedNumber.{device_number, locale_number}
+use Rattle.cert_checker.specs.box_answers.NumberSet.{SetOf}
+use Rattle.cert_checker.specs.box_trace.CommonTrace.{AreSideBySide}
+use Rattle.cert_checker.specs.box_trace.Division.{Divides}
+use Rattle.cert_checker.specs.overlay_map.Layer.{LayerOf}
+use Rattle.cert_checker.specs.overlay_map.Candidates.{cand_of}
+use Rattle.cert_checker.specs.reference_resolver.declared.step.Step.{Step}
+use Rattle.cert_checker.specs.reference_resolver.Selection.{selected, step_of}
+use Rattle.cert_checker.specs.reference_resolver.Trace.{Trace, scan_look_up}
+use Rattle.cert_checker.specs.reference_resolver.SameTrace.{same_trace}
 use Rattle.cert_maker.specs.Runs.{trace_with}
 use Rattle.cert_maker.specs.declared.alike.Selections.{Selections}
 use Rattle.cert_maker.specs.declared.alike.Selections.TheVariants.{Alike, Apart}

@@ -2,12 +2,12 @@
 -- with one trace, of a choice all values with one trace.
 use Rattle.std.specs.Prelude.{◌≡◌, ◌≢◌, ℕ, zero, suc, ◌+◌, ◌-◌, List, [], ◌∷◌, map, length, slice_set, if◌then◌else◌}
 use Rattle.std.specs.List.{list_any}
-use Rattle.config_record.specs.declared.coord.Coord.{Coord}
-use Rattle.config_record.specs.Coord.{place_of}
-use Rattle.reference_resolver.specs.Trace.{Trace}
-use Rattle.box_answers.specs.NumberSet.{SetOf, RangeOf, NumbersOf, LocalesOf, IsIn}
-use Rattle.box_answers.specs.Members.{set_at, IsMember}
-use Rattle.reference_resolver.specs.SameTrace.{same_trace}
+use Rattle.cert_checker.specs.config_record.declared.coord.Coord.{Coord}
+use Rattle.cert_checker.specs.config_record.Coord.{place_of}
+use Rattle.cert_checker.specs.reference_resolver.Trace.{Trace}
+use Rattle.cert_checker.specs.box_answers.NumberSet.{SetOf, RangeOf, NumbersOf, LocalesOf, IsIn}
+use Rattle.cert_checker.specs.box_answers.Members.{set_at, IsMember}
+use Rattle.cert_checker.specs.reference_resolver.SameTrace.{same_trace}
 
 -- of so many pairs of neighbours from a number on, how many have different traces
 abbrev pub changes : (ℕ → Trace) → ℕ → ℕ → ℕ

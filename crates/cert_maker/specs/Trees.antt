@@ -1,10 +1,10 @@
 -- The trees of the first of the goals that are asked. (Cited by contracts of this crate alone.)
 use Rattle.std.specs.Prelude.{◌≡◌, ℕ, ◌+◌, List, ◌∷◌, ◌++◌, map, length, Option, Some, None}
 use Rattle.std.specs.List.{All}
-use Rattle.overlay_map.specs.Layer.{LayerOf}
-use Rattle.box_answers.specs.NumberSet.{SetOf}
-use Rattle.cert_tree.specs.declared.goal.Goal.{Goal}
-use Rattle.cert_tree.specs.Certificate.{GoalOf, NodeFits, goal_of, node_count}
+use Rattle.cert_checker.specs.overlay_map.Layer.{LayerOf}
+use Rattle.cert_checker.specs.box_answers.NumberSet.{SetOf}
+use Rattle.cert_checker.specs.cert_tree.declared.goal.Goal.{Goal}
+use Rattle.cert_checker.specs.cert_tree.Certificate.{GoalOf, NodeFits, goal_of, node_count}
 use Rattle.cert_checker.specs.FirstFault.{goal_trace, goals_in, NoRuleFailsIn}
 use Rattle.cert_maker.specs.Needed.{IsNeeded}
 use Rattle.cert_maker.specs.declared.made.Made.{Made}

@@ -1,6 +1,6 @@
 -- A walk along the nodes of a tree, each with the path that leads to it.
 use Rattle.std.specs.Prelude.{List, [], ◌∷◌}
-use Rattle.cert_tree.specs.Certificate.{NodeOf}
+use Rattle.cert_checker.specs.cert_tree.Certificate.{NodeOf}
 use Rattle.cert_checker.specs.Paths.{Path, after, root}
 
 -- The nodes are whole trees for these open paths, one behind the other, and `holds` of each node and its path.

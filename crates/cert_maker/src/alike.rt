@@ -1,16 +1,13 @@
 //! Have two devices the same trace?
 
 ghost use Rattle.std.specs.Prelude.{◌≡◌, ◌≢◌, true, false};
-ghost use Rattle.config_record.specs.DeviceSeen.{device_numbers};
-ghost use Rattle.reference_resolver.specs.Ends.{references_followed};
-ghost use Rattle.reference_resolver.specs.Trace.{trace_of};
-ghost use Rattle.reference_resolver.specs.SameTrace.{same_trace};
+ghost use Rattle.cert_checker.specs.config_record.DeviceSeen.{device_numbers};
+ghost use Rattle.cert_checker.specs.reference_resolver.Ends.{references_followed};
+ghost use Rattle.cert_checker.specs.reference_resolver.Trace.{trace_of};
+ghost use Rattle.cert_checker.specs.reference_resolver.SameTrace.{same_trace};
 ghost use Rattle.cert_maker.specs.Pair.{AreSelections};
 
-use config_record::Device;
-use overlay_map::{Cand, Stack};
-use reference_resolver::{Next, REFERENCES_FOLLOWED, Step};
-use res_value::ResId;
+use cert_checker::{Cand, Device, Next, REFERENCES_FOLLOWED, ResId, Stack, Step};
 
 /// What two devices select for an id.
 #[derive(Clone, Copy, Debug)]

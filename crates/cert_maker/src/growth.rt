@@ -1,24 +1,21 @@
 //! One node more.
 
 ghost use Rattle.std.specs.Prelude.{◌≡◌, ℕ, List, ◌+◌, map, length, IfOk, IfNone, IfSome, MatchOption, false};
-ghost use Rattle.config_record.specs.DeviceSeen.{device_numbers};
-ghost use Rattle.reference_resolver.specs.Ends.{references_followed, is_value};
-ghost use Rattle.reference_resolver.specs.Trace.{Trace, trace_of};
-ghost use Rattle.box_answers.specs.Members.{IsMember};
-ghost use Rattle.config_box.specs.Tests.{test_of};
-ghost use Rattle.cert_tree.specs.Certificate.{TestAt, NodeFits, node_of};
+ghost use Rattle.cert_checker.specs.config_record.DeviceSeen.{device_numbers};
+ghost use Rattle.cert_checker.specs.reference_resolver.Ends.{references_followed, is_value};
+ghost use Rattle.cert_checker.specs.reference_resolver.Trace.{Trace, trace_of};
+ghost use Rattle.cert_checker.specs.box_answers.Members.{IsMember};
+ghost use Rattle.cert_checker.specs.config_box.Tests.{test_of};
+ghost use Rattle.cert_checker.specs.cert_tree.Certificate.{TestAt, NodeFits, node_of};
 ghost use Rattle.cert_checker.specs.Paths.{leaf_end};
 ghost use Rattle.cert_maker.specs.Needed.{IsNeededTest};
 ghost use Rattle.cert_maker.specs.Growth.{Grows, IsCounterexampleOf, CanBeAsked};
 
 use crate::parting::parting_test;
-use box_trace::{CommonTrace, common_trace};
-use cert_tree::{Node, OutOfMemory};
-use config_box::{ConfigBox, Split, Test};
-use config_record::Device;
-use overlay_map::{MOST_LAYERS, Stack};
-use reference_resolver::End;
-use res_value::ResId;
+use cert_checker::{
+    CommonTrace, ConfigBox, Device, End, MOST_LAYERS, Node, OutOfMemory, ResId, Split, Stack, Test,
+    common_trace,
+};
 use std::alloc::Global;
 
 /// Adds the node to which these members come, and opens the boxes behind it; or gives a member for which the id ends at

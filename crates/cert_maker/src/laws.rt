@@ -5,7 +5,7 @@
 //! one that is accepted at least as many. (Where several coordinates have several values, a tree of needed tests may
 //! have more nodes than another one.)
 
-ghost use Rattle.reference_resolver.specs.SameTrace.{IsTrueOfEqualTraces};
+ghost use Rattle.cert_checker.specs.reference_resolver.SameTrace.{IsTrueOfEqualTraces};
 ghost use Rattle.cert_maker.specs.LeastTree.{HasMember, NeededIsSmall, AcceptedIsLarge, NeededIsLeast};
 
 /// Traces are compared part by part, and that says which are equal.

@@ -25,7 +25,7 @@ mod parting;
 mod tree;
 mod trees;
 
-pub use cert_tree::{Progress, Unwatched};
+pub use cert_checker::{Cert, ConfigBox, Goal, Progress, ResId, Unwatched, Verdict, check};
 pub use laws::{least_tree, trace_equality};
 pub use made::Made;
 pub use making::{make, make_watched};

@@ -1,8 +1,6 @@
 //! What the maker answers.
 
-use cert_tree::Cert;
-use config_record::Device;
-use reference_resolver::End;
+use cert_checker::{Cert, Device, End};
 
 /// What the maker answers.
 #[derive(Debug, Drop)]

@@ -6,9 +6,7 @@ ghost use Rattle.cert_maker.specs.Least.{IsLeast};
 
 use crate::made::Made;
 use crate::trees::Trees;
-use cert_tree::{Cert, Goal, OutOfMemory, Progress, Unwatched};
-use config_box::ConfigBox;
-use overlay_map::Stack;
+use cert_checker::{Cert, ConfigBox, Goal, OutOfMemory, Progress, Stack, Unwatched};
 use std::alloc::Global;
 
 /// A certificate for goals and all devices of a box, with at most so many nodes in all; or a device for which one of

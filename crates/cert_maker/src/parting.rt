@@ -1,24 +1,22 @@
 //! The test that parts two members of a box.
 
 ghost use Rattle.std.specs.Prelude.{◌≡◌, ℕ, ◌<◌, All, length, filter, slice_index, IfOk};
-ghost use Rattle.config_record.specs.Locale.{IsGiven, IsOfSomeText};
-ghost use Rattle.config_record.specs.ComparedNumber.{locale_number, locale_of_number};
-ghost use Rattle.config_record.specs.Device.{CanHave};
-ghost use Rattle.config_record.specs.DeviceSeen.{device_numbers};
-ghost use Rattle.reference_resolver.specs.Ends.{references_followed};
-ghost use Rattle.reference_resolver.specs.Trace.{trace_of};
-ghost use Rattle.box_answers.specs.Members.{IsMember};
-ghost use Rattle.config_box.specs.Tests.{test_of};
-ghost use Rattle.cert_tree.specs.Certificate.{TestAt, NodeFits};
+ghost use Rattle.cert_checker.specs.config_record.Locale.{IsGiven, IsOfSomeText};
+ghost use Rattle.cert_checker.specs.config_record.ComparedNumber.{locale_number, locale_of_number};
+ghost use Rattle.cert_checker.specs.config_record.Device.{CanHave};
+ghost use Rattle.cert_checker.specs.config_record.DeviceSeen.{device_numbers};
+ghost use Rattle.cert_checker.specs.reference_resolver.Ends.{references_followed};
+ghost use Rattle.cert_checker.specs.reference_resolver.Trace.{trace_of};
+ghost use Rattle.cert_checker.specs.box_answers.Members.{IsMember};
+ghost use Rattle.cert_checker.specs.config_box.Tests.{test_of};
+ghost use Rattle.cert_checker.specs.cert_tree.Certificate.{TestAt, NodeFits};
 ghost use Rattle.cert_maker.specs.Needed.{IsNeededTest};
 ghost use Rattle.cert_maker.specs.Pair.{ArePair, keeps, keeps_locale};
 
 use crate::alike::have_one_trace;
-use cert_tree::OutOfMemory;
-use config_box::{Choice, ConfigBox, MemberPair, Test, Values};
-use config_record::{Coord, Device, Locale};
-use overlay_map::Stack;
-use res_value::ResId;
+use cert_checker::{
+    Choice, ConfigBox, Coord, Device, Locale, MemberPair, OutOfMemory, ResId, Stack, Test, Values,
+};
 use std::alloc::Global;
 
 /// A test that parts two members side by side with different traces, and asks no more than it needs: of a range for

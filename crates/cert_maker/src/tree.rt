@@ -1,17 +1,12 @@
 //! The tree of one goal.
 
 ghost use Rattle.std.specs.Prelude.{IfOk};
-ghost use Rattle.reference_resolver.specs.Ends.{references_followed};
-ghost use Rattle.reference_resolver.specs.Trace.{trace_of};
+ghost use Rattle.cert_checker.specs.reference_resolver.Ends.{references_followed};
+ghost use Rattle.cert_checker.specs.reference_resolver.Trace.{trace_of};
 ghost use Rattle.cert_maker.specs.Growth.{IsGrown};
 
 use crate::growth::add_node;
-use cert_tree::{Node, OutOfMemory};
-use config_box::ConfigBox;
-use config_record::Device;
-use overlay_map::Stack;
-use reference_resolver::End;
-use res_value::ResId;
+use cert_checker::{ConfigBox, Device, End, Node, OutOfMemory, ResId, Stack};
 use std::alloc::Global;
 
 /// What became of a tree.

@@ -5,10 +5,7 @@ ghost use Rattle.cert_maker.specs.Trees.{TakesGoal};
 
 use crate::made::Made;
 use crate::tree::{Grown, grow_tree};
-use cert_tree::{CertGoal, Goal, OutOfMemory};
-use config_box::ConfigBox;
-use overlay_map::Stack;
-use res_value::ResId;
+use cert_checker::{CertGoal, ConfigBox, Goal, OutOfMemory, ResId, Stack};
 use std::alloc::Global;
 
 /// The trees of the first goals.

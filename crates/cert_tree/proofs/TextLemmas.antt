@@ -8,10 +8,10 @@ use Rattle.std.proofs.lemmas.Str.{IsUtf8-from_ascii, IsAscii-append}
 use Rattle.std.proofs.lemmas.Str.Ascii.{IsAscii-nil, IsAscii-cons}
 use Rattle.hex.specs.Hex.{encode_lower, lower_digits}
 use Rattle.hex.proofs.HexLemmas.{IsAscii-encode_with}
-use Rattle.config_record.specs.declared.locale.Locale.{Locale}
-use Rattle.config_record.specs.Locale.{first_letter, first_digit, is_small_letter, is_capital_letter, is_digit, packed, part_of, language_of, region_of, unpacked, is_spelled, language_text, region_text, locale_text}
-use Rattle.config_record.specs.Zero.{is_zero}
-use Rattle.config_record.proofs.LocaleLemmas.{of_languages, of_regions}
+use Rattle.config_box.specs.config_record.declared.locale.Locale.{Locale}
+use Rattle.config_box.specs.config_record.Locale.{first_letter, first_digit, is_small_letter, is_capital_letter, is_digit, packed, part_of, language_of, region_of, unpacked, is_spelled, language_text, region_text, locale_text}
+use Rattle.config_box.specs.config_record.Zero.{is_zero}
+use Rattle.config_box.proofs.config_record.LocaleLemmas.{of_languages, of_regions}
 use Rattle.res_value.specs.Word.{word_text, eight_digits}
 use Rattle.res_value.specs.ResId.{id_text}
 

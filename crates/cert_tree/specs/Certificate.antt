@@ -1,9 +1,9 @@
 -- Certificates as contracts see them: goals and nodes, by their content, not their address.
 use Rattle.std.specs.Prelude.{ℕ, ◌+◌, ◌≤◌, List, [], ◌∷◌, map, length}
 use Rattle.std.specs.List.{All}
-use Rattle.config_record.specs.declared.coord.Coord as coord
-use Rattle.config_record.specs.declared.coord.Coord.TheVariants as coords
-use Rattle.config_record.specs.Locale.{IsOfSomeText}
+use Rattle.config_box.specs.config_record.declared.coord.Coord as coord
+use Rattle.config_box.specs.config_record.declared.coord.Coord.TheVariants as coords
+use Rattle.config_box.specs.config_record.Locale.{IsOfSomeText}
 use Rattle.config_box.specs.Tests.{ChoiceOf, NumbersOf, LocalesOf, TestOf, AtMostOf, AmongOf, test_of}
 use Rattle.res_value.specs.declared.res_id.ResId.{ResId}
 use Rattle.res_value.specs.declared.value.Value.{Value}

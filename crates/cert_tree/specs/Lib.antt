@@ -4,3 +4,8 @@ pub mod CertJson
 pub mod WrittenJson
 pub mod ReadsBack
 pub mod Lent
+pub mod Unfolded
+pub use Rattle.config_box.specs as config_box
+pub use Rattle.config_box.specs.box_answers
+pub use Rattle.res_value.specs as res_value
+pub use Rattle.res_value.specs.chunk_walk

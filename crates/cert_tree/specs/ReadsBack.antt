@@ -2,7 +2,7 @@
 -- carry these facts, and contracts within this crate alone cite them.
 use Rattle.std.specs.Prelude.{◌≡◌, ◌+◌, ◌≤◌, ℕ, length, Ok}
 use Rattle.std.specs.List.{All}
-use Rattle.config_record.specs.declared.coord.Coord.{Coord}
+use Rattle.config_box.specs.config_record.declared.coord.Coord.{Coord}
 use Rattle.cert_tree.specs.declared.cert_fault.CertFault.{CertFault}
 use Rattle.config_box.specs.Tests.{ChoiceOf}
 use Rattle.cert_tree.specs.Certificate.{NodeOf, GoalOf, ChoiceFits, NodeFits, most_nodes}

@@ -3,9 +3,9 @@
 use Rattle.std.specs.Prelude.{ℕ, List, codes, map}
 use Rattle.serde_json.specs.Data.{Data, number, unsigned, string, array, object, no_members, member}
 use Rattle.serde_json.specs.View.{items_of}
-use Rattle.config_record.specs.declared.locale.Locale.{Locale}
-use Rattle.config_record.specs.Coord.{name_of}
-use Rattle.config_record.specs.Locale.{locale_text}
+use Rattle.config_box.specs.config_record.declared.locale.Locale.{Locale}
+use Rattle.config_box.specs.config_record.Coord.{name_of}
+use Rattle.config_box.specs.config_record.Locale.{locale_text}
 use Rattle.res_value.specs.declared.res_id.ResId.{ResId}
 use Rattle.res_value.specs.ResId.{id_text}
 use Rattle.cert_tree.specs.declared.goal.Goal.{Goal}

@@ -31,6 +31,10 @@ mod write;
 
 pub use cert::{Cert, CertGoal, OutOfMemory};
 pub use cert_fault::CertFault;
+pub use config_box::{BoxFault, Choice, ConfigBox, MemberPair, Split, Test, Values};
 pub use goal::Goal;
 pub use node::Node;
 pub use progress::{Progress, Unwatched};
+pub use res_value::{
+    Cell, ChunkFault, MapRows, ResId, Value, kind, write_hex, write_id, write_value, write_word,
+};

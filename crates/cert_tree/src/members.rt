@@ -3,12 +3,12 @@
 ghost use Rattle.std.specs.Prelude.{◌≡◌, ◌≤◌, bytes_eq, find, ok_or, IfOk};
 ghost use Rattle.serde_json.specs.View.{view};
 ghost use Rattle.json_input.specs.Each.{list_of};
-ghost use Rattle.config_record.specs.Coord.{name_of};
+ghost use Rattle.config_box.specs.config_record.Coord.{name_of};
 ghost use Rattle.cert_tree.specs.CertJson.{number_within, number_at, id_at, list_at, coord_named, coord_at};
 ghost use Rattle.cert_tree.specs.Lent.{items_seen};
 
 use crate::cert_fault::CertFault;
-use config_record::Coord;
+use config_box::Coord;
 use res_value::ResId;
 use serde_json::Value;
 
@@ -92,7 +92,7 @@ pub(crate) fn coord_at(value: &Value, shape: CertFault) -> Result<Coord, CertFau
         .ok_or(shape)
 }
 
-#[tactic(auto, unfolding(crate::specs::CertJson::coord_named, config_record::specs::Coord::all_coords))]
+#[tactic(auto, unfolding(crate::specs::CertJson::coord_named, crate::specs::Unfolded::all_coords))]
 fn coord_named(name: &str) -> Option<Coord>
     ensures { result ≡ coord_named name.now }
 {

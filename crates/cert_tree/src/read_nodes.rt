@@ -14,8 +14,7 @@ ghost use Rattle.cert_tree.specs.CertJson.{number_item, locale_item, choice_in, 
 use crate::cert_fault::CertFault;
 use crate::members::{COORD, coord_at, id_at, list_at, number_at, number_within};
 use crate::node::Node;
-use config_box::{Choice, Test};
-use config_record::{Coord, Locale};
+use config_box::{Choice, Coord, Locale, Test};
 use json_input::has_only;
 use serde_json::Value;
 use std::alloc::Global;

@@ -13,8 +13,7 @@ use crate::cert::{Cert, CertGoal};
 use crate::goal::Goal;
 use crate::node::Node;
 use crate::texts::{id_value, locale_value};
-use config_box::{Choice, Test};
-use config_record::Locale;
+use config_box::{Choice, Locale, Test};
 use serde_json::{Value, json};
 use std::alloc::{AllocError, Global};
 

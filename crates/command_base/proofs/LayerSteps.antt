@@ -8,7 +8,7 @@ use Rattle.serde_json.specs.View.{view, items_view}
 use Rattle.serde_json.specs.declared.value.Value.{Value}
 use Rattle.json_input.specs.Each.{list_items, list_of, each}
 use Rattle.json_input.proofs.EachSteps.{list_items-view}
-use Rattle.overlay_map.specs.Layer.{most_layers}
+use Rattle.fault_text.specs.overlay_map.Layer.{most_layers}
 use Rattle.fault_text.specs.declared.layers_fault.LayersFault.{LayersFault}
 use Rattle.fault_text.specs.declared.layers_fault.LayersFault.TheVariants.{Shape, TooManyLayers}
 use Rattle.command_base.specs.LayerList.{LayerPaths, layer_paths_in, layers_in_value}

@@ -4,7 +4,7 @@ use Rattle.std.proofs.lemmas.List.{append-nil, drop_more, drop_all}
 use Rattle.std.specs.Borrow.{Bor}
 use Rattle.contract_words.specs.Faults.{◌>>=◌}
 use Rattle.contract_words.specs.Sequences.{with_front}
-use Rattle.overlay_map.specs.Layer.{LayerOf}
+use Rattle.fault_text.specs.overlay_map.Layer.{LayerOf}
 use Rattle.fault_text.specs.declared.fault.ToolFault.{ToolFault}
 use Rattle.command_base.specs.StackBytes.{LayerBytes, layer_in, layers_from}
 use Rattle.command_base.specs.StackBytesSeen.{layer_bytes, with_layer}

@@ -7,7 +7,7 @@ use Rattle.serde_json.specs.Find.{get}
 use Rattle.json_input.specs.Each.{list_of, each}
 use Rattle.json_input.specs.Json.{value_of}
 use Rattle.json_input.specs.Shape.{has_only, text_of}
-use Rattle.overlay_map.specs.Layer.{most_layers}
+use Rattle.fault_text.specs.overlay_map.Layer.{most_layers}
 use Rattle.fault_text.specs.declared.layers_fault.LayersFault.{LayersFault}
 use Rattle.fault_text.specs.declared.layers_fault.LayersFault.TheVariants.{Syntax, Shape, TooManyLayers}
 

@@ -5,3 +5,4 @@ pub mod MapErr
 pub mod StackBytes
 pub mod StackBytesSeen
 pub mod Output
+pub use Rattle.fault_text.specs as fault_text

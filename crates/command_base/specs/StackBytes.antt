@@ -2,9 +2,9 @@
 use Rattle.std.specs.Prelude.{ℕ, ◌+◌, List, [], ◌∷◌, length, nat_lt, Option, Some, None, Result, Ok}
 use Rattle.contract_words.specs.Faults.{◌>>=◌, refuse}
 use Rattle.contract_words.specs.Sequences.{with_front}
-use Rattle.resource_table.specs.Table.{TableOf, table_in}
-use Rattle.overlay_map.specs.IdMap.{MapOf, map_in}
-use Rattle.overlay_map.specs.Layer.{LayerOf, most_layers}
+use Rattle.fault_text.specs.resource_table.Table.{TableOf, table_in}
+use Rattle.fault_text.specs.overlay_map.IdMap.{MapOf, map_in}
+use Rattle.fault_text.specs.overlay_map.Layer.{LayerOf, most_layers}
 use Rattle.fault_text.specs.declared.layers_fault.LayersFault.TheVariants.{TooManyLayers}
 use Rattle.fault_text.specs.declared.fault.ToolFault.{ToolFault}
 use Rattle.fault_text.specs.declared.fault.ToolFault.TheVariants.{Layers}

@@ -7,14 +7,13 @@ ghost use Rattle.contract_words.specs.FillsIn.{FillsIn};
 ghost use Rattle.serde_json.specs.Find.{as_array};
 ghost use Rattle.serde_json.specs.View.{items_view, view};
 ghost use Rattle.json_input.specs.Each.{each};
-ghost use Rattle.overlay_map.specs.Layer.{most_layers};
+ghost use Rattle.fault_text.specs.overlay_map.Layer.{most_layers};
 ghost use Rattle.fault_text.specs.declared.layers_fault.LayersFault.TheVariants.{Shape, TooManyLayers, OutOfMemory};
 ghost use Rattle.command_base.specs.LayerList.{table_path, map_path, layer_paths_in, layers_in_value};
 ghost use Rattle.command_base.specs.LayerListSeen.{path_seen, optional_path_seen, lent_paths_of, lent_paths_seen, paths_of, all_paths_of, listed};
 
-use fault_text::LayersFault;
+use fault_text::{LayersFault, MOST_LAYERS};
 use json_input::{has_only, read_value};
-use overlay_map::MOST_LAYERS;
 use serde_json::Value;
 use std::alloc::{AllocError, Global};
 

@@ -18,6 +18,7 @@ mod layer_list;
 mod stack;
 mod status;
 
+pub use fault_text::{LayersFault, Progress, ToolFault, fault_text};
 pub use input::{InputFault, read_input};
 pub use layer_list::LayerList;
 pub use stack::open_stack;

@@ -3,7 +3,7 @@
 ghost use Rattle.std.specs.Prelude.{◌≡◌, ◌<◌, ◌≤◌, ◌∷◌, ◌++◌, [], map, length, Ok};
 ghost use Rattle.std.specs.Option.{option_map};
 ghost use Rattle.contract_words.specs.Exact.{GivesOr};
-ghost use Rattle.overlay_map.specs.Layer.{most_layers};
+ghost use Rattle.fault_text.specs.overlay_map.Layer.{most_layers};
 ghost use Rattle.fault_text.specs.declared.fault.ToolFault.TheVariants.{OutOfMemory};
 ghost use Rattle.fault_text.specs.ToolFault.{fault_of_layer_table, fault_of_layer_map};
 ghost use Rattle.command_base.specs.MapErr.{map_err};
@@ -11,11 +11,8 @@ ghost use Rattle.command_base.specs.Output.{IsOfInput};
 ghost use Rattle.command_base.specs.StackBytes.{table_of_layer, map_of_layer, layer_in, layers_from, stack_in};
 ghost use Rattle.command_base.specs.StackBytesSeen.{layer_bytes, with_layer};
 
-use fault_text::{LayersFault, ToolFault};
-use overlay_map::{IdMap, MOST_LAYERS, MapFault, Stack};
-use resource_table::Table;
+use fault_text::{IdMap, LayersFault, MOST_LAYERS, MapFault, Stack, Table, TableFault, ToolFault};
 use std::alloc::Global;
-use type_chunks::TableFault;
 
 /// The stack of layers of which each is the bytes of a table and, at an overlay, those of an id map. More
 /// than 64 are refused before any is read; then each table is read and, behind it, its map.

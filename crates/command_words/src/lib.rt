@@ -24,5 +24,6 @@ mod words;
 mod words_fault;
 
 pub use request::{BoxRequest, DeviceRequest, Request};
+pub use res_value::ResId;
 pub use words::{STANDARD_INPUT, program_words, read_words};
 pub use words_fault::WordsFault;

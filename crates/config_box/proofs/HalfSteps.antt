@@ -7,13 +7,13 @@ use Rattle.std.proofs.lemmas.List.{get_or-set_same, get_or-set_other}
 use Rattle.std.proofs.Math.ListN.{length-set}
 use Rattle.std.proofs.lemmas.List.Sums.{length-filter, count_by-le-length}
 use Rattle.std.proofs.lemmas.List.Kept.{IsStrictlyIncreasing-filter}
-use Rattle.config_record.specs.declared.coord.Coord.{Coord}
-use Rattle.config_record.specs.declared.coord.Coord.TheVariants as coords
-use Rattle.config_record.specs.declared.locale.Locale.{Locale}
-use Rattle.config_record.specs.Coord.{place_of}
-use Rattle.config_record.specs.ComparedNumber.{device_number, locale_number}
-use Rattle.config_record.specs.Device.{CanHave}
-use Rattle.config_record.proofs.ChangedNumber.{by_coord, place_of-injective}
+use Rattle.box_answers.specs.config_record.declared.coord.Coord.{Coord}
+use Rattle.box_answers.specs.config_record.declared.coord.Coord.TheVariants as coords
+use Rattle.box_answers.specs.config_record.declared.locale.Locale.{Locale}
+use Rattle.box_answers.specs.config_record.Coord.{place_of}
+use Rattle.box_answers.specs.config_record.ComparedNumber.{device_number, locale_number}
+use Rattle.box_answers.specs.config_record.Device.{CanHave}
+use Rattle.box_answers.proofs.config_record.ChangedNumber.{by_coord, place_of-injective}
 use Rattle.box_answers.specs.NumberSet.{SetOf, RangeOf, NumbersOf, LocalesOf, locale_numbers, listed, IsIn, IsProper}
 use Rattle.box_answers.specs.Members.{set_at, IsMember, IsOfKind, IsBox, most_values}
 use Rattle.box_answers.proofs.Coords.{place_of-below}

@@ -2,3 +2,5 @@ pub mod Filters
 pub mod HalfSteps
 pub mod ChoiceSteps
 pub mod ReadSteps
+pub use Rattle.box_answers.proofs as box_answers
+pub use Rattle.box_answers.proofs.config_record

@@ -16,13 +16,13 @@ use Rattle.serde_json.specs.View.{view, items_view}
 use Rattle.serde_json.specs.declared.value.Value.{Value}
 use Rattle.json_input.specs.Each.{list_items, list_of, each}
 use Rattle.json_input.proofs.EachSteps.{list_items-view}
-use Rattle.config_record.specs.declared.coord.Coord.{Coord}
-use Rattle.config_record.specs.declared.coord.Coord.TheVariants as coords
-use Rattle.config_record.specs.Coord.{all_coords, place_of, greatest_of, greatest_of_device, is_outside}
-use Rattle.config_record.specs.ComparedNumber.{locale_of_number}
-use Rattle.config_record.specs.Device.{CanHave}
-use Rattle.config_record.specs.Locale.{IsGiven, checked_locale}
-use Rattle.config_record.proofs.DeviceLemmas.{inside-can}
+use Rattle.box_answers.specs.config_record.declared.coord.Coord.{Coord}
+use Rattle.box_answers.specs.config_record.declared.coord.Coord.TheVariants as coords
+use Rattle.box_answers.specs.config_record.Coord.{all_coords, place_of, greatest_of, greatest_of_device, is_outside}
+use Rattle.box_answers.specs.config_record.ComparedNumber.{locale_of_number}
+use Rattle.box_answers.specs.config_record.Device.{CanHave}
+use Rattle.box_answers.specs.config_record.Locale.{IsGiven, checked_locale}
+use Rattle.box_answers.proofs.config_record.DeviceLemmas.{inside-can}
 use Rattle.box_answers.specs.declared.number_set.NumberSet.{NumberSet}
 use Rattle.box_answers.specs.NumberSet.{SetOf, set_of, RangeOf, NumbersOf, LocalesOf}
 use Rattle.box_answers.specs.Members.{sets_of, set_at, IsOfKind, IsBox}

@@ -5,14 +5,14 @@ use Rattle.contract_words.specs.Faults.{◌>>=◌, checked_by}
 use Rattle.serde_json.specs.Data.{Data}
 use Rattle.json_input.specs.Each.{each}
 use Rattle.json_input.specs.Json.{value_of}
-use Rattle.config_record.specs.declared.coord.Coord as coord
-use Rattle.config_record.specs.declared.coord.Coord.TheVariants as coords
-use Rattle.config_record.specs.declared.locale.Locale.{Locale}
-use Rattle.config_record.specs.declared.locale.LocaleFault.{LocaleFault}
-use Rattle.config_record.specs.declared.locale.LocaleFault.TheVariants as of_locale
-use Rattle.config_record.specs.Coord.{is_outside}
-use Rattle.config_record.specs.ComparedNumber.{locale_number}
-use Rattle.config_record.specs.Locale.{locale_of}
+use Rattle.box_answers.specs.config_record.declared.coord.Coord as coord
+use Rattle.box_answers.specs.config_record.declared.coord.Coord.TheVariants as coords
+use Rattle.box_answers.specs.config_record.declared.locale.Locale.{Locale}
+use Rattle.box_answers.specs.config_record.declared.locale.LocaleFault.{LocaleFault}
+use Rattle.box_answers.specs.config_record.declared.locale.LocaleFault.TheVariants as of_locale
+use Rattle.box_answers.specs.config_record.Coord.{is_outside}
+use Rattle.box_answers.specs.config_record.ComparedNumber.{locale_number}
+use Rattle.box_answers.specs.config_record.Locale.{locale_of}
 use Rattle.box_answers.specs.NumberSet as sets
 use Rattle.box_answers.specs.Members.{most_values}
 use Rattle.config_box.specs.declared.box_fault.BoxFault.{BoxFault}

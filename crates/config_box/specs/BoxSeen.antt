@@ -1,7 +1,7 @@
 -- How contracts see what is read of a box.
 use Rattle.std.specs.Prelude.{ℕ, List, map, Result, Ok, Err}
 use Rattle.std.specs.Borrow.{Bor}
-use Rattle.config_record.specs.declared.coord.Coord.{Coord}
+use Rattle.box_answers.specs.config_record.declared.coord.Coord.{Coord}
 use Rattle.box_answers.specs.NumberSet as sets
 use Rattle.box_answers.specs.declared.number_set.NumberSet.{NumberSet}
 use Rattle.config_box.specs.declared.box_fault.BoxFault.{BoxFault}

@@ -1,8 +1,8 @@
 -- The halves of a set of numbers by a test.
 use Rattle.std.specs.Prelude.{◌≡◌, ◌≢◌, ◌≤◌, ◌↔◌, ℕ, Bool, true, false, not, length}
 use Rattle.box_answers.specs.NumberSet.{SetOf, RangeOf, NumbersOf, LocalesOf, IsIn, IsProper, listed}
-use Rattle.config_record.specs.declared.coord.Coord.{Coord}
-use Rattle.config_record.specs.Device.{CanHave}
+use Rattle.box_answers.specs.config_record.declared.coord.Coord.{Coord}
+use Rattle.box_answers.specs.config_record.Device.{CanHave}
 use Rattle.box_answers.specs.Members.{IsOfKind, most_values}
 use Rattle.config_box.specs.Marks.{AreMarkedAlike}
 use Rattle.config_box.specs.Tests.{TestOf, AtMostOf, AmongOf, passes}

@@ -1,6 +1,6 @@
 -- The halves of a box by a test.
 use Rattle.std.specs.Prelude.{◌≡◌, ◌↔◌, ◌⊎◌, ℕ, Bool, true, false, List}
-use Rattle.config_record.specs.declared.coord.Coord.{Coord}
+use Rattle.box_answers.specs.config_record.declared.coord.Coord.{Coord}
 use Rattle.box_answers.specs.NumberSet.{SetOf}
 use Rattle.box_answers.specs.Members.{set_at, IsMember, IsBox}
 use Rattle.config_box.specs.declared.split.Split.{Split}

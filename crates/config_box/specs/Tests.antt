@@ -1,10 +1,10 @@
 -- Tests of one coordinate, as contracts see them: how devices answer them, and which can be asked of a box.
 use Rattle.std.specs.Prelude.{ℕ, ◌==◌, nat_le, Bool, true, false, List}
 use Rattle.std.specs.List.{list_any}
-use Rattle.config_record.specs.declared.coord.Coord as coord
-use Rattle.config_record.specs.declared.coord.Coord.TheVariants as coords
-use Rattle.config_record.specs.declared.locale.Locale.{Locale}
-use Rattle.config_record.specs.ComparedNumber.{device_number}
+use Rattle.box_answers.specs.config_record.declared.coord.Coord as coord
+use Rattle.box_answers.specs.config_record.declared.coord.Coord.TheVariants as coords
+use Rattle.box_answers.specs.config_record.declared.locale.Locale.{Locale}
+use Rattle.box_answers.specs.config_record.ComparedNumber.{device_number}
 use Rattle.box_answers.specs.NumberSet as sets
 use Rattle.box_answers.specs.NumberSet.{SetOf, locale_numbers}
 use Rattle.box_answers.specs.Members.{set_at}

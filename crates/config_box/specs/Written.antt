@@ -5,9 +5,9 @@ use Rattle.serde_json.specs.Data.{Data}
 use Rattle.serde_json.specs.Find.{get}
 use Rattle.json_input.specs.Each.{list_of, each}
 use Rattle.json_input.specs.Shape.{has_only, number_of, text_of}
-use Rattle.config_record.specs.declared.coord.Coord as coord
-use Rattle.config_record.specs.declared.coord.Coord.TheVariants as coords
-use Rattle.config_record.specs.Coord.{all_coords, name_of}
+use Rattle.box_answers.specs.config_record.declared.coord.Coord as coord
+use Rattle.box_answers.specs.config_record.declared.coord.Coord.TheVariants as coords
+use Rattle.box_answers.specs.config_record.Coord.{all_coords, name_of}
 use Rattle.config_box.specs.declared.box_fault.BoxFault.{BoxFault}
 use Rattle.config_box.specs.declared.box_fault.BoxFault.TheVariants.{Shape}
 

@@ -4,7 +4,7 @@ ghost use Rattle.std.specs.Prelude.{◌≡◌};
 ghost use Rattle.json_input.specs.Fault.{fault_of_text};
 ghost use Rattle.config_box.specs.declared.box_fault.BoxFault.TheVariants.{Syntax, OutOfMemory};
 
-use config_record::Coord;
+use box_answers::Coord;
 use json_input::JsonFault;
 use std::alloc::{AllocError, AllocFailed};
 use thiserror::Error;

@@ -1,10 +1,10 @@
 //! Boxes.
 
 ghost use Rattle.std.specs.Prelude.{◌≡◌, ◌↔◌, IsTrue, IfOk};
-ghost use Rattle.config_record.specs.Record.{record_bytes};
-ghost use Rattle.config_record.specs.DeviceSeen.{device_numbers};
-ghost use Rattle.config_match.specs.Matching.{is_match};
-ghost use Rattle.config_precedence.specs.Precedence.{is_better};
+ghost use Rattle.box_answers.specs.config_record.Record.{record_bytes};
+ghost use Rattle.box_answers.specs.config_record.DeviceSeen.{device_numbers};
+ghost use Rattle.box_answers.specs.config_match.Matching.{is_match};
+ghost use Rattle.box_answers.specs.config_precedence.Precedence.{is_better};
 ghost use Rattle.contract_words.specs.Exact.{GivesOr};
 ghost use Rattle.box_answers.specs.NumberSet.{set_of};
 ghost use Rattle.box_answers.specs.Members.{sets_of, set_at, IsMember, IsCorner, IsBox};
@@ -19,8 +19,7 @@ use crate::read::sets_in_value;
 use crate::split::{OutOfMemory as NoMemory, Split, has_wrong_kind, shared_sets, with_set};
 use crate::test::Test;
 use crate::values::{Values, values_of};
-use box_answers::{NumberSet, Sameness, set_at};
-use config_record::{Coord, Device, Record};
+use box_answers::{Coord, Device, NumberSet, Record, Sameness, set_at};
 use json_input::read_value;
 use std::alloc::Global;
 use std::marker::Model;

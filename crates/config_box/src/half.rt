@@ -1,14 +1,13 @@
 //! The half of a set of numbers that gives an answer to a test.
 
 ghost use Rattle.std.specs.Prelude.{◌≡◌, ◌≤◌, filter, IfOk, MatchOption};
-ghost use Rattle.config_record.specs.ComparedNumber.{locale_number};
+ghost use Rattle.box_answers.specs.config_record.ComparedNumber.{locale_number};
 ghost use Rattle.box_answers.specs.NumberSet.{RangeOf, set_of, IsProper};
 ghost use Rattle.config_box.specs.HalfSets.{gives, IsAskable, NoneAnswers, IsHalfSet};
 ghost use Rattle.config_box.specs.Tests.{test_of, passes};
 
 use crate::test::Test;
-use box_answers::NumberSet;
-use config_record::Locale;
+use box_answers::{Locale, NumberSet};
 use std::alloc::{AllocError, Global};
 use std::rc::Rc;
 

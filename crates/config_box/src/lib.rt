@@ -27,7 +27,7 @@ mod test;
 mod values;
 mod written;
 
-pub use box_answers::{MemberPair, Sameness};
+pub use box_answers::{Coord, Locale, MemberPair, Sameness, write_locale};
 pub use box_fault::BoxFault;
 pub use config_box::ConfigBox;
 pub use split::{OutOfMemory, Split};

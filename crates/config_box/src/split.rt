@@ -1,15 +1,14 @@
 //! What a split answers, and the sets of its halves.
 
 ghost use Rattle.std.specs.Prelude.{◌≡◌, length, slice_set, IfOk};
-ghost use Rattle.config_record.specs.Coord.{place_of};
+ghost use Rattle.box_answers.specs.config_record.Coord.{place_of};
 ghost use Rattle.box_answers.specs.NumberSet.{set_of};
 ghost use Rattle.box_answers.specs.Members.{sets_of};
 ghost use Rattle.config_box.specs.Tests.{test_of, is_range, has_wrong_kind};
 
 use crate::config_box::ConfigBox;
 use crate::test::Test;
-use box_answers::{NumberSet, set_at};
-use config_record::Coord;
+use box_answers::{Coord, NumberSet, set_at};
 use std::alloc::{AllocError, Global};
 
 /// What a split answers where memory runs out.

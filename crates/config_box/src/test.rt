@@ -2,8 +2,7 @@
 
 ghost use Rattle.std.specs.Prelude.{◌≡◌};
 
-use box_answers::has_locale;
-use config_record::{Coord, Locale};
+use box_answers::{Coord, Locale, has_locale};
 
 /// A test of one coordinate. It is answered by each device.
 #[derive(Debug, Drop)]

@@ -3,8 +3,7 @@
 ghost use Rattle.std.specs.Prelude.{◌≡◌, length};
 ghost use Rattle.box_answers.specs.Members.{sets_of, set_at};
 
-use box_answers::{NumberSet, set_at};
-use config_record::{Coord, Locale};
+use box_answers::{Coord, Locale, NumberSet, set_at};
 
 /// The values that a box has at a coordinate.
 #[derive(Clone, Copy, Debug)]

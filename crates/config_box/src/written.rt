@@ -5,12 +5,12 @@ ghost use Rattle.contract_words.specs.Exact.{GivesOr};
 ghost use Rattle.serde_json.specs.View.{view};
 ghost use Rattle.serde_json.specs.Find.{get};
 ghost use Rattle.json_input.specs.Each.{each};
-ghost use Rattle.config_record.specs.Coord.{all_coords, name_of};
+ghost use Rattle.box_answers.specs.config_record.Coord.{all_coords, name_of};
 ghost use Rattle.config_box.specs.declared.box_fault.BoxFault.TheVariants.{OutOfMemory};
 ghost use Rattle.config_box.specs.Written.{number_item, text_item, number_member, range_in, numbers_in, texts_in, value_at, member_at, written_at, written_in};
 
 use crate::box_fault::BoxFault;
-use config_record::Coord;
+use box_answers::Coord;
 use json_input::has_only;
 use serde_json::Value;
 use std::alloc::Global;
@@ -33,7 +33,7 @@ pub(crate) enum Written<'a> {
 ghost use Rattle.config_box.specs.BoxSeen.{written_seen, pair_seen, text_seen};
 
 /// What is written of each coordinate, in their order, where the value has the shape of a box.
-#[tactic(auto, unfolding(crate::specs::Written::written_in, config_record::specs::Coord::all_coords))]
+#[tactic(auto, unfolding(crate::specs::Written::written_in, crate::specs::Unfolded::all_coords))]
 pub(crate) fn written_in(
     alloc: Global,
     value: &Value,

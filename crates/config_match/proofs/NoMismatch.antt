@@ -1,8 +1,8 @@
 -- Nothing fails exactly where a record matches.
 use Rattle.std.proofs.Common.{◌≡◌, Bool, true, false, not, ◌&&◌, if◌then◌else◌, ℕ, List, Option, Some, None, is_none, refl}
 use Rattle.std.specs.Prelude.{option_map}
-use Rattle.config_record.specs.ComparedNumber.{record_number, device_number}
-use Rattle.config_record.specs.Record.{is_set_aside}
+use Rattle.config_rules.specs.config_record.ComparedNumber.{record_number, device_number}
+use Rattle.config_rules.specs.config_record.Record.{is_set_aside}
 use Rattle.config_rules.specs.declared.rule.Rule.{Rule}
 use Rattle.config_rules.specs.Answer.{is_pass}
 use Rattle.config_rules.specs.Table.{answer_of_table, rule_of_table}

@@ -1,9 +1,9 @@
 -- A record for a locale that does not suit the device does not match it.
 use Rattle.std.proofs.Common.{◌≡◌, false, not, ℕ, List}
 use Rattle.std.proofs.lemmas.Bool.{and_right}
-use Rattle.config_record.specs.declared.coord.Coord.TheVariants as coords
-use Rattle.config_record.specs.ComparedNumber.{record_number, device_number}
-use Rattle.config_record.specs.Record.{is_set_aside}
+use Rattle.config_rules.specs.config_record.declared.coord.Coord.TheVariants as coords
+use Rattle.config_rules.specs.config_record.ComparedNumber.{record_number, device_number}
+use Rattle.config_rules.specs.config_record.Record.{is_set_aside}
 use Rattle.config_rules.specs.Answer.{is_pass}
 use Rattle.config_rules.specs.Conditions.{locale_suits}
 use Rattle.config_rules.specs.Table.{answer_of_table}

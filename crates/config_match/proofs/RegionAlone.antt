@@ -2,8 +2,8 @@
 use Rattle.std.proofs.Common.{◌≡◌, ℕ, ◌/◌, ◌%◌, ◌<◌, ◌==◌, ◌&&◌, not, Bool, true, false, List, ◌∷◌, drop, IsTrue, refl, arith}
 use Rattle.std.proofs.lemmas.Bool.{eqb-true, and_parts, not-true}
 use Rattle.std.proofs.lemmas.Bool.Decides.{nat_tests}
-use Rattle.config_record.specs.declared.coord.Coord.{Coord}
-use Rattle.config_record.specs.declared.coord.Coord.TheVariants as coords
+use Rattle.config_rules.specs.config_record.declared.coord.Coord.{Coord}
+use Rattle.config_rules.specs.config_record.declared.coord.Coord.TheVariants as coords
 use Rattle.config_rules.specs.declared.answer.Answer.{Answer}
 use Rattle.config_rules.specs.declared.answer.Answer.TheVariants.{Yes, No, Pass}
 use Rattle.config_rules.specs.declared.kind.Kind.TheVariants as kinds
@@ -13,7 +13,7 @@ use Rattle.config_rules.specs.Conditions.{locale_suits}
 use Rattle.config_rules.specs.Kind.{kind_answer}
 use Rattle.config_rules.specs.Rule.{at, rule_answer}
 use Rattle.config_rules.specs.Table.{answer_of_table}
-use Rattle.config_record.specs.ComparedNumber.{record_number, device_number}
+use Rattle.config_rules.specs.config_record.ComparedNumber.{record_number, device_number}
 use Rattle.config_match.specs.Conditions.{all_conditions}
 use Rattle.config_match.specs.Matching.{has_region_alone}
 

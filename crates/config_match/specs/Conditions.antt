@@ -1,7 +1,7 @@
 -- The conditions of a match: for each coordinate what it asks of a record and a device (AOSP:
 -- ResTable_config::match).
 use Rattle.std.specs.Prelude.{List, [], ◌∷◌}
-use Rattle.config_record.specs.declared.coord.Coord.TheVariants as coords
+use Rattle.config_rules.specs.config_record.declared.coord.Coord.TheVariants as coords
 use Rattle.config_rules.specs.declared.kind.Kind.TheVariants as kinds
 use Rattle.config_rules.specs.declared.rule.Rule.{Rule}
 use Rattle.config_rules.specs.Rule.{at}

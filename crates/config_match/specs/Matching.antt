@@ -1,8 +1,8 @@
 -- Does a record match a device? A record is the list of its bytes, a device that of its numbers.
 use Rattle.std.specs.Prelude.{ℕ, Bool, not, ◌&&◌, ◌==◌, if◌then◌else◌, List, Option, Some, option_map}
-use Rattle.config_record.specs.declared.coord.Coord.TheVariants as coords
-use Rattle.config_record.specs.ComparedNumber.{record_number, device_number}
-use Rattle.config_record.specs.Record.{is_set_aside}
+use Rattle.config_rules.specs.config_record.declared.coord.Coord.TheVariants as coords
+use Rattle.config_rules.specs.config_record.ComparedNumber.{record_number, device_number}
+use Rattle.config_rules.specs.config_record.Record.{is_set_aside}
 use Rattle.config_rules.specs.declared.rule.Rule.{Rule}
 use Rattle.config_rules.specs.Answer.{is_pass}
 use Rattle.config_rules.specs.Locale.{language}

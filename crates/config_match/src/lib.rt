@@ -15,6 +15,10 @@ mod matching;
 mod reason;
 mod table;
 
+pub use config_rules::{
+    Answer, COORD_COUNT, Coord, Device, Kind, Locale, LocaleFault, Record, Rule, SOFT_KEYS,
+    deciding_place, table_answer, write_locale,
+};
 pub use matching::{matches, mismatch};
 pub use reason::Mismatch;
 pub use table::conditions;

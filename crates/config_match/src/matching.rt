@@ -1,14 +1,13 @@
 //! Whether a record matches a device, and what fails where it does not.
 
 ghost use Rattle.std.specs.Prelude.{◌≡◌, false, is_none, IsTrue};
-ghost use Rattle.config_record.specs.Record.{record_bytes};
-ghost use Rattle.config_record.specs.DeviceSeen.{device_numbers};
+ghost use Rattle.config_rules.specs.config_record.Record.{record_bytes};
+ghost use Rattle.config_rules.specs.config_record.DeviceSeen.{device_numbers};
 ghost use Rattle.config_match.specs.Matching.{is_match, mismatch_of, has_region_alone};
 
 use crate::reason::Mismatch;
 use crate::table::conditions;
-use config_record::{Device, Record};
-use config_rules::{deciding_rule, suits_locale, table_answer};
+use config_rules::{Device, Record, deciding_rule, suits_locale, table_answer};
 
 /// Whether a record matches a device (AOSP: `ResTable_config::match`). One with a region and no language matches
 /// none.

@@ -4,8 +4,7 @@ ghost use Rattle.std.specs.Prelude.{◌≡◌};
 ghost use Rattle.config_rules.specs.Reads.{AreReadInOrder};
 ghost use Rattle.config_match.specs.Conditions.{all_conditions};
 
-use config_record::{COORD_COUNT, Coord};
-use config_rules::{Kind, Rule};
+use config_rules::{COORD_COUNT, Coord, Kind, Rule};
 
 const CONDITIONS: [Rule; COORD_COUNT] = [
     Rule {

@@ -1,13 +1,13 @@
 -- How the answers of rules compose, and how this carries over to the first rule of a table that decides.
 use Rattle.std.proofs.Common.{◌≡◌, ℕ, true, false, List, [], ◌∷◌, refl}
 use Rattle.std.specs.List.{AllByRecursion}
-use Rattle.config_record.specs.declared.coord.Coord.{Coord}
-use Rattle.config_rules.specs.declared.answer.Answer.{Answer}
-use Rattle.config_rules.specs.declared.answer.Answer.TheVariants.{Yes, No, Pass}
-use Rattle.config_rules.specs.declared.rule.Rule.{Rule}
-use Rattle.config_rules.specs.Answer.{is_pass, is_yes, or_else}
-use Rattle.config_rules.specs.Rule.{rule_answer}
-use Rattle.config_rules.specs.Table.{answer_of_table}
+use Rattle.config_match.specs.config_record.declared.coord.Coord.{Coord}
+use Rattle.config_match.specs.config_rules.declared.answer.Answer.{Answer}
+use Rattle.config_match.specs.config_rules.declared.answer.Answer.TheVariants.{Yes, No, Pass}
+use Rattle.config_match.specs.config_rules.declared.rule.Rule.{Rule}
+use Rattle.config_match.specs.config_rules.Answer.{is_pass, is_yes, or_else}
+use Rattle.config_match.specs.config_rules.Rule.{rule_answer}
+use Rattle.config_match.specs.config_rules.Table.{answer_of_table}
 
 -- ---- of two records
 

@@ -4,19 +4,19 @@ use Rattle.std.specs.Prelude.{option_map}
 use Rattle.std.specs.List.{position_from}
 use Rattle.std.proofs.lemmas.Bool.Decides.{nat_tests}
 use Rattle.std.proofs.lemmas.Iterator.Adapters.{position_from-zero}
-use Rattle.config_record.specs.declared.coord.Coord.{Coord}
-use Rattle.config_record.specs.declared.coord.Coord.TheVariants as coords
-use Rattle.config_record.specs.ComparedNumber.{record_number, device_number}
-use Rattle.config_record.specs.Record.{coordinate, density}
-use Rattle.config_rules.specs.declared.answer.Answer.{Answer}
-use Rattle.config_rules.specs.declared.answer.Answer.TheVariants.{Yes, No, Pass}
-use Rattle.config_rules.specs.declared.kind.Kind.TheVariants as kinds
-use Rattle.config_rules.specs.declared.rule.Rule.{Rule}
-use Rattle.config_rules.specs.Answer.{is_pass, is_yes, or_else}
-use Rattle.config_rules.specs.Comparisons.{medium_density}
-use Rattle.config_rules.specs.Kind.{kind_answer}
-use Rattle.config_rules.specs.Rule.{at, rule_answer}
-use Rattle.config_rules.specs.Table.{answer_of_table, place_of_table, decides}
+use Rattle.config_match.specs.config_record.declared.coord.Coord.{Coord}
+use Rattle.config_match.specs.config_record.declared.coord.Coord.TheVariants as coords
+use Rattle.config_match.specs.config_record.ComparedNumber.{record_number, device_number}
+use Rattle.config_match.specs.config_record.Record.{coordinate, density}
+use Rattle.config_match.specs.config_rules.declared.answer.Answer.{Answer}
+use Rattle.config_match.specs.config_rules.declared.answer.Answer.TheVariants.{Yes, No, Pass}
+use Rattle.config_match.specs.config_rules.declared.kind.Kind.TheVariants as kinds
+use Rattle.config_match.specs.config_rules.declared.rule.Rule.{Rule}
+use Rattle.config_match.specs.config_rules.Answer.{is_pass, is_yes, or_else}
+use Rattle.config_match.specs.config_rules.Comparisons.{medium_density}
+use Rattle.config_match.specs.config_rules.Kind.{kind_answer}
+use Rattle.config_match.specs.config_rules.Rule.{at, rule_answer}
+use Rattle.config_match.specs.config_rules.Table.{answer_of_table, place_of_table, decides}
 use Rattle.config_precedence.specs.Laws.{densities_tie, density_rule, BothOrNeitherIsBetter}
 use Rattle.config_precedence.specs.Precedence.{is_better, deciding_of}
 use Rattle.config_precedence.specs.Rules.{all_rules}

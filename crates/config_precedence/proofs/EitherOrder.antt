@@ -5,17 +5,17 @@ use Rattle.std.specs.List.{list_all, position_from}
 use Rattle.std.proofs.lemmas.Bool.{and_parts}
 use Rattle.std.proofs.lemmas.Bool.Decides.{nat_tests}
 use Rattle.std.proofs.lemmas.Iterator.Adapters.{position_from-zero}
-use Rattle.config_record.specs.declared.coord.Coord.{Coord}
-use Rattle.config_record.specs.ComparedNumber.{record_number, device_number}
-use Rattle.config_rules.specs.declared.kind.Kind.{Kind}
-use Rattle.config_rules.specs.declared.kind.Kind.TheVariants as kinds
-use Rattle.config_rules.specs.declared.kind.Numbers.{Numbers}
-use Rattle.config_rules.specs.declared.rule.Rule.{Rule}
-use Rattle.config_rules.specs.Answer.{answer_where, is_pass}
-use Rattle.config_rules.specs.Comparisons.{differ, is_given, locale_rank, rest_of_both, dimensions_answer}
-use Rattle.config_rules.specs.Kind.{kind_answer}
-use Rattle.config_rules.specs.Rule.{numbers_at, rule_answer}
-use Rattle.config_rules.specs.Table.{decides, place_of_table}
+use Rattle.config_match.specs.config_record.declared.coord.Coord.{Coord}
+use Rattle.config_match.specs.config_record.ComparedNumber.{record_number, device_number}
+use Rattle.config_match.specs.config_rules.declared.kind.Kind.{Kind}
+use Rattle.config_match.specs.config_rules.declared.kind.Kind.TheVariants as kinds
+use Rattle.config_match.specs.config_rules.declared.kind.Numbers.{Numbers}
+use Rattle.config_match.specs.config_rules.declared.rule.Rule.{Rule}
+use Rattle.config_match.specs.config_rules.Answer.{answer_where, is_pass}
+use Rattle.config_match.specs.config_rules.Comparisons.{differ, is_given, locale_rank, rest_of_both, dimensions_answer}
+use Rattle.config_match.specs.config_rules.Kind.{kind_answer}
+use Rattle.config_match.specs.config_rules.Rule.{numbers_at, rule_answer}
+use Rattle.config_match.specs.config_rules.Table.{decides, place_of_table}
 use Rattle.config_precedence.specs.Laws.{DecidesInEitherOrder}
 use Rattle.config_precedence.specs.Precedence.{deciding_of}
 use Rattle.config_precedence.specs.Rules.{all_rules}

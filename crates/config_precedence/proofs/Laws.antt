@@ -3,22 +3,22 @@ use Rattle.std.proofs.Common.{◌≡◌, ℕ, zero, suc, Bool, true, false, not,
 use Rattle.std.specs.List.{AllByRecursion, list_all}
 use Rattle.std.proofs.lemmas.Bool.{and_parts, and_right}
 use Rattle.std.proofs.lemmas.Bool.Decides.{nat_tests}
-use Rattle.config_record.specs.declared.coord.Coord.{Coord}
-use Rattle.config_record.specs.declared.coord.Coord.TheVariants as coords
-use Rattle.config_record.specs.Coord.{place_of}
-use Rattle.config_record.specs.ComparedNumber.{record_number, device_number}
-use Rattle.config_record.specs.Record.{coordinate}
-use Rattle.config_rules.specs.declared.answer.Answer.{Answer}
-use Rattle.config_rules.specs.declared.answer.Answer.TheVariants.{Yes, No, Pass}
-use Rattle.config_rules.specs.declared.kind.Kind.{Kind}
-use Rattle.config_rules.specs.declared.kind.Kind.TheVariants as kinds
-use Rattle.config_rules.specs.declared.rule.Rule.{Rule}
-use Rattle.config_rules.specs.Answer.{is_pass, is_yes, or_else}
-use Rattle.config_rules.specs.Comparisons.{always_larger_answer, locale_rank, dimensions_answer, rest_of_both}
-use Rattle.config_rules.specs.Conditions.{is_equal, is_at_most}
-use Rattle.config_rules.specs.Kind.{kind_answer}
-use Rattle.config_rules.specs.Rule.{at, rule_answer, numbers_at}
-use Rattle.config_rules.specs.Table.{answer_of_table}
+use Rattle.config_match.specs.config_record.declared.coord.Coord.{Coord}
+use Rattle.config_match.specs.config_record.declared.coord.Coord.TheVariants as coords
+use Rattle.config_match.specs.config_record.Coord.{place_of}
+use Rattle.config_match.specs.config_record.ComparedNumber.{record_number, device_number}
+use Rattle.config_match.specs.config_record.Record.{coordinate}
+use Rattle.config_match.specs.config_rules.declared.answer.Answer.{Answer}
+use Rattle.config_match.specs.config_rules.declared.answer.Answer.TheVariants.{Yes, No, Pass}
+use Rattle.config_match.specs.config_rules.declared.kind.Kind.{Kind}
+use Rattle.config_match.specs.config_rules.declared.kind.Kind.TheVariants as kinds
+use Rattle.config_match.specs.config_rules.declared.rule.Rule.{Rule}
+use Rattle.config_match.specs.config_rules.Answer.{is_pass, is_yes, or_else}
+use Rattle.config_match.specs.config_rules.Comparisons.{always_larger_answer, locale_rank, dimensions_answer, rest_of_both}
+use Rattle.config_match.specs.config_rules.Conditions.{is_equal, is_at_most}
+use Rattle.config_match.specs.config_rules.Kind.{kind_answer}
+use Rattle.config_match.specs.config_rules.Rule.{at, rule_answer, numbers_at}
+use Rattle.config_match.specs.config_rules.Table.{answer_of_table}
 use Rattle.config_match.specs.Conditions.{all_conditions}
 use Rattle.config_precedence.specs.Laws.{AtMostOneIsBetter, IsTransitiveFrom, densities_tie}
 use Rattle.config_precedence.specs.Precedence.{is_better}

@@ -6,3 +6,6 @@ pub mod EitherOrder
 pub mod DensityTie
 pub mod Matched
 pub mod Laws
+pub use Rattle.config_match.proofs as config_match
+pub use Rattle.config_match.proofs.config_record
+pub use Rattle.config_match.proofs.config_rules

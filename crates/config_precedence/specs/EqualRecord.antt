@@ -1,7 +1,7 @@
 -- Are two records equal? All their fields count but the size, with the bits and the byte in which no
 -- coordinate stands (AOSP: ResTable_config::compare). A record is the list of its bytes.
 use Rattle.std.specs.Prelude.{ℕ, ◌==◌, ◌&&◌, Bool, List, bytes_eq}
-use Rattle.config_record.specs.Record.{mcc, mnc, language, country, locale_script, locale_variant, orientation, touchscreen, density, keyboard, navigation, input_flags, input_pad, screen_width, screen_height, sdk_version, minor_version, screen_layout, screen_layout2, color_mode, ui_mode, smallest_screen_width_dp, screen_width_dp, screen_height_dp}
+use Rattle.config_match.specs.config_record.Record.{mcc, mnc, language, country, locale_script, locale_variant, orientation, touchscreen, density, keyboard, navigation, input_flags, input_pad, screen_width, screen_height, sdk_version, minor_version, screen_layout, screen_layout2, color_mode, ui_mode, smallest_screen_width_dp, screen_width_dp, screen_height_dp}
 
 abbrev pub same_operator : List ℕ → List ℕ → Bool
 same_operator a b = mcc a == mcc b && mnc a == mnc b

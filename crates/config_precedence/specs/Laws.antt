@@ -1,9 +1,9 @@
 -- What holds of 'better' among the records that match a device, and of the rule that decides.
 use Rattle.std.specs.Prelude.{ℕ, ◌≡◌, ◌==◌, ◌&&◌, ◌||◌, nat_le, Bool, List, Some, IsTrue, IsFalse}
-use Rattle.config_record.specs.declared.coord.Coord.TheVariants as coords
-use Rattle.config_record.specs.ComparedNumber.{device_number}
-use Rattle.config_record.specs.Record.{density}
-use Rattle.config_rules.specs.Comparisons.{medium_density}
+use Rattle.config_match.specs.config_record.declared.coord.Coord.TheVariants as coords
+use Rattle.config_match.specs.config_record.ComparedNumber.{device_number}
+use Rattle.config_match.specs.config_record.Record.{density}
+use Rattle.config_match.specs.config_rules.Comparisons.{medium_density}
 use Rattle.config_match.specs.Matching.{is_match}
 use Rattle.config_precedence.specs.Precedence.{is_better, deciding_of}
 

@@ -1,10 +1,10 @@
 -- The rules of precedence (AOSP: ResTable_config::isBetterThan), each a kind of comparison at a coordinate.
 -- The dimensions look at the coordinate beside theirs too.
 use Rattle.std.specs.Prelude.{List, [], ◌∷◌}
-use Rattle.config_record.specs.declared.coord.Coord.TheVariants as coords
-use Rattle.config_rules.specs.declared.kind.Kind.TheVariants as kinds
-use Rattle.config_rules.specs.declared.rule.Rule.{Rule}
-use Rattle.config_rules.specs.Rule.{at}
+use Rattle.config_match.specs.config_record.declared.coord.Coord.TheVariants as coords
+use Rattle.config_match.specs.config_rules.declared.kind.Kind.TheVariants as kinds
+use Rattle.config_match.specs.config_rules.declared.rule.Rule.{Rule}
+use Rattle.config_match.specs.config_rules.Rule.{at}
 
 -- in their order; the first has the number 1
 unfoldable pub all_rules : List Rule

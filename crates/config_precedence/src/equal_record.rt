@@ -2,10 +2,10 @@
 //! which no coordinate stands.
 
 ghost use Rattle.std.specs.Prelude.{◌≡◌};
-ghost use Rattle.config_record.specs.Record.{record_bytes};
+ghost use Rattle.config_match.specs.config_record.Record.{record_bytes};
 ghost use Rattle.config_precedence.specs.EqualRecord.{same_operator, same_locale, same_screen_type, same_input, same_screen_size, same_version, same_screen_config, same_screen_size_dp, is_same};
 
-use config_record::Record;
+use config_match::Record;
 
 /// Whether two records are equal (AOSP: `ResTable_config::compare` is 0). A row of an overlay takes the place of one
 /// with an equal record.

@@ -15,6 +15,10 @@ mod equal_record;
 mod precedence;
 mod table;
 
+pub use config_match::{
+    Answer, COORD_COUNT, Coord, Device, Kind, Locale, LocaleFault, Mismatch, Record, Rule,
+    SOFT_KEYS, conditions, matches, mismatch, table_answer, write_locale,
+};
 pub use equal_record::same;
 pub use precedence::{better, deciding};
 pub use table::rules;

@@ -1,14 +1,13 @@
 //! Which of two records is better, and by which rule.
 
 ghost use Rattle.std.specs.Prelude.{◌≡◌, IsNone, IsFalse};
-ghost use Rattle.config_record.specs.Record.{record_bytes};
-ghost use Rattle.config_record.specs.DeviceSeen.{device_numbers};
+ghost use Rattle.config_match.specs.config_record.Record.{record_bytes};
+ghost use Rattle.config_match.specs.config_record.DeviceSeen.{device_numbers};
 ghost use Rattle.config_precedence.specs.Precedence.{is_better, deciding_of};
 ghost use Rattle.config_precedence.specs.Laws.{DecidesInEitherOrder, BothOrNeitherIsBetter, AtMostOneIsBetter, IsTransitiveFrom};
 
 use crate::table::rules;
-use config_record::{Device, Record};
-use config_rules::{deciding_place, table_answer};
+use config_match::{Device, Record, deciding_place, table_answer};
 
 /// Whether the first of two records is better for a device (AOSP: `ResTable_config::isBetterThan`). The first rule
 /// that decides answers; where none does it is not.

@@ -1,11 +1,10 @@
 //! The rules of precedence, in their order.
 
 ghost use Rattle.std.specs.Prelude.{◌≡◌, length};
-ghost use Rattle.config_rules.specs.Reads.{AreReadInOrder};
+ghost use Rattle.config_match.specs.config_rules.Reads.{AreReadInOrder};
 ghost use Rattle.config_precedence.specs.Rules.{all_rules};
 
-use config_record::Coord;
-use config_rules::{Kind, Rule};
+use config_match::{Coord, Kind, Rule};
 
 const RULES: [Rule; 23] = [
     Rule {

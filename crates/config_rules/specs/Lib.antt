@@ -6,3 +6,4 @@ pub mod Kind
 pub mod Rule
 pub mod Table
 pub mod Reads
+pub use Rattle.config_record.specs as config_record

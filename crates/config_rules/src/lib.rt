@@ -28,6 +28,7 @@ mod table;
 
 pub use answer::Answer;
 pub use conditions::{SOFT_KEYS, suits_locale};
+pub use config_record::{COORD_COUNT, Coord, Device, Locale, LocaleFault, Record, write_locale};
 pub use kind::{Kind, Numbers};
 pub use rule::{Rule, beside};
 pub use table::{deciding_place, deciding_rule, table_answer};

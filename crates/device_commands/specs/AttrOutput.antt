@@ -1,17 +1,17 @@
 -- What the command `attr` prints.
 use Rattle.std.specs.Prelude.{ℕ, Bool, List, [], ◌∷◌, ◌++◌, codes, Result, Ok, Err}
 use Rattle.contract_words.specs.Faults.{◌>>=◌}
-use Rattle.res_value.specs.declared.res_id.ResId.{ResId}
-use Rattle.res_value.specs.ResId.{id_text}
-use Rattle.config_record.specs.DeviceJson.{device_in_json}
-use Rattle.overlay_map.specs.Layer.{LayerOf}
-use Rattle.reference_resolver.specs.declared.end.End.{End}
+use Rattle.answer_text.specs.res_value.declared.res_id.ResId.{ResId}
+use Rattle.answer_text.specs.res_value.ResId.{id_text}
+use Rattle.bags_themes.specs.config_record.DeviceJson.{device_in_json}
+use Rattle.bags_themes.specs.overlay_map.Layer.{LayerOf}
+use Rattle.bags_themes.specs.reference_resolver.declared.end.End.{End}
 use Rattle.bags_themes.specs.declared.bag_fault.BagFault.{BagFault}
 use Rattle.bags_themes.specs.Theme.{AttributeValues, unset}
 use Rattle.bags_themes.specs.Styles.{values_after_styles}
 use Rattle.bags_themes.specs.Attribute.{attribute_of}
-use Rattle.fault_text.specs.declared.fault.ToolFault.{ToolFault}
-use Rattle.fault_text.specs.ToolFault.{fault_of_device}
+use Rattle.answer_text.specs.fault_text.declared.fault.ToolFault.{ToolFault}
+use Rattle.answer_text.specs.fault_text.ToolFault.{fault_of_device}
 use Rattle.answer_text.specs.EndText.{end_text}
 use Rattle.command_base.specs.Output.{Output}
 use Rattle.command_base.specs.StackBytes.{LayerBytes, stack_in}

@@ -2,16 +2,16 @@
 use Rattle.std.specs.Prelude.{ℕ, List, [], ◌∷◌, ◌++◌, codes, Result, Ok, Err}
 use Rattle.std.specs.List.{flat_map}
 use Rattle.contract_words.specs.Faults.{◌>>=◌}
-use Rattle.res_value.specs.ResId.{id_text}
-use Rattle.res_value.specs.ValueText.{value_text}
-use Rattle.config_record.specs.DeviceJson.{device_in_json}
+use Rattle.answer_text.specs.res_value.ResId.{id_text}
+use Rattle.answer_text.specs.res_value.ValueText.{value_text}
+use Rattle.bags_themes.specs.config_record.DeviceJson.{device_in_json}
 use Rattle.bags_themes.specs.declared.bag_row.BagRow.{BagRow}
 use Rattle.bags_themes.specs.declared.bag_fault.BagFault.{BagFault}
 use Rattle.bags_themes.specs.declared.bag_fault.BagFault.TheVariants as of_bag
 use Rattle.bags_themes.specs.Bag.{bag_of}
-use Rattle.fault_text.specs.declared.fault.ToolFault.{ToolFault}
-use Rattle.fault_text.specs.ToolFault.{fault_of_device}
-use Rattle.fault_text.specs.LayerText.{layer_text}
+use Rattle.answer_text.specs.fault_text.declared.fault.ToolFault.{ToolFault}
+use Rattle.answer_text.specs.fault_text.ToolFault.{fault_of_device}
+use Rattle.answer_text.specs.fault_text.LayerText.{layer_text}
 use Rattle.command_base.specs.declared.status.Status.TheVariants.{Done, Negative}
 use Rattle.command_base.specs.Output.{Output}
 use Rattle.command_base.specs.StackBytes.{LayerBytes, stack_in}

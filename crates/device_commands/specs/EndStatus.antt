@@ -1,7 +1,7 @@
 -- The status of a command that prints an end.
 use Rattle.std.specs.Prelude.{Bool, not, if◌then◌else◌}
-use Rattle.reference_resolver.specs.declared.end.End.{End}
-use Rattle.reference_resolver.specs.Ends.{is_value}
+use Rattle.bags_themes.specs.reference_resolver.declared.end.End.{End}
+use Rattle.bags_themes.specs.reference_resolver.Ends.{is_value}
 use Rattle.command_base.specs.declared.status.Status.{Status}
 use Rattle.command_base.specs.declared.status.Status.TheVariants.{Done, Negative}
 

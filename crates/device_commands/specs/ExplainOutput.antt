@@ -1,11 +1,11 @@
 -- What the command `explain` prints.
 use Rattle.std.specs.Prelude.{ℕ, List, Result, Ok}
 use Rattle.contract_words.specs.Faults.{◌>>=◌}
-use Rattle.config_record.specs.DeviceJson.{device_in_json}
-use Rattle.overlay_map.specs.Layer.{LayerOf}
-use Rattle.reference_resolver.specs.Ends.{references_followed, end_of}
-use Rattle.fault_text.specs.declared.fault.ToolFault.{ToolFault}
-use Rattle.fault_text.specs.ToolFault.{fault_of_device}
+use Rattle.bags_themes.specs.config_record.DeviceJson.{device_in_json}
+use Rattle.bags_themes.specs.overlay_map.Layer.{LayerOf}
+use Rattle.bags_themes.specs.reference_resolver.Ends.{references_followed, end_of}
+use Rattle.answer_text.specs.fault_text.declared.fault.ToolFault.{ToolFault}
+use Rattle.answer_text.specs.fault_text.ToolFault.{fault_of_device}
 use Rattle.answer_text.specs.ExplainText.{explain_text}
 use Rattle.command_base.specs.declared.status.Status.{Status}
 use Rattle.command_base.specs.Output.{Output}

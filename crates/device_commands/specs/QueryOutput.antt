@@ -2,14 +2,14 @@
 use Rattle.std.specs.Prelude.{ℕ, ◌++◌, Bool, List, Result, Ok, if◌then◌else◌}
 use Rattle.std.specs.List.{flat_map, list_any}
 use Rattle.contract_words.specs.Faults.{◌>>=◌}
-use Rattle.res_value.specs.declared.res_id.ResId.{ResId}
-use Rattle.config_record.specs.DeviceJson.{device_in_json}
-use Rattle.overlay_map.specs.Layer.{LayerOf}
-use Rattle.overlay_map.specs.SetAside.{set_aside_in_stack}
-use Rattle.reference_resolver.specs.declared.end.End.{End}
-use Rattle.reference_resolver.specs.Ends.{references_followed, end_of}
-use Rattle.fault_text.specs.declared.fault.ToolFault.{ToolFault}
-use Rattle.fault_text.specs.ToolFault.{fault_of_device}
+use Rattle.answer_text.specs.res_value.declared.res_id.ResId.{ResId}
+use Rattle.bags_themes.specs.config_record.DeviceJson.{device_in_json}
+use Rattle.bags_themes.specs.overlay_map.Layer.{LayerOf}
+use Rattle.bags_themes.specs.overlay_map.SetAside.{set_aside_in_stack}
+use Rattle.bags_themes.specs.reference_resolver.declared.end.End.{End}
+use Rattle.bags_themes.specs.reference_resolver.Ends.{references_followed, end_of}
+use Rattle.answer_text.specs.fault_text.declared.fault.ToolFault.{ToolFault}
+use Rattle.answer_text.specs.fault_text.ToolFault.{fault_of_device}
 use Rattle.answer_text.specs.QueryText.{query_line, set_aside_line}
 use Rattle.command_base.specs.declared.status.Status.{Status}
 use Rattle.command_base.specs.declared.status.Status.TheVariants.{Done, Negative}

@@ -3,8 +3,8 @@
 ghost use Rattle.std.specs.Prelude.{◌≡◌};
 ghost use Rattle.device_commands.specs.EndStatus.{is_unresolved, status_of_end};
 
+use bags_themes::End;
 use command_base::Status;
-use reference_resolver::End;
 
 /// Whether nothing was found, or too many references.
 pub(crate) fn is_unresolved(end: End) -> bool

@@ -6,12 +6,9 @@ ghost use Rattle.command_base.specs.StackBytesSeen.{layer_bytes};
 ghost use Rattle.device_commands.specs.ExplainOutput.{explain_output};
 
 use crate::end_status::status_of_end;
-use command_base::open_stack;
-use command_base::Status;
-use config_record::Device;
-use fault_text::ToolFault;
-use res_value::ResId;
-use answer_text::explain;
+use answer_text::{ResId, ToolFault, explain};
+use bags_themes::Device;
+use command_base::{Status, open_stack};
 use std::alloc::Global;
 use std::io::Write;
 

@@ -2,20 +2,15 @@
 
 ghost use Rattle.std.specs.Prelude.{◌≡◌, map, OnOk, IfOk};
 ghost use Rattle.contract_words.specs.Writes.{Writes};
-ghost use Rattle.config_record.specs.DeviceSeen.{device_numbers};
+ghost use Rattle.bags_themes.specs.config_record.DeviceSeen.{device_numbers};
 ghost use Rattle.command_base.specs.Output.{Prints};
 ghost use Rattle.command_base.specs.StackBytesSeen.{layer_bytes};
 ghost use Rattle.device_commands.specs.QueryOutput.{query_status, query_text, query_output};
 
 use crate::end_status::is_unresolved;
-use command_base::open_stack;
-use command_base::Status;
-use config_record::Device;
-use fault_text::ToolFault;
-use overlay_map::Stack;
-use reference_resolver::resolve;
-use res_value::ResId;
-use answer_text::{query_line, set_aside_line};
+use answer_text::{ResId, ToolFault, query_line, set_aside_line};
+use bags_themes::{Device, Stack, resolve};
+use command_base::{Status, open_stack};
 use std::alloc::Global;
 use std::io::{self, Write};
 

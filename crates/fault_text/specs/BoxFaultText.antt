@@ -1,7 +1,7 @@
 -- The name of a box's fault, and the coordinate that has it.
 use Rattle.std.specs.Prelude.{ℕ, List, codes}
-use Rattle.config_box.specs.declared.box_fault.BoxFault.{BoxFault}
-use Rattle.config_box.specs.declared.box_fault.BoxFault.TheVariants.{Syntax, Shape, Empty, TooMany, FieldRange, RegionAlone, Density, OutOfMemory}
+use Rattle.cert_tree.specs.config_box.declared.box_fault.BoxFault.{BoxFault}
+use Rattle.cert_tree.specs.config_box.declared.box_fault.BoxFault.TheVariants.{Syntax, Shape, Empty, TooMany, FieldRange, RegionAlone, Density, OutOfMemory}
 use Rattle.fault_text.specs.NamedText.{named_coord}
 
 unfoldable pub box_fault_text : BoxFault → List ℕ

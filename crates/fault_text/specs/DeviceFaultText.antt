@@ -1,7 +1,7 @@
 -- The name of a device's fault, and the coordinate that has it.
 use Rattle.std.specs.Prelude.{ℕ, List, codes}
-use Rattle.config_record.specs.declared.fields.DeviceFault.{DeviceFault}
-use Rattle.config_record.specs.declared.fields.DeviceFault.TheVariants.{Syntax, Shape, FieldRange, RegionAlone, Density, OutOfMemory}
+use Rattle.overlay_map.specs.config_record.declared.fields.DeviceFault.{DeviceFault}
+use Rattle.overlay_map.specs.config_record.declared.fields.DeviceFault.TheVariants.{Syntax, Shape, FieldRange, RegionAlone, Density, OutOfMemory}
 use Rattle.fault_text.specs.NamedText.{named_coord}
 
 unfoldable pub device_fault_text : DeviceFault → List ℕ

@@ -1,11 +1,11 @@
 -- The names of a table's fault, and its place.
 use Rattle.std.specs.Prelude.{ℕ, List, ◌++◌, codes}
-use Rattle.chunk_walk.specs.declared.chunk.ChunkFault.{ChunkFault}
-use Rattle.chunk_walk.specs.declared.chunk.ChunkFault.TheVariants.{Truncated, HeaderShort, HeaderLong, Misaligned, Oversize}
-use Rattle.string_pool.specs.declared.fault.PoolFault.{PoolFault}
-use Rattle.string_pool.specs.declared.fault.PoolFault.TheVariants as of_pool
-use Rattle.type_chunks.specs.declared.fault.TableFault.{TableFault}
-use Rattle.type_chunks.specs.declared.fault.TableFault.TheVariants as of_table
+use Rattle.cert_tree.specs.chunk_walk.declared.chunk.ChunkFault.{ChunkFault}
+use Rattle.cert_tree.specs.chunk_walk.declared.chunk.ChunkFault.TheVariants.{Truncated, HeaderShort, HeaderLong, Misaligned, Oversize}
+use Rattle.overlay_map.specs.string_pool.declared.fault.PoolFault.{PoolFault}
+use Rattle.overlay_map.specs.string_pool.declared.fault.PoolFault.TheVariants as of_pool
+use Rattle.overlay_map.specs.type_chunks.declared.fault.TableFault.{TableFault}
+use Rattle.overlay_map.specs.type_chunks.declared.fault.TableFault.TheVariants as of_table
 use Rattle.fault_text.specs.NamedText.{named_number}
 
 -- the name of a chunk's fault, and its place

@@ -1,13 +1,13 @@
 -- The faults of the parts of an input, as faults of the command. Want of memory is the command's own.
 use Rattle.std.specs.Prelude.{ℕ}
-use Rattle.config_record.specs.declared.fields.DeviceFault.{DeviceFault}
-use Rattle.config_record.specs.declared.fields.DeviceFault.TheVariants as of_device
-use Rattle.config_box.specs.declared.box_fault.BoxFault.{BoxFault}
-use Rattle.config_box.specs.declared.box_fault.BoxFault.TheVariants as of_box
+use Rattle.overlay_map.specs.config_record.declared.fields.DeviceFault.{DeviceFault}
+use Rattle.overlay_map.specs.config_record.declared.fields.DeviceFault.TheVariants as of_device
+use Rattle.cert_tree.specs.config_box.declared.box_fault.BoxFault.{BoxFault}
+use Rattle.cert_tree.specs.config_box.declared.box_fault.BoxFault.TheVariants as of_box
 use Rattle.cert_tree.specs.declared.cert_fault.CertFault.{CertFault}
 use Rattle.cert_tree.specs.declared.cert_fault.CertFault.TheVariants as of_certificate
-use Rattle.type_chunks.specs.declared.fault.TableFault.{TableFault}
-use Rattle.type_chunks.specs.declared.fault.TableFault.TheVariants as of_table
+use Rattle.overlay_map.specs.type_chunks.declared.fault.TableFault.{TableFault}
+use Rattle.overlay_map.specs.type_chunks.declared.fault.TableFault.TheVariants as of_table
 use Rattle.overlay_map.specs.declared.map_fault.MapFault.{MapFault}
 use Rattle.overlay_map.specs.declared.map_fault.MapFault.TheVariants as of_map
 use Rattle.overlay_map.specs.declared.stack_fault.StackFault.{StackFault}

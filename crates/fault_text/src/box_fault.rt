@@ -4,7 +4,7 @@ ghost use Rattle.contract_words.specs.Writes.{Writes};
 ghost use Rattle.fault_text.specs.BoxFaultText.{box_fault_text};
 
 use crate::named::write_named_coord;
-use config_box::BoxFault;
+use cert_tree::BoxFault;
 use std::io::{self, Write};
 
 /// Writes the name of a box's fault, and the coordinate that has it.

@@ -4,7 +4,7 @@ ghost use Rattle.contract_words.specs.Writes.{Writes};
 ghost use Rattle.fault_text.specs.DeviceFaultText.{device_fault_text};
 
 use crate::named::write_named_coord;
-use config_record::DeviceFault;
+use overlay_map::DeviceFault;
 use std::io::{self, Write};
 
 /// Writes the name of a device's fault, and the coordinate that has it.

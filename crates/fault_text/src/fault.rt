@@ -14,14 +14,11 @@ use crate::layer::write_layer;
 use crate::layers_fault::{LayersFault, write_layers_fault};
 use crate::map_fault::write_map_fault;
 use crate::table_fault::write_table_fault;
-use cert_tree::CertFault;
-use config_box::BoxFault;
-use config_record::DeviceFault;
-use overlay_map::{MapFault, StackFault};
+use cert_tree::{BoxFault, CertFault};
+use overlay_map::{DeviceFault, MapFault, StackFault, TableFault};
 use std::alloc::AllocError;
 use std::io::{self, Write};
 use thiserror::Error;
-use type_chunks::TableFault;
 
 /// Why a command was not carried out: the part of its input that is refused, or what failed. Layers
 /// are named by their place, from 0.

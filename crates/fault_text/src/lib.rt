@@ -24,7 +24,11 @@ mod map_fault;
 mod named;
 mod table_fault;
 
+pub use cert_tree::{
+    Cell, MapRows, Progress, ResId, Value, kind, write_hex, write_id, write_value, write_word,
+};
 pub use fault::{ToolFault, fault_text};
 pub use layer::write_layer;
 pub use layers_fault::LayersFault;
 pub use named::{write_named_coord, write_named_id, write_named_number};
+pub use overlay_map::{IdMap, MOST_LAYERS, MapFault, Stack, Table, TableFault};

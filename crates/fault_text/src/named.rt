@@ -3,8 +3,8 @@
 ghost use Rattle.contract_words.specs.Writes.{Writes};
 ghost use Rattle.fault_text.specs.NamedText.{named_id, named_coord, named_number};
 
-use config_record::Coord;
-use res_value::{ResId, write_id};
+use cert_tree::{ResId, write_id};
+use overlay_map::Coord;
 use std::io::{self, Write};
 
 /// Writes a name and an id.

@@ -5,10 +5,9 @@ ghost use Rattle.contract_words.specs.Writes.{Writes};
 ghost use Rattle.fault_text.specs.TableFaultText.{inner_chunk_fault_text, chunk_fault_text, pool_fault_name, pool_fault_text, table_fault_text};
 
 use crate::named::write_named_number;
-use chunk_walk::ChunkFault;
+use cert_tree::ChunkFault;
+use overlay_map::{PoolFault, TableFault};
 use std::io::{self, Write};
-use string_pool::PoolFault;
-use type_chunks::TableFault;
 
 /// Writes the names of a table's fault from outside in, and its place.
 #[tactic(auto, unfolding(crate::specs::TableFaultText::table_fault_text))]

@@ -7,7 +7,7 @@ use Rattle.std.specs.Map.{lookup}
 use Rattle.contract_words.specs.Faults.{◌>>=◌, refuse}
 use Rattle.contract_words.specs.Sequences.{with_front}
 use Rattle.contract_words.proofs.SequenceSteps.{ReadsKnowing, ReadsKnowing-next, ReadsKnowing-stops, ReadsKnowing-end}
-use Rattle.res_value.specs.declared.res_id.ResId.{ResId}
+use Rattle.row_index.specs.res_value.declared.res_id.ResId.{ResId}
 use Rattle.overlay_map.specs.declared.map_fault.MapFault.{MapFault}
 use Rattle.overlay_map.specs.IdMap.{IdPair, check_target, checked_pair}
 

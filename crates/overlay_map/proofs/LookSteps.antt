@@ -3,7 +3,7 @@ use Rattle.std.proofs.Common.{◌≡◌, ℕ, Bool, true, false, List, [], ◌�
 use Rattle.std.proofs.lemmas.Bool.{eq-eqb, eqb-true}
 use Rattle.std.specs.Option.{option_map}
 use Rattle.std.specs.Map.{lookup}
-use Rattle.res_value.specs.declared.res_id.ResId.{ResId}
+use Rattle.row_index.specs.res_value.declared.res_id.ResId.{ResId}
 use Rattle.overlay_map.specs.IdMap.{pairs_of, look_of}
 
 same_answer : (b c : Bool) → (b ≡ true → c ≡ true) → (c ≡ true → b ≡ true) → b ≡ c

@@ -3,3 +3,8 @@ pub mod Layer
 pub mod Candidates
 pub mod Pushing
 pub mod SetAside
+pub use Rattle.row_index.specs.config_record
+pub use Rattle.row_index.specs.res_value
+pub use Rattle.row_index.specs.resource_table
+pub use Rattle.row_index.specs.string_pool
+pub use Rattle.row_index.specs.type_chunks

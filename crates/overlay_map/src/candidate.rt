@@ -1,6 +1,6 @@
 //! Candidates.
 
-use type_chunks::Row;
+use row_index::Row;
 
 /// A row that may stand for an id, and the layer that it is of.
 #[derive(Clone, Copy, Debug)]

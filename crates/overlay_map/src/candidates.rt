@@ -7,8 +7,7 @@ ghost use Rattle.overlay_map.specs.Candidates.{candidates_from};
 
 use crate::candidate::Cand;
 use crate::layer::Layer;
-use res_value::ResId;
-use row_index::IndexedRows;
+use row_index::{IndexedRows, ResId};
 use std::marker::Model;
 use std::slice::Iter;
 

@@ -14,7 +14,7 @@ use crate::map_fault::MapFault;
 use crate::pairs::pairs_in;
 use indexmap::IndexMap;
 use json_input::read_value;
-use res_value::ResId;
+use row_index::ResId;
 use std::alloc::Global;
 use std::marker::Model;
 

@@ -6,8 +6,7 @@ ghost use Rattle.overlay_map.specs.Layer.{own_id, rows_for};
 ghost use Rattle.overlay_map.specs.SetAside.{set_aside_in_layer};
 
 use crate::id_map::IdMap;
-use res_value::ResId;
-use row_index::{IndexedRows, IndexedTable};
+use row_index::{IndexedRows, IndexedTable, ResId};
 use std::marker::Model;
 
 /// A table in a stack, as a base or as an overlay.

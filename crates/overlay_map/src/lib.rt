@@ -32,5 +32,9 @@ pub use candidate::Cand;
 pub use candidates::Cands;
 pub use id_map::IdMap;
 pub use map_fault::MapFault;
+pub use row_index::{
+    Cell, Coord, DeviceFault, MapRows, Package, PackageRows, Pool, PoolFault, ResId, Row, Table,
+    TableFault, Value, kind, write_string,
+};
 pub use stack::{MOST_LAYERS, Stack};
 pub use stack_fault::StackFault;

@@ -9,7 +9,7 @@ ghost use Rattle.overlay_map.specs.IdMap.{id_in, pair_in, pair_item, pairs_in};
 ghost use Rattle.overlay_map.specs.declared.map_fault.MapFault.TheVariants.{OutOfMemory, Shape};
 
 use crate::map_fault::MapFault;
-use res_value::ResId;
+use row_index::ResId;
 use serde_json::Value;
 use std::alloc::Global;
 

@@ -1,7 +1,7 @@
 //! Stacks.
 
 ghost use Rattle.std.specs.Prelude.{◌≡◌, ◌≤◌, ◌<◌, ◌^◌, [], ◌∷◌, ◌++◌, All, length, slice_get, vec_len, vec_capacity, nat_eq, OnOk, IfOk, IfErr};
-ghost use Rattle.resource_table.specs.Table.{rows_of};
+ghost use Rattle.row_index.specs.resource_table.Table.{rows_of};
 ghost use Rattle.std.specs.Option.{option_map};
 ghost use Rattle.overlay_map.specs.Layer.{most_layers, HasFewRows};
 ghost use Rattle.overlay_map.specs.Pushing.{RefusesLayer, PushesLayer, base_of, overlay_of};
@@ -12,9 +12,7 @@ use crate::candidates::Cands;
 use crate::id_map::IdMap;
 use crate::layer::Layer;
 use crate::stack_fault::StackFault;
-use res_value::ResId;
-use resource_table::Table;
-use row_index::IndexedTable;
+use row_index::{IndexedTable, ResId, Table};
 use std::alloc::Global;
 use std::marker::Model;
 

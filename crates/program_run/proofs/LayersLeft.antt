@@ -5,7 +5,7 @@ use Rattle.std.proofs.lemmas.List.{map-append}
 use Rattle.contract_words.specs.Sequences.{with_front}
 use Rattle.contract_words.proofs.SequenceSteps.{with_front_nil}
 use Rattle.json_input.specs.Each.{each}
-use Rattle.fault_text.specs.declared.fault.ToolFault.TheVariants.{OutOfMemory}
+use Rattle.command_base.specs.fault_text.declared.fault.ToolFault.TheVariants.{OutOfMemory}
 use Rattle.command_base.specs.LayerListSeen.{paths_of}
 use Rattle.command_base.specs.StackBytes.{LayerBytes}
 use Rattle.program_run.specs.declared.stop.Stop.{Stop}

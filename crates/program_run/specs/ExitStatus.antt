@@ -1,7 +1,7 @@
 -- How the program ends.
 use Rattle.std.specs.Prelude.{ℕ}
-use Rattle.fault_text.specs.declared.fault.ToolFault.{ToolFault}
-use Rattle.fault_text.specs.declared.fault.ToolFault.TheVariants.{OutOfMemory, Write}
+use Rattle.command_base.specs.fault_text.declared.fault.ToolFault.{ToolFault}
+use Rattle.command_base.specs.fault_text.declared.fault.ToolFault.TheVariants.{OutOfMemory, Write}
 use Rattle.command_base.specs.declared.status.Status.{Status}
 use Rattle.command_base.specs.declared.status.Status.TheVariants as statuses
 use Rattle.program_run.specs.declared.status.ExitStatus.{ExitStatus}

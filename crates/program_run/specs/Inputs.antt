@@ -3,8 +3,8 @@ use Rattle.std.specs.Prelude.{ℕ, List, codes, Option, Some, None, Result, Ok, 
 use Rattle.std.specs.Str.{bytes_eq}
 use Rattle.contract_words.specs.Faults.{◌>>=◌}
 use Rattle.json_input.specs.Each.{each}
-use Rattle.fault_text.specs.ToolFault.{fault_of_layers}
-use Rattle.fault_text.specs.declared.fault.ToolFault.TheVariants as faults
+use Rattle.command_base.specs.fault_text.ToolFault.{fault_of_layers}
+use Rattle.command_base.specs.fault_text.declared.fault.ToolFault.TheVariants as faults
 use Rattle.command_base.specs.LayerList.{LayerPaths, layers_in}
 use Rattle.command_base.specs.StackBytes.{LayerBytes}
 use Rattle.command_base.specs.declared.input.InputFault.{InputFault}

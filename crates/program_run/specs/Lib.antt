@@ -4,3 +4,6 @@ pub mod Place
 pub mod Inputs
 pub mod FilesSeen
 pub mod Ending
+pub use Rattle.command_base.specs as command_base
+pub use Rattle.command_base.specs.fault_text
+pub use Rattle.command_words.specs as command_words

@@ -3,9 +3,9 @@ use Rattle.std.specs.Prelude.{◌≡◌, ◌≢◌, ℕ, Bool, true, false, List
 use Rattle.clap.specs.Values.{kind_of}
 use Rattle.clap.specs.declared.error.kind.ErrorKind.{ErrorKind}
 use Rattle.clap.specs.declared.error.kind.ErrorKind.TheVariants as kinds
-use Rattle.fault_text.specs.declared.fault.ToolFault.{ToolFault}
-use Rattle.fault_text.specs.declared.fault.ToolFault.TheVariants as faults
-use Rattle.fault_text.specs.FaultText.{fault_line}
+use Rattle.command_base.specs.fault_text.declared.fault.ToolFault.{ToolFault}
+use Rattle.command_base.specs.fault_text.declared.fault.ToolFault.TheVariants as faults
+use Rattle.command_base.specs.fault_text.FaultText.{fault_line}
 use Rattle.command_words.specs.declared.words_fault.WordsFault.{WordsFault}
 use Rattle.command_words.specs.declared.words_fault.WordsFault.TheVariants.{CommandLine, NotText, BadId, OutOfMemory}
 use Rattle.program_run.specs.declared.stop.Stop.{Stop}

@@ -3,14 +3,13 @@
 ghost use Rattle.std.specs.Prelude.{◌≡◌, Ok, Err, OnOk, IsOk, IfOk, IfErr};
 ghost use Rattle.std.specs.Io.Buffered.{writer_contents, writer_inner};
 ghost use Rattle.std.specs.Io.KnownBytes.{Keeps};
-ghost use Rattle.fault_text.specs.declared.fault.ToolFault.TheVariants.{Write};
+ghost use Rattle.command_base.specs.fault_text.declared.fault.ToolFault.TheVariants.{Write};
 ghost use Rattle.program_run.specs.Ending.{EndsAs};
 ghost use Rattle.program_run.specs.Stop.{stop_of, tool};
 
 use crate::status::ExitStatus;
 use crate::stop::Stop;
-use command_base::Status;
-use fault_text::ToolFault;
+use command_base::{Status, ToolFault};
 use std::io::{BufWriter, Write};
 
 /// Says why the program stops, if it does, and gives the exit status.

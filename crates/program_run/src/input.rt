@@ -12,8 +12,7 @@ ghost use Rattle.program_run.specs.Stop.{GivesOrStops, stop_of};
 
 use crate::place::Place;
 use crate::stop::Stop;
-use command_base::{InputFault, read_input};
-use fault_text::ToolFault;
+use command_base::{InputFault, ToolFault, read_input};
 use std::alloc::Global;
 use std::fs;
 use std::io::{self, ErrorKind, Read};

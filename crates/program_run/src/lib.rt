@@ -23,10 +23,11 @@ mod progress;
 mod status;
 mod stop;
 
+pub use command_words::{BoxRequest, DeviceRequest, Request, ResId, program_words, read_words};
 pub use ending::{end, written_out};
 pub use files::{CheckFiles, DeviceFiles, LayerFiles};
 pub use input::{Inputs, ProcessInputs, table_bytes};
 pub use place::Place;
 pub use progress::ProgressLine;
 pub use status::ExitStatus;
-pub use stop::{Stop, Reported};
+pub use stop::{Reported, Stop};

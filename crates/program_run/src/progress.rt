@@ -1,6 +1,6 @@
 //! How far the making of a certificate has come.
 
-use cert_tree::Progress;
+use command_base::Progress;
 use std::io::Write;
 use std::time::{Clock, Duration, Instant};
 

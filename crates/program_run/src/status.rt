@@ -1,7 +1,6 @@
 //! The exit status.
 
-use command_base::Status;
-use fault_text::ToolFault;
+use command_base::{Status, ToolFault};
 
 /// How the program ends.
 #[derive(Clone, Copy, Debug, PartialEq, Eq)]

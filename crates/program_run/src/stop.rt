@@ -4,14 +4,14 @@ ghost use Rattle.std.specs.Prelude.{◌≡◌, ◌++◌, ◌∷◌, [], true, fa
 ghost use Rattle.std.specs.Io.KnownBytes.{Appends};
 ghost use Rattle.contract_words.specs.Writes.{Writes};
 ghost use Rattle.clap.specs.Values.{kind_of};
-ghost use Rattle.fault_text.specs.declared.fault.ToolFault.TheVariants.{OutOfMemory};
+ghost use Rattle.command_base.specs.fault_text.declared.fault.ToolFault.TheVariants.{OutOfMemory};
 ghost use Rattle.program_run.specs.declared.stop.Stop.TheVariants.{Tool, Words};
 ghost use Rattle.program_run.specs.Stop.{is_asked_for, is_output, status_of_stop, stop_line, stop_of_words};
 
 use crate::status::ExitStatus;
 use clap::error::ErrorKind;
+use command_base::{LayersFault, ToolFault, fault_text};
 use command_words::WordsFault;
-use fault_text::{LayersFault, ToolFault, fault_text};
 use std::alloc::{AllocError, AllocFailed};
 use std::io::{self, Write};
 
@@ -153,7 +153,7 @@ impl From<ToolFault> for Stop<'_> {
 }
 
 impl From<LayersFault> for Stop<'_> {
-    ghost use Rattle.fault_text.specs.ToolFault.{fault_of_layers};
+    ghost use Rattle.command_base.specs.fault_text.ToolFault.{fault_of_layers};
 
     ghost from_gives = { λ fault e. e ≡ Tool (fault_of_layers fault) };
 

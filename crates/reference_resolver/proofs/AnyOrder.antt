@@ -4,7 +4,7 @@ use Rattle.std.specs.Prelude.{slice_get, swap, not, All, Any, AllPairs, IsPermut
 use Rattle.std.proofs.lemmas.Bool.{cases_eq, cases_order}
 use Rattle.std.proofs.lemmas.Option.{slice_get_within, slice_get_read, get_or_from_slice_get}
 use Rattle.std.proofs.lemmas.List.Sorted.{IsPermutation-keeps}
-use Rattle.config_match.specs.Matching.{is_match}
+use Rattle.config_precedence.specs.config_match.Matching.{is_match}
 use Rattle.overlay_map.specs.Candidates.{CandOf}
 use Rattle.reference_resolver.specs.Selection.{best_of}
 use Rattle.reference_resolver.specs.Takers.{IsTheSelected}

@@ -3,7 +3,7 @@ use Rattle.std.proofs.Common.{◌≡◌, ◌≢◌, ◌<◌, ◌+◌, inl, inr, 
 use Rattle.std.specs.Prelude.{slice_get, ◌||◌, not}
 use Rattle.std.proofs.lemmas.Bool.{cases_lt, cases_eq, cases_Bool}
 use Rattle.std.proofs.lemmas.Option.{slice_get_within}
-use Rattle.config_match.specs.Matching.{is_match}
+use Rattle.config_precedence.specs.config_match.Matching.{is_match}
 use Rattle.config_precedence.specs.Precedence.{is_better}
 use Rattle.config_precedence.proofs.Laws.{transitive}
 use Rattle.overlay_map.specs.Candidates.{CandOf}

@@ -1,7 +1,7 @@
 -- The end, look-up by look-up, is the end of a chain, and there is no other.
 use Rattle.std.proofs.Common.{◌≡◌, ◌⊎◌, ◌≤◌, ◌<◌, ◌-◌, inl, inr, ℕ, zero, suc, List, [], ◌∷◌, length, refl, sym, ◌∙◌, ap, subst, arith}
 use Rattle.overlay_map.specs.Layer.{LayerOf}
-use Rattle.res_value.specs.declared.res_id.ResId.{ResId}
+use Rattle.overlay_map.specs.res_value.declared.res_id.ResId.{ResId}
 use Rattle.reference_resolver.specs.declared.end.End.{End}
 use Rattle.reference_resolver.specs.declared.end.End.TheVariants.{TooLong}
 use Rattle.reference_resolver.specs.declared.next.Next.{Next}

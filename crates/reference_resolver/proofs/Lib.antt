@@ -5,3 +5,4 @@ pub mod AnyOrder
 pub mod Chains
 pub mod Traces
 pub mod SameTraces
+pub use Rattle.config_precedence.proofs.config_record

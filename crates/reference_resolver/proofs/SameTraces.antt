@@ -3,8 +3,8 @@ use Rattle.std.proofs.Common.{◌≡◌, ◌≢◌, ℕ, Bool, true, false, List
 use Rattle.std.specs.Prelude.{◌==◌, ◌&&◌, IsTrue}
 use Rattle.std.proofs.lemmas.Bool.{and_parts, cases_Bool, eqb-true}
 use Rattle.std.proofs.lemmas.Bool.Decides.{nat_tests}
-use Rattle.res_value.specs.declared.value.Value.{Value as Word}
-use Rattle.res_value.specs.declared.res_id.ResId.{ResId}
+use Rattle.overlay_map.specs.res_value.declared.value.Value.{Value as Word}
+use Rattle.overlay_map.specs.res_value.declared.res_id.ResId.{ResId}
 use Rattle.reference_resolver.specs.declared.step.Step.{Step}
 use Rattle.reference_resolver.specs.declared.step.Step.TheVariants.{NoMatch, KeptOut, TookOver}
 use Rattle.reference_resolver.specs.declared.end.End.{End}

@@ -3,10 +3,10 @@ use Rattle.std.proofs.Common.{◌≡◌, Bool, true, false, if◌then◌else◌,
 use Rattle.std.specs.Prelude.{not}
 use Rattle.std.specs.List.{flat_map}
 use Rattle.std.proofs.lemmas.List.{map-append}
-use Rattle.config_match.specs.declared.reason.Mismatch.{Mismatch}
-use Rattle.config_match.specs.declared.reason.Mismatch.TheVariants as mismatches
-use Rattle.config_match.specs.Matching.{is_match, mismatch_of}
-use Rattle.config_match.proofs.NoMismatch.{no_mismatch}
+use Rattle.config_precedence.specs.config_match.declared.reason.Mismatch.{Mismatch}
+use Rattle.config_precedence.specs.config_match.declared.reason.Mismatch.TheVariants as mismatches
+use Rattle.config_precedence.specs.config_match.Matching.{is_match, mismatch_of}
+use Rattle.config_precedence.proofs.config_match.NoMismatch.{no_mismatch}
 use Rattle.config_precedence.specs.Precedence.{is_better, deciding_of}
 use Rattle.overlay_map.specs.Layer.{LayerOf}
 use Rattle.overlay_map.specs.Candidates.{CandOf, candidates_of}

@@ -1,8 +1,8 @@
 -- What a candidate does to the best before it, and why. A device is the list of its numbers.
 use Rattle.std.specs.Prelude.{ℕ, not, List, Option, Some, None, if◌then◌else◌}
-use Rattle.config_match.specs.declared.reason.Mismatch.{Mismatch}
-use Rattle.config_match.specs.declared.reason.Mismatch.TheVariants as mismatches
-use Rattle.config_match.specs.Matching.{mismatch_of}
+use Rattle.config_precedence.specs.config_match.declared.reason.Mismatch.{Mismatch}
+use Rattle.config_precedence.specs.config_match.declared.reason.Mismatch.TheVariants as mismatches
+use Rattle.config_precedence.specs.config_match.Matching.{mismatch_of}
 use Rattle.config_precedence.specs.Precedence.{is_better, deciding_of}
 use Rattle.overlay_map.specs.Candidates.{CandOf}
 use Rattle.reference_resolver.specs.declared.step.Step.{Step}

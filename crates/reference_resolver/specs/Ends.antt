@@ -1,10 +1,10 @@
 -- Where a chain of references ends (AOSP: ResTable::resolveReference). An id is looked up by selection; what it
 -- selects is a reference to the next id, or the end.
 use Rattle.std.specs.Prelude.{ℕ, zero, suc, ◌≡◌, ◌≤◌, ◌⊎◌, ◌==◌, Bool, true, false, ◌&&◌, not, List, [], ◌∷◌, length, Option, Some, None, if◌then◌else◌}
-use Rattle.res_value.specs.declared.res_id.ResId.{ResId}
-use Rattle.res_value.specs.declared.value.Value.{Value}
-use Rattle.res_value.specs.Cell.{CellOf, PlainOf, BagOf}
-use Rattle.res_value.specs.Kind.{reference_kind}
+use Rattle.overlay_map.specs.res_value.declared.res_id.ResId.{ResId}
+use Rattle.overlay_map.specs.res_value.declared.value.Value.{Value}
+use Rattle.overlay_map.specs.res_value.Cell.{CellOf, PlainOf, BagOf}
+use Rattle.overlay_map.specs.res_value.Kind.{reference_kind}
 use Rattle.overlay_map.specs.Layer.{LayerOf}
 use Rattle.overlay_map.specs.Candidates.{CandOf}
 use Rattle.reference_resolver.specs.declared.end.End.{End}

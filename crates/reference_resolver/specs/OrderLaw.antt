@@ -1,6 +1,6 @@
 -- Where the order of the candidates does not matter.
 use Rattle.std.specs.Prelude.{ℕ, ◌≡◌, ◌≢◌, not, List, Option, Some, All, Any, AllPairs, IsPermutation, IsTrue, IsFalse, slice_get}
-use Rattle.config_match.specs.Matching.{is_match}
+use Rattle.config_precedence.specs.config_match.Matching.{is_match}
 use Rattle.config_precedence.specs.Precedence.{is_better}
 use Rattle.overlay_map.specs.Candidates.{CandOf}
 use Rattle.reference_resolver.specs.Takers.{IsTheSelected}

@@ -1,7 +1,7 @@
 -- Which of the candidates of an id does a device select? (AOSP: ResTable::getEntry.) A device is the list
 -- of its numbers.
 use Rattle.std.specs.Prelude.{ℕ, Bool, true, ◌&&◌, ◌||◌, List, [], ◌∷◌, Option, Some, None, if◌then◌else◌}
-use Rattle.config_match.specs.Matching.{is_match}
+use Rattle.config_precedence.specs.config_match.Matching.{is_match}
 use Rattle.config_precedence.specs.Precedence.{is_better}
 use Rattle.config_precedence.specs.EqualRecord.{is_same}
 use Rattle.overlay_map.specs.Layer.{LayerOf}

@@ -1,7 +1,7 @@
 -- Selection by the places of candidates: which of them take over, one after the other, and what it means that the
 -- others do not.
 use Rattle.std.specs.Prelude.{ℕ, ◌≡◌, ◌≤◌, ◌<◌, ◌+◌, Bool, ◌&&◌, List, [], ◌∷◌, Option, Some, None, IsTrue, IsFalse, slice_get, length}
-use Rattle.config_match.specs.Matching.{is_match}
+use Rattle.config_precedence.specs.config_match.Matching.{is_match}
 use Rattle.overlay_map.specs.Candidates.{CandOf}
 use Rattle.reference_resolver.specs.declared.step.Step.{Step}
 use Rattle.reference_resolver.specs.declared.step.Step.TheVariants.{NoMatch, KeptOut, TookOver}

@@ -2,14 +2,12 @@
 
 ghost use Rattle.std.specs.Prelude.{◌≡◌};
 ghost use Rattle.std.specs.Option.{option_map};
-ghost use Rattle.config_record.specs.DeviceSeen.{device_numbers};
+ghost use Rattle.config_precedence.specs.config_record.DeviceSeen.{device_numbers};
 ghost use Rattle.overlay_map.specs.Candidates.{cand_of};
 ghost use Rattle.reference_resolver.specs.Decision.{decision_of_match, decision_against};
 
 use crate::step::{Step, beats};
-use config_match::{Mismatch, mismatch};
-use config_precedence::{better, deciding};
-use config_record::{Coord, Device};
+use config_precedence::{Coord, Device, Mismatch, better, deciding, mismatch};
 use overlay_map::Cand;
 
 /// What a candidate does to the best before it, and why. A rule is named by its number, where one
@@ -33,7 +31,7 @@ pub enum Decision {
 impl Decision {
     ghost use Rattle.std.specs.Prelude.{◌≡◌};
     ghost use Rattle.std.specs.Option.{option_map};
-    ghost use Rattle.config_record.specs.DeviceSeen.{device_numbers};
+    ghost use Rattle.config_precedence.specs.config_record.DeviceSeen.{device_numbers};
     ghost use Rattle.overlay_map.specs.Candidates.{cand_of};
     ghost use Rattle.reference_resolver.specs.Selection.{step_of};
     ghost use Rattle.reference_resolver.specs.Decision.{decision_of, step_by};

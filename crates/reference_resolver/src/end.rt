@@ -1,6 +1,6 @@
 //! Where a chain of references ends.
 
-use res_value::{ResId, Value};
+use overlay_map::{ResId, Value};
 
 /// Where a chain of references ends.
 #[derive(Clone, Copy, Debug, PartialEq, Eq)]

@@ -28,10 +28,15 @@ mod selection;
 mod step;
 mod traced_candidates;
 
+pub use config_precedence::{Coord, Device, Locale, Record, same};
 pub use decision::Decision;
 pub use end::End;
 pub use look_ups::LookUps;
 pub use next::{Next, is_reference};
+pub use overlay_map::{
+    Cand, Cell, MOST_LAYERS, MapRows, Package, PackageRows, Pool, ResId, Row, Stack, Table, Value,
+    kind, write_string,
+};
 pub use references::{REFERENCES_FOLLOWED, resolve, resolve_within};
 pub use selection::select;
 pub use step::Step;

@@ -2,9 +2,8 @@
 
 use crate::next::Next;
 use crate::references::{REFERENCES_FOLLOWED, next_within};
-use config_record::Device;
-use overlay_map::Stack;
-use res_value::ResId;
+use config_precedence::Device;
+use overlay_map::{ResId, Stack};
 use std::marker::Model;
 
 /// The ids that are still to be looked up at a device, one after the other. Contracts see them as a list.
@@ -20,7 +19,7 @@ pub struct LookUps<'s, 'a> {
 
 impl<'s, 'a> Model for LookUps<'s, 'a> {
     ghost use Rattle.std.specs.Prelude.{ℕ, List};
-    ghost use Rattle.config_record.specs.DeviceSeen.{device_numbers};
+    ghost use Rattle.config_precedence.specs.config_record.DeviceSeen.{device_numbers};
     ghost use Rattle.reference_resolver.specs.Trace.{look_ups_from};
 
     ghost Value = { List ℕ };
@@ -30,7 +29,7 @@ impl<'s, 'a> Model for LookUps<'s, 'a> {
 
 impl<'s, 'a> LookUps<'s, 'a> {
     ghost use Rattle.std.specs.Prelude.{◌≡◌};
-    ghost use Rattle.config_record.specs.DeviceSeen.{device_numbers};
+    ghost use Rattle.config_precedence.specs.config_record.DeviceSeen.{device_numbers};
     ghost use Rattle.reference_resolver.specs.Ends.{references_followed};
     ghost use Rattle.reference_resolver.specs.Trace.{look_ups_of};
 

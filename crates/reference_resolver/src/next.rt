@@ -4,8 +4,7 @@ ghost use Rattle.std.specs.Prelude.{◌≡◌};
 ghost use Rattle.reference_resolver.specs.Ends.{is_reference};
 
 use crate::end::End;
-use overlay_map::Cand;
-use res_value::{Cell, ResId, Value, kind};
+use overlay_map::{Cand, Cell, ResId, Value, kind};
 
 /// Where the look-up of an id leads.
 #[derive(Clone, Copy, Debug, PartialEq, Eq)]

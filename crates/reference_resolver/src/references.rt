@@ -1,15 +1,14 @@
 //! Where the references of an id lead.
 
 ghost use Rattle.std.specs.Prelude.{◌≡◌};
-ghost use Rattle.config_record.specs.DeviceSeen.{device_numbers};
+ghost use Rattle.config_precedence.specs.config_record.DeviceSeen.{device_numbers};
 ghost use Rattle.reference_resolver.specs.Ends.{references_followed, next_within, end_of, IsTheEnd};
 
 use crate::end::End;
 use crate::next::Next;
 use crate::selection::select;
-use config_record::Device;
-use overlay_map::Stack;
-use res_value::ResId;
+use config_precedence::Device;
+use overlay_map::{ResId, Stack};
 
 /// How many references are followed, at most.
 pub const REFERENCES_FOLLOWED: u8 = 20;

@@ -2,16 +2,15 @@
 
 ghost use Rattle.std.specs.Prelude.{◌≡◌};
 ghost use Rattle.std.specs.Option.{option_map};
-ghost use Rattle.config_record.specs.DeviceSeen.{device_numbers};
+ghost use Rattle.config_precedence.specs.config_record.DeviceSeen.{device_numbers};
 ghost use Rattle.overlay_map.specs.Candidates.{cand_of, candidates_of};
 ghost use Rattle.reference_resolver.specs.Selection.{selected};
 ghost use Rattle.reference_resolver.specs.Takers.{IsTheSelected};
 ghost use Rattle.reference_resolver.specs.OrderLaw.{OrderDoesNotMatter};
 
 use crate::step::Step;
-use config_record::Device;
-use overlay_map::{Cand, Stack};
-use res_value::ResId;
+use config_precedence::Device;
+use overlay_map::{Cand, ResId, Stack};
 
 /// The candidate of an id that a device selects (AOSP: `ResTable::getEntry`): the first that matches, or
 /// the last of those that take over, each from the one before it. It is none where none matches.

@@ -2,13 +2,11 @@
 
 ghost use Rattle.std.specs.Prelude.{◌≡◌};
 ghost use Rattle.std.specs.Option.{option_map};
-ghost use Rattle.config_record.specs.DeviceSeen.{device_numbers};
+ghost use Rattle.config_precedence.specs.config_record.DeviceSeen.{device_numbers};
 ghost use Rattle.overlay_map.specs.Candidates.{cand_of};
 ghost use Rattle.reference_resolver.specs.Selection.{beats, beats_best, step_of};
 
-use config_match::matches;
-use config_precedence::{better, same};
-use config_record::Device;
+use config_precedence::{Device, better, matches, same};
 use overlay_map::Cand;
 
 /// What a candidate does to the best so far.
@@ -24,7 +22,7 @@ pub enum Step {
 
 impl Step {
     ghost use Rattle.std.specs.Option.{option_map};
-    ghost use Rattle.config_record.specs.DeviceSeen.{device_numbers};
+    ghost use Rattle.config_precedence.specs.config_record.DeviceSeen.{device_numbers};
     ghost use Rattle.overlay_map.specs.Candidates.{cand_of};
     ghost use Rattle.reference_resolver.specs.Selection.{step_of, best_after};
 

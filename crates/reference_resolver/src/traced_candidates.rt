@@ -1,9 +1,8 @@
 //! The candidates of a look-up, and what each does.
 
 use crate::decision::Decision;
-use config_record::Device;
-use overlay_map::{Cand, Cands, Stack};
-use res_value::ResId;
+use config_precedence::Device;
+use overlay_map::{Cand, Cands, ResId, Stack};
 use std::marker::Model;
 
 /// A candidate, and what it does to the best before it.
@@ -26,7 +25,7 @@ pub struct TracedCandidates<'s, 'a> {
 impl<'s, 'a> Model for TracedCandidates<'s, 'a> {
     ghost use Rattle.std.specs.Prelude.{List};
     ghost use Rattle.std.specs.Option.{option_map};
-    ghost use Rattle.config_record.specs.DeviceSeen.{device_numbers};
+    ghost use Rattle.config_precedence.specs.config_record.DeviceSeen.{device_numbers};
     ghost use Rattle.overlay_map.specs.Candidates.{cand_of};
     ghost use Rattle.reference_resolver.specs.Selection.{scan_candidates};
     ghost use Rattle.reference_resolver.specs.Trace.{TracedCandidateOf, traced};
@@ -38,7 +37,7 @@ impl<'s, 'a> Model for TracedCandidates<'s, 'a> {
 
 impl<'s, 'a> TracedCandidates<'s, 'a> {
     ghost use Rattle.std.specs.Prelude.{◌≡◌, ◌<◌, ◌^◌, length};
-    ghost use Rattle.config_record.specs.DeviceSeen.{device_numbers};
+    ghost use Rattle.config_precedence.specs.config_record.DeviceSeen.{device_numbers};
     ghost use Rattle.reference_resolver.specs.Trace.{traced, scan_look_up};
 
     /// The candidates of an id, in their order, and what each of them does at a device to the best of those

@@ -7,3 +7,4 @@ pub mod Complex
 pub mod ValueText
 pub mod MapRows
 pub mod Cell
+pub use Rattle.chunk_walk.specs as chunk_walk

@@ -23,6 +23,8 @@ mod value_text;
 mod word;
 
 pub use cell::Cell;
+pub use chunk_walk::ChunkFault;
+pub use hex_text::write_hex;
 pub use map_rows::{MapRows, MapRowsFault, ROW_SIZE};
 pub use res_id::{ResId, write_id};
 pub use value::Value;

@@ -6,11 +6,11 @@ use Rattle.std.proofs.lemmas.List.{reverse-append, reverse-reverse}
 use Rattle.std.proofs.lemmas.List.Sums.{sum_by-cons}
 use Rattle.contract_words.specs.Sequences.{with_front}
 use Rattle.contract_words.proofs.SequenceSteps.{with_front_nil}
-use Rattle.chunk_walk.specs.Chunk.{ChunkOf}
-use Rattle.chunk_walk.specs.Chunks.{children_of}
-use Rattle.chunk_walk.specs.declared.chunk.ChunkFault.{ChunkFault}
-use Rattle.string_pool.specs.Pool.{pool_of}
-use Rattle.string_pool.specs.declared.pool.Pool.{Pool}
+use Rattle.type_chunks.specs.chunk_walk.Chunk.{ChunkOf}
+use Rattle.type_chunks.specs.chunk_walk.Chunks.{children_of}
+use Rattle.type_chunks.specs.chunk_walk.declared.chunk.ChunkFault.{ChunkFault}
+use Rattle.type_chunks.specs.string_pool.Pool.{pool_of}
+use Rattle.type_chunks.specs.string_pool.declared.pool.Pool.{Pool}
 use Rattle.type_chunks.specs.declared.fault.TableFault.{TableFault}
 use Rattle.resource_table.specs.declared.known_children.KnownChildren.{KnownChildren}
 use Rattle.resource_table.specs.TablePools.{pool_of_chunk}

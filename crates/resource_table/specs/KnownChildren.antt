@@ -1,10 +1,10 @@
 -- What the code keeps of the chunks of a table on its way through them. Contracts within the crate
 -- alone speak of this.
 use Rattle.std.specs.Prelude.{◌≡◌, List, reverse, Option, Some, None, Result, Ok, count_by}
-use Rattle.chunk_walk.specs.Chunk.{ChunkOf}
-use Rattle.chunk_walk.specs.declared.chunk.ChunkFault.{ChunkFault}
-use Rattle.string_pool.specs.Pool.{PoolOf, pool_of, empty_pool}
-use Rattle.string_pool.specs.declared.pool.Pool.{Pool}
+use Rattle.type_chunks.specs.chunk_walk.Chunk.{ChunkOf}
+use Rattle.type_chunks.specs.chunk_walk.declared.chunk.ChunkFault.{ChunkFault}
+use Rattle.type_chunks.specs.string_pool.Pool.{PoolOf, pool_of, empty_pool}
+use Rattle.type_chunks.specs.string_pool.declared.pool.Pool.{Pool}
 use Rattle.resource_table.specs.declared.known_children.KnownChildren.{KnownChildren}
 use Rattle.resource_table.specs.TablePools.{pool_of_chunk}
 use Rattle.resource_table.specs.Table.{is_package, first_pool}

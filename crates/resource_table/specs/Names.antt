@@ -2,10 +2,10 @@
 use Rattle.std.specs.Prelude.{ℕ, ◌+◌, ◌-◌, Bool, false, ◌&&◌, List, find, slice_get, Option, Some, None, Result, Ok, Err, nat_lt}
 use Rattle.std.specs.Option.{option_map}
 use Rattle.contract_words.specs.Faults.{◌>>=◌, refuse}
-use Rattle.res_value.specs.ResId.{type_of}
-use Rattle.string_pool.specs.Text.{TextOf, text_in, is_text_of}
-use Rattle.string_pool.specs.declared.fault.StringFault.{StringFault}
-use Rattle.string_pool.specs.declared.fault.StringFault.TheVariants.{NoSuch}
+use Rattle.type_chunks.specs.res_value.ResId.{type_of}
+use Rattle.type_chunks.specs.string_pool.Text.{TextOf, text_in, is_text_of}
+use Rattle.type_chunks.specs.string_pool.declared.fault.StringFault.{StringFault}
+use Rattle.type_chunks.specs.string_pool.declared.fault.StringFault.TheVariants.{NoSuch}
 use Rattle.type_chunks.specs.Row.{RowOf}
 use Rattle.resource_table.specs.Package.{PackageOf}
 use Rattle.resource_table.specs.Table.{TableOf, rows_of}

@@ -2,11 +2,11 @@
 use Rattle.std.specs.Prelude.{ℕ, ◌%◌, Bool, false, ◌&&◌, ◌||◌, not, List, [], ◌∷◌, map, ◌==◌, length, take, drop, Result, Ok, Err, nat_lt, if◌then◌else◌}
 use Rattle.std.specs.List.{flat_map}
 use Rattle.contract_words.specs.Faults.{◌>>=◌, refuse}
-use Rattle.chunk_walk.specs.Number.{number}
-use Rattle.chunk_walk.specs.Chunk.{ChunkOf, chunk_within}
-use Rattle.chunk_walk.specs.declared.chunk.ChunkFault.TheVariants.{HeaderShort}
-use Rattle.string_pool.specs.Pool.{PoolOf, pool_of, empty_pool}
-use Rattle.string_pool.specs.Text.{TextOf, text_of}
+use Rattle.type_chunks.specs.chunk_walk.Number.{number}
+use Rattle.type_chunks.specs.chunk_walk.Chunk.{ChunkOf, chunk_within}
+use Rattle.type_chunks.specs.chunk_walk.declared.chunk.ChunkFault.TheVariants.{HeaderShort}
+use Rattle.type_chunks.specs.string_pool.Pool.{PoolOf, pool_of, empty_pool}
+use Rattle.type_chunks.specs.string_pool.Text.{TextOf, text_of}
 use Rattle.type_chunks.specs.declared.fault.TableFault.{TableFault}
 use Rattle.type_chunks.specs.declared.fault.TableFault.TheVariants as faults
 use Rattle.resource_table.specs.declared.package.Package.{Package}

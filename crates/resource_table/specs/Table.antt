@@ -2,10 +2,10 @@
 use Rattle.std.specs.Prelude.{ℕ, ◌&&◌, not, List, [], ◌∷◌, reverse, Bool, false, ◌==◌, count_by, find, Option, Some, None, is_none, Result, Ok, Err, if◌then◌else◌}
 use Rattle.contract_words.specs.Faults.{◌>>=◌, refuse}
 use Rattle.contract_words.specs.Sequences.{joined_each, with_before}
-use Rattle.chunk_walk.specs.Chunk.{ChunkOf, chunk_in}
-use Rattle.chunk_walk.specs.Chunks.{children_of}
-use Rattle.chunk_walk.specs.declared.chunk.ChunkFault.{ChunkFault}
-use Rattle.string_pool.specs.Pool.{PoolOf, empty_pool}
+use Rattle.type_chunks.specs.chunk_walk.Chunk.{ChunkOf, chunk_in}
+use Rattle.type_chunks.specs.chunk_walk.Chunks.{children_of}
+use Rattle.type_chunks.specs.chunk_walk.declared.chunk.ChunkFault.{ChunkFault}
+use Rattle.type_chunks.specs.string_pool.Pool.{PoolOf, empty_pool}
 use Rattle.type_chunks.specs.declared.fault.TableFault.{TableFault}
 use Rattle.type_chunks.specs.declared.fault.TableFault.TheVariants as faults
 use Rattle.resource_table.specs.Layout.{pool_kind, table_kind, package_kind, least_table_header}

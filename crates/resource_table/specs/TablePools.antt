@@ -1,9 +1,9 @@
 -- String pools in a table, whose faults are the table's.
 use Rattle.std.specs.Prelude.{Result, Ok, Err}
-use Rattle.chunk_walk.specs.Chunk.{ChunkOf}
-use Rattle.string_pool.specs.Pool.{PoolOf, pool_of, pool_in}
-use Rattle.string_pool.specs.declared.pool.Pool.{Pool}
-use Rattle.string_pool.specs.declared.fault.PoolFault.{PoolFault}
+use Rattle.type_chunks.specs.chunk_walk.Chunk.{ChunkOf}
+use Rattle.type_chunks.specs.string_pool.Pool.{PoolOf, pool_of, pool_in}
+use Rattle.type_chunks.specs.string_pool.declared.pool.Pool.{Pool}
+use Rattle.type_chunks.specs.string_pool.declared.fault.PoolFault.{PoolFault}
 use Rattle.type_chunks.specs.declared.fault.TableFault.{TableFault}
 use Rattle.type_chunks.specs.declared.fault.TableFault.TheVariants as faults
 

@@ -1,10 +1,10 @@
 //! What is known of the chunks of a table, on the way through them.
 
 ghost use Rattle.std.specs.Prelude.{◌≡◌, []};
-ghost use Rattle.string_pool.specs.Pool.{pool_of};
+ghost use Rattle.type_chunks.specs.string_pool.Pool.{pool_of};
 ghost use Rattle.resource_table.specs.KnownChildren.{KnowsChildren, or_empty};
 
-use string_pool::Pool;
+use type_chunks::Pool;
 
 /// What the chunks so far are.
 #[derive(Clone, Copy, Debug)]

@@ -32,3 +32,7 @@ pub use package::Package;
 pub use package_rows::PackageRows;
 pub use rows::{AllRows, Rows};
 pub use table::Table;
+pub use type_chunks::{
+    Cell, CheckedType, Coord, DeviceFault, MapRows, Pool, PoolFault, ResId, Row, TableFault, Value,
+    kind, write_string,
+};

@@ -3,15 +3,13 @@
 
 ghost use Rattle.std.specs.Prelude.{◌≡◌};
 ghost use Rattle.std.specs.Option.{option_map};
-ghost use Rattle.string_pool.specs.Text.{seen_text};
+ghost use Rattle.type_chunks.specs.string_pool.Text.{seen_text};
 ghost use Rattle.type_chunks.specs.Row.{row_of};
 ghost use Rattle.resource_table.specs.Package.{package_of};
 ghost use Rattle.resource_table.specs.Names.{type_name_in, key_name_in, is_name, has_names, found_in};
 
 use crate::table::Table;
-use res_value::ResId;
-use string_pool::{StringFault, Text};
-use type_chunks::Row;
+use type_chunks::{ResId, Row, StringFault, Text};
 
 impl<'a> Table<'a> {
     /// The name of a row's type, as `string` or `layout`. `NoSuch` also where the table has no such

@@ -4,10 +4,8 @@ ghost use Rattle.std.specs.Prelude.{◌≡◌};
 
 use crate::package_header::PackageHeader;
 use crate::package_rows::PackageRows;
-use chunk_walk::Chunk;
 use std::alloc::Global;
-use string_pool::Text;
-use type_chunks::{Owner, PackageTypes, TableFault, Types, types_of_children};
+use type_chunks::{Chunk, Owner, PackageTypes, TableFault, Text, Types, types_of_children};
 
 /// A package (AOSP: `ResTable_package`): its rows, with their names.
 #[derive(Debug, Drop)]
@@ -17,9 +15,9 @@ pub struct Package<'a> {
 }
 
 impl<'a> Package<'a> {
-    ghost use Rattle.chunk_walk.specs.Chunk.{chunk_of};
+    ghost use Rattle.type_chunks.specs.chunk_walk.Chunk.{chunk_of};
     ghost use Rattle.contract_words.specs.Exact.{GivesOr};
-    ghost use Rattle.string_pool.specs.Text.{text_of};
+    ghost use Rattle.type_chunks.specs.string_pool.Text.{text_of};
     ghost use Rattle.type_chunks.specs.declared.fault.TableFault.TheVariants.{OutOfMemory};
     ghost use Rattle.type_chunks.specs.TypeRows.{rows_of_each};
     ghost use Rattle.resource_table.specs.Package.{package_of, package_in};

@@ -1,8 +1,8 @@
 //! The headers of packages, and what they say of names.
 
 ghost use Rattle.std.specs.Prelude.{◌≡◌, ◌≤◌, length};
-ghost use Rattle.chunk_walk.specs.Chunk.{chunk_of};
-ghost use Rattle.string_pool.specs.Text.{text_of};
+ghost use Rattle.type_chunks.specs.chunk_walk.Chunk.{chunk_of};
+ghost use Rattle.type_chunks.specs.string_pool.Text.{text_of};
 ghost use Rattle.resource_table.specs.Layout.{least_package_header};
 ghost use Rattle.resource_table.specs.Package.{before_zero, name_in, names_at, names_in, type_id_offset_in};
 ghost use Rattle.resource_table.specs.Units.{has_unit};
@@ -10,9 +10,7 @@ ghost use Rattle.resource_table.specs.TablePools.{seen_table_pool};
 
 use crate::layout::{kind, package_header as header};
 use crate::pool::open_pool;
-use chunk_walk::{ALIGNMENT, Chunk, ChunkFault, u32_within};
-use string_pool::{Pool, Text};
-use type_chunks::TableFault;
+use type_chunks::{ALIGNMENT, Chunk, ChunkFault, Pool, TableFault, Text, u32_within};
 
 /// The header of a package, and the names that it leads to.
 #[derive(Clone, Copy, Debug)]

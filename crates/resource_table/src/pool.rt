@@ -1,12 +1,10 @@
 //! String pools in a table.
 
 ghost use Rattle.std.specs.Prelude.{◌≡◌};
-ghost use Rattle.chunk_walk.specs.Chunk.{chunk_of};
+ghost use Rattle.type_chunks.specs.chunk_walk.Chunk.{chunk_of};
 ghost use Rattle.resource_table.specs.TablePools.{seen_table_pool, pool_of_chunk};
 
-use chunk_walk::Chunk;
-use string_pool::Pool;
-use type_chunks::TableFault;
+use type_chunks::{Chunk, Pool, TableFault};
 
 /// Opens the pool that a chunk is; its fault is given with the place of the chunk.
 pub(crate) fn open_pool<'a>(chunk: &Chunk<'a>) -> Result<Pool<'a>, TableFault>

@@ -7,10 +7,9 @@ ghost use Rattle.type_chunks.specs.Row.{row_of};
 
 use crate::package::Package;
 use crate::package_rows::PackageRows;
-use res_value::ResId;
 use std::marker::Model;
 use std::slice::Iter;
-use type_chunks::Row;
+use type_chunks::{ResId, Row};
 
 /// All rows of a table that are left, in the order of the file.
 #[derive(Drop)]

@@ -1,11 +1,11 @@
 //! Tables.
 
 ghost use Rattle.std.specs.Prelude.{◌≡◌, ℕ, ◌+◌, ◌<◌, ◌≤◌, ◌^◌, ◌∷◌, List, Result, OnOk, length};
-ghost use Rattle.chunk_walk.specs.Chunk.{ChunkOf, chunk_of, seen};
-ghost use Rattle.chunk_walk.specs.declared.chunk.ChunkFault.{ChunkFault};
+ghost use Rattle.type_chunks.specs.chunk_walk.Chunk.{ChunkOf, chunk_of, seen};
+ghost use Rattle.type_chunks.specs.chunk_walk.declared.chunk.ChunkFault.{ChunkFault};
 ghost use Rattle.contract_words.specs.Exact.{GivesOr};
 ghost use Rattle.contract_words.specs.Sequences.{Pushes};
-ghost use Rattle.string_pool.specs.Pool.{pool_of};
+ghost use Rattle.type_chunks.specs.string_pool.Pool.{pool_of};
 ghost use Rattle.type_chunks.specs.declared.fault.TableFault.TheVariants.{OutOfMemory};
 ghost use Rattle.type_chunks.specs.Row.{with_id};
 ghost use Rattle.resource_table.specs.Package.{packages_of};
@@ -17,12 +17,9 @@ use crate::layout::{kind, table_header};
 use crate::package::Package;
 use crate::pool::open_pool;
 use crate::rows::{AllRows, Rows};
-use chunk_walk::{Chunk, ChunkFault, chunk_at};
-use res_value::ResId;
 use std::alloc::Global;
 use std::marker::Model;
-use string_pool::Pool;
-use type_chunks::TableFault;
+use type_chunks::{Chunk, ChunkFault, Pool, ResId, TableFault, chunk_at};
 
 /// A resource table (AOSP: `ResTable`), whose bytes are lent by the input. Contracts see it as its
 /// packages with their rows, in the order of the file, and the strings of its values.
@@ -36,7 +33,7 @@ pub struct Table<'a> {
 impl<'a> Model for Table<'a> {
     ghost use Rattle.resource_table.specs.Table.{TableOf};
     ghost use Rattle.resource_table.specs.Package.{packages_of};
-    ghost use Rattle.string_pool.specs.Pool.{pool_of};
+    ghost use Rattle.type_chunks.specs.string_pool.Pool.{pool_of};
 
     ghost Value = { TableOf };
 

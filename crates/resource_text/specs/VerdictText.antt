@@ -1,10 +1,10 @@
 -- The verdict on a certificate as text.
 use Rattle.std.specs.Prelude.{ℕ, List, [], ◌∷◌, ◌++◌, codes, length}
 use Rattle.std.specs.Fmt.{decimal}
-use Rattle.config_record.specs.DeviceSeen.{device_numbers}
-use Rattle.config_record.specs.Qualifiers.{device_text}
-use Rattle.reference_resolver.specs.declared.end.End.{End}
-use Rattle.cert_tree.specs.Certificate.{GoalOf, node_count}
+use Rattle.answer_text.specs.config_record.DeviceSeen.{device_numbers}
+use Rattle.answer_text.specs.config_record.Qualifiers.{device_text}
+use Rattle.answer_text.specs.reference_resolver.declared.end.End.{End}
+use Rattle.cert_checker.specs.cert_tree.Certificate.{GoalOf, node_count}
 use Rattle.cert_checker.specs.declared.verdict.Shown.{Shown}
 use Rattle.cert_checker.specs.declared.verdict.Shown.TheVariants.{Nothing, Two, One}
 use Rattle.cert_checker.specs.declared.verdict.Verdict.{Verdict}

@@ -2,20 +2,20 @@
 use Rattle.std.proofs.Common.{◌≡◌, ℕ, List, Option, Result, Ok, Err, ap, subst, ◌∙◌}
 use Rattle.std.specs.Io.KnownBytes.{Appends}
 use Rattle.contract_words.specs.Faults.{◌>>=◌}
-use Rattle.res_value.specs.declared.res_id.ResId.{ResId}
-use Rattle.box_answers.specs.NumberSet.{SetOf}
-use Rattle.config_box.specs.declared.box_fault.BoxFault.{BoxFault}
-use Rattle.config_box.specs.BoxJson.{box_in}
-use Rattle.overlay_map.specs.Layer.{LayerOf}
-use Rattle.cert_tree.specs.declared.cert_fault.CertFault.{CertFault}
-use Rattle.cert_tree.specs.Certificate.{GoalOf}
-use Rattle.cert_tree.specs.CertJson.{cert_in}
-use Rattle.fault_text.specs.declared.fault.ToolFault.{ToolFault}
-use Rattle.fault_text.specs.ToolFault.{fault_of_box, fault_of_certificate}
-use Rattle.command_base.specs.declared.status.Status.{Status}
-use Rattle.command_base.specs.Output.{PrintsOneOf}
-use Rattle.command_base.specs.StackBytes.{LayerBytes, stack_in}
-use Rattle.command_base.specs.MapErr.{map_err}
+use Rattle.cert_maker.specs.res_value.declared.res_id.ResId.{ResId}
+use Rattle.cert_maker.specs.box_answers.NumberSet.{SetOf}
+use Rattle.cert_maker.specs.config_box.declared.box_fault.BoxFault.{BoxFault}
+use Rattle.cert_maker.specs.config_box.BoxJson.{box_in}
+use Rattle.table_commands.specs.overlay_map.Layer.{LayerOf}
+use Rattle.cert_maker.specs.cert_tree.declared.cert_fault.CertFault.{CertFault}
+use Rattle.cert_maker.specs.cert_tree.Certificate.{GoalOf}
+use Rattle.cert_maker.specs.cert_tree.CertJson.{cert_in}
+use Rattle.table_commands.specs.fault_text.declared.fault.ToolFault.{ToolFault}
+use Rattle.table_commands.specs.fault_text.ToolFault.{fault_of_box, fault_of_certificate}
+use Rattle.table_commands.specs.command_base.declared.status.Status.{Status}
+use Rattle.table_commands.specs.command_base.Output.{PrintsOneOf}
+use Rattle.table_commands.specs.command_base.StackBytes.{LayerBytes, stack_in}
+use Rattle.table_commands.specs.command_base.MapErr.{map_err}
 use Rattle.resource_tool.specs.CheckOutput.{CheckInputs, check_inputs, IsCheckOutput}
 use Rattle.resource_tool.specs.CheckHeadline.{HeadlineHolds}
 

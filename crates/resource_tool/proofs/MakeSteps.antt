@@ -1,16 +1,16 @@
 -- What was made is printed, and a certificate reads back.
 use Rattle.std.proofs.Common.{◌≡◌, ℕ, ◌≤◌, List, Option, Result, Ok, Err, OnOk, arith, ap, subst, sym, refl, ◌∙◌}
-use Rattle.res_value.specs.declared.res_id.ResId.{ResId}
-use Rattle.cert_tree.specs.Certificate.{goals_of, most_nodes}
+use Rattle.cert_maker.specs.res_value.declared.res_id.ResId.{ResId}
+use Rattle.cert_maker.specs.cert_tree.Certificate.{goals_of, most_nodes}
 use Rattle.cert_maker.specs.declared.made.Made.{Made}
 use Rattle.cert_maker.specs.declared.made.Made.TheVariants.{Cert, Counter, NodeLimit}
 use Rattle.cert_maker.specs.Made.{IsMade, CanBeWritten}
 use Rattle.cert_maker.specs.Least.{IsLeast}
-use Rattle.fault_text.specs.declared.fault.ToolFault.{ToolFault}
-use Rattle.fault_text.specs.declared.fault.ToolFault.TheVariants as faults
-use Rattle.command_base.specs.declared.status.Status.{Status}
-use Rattle.command_base.specs.declared.status.Status.TheVariants.{Done, Negative}
-use Rattle.command_base.specs.Output.{Output, Prints, PrintsOneOf}
+use Rattle.table_commands.specs.fault_text.declared.fault.ToolFault.{ToolFault}
+use Rattle.table_commands.specs.fault_text.declared.fault.ToolFault.TheVariants as faults
+use Rattle.table_commands.specs.command_base.declared.status.Status.{Status}
+use Rattle.table_commands.specs.command_base.declared.status.Status.TheVariants.{Done, Negative}
+use Rattle.table_commands.specs.command_base.Output.{Output, Prints, PrintsOneOf}
 use Rattle.resource_tool.specs.CheckOutput.{goals_asked}
 use Rattle.resource_tool.specs.MakeOutput.{MakeInputs, IsReadAccepted, IsMakeOutput, made_output, made_text}
 use Rattle.resource_tool.specs.LineReadsBack.{LineReadsBack}

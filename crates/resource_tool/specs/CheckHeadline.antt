@@ -1,16 +1,16 @@
 -- What a verdict on a certificate promises, from the bytes of all inputs.
 use Rattle.std.specs.Prelude.{◌≡◌, ℕ, List, Option, Ok}
 use Rattle.std.specs.Io.KnownBytes.{Appends}
-use Rattle.res_value.specs.declared.res_id.ResId.{ResId}
-use Rattle.box_answers.specs.NumberSet.{SetOf}
-use Rattle.config_box.specs.BoxJson.{box_in}
-use Rattle.overlay_map.specs.Layer.{LayerOf}
-use Rattle.cert_tree.specs.Certificate.{GoalOf}
-use Rattle.cert_tree.specs.CertJson.{cert_in}
-use Rattle.cert_checker.specs.declared.verdict.Verdict.{Verdict}
-use Rattle.cert_checker.specs.Headline.{Headline}
-use Rattle.command_base.specs.declared.status.Status.{Status}
-use Rattle.command_base.specs.StackBytes.{LayerBytes, stack_in}
+use Rattle.cert_maker.specs.res_value.declared.res_id.ResId.{ResId}
+use Rattle.cert_maker.specs.box_answers.NumberSet.{SetOf}
+use Rattle.cert_maker.specs.config_box.BoxJson.{box_in}
+use Rattle.table_commands.specs.overlay_map.Layer.{LayerOf}
+use Rattle.cert_maker.specs.cert_tree.Certificate.{GoalOf}
+use Rattle.cert_maker.specs.cert_tree.CertJson.{cert_in}
+use Rattle.cert_maker.specs.cert_checker.declared.verdict.Verdict.{Verdict}
+use Rattle.cert_maker.specs.cert_checker.Headline.{Headline}
+use Rattle.table_commands.specs.command_base.declared.status.Status.{Status}
+use Rattle.table_commands.specs.command_base.StackBytes.{LayerBytes, stack_in}
 use Rattle.resource_tool.specs.CheckOutput.{goals_asked, status_of_verdict, check_text}
 
 -- The bytes mean layers, a box and a certificate, and a verdict was printed, of which the headline holds: if the checker

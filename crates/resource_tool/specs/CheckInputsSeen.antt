@@ -1,5 +1,5 @@
 -- How contracts see the inputs of a check.
-use Rattle.cert_tree.specs.Certificate.{goals_of}
+use Rattle.cert_maker.specs.cert_tree.Certificate.{goals_of}
 use Rattle.resource_tool.specs.declared.check.Inputs.{Inputs}
 use Rattle.resource_tool.specs.CheckOutput.{CheckInputs}
 

@@ -1,28 +1,28 @@
 -- What the command `check` prints.
 use Rattle.std.specs.Prelude.{◌≡◌, ℕ, ◌++◌, List, map, Result, Ok}
 use Rattle.contract_words.specs.Faults.{◌>>=◌}
-use Rattle.res_value.specs.declared.res_id.ResId.{ResId}
-use Rattle.box_answers.specs.NumberSet.{SetOf}
-use Rattle.config_box.specs.BoxJson.{box_in}
-use Rattle.overlay_map.specs.Layer.{LayerOf}
-use Rattle.overlay_map.specs.SetAside.{set_aside_in_stack}
-use Rattle.cert_tree.specs.declared.goal.Goal.{Goal}
-use Rattle.cert_tree.specs.declared.goal.Goal.TheVariants.{Id}
-use Rattle.cert_tree.specs.Certificate.{GoalOf}
-use Rattle.cert_tree.specs.CertJson.{cert_in}
-use Rattle.cert_checker.specs.declared.verdict.Verdict.{Verdict}
-use Rattle.cert_checker.specs.declared.verdict.Verdict.TheVariants.{Accepted, Rejected}
-use Rattle.cert_checker.specs.Verdict.{IsVerdict}
-use Rattle.cert_checker.specs.Headline.{Headline}
-use Rattle.fault_text.specs.declared.fault.ToolFault.{ToolFault}
-use Rattle.fault_text.specs.ToolFault.{fault_of_box, fault_of_certificate}
-use Rattle.answer_text.specs.QueryText.{set_aside_line}
+use Rattle.cert_maker.specs.res_value.declared.res_id.ResId.{ResId}
+use Rattle.cert_maker.specs.box_answers.NumberSet.{SetOf}
+use Rattle.cert_maker.specs.config_box.BoxJson.{box_in}
+use Rattle.table_commands.specs.overlay_map.Layer.{LayerOf}
+use Rattle.table_commands.specs.overlay_map.SetAside.{set_aside_in_stack}
+use Rattle.cert_maker.specs.cert_tree.declared.goal.Goal.{Goal}
+use Rattle.cert_maker.specs.cert_tree.declared.goal.Goal.TheVariants.{Id}
+use Rattle.cert_maker.specs.cert_tree.Certificate.{GoalOf}
+use Rattle.cert_maker.specs.cert_tree.CertJson.{cert_in}
+use Rattle.cert_maker.specs.cert_checker.declared.verdict.Verdict.{Verdict}
+use Rattle.cert_maker.specs.cert_checker.declared.verdict.Verdict.TheVariants.{Accepted, Rejected}
+use Rattle.cert_maker.specs.cert_checker.Verdict.{IsVerdict}
+use Rattle.cert_maker.specs.cert_checker.Headline.{Headline}
+use Rattle.table_commands.specs.fault_text.declared.fault.ToolFault.{ToolFault}
+use Rattle.table_commands.specs.fault_text.ToolFault.{fault_of_box, fault_of_certificate}
+use Rattle.table_commands.specs.answer_text.QueryText.{set_aside_line}
 use Rattle.resource_text.specs.VerdictText.{verdict_text}
-use Rattle.command_base.specs.declared.status.Status.{Status}
-use Rattle.command_base.specs.declared.status.Status.TheVariants.{Done, Negative}
-use Rattle.command_base.specs.Output.{Output}
-use Rattle.command_base.specs.StackBytes.{LayerBytes, stack_in}
-use Rattle.command_base.specs.MapErr.{map_err}
+use Rattle.table_commands.specs.command_base.declared.status.Status.{Status}
+use Rattle.table_commands.specs.command_base.declared.status.Status.TheVariants.{Done, Negative}
+use Rattle.table_commands.specs.command_base.Output.{Output}
+use Rattle.table_commands.specs.command_base.StackBytes.{LayerBytes, stack_in}
+use Rattle.table_commands.specs.command_base.MapErr.{map_err}
 
 -- ---- the inputs
 

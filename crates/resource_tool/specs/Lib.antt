@@ -3,3 +3,6 @@ pub mod CheckHeadline
 pub mod CheckInputsSeen
 pub mod MakeOutput
 pub mod LineReadsBack
+pub use Rattle.cert_maker.specs.cert_tree
+pub use Rattle.device_commands.specs as device_commands
+pub use Rattle.table_commands.specs as table_commands

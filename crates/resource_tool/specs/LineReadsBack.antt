@@ -1,7 +1,7 @@
 -- The line of a certificate, read again. (Cited by contracts of this crate alone.)
 use Rattle.std.specs.Prelude.{◌≡◌, Ok}
-use Rattle.cert_tree.specs.Certificate.{CertFits, goals_of}
-use Rattle.cert_tree.specs.CertJson.{cert_in}
+use Rattle.cert_maker.specs.cert_tree.Certificate.{CertFits, goals_of}
+use Rattle.cert_maker.specs.cert_tree.CertJson.{cert_in}
 use Rattle.cert_maker.specs.declared.made.Made.{Made}
 use Rattle.cert_maker.specs.declared.made.Made.TheVariants.{Cert, Counter, NodeLimit}
 use Rattle.resource_tool.specs.MakeOutput.{certificate_line}

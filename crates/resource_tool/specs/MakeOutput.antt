@@ -3,28 +3,28 @@ use Rattle.std.specs.Prelude.{◌≡◌, ℕ, ◌≤◌, List, [], ◌∷◌, �
 use Rattle.std.specs.Fmt.{decimal}
 use Rattle.serde_json.specs.Written.{compact_text}
 use Rattle.contract_words.specs.Faults.{◌>>=◌}
-use Rattle.res_value.specs.declared.res_id.ResId.{ResId}
-use Rattle.config_record.specs.DeviceSeen.{device_numbers}
-use Rattle.box_answers.specs.NumberSet.{SetOf}
-use Rattle.config_box.specs.BoxJson.{box_in}
-use Rattle.overlay_map.specs.Layer.{LayerOf}
-use Rattle.reference_resolver.specs.declared.end.End.{End}
-use Rattle.cert_tree.specs.Certificate.{GoalOf, goals_of, most_nodes}
-use Rattle.cert_tree.specs.CertJson.{cert_in}
-use Rattle.cert_tree.specs.WrittenJson.{cert_data}
-use Rattle.cert_checker.specs.FirstFault.{IsAccepted}
+use Rattle.cert_maker.specs.res_value.declared.res_id.ResId.{ResId}
+use Rattle.table_commands.specs.config_record.DeviceSeen.{device_numbers}
+use Rattle.cert_maker.specs.box_answers.NumberSet.{SetOf}
+use Rattle.cert_maker.specs.config_box.BoxJson.{box_in}
+use Rattle.table_commands.specs.overlay_map.Layer.{LayerOf}
+use Rattle.table_commands.specs.reference_resolver.declared.end.End.{End}
+use Rattle.cert_maker.specs.cert_tree.Certificate.{GoalOf, goals_of, most_nodes}
+use Rattle.cert_maker.specs.cert_tree.CertJson.{cert_in}
+use Rattle.cert_maker.specs.cert_tree.WrittenJson.{cert_data}
+use Rattle.cert_maker.specs.cert_checker.FirstFault.{IsAccepted}
 use Rattle.cert_maker.specs.declared.made.Made.{Made}
 use Rattle.cert_maker.specs.declared.made.Made.TheVariants.{Cert, Counter, NodeLimit}
 use Rattle.cert_maker.specs.Made.{IsMade}
 use Rattle.cert_maker.specs.Least.{IsLeast}
-use Rattle.fault_text.specs.declared.fault.ToolFault.{ToolFault}
-use Rattle.fault_text.specs.ToolFault.{fault_of_box}
+use Rattle.table_commands.specs.fault_text.declared.fault.ToolFault.{ToolFault}
+use Rattle.table_commands.specs.fault_text.ToolFault.{fault_of_box}
 use Rattle.resource_text.specs.VerdictText.{device_with_end}
-use Rattle.command_base.specs.declared.status.Status.{Status}
-use Rattle.command_base.specs.declared.status.Status.TheVariants.{Done, Negative}
-use Rattle.command_base.specs.Output.{Output}
-use Rattle.command_base.specs.StackBytes.{LayerBytes, stack_in}
-use Rattle.command_base.specs.MapErr.{map_err}
+use Rattle.table_commands.specs.command_base.declared.status.Status.{Status}
+use Rattle.table_commands.specs.command_base.declared.status.Status.TheVariants.{Done, Negative}
+use Rattle.table_commands.specs.command_base.Output.{Output}
+use Rattle.table_commands.specs.command_base.StackBytes.{LayerBytes, stack_in}
+use Rattle.table_commands.specs.command_base.MapErr.{map_err}
 use Rattle.resource_tool.specs.CheckOutput.{goals_asked}
 
 -- ---- the inputs

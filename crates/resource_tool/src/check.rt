@@ -3,24 +3,18 @@
 ghost use Rattle.std.specs.Prelude.{◌≡◌, map, Ok, IfOk};
 ghost use Rattle.contract_words.specs.Exact.{GivesOr};
 ghost use Rattle.contract_words.specs.Writes.{Writes};
-ghost use Rattle.fault_text.specs.declared.fault.ToolFault.TheVariants.{OutOfMemory};
-ghost use Rattle.command_base.specs.Output.{PrintsOneOf, IsOfInput};
-ghost use Rattle.command_base.specs.StackBytesSeen.{layer_bytes};
+ghost use Rattle.table_commands.specs.fault_text.declared.fault.ToolFault.TheVariants.{OutOfMemory};
+ghost use Rattle.table_commands.specs.command_base.Output.{PrintsOneOf, IsOfInput};
+ghost use Rattle.table_commands.specs.command_base.StackBytesSeen.{layer_bytes};
 ghost use Rattle.resource_tool.specs.CheckOutput.{IsCheckOutput, check_inputs, check_text, status_of_verdict};
 ghost use Rattle.resource_tool.specs.CheckHeadline.{HeadlineHolds};
 
 use crate::goals::goals_asked;
-use command_base::open_stack;
-use command_base::Status;
-use cert_checker::{Verdict, check};
-use cert_tree::Cert;
-use config_box::ConfigBox;
-use fault_text::ToolFault;
-use overlay_map::Stack;
-use res_value::ResId;
+use cert_maker::{Cert, ConfigBox, ResId, Verdict, check};
 use resource_text::{set_aside_line, verdict_text};
 use std::alloc::Global;
 use std::io::{self, Write};
+use table_commands::{Stack, Status, ToolFault, open_stack};
 
 /// Prints whether a certificate is true of some ids for every device of a box, or the first of its nodes that
 /// fails with the devices that show it; and a line with the number of rows of all layers that are set aside.

@@ -3,8 +3,7 @@
 ghost use Rattle.std.specs.Prelude.{◌≡◌, IfOk};
 ghost use Rattle.resource_tool.specs.CheckOutput.{goals_asked};
 
-use cert_tree::Goal;
-use res_value::ResId;
+use cert_maker::{Goal, ResId};
 use std::alloc::{AllocError, Global};
 
 /// The goals of ids, in their order.

@@ -17,8 +17,9 @@ mod make;
 
 pub use cert_maker::{Progress, Unwatched};
 pub use check::check_bytes;
-pub use command_base::{InputFault, LayerList, Status, read_input};
 pub use device_commands::{attr_bytes, bag_bytes, explain_bytes, query_bytes};
-pub use fault_text::{LayersFault, ToolFault, fault_text};
 pub use make::{make_bytes, make_bytes_watched};
-pub use table_commands::{dump_bytes, rows_bytes};
+pub use table_commands::{
+    InputFault, LayerList, LayersFault, Status, ToolFault, dump_bytes, fault_text, read_input,
+    rows_bytes,
+};

@@ -2,25 +2,18 @@
 
 ghost use Rattle.std.specs.Prelude.{◌≡◌, ◌∷◌, ◌++◌, [], map, Ok, OnOk};
 ghost use Rattle.contract_words.specs.Writes.{Writes};
-ghost use Rattle.config_record.specs.DeviceSeen.{device_numbers};
-ghost use Rattle.command_base.specs.Output.{Prints, PrintsOneOf};
-ghost use Rattle.command_base.specs.StackBytesSeen.{layer_bytes};
+ghost use Rattle.table_commands.specs.config_record.DeviceSeen.{device_numbers};
+ghost use Rattle.table_commands.specs.command_base.Output.{Prints, PrintsOneOf};
+ghost use Rattle.table_commands.specs.command_base.StackBytesSeen.{layer_bytes};
 ghost use Rattle.resource_tool.specs.MakeOutput.{IsMakeOutput, make_inputs, counterexample_line, counterexample_text, status_of_made, made_output};
 ghost use Rattle.resource_tool.specs.LineReadsBack.{LineReadsBack};
 
 use crate::goals::goals_asked;
-use command_base::open_stack;
-use command_base::Status;
-use cert_maker::{Made, Progress, Unwatched, make_watched};
-use config_box::ConfigBox;
-use config_record::Device;
-use fault_text::ToolFault;
-use overlay_map::Stack;
-use reference_resolver::End;
-use res_value::ResId;
+use cert_maker::{ConfigBox, Made, Progress, ResId, Unwatched, make_watched};
 use resource_text::device_with_end;
 use std::alloc::Global;
 use std::io::{self, Write};
+use table_commands::{Device, End, Stack, Status, ToolFault, open_stack};
 
 /// Prints a certificate that `check_bytes` accepts for the same layers, box and ids, in one line of JSON; then the
 /// status is Done. Or it prints the place of an id, from 0, with a device of the box for which that id ends at no

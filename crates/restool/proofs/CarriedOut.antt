@@ -1,7 +1,7 @@
 -- A command that is done on what was read.
 use Rattle.std.proofs.Common.{◌≡◌, Option, Some, None, IfSome, Result, Ok}
-use Rattle.fault_text.specs.declared.fault.ToolFault.{ToolFault}
-use Rattle.command_base.specs.declared.status.Status.{Status}
+use Rattle.program_run.specs.fault_text.declared.fault.ToolFault.{ToolFault}
+use Rattle.program_run.specs.command_base.declared.status.Status.{Status}
 use Rattle.program_run.specs.Stop.{StopOf}
 use Rattle.program_run.specs.Inputs.{Places}
 use Rattle.restool.specs.Answers.{CarriesOut}

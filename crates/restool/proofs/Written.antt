@@ -6,21 +6,21 @@ use Rattle.std.specs.Io.Buffered.{writer_buffer, writer_contents, writer_inner}
 use Rattle.std.specs.Io.KnownBytes.{Appends, Keeps, append_known}
 use Rattle.std.specs.declared.alloc.Global.{Global}
 use Rattle.std.specs.declared.io.buffered.BufWriter.{BufWriter}
-use Rattle.fault_text.specs.declared.fault.ToolFault.{ToolFault}
-use Rattle.fault_text.specs.declared.fault.ToolFault.TheVariants.{Table, Layers, LayerTable, LayerMap, Device, Box, Certificate, OutOfMemory, Write}
-use Rattle.command_base.specs.declared.status.Status.{Status}
-use Rattle.command_base.specs.Output.{Output, Prints, PrintsOneOf}
-use Rattle.table_commands.specs.TableOutput.{rows_output, dump_output}
-use Rattle.device_commands.specs.QueryOutput.{query_output}
-use Rattle.device_commands.specs.ExplainOutput.{explain_output}
-use Rattle.device_commands.specs.BagOutput.{bag_output}
-use Rattle.device_commands.specs.AttrOutput.{attr_output}
+use Rattle.program_run.specs.fault_text.declared.fault.ToolFault.{ToolFault}
+use Rattle.program_run.specs.fault_text.declared.fault.ToolFault.TheVariants.{Table, Layers, LayerTable, LayerMap, Device, Box, Certificate, OutOfMemory, Write}
+use Rattle.program_run.specs.command_base.declared.status.Status.{Status}
+use Rattle.program_run.specs.command_base.Output.{Output, Prints, PrintsOneOf}
+use Rattle.resource_tool.specs.table_commands.TableOutput.{rows_output, dump_output}
+use Rattle.resource_tool.specs.device_commands.QueryOutput.{query_output}
+use Rattle.resource_tool.specs.device_commands.ExplainOutput.{explain_output}
+use Rattle.resource_tool.specs.device_commands.BagOutput.{bag_output}
+use Rattle.resource_tool.specs.device_commands.AttrOutput.{attr_output}
 use Rattle.resource_tool.specs.MakeOutput.{IsMakeOutput, make_inputs}
 use Rattle.resource_tool.specs.CheckOutput as check
-use Rattle.command_words.specs.declared.request.Request.{Request}
-use Rattle.command_words.specs.declared.request.Request.TheVariants.{Rows, Dump, OfDevice, OfBox}
-use Rattle.command_words.specs.declared.request.DeviceRequest.TheVariants.{Query, Explain, Bag, Attr}
-use Rattle.command_words.specs.declared.request.BoxRequest.TheVariants.{Make, Check}
+use Rattle.program_run.specs.command_words.declared.request.Request.{Request}
+use Rattle.program_run.specs.command_words.declared.request.Request.TheVariants.{Rows, Dump, OfDevice, OfBox}
+use Rattle.program_run.specs.command_words.declared.request.DeviceRequest.TheVariants.{Query, Explain, Bag, Attr}
+use Rattle.program_run.specs.command_words.declared.request.BoxRequest.TheVariants.{Make, Check}
 use Rattle.program_run.specs.declared.stop.Stop.{Stop}
 use Rattle.program_run.specs.Stop.{StopOf, stop_of, tool}
 use Rattle.program_run.specs.Inputs.{Places, DeviceInputs, CheckInputs, table_of, device_files, check_files}

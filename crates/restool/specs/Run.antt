@@ -1,10 +1,10 @@
 -- From words to the exit status.
 use Rattle.std.specs.Prelude.{◌≡◌, ◌≢◌, ◌⊎◌, ℕ, Bool, false, List, Option, Result, Ok, Err, IfErr, IfSome}
-use Rattle.fault_text.specs.declared.fault.ToolFault.TheVariants.{Write}
-use Rattle.command_base.specs.declared.status.Status.{Status}
-use Rattle.command_words.specs.declared.words_fault.WordsFault.{WordsFault}
-use Rattle.command_words.specs.declared.request.Request.{Request}
-use Rattle.command_words.specs.Request.{AsksFor}
+use Rattle.program_run.specs.fault_text.declared.fault.ToolFault.TheVariants.{Write}
+use Rattle.program_run.specs.command_base.declared.status.Status.{Status}
+use Rattle.program_run.specs.command_words.declared.words_fault.WordsFault.{WordsFault}
+use Rattle.program_run.specs.command_words.declared.request.Request.{Request}
+use Rattle.program_run.specs.command_words.Request.{AsksFor}
 use Rattle.program_run.specs.declared.stop.Stop.{Stop}
 use Rattle.program_run.specs.declared.stop.Stop.TheVariants.{Words}
 use Rattle.program_run.specs.declared.status.ExitStatus.{ExitStatus}

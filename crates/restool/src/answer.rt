@@ -1,17 +1,17 @@
 //! What a request is answered.
 
 ghost use Rattle.std.specs.Prelude.{◌≡◌, ◌≢◌, IfErr, IfSome};
-ghost use Rattle.fault_text.specs.declared.fault.ToolFault.TheVariants.{Write};
-ghost use Rattle.command_base.specs.Output.{PrintsOneOf};
+ghost use Rattle.program_run.specs.fault_text.declared.fault.ToolFault.TheVariants.{Write};
+ghost use Rattle.program_run.specs.command_base.Output.{PrintsOneOf};
 ghost use Rattle.resource_tool.specs.MakeOutput.{IsMakeOutput, make_inputs};
 ghost use Rattle.resource_tool.specs.CheckOutput.{IsCheckOutput, check_inputs};
 ghost use Rattle.restool.specs.Answers.{Answers, AnswersOfBox, AnswersOfDevice};
 ghost use Rattle.program_run.specs.FilesSeen.{devices_held, layers_held};
 ghost use Rattle.program_run.specs.Stop.{stop_of, tool};
 
-use command_words::{BoxRequest, DeviceRequest, Request};
-use program_run::{CheckFiles, DeviceFiles, Inputs, Stop, table_bytes};
-use res_value::ResId;
+use program_run::{
+    BoxRequest, CheckFiles, DeviceFiles, DeviceRequest, Inputs, Request, ResId, Stop, table_bytes,
+};
 use resource_tool::{
     Progress, Status, ToolFault, attr_bytes, bag_bytes, check_bytes, dump_bytes, explain_bytes,
     make_bytes_watched, query_bytes, rows_bytes,

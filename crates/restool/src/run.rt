@@ -3,14 +3,13 @@
 ghost use Rattle.std.specs.Prelude.{◌≡◌, ◌≢◌, [], false, map, Ok, Err, OnOk, IsOk, IfOk, IfErr, IfSome, string_bytes};
 ghost use Rattle.std.specs.Io.Buffered.{writer_buffer, writer_contents, writer_inner};
 ghost use Rattle.std.specs.Io.KnownBytes.{Keeps};
-ghost use Rattle.fault_text.specs.declared.fault.ToolFault.TheVariants.{Write};
+ghost use Rattle.program_run.specs.fault_text.declared.fault.ToolFault.TheVariants.{Write};
 ghost use Rattle.restool.specs.Answers.{Answers};
 ghost use Rattle.restool.specs.Run.{Runs};
 ghost use Rattle.program_run.specs.Stop.{stop_of, tool};
 
 use crate::answer::answer;
-use command_words::{Request, read_words};
-use program_run::{ExitStatus, Inputs, ProgressLine, Stop, end, written_out};
+use program_run::{ExitStatus, Inputs, ProgressLine, Request, Stop, end, read_words, written_out};
 use resource_tool::{Status, Unwatched};
 use std::alloc::Global;
 use std::io::{BufWriter, Write};

@@ -4,7 +4,7 @@ use Rattle.std.proofs.lemmas.Grind.{flat_map-append}
 use Rattle.std.proofs.lemmas.List.{append-nil, length-map, take_all, take_more}
 use Rattle.std.proofs.lemmas.Option.{slice_get-map, slice_get_read, slice_get_within, get_or_from_slice_get}
 use Rattle.resource_table.specs.declared.package.Package.{Package}
-use Rattle.type_chunks.specs.Row.{RowOf}
+use Rattle.resource_table.specs.type_chunks.Row.{RowOf}
 use Rattle.resource_table.specs.Package.{PackageOf, package_of, packages_of, rows_of_packages}
 
 -- no package has no rows

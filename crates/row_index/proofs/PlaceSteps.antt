@@ -6,11 +6,11 @@ use Rattle.std.proofs.lemmas.Grind.{flat_map-append}
 use Rattle.std.proofs.lemmas.List.{append-nil, map-append, drop_more}
 use Rattle.std.proofs.lemmas.List.Elements.{All-head, All-tail, filter-append}
 use Rattle.std.proofs.lemmas.List.Sums.{sum_by-cons}
-use Rattle.type_chunks.specs.declared.checked_type.CheckedType.{CheckedType}
-use Rattle.type_chunks.specs.Row.{RowOf, with_id}
-use Rattle.type_chunks.specs.TypeRows.{row_at, rows_of_type, rows_of_types, rows_of_each}
-use Rattle.type_chunks.proofs.TypeRowsSteps.{rows_of_types-next, rows_of_types-none}
-use Rattle.type_chunks.proofs.OwnSteps.{StandsInType, rows-stand}
+use Rattle.resource_table.specs.type_chunks.declared.checked_type.CheckedType.{CheckedType}
+use Rattle.resource_table.specs.type_chunks.Row.{RowOf, with_id}
+use Rattle.resource_table.specs.type_chunks.TypeRows.{row_at, rows_of_type, rows_of_types, rows_of_each}
+use Rattle.resource_table.proofs.type_chunks.TypeRowsSteps.{rows_of_types-next, rows_of_types-none}
+use Rattle.resource_table.proofs.type_chunks.OwnSteps.{StandsInType, rows-stand}
 use Rattle.row_index.specs.declared.link.Link.{Link}
 use Rattle.row_index.specs.declared.heads.Heads.{Heads}
 use Rattle.row_index.specs.Heads.{head_of}

@@ -1,7 +1,7 @@
 -- The head of each id. Contracts within the crate alone speak of this.
 use Rattle.std.specs.Prelude.{ℕ, slice_get}
 use Rattle.std.specs.Option.{option_map_or}
-use Rattle.res_value.specs.ResId.{package_of, type_of, entry_of}
+use Rattle.resource_table.specs.res_value.ResId.{package_of, type_of, entry_of}
 use Rattle.row_index.specs.declared.heads.EntryHeads.{EntryHeads}
 use Rattle.row_index.specs.declared.heads.TypeHeads.{TypeHeads}
 use Rattle.row_index.specs.declared.heads.Heads.{Heads}

@@ -2,10 +2,10 @@
 use Rattle.std.specs.Prelude.{◌≡◌, ℕ, ◌==◌, ◌≤◌, List, ◌∷◌, ◌++◌, map, replicate, count_by, length, Option, Some, slice_get, if◌then◌else◌}
 use Rattle.std.specs.List.{filter_map}
 use Rattle.std.specs.Option.{option_and_then}
-use Rattle.res_value.specs.ResId.{entry_of}
-use Rattle.type_chunks.specs.declared.checked_type.CheckedType.{CheckedType}
-use Rattle.type_chunks.specs.Row.{RowOf, with_id}
-use Rattle.type_chunks.specs.TypeRows.{row_at}
+use Rattle.resource_table.specs.res_value.ResId.{entry_of}
+use Rattle.resource_table.specs.type_chunks.declared.checked_type.CheckedType.{CheckedType}
+use Rattle.resource_table.specs.type_chunks.Row.{RowOf, with_id}
+use Rattle.resource_table.specs.type_chunks.TypeRows.{row_at}
 use Rattle.row_index.specs.declared.row_places.RowPlaces.{RowPlaces}
 use Rattle.row_index.specs.Heads.{head_of}
 use Rattle.row_index.specs.Links.{numbers_from}

@@ -3,7 +3,7 @@
 ghost use Rattle.std.specs.Prelude.{◌≡◌, ℕ, ◌==◌, ◌&&◌, ◌<◌, length, OnOk, if◌then◌else◌};
 ghost use Rattle.row_index.specs.Heads.{head_of_entry, head_of_type, head_of};
 
-use res_value::ResId;
+use resource_table::ResId;
 use std::alloc::{AllocError, Global};
 
 /// A head for each entry of a type; 0 where there is none.

@@ -2,13 +2,13 @@
 
 ghost use Rattle.std.specs.Prelude.{◌≡◌, []};
 ghost use Rattle.std.specs.Option.{option_map};
-ghost use Rattle.type_chunks.specs.Row.{row_of};
+ghost use Rattle.resource_table.specs.type_chunks.Row.{row_of};
 ghost use Rattle.row_index.specs.Links.{numbers_from};
 ghost use Rattle.row_index.specs.Places.{row_in, rows_in, StandIn};
 
 use crate::link::Link;
+use resource_table::{CheckedType, Row};
 use std::marker::Model;
-use type_chunks::{CheckedType, Row};
 
 /// The rows of one id that are left, in the order of the file.
 #[derive(Drop)]
@@ -25,7 +25,7 @@ pub struct IndexedRows<'t, 'a> {
 
 impl<'t, 'a> Model for IndexedRows<'t, 'a> {
     ghost use Rattle.std.specs.Prelude.{List};
-    ghost use Rattle.type_chunks.specs.Row.{RowOf};
+    ghost use Rattle.resource_table.specs.type_chunks.Row.{RowOf};
     ghost use Rattle.row_index.specs.Links.{numbers_from};
     ghost use Rattle.row_index.specs.Places.{rows_in};
 
@@ -68,7 +68,7 @@ impl<'t, 'a> IndexedRows<'t, 'a> {
 
 impl<'t, 'a> Iterator for IndexedRows<'t, 'a> {
     ghost use Rattle.std.specs.Iterator.{YieldsFirstBy, item_count};
-    ghost use Rattle.type_chunks.specs.Row.{row_of};
+    ghost use Rattle.resource_table.specs.type_chunks.Row.{row_of};
 
     type Item = Row<'a>;
 

@@ -1,19 +1,17 @@
 //! A table that gives the rows of an id at once.
 
 ghost use Rattle.std.specs.Prelude.{◌≡◌, ◌<◌, ◌^◌, ◌++◌, OnOk, IfOk, IfErr, length};
-ghost use Rattle.type_chunks.specs.Row.{with_id};
+ghost use Rattle.resource_table.specs.type_chunks.Row.{with_id};
 ghost use Rattle.resource_table.specs.Package.{package_of, packages_of, rows_of_packages};
 ghost use Rattle.resource_table.specs.Table.{rows_of};
-ghost use Rattle.type_chunks.specs.TypeRows.{rows_of_types};
+ghost use Rattle.resource_table.specs.type_chunks.TypeRows.{rows_of_types};
 ghost use Rattle.row_index.specs.Places.{ArePlacesOf};
 
 use crate::indexed_rows::IndexedRows;
 use crate::row_places::RowPlaces;
-use res_value::ResId;
-use resource_table::{Package, Table};
+use resource_table::{CheckedType, Package, ResId, Table};
 use std::alloc::{AllocError, Global};
 use std::marker::Model;
-use type_chunks::CheckedType;
 
 /// A table with the places of its rows by id. Contracts see it as the table.
 #[derive(Debug, Drop)]

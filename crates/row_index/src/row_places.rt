@@ -1,15 +1,14 @@
 //! Where the rows of each id stand.
 
 ghost use Rattle.std.specs.Prelude.{◌≡◌, ◌<◌, ◌^◌, IfOk, OnOk, length};
-ghost use Rattle.type_chunks.specs.TypeRows.{rows_of_type, rows_of_types};
+ghost use Rattle.resource_table.specs.type_chunks.TypeRows.{rows_of_type, rows_of_types};
 ghost use Rattle.row_index.specs.Heads.{head_of};
 ghost use Rattle.row_index.specs.Places.{AddsPlace, AddsType, AreLinked, ArePlacesOf};
 
 use crate::heads::Heads;
 use crate::link::Link;
-use res_value::ResId;
+use resource_table::{CheckedType, ResId};
 use std::alloc::{AllocError, Global};
-use type_chunks::CheckedType;
 
 /// An id can name so many entries of a type.
 const ENTRIES: usize = 0x1_0000;

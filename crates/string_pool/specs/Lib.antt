@@ -9,3 +9,4 @@ pub mod Front
 pub mod Spans
 pub mod Shown
 pub mod Escapes
+pub use Rattle.chunk_walk.specs as chunk_walk

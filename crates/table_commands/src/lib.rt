@@ -14,5 +14,7 @@
 mod dump;
 mod rows;
 
+pub use answer_text::{Device, End, LayersFault, Stack, ToolFault, fault_text};
+pub use command_base::{InputFault, LayerList, Status, open_stack, read_input};
 pub use dump::dump_bytes;
 pub use rows::rows_bytes;

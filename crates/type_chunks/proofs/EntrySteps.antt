@@ -4,7 +4,7 @@ use Rattle.std.specs.Prelude.{IsOk, find, nat_lt, not, ◌==◌, ◌%◌, if◌t
 use Rattle.std.specs.List.{range_with_len}
 use Rattle.std.proofs.lemmas.Bool.Decides.{nat_tests}
 use Rattle.contract_words.specs.Faults.{◌>>=◌, refuse}
-use Rattle.chunk_walk.specs.Number.{number}
+use Rattle.string_pool.specs.chunk_walk.Number.{number}
 use Rattle.res_value.specs.Cell.{CellOf, BagOf}
 use Rattle.res_value.specs.MapRows.{map_rows_in, map_rows_at, has_wrong_size, unless_wrong}
 use Rattle.res_value.specs.declared.map_rows.MapRowsFault.{MapRowsFault}

@@ -3,8 +3,8 @@ use Rattle.std.proofs.Common.{◌≡◌, ◌≢◌, ℕ, ◌<◌, List, [], ◌�
 use Rattle.std.specs.Prelude.{◌==◌, ◌&&◌, if◌then◌else◌, OnOk}
 use Rattle.std.proofs.lemmas.Bool.Decides.{nat_tests}
 use Rattle.contract_words.proofs.FaultSteps.{checked_by-ok}
-use Rattle.chunk_walk.specs.Chunk.{ChunkOf}
-use Rattle.chunk_walk.specs.declared.chunk.ChunkFault.{ChunkFault}
+use Rattle.string_pool.specs.chunk_walk.Chunk.{ChunkOf}
+use Rattle.string_pool.specs.chunk_walk.declared.chunk.ChunkFault.{ChunkFault}
 use Rattle.type_chunks.specs.declared.type_spec.TypeSpec.{TypeSpec}
 use Rattle.type_chunks.specs.declared.known_specs.KnownSpecs.{KnownSpecs}
 use Rattle.type_chunks.specs.TypeSpec.{TypeSpecOf, type_spec_of, spec_fields, type_spec_faults, type_spec_in, last_spec}

@@ -4,7 +4,7 @@ use Rattle.std.specs.Prelude.{◌%◌, All, nat_lt, if◌then◌else◌}
 use Rattle.std.specs.List.{range_with_len, flat_map}
 use Rattle.std.proofs.lemmas.Bool.Decides.{nat_tests}
 use Rattle.std.proofs.lemmas.List.Elements.{All-nil, All-cons, All-append}
-use Rattle.chunk_walk.specs.Number.{number}
+use Rattle.string_pool.specs.chunk_walk.Number.{number}
 use Rattle.res_value.specs.Cell.{CellOf}
 use Rattle.res_value.specs.ResId.{id_of_parts}
 use Rattle.type_chunks.specs.declared.fault.TableFault.{TableFault}

@@ -10,9 +10,9 @@ use Rattle.std.proofs.lemmas.List.Concat.{flat_map-append}
 use Rattle.std.proofs.lemmas.List.Elements.{All-head, All-tail, All-rest, All-same, All-push}
 use Rattle.contract_words.specs.Faults.{◌>>=◌}
 use Rattle.contract_words.specs.Sequences.{with_front}
-use Rattle.chunk_walk.specs.Chunk.{ChunkOf, chunk_of, chunk_within}
-use Rattle.chunk_walk.specs.Chunks.{StandsAt}
-use Rattle.chunk_walk.specs.declared.chunk.ChunkFault.{ChunkFault}
+use Rattle.string_pool.specs.chunk_walk.Chunk.{ChunkOf, chunk_of, chunk_within}
+use Rattle.string_pool.specs.chunk_walk.Chunks.{StandsAt}
+use Rattle.string_pool.specs.chunk_walk.declared.chunk.ChunkFault.{ChunkFault}
 use Rattle.type_chunks.specs.declared.fault.TableFault.{TableFault}
 use Rattle.type_chunks.specs.declared.known_specs.KnownSpecs.{KnownSpecs}
 use Rattle.type_chunks.specs.declared.owner.Owner.{Owner}

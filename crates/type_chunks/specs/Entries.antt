@@ -1,7 +1,7 @@
 -- The entries of a type, each read by itself.
 use Rattle.std.specs.Prelude.{◌≡◌, ℕ, ◌+◌, ◌*◌, ◌-◌, ◌<◌, ◌≤◌, true, Bool, List, [], ◌==◌, length, Result, Ok, Err, IsOk, if◌then◌else◌}
 use Rattle.std.specs.List.{range_with_len, flat_map}
-use Rattle.chunk_walk.specs.Number.{number}
+use Rattle.string_pool.specs.chunk_walk.Number.{number}
 use Rattle.type_chunks.specs.declared.fault.TableFault.{TableFault}
 use Rattle.res_value.specs.Cell.{CellOf}
 use Rattle.type_chunks.specs.Layout.{entry_offset_size, no_entry, least_entry, least_entry_size}

@@ -1,7 +1,7 @@
 -- Entries (AOSP: ResTable_entry, ResTable_map_entry), each no row, one row or a fault.
 use Rattle.std.specs.Prelude.{ℕ, ◌+◌, ◌*◌, ◌%◌, Bool, ◌&&◌, not, List, [], ◌∷◌, ◌==◌, length, drop, Result, Ok, Err, Option, Some, None, nat_lt, if◌then◌else◌}
 use Rattle.contract_words.specs.Faults.{◌>>=◌, refuse}
-use Rattle.chunk_walk.specs.Number.{number}
+use Rattle.string_pool.specs.chunk_walk.Number.{number}
 use Rattle.res_value.specs.ResId.{id_of_parts}
 use Rattle.res_value.specs.Layout.{value_size}
 use Rattle.res_value.specs.Value.{has_value_size, value_at}

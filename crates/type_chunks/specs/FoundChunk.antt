@@ -1,7 +1,7 @@
 -- Chunks whose faults are the table's.
 use Rattle.std.specs.Prelude.{Result, Ok, Err}
-use Rattle.chunk_walk.specs.Chunk.{ChunkOf}
-use Rattle.chunk_walk.specs.declared.chunk.ChunkFault.{ChunkFault}
+use Rattle.string_pool.specs.chunk_walk.Chunk.{ChunkOf}
+use Rattle.string_pool.specs.chunk_walk.declared.chunk.ChunkFault.{ChunkFault}
 use Rattle.type_chunks.specs.declared.fault.TableFault.{TableFault}
 use Rattle.type_chunks.specs.declared.fault.TableFault.TheVariants as faults
 

@@ -2,8 +2,8 @@
 -- crate alone speak of this.
 use Rattle.std.specs.Prelude.{◌≡◌, ℕ, ◌<◌, List, Option, None, Result, IfSome, slice_index_or}
 use Rattle.std.specs.Option.{option_map}
-use Rattle.chunk_walk.specs.Chunk.{ChunkOf}
-use Rattle.chunk_walk.specs.declared.chunk.ChunkFault.{ChunkFault}
+use Rattle.string_pool.specs.chunk_walk.Chunk.{ChunkOf}
+use Rattle.string_pool.specs.chunk_walk.declared.chunk.ChunkFault.{ChunkFault}
 use Rattle.type_chunks.specs.declared.known_specs.KnownSpecs.{KnownSpecs}
 use Rattle.type_chunks.specs.declared.type_spec.TypeSpec.{TypeSpec}
 use Rattle.type_chunks.specs.TypeSpec.{TypeSpecOf, type_spec_of, last_spec}

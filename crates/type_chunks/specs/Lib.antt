@@ -11,3 +11,7 @@ pub mod TypePlaces
 pub mod WrongSizes
 pub mod PackageChildren
 pub mod KnownSpecs
+pub use Rattle.config_record.specs as config_record
+pub use Rattle.res_value.specs as res_value
+pub use Rattle.string_pool.specs as string_pool
+pub use Rattle.string_pool.specs.chunk_walk

@@ -3,9 +3,9 @@
 use Rattle.std.specs.Prelude.{List, [], ◌==◌, Result, Ok, Err, if◌then◌else◌}
 use Rattle.contract_words.specs.Faults.{◌>>=◌}
 use Rattle.contract_words.specs.Sequences.{joined_each, joined_from, with_before}
-use Rattle.chunk_walk.specs.Chunk.{ChunkOf, chunk_of}
-use Rattle.chunk_walk.specs.Chunks.{children_of}
-use Rattle.chunk_walk.specs.declared.chunk.ChunkFault.{ChunkFault}
+use Rattle.string_pool.specs.chunk_walk.Chunk.{ChunkOf, chunk_of}
+use Rattle.string_pool.specs.chunk_walk.Chunks.{children_of}
+use Rattle.string_pool.specs.chunk_walk.declared.chunk.ChunkFault.{ChunkFault}
 use Rattle.type_chunks.specs.declared.fault.TableFault.{TableFault}
 use Rattle.type_chunks.specs.declared.fault.TableFault.TheVariants as faults
 use Rattle.type_chunks.specs.declared.owner.Owner.{Owner}

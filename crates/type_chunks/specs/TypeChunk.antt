@@ -1,10 +1,10 @@
 -- Types (AOSP: ResTable_type), each the entries of one type id for one configuration.
 use Rattle.std.specs.Prelude.{ℕ, ◌*◌, ◌%◌, List, ◌==◌, length, drop, slice_index, Option, Some, None, Result, Ok, Err, nat_lt}
 use Rattle.contract_words.specs.Faults.{◌>>=◌, refuse}
-use Rattle.chunk_walk.specs.Number.{number}
-use Rattle.chunk_walk.specs.Chunk.{ChunkOf}
-use Rattle.chunk_walk.specs.declared.chunk.ChunkFault.{ChunkFault}
-use Rattle.chunk_walk.specs.declared.chunk.ChunkFault.TheVariants.{HeaderShort}
+use Rattle.string_pool.specs.chunk_walk.Number.{number}
+use Rattle.string_pool.specs.chunk_walk.Chunk.{ChunkOf}
+use Rattle.string_pool.specs.chunk_walk.declared.chunk.ChunkFault.{ChunkFault}
+use Rattle.string_pool.specs.chunk_walk.declared.chunk.ChunkFault.TheVariants.{HeaderShort}
 use Rattle.config_record.specs.Record.{record_in, record_bytes}
 use Rattle.config_record.specs.declared.record.RecordFault.{RecordFault}
 use Rattle.type_chunks.specs.declared.fault.TableFault.{TableFault}

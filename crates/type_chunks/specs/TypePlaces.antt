@@ -3,7 +3,7 @@ use Rattle.std.specs.Prelude.{◌≡◌, ℕ, ◌-◌, ◌<◌, ◌≤◌, ◌^�
 use Rattle.std.specs.Result.{ForOk}
 use Rattle.std.specs.List.{flat_map}
 use Rattle.contract_words.specs.Faults.{◌>>=◌}
-use Rattle.chunk_walk.specs.Chunk.{ChunkOf, chunk_within}
+use Rattle.string_pool.specs.chunk_walk.Chunk.{ChunkOf, chunk_within}
 use Rattle.type_chunks.specs.declared.fault.TableFault.{TableFault}
 use Rattle.type_chunks.specs.declared.owner.Owner.{Owner}
 use Rattle.type_chunks.specs.declared.type_place.TypePlace.{TypePlace}

@@ -1,10 +1,10 @@
 -- Type specs (AOSP: ResTable_typeSpec).
 use Rattle.std.specs.Prelude.{ℕ, ◌*◌, List, [], ◌∷◌, Bool, ◌&&◌, ◌==◌, length, slice_index, Option, Some, None, Result, Ok, Err, nat_lt, if◌then◌else◌}
 use Rattle.contract_words.specs.Faults.{checked_by}
-use Rattle.chunk_walk.specs.Number.{number}
-use Rattle.chunk_walk.specs.Chunk.{ChunkOf}
-use Rattle.chunk_walk.specs.declared.chunk.ChunkFault.{ChunkFault}
-use Rattle.chunk_walk.specs.declared.chunk.ChunkFault.TheVariants.{HeaderShort}
+use Rattle.string_pool.specs.chunk_walk.Number.{number}
+use Rattle.string_pool.specs.chunk_walk.Chunk.{ChunkOf}
+use Rattle.string_pool.specs.chunk_walk.declared.chunk.ChunkFault.{ChunkFault}
+use Rattle.string_pool.specs.chunk_walk.declared.chunk.ChunkFault.TheVariants.{HeaderShort}
 use Rattle.type_chunks.specs.declared.fault.TableFault.{TableFault}
 use Rattle.type_chunks.specs.declared.fault.TableFault.TheVariants as faults
 use Rattle.type_chunks.specs.declared.type_spec.TypeSpec.{TypeSpec}

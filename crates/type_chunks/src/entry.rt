@@ -9,8 +9,8 @@ use crate::layout::{bag_header, entry_header, type_header};
 use crate::row::Row;
 use crate::type_chunk::TypeChunk;
 use bitflags::Flags;
-use chunk_walk::{u16_within, u32_within};
 use res_value::{Cell, MapRows, ResId, Value};
+use string_pool::{u16_within, u32_within};
 
 /// An id has room for the indexes below this.
 const INDEXES: u32 = 0x1_0000;

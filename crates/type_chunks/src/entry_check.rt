@@ -9,8 +9,8 @@ use crate::fault::TableFault;
 use crate::layout::{bag_header, entry_header, type_header};
 use crate::type_chunk::TypeChunk;
 use bitflags::Flags;
-use chunk_walk::{ALIGNMENT, u16_within, u32_within};
 use res_value::{MapRows, MapRowsFault, Value};
+use string_pool::{ALIGNMENT, u16_within, u32_within};
 
 impl<'a> TypeChunk<'a> {
     ghost use Rattle.type_chunks.specs.Checks.{Checks};

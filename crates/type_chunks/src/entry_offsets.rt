@@ -1,14 +1,14 @@
 //! The offsets of a type: which of its indexes have entries, and where these stand.
 
 ghost use Rattle.std.specs.Prelude.{◌≡◌, ◌+◌, ◌*◌, ◌<◌, ◌≤◌, IfSome, IfNone, IsTrue};
-ghost use Rattle.chunk_walk.specs.Number.{number};
+ghost use Rattle.string_pool.specs.chunk_walk.Number.{number};
 ghost use Rattle.type_chunks.specs.Layout.{entry_offset_size};
 ghost use Rattle.type_chunks.specs.TypeChunk.{type_chunk_of};
 ghost use Rattle.type_chunks.specs.Entries.{is_empty, AreEmpty};
 
 use crate::layout::type_header;
 use crate::type_chunk::TypeChunk;
-use chunk_walk::u32_within;
+use string_pool::u32_within;
 
 impl<'a> TypeChunk<'a> {
     /// The first index from `from` on that has an entry. Tables are mostly empty, so long runs of indexes

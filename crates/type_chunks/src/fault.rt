@@ -3,9 +3,8 @@
 ghost use Rattle.std.specs.Prelude.{◌≡◌};
 ghost use Rattle.type_chunks.specs.declared.fault.TableFault.TheVariants.{Chunk as in_chunk, OutOfMemory};
 
-use chunk_walk::ChunkFault;
 use std::alloc::{AllocError, AllocFailed};
-use string_pool::PoolFault;
+use string_pool::{ChunkFault, PoolFault};
 use thiserror::Error;
 
 /// What is wrong with a table: the first fault in the order of the file, with the place of the

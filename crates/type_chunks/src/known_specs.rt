@@ -1,11 +1,11 @@
 //! The last type spec of each id, on the way through a package.
 
 ghost use Rattle.std.specs.Prelude.{◌≡◌, ℕ, ◌<◌, [], Some, slice_index, if◌then◌else◌, ◌==◌};
-ghost use Rattle.chunk_walk.specs.Chunk.{ChunkOf};
+ghost use Rattle.string_pool.specs.chunk_walk.Chunk.{ChunkOf};
 
 use crate::layout::type_header;
 use crate::type_spec::TypeSpec;
-use chunk_walk::Chunk;
+use string_pool::Chunk;
 
 /// A place for each id that a type can have.
 const IDS: usize = 256;

@@ -37,10 +37,16 @@ mod type_spec;
 mod types;
 
 pub use checked_type::CheckedType;
+pub use config_record::{Coord, DeviceFault};
 pub use fault::TableFault;
 pub use owner::Owner;
 pub use package_children::types_of_children;
 pub use package_types::PackageTypes;
+pub use res_value::{Cell, MapRows, ResId, Value, kind};
 pub use row::Row;
+pub use string_pool::{
+    ALIGNMENT, Chunk, ChunkFault, Pool, PoolFault, StringFault, Text, chunk_at, u32_within,
+    write_string,
+};
 pub use type_rows::TypeRows;
 pub use types::Types;

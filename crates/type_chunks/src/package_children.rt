@@ -1,9 +1,9 @@
 //! The types of a package.
 
 ghost use Rattle.std.specs.Prelude.{◌≡◌, ◌+◌, ◌≤◌, ◌∷◌, length, List, Result, Ok, OnOk};
-ghost use Rattle.chunk_walk.specs.Chunk.{ChunkOf, chunk_of, seen};
-ghost use Rattle.chunk_walk.specs.Chunks.{StandsAt, StandsIn};
-ghost use Rattle.chunk_walk.specs.declared.chunk.ChunkFault.{ChunkFault};
+ghost use Rattle.string_pool.specs.chunk_walk.Chunk.{ChunkOf, chunk_of, seen};
+ghost use Rattle.string_pool.specs.chunk_walk.Chunks.{StandsAt, StandsIn};
+ghost use Rattle.string_pool.specs.chunk_walk.declared.chunk.ChunkFault.{ChunkFault};
 ghost use Rattle.contract_words.specs.Exact.{GivesOr};
 ghost use Rattle.contract_words.specs.Sequences.{Pushes};
 ghost use Rattle.type_chunks.specs.declared.fault.TableFault.TheVariants.{OutOfMemory};
@@ -22,8 +22,8 @@ use crate::type_check::check_entries;
 use crate::type_chunk::TypeChunk;
 use crate::type_place::TypePlace;
 use crate::type_spec::TypeSpec;
-use chunk_walk::{Chunk, ChunkFault};
 use std::alloc::Global;
+use string_pool::{Chunk, ChunkFault};
 
 /// The types among the chunks in a package, each of its entries checked.
 #[tactic(auto, using(contract_words::proofs::SequenceSteps::knowing_steps))]

@@ -1,13 +1,13 @@
 //! The types of a package, kept by their places.
 
 ghost use Rattle.std.specs.Prelude.{◌<◌, ◌^◌, length};
-ghost use Rattle.chunk_walk.specs.Chunk.{chunk_of};
+ghost use Rattle.string_pool.specs.chunk_walk.Chunk.{chunk_of};
 ghost use Rattle.type_chunks.specs.TypePlaces.{AreKept};
 
 use crate::owner::Owner;
 use crate::type_place::TypePlace;
 use crate::types::Types;
-use chunk_walk::Chunk;
+use string_pool::Chunk;
 
 /// The types of a package, each entry of which was checked. Of each the place alone is kept, so memory grows by
 /// eight bytes with each.

@@ -9,8 +9,8 @@ use crate::owner::Owner;
 use crate::type_flags::TypeFlags;
 use crate::type_spec::TypeSpec;
 use bitflags::Flags;
-use chunk_walk::{Chunk, ChunkFault, u32_within};
 use config_record::Record;
+use string_pool::{Chunk, ChunkFault, u32_within};
 
 /// A type whose header was checked and whose offsets fit, with the type spec that it belongs to (AOSP:
 /// `ResTable_type`).
@@ -34,7 +34,7 @@ pub(crate) struct TypeChunk<'a> {
 
 impl<'a> TypeChunk<'a> {
     ghost use Rattle.std.specs.Option.{option_map};
-    ghost use Rattle.chunk_walk.specs.Chunk.{chunk_of};
+    ghost use Rattle.string_pool.specs.chunk_walk.Chunk.{chunk_of};
     ghost use Rattle.type_chunks.specs.TypeSpec.{type_spec_of};
     ghost use Rattle.type_chunks.specs.TypeChunk.{seen_type, type_with};
 

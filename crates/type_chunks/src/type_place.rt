@@ -3,7 +3,7 @@
 ghost use Rattle.std.specs.Prelude.{◌≡◌, ◌≤◌, Ok, length};
 
 use crate::type_spec::TypeSpec;
-use chunk_walk::Chunk;
+use string_pool::Chunk;
 
 /// Where a type and its type spec stand in their package, from its start. That is all that is kept of a type: what
 /// its header says is read anew.
@@ -14,8 +14,8 @@ pub(crate) struct TypePlace {
 }
 
 impl TypePlace {
-    ghost use Rattle.chunk_walk.specs.Chunk.{chunk_of, chunk_within};
-    ghost use Rattle.chunk_walk.specs.Chunks.{StandsAt};
+    ghost use Rattle.string_pool.specs.chunk_walk.Chunk.{chunk_of, chunk_within};
+    ghost use Rattle.string_pool.specs.chunk_walk.Chunks.{StandsAt};
     ghost use Rattle.type_chunks.specs.TypeSpec.{type_spec_of};
     ghost use Rattle.type_chunks.specs.TypePlaces.{spec_at, SpecStands};
 

@@ -5,7 +5,7 @@ ghost use Rattle.type_chunks.specs.Layout.{entry_flags_size};
 
 use crate::fault::TableFault;
 use crate::layout::type_spec_header as header;
-use chunk_walk::{Chunk, ChunkFault, u32_within};
+use string_pool::{Chunk, ChunkFault, u32_within};
 
 /// A type spec whose header was checked and whose flags fit (AOSP: `ResTable_typeSpec`).
 #[derive(Clone, Copy, Debug)]
@@ -20,8 +20,8 @@ pub(crate) struct TypeSpec<'a> {
 }
 
 impl<'a> TypeSpec<'a> {
-    ghost use Rattle.chunk_walk.specs.Chunk.{chunk_of};
-    ghost use Rattle.chunk_walk.specs.Number.{number};
+    ghost use Rattle.string_pool.specs.chunk_walk.Chunk.{chunk_of};
+    ghost use Rattle.string_pool.specs.chunk_walk.Number.{number};
     ghost use Rattle.type_chunks.specs.TypeSpec.{type_spec_of, seen_spec, type_spec_in};
 
     /// Reads a type spec from its chunk.

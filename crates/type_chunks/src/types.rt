@@ -2,7 +2,7 @@
 
 ghost use Rattle.std.specs.Prelude.{◌≡◌, ◌≤◌, Ok, IsOk, length};
 ghost use Rattle.std.specs.Slice.Iter.{iter_rest};
-ghost use Rattle.chunk_walk.specs.Chunk.{chunk_of, chunk_within};
+ghost use Rattle.string_pool.specs.chunk_walk.Chunk.{chunk_of, chunk_within};
 ghost use Rattle.type_chunks.specs.TypeSpec.{type_spec_of};
 ghost use Rattle.type_chunks.specs.TypeRows.{rows_of_type};
 ghost use Rattle.type_chunks.specs.TypePlaces.{spec_at, IsKept, AreKept, rows_at};
@@ -12,9 +12,9 @@ use crate::owner::Owner;
 use crate::type_chunk::TypeChunk;
 use crate::type_place::TypePlace;
 use crate::type_spec::TypeSpec;
-use chunk_walk::Chunk;
 use std::marker::Model;
 use std::slice::Iter;
+use string_pool::Chunk;
 
 /// The types of a package that are left, in the order of the file. Contracts see the rows of each.
 #[derive(Drop)]
@@ -28,7 +28,7 @@ pub struct Types<'t, 'a> {
 impl<'t, 'a> Model for Types<'t, 'a> {
     ghost use Rattle.std.specs.Prelude.{List, map};
     ghost use Rattle.std.specs.Slice.Iter.{iter_rest};
-    ghost use Rattle.chunk_walk.specs.Chunk.{chunk_of};
+    ghost use Rattle.string_pool.specs.chunk_walk.Chunk.{chunk_of};
     ghost use Rattle.type_chunks.specs.Row.{RowOf};
     ghost use Rattle.type_chunks.specs.TypePlaces.{rows_at};
 

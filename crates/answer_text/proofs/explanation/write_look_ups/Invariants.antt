@@ -1,5 +1,5 @@
 use Rattle.contract_words.proofs.TextSteps.{PutsAllBut}
-use Rattle.config_record.specs.DeviceSeen.{device_numbers}
+use Rattle.reference_resolver.specs.config_record.DeviceSeen.{device_numbers}
 use Rattle.reference_resolver.specs.Ends.{references_followed}
 use Rattle.reference_resolver.specs.Trace.{look_ups_of}
 use Rattle.answer_text.specs.ExplainText.{look_up_text}

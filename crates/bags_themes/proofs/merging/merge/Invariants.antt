@@ -2,7 +2,7 @@ use Rattle.std.proofs.Common.{◌≡◌, ◌++◌}
 use Rattle.bags_themes.specs.Bag.{rows_in}
 use Rattle.bags_themes.specs.FoundBag.{found_bag_of}
 use Rattle.bags_themes.specs.Merge.{merge}
-use Rattle.res_value.specs.MapRows.{map_rows_of}
+use Rattle.reference_resolver.specs.res_value.MapRows.{map_rows_of}
 use Rattle.bags_themes.proofs.merging.merge.Given as goal
 
 -- the rows so far stand before what the own rows and the inherited rows that are left become

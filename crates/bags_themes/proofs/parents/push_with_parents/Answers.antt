@@ -1,6 +1,6 @@
 use Rattle.std.proofs.Common.{sym, ap, ◌∙◌, arith}
 use Rattle.std.specs.Option.{option_map}
-use Rattle.config_record.specs.DeviceSeen.{device_numbers}
+use Rattle.reference_resolver.specs.config_record.DeviceSeen.{device_numbers}
 use Rattle.bags_themes.specs.FoundBag.{found_bag_of}
 use Rattle.bags_themes.proofs.ChainSteps.{ends_at, too_deep_at, goes_on_at, found_bags_of-last}
 use Rattle.bags_themes.proofs.parents.push_with_parents.Goals as goal

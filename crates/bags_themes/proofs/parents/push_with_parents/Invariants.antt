@@ -1,5 +1,5 @@
 use Rattle.std.proofs.Common.{◌≡◌, ◌<◌, ◌+◌, vec_len, vec_capacity}
-use Rattle.config_record.specs.DeviceSeen.{device_numbers}
+use Rattle.reference_resolver.specs.config_record.DeviceSeen.{device_numbers}
 use Rattle.contract_words.specs.Sequences.{with_front}
 use Rattle.bags_themes.specs.Bag.{chain_of}
 use Rattle.bags_themes.specs.FoundBag.{found_bag_of, found_bags_of}

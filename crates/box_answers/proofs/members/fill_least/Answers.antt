@@ -1,5 +1,5 @@
 use Rattle.std.proofs.Common.{rules, ◌≡◌, length, refl}
-use Rattle.config_record.specs.Coord.{number_at}
+use Rattle.config_precedence.specs.config_record.Coord.{number_at}
 use Rattle.box_answers.specs.NumberSet.{set_of, IsLeastIn}
 use Rattle.box_answers.specs.Members.{sets_of, set_at}
 use Rattle.box_answers.proofs.Coords.{every-coord}

@@ -1,6 +1,6 @@
 use Rattle.std.proofs.Common.{◌<◌}
-use Rattle.config_record.specs.declared.coord.Coord.{Coord}
-use Rattle.config_record.specs.Coord.{place_of, number_at}
+use Rattle.config_precedence.specs.config_record.declared.coord.Coord.{Coord}
+use Rattle.config_precedence.specs.config_record.Coord.{place_of, number_at}
 use Rattle.box_answers.specs.NumberSet.{IsLeastIn}
 use Rattle.box_answers.specs.Members.{sets_of, set_at}
 use Rattle.box_answers.proofs.members.fill_least.Given as goal

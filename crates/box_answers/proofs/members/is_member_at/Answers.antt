@@ -1,6 +1,6 @@
 use Rattle.std.proofs.Common.{rules, refl}
-use Rattle.config_record.specs.ComparedNumber.{device_number}
-use Rattle.config_record.specs.DeviceSeen.{device_numbers}
+use Rattle.config_precedence.specs.config_record.ComparedNumber.{device_number}
+use Rattle.config_precedence.specs.config_record.DeviceSeen.{device_numbers}
 use Rattle.box_answers.specs.NumberSet.{set_of, IsIn}
 use Rattle.box_answers.specs.Members.{sets_of, set_at}
 use Rattle.box_answers.proofs.Coords.{next-coord, every-coord}

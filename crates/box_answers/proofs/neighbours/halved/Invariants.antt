@@ -1,6 +1,6 @@
 use Rattle.std.proofs.Common.{◌+◌, ◌-◌}
-use Rattle.config_record.specs.ComparedNumber.{device_number}
-use Rattle.config_record.specs.DeviceSeen.{device_numbers}
+use Rattle.config_precedence.specs.config_record.ComparedNumber.{device_number}
+use Rattle.config_precedence.specs.config_record.DeviceSeen.{device_numbers}
 use Rattle.box_answers.specs.Members.{sets_of}
 use Rattle.box_answers.specs.Question.{answered}
 use Rattle.box_answers.specs.Sameness.{Parts}

@@ -1,5 +1,5 @@
 use Rattle.std.proofs.Common.{rules, ◌≡◌, true, refl, sym, ap, ◌∙◌, arith, List, length}
-use Rattle.config_record.specs.declared.coord.Coord.{Coord}
+use Rattle.config_precedence.specs.config_record.declared.coord.Coord.{Coord}
 use Rattle.box_answers.proofs.Coords.{all_coords-count}
 use Rattle.box_answers.proofs.Sides.{Approaches-next, Approaches-end}
 use Rattle.box_answers.proofs.neighbours.neighbours_among.Goals as goal

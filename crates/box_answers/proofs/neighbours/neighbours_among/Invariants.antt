@@ -1,4 +1,4 @@
-use Rattle.config_record.specs.DeviceSeen.{device_numbers}
+use Rattle.config_precedence.specs.config_record.DeviceSeen.{device_numbers}
 use Rattle.box_answers.specs.Members.{sets_of}
 use Rattle.box_answers.specs.Question.{answered}
 use Rattle.box_answers.proofs.Sides.{Approaches}

@@ -1,6 +1,6 @@
 use Rattle.std.proofs.Common.{sym, ◌∙◌}
-use Rattle.config_record.specs.Record.{record_bytes}
-use Rattle.config_record.specs.ComparedNumber.{record_number}
+use Rattle.config_precedence.specs.config_record.Record.{record_bytes}
+use Rattle.config_precedence.specs.config_record.ComparedNumber.{record_number}
 use Rattle.box_answers.proofs.Everywhere.{same-passes, numbers-same}
 use Rattle.box_answers.proofs.passing.passes_everywhere.Goals as goal
 

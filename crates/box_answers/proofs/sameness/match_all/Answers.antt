@@ -1,6 +1,6 @@
 use Rattle.std.proofs.Common.{◌≡◌, true, refl, sym, ◌∙◌}
-use Rattle.config_record.specs.Record.{record_bytes, is_set_aside}
-use Rattle.config_match.specs.Matching.{is_match}
+use Rattle.config_precedence.specs.config_record.Record.{record_bytes, is_set_aside}
+use Rattle.config_precedence.specs.config_match.Matching.{is_match}
 use Rattle.box_answers.proofs.sameness.match_all.Goals as goal
 
 pub returns-then-set_aside-clause-value : goal.returns-then-set_aside-clause-value

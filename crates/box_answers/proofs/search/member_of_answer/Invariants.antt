@@ -1,7 +1,7 @@
 use Rattle.std.proofs.Common.{drop}
-use Rattle.config_record.specs.Record.{record_bytes}
-use Rattle.config_record.specs.ComparedNumber.{record_number}
-use Rattle.config_record.specs.DeviceSeen.{device_numbers}
+use Rattle.config_precedence.specs.config_record.Record.{record_bytes}
+use Rattle.config_precedence.specs.config_record.ComparedNumber.{record_number}
+use Rattle.config_precedence.specs.config_record.DeviceSeen.{device_numbers}
 use Rattle.box_answers.specs.Members.{sets_of}
 use Rattle.box_answers.proofs.SearchSteps.{Reaches}
 use Rattle.box_answers.proofs.search.member_of_answer.Given as goal

@@ -1,6 +1,6 @@
 use Rattle.std.specs.Option.{option_map}
-use Rattle.box_answers.specs.Members.{IsMember}
-use Rattle.overlay_map.specs.Candidates.{cand_of, candidates_of}
+use Rattle.config_box.specs.box_answers.Members.{IsMember}
+use Rattle.reference_resolver.specs.overlay_map.Candidates.{cand_of, candidates_of}
 use Rattle.box_trace.proofs.Scans.{IsScanned}
 use Rattle.box_trace.proofs.selection.common_selection.Given as goal
 

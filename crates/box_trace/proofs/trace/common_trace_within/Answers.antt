@@ -1,6 +1,6 @@
 use Rattle.std.proofs.Common.{sym, ◌∙◌, ap}
 use Rattle.std.specs.Option.{option_map}
-use Rattle.overlay_map.specs.Candidates.{cand_of}
+use Rattle.reference_resolver.specs.overlay_map.Candidates.{cand_of}
 use Rattle.reference_resolver.specs.Ends.{cut_off}
 use Rattle.reference_resolver.specs.Trace.{trace_of}
 use Rattle.box_trace.specs.CommonTrace.{IsCommonTrace}

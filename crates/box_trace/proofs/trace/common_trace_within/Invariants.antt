@@ -1,4 +1,4 @@
-use Rattle.box_answers.specs.Members.{IsMember}
+use Rattle.config_box.specs.box_answers.Members.{IsMember}
 use Rattle.box_trace.proofs.Following.{IsFollowed}
 use Rattle.box_trace.proofs.trace.common_trace_within.Given as goal
 

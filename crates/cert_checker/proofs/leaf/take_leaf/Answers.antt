@@ -1,7 +1,7 @@
 use Rattle.std.proofs.Common.{◌≡◌, ◌≢◌, Some, sym, refl, subst}
 use Rattle.std.proofs.lemmas.Bool.{MatchBool-at_true, MatchBool-at_false}
-use Rattle.reference_resolver.specs.Ends.{references_followed}
-use Rattle.reference_resolver.specs.Trace.{trace_of}
+use Rattle.box_trace.specs.reference_resolver.Ends.{references_followed}
+use Rattle.box_trace.specs.reference_resolver.Trace.{trace_of}
 use Rattle.cert_checker.specs.declared.rule.Rule.{Rule}
 use Rattle.cert_checker.specs.declared.verdict.Shown.TheVariants.{One}
 use Rattle.cert_checker.specs.OpenBoxes.{TakesLeaf}

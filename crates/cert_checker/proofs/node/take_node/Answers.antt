@@ -1,8 +1,8 @@
 use Rattle.std.proofs.Common.{sym, subst}
 use Rattle.std.proofs.lemmas.Result.{IfOk-weaker}
-use Rattle.reference_resolver.specs.Ends.{references_followed}
-use Rattle.reference_resolver.specs.Trace.{trace_of}
-use Rattle.config_box.specs.Tests.{test_of}
+use Rattle.box_trace.specs.reference_resolver.Ends.{references_followed}
+use Rattle.box_trace.specs.reference_resolver.Trace.{trace_of}
+use Rattle.cert_tree.specs.config_box.Tests.{test_of}
 use Rattle.cert_tree.specs.declared.node.Node.{Node}
 use Rattle.cert_tree.specs.Certificate.{node_of}
 use Rattle.cert_checker.specs.OpenBoxes.{TakesNode}

@@ -1,7 +1,7 @@
 use Rattle.std.proofs.Common.{Some, sym, subst}
-use Rattle.config_box.specs.declared.split.Split.{Split}
-use Rattle.config_box.specs.Halves.{IsSplit}
-use Rattle.config_box.specs.Tests.{test_of}
+use Rattle.cert_tree.specs.config_box.declared.split.Split.{Split}
+use Rattle.cert_tree.specs.config_box.Halves.{IsSplit}
+use Rattle.cert_tree.specs.config_box.Tests.{test_of}
 use Rattle.cert_checker.specs.declared.failure.Failure.{Failure}
 use Rattle.cert_checker.specs.OpenBoxes.{TakesTest}
 use Rattle.cert_checker.proofs.BoxSteps.{pushed}

@@ -1,10 +1,10 @@
 use Rattle.std.proofs.Common.{◌≡◌, ℕ, List, [], ◌∷◌, ◌++◌, length, map, reverse, Some, sym, ◌∙◌, ap, subst, arith}
 use Rattle.std.proofs.lemmas.Grind.{common_steps}
 use Rattle.std.proofs.lemmas.List.{length-map}
-use Rattle.reference_resolver.specs.Ends.{references_followed}
-use Rattle.reference_resolver.specs.Trace.{Trace, trace_of}
-use Rattle.box_answers.specs.NumberSet.{SetOf}
-use Rattle.box_answers.specs.Members.{IsBox}
+use Rattle.box_trace.specs.reference_resolver.Ends.{references_followed}
+use Rattle.box_trace.specs.reference_resolver.Trace.{Trace, trace_of}
+use Rattle.cert_tree.specs.box_answers.NumberSet.{SetOf}
+use Rattle.cert_tree.specs.box_answers.Members.{IsBox}
 use Rattle.cert_tree.specs.Certificate.{NodeOf, node_of}
 use Rattle.cert_checker.specs.declared.failure.Failure.{Failure}
 use Rattle.cert_checker.specs.declared.rule.Rule.TheVariants.{EndsEarly}

@@ -1,6 +1,6 @@
 use Rattle.std.proofs.Common.{map}
-use Rattle.reference_resolver.specs.Ends.{references_followed}
-use Rattle.reference_resolver.specs.Trace.{trace_of}
+use Rattle.box_trace.specs.reference_resolver.Ends.{references_followed}
+use Rattle.box_trace.specs.reference_resolver.Trace.{trace_of}
 use Rattle.cert_tree.specs.Certificate.{node_of}
 use Rattle.cert_checker.proofs.TreeSteps.{PassedTo}
 use Rattle.cert_checker.proofs.tree.check_nodes.Given as goal

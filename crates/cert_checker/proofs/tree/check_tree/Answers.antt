@@ -1,9 +1,9 @@
 use Rattle.std.proofs.Common.{◌≡◌, ℕ, List, map, IfOk, sym, refl, subst}
 use borrow.Enum.Total.{values_d}
 use Rattle.cert_tree.specs.contracts.goal.Goal.{enum}
-use Rattle.reference_resolver.specs.Ends.{references_followed}
-use Rattle.reference_resolver.specs.Trace.{Trace, trace_of}
-use Rattle.overlay_map.specs.Layer.{LayerOf}
+use Rattle.box_trace.specs.reference_resolver.Ends.{references_followed}
+use Rattle.box_trace.specs.reference_resolver.Trace.{Trace, trace_of}
+use Rattle.box_trace.specs.overlay_map.Layer.{LayerOf}
 use Rattle.cert_tree.specs.declared.goal.Goal.{Goal}
 use Rattle.cert_tree.specs.declared.goal.Goal.TheVariants.{Id}
 use Rattle.cert_tree.specs.declared.node.Node.{Node}

@@ -1,8 +1,8 @@
 use Rattle.std.proofs.Common.{sym, ◌∙◌, ap}
 use Rattle.std.specs.Option.{option_map}
-use Rattle.overlay_map.specs.Candidates.{cand_of}
-use Rattle.reference_resolver.specs.Ends.{cut_off}
-use Rattle.box_trace.proofs.Following.{follow_more, follow_end}
+use Rattle.cert_checker.specs.overlay_map.Candidates.{cand_of}
+use Rattle.cert_checker.specs.reference_resolver.Ends.{cut_off}
+use Rattle.cert_checker.proofs.box_trace.Following.{follow_more, follow_end}
 use Rattle.cert_maker.proofs.Agreement.{follow-apart, share-same}
 use Rattle.cert_maker.proofs.alike.have_one_trace_within.Goals as goal
 

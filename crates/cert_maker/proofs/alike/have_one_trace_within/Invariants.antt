@@ -1,5 +1,5 @@
-use Rattle.config_record.specs.DeviceSeen.{device_numbers}
-use Rattle.box_trace.proofs.Following.{IsFollowed}
+use Rattle.cert_checker.specs.config_record.DeviceSeen.{device_numbers}
+use Rattle.cert_checker.proofs.box_trace.Following.{IsFollowed}
 use Rattle.cert_maker.specs.Pair.{IsOneOf}
 use Rattle.cert_maker.proofs.alike.have_one_trace_within.Given as goal
 

@@ -1,9 +1,9 @@
 use Rattle.std.proofs.Common.{sym, ◌∙◌}
 use Rattle.std.specs.Option.{option_map}
-use Rattle.overlay_map.specs.Candidates.{cand_of}
-use Rattle.reference_resolver.specs.Selection.{selected}
-use Rattle.config_record.specs.DeviceSeen.{device_numbers}
-use Rattle.box_trace.proofs.Scans.{scan_at, scan_end}
+use Rattle.cert_checker.specs.overlay_map.Candidates.{cand_of}
+use Rattle.cert_checker.specs.reference_resolver.Selection.{selected}
+use Rattle.cert_checker.specs.config_record.DeviceSeen.{device_numbers}
+use Rattle.cert_checker.proofs.box_trace.Scans.{scan_at, scan_end}
 use Rattle.cert_maker.proofs.Agreement.{scan-alike, scan-apart}
 use Rattle.cert_maker.proofs.alike.selected_by_both.Goals as goal
 

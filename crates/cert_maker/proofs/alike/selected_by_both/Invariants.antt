@@ -1,8 +1,8 @@
 use Rattle.std.specs.Option.{option_map}
-use Rattle.overlay_map.specs.Candidates.{cand_of, candidates_of}
-use Rattle.box_trace.proofs.Scans.{IsScanned}
+use Rattle.cert_checker.specs.overlay_map.Candidates.{cand_of, candidates_of}
+use Rattle.cert_checker.proofs.box_trace.Scans.{IsScanned}
 use Rattle.cert_maker.specs.Pair.{IsOneOf}
-use Rattle.config_record.specs.DeviceSeen.{device_numbers}
+use Rattle.cert_checker.specs.config_record.DeviceSeen.{device_numbers}
 use Rattle.cert_maker.proofs.alike.selected_by_both.Given as goal
 
 abbrev pub invariant-loop-candidate : goal.invariant-loop-candidate

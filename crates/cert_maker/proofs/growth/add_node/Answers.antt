@@ -1,8 +1,8 @@
 use Rattle.std.proofs.Common.{map, arith}
-use Rattle.overlay_map.specs.Layer.{most_layers}
-use Rattle.reference_resolver.specs.Ends.{references_followed}
-use Rattle.reference_resolver.specs.Trace.{trace_of}
-use Rattle.cert_tree.specs.Certificate.{node_of}
+use Rattle.cert_checker.specs.overlay_map.Layer.{most_layers}
+use Rattle.cert_checker.specs.reference_resolver.Ends.{references_followed}
+use Rattle.cert_checker.specs.reference_resolver.Trace.{trace_of}
+use Rattle.cert_checker.specs.cert_tree.Certificate.{node_of}
 use Rattle.cert_maker.proofs.Layers.{end-below}
 use Rattle.cert_maker.proofs.Steps.{grows-leaf, map-push}
 use Rattle.cert_maker.proofs.growth.add_node.Goals as goal

@@ -1,9 +1,9 @@
 use Rattle.std.proofs.Common.{map, subst}
-use Rattle.config_box.specs.declared.split.Split.{Split}
-use Rattle.config_box.specs.Tests.{test_of}
-use Rattle.config_box.specs.Halves.{IsSplit}
-use Rattle.cert_tree.specs.Certificate.{node_of}
-use Rattle.cert_tree.specs.declared.node.Node.TheVariants as code
+use Rattle.cert_checker.specs.config_box.declared.split.Split.{Split}
+use Rattle.cert_checker.specs.config_box.Tests.{test_of}
+use Rattle.cert_checker.specs.config_box.Halves.{IsSplit}
+use Rattle.cert_checker.specs.cert_tree.Certificate.{node_of}
+use Rattle.cert_checker.specs.cert_tree.declared.node.Node.TheVariants as code
 use Rattle.cert_checker.specs.declared.rule.Rule.TheVariants.{TestKind, EmptyHalf}
 use Rattle.cert_checker.proofs.BoxSteps.{pushed}
 use Rattle.cert_maker.proofs.Steps.{grows-test, map-push}

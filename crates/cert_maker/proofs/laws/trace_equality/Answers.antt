@@ -1,4 +1,4 @@
-use Rattle.reference_resolver.proofs.SameTraces.{tells-equal}
+use Rattle.cert_checker.proofs.reference_resolver.SameTraces.{tells-equal}
 use Rattle.cert_maker.proofs.laws.trace_equality.Goals as goal
 
 pub returns : goal.returns

@@ -1,12 +1,12 @@
 use Rattle.std.proofs.Common.{◌≡◌, ℕ, ◌+◌, ◌<◌, arith, suc, add-one, List, ◌∷◌, length, map, drop, drop-cons, get_or, refl, sym, ◌∙◌, ap, subst}
 use Rattle.std.proofs.lemmas.List.{drop_all}
 use borrow.Enum.Total.{values_d}
-use Rattle.cert_tree.specs.contracts.goal.Goal.{enum}
-use Rattle.overlay_map.specs.Layer.{LayerOf}
-use Rattle.box_answers.specs.NumberSet.{SetOf}
-use Rattle.cert_tree.specs.declared.goal.Goal.{Goal}
-use Rattle.cert_tree.specs.declared.goal.Goal.TheVariants.{Id}
-use Rattle.cert_tree.specs.Certificate.{goal_of}
+use Rattle.cert_checker.specs.cert_tree.contracts.goal.Goal.{enum}
+use Rattle.cert_checker.specs.overlay_map.Layer.{LayerOf}
+use Rattle.cert_checker.specs.box_answers.NumberSet.{SetOf}
+use Rattle.cert_checker.specs.cert_tree.declared.goal.Goal.{Goal}
+use Rattle.cert_checker.specs.cert_tree.declared.goal.Goal.TheVariants.{Id}
+use Rattle.cert_checker.specs.cert_tree.Certificate.{goal_of}
 use Rattle.cert_maker.specs.declared.trees.Trees.{Trees}
 use Rattle.cert_maker.specs.declared.made.Made.TheVariants.{Cert, NodeLimit}
 use Rattle.cert_maker.specs.Made.{IsMade, CanBeWritten}

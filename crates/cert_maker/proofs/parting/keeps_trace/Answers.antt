@@ -1,5 +1,5 @@
 use Rattle.std.proofs.Common.{◌∙◌}
-use Rattle.config_record.specs.DeviceSeen.{device_numbers}
+use Rattle.cert_checker.specs.config_record.DeviceSeen.{device_numbers}
 use Rattle.cert_maker.proofs.Kept.{changed-keeps}
 use Rattle.cert_maker.proofs.parting.keeps_trace.Goals as goal
 

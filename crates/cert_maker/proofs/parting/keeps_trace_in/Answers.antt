@@ -1,9 +1,9 @@
 use Rattle.std.proofs.Common.{rules, ◌∙◌, ap}
-use Rattle.config_record.specs.declared.coord.Coord.TheVariants.{Locale}
-use Rattle.config_record.specs.DeviceSeen.{device_numbers}
-use Rattle.config_record.proofs.LocaleGiven.{two_bytes}
-use Rattle.reference_resolver.specs.Ends.{references_followed}
-use Rattle.reference_resolver.specs.Trace.{trace_of}
+use Rattle.cert_checker.specs.config_record.declared.coord.Coord.TheVariants.{Locale}
+use Rattle.cert_checker.specs.config_record.DeviceSeen.{device_numbers}
+use Rattle.cert_checker.proofs.config_record.LocaleGiven.{two_bytes}
+use Rattle.cert_checker.specs.reference_resolver.Ends.{references_followed}
+use Rattle.cert_checker.specs.reference_resolver.Trace.{trace_of}
 use Rattle.cert_maker.specs.Pair.{keeps}
 use Rattle.cert_maker.proofs.Kept.{of-some-text}
 use Rattle.cert_maker.proofs.parting.keeps_trace_in.Goals as goal

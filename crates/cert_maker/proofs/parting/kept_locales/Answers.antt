@@ -1,7 +1,7 @@
 use Rattle.std.proofs.Common.{arith, ◌∙◌, ap}
 use Rattle.std.proofs.lemmas.Grind.{common_steps}
 use Rattle.std.proofs.lemmas.List.Elements.{All-same, All-push}
-use Rattle.config_record.specs.Locale.{IsOfSomeText}
+use Rattle.cert_checker.specs.config_record.Locale.{IsOfSomeText}
 use Rattle.cert_maker.proofs.parting.kept_locales.Goals as goal
 use Rattle.cert_maker.proofs.parting.kept_locales.Goals.{then-keeps_trace_in+in_ok-push, else-keeps_trace_in}
 

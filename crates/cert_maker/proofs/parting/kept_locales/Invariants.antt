@@ -1,9 +1,9 @@
 use Rattle.std.proofs.Common.{◌≡◌, filter, take}
 use Rattle.std.specs.List.{All}
-use Rattle.config_record.specs.DeviceSeen.{device_numbers}
-use Rattle.config_record.specs.Locale.{IsOfSomeText}
-use Rattle.reference_resolver.specs.Ends.{references_followed}
-use Rattle.reference_resolver.specs.Trace.{trace_of}
+use Rattle.cert_checker.specs.config_record.DeviceSeen.{device_numbers}
+use Rattle.cert_checker.specs.config_record.Locale.{IsOfSomeText}
+use Rattle.cert_checker.specs.reference_resolver.Ends.{references_followed}
+use Rattle.cert_checker.specs.reference_resolver.Trace.{trace_of}
 use Rattle.cert_maker.specs.Pair.{keeps_locale}
 use Rattle.cert_maker.proofs.parting.kept_locales.Given as goal
 

@@ -1,7 +1,7 @@
 use Rattle.std.proofs.Common.{◌≡◌, filter, take}
-use Rattle.config_record.specs.DeviceSeen.{device_numbers}
-use Rattle.reference_resolver.specs.Ends.{references_followed}
-use Rattle.reference_resolver.specs.Trace.{trace_of}
+use Rattle.cert_checker.specs.config_record.DeviceSeen.{device_numbers}
+use Rattle.cert_checker.specs.reference_resolver.Ends.{references_followed}
+use Rattle.cert_checker.specs.reference_resolver.Trace.{trace_of}
 use Rattle.cert_maker.specs.Pair.{keeps}
 use Rattle.cert_maker.proofs.parting.kept_numbers.Given as goal
 

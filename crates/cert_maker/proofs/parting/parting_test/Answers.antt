@@ -1,10 +1,10 @@
 use Rattle.std.proofs.Common.{◌≡◌, true, sym, ap}
-use Rattle.config_record.specs.DeviceSeen.{device_numbers}
-use Rattle.reference_resolver.specs.Ends.{references_followed}
-use Rattle.reference_resolver.specs.Trace.{trace_of}
-use Rattle.box_answers.specs.Members.{set_at}
-use Rattle.config_box.specs.Tests.{is_range}
-use Rattle.cert_tree.specs.declared.goal.Goal.TheVariants.{Id}
+use Rattle.cert_checker.specs.config_record.DeviceSeen.{device_numbers}
+use Rattle.cert_checker.specs.reference_resolver.Ends.{references_followed}
+use Rattle.cert_checker.specs.reference_resolver.Trace.{trace_of}
+use Rattle.cert_checker.specs.box_answers.Members.{set_at}
+use Rattle.cert_checker.specs.config_box.Tests.{is_range}
+use Rattle.cert_checker.specs.cert_tree.declared.goal.Goal.TheVariants.{Id}
 use Rattle.cert_maker.proofs.ByNumbers.{goal-by-numbers}
 use Rattle.cert_maker.specs.Pair.{keeps, keeps_locale}
 use Rattle.cert_maker.proofs.Cut.{cut-range}

@@ -1,11 +1,11 @@
 use Rattle.std.proofs.Common.{◌≡◌, ℕ, List, [], length, map, arith, ap, subst}
 use Rattle.std.proofs.lemmas.List.{length-map}
 use Rattle.std.proofs.lemmas.Grind.{common_steps}
-use Rattle.config_record.specs.DeviceSeen.{device_numbers}
-use Rattle.reference_resolver.specs.Ends.{references_followed}
-use Rattle.reference_resolver.specs.Trace.{Trace, trace_of}
-use Rattle.box_answers.specs.Members.{IsBox}
-use Rattle.cert_tree.specs.Certificate.{node_of}
+use Rattle.cert_checker.specs.config_record.DeviceSeen.{device_numbers}
+use Rattle.cert_checker.specs.reference_resolver.Ends.{references_followed}
+use Rattle.cert_checker.specs.reference_resolver.Trace.{Trace, trace_of}
+use Rattle.cert_checker.specs.box_answers.Members.{IsBox}
+use Rattle.cert_checker.specs.cert_tree.Certificate.{node_of}
 use Rattle.cert_maker.proofs.Steps.{when-none, when-some}
 use Rattle.cert_maker.proofs.Loop.{only-box, started, goes-on, done-passes, done-needed, done-fits, too-large, member-of-whole}
 use Rattle.cert_maker.proofs.tree.grow_tree.Goals as goal

@@ -1,7 +1,7 @@
 use Rattle.std.proofs.Common.{◌-◌, ◌≤◌, length, map, reverse}
-use Rattle.reference_resolver.specs.Ends.{references_followed}
-use Rattle.reference_resolver.specs.Trace.{trace_of}
-use Rattle.cert_tree.specs.Certificate.{node_of}
+use Rattle.cert_checker.specs.reference_resolver.Ends.{references_followed}
+use Rattle.cert_checker.specs.reference_resolver.Trace.{trace_of}
+use Rattle.cert_checker.specs.cert_tree.Certificate.{node_of}
 use Rattle.cert_maker.proofs.Loop.{Going}
 use Rattle.cert_maker.proofs.tree.grow_tree.Given as goal
 

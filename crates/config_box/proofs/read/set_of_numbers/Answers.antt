@@ -1,7 +1,7 @@
 use Rattle.std.proofs.Common.{◌≡◌, ◌==◌, ℕ, ◌<◌, List, length, get_or, nat_lt, false, Result, Ok, sym, ◌∙◌, ap, arith}
 use Rattle.std.specs.List.{list_any}
 use Rattle.std.proofs.lemmas.Bool.Decides.{nat_tests}
-use Rattle.config_record.specs.Coord.{is_outside}
+use Rattle.box_answers.specs.config_record.Coord.{is_outside}
 use Rattle.box_answers.specs.NumberSet.{SetOf, NumbersOf, set_of}
 use Rattle.box_answers.specs.Members.{most_values}
 use Rattle.config_box.specs.declared.box_fault.BoxFault.{BoxFault}

@@ -2,7 +2,7 @@ use Rattle.std.proofs.Common.{◌≡◌, ◌+◌, List, map, take, sym, subst}
 use Rattle.std.proofs.lemmas.Result.{err_from_is_err_and}
 use Rattle.serde_json.specs.View.{view}
 use Rattle.json_input.proofs.EachSteps.{EachAllBut, EachAllBut-next_seen, EachAllBut-stops}
-use Rattle.config_record.specs.declared.coord.Coord.{Coord}
+use Rattle.box_answers.specs.config_record.declared.coord.Coord.{Coord}
 use Rattle.config_box.specs.declared.written.Written.{Written}
 use Rattle.config_box.specs.BoxSeen.{pair_seen}
 use Rattle.config_box.specs.Written.{written_at}

@@ -1,5 +1,5 @@
 use Rattle.std.proofs.Common.{refl}
-use Rattle.config_record.specs.Coord.{place_of}
+use Rattle.config_rules.specs.config_record.Coord.{place_of}
 use Rattle.config_rules.specs.Rule.{beside}
 use Rattle.config_match.specs.Conditions.{all_conditions}
 use Rattle.config_match.proofs.table.conditions.Goals as goal

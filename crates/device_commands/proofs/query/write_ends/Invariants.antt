@@ -1,6 +1,6 @@
 use Rattle.std.proofs.Common.{drop}
 use Rattle.contract_words.proofs.TextSteps.{PutsAllBut}
-use Rattle.config_record.specs.DeviceSeen.{device_numbers}
+use Rattle.bags_themes.specs.config_record.DeviceSeen.{device_numbers}
 use Rattle.device_commands.specs.QueryOutput.{line_of}
 use Rattle.device_commands.proofs.QuerySteps.{StatusAllBut}
 use Rattle.device_commands.proofs.query.write_ends.Given as goal

@@ -1,5 +1,5 @@
 use Rattle.std.proofs.Common.{◌≡◌}
-use Rattle.config_record.specs.DeviceSeen.{device_numbers}
+use Rattle.config_precedence.specs.config_record.DeviceSeen.{device_numbers}
 use Rattle.reference_resolver.specs.Ends.{end_of}
 use Rattle.reference_resolver.proofs.references.resolve_within.Given as goal
 

@@ -1,6 +1,6 @@
 use Rattle.std.proofs.Common.{rules, ◌≡◌, None, subst, Option}
 use Rattle.std.specs.Option.{option_map}
-use Rattle.config_record.specs.DeviceSeen.{device_numbers}
+use Rattle.config_precedence.specs.config_record.DeviceSeen.{device_numbers}
 use Rattle.overlay_map.specs.Candidates.{CandOf, cand_of, candidates_of}
 use Rattle.reference_resolver.specs.Selection.{best_of}
 use Rattle.reference_resolver.specs.Takers.{IsTheSelected}

@@ -1,6 +1,6 @@
 use Rattle.std.proofs.Common.{Bool, arith, refl, ap, ◌∙◌}
 use Rattle.std.specs.Prelude.{not}
-use Rattle.chunk_walk.specs.Chunk.{chunk_of}
+use Rattle.type_chunks.specs.chunk_walk.Chunk.{chunk_of}
 use Rattle.resource_table.proofs.ChildrenSteps.{Knows-package, Knows-first-pool, Knows-later-pool, Knows-other-child}
 use Rattle.resource_table.proofs.table.push_child.Goals as goal
 

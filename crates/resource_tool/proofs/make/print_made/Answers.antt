@@ -1,6 +1,6 @@
 use Rattle.std.proofs.Common.{◌∷◌, ◌++◌, [], ap, ◌∙◌, sym}
-use Rattle.cert_tree.specs.CertJson.{cert_in}
-use Rattle.cert_tree.proofs.LineLemmas.{cert_in-line}
+use Rattle.cert_maker.specs.cert_tree.CertJson.{cert_in}
+use Rattle.cert_maker.proofs.cert_tree.LineLemmas.{cert_in-line}
 use Rattle.resource_tool.specs.MakeOutput.{certificate_line}
 use Rattle.resource_tool.proofs.make.print_made.Goals as goal
 use Rattle.resource_tool.proofs.make.print_made.Goals.{in-Cert+in_ok-text-in-Cert+in_ok-write_line-in-Cert, in-Counter+in_ok-write_counterexample-in-Counter, in-NodeLimit+in_ok-write_all-in-NodeLimit}

@@ -1,4 +1,4 @@
-use Rattle.command_base.specs.Output.{PrintsOneOf}
+use Rattle.program_run.specs.command_base.Output.{PrintsOneOf}
 use Rattle.resource_tool.specs.MakeOutput.{IsMakeOutput, make_inputs}
 use Rattle.program_run.specs.Inputs.{DeviceInputs, device_files}
 use Rattle.program_run.specs.FilesSeen.{devices_held}

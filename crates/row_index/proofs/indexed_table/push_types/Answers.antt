@@ -1,6 +1,6 @@
 use Rattle.std.proofs.Common.{◌++◌, List, ap}
-use Rattle.type_chunks.specs.Row.{RowOf}
-use Rattle.type_chunks.specs.TypeRows.{rows_of_types}
+use Rattle.resource_table.specs.type_chunks.Row.{RowOf}
+use Rattle.resource_table.specs.type_chunks.TypeRows.{rows_of_types}
 use Rattle.row_index.proofs.PlaceSteps.{rows-moved}
 use Rattle.row_index.proofs.indexed_table.push_types.Goals as goal
 

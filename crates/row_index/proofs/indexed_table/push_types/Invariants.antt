@@ -1,5 +1,5 @@
 use Rattle.std.proofs.Common.{◌≡◌, ◌++◌}
-use Rattle.type_chunks.specs.TypeRows.{rows_of_types, rows_of_each}
+use Rattle.resource_table.specs.type_chunks.TypeRows.{rows_of_types, rows_of_each}
 use Rattle.resource_table.specs.Package.{package_of}
 use Rattle.row_index.proofs.indexed_table.push_types.Given as goal
 

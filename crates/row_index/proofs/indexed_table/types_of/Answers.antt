@@ -1,6 +1,6 @@
 use Rattle.std.proofs.Common.{refl, sym}
 use Rattle.resource_table.specs.Package.{package_of, packages_of}
-use Rattle.type_chunks.proofs.TypeRowsSteps.{rows_of_types-none}
+use Rattle.resource_table.proofs.type_chunks.TypeRowsSteps.{rows_of_types-none}
 use Rattle.row_index.proofs.PackagesSteps.{rows_of_packages-none, rows_of_packages-next, package_at}
 use Rattle.row_index.proofs.indexed_table.types_of.Goals as goal
 

@@ -1,6 +1,6 @@
 use Rattle.std.proofs.Common.{◌≡◌, take}
 use Rattle.resource_table.specs.Package.{packages_of, rows_of_packages}
-use Rattle.type_chunks.specs.TypeRows.{rows_of_types}
+use Rattle.resource_table.specs.type_chunks.TypeRows.{rows_of_types}
 use Rattle.row_index.proofs.indexed_table.types_of.Given as goal
 
 -- the types are those of the packages so far

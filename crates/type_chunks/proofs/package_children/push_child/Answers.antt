@@ -1,5 +1,5 @@
 use Rattle.std.proofs.Common.{arith}
-use Rattle.chunk_walk.specs.Chunk.{chunk_of}
+use Rattle.string_pool.specs.chunk_walk.Chunk.{chunk_of}
 use Rattle.type_chunks.proofs.KnownSteps.{Knows-kept, Knows-other, on_ok}
 use Rattle.type_chunks.proofs.PlacesSteps.{spec-stands, specs-stand}
 use Rattle.type_chunks.proofs.package_children.push_child.Goals as goal

@@ -1,7 +1,7 @@
 use Rattle.std.proofs.Common.{◌≡◌, Option, Some, Ok, sym, ap, ◌∙◌}
 use Rattle.std.specs.Option.{option_map}
 use Rattle.std.proofs.lemmas.Result.{err_from_is_err_and}
-use Rattle.chunk_walk.specs.Chunk.{chunk_of}
+use Rattle.string_pool.specs.chunk_walk.Chunk.{chunk_of}
 use Rattle.type_chunks.specs.declared.type_spec.TypeSpec.{TypeSpec}
 use Rattle.type_chunks.specs.TypeSpec.{type_spec_of}
 use Rattle.type_chunks.specs.TypeChunk.{type_chunk_of}

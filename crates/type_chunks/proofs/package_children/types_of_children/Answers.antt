@@ -3,8 +3,8 @@ use Rattle.std.proofs.lemmas.Grind.{common_steps}
 use Rattle.std.proofs.lemmas.List.Elements.{All-nil, All-rest}
 use Rattle.std.proofs.lemmas.Result.{err_from_is_err_and}
 use Rattle.contract_words.proofs.SequenceSteps.{with_front_nil, ReadsKnowing-none, ReadsKnowing-next, ReadsKnowing-stops, ReadsKnowing-end}
-use Rattle.chunk_walk.specs.Chunk.{chunk_of}
-use Rattle.chunk_walk.specs.Chunks.{StandsIn}
+use Rattle.string_pool.specs.chunk_walk.Chunk.{chunk_of}
+use Rattle.string_pool.specs.chunk_walk.Chunks.{StandsIn}
 use Rattle.type_chunks.specs.KnownSpecs.{Knows}
 use Rattle.type_chunks.specs.TypePlaces.{IsKept}
 use Rattle.type_chunks.proofs.PlacesSteps.{rows_of_places-none, first-of}

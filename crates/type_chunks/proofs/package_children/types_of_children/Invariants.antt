@@ -2,8 +2,8 @@ use Rattle.std.proofs.Common.{◌+◌, ◌<◌, ◌^◌, [], length}
 use Rattle.std.specs.Prelude.{All}
 use Rattle.contract_words.specs.Sequences.{with_front}
 use Rattle.contract_words.proofs.SequenceSteps.{ReadsKnowing}
-use Rattle.chunk_walk.specs.Chunk.{chunk_of}
-use Rattle.chunk_walk.specs.Chunks.{children_of, StandsIn}
+use Rattle.string_pool.specs.chunk_walk.Chunk.{chunk_of}
+use Rattle.string_pool.specs.chunk_walk.Chunks.{children_of, StandsIn}
 use Rattle.type_chunks.specs.KnownSpecs.{Knows, SpecsStand}
 use Rattle.type_chunks.specs.TypePlaces.{AreKept, rows_of_places}
 use Rattle.type_chunks.specs.PackageChildren.{rows_of_child, rows_of_children}

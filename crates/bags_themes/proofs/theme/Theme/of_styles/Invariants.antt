@@ -1,5 +1,5 @@
 use Rattle.bags_themes.proofs.StyleSteps.{StylesAllBut}
-use Rattle.config_record.specs.DeviceSeen.{device_numbers}
+use Rattle.reference_resolver.specs.config_record.DeviceSeen.{device_numbers}
 use Rattle.bags_themes.proofs.theme.Theme.of_styles.Given as goal
 
 -- the theme has what the styles so far have set

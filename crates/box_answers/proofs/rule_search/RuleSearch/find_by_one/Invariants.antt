@@ -1,6 +1,6 @@
 use Rattle.std.proofs.Common.{ℕ, ◌<◌, ◌≢◌, get_or}
-use Rattle.config_record.specs.Record.{record_bytes}
-use Rattle.config_record.specs.ComparedNumber.{record_number}
+use Rattle.config_precedence.specs.config_record.Record.{record_bytes}
+use Rattle.config_precedence.specs.config_record.ComparedNumber.{record_number}
 use Rattle.box_answers.specs.NumberSet.{set_of}
 use Rattle.box_answers.specs.TriedNumbers.{tried_numbers}
 use Rattle.box_answers.specs.Changes.{answer_at}

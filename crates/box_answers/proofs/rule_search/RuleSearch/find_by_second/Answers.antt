@@ -1,9 +1,9 @@
 use Rattle.std.proofs.Common.{◌≡◌, ◌≢◌, ℕ, arith, ap, ◌∙◌, subst}
-use Rattle.config_record.specs.Coord.{place_of}
-use Rattle.config_record.specs.Record.{record_bytes}
-use Rattle.config_record.specs.ComparedNumber.{record_number, device_number}
-use Rattle.config_record.specs.DeviceSeen.{device_numbers}
-use Rattle.config_rules.specs.Rule.{rule_answer}
+use Rattle.config_precedence.specs.config_record.Coord.{place_of}
+use Rattle.config_precedence.specs.config_record.Record.{record_bytes}
+use Rattle.config_precedence.specs.config_record.ComparedNumber.{record_number, device_number}
+use Rattle.config_precedence.specs.config_record.DeviceSeen.{device_numbers}
+use Rattle.config_precedence.specs.config_rules.Rule.{rule_answer}
 use Rattle.box_answers.specs.NumberSet.{SetOf, IsIn, IsLeastIn, IsGreatestIn}
 use Rattle.box_answers.specs.Members.{sets_of}
 use Rattle.box_answers.specs.Changes.{answer_at}

@@ -1,7 +1,7 @@
 use Rattle.std.proofs.Common.{ℕ, subst, ap, ◌∙◌}
-use Rattle.config_record.specs.declared.device.Device.{Device}
-use Rattle.config_record.specs.Record.{record_bytes}
-use Rattle.config_record.specs.ComparedNumber.{record_number}
+use Rattle.config_precedence.specs.config_record.declared.device.Device.{Device}
+use Rattle.config_precedence.specs.config_record.Record.{record_bytes}
+use Rattle.config_precedence.specs.config_record.ComparedNumber.{record_number}
 use Rattle.box_answers.specs.NumberSet.{SetOf, IsIn, IsLeastIn, IsGreatestIn}
 use Rattle.box_answers.specs.Members.{sets_of}
 use Rattle.box_answers.specs.Changes.{answer_at}

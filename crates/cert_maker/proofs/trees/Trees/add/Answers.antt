@@ -1,10 +1,10 @@
 use Rattle.std.proofs.Common.{◌≡◌, ℕ, ◌+◌, ◌-◌, arith, List, [], ◌∷◌, ◌++◌, length, map, Some, sym, ◌∙◌, ap, subst}
 use Rattle.std.specs.Prelude.{slice_get}
 use Rattle.std.proofs.lemmas.List.{length-map, map-append}
-use Rattle.config_record.specs.DeviceSeen.{device_numbers}
-use Rattle.cert_tree.specs.declared.goal.Goal.{Goal}
-use Rattle.cert_tree.specs.declared.goal.Goal.TheVariants.{Id}
-use Rattle.cert_tree.specs.Certificate.{GoalOf, goal_of, node_of}
+use Rattle.cert_checker.specs.config_record.DeviceSeen.{device_numbers}
+use Rattle.cert_checker.specs.cert_tree.declared.goal.Goal.{Goal}
+use Rattle.cert_checker.specs.cert_tree.declared.goal.Goal.TheVariants.{Id}
+use Rattle.cert_checker.specs.cert_tree.Certificate.{GoalOf, goal_of, node_of}
 use Rattle.cert_maker.specs.Growth.{IsGrown}
 use Rattle.cert_maker.specs.Made.{IsCounterexample}
 use Rattle.cert_maker.specs.Trees.{AreDone}

@@ -1,6 +1,6 @@
 use Rattle.std.proofs.Common.{sym, ◌∙◌, ap}
 use Rattle.std.specs.Option.{option_map}
-use Rattle.config_record.specs.DeviceSeen.{device_numbers}
+use Rattle.config_precedence.specs.config_record.DeviceSeen.{device_numbers}
 use Rattle.overlay_map.specs.Candidates.{cand_of}
 use Rattle.reference_resolver.specs.Decision.{decision_by, step_by}
 use Rattle.reference_resolver.proofs.Traces.{step_told}

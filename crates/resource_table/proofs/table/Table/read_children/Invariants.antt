@@ -1,8 +1,8 @@
 use Rattle.std.proofs.Common.{◌+◌, ◌<◌, ◌^◌, [], length}
 use Rattle.contract_words.specs.Sequences.{with_front}
 use Rattle.contract_words.proofs.SequenceSteps.{ReadsKnowing}
-use Rattle.chunk_walk.specs.Chunk.{chunk_of}
-use Rattle.chunk_walk.specs.Chunks.{children_of}
+use Rattle.type_chunks.specs.chunk_walk.Chunk.{chunk_of}
+use Rattle.type_chunks.specs.chunk_walk.Chunks.{children_of}
 use Rattle.resource_table.specs.KnownChildren.{KnowsChildren}
 use Rattle.resource_table.specs.Package.{packages_of}
 use Rattle.resource_table.specs.Table.{packages_of_child, packages_of_children}

@@ -1,7 +1,7 @@
 use Rattle.std.proofs.Common.{ℕ, Bool, ◌≡◌, ◌<◌, length, sym, ap, ◌∙◌, arith}
 use Rattle.std.specs.Prelude.{◌==◌, ◌&&◌, if◌then◌else◌}
 use Rattle.std.proofs.lemmas.Result.{on_ok_weaker}
-use Rattle.res_value.specs.ResId.{package_of, type_of, entry_of}
+use Rattle.resource_table.specs.res_value.ResId.{package_of, type_of, entry_of}
 use Rattle.row_index.specs.Heads.{head_of_type}
 use Rattle.row_index.proofs.HeadSteps.{number_at, number_at-changed, id-parts}
 use Rattle.row_index.proofs.heads.Heads.set.Goals as goal

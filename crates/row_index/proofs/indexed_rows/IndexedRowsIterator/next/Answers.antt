@@ -2,8 +2,8 @@ use Rattle.std.proofs.Common.{◌≡◌, [], ◌∷◌, ◌+◌, ◌-◌, length
 use Rattle.std.proofs.lemmas.Grind.{common_steps}
 use Rattle.std.proofs.lemmas.Option.{slice_get_read}
 use Rattle.std.specs.Iterator.{YieldsFirstBy}
-use Rattle.type_chunks.specs.declared.checked_type.CheckedType.{CheckedType}
-use Rattle.type_chunks.specs.Row.{row_of}
+use Rattle.resource_table.specs.type_chunks.declared.checked_type.CheckedType.{CheckedType}
+use Rattle.resource_table.specs.type_chunks.Row.{row_of}
 use Rattle.row_index.specs.declared.link.Link.{Link}
 use Rattle.row_index.specs.Links.{numbers_from}
 use Rattle.row_index.specs.Places.{row_in, rows_in, StandIn}

@@ -1,10 +1,10 @@
 use Rattle.std.proofs.Common.{List, ℕ, drop, length, ap, subst, sym, arith, ◌∙◌, ◌≡◌, ◌+◌, ◌-◌, ◌<◌, [], refl}
 use Rattle.std.proofs.lemmas.List.{drop_all}
 use Rattle.std.proofs.lemmas.Option.{slice_get_read}
-use Rattle.type_chunks.specs.declared.checked_type.CheckedType.{CheckedType}
-use Rattle.type_chunks.specs.Row.{RowOf}
-use Rattle.type_chunks.specs.TypeRows.{rows_of_types}
-use Rattle.type_chunks.proofs.TypeRowsSteps.{rows_of_types-none}
+use Rattle.resource_table.specs.type_chunks.declared.checked_type.CheckedType.{CheckedType}
+use Rattle.resource_table.specs.type_chunks.Row.{RowOf}
+use Rattle.resource_table.specs.type_chunks.TypeRows.{rows_of_types}
+use Rattle.resource_table.proofs.type_chunks.TypeRowsSteps.{rows_of_types-none}
 use Rattle.row_index.specs.Places.{ArePlacesOf}
 use Rattle.row_index.proofs.PlaceSteps.{ArePlacesOf-none, ArePlacesOf-next, rows-from-number}
 use Rattle.row_index.proofs.row_places.RowPlaces.of_types.Goals as goal

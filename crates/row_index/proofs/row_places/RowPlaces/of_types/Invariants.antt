@@ -1,5 +1,5 @@
 use Rattle.std.proofs.Common.{◌≤◌, drop, length}
-use Rattle.type_chunks.specs.TypeRows.{rows_of_types}
+use Rattle.resource_table.specs.type_chunks.TypeRows.{rows_of_types}
 use Rattle.row_index.specs.Places.{AreLinked, ArePlacesOf}
 use Rattle.row_index.proofs.row_places.RowPlaces.of_types.Given as goal
 

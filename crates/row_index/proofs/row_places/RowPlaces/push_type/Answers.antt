@@ -1,6 +1,6 @@
 use Rattle.std.proofs.Common.{List, ◌≡◌, ◌++◌, replicate, subst, ◌∙◌}
-use Rattle.type_chunks.specs.Row.{RowOf, row_of}
-use Rattle.type_chunks.specs.TypeRows.{rows_of_type}
+use Rattle.resource_table.specs.type_chunks.Row.{RowOf, row_of}
+use Rattle.resource_table.specs.type_chunks.TypeRows.{rows_of_type}
 use Rattle.row_index.specs.Places.{numbers_for}
 use Rattle.row_index.proofs.PlaceSteps.{count_of, still-to-come}
 use Rattle.row_index.proofs.row_places.RowPlaces.push_type.Goals as goal

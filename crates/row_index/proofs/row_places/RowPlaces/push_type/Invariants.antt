@@ -1,5 +1,5 @@
 use Rattle.std.proofs.Common.{◌≡◌, ℕ, ◌++◌, replicate}
-use Rattle.type_chunks.specs.TypeRows.{rows_of_type}
+use Rattle.resource_table.specs.type_chunks.TypeRows.{rows_of_type}
 use Rattle.row_index.specs.Places.{AreLinked, numbers_for}
 use Rattle.row_index.proofs.PlaceSteps.{count_of}
 use Rattle.row_index.proofs.row_places.RowPlaces.push_type.Given as goal

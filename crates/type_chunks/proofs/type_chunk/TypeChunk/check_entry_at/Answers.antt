@@ -1,5 +1,5 @@
 use Rattle.std.proofs.Common.{◌≡◌, ℕ, ◌+◌, true, false, Result, sym, ap, subst, ◌∙◌, arith}
-use Rattle.chunk_walk.specs.Number.{number}
+use Rattle.string_pool.specs.chunk_walk.Number.{number}
 use Rattle.res_value.specs.Cell.{CellOf}
 use Rattle.type_chunks.specs.declared.fault.TableFault.{TableFault}
 use Rattle.type_chunks.specs.Checks.{Checks}

@@ -1,4 +1,4 @@
-use Rattle.chunk_walk.specs.Chunk.{chunk_of}
+use Rattle.string_pool.specs.chunk_walk.Chunk.{chunk_of}
 use Rattle.type_chunks.specs.TypePlaces.{IsKept}
 use Rattle.type_chunks.proofs.PlacesSteps.{all-behind}
 use Rattle.type_chunks.proofs.types.TypesIterator.next.Goals as goal
