@@ -1,8 +1,7 @@
 //! From words to the exit status.
 
-ghost use Rattle.std.specs.Prelude.{◌≡◌, ◌≢◌, [], false, map, Ok, Err, OnOk, IsOk, IfOk, IfErr, IfSome, string_bytes};
-ghost use Rattle.std.specs.Io.Buffered.{writer_buffer, writer_contents, writer_inner};
-ghost use Rattle.std.specs.Io.KnownBytes.{Keeps};
+ghost use Rattle.std.specs.Prelude.{◌≡◌, ◌≢◌, [], false, map, IfErr, IfSome, string_bytes};
+ghost use Rattle.std.specs.Io.Buffered.{writer_buffer, writer_inner};
 ghost use Rattle.program_run.specs.fault_text.declared.fault.ToolFault.TheVariants.{Write};
 ghost use Rattle.restool.specs.Answers.{Answers};
 ghost use Rattle.restool.specs.Run.{Runs};

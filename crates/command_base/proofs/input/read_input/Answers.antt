@@ -1,6 +1,6 @@
 -- What was read, where too much came or the end did not.
 use Rattle.std.proofs.Common.{◌<◌, ◌++◌, length, take, arith, length-append}
-use Rattle.std.proofs.KnownBytes.{Consumes-trans, Consumes-kept}
+use Rattle.std.proofs.KnownBytes.{Consumes-trans}
 use Rattle.command_base.proofs.input.read_input.Goals as goal
 
 pub returns-in-Ok : goal.returns-in-Ok
