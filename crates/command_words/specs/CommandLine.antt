@@ -32,7 +32,7 @@ most_nodes = 1000000
 abbrev pub nodes_if_left_out : ℕ
 nodes_if_left_out = 100000
 
--- such a number behind `--NAME`, which may be left out
+-- such a number after `--NAME`, which may be left out
 abbrev pub nodes : List ℕ → Rule
 nodes name = record (new_rule name) {
   long = Some name;

@@ -127,7 +127,7 @@ ReadsWords words result =
     (fault_of command_line words ≡ [])
     × ((name : List ℕ) × (rows : List Row) × (subcommand_of command_line words ≡ Some (name, rows)) × ReadsCommand (command_of name) rows result)
 
--- The same, where there may be no words behind the program's name: they ask for the rows of the standard input.
+-- The same, where there may be no words after the program's name: they ask for the rows of the standard input.
 abbrev pub AsksFor : List (List ℕ) → Result Request WordsFault → Type 0
 AsksFor (name ∷ word ∷ words) result = ReadsWords (name ∷ word ∷ words) result
 AsksFor _ result = IsOkAnd result (AsksForRows (codes "-"))

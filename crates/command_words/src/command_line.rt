@@ -10,9 +10,9 @@ use clap::error::ErrorKind;
 use clap::{Arg, ArgAction, Command, value_parser};
 use std::alloc::Global;
 
-/// What `--version` prints behind the program's name: its version, and the line of `rt version` that
+/// What `--version` prints after the program's name: its version, and the line of `rt version` that
 /// it was proved with.
-const VERSION: &str = "0.1.0, proved with rattle-kit-13b logic dac8208d650f15bf";
+const VERSION: &str = "0.1.0, proved with rattle-kit-13f logic dac8208d650f15bf";
 
 const ABOUT: &str = "Reads Android's compiled resource tables (resources.arsc)";
 
@@ -45,7 +45,7 @@ pub(crate) const MAKE: &str = "make";
 
 pub(crate) const CHECK: &str = "check";
 
-/// How a command is written: its name, and the arguments behind it.
+/// How a command is written: its name, and the arguments after it.
 struct Usage {
     name: &'static str,
     about: &'static str,
@@ -110,7 +110,7 @@ enum Takes {
     Words,
     /// Nothing: it is a flag.
     Nothing,
-    /// A number of nodes, behind the argument's name.
+    /// A number of nodes, after the argument's name.
     Nodes,
 }
 
