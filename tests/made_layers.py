@@ -63,6 +63,31 @@ def type_chunk(count, entry, record, cell):
     return chunk(0x0201, header, struct.pack(f"<{count}I", *offsets) + entry_bytes(cell))
 
 
+def pool_chunk(texts):
+    """A pool of these texts, in ASCII and shorter than 128 bytes."""
+    strings = [bytes([len(text)] * 2) + text.encode() + b"\0" for text in texts]
+    offsets = [sum(map(len, strings[:place])) for place in range(len(strings))]
+    stored = b"".join(strings)
+    header = struct.pack("<5I", len(strings), 0, 0x100, 28 + 4 * len(strings), 0)
+    return chunk(0x0001, header, struct.pack(f"<{len(offsets)}I", *offsets) + stored + b"\0" * (-len(stored) % 4))
+
+
+def entries_chunk(type_id, record, entries, is_sparse):
+    """A type with these entries, the bytes of each by its index. The indexes rise. Equal bytes stand once."""
+    starts, stored = {}, b""
+    for entry in entries.values():
+        if entry not in starts:
+            starts[entry] = len(stored)
+            stored += entry
+    if is_sparse:
+        offsets = b"".join(struct.pack("<HH", index, starts[entry] // 4) for index, entry in entries.items())
+    else:
+        dense = [starts[entries[index]] if index in entries else NO_ENTRY for index in range(1 + max(entries, default=-1))]
+        offsets = struct.pack(f"<{len(dense)}I", *dense)
+    header = struct.pack("<BBHII", type_id, is_sparse, 0, len(offsets) // 4, 72 + len(offsets))
+    return chunk(0x0201, header + record_bytes(record), offsets + stored)
+
+
 def table_bytes(rows):
     """A table of one package and one type. A row is an id, a configuration and a cell."""
     count = 1 + max((name & 0xFFFF for name, _, _ in rows), default=0)

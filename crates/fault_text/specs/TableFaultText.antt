@@ -39,7 +39,6 @@ table_fault_text (of_table.PackageHeader place) = named_number (codes "PackageHe
 table_fault_text (of_table.Pool place fault) = pool_fault_text place fault
 table_fault_text (of_table.TypeId place) = named_number (codes "TypeId") place
 table_fault_text (of_table.TypeWithoutSpec place) = named_number (codes "TypeWithoutSpec") place
-table_fault_text (of_table.SparseType place) = named_number (codes "SparseType") place
 table_fault_text (of_table.Config place) = named_number (codes "Config") place
 table_fault_text (of_table.Offsets place) = named_number (codes "Offsets") place
 table_fault_text (of_table.Entry place) = named_number (codes "Entry") place

@@ -26,7 +26,6 @@ pub(crate) fn write_table_fault<W: Write + Drop>(fault: TableFault, out: &mut W)
             place as u128,
             out,
         ),
-        TableFault::SparseType(place) => write_named_number("SparseType", place as u128, out),
         TableFault::Config(place) => write_named_number("Config", place as u128, out),
         TableFault::Offsets(place) => write_named_number("Offsets", place as u128, out),
         TableFault::Entry(place) => write_named_number("Entry", place as u128, out),

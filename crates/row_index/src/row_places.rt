@@ -14,7 +14,7 @@ use std::alloc::{AllocError, Global};
 const ENTRIES: usize = 0x1_0000;
 
 /// The rows of each id, linked from its first in the order of the file to its last: eight bytes for each
-/// row, and four for each entry of a type.
+/// row, and four for each entry that a type spec counts.
 #[derive(Debug, Drop)]
 pub(crate) struct RowPlaces {
     pub(crate) heads: Heads,
@@ -56,7 +56,7 @@ impl RowPlaces {
         let Ok(number) = u32::try_from(number) else {
             return Err(AllocError);
         };
-        let entries = of.entry_count().min(ENTRIES);
+        let entries = of.counted_entries().min(ENTRIES);
         self.heads
             .make_room(alloc, of.package_id(), of.id(), entries)?;
         for row in of.rows() {

@@ -1,4 +1,4 @@
-//! The table of one entry with names: two string pools stand behind its package's header, one with the
+//! The table of one entry with names: two string pools stand after its package's header, one with the
 //! name of the type, "s", and one with that of the key, "k". It is 488 bytes long.
 
 use crate::unnamed_entry::{put, table_a};

@@ -8,7 +8,7 @@ pub(crate) const STRING_POOL: u16 = 0x0001;
 /// Set where the strings of a pool are UTF-8.
 const UTF8_FLAG: u32 = 1 << 8;
 
-/// Where the strings or the styles of a pool stand, behind its header and one offset.
+/// Where the strings or the styles of a pool stand, after its header and one offset.
 const PART_START: u32 = 32;
 
 /// The bytes of a pool whose one string stands at this offset of what its strings are.
@@ -37,9 +37,9 @@ fn pool(alloc: Global, numbers: [u32; 5], offset: u32, part: &[u8]) -> Result<Ve
     let mut body = Vec::new(alloc);
     push_u32(&mut body, offset)?;
     body.extend_from_slice(part)?;
-    let behind = part.len() % 4;
-    if behind > 0 {
-        body.extend_from_slice(&[0; 4][behind..])?;
+    let left_over = part.len() % 4;
+    if left_over > 0 {
+        body.extend_from_slice(&[0; 4][left_over..])?;
     }
     let mut pool = Vec::new(alloc);
     push_chunk(&mut pool, STRING_POOL, &header, &body)?;

@@ -6,26 +6,28 @@ use Rattle.std.proofs.lemmas.Bool.Decides.{nat_tests}
 use Rattle.std.specs.List.{range_with_len, flat_map}
 use Rattle.contract_words.specs.Sequences.{joined, joined_each, joined_from}
 use Rattle.type_chunks.specs.declared.fault.TableFault.{TableFault}
+use Rattle.type_chunks.specs.declared.fault.TableFault.TheVariants as faults
 use Rattle.type_chunks.specs.Row.{RowOf}
 use Rattle.type_chunks.specs.TypeChunk.{TypeChunkOf}
 use Rattle.type_chunks.specs.Entry.{rows_of_entry}
 use Rattle.type_chunks.specs.PackageChildren.{rows_of_entries}
-use Rattle.type_chunks.specs.Entries.{is_empty, AreEmpty, AreRead, or_none, row_of_index, rows_from}
+use Rattle.type_chunks.specs.Slots.{is_empty, indexes_rise}
+use Rattle.type_chunks.specs.Entries.{AreEmpty, AreRead, IsChecked, or_none, row_of_slot, rows_from}
 
 -- where no entry is, nothing is wrong, and no row is
-pub empty-read : (chunk : TypeChunkOf) (index : ℕ) → is_empty chunk index ≡ true → rows_of_entry chunk index ≡ Ok []
+pub empty-read : (chunk : TypeChunkOf) (slot : ℕ) → is_empty chunk slot ≡ true → rows_of_entry chunk slot ≡ Ok []
 unfolding rows_of_entry
-empty-read chunk index none = rw none refl
+empty-read chunk slot none = rw none refl
 
 pub AreRead-empty : (chunk : TypeChunkOf) (from behind : ℕ) → AreRead chunk from → AreEmpty chunk from behind → AreRead chunk behind
-AreRead-empty chunk from behind read empty index below = by (nat_lt index from) refl
+AreRead-empty chunk from behind read empty slot below = by (nat_lt slot from) refl
   where
-    by : (b : Bool) → nat_lt index from ≡ b → IsOk (rows_of_entry chunk index)
-    by true e = read index (grind (arith, nat_tests))
-    by false e = rw (empty-read chunk index (empty index (grind (arith, nat_tests)) below)) refl
+    by : (b : Bool) → nat_lt slot from ≡ b → IsOk (rows_of_entry chunk slot)
+    by true e = read slot (grind (arith, nat_tests))
+    by false e = rw (empty-read chunk slot (empty slot (grind (arith, nat_tests)) below)) refl
 
-pub AreRead-next : (chunk : TypeChunkOf) (from index : ℕ) → AreRead chunk from → AreEmpty chunk from index → IsOk (rows_of_entry chunk index) → AreRead chunk (index + 1)
-AreRead-next chunk from index read empty one = below_more (λ i. IsOk (rows_of_entry chunk i)) index (AreRead-empty chunk from index read empty) one
+pub AreRead-next : (chunk : TypeChunkOf) (from slot : ℕ) → AreRead chunk from → AreEmpty chunk from slot → IsOk (rows_of_entry chunk slot) → AreRead chunk (slot + 1)
+AreRead-next chunk from slot read empty one = below_more (λ i. IsOk (rows_of_entry chunk i)) slot (AreRead-empty chunk from slot read empty) one
 
 -- ---- the rows of all entries, or the first fault
 
@@ -59,15 +61,19 @@ module _ (f : ℕ → Result (List RowOf) TableFault) where
       let same : s + 1 + k ≡ s + suc k = omega arith in
       fault-behind s n (f s) fault refl (all s (omega arith) (omega arith)) (joined-stops n (s + 1) k fault (omega arith) (λ i above less. all i (omega arith) (omega arith)) (ap f same ∙ wrong))
 
-pub rows_of_entries-read : (chunk : TypeChunkOf) → AreRead chunk chunk.entry_count → rows_of_entries chunk ≡ Ok (rows_from chunk 0)
-unfolding joined_from joined_each rows_from row_of_index
-rows_of_entries-read chunk read = joined-all (rows_of_entry chunk) 0 (chunk.entry_count - 0) (λ i from below. read i (omega arith))
+pub rows_of_entries-read : (chunk : TypeChunkOf) → IsChecked chunk → rows_of_entries chunk ≡ Ok (rows_from chunk 0)
+unfolding joined_from joined_each rows_from row_of_slot
+rows_of_entries-read chunk checked = rw checked.rise (joined-all (rows_of_entry chunk) 0 (chunk.entry_count - 0) (λ i from below. checked.read i (omega arith)))
 
-pub rows_of_entries-stops : (chunk : TypeChunkOf) (from index : ℕ) (fault : TableFault) → AreRead chunk from → AreEmpty chunk from index → index < chunk.entry_count
-    → rows_of_entry chunk index ≡ Err fault → rows_of_entries chunk ≡ Err fault
+-- where the indexes do not rise, no entry is looked at
+pub rows_of_entries-falls : (chunk : TypeChunkOf) → indexes_rise chunk ≡ false → rows_of_entries chunk ≡ Err (faults.Offsets chunk.place)
+rows_of_entries-falls chunk falls = rw falls refl
+
+pub rows_of_entries-stops : (chunk : TypeChunkOf) (from slot : ℕ) (fault : TableFault) → indexes_rise chunk ≡ true → AreRead chunk from → AreEmpty chunk from slot → slot < chunk.entry_count
+    → rows_of_entry chunk slot ≡ Err fault → rows_of_entries chunk ≡ Err fault
 unfolding joined_from joined_each
-rows_of_entries-stops chunk from index fault read empty within wrong =
-    let same : 0 + index ≡ index = omega arith in
-    joined-stops (rows_of_entry chunk) (chunk.entry_count - 0) 0 index fault (omega arith) (λ i above below. AreRead-empty chunk from index read empty i (omega arith)) (ap (λ i. rows_of_entry chunk i) same ∙ wrong)
+rows_of_entries-stops chunk from slot fault rise read empty within wrong =
+    let same : 0 + slot ≡ slot = omega arith in
+    rw rise (joined-stops (rows_of_entry chunk) (chunk.entry_count - 0) 0 slot fault (omega arith) (λ i above below. AreRead-empty chunk from slot read empty i (omega arith)) (ap (λ i. rows_of_entry chunk i) same ∙ wrong))
 
-pub ruleset check_steps = (AreRead-empty, AreRead-next, rows_of_entries-stops)
+pub ruleset check_steps = (AreRead-empty, AreRead-next, rows_of_entries-falls, rows_of_entries-stops)

@@ -1,4 +1,5 @@
 pub mod KnownSteps
+pub mod SlotSteps
 pub mod EntrySteps
 pub mod EntriesSteps
 pub mod TypeRowsSteps

@@ -24,7 +24,7 @@ use Rattle.type_chunks.specs.FoundChunk.{found_chunk}
 use Rattle.type_chunks.specs.Row.{RowOf}
 use Rattle.type_chunks.specs.TypeSpec.{TypeSpecOf, type_spec_of, type_spec_in}
 use Rattle.type_chunks.specs.TypeChunk.{TypeChunkOf, type_with, type_in}
-use Rattle.type_chunks.specs.Entries.{AreRead, rows_from}
+use Rattle.type_chunks.specs.Entries.{IsChecked, rows_from}
 use Rattle.type_chunks.specs.KnownSpecs.{kept_for, Knows, SpecsStand}
 use Rattle.type_chunks.specs.PackageChildren.{rows_of_entries, rows_of_child, rows_of_kept}
 use Rattle.type_chunks.specs.TypePlaces.{spec_at, SpecStands, type_at, IsKept, AreKept, rows_of_read, rows_at, rows_of_places}
@@ -51,11 +51,11 @@ module _ (owner : Owner) (within : ChunkOf) where
   type_at-found place chunk spec found of = rw (found, of) refl
 
   pub keeps : (places : List TypePlace) (place : TypePlace) (chunk : TypeChunkOf) → AreKept owner within places → place.chunk ≤ length within.whole → place.spec ≤ length within.whole
-      → type_at owner within place ≡ Ok chunk → chunk.entry_count < 2 ^ 32 → AreRead chunk chunk.entry_count → AreKept owner within (places ++ place ∷ [])
+      → type_at owner within place ≡ Ok chunk → chunk.entry_count < 2 ^ 32 → IsChecked chunk → AreKept owner within (places ++ place ∷ [])
   keeps places place chunk kept inside spec_inside is few read =
-      All-push (IsKept owner within) places place kept (inside, spec_inside, rw is refl, λ x e. let same : chunk ≡ x = cc in subst (λ (t : TypeChunkOf). (t.entry_count < 2 ^ 32) × AreRead t t.entry_count) same (few, read))
+      All-push (IsKept owner within) places place kept (inside, spec_inside, rw is refl, λ x e. let same : chunk ≡ x = cc in subst (λ (t : TypeChunkOf). (t.entry_count < 2 ^ 32) × IsChecked t) same (few, read))
 
-  pub pushes-place : (places : List TypePlace) (place : TypePlace) (chunk : TypeChunkOf) → type_at owner within place ≡ Ok chunk → AreRead chunk chunk.entry_count
+  pub pushes-place : (places : List TypePlace) (place : TypePlace) (chunk : TypeChunkOf) → type_at owner within place ≡ Ok chunk → IsChecked chunk
       → with_front (rows_of_places owner within places) (rows_of_entries chunk) ≡ Ok (rows_of_places owner within (places ++ place ∷ []))
   unfolding rows_of_places rows_at
   pushes-place places place chunk is read =
@@ -84,7 +84,7 @@ module _ (owner : Owner) (within : ChunkOf) where
 
   -- ---- how many rows they have
 
-  few-of : (read : Result TypeChunkOf TableFault) → ForOk read (λ chunk. (chunk.entry_count < 2 ^ 32) × AreRead chunk chunk.entry_count) → length (rows_of_read read) ≤ 2 ^ 32
+  few-of : (read : Result TypeChunkOf TableFault) → ForOk read (λ chunk. (chunk.entry_count < 2 ^ 32) × IsChecked chunk) → length (rows_of_read read) ≤ 2 ^ 32
   few-of (Ok chunk) few = omega (arith, length-rows_of_chunk chunk, (few chunk refl).0)
   few-of (Err fault) few = omega arith
 
@@ -162,7 +162,7 @@ module _ (owner : Owner) (specs : KnownSpecs) (before : List (Result ChunkOf Chu
   entries-fault rows read fault e wrong = ap (λ (r : Result (List RowOf) TableFault). with_front rows r) (child-rows (Ok read) e ∙ wrong)
 
   pub type-pushed : (within : ChunkOf) (places : List TypePlace) (place : TypePlace) (read : TypeChunkOf) → Ok read ≡ type_with owner (option_map type_spec_of found) chunk
-      → type_at owner within place ≡ Ok read → AreRead read read.entry_count
+      → type_at owner within place ≡ Ok read → IsChecked read
       → with_front (rows_of_places owner within places) (rows_of_child owner (before, Ok chunk)) ≡ Ok (rows_of_places owner within (places ++ place ∷ []))
   type-pushed within places place read e at all =
       ap (λ (r : Result (List RowOf) TableFault). with_front (rows_of_places owner within places) r) (child-rows (Ok read) e) ∙ pushes-place owner within places place read at all

@@ -1,10 +1,9 @@
 -- How the rows of types go on.
-use Rattle.std.proofs.Common.{◌≡◌, ℕ, zero, suc, ◌+◌, ◌-◌, ◌*◌, ◌<◌, ◌≤◌, Bool, true, false, List, [], ◌∷◌, ◌++◌, length, length-append, Result, Ok, Err, refl, sym, ap, subst, ◌∙◌, arith}
+use Rattle.std.proofs.Common.{◌≡◌, ℕ, zero, suc, ◌+◌, ◌-◌, ◌<◌, ◌≤◌, Bool, true, false, List, [], ◌∷◌, ◌++◌, length, length-append, Result, Ok, Err, refl, sym, ap, subst, ◌∙◌, arith}
 use Rattle.std.specs.Prelude.{cond, nat_le, if◌then◌else◌}
 use Rattle.std.specs.List.{range_with_len, flat_map}
 use Rattle.std.proofs.lemmas.Bool.Decides.{nat_tests}
 use Rattle.std.proofs.lemmas.List.Sums.{sum_by-append}
-use Rattle.string_pool.specs.chunk_walk.Number.{number}
 use Rattle.res_value.specs.Cell.{CellOf}
 use Rattle.type_chunks.specs.declared.fault.TableFault.{TableFault}
 use Rattle.type_chunks.specs.declared.checked_type.CheckedType.{CheckedType}
@@ -12,39 +11,40 @@ use Rattle.config_record.specs.Record.{record_bytes, is_set_aside}
 use Rattle.type_chunks.specs.Row.{RowOf, set_aside_count}
 use Rattle.type_chunks.specs.TypeChunk.{TypeChunkOf, type_chunk_of}
 use Rattle.type_chunks.specs.Entry.{is_row, row_of_entry, rows_of_entry, rows_of_entry_at}
-use Rattle.type_chunks.specs.Entries.{is_empty, AreEmpty, or_none, row_of_index, rows_from, held_at}
+use Rattle.type_chunks.specs.Slots.{index_of, is_empty, offset_of}
+use Rattle.type_chunks.specs.Entries.{AreEmpty, or_none, row_of_slot, rows_from, held_at}
 use Rattle.type_chunks.specs.TypeRows.{rows_of_type, rows_of_types}
 use Rattle.type_chunks.proofs.EntrySteps.{rows_with, entry_at-with}
 use Rattle.type_chunks.proofs.EntriesSteps.{empty-read}
 
 -- ---- the rows of a type
 
-pub rows_from-next : (chunk : TypeChunkOf) (index : ℕ) → index < chunk.entry_count → rows_from chunk index ≡ row_of_index chunk index ++ rows_from chunk (index + 1)
+pub rows_from-next : (chunk : TypeChunkOf) (slot : ℕ) → slot < chunk.entry_count → rows_from chunk slot ≡ row_of_slot chunk slot ++ rows_from chunk (slot + 1)
 unfolding rows_from
-rows_from-next chunk index below =
-    let left : chunk.entry_count - index ≡ suc (chunk.entry_count - (index + 1)) = omega arith in rw left refl
+rows_from-next chunk slot below =
+    let left : chunk.entry_count - slot ≡ suc (chunk.entry_count - (slot + 1)) = omega arith in rw left refl
 
-pub rows_from-end : (chunk : TypeChunkOf) (index : ℕ) → chunk.entry_count ≤ index → rows_from chunk index ≡ []
+pub rows_from-end : (chunk : TypeChunkOf) (slot : ℕ) → chunk.entry_count ≤ slot → rows_from chunk slot ≡ []
 unfolding rows_from
-rows_from-end chunk index past = let left : chunk.entry_count - index ≡ 0 = omega arith in rw left refl
+rows_from-end chunk slot past = let left : chunk.entry_count - slot ≡ 0 = omega arith in rw left refl
 
-empty-row : (chunk : TypeChunkOf) (index : ℕ) → is_empty chunk index ≡ true → row_of_index chunk index ≡ []
-unfolding row_of_index
-empty-row chunk index none = ap or_none (empty-read chunk index none)
+empty-row : (chunk : TypeChunkOf) (slot : ℕ) → is_empty chunk slot ≡ true → row_of_slot chunk slot ≡ []
+unfolding row_of_slot
+empty-row chunk slot none = ap or_none (empty-read chunk slot none)
 
--- a run of indexes without entries
+-- a run of slots without entries
 skip : (chunk : TypeChunkOf) (count from : ℕ) → from + count ≤ chunk.entry_count → AreEmpty chunk from (from + count) → rows_from chunk from ≡ rows_from chunk (from + count)
 skip chunk zero from within empty = ap (rows_from chunk) (omega arith)
 skip chunk (suc count) from within empty =
     rows_from-next chunk from (omega arith)
     ∙ ap (λ (rows : List RowOf). rows ++ rows_from chunk (from + 1)) (empty-row chunk from (empty from (omega arith) (omega arith)))
-    ∙ skip chunk count (from + 1) (omega arith) (λ index above below. empty index (omega arith) (omega arith))
+    ∙ skip chunk count (from + 1) (omega arith) (λ slot above below. empty slot (omega arith) (omega arith))
     ∙ ap (rows_from chunk) (omega arith)
 
 pub rows_from-empty : (chunk : TypeChunkOf) (from behind : ℕ) → from ≤ behind → behind ≤ chunk.entry_count → AreEmpty chunk from behind → rows_from chunk from ≡ rows_from chunk behind
 rows_from-empty chunk from behind ordered within empty =
     let ends : from + (behind - from) ≡ behind = omega arith in
-    skip chunk (behind - from) from (omega arith) (λ index above below. empty index above (omega arith)) ∙ ap (rows_from chunk) ends
+    skip chunk (behind - from) from (omega arith) (λ slot above below. empty slot above (omega arith)) ∙ ap (rows_from chunk) ends
 
 pub rows_from-none : (chunk : TypeChunkOf) (from : ℕ) → AreEmpty chunk from chunk.entry_count → rows_from chunk from ≡ []
 rows_from-none chunk from empty = by (nat_le from chunk.entry_count) refl
@@ -53,17 +53,17 @@ rows_from-none chunk from empty = by (nat_le from chunk.entry_count) refl
     by true e = rows_from-empty chunk from chunk.entry_count (grind (arith, nat_tests)) (omega arith) empty ∙ rows_from-end chunk chunk.entry_count (omega arith)
     by false e = rows_from-end chunk from (grind (arith, nat_tests))
 
--- the entry behind a run of indexes without entries is a row
-pub rows_from-row : (chunk : TypeChunkOf) (from index : ℕ) (row : RowOf) → from ≤ index → index < chunk.entry_count → AreEmpty chunk from index → row ∷ [] ≡ row_of_index chunk index
-    → rows_from chunk from ≡ row ∷ rows_from chunk (index + 1)
-rows_from-row chunk from index row ordered within empty one =
-    rows_from-empty chunk from index ordered (omega arith) empty ∙ rows_from-next chunk index within ∙ ap (λ (rows : List RowOf). rows ++ rows_from chunk (index + 1)) (sym one)
+-- the entry behind a run of slots without entries is a row
+pub rows_from-row : (chunk : TypeChunkOf) (from slot : ℕ) (row : RowOf) → from ≤ slot → slot < chunk.entry_count → AreEmpty chunk from slot → row ∷ [] ≡ row_of_slot chunk slot
+    → rows_from chunk from ≡ row ∷ rows_from chunk (slot + 1)
+rows_from-row chunk from slot row ordered within empty one =
+    rows_from-empty chunk from slot ordered (omega arith) empty ∙ rows_from-next chunk slot within ∙ ap (λ (rows : List RowOf). rows ++ rows_from chunk (slot + 1)) (sym one)
 
--- the entry behind a run of indexes without entries is no row
-pub rows_from-no_row : (chunk : TypeChunkOf) (from index : ℕ) → from ≤ index → index < chunk.entry_count → AreEmpty chunk from index → [] ≡ row_of_index chunk index
-    → rows_from chunk from ≡ rows_from chunk (index + 1)
-rows_from-no_row chunk from index ordered within empty none =
-    rows_from-empty chunk from index ordered (omega arith) empty ∙ rows_from-next chunk index within ∙ ap (λ (rows : List RowOf). rows ++ rows_from chunk (index + 1)) (sym none)
+-- the entry behind a run of slots without entries is no row
+pub rows_from-no_row : (chunk : TypeChunkOf) (from slot : ℕ) → from ≤ slot → slot < chunk.entry_count → AreEmpty chunk from slot → [] ≡ row_of_slot chunk slot
+    → rows_from chunk from ≡ rows_from chunk (slot + 1)
+rows_from-no_row chunk from slot ordered within empty none =
+    rows_from-empty chunk from slot ordered (omega arith) empty ∙ rows_from-next chunk slot within ∙ ap (λ (rows : List RowOf). rows ++ rows_from chunk (slot + 1)) (sym none)
 
 pub ruleset type_rows_steps = (rows_from-none)
 
@@ -95,24 +95,27 @@ module _ (Holds : List RowOf → Type 0) (chunk : TypeChunkOf) (none : Holds [])
   of_read index at (Ok rows) e = subst of_result (sym (entry_at-with chunk index at (rw e refl)) ∙ e) (of_held index at (held_at chunk at))
   of_read index at (Err fault) e = none
 
-  of_index : (index : ℕ) → Holds (row_of_index chunk index)
-  unfolding row_of_index rows_of_entry
-  of_index index = by (is_empty chunk index)
+  of_slot : (slot : ℕ) → Holds (row_of_slot chunk slot)
+  unfolding row_of_slot rows_of_entry
+  of_slot slot = by (is_empty chunk slot)
     where
-      by : (empty : Bool) → of_result (if empty then Ok [] else rows_of_entry_at chunk index (chunk.entries_start + number 4 chunk.offsets (4 * index)))
+      at : ℕ
+      at = chunk.entries_start + offset_of chunk slot
+
+      by : (empty : Bool) → of_result (if empty then Ok [] else rows_of_entry_at chunk (index_of chunk slot) at)
       by true = none
-      by false = of_read index (chunk.entries_start + number 4 chunk.offsets (4 * index)) (rows_of_entry_at chunk index (chunk.entries_start + number 4 chunk.offsets (4 * index))) refl
+      by false = of_read (index_of chunk slot) at (rows_of_entry_at chunk (index_of chunk slot) at) refl
 
 -- ---- how many they are
 
-length-row_of_index : (chunk : TypeChunkOf) (index : ℕ) → length (row_of_index chunk index) ≤ 1
-length-row_of_index chunk index = of_index (λ rows. length rows ≤ 1) chunk (omega arith) (λ index at cell. omega arith) index
+length-row_of_slot : (chunk : TypeChunkOf) (slot : ℕ) → length (row_of_slot chunk slot) ≤ 1
+length-row_of_slot chunk slot = of_slot (λ rows. length rows ≤ 1) chunk (omega arith) (λ index at cell. omega arith) slot
 
-length-rows_from : (chunk : TypeChunkOf) (n index : ℕ) → length (flat_map (row_of_index chunk) (range_with_len index n)) ≤ n
-length-rows_from chunk zero index = omega arith
-length-rows_from chunk (suc n) index =
-    let more = length-append (row_of_index chunk index) (flat_map (row_of_index chunk) (range_with_len (index + 1) n)) in
-    rw more (omega (arith, length-row_of_index chunk index, length-rows_from chunk n (index + 1)))
+length-rows_from : (chunk : TypeChunkOf) (n slot : ℕ) → length (flat_map (row_of_slot chunk) (range_with_len slot n)) ≤ n
+length-rows_from chunk zero slot = omega arith
+length-rows_from chunk (suc n) slot =
+    let more = length-append (row_of_slot chunk slot) (flat_map (row_of_slot chunk) (range_with_len (slot + 1) n)) in
+    rw more (omega (arith, length-row_of_slot chunk slot, length-rows_from chunk n (slot + 1)))
 
 pub length-rows_of_chunk : (chunk : TypeChunkOf) → length (rows_from chunk 0) ≤ chunk.entry_count
 unfolding rows_from
@@ -132,17 +135,17 @@ share-add : (aside : Bool) (m n : ℕ) → share aside m + share aside n ≡ sha
 share-add true m n = refl
 share-add false m n = refl
 
-aside_from : (aside : Bool) (chunk : TypeChunkOf) (n index : ℕ) → is_set_aside chunk.config ≡ aside
-    → set_aside_count (flat_map (row_of_index chunk) (range_with_len index n)) ≡ share aside (length (flat_map (row_of_index chunk) (range_with_len index n)))
-aside_from true chunk zero index is = refl
-aside_from false chunk zero index is = refl
-aside_from aside chunk (suc n) index is =
-    let here = row_of_index chunk index in
-    let behind = flat_map (row_of_index chunk) (range_with_len (index + 1) n) in
+aside_from : (aside : Bool) (chunk : TypeChunkOf) (n slot : ℕ) → is_set_aside chunk.config ≡ aside
+    → set_aside_count (flat_map (row_of_slot chunk) (range_with_len slot n)) ≡ share aside (length (flat_map (row_of_slot chunk) (range_with_len slot n)))
+aside_from true chunk zero slot is = refl
+aside_from false chunk zero slot is = refl
+aside_from aside chunk (suc n) slot is =
+    let here = row_of_slot chunk slot in
+    let behind = flat_map (row_of_slot chunk) (range_with_len (slot + 1) n) in
     let none : share aside 0 ≡ 0 = by_none aside in
-    let first = of_index (λ rows. set_aside_count rows ≡ share aside (length rows)) chunk (sym none) (λ index at cell. one_aside aside (row_of_entry chunk index at cell) is) index in
+    let first = of_slot (λ rows. set_aside_count rows ≡ share aside (length rows)) chunk (sym none) (λ index at cell. one_aside aside (row_of_entry chunk index at cell) is) slot in
     sum_by-append (λ row. cond (is_set_aside row.config) 1 0) here behind
-    ∙ rw (first, aside_from aside chunk n (index + 1) is, length-append here behind) (share-add aside (length here) (length behind))
+    ∙ rw (first, aside_from aside chunk n (slot + 1) is, length-append here behind) (share-add aside (length here) (length behind))
   where
     by_none : (aside : Bool) → share aside 0 ≡ 0
     by_none true = refl

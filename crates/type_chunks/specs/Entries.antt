@@ -1,38 +1,40 @@
 -- The entries of a type, each read by itself.
-use Rattle.std.specs.Prelude.{◌≡◌, ℕ, ◌+◌, ◌*◌, ◌-◌, ◌<◌, ◌≤◌, true, Bool, List, [], ◌==◌, length, Result, Ok, Err, IsOk, if◌then◌else◌}
+use Rattle.std.specs.Prelude.{◌≡◌, ℕ, ◌+◌, ◌-◌, ◌<◌, ◌≤◌, true, List, [], length, Result, Ok, Err, IsOk, if◌then◌else◌}
 use Rattle.std.specs.List.{range_with_len, flat_map}
 use Rattle.string_pool.specs.chunk_walk.Number.{number}
 use Rattle.type_chunks.specs.declared.fault.TableFault.{TableFault}
 use Rattle.res_value.specs.Cell.{CellOf}
-use Rattle.type_chunks.specs.Layout.{entry_offset_size, no_entry, least_entry, least_entry_size}
+use Rattle.type_chunks.specs.Layout.{least_entry, least_entry_size}
 use Rattle.type_chunks.specs.Row.{RowOf}
 use Rattle.type_chunks.specs.TypeChunk.{TypeChunkOf}
+use Rattle.type_chunks.specs.Slots.{is_empty, indexes_rise}
 use Rattle.type_chunks.specs.Entry.{is_complex, value_of_entry, bag_of_entry, rows_of_entry}
 
--- the offset of this index says that there is no entry
-abbrev pub is_empty : TypeChunkOf → ℕ → Bool
-is_empty chunk index = number 4 chunk.offsets (entry_offset_size * index) == no_entry
-
--- no entry is from one index on and below another
+-- no entry is from one slot on and below another
 abbrev pub AreEmpty : TypeChunkOf → ℕ → ℕ → Type 0
-AreEmpty chunk from behind = (index : ℕ) → from ≤ index → index < behind → is_empty chunk index ≡ true
+AreEmpty chunk from behind = (slot : ℕ) → from ≤ slot → slot < behind → is_empty chunk slot ≡ true
 
--- the entries below an index have no fault
+-- the entries of the slots below one have no fault
 abbrev pub AreRead : TypeChunkOf → ℕ → Type 0
-AreRead chunk behind = (index : ℕ) → index < behind → IsOk (rows_of_entry chunk index)
+AreRead chunk behind = (slot : ℕ) → slot < behind → IsOk (rows_of_entry chunk slot)
+
+-- the indexes of a type rise, and no entry has a fault
+pub record IsChecked (chunk : TypeChunkOf) : Type 0 where
+  pub rise : indexes_rise chunk ≡ true
+  pub read : AreRead chunk chunk.entry_count
 
 -- what was read; nothing where there is a fault
 abbrev pub or_none : Result (List RowOf) TableFault → List RowOf
 or_none (Ok rows) = rows
 or_none (Err fault) = []
 
--- the row of the entry of an index, or none
-unfoldable pub row_of_index : TypeChunkOf → ℕ → List RowOf
-row_of_index chunk index = or_none (rows_of_entry chunk index)
+-- the row of the entry of a slot, or none
+unfoldable pub row_of_slot : TypeChunkOf → ℕ → List RowOf
+row_of_slot chunk slot = or_none (rows_of_entry chunk slot)
 
--- the rows of the entries from an index on
+-- the rows of the entries from a slot on
 unfoldable pub rows_from : TypeChunkOf → ℕ → List RowOf
-rows_from chunk index = flat_map (row_of_index chunk) (range_with_len index (chunk.entry_count - index))
+rows_from chunk slot = flat_map (row_of_slot chunk) (range_with_len slot (chunk.entry_count - slot))
 
 -- what the entry at a place holds, which has room for its size
 unfoldable pub held_at : TypeChunkOf → ℕ → Result CellOf TableFault

@@ -12,7 +12,7 @@ use Rattle.type_chunks.specs.FoundChunk.{found_chunk}
 use Rattle.type_chunks.specs.Row.{RowOf}
 use Rattle.type_chunks.specs.TypeSpec.{TypeSpecOf, type_spec_of, type_spec_in}
 use Rattle.type_chunks.specs.TypeChunk.{TypeChunkOf, type_with}
-use Rattle.type_chunks.specs.Entries.{AreRead, rows_from}
+use Rattle.type_chunks.specs.Entries.{IsChecked, rows_from}
 
 -- the type spec at a place of a package, counted from its start
 abbrev pub spec_at : ChunkOf → ℕ → Result TypeSpecOf TableFault
@@ -31,11 +31,11 @@ type_at owner within place = do
   spec ← spec_at within place.spec
   type_with owner (Some spec) chunk
 
--- at a place stands a type whose entries have no fault
+-- at a place stands a type without a fault
 abbrev pub IsKept : Owner → ChunkOf → TypePlace → Type 0
 IsKept owner within place =
     (place.chunk ≤ length within.whole) × (place.spec ≤ length within.whole) × IsOk (type_at owner within place)
-    × ForOk (type_at owner within place) (λ chunk. (chunk.entry_count < 2 ^ 32) × AreRead chunk chunk.entry_count)
+    × ForOk (type_at owner within place) (λ chunk. (chunk.entry_count < 2 ^ 32) × IsChecked chunk)
 
 abbrev pub AreKept : Owner → ChunkOf → List TypePlace → Type 0
 AreKept owner within places = All (IsKept owner within) places

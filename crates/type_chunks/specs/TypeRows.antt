@@ -1,10 +1,12 @@
 -- The rows of types that were checked.
-use Rattle.std.specs.Prelude.{ℕ, List, Option, None, slice_get, nat_lt, if◌then◌else◌}
+use Rattle.std.specs.Prelude.{ℕ, List, Option, slice_get}
 use Rattle.std.specs.List.{flat_map}
+use Rattle.std.specs.Option.{option_and_then}
 use Rattle.type_chunks.specs.declared.checked_type.CheckedType.{CheckedType}
 use Rattle.type_chunks.specs.Row.{RowOf}
 use Rattle.type_chunks.specs.TypeChunk.{type_chunk_of}
-use Rattle.type_chunks.specs.Entries.{row_of_index, rows_from}
+use Rattle.type_chunks.specs.Slots.{slot_of}
+use Rattle.type_chunks.specs.Entries.{row_of_slot, rows_from}
 
 -- the rows of a type, in the order of their indexes
 unfoldable pub rows_of_type : CheckedType → List RowOf
@@ -13,7 +15,8 @@ rows_of_type checked = rows_from (type_chunk_of checked.chunk) 0
 -- the row of an index, where there is one
 unfoldable pub row_at : CheckedType → ℕ → Option RowOf
 row_at checked index =
-    if nat_lt index checked.chunk.entry_count then slice_get (row_of_index (type_chunk_of checked.chunk) index) 0 else None
+    let chunk = type_chunk_of checked.chunk in
+    option_and_then (λ slot. slice_get (row_of_slot chunk slot) 0) (slot_of chunk index)
 
 -- the rows of types, one type after the other
 unfoldable pub rows_of_types : List CheckedType → List RowOf

@@ -1,18 +1,18 @@
 //! Types whose entries were checked.
 
-ghost use Rattle.std.specs.Prelude.{◌≡◌, ◌<◌};
+ghost use Rattle.std.specs.Prelude.{◌≡◌};
 ghost use Rattle.type_chunks.specs.TypeChunk.{type_chunk_of};
-ghost use Rattle.type_chunks.specs.Entries.{AreRead};
+ghost use Rattle.type_chunks.specs.Entries.{IsChecked};
 
 use crate::type_chunk::TypeChunk;
 use crate::type_rows::TypeRows;
 
-/// A type (AOSP: `ResTable_type`), each entry of which was checked. Its rows are read from its bytes as
+/// A type (AOSP: `ResTable_type`), whose slots and entries were checked. Its rows are read from its bytes as
 /// they are asked for.
 #[derive(Clone, Copy, Debug)]
 pub struct CheckedType<'a> {
     pub(crate) chunk: TypeChunk<'a>,
-    ghost checked: { AreRead (type_chunk_of chunk) chunk.entry_count },
+    ghost checked: { IsChecked (type_chunk_of chunk) },
 }
 
 impl<'a> CheckedType<'a> {
@@ -33,11 +33,11 @@ impl<'a> CheckedType<'a> {
         self.chunk.id
     }
 
-    /// How many entries it has room for; some of them may be absent.
-    pub fn entry_count(&self) -> usize
-        ensures { result ≡ self.now.chunk.entry_count }
+    /// How many entries its type spec counts. The indexes of its rows are below this.
+    pub fn counted_entries(&self) -> usize
+        ensures { result ≡ self.now.chunk.spec.entry_count }
     {
-        self.chunk.entry_count as usize
+        self.chunk.spec.entry_count as usize
     }
 
     /// Its rows, in the order of their indexes.

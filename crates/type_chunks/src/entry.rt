@@ -5,7 +5,7 @@ ghost use Rattle.type_chunks.specs.Layout.{least_bag};
 
 use crate::checked_type::CheckedType;
 use crate::entry_flags::EntryFlags;
-use crate::layout::{bag_header, entry_header, type_header};
+use crate::layout::{bag_header, entry_header};
 use crate::row::Row;
 use crate::type_chunk::TypeChunk;
 use bitflags::Flags;
@@ -20,18 +20,17 @@ impl<'a> TypeChunk<'a> {
     ghost use Rattle.type_chunks.specs.Entry.{rows_of_entry_at, rows_of_entry, value_of_entry, bag_of_entry, seen_entry, seen_cell};
     ghost use Rattle.type_chunks.specs.Entries.{HasEntry, held_at};
 
-    /// The row of an entry that has no fault, where there is one.
+    /// The row of the entry of a slot, which has no fault, where there is one.
     #[tactic(auto, unfolding(crate::specs::Entry::rows_of_entry))]
-    pub fn entry(&self, index: u32) -> Option<Row<'a>>
-        requires within { index < self.now.entry_count }
-        requires checked { IsOk (rows_of_entry (type_chunk_of self.now) index) }
-        ensures { seen_entry (Ok result) ≡ rows_of_entry (type_chunk_of self.now) index }
+    pub fn entry(&self, slot: u32) -> Option<Row<'a>>
+        requires within { slot < self.now.entry_count }
+        requires checked { IsOk (rows_of_entry (type_chunk_of self.now) slot) }
+        ensures { seen_entry (Ok result) ≡ rows_of_entry (type_chunk_of self.now) slot }
     {
-        let offset = self.offset(index);
-        if offset == type_header::NO_ENTRY {
+        if self.is_empty(slot) {
             return None;
         }
-        self.entry_at(index, self.entries_start as usize + offset as usize)
+        self.entry_at(self.index(slot), self.entry_place(slot))
     }
 
     // The row of the entry at a place from the chunk's start.
@@ -104,26 +103,26 @@ impl<'a> CheckedType<'a> {
     ghost use Rattle.std.specs.Option.{option_to_list, option_map};
     ghost use Rattle.type_chunks.specs.Row.{row_of};
     ghost use Rattle.type_chunks.specs.TypeChunk.{type_chunk_of};
-    ghost use Rattle.type_chunks.specs.Entries.{row_of_index};
+    ghost use Rattle.type_chunks.specs.Entries.{row_of_slot};
     ghost use Rattle.type_chunks.specs.TypeRows.{row_at};
 
-    /// The row of an index, where there is one: in constant time, read anew each time.
+    /// The row of an index, where there is one. It is read anew each time, and found without a walk over the others.
     #[tactic(auto, unfolding(crate::specs::TypeRows::row_at))]
     pub fn row(&self, index: u32) -> Option<Row<'a>>
         ensures { option_map row_of result ≡ row_at self.now index }
     {
-        if index >= self.chunk.entry_count {
-            return None;
+        match self.chunk.slot_of(index) {
+            Some(slot) => self.row_of_slot(slot),
+            None => None,
         }
-        self.row_within(index)
     }
 
-    // The row of an index of the type, where there is one.
-    #[tactic(auto, unfolding(crate::specs::Entries::row_of_index))]
-    pub(crate) fn row_within(&self, index: u32) -> Option<Row<'a>>
-        requires { index < self.now.chunk.entry_count }
-        ensures { option_to_list (option_map row_of result) ≡ row_of_index (type_chunk_of self.now.chunk) index }
+    // The row of the entry of a slot, where there is one.
+    #[tactic(auto, unfolding(crate::specs::Entries::row_of_slot))]
+    pub(crate) fn row_of_slot(&self, slot: u32) -> Option<Row<'a>>
+        requires { slot < self.now.chunk.entry_count }
+        ensures { option_to_list (option_map row_of result) ≡ row_of_slot (type_chunk_of self.now.chunk) slot }
     {
-        self.chunk.entry(index)
+        self.chunk.entry(slot)
     }
 }

@@ -6,7 +6,7 @@ ghost use Rattle.type_chunks.specs.Layout.{least_bag, least_entry_size};
 use crate::bag_checks::BagChecks;
 use crate::entry_flags::EntryFlags;
 use crate::fault::TableFault;
-use crate::layout::{bag_header, entry_header, type_header};
+use crate::layout::{bag_header, entry_header};
 use crate::type_chunk::TypeChunk;
 use bitflags::Flags;
 use res_value::{MapRows, MapRowsFault, Value};
@@ -17,20 +17,18 @@ impl<'a> TypeChunk<'a> {
     ghost use Rattle.type_chunks.specs.TypeChunk.{type_chunk_of};
     ghost use Rattle.type_chunks.specs.Entry.{rows_of_entry_at, rows_of_entry, value_of_entry, bag_of_entry};
 
-    /// The first fault of the entry of an index, where there is one.
+    /// The first fault of the entry of a slot, where there is one.
     #[tactic(auto, unfolding(crate::specs::Entry::rows_of_entry))]
-    pub fn check_entry(&self, bags: &mut BagChecks<'a>, index: u32) -> Result<(), TableFault>
-        requires within { index < self.now.entry_count }
+    pub fn check_entry(&self, bags: &mut BagChecks<'a>, slot: u32) -> Result<(), TableFault>
+        requires within { slot < self.now.entry_count }
         requires bags { bags.old.whole.now ≡ self.now.whole.now }
         ensures same { bags.new.whole.now ≡ bags.old.whole.now }
-        ensures checked { Checks result (rows_of_entry (type_chunk_of self.now) index) }
+        ensures checked { Checks result (rows_of_entry (type_chunk_of self.now) slot) }
     {
-        let offset = self.offset(index);
-        if offset == type_header::NO_ENTRY {
+        if self.is_empty(slot) {
             return Ok(());
         }
-        let at = self.entries_start as usize + offset as usize;
-        self.check_entry_at(bags, index, at)
+        self.check_entry_at(bags, self.index(slot), self.entry_place(slot))
     }
 
     // The first fault of the entry at a place from the chunk's start.

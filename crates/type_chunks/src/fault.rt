@@ -34,13 +34,10 @@ pub enum TableFault {
     /// A type has no type spec of its id before it in its package.
     #[error("TypeWithoutSpec {0}")]
     TypeWithoutSpec(usize),
-    /// A type lists its entries sparsely.
-    #[error("SparseType {0}")]
-    SparseType(usize),
     /// A type's configuration is too short or passes the header.
     #[error("Config {0}")]
     Config(usize),
-    /// The flags of a type spec or the offsets of a type do not fit.
+    /// The flags of a type spec or the slots of a type do not fit, or the indexes of a sparse type do not rise.
     #[error("Offsets {0}")]
     Offsets(usize),
     /// An entry stands at no multiple of four, is too short, or does not fit with what it holds.

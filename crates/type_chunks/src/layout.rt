@@ -34,11 +34,21 @@ pub(crate) mod type_header {
     /// With the size field of the configuration.
     pub const LEAST_SIZE: usize = 24;
 
-    /// How many bytes the offset of an entry has, behind the header.
-    pub const OFFSET_SIZE: usize = 4;
+    /// How many bytes a slot has, behind the header.
+    pub const SLOT_SIZE: usize = 4;
 
     /// The offset that says that there is no entry (AOSP: `ResTable_type::NO_ENTRY`).
     pub const NO_ENTRY: u32 = 0xffff_ffff;
+}
+
+/// A slot of a sparse type (AOSP: `ResTable_sparseTypeEntry`).
+pub(crate) mod sparse_slot {
+    pub const INDEX: usize = 0;
+
+    pub const OFFSET: usize = 2;
+
+    /// The offset counts words of so many bytes.
+    pub const WORD_SIZE: usize = 4;
 }
 
 /// An entry (AOSP: `ResTable_entry`).

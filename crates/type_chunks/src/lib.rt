@@ -6,13 +6,13 @@
 //! ```text
 //! let types = types_of_children(alloc, Owner { id: 0x7f, index: 0 }, &package)?;
 //! for checked in types.types() {
-//!     println!(rt; "type {} has indexes below {}", checked.id(), checked.entry_count())?;
+//!     println!(rt; "type {} has indexes below {}", checked.id(), checked.counted_entries())?;
 //! }
 //! ```
 //!
-//! A package holds type specs and types, and types hold entries. What rows these are, and which fault is the
-//! first, is said of each in `specs/PackageChildren.antt`, `specs/TypeSpec.antt`, `specs/TypeChunk.antt` and
-//! `specs/Entry.antt`.
+//! A package holds type specs and types, and types hold entries, each where a slot of the type says. What rows these are, and which fault is the
+//! first, is said of each in `specs/PackageChildren.antt`, `specs/TypeSpec.antt`, `specs/TypeChunk.antt`,
+//! `specs/Slots.antt` and `specs/Entry.antt`.
 #![tactic(auto)]
 
 mod bag_checks;
@@ -20,7 +20,6 @@ mod checked_type;
 mod entry;
 mod entry_check;
 mod entry_flags;
-mod entry_offsets;
 mod fault;
 mod known_specs;
 mod layout;
@@ -28,6 +27,7 @@ mod owner;
 mod package_children;
 mod package_types;
 mod row;
+mod slots;
 mod type_check;
 mod type_chunk;
 mod type_flags;

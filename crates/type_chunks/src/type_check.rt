@@ -1,8 +1,9 @@
 //! The check of all entries of a type.
 
-ghost use Rattle.std.specs.Prelude.{◌≡◌, ◌≢◌, ◌<◌, Err, OnOk, IfOk, IfErr};
+ghost use Rattle.std.specs.Prelude.{◌≡◌, ◌≢◌, ◌<◌, true, Err, OnOk, IfOk, IfErr};
 ghost use Rattle.type_chunks.specs.declared.fault.TableFault.TheVariants.{OutOfMemory};
-ghost use Rattle.type_chunks.specs.Entries.{AreRead};
+ghost use Rattle.type_chunks.specs.Entries.{AreRead, IsChecked};
+ghost use Rattle.type_chunks.specs.Slots.{indexes_rise};
 ghost use Rattle.type_chunks.specs.PackageChildren.{rows_of_entries};
 ghost use Rattle.type_chunks.specs.TypeChunk.{type_chunk_of};
 
@@ -11,13 +12,16 @@ use crate::fault::TableFault;
 use crate::type_chunk::TypeChunk;
 use std::alloc::Global;
 
-/// The first fault of the entries of a type. Memory is asked for between the checks, and only where entries share
+/// The first fault of the slots and entries of a type. Memory is asked for between the checks, and only where entries share
 /// bags, or bags overlap.
 #[tactic(auto, using(crate::proofs::EntriesSteps::check_steps))]
 pub(crate) fn check_entries(alloc: Global, chunk: &TypeChunk<'_>) -> Result<(), TableFault>
-    ensures read { OnOk result (AreRead (type_chunk_of chunk.now) chunk.now.entry_count) }
+    ensures checked { OnOk result (IsChecked (type_chunk_of chunk.now)) }
     ensures fault { IfErr result (λ fault. fault ≢ OutOfMemory → rows_of_entries (type_chunk_of chunk.now) ≡ Err fault) }
 {
+    if !chunk.indexes_rise() {
+        return Err(TableFault::Offsets(chunk.place));
+    }
     let mut bags = BagChecks::new(alloc, chunk.whole);
     let mut from = 0;
     while from < chunk.entry_count {
@@ -27,7 +31,7 @@ pub(crate) fn check_entries(alloc: Global, chunk: &TypeChunk<'_>) -> Result<(), 
     Ok(())
 }
 
-// The first fault of the entries from an index on, as long as no counts are needed; or the index behind those
+// The first fault of the entries from a slot on, as long as no counts are needed; or the slot behind those
 // that were checked.
 #[tactic(auto, using(crate::proofs::EntriesSteps::check_steps))]
 fn check_from<'a>(
@@ -37,6 +41,7 @@ fn check_from<'a>(
 ) -> Result<u32, TableFault>
     requires within { from < chunk.now.entry_count }
     requires bags { bags.old.whole.now ≡ chunk.now.whole.now }
+    requires rise { indexes_rise (type_chunk_of chunk.now) ≡ true }
     requires read { AreRead (type_chunk_of chunk.now) from }
     ensures same { bags.new.whole.now ≡ bags.old.whole.now }
     ensures more { IfOk result (λ behind. from < behind) }
@@ -44,9 +49,9 @@ fn check_from<'a>(
     ensures fault { IfErr result (λ fault. rows_of_entries (type_chunk_of chunk.now) ≡ Err fault) }
 {
     let mut behind = from;
-    while let Some(index) = chunk.next_entry(behind) {
-        chunk.check_entry(bags, index)?;
-        behind = index + 1;
+    while let Some(slot) = chunk.next_entry(behind) {
+        chunk.check_entry(bags, slot)?;
+        behind = slot + 1;
         if bags.need_counts() {
             return Ok(behind);
         }

@@ -11,8 +11,8 @@ use std::marker::Model;
 #[derive(Drop)]
 pub struct TypeRows<'a> {
     of: CheckedType<'a>,
-    /// The first index that is left.
-    index: u32,
+    /// The first slot that is left.
+    slot: u32,
 }
 
 impl<'a> Model for TypeRows<'a> {
@@ -23,7 +23,7 @@ impl<'a> Model for TypeRows<'a> {
 
     ghost Value = { List RowOf };
 
-    ghost view = { λ s. rows_from (type_chunk_of s.of.chunk) s.index };
+    ghost view = { λ s. rows_from (type_chunk_of s.of.chunk) s.slot };
 }
 
 impl<'a> TypeRows<'a> {
@@ -31,7 +31,7 @@ impl<'a> TypeRows<'a> {
     pub(crate) fn new(of: CheckedType<'a>) -> Self
         ensures { result ≡ rows_of_type of.entry }
     {
-        TypeRows { of, index: 0 }
+        TypeRows { of, slot: 0 }
     }
 }
 
@@ -47,9 +47,9 @@ impl<'a> Iterator for TypeRows<'a> {
 
     #[tactic(auto, using(crate::proofs::TypeRowsSteps::type_rows_steps))]
     fn next(&mut self) -> Option<Row<'a>> {
-        while let Some(index) = self.of.chunk.next_entry(self.index) {
-            self.index = index + 1;
-            if let Some(row) = self.of.row_within(index) {
+        while let Some(slot) = self.of.chunk.next_entry(self.slot) {
+            self.slot = slot + 1;
+            if let Some(row) = self.of.row_of_slot(slot) {
                 return Some(row);
             }
         }

@@ -90,7 +90,6 @@ fn shows_faults_of_tables(rt: HostRuntime) {
                 (TableFault::Pool(12, PoolFault::Start), "Pool Start 12"),
                 (TableFault::TypeId(328), "TypeId 328"),
                 (TableFault::TypeWithoutSpec(348), "TypeWithoutSpec 348"),
-                (TableFault::SparseType(349), "SparseType 349"),
                 (TableFault::Config(350), "Config 350"),
                 (TableFault::Offsets(351), "Offsets 351"),
                 (TableFault::Entry(400), "Entry 400"),

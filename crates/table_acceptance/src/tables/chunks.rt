@@ -32,12 +32,12 @@ fn names_the_first_fault(rt: HostRuntime) {
     assert!(rt; short == Some(ChunkFault::Truncated(0)));
 }
 
-/// Behind four zeros a chunk of kind 0x0201 with four bytes behind its header, then two bytes.
+/// After four zeros a chunk of kind 0x0201 with four bytes after its header, then two bytes.
 static BYTES: [u8; 18] = [
     0, 0, 0, 0, // before it
     1, 2, 8, 0, 12, 0, 0, 0, // its header
     5, 6, 7, 8, // its body
-    9, 9, // behind it
+    9, 9, // after it
 ];
 
 fn has_parts(chunk: &Chunk) -> bool {

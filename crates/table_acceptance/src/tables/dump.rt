@@ -106,7 +106,7 @@ fn prints_bags_with_their_rows(rt: HostRuntime) {
     assert!(rt; prints_a_bag(rt.alloc()) == Some(true));
 }
 
-/// Where table A has the kind of its value and the word behind it, made the last string of all.
+/// Where table A has the kind of its value and the word after it, made the last string of all.
 const LAST_STRING: (usize, &[u8]) = (411, &[3, 255, 255, 255, 255]);
 
 fn prints_the_last_string(alloc: Global) -> Option<bool> {

@@ -41,10 +41,9 @@ fn other_fault(alloc: Global, table: &[u8], cases: &[Case]) -> Option<usize> {
 const SHORT_HEADER: TableFault = TableFault::Chunk(ChunkFault::HeaderShort(40));
 
 /// Of table A.
-const WITHOUT_NAMES: [Case; 18] = [
+const WITHOUT_NAMES: [Case; 17] = [
     (408, &[7], TableFault::Value(408)),
     (336, &[0], TableFault::TypeId(328)),
-    (357, &[1], TableFault::SparseType(348)),
     (368, &[27], TableFault::Config(348)),
     (48, &[0], TableFault::PackageId(40)),
     (49, &[1], TableFault::PackageId(40)),
@@ -88,7 +87,7 @@ const OF_BAG: [Case; 6] = [
 ];
 
 /// Of table A with its package three times, at 40, 416 and 792.
-const OF_THREE_PACKAGES: [Case; 11] = [
+const OF_THREE_PACKAGES: [Case; 10] = [
     (424, &[0], TableFault::PackageId(416)),
     (712, &[0], TableFault::TypeId(704)),
     (776, &[4], TableFault::Entry(776)),
@@ -101,7 +100,6 @@ const OF_THREE_PACKAGES: [Case; 11] = [
     (800, &[0], TableFault::PackageId(792)),
     (1060, &[2], TableFault::PackageHeader(792)),
     (1092, &[255, 255, 255, 255], TableFault::Offsets(1080)),
-    (1109, &[1], TableFault::SparseType(1100)),
     (1152, &[4], TableFault::Entry(1152)),
     (1160, &[7], TableFault::Value(1160)),
 ];

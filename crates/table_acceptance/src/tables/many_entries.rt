@@ -6,7 +6,7 @@ use std::alloc::Global;
 use test_layers::{layer, put};
 use type_chunks::TableFault;
 
-/// The last entry that has an id, and two behind it.
+/// The last entry that has an id, and two after it.
 const ROWS: [&str; 3] = ["65535 [] 7", "65536 [] 8", "65537 [] 9"];
 
 /// How many bytes before the end of such a table its last entry begins, and the value of it.
@@ -28,14 +28,14 @@ fn prints_no_rows_without_an_id(rt: HostRuntime) {
 }
 
 // A place so many bytes before the end of a table of these rows, and the fault that another byte there makes.
-fn fault_behind(
+fn fault_near_the_end(
     alloc: Global,
     rows: &[&str],
-    behind: usize,
+    from_end: usize,
     byte: u8,
 ) -> Option<(usize, TableFault)> {
     let mut table = layer(alloc, rows).ok()?;
-    let place = table.len().checked_sub(behind)?;
+    let place = table.len().checked_sub(from_end)?;
     put(&mut table, place, &[byte]);
     let fault = Table::open(alloc, &table).err()?;
     Some((place, fault))
@@ -43,8 +43,8 @@ fn fault_behind(
 
 // Whether the size of the last entry of these rows is checked, and that of its value.
 fn checks_the_last(alloc: Global, rows: &[&str]) -> Option<bool> {
-    let (entry, fault_of_entry) = fault_behind(alloc, rows, LAST_ENTRY, 4)?;
-    let (value, fault_of_value) = fault_behind(alloc, rows, LAST_VALUE, 7)?;
+    let (entry, fault_of_entry) = fault_near_the_end(alloc, rows, LAST_ENTRY, 4)?;
+    let (value, fault_of_value) = fault_near_the_end(alloc, rows, LAST_VALUE, 7)?;
     let wanted = [TableFault::Entry(entry), TableFault::Value(value)];
     Some([fault_of_entry, fault_of_value] == wanted)
 }

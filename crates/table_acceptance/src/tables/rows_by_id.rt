@@ -18,7 +18,7 @@ const FIRST_PACKAGE: usize = 40;
 /// Where its id stands from there.
 const PACKAGE_ID: usize = 8;
 
-// A table with the package of another table behind its own, of this id.
+// A table with the package of another table after its own, of this id.
 fn with_package(
     alloc: Global,
     table: &[u8],

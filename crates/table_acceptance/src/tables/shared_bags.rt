@@ -11,7 +11,7 @@ const ENTRIES: usize = 40;
 const BAG_SIZE: u32 = 64;
 
 // Where the parts of a bag of four rows stand: the size of its entry, its flags, its count of rows, and the values,
-// each behind a name of four bytes and beginning with its size.
+// each after a name of four bytes and beginning with its size.
 const ENTRY_SIZE: usize = 0;
 
 const FLAGS: usize = 2;
@@ -54,7 +54,7 @@ fn opens_one_bag(alloc: Global) -> Option<bool> {
     Some(row_count(&table) == ENTRIES as u64)
 }
 
-// Whether a wrong value is named in a bag that comes last, behind one that all other entries share.
+// Whether a wrong value is named in a bag that comes last, after one that all other entries share.
 fn names_a_wrong_value(alloc: Global) -> Option<bool> {
     let mut places = [0; ENTRIES];
     places[ENTRIES - 1] = BAG_SIZE;
@@ -63,8 +63,8 @@ fn names_a_wrong_value(alloc: Global) -> Option<bool> {
     bags.extend_from_slice(&bag(7)).ok()?;
     let bytes = layer_of_entries(alloc, &places, &bags).ok()?;
     let fault = Table::open(alloc, &bytes).err()?;
-    let behind_value = bag(8).len() - LAST_VALUE;
-    Some(fault == TableFault::Value(bytes.len().saturating_sub(behind_value)))
+    let from_value = bag(8).len() - LAST_VALUE;
+    Some(fault == TableFault::Value(bytes.len().saturating_sub(from_value)))
 }
 
 #[test]

@@ -72,7 +72,7 @@ const NO_STRINGS: [(&str, bool, u32, &[u8], StringFault); 5] = [
     ),
 ];
 
-// What is wrong with the string of a pool, with one behind it, and with one that is far behind.
+// What is wrong with the string of a pool, with the next index, and with one far past them.
 fn faults_in(alloc: Global, utf8: bool, offset: u32, strings: &[u8]) -> Option<[StringFault; 3]> {
     let bytes = pool_of_string(alloc, utf8, offset, strings).ok()?;
     let pool = pool_in(&bytes)?;
@@ -126,9 +126,9 @@ fn reads_styles(rt: HostRuntime) {
 fn has_no_span(alloc: Global, style: &[u8]) -> Option<bool> {
     let bytes = pool_of_style(alloc, style).ok()?;
     let pool = pool_in(&bytes)?;
-    let behind = [pool.spans(1).err()?, pool.spans(0xffff_ffff).err()?];
+    let past = [pool.spans(1).err()?, pool.spans(0xffff_ffff).err()?];
     let is_empty = pool.spans(0).ok()?.next().is_none();
-    Some(is_empty && behind == [StringFault::NoSuch, StringFault::NoSuch])
+    Some(is_empty && past == [StringFault::NoSuch, StringFault::NoSuch])
 }
 
 #[test]

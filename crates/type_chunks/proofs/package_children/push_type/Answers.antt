@@ -29,7 +29,7 @@ returns-clause-kept c =
     let spec : option_map type_spec_of c.of_type.result ≡ Some (type_spec_of c.in_ok-read.read.spec) = ap (λ (o : Option TypeSpec). option_map type_spec_of o) c.in_ok-read.ensures.spec in
     let is : type_at c.args.owner (chunk_of c.args.container.now) c.of.result ≡ Ok (type_chunk_of c.in_ok-read.read) = at ∙ rw (sym spec) (sym c.in_ok-read.ensures.value) in
     rw c.in_ok-push.ensures.items
-    (keeps c.args.owner (chunk_of c.args.container.now) _ c.of.result (type_chunk_of c.in_ok-read.read) c.requires.kept c.of.ensures.chunk_inside c.of.ensures.spec_inside is c.in_ok-read.read.few c.in_ok-check_entries.ensures.read)
+    (keeps c.args.owner (chunk_of c.args.container.now) _ c.of.result (type_chunk_of c.in_ok-read.read) c.requires.kept c.of.ensures.chunk_inside c.of.ensures.spec_inside is c.in_ok-read.read.few c.in_ok-check_entries.ensures.checked)
 
 pub returns-clause-rows : goal.returns-clause-rows
 returns-clause-rows c = λ before known.
@@ -38,4 +38,4 @@ returns-clause-rows c = λ before known.
     let is : type_at c.args.owner (chunk_of c.args.container.now) c.of.result ≡ Ok (type_chunk_of c.in_ok-read.read) = at ∙ rw (sym spec) (sym c.in_ok-read.ensures.value) in
     rw c.in_ok-push.ensures.items
     (type-pushed c.args.owner c.args.specs.now before (chunk_of c.args.chunk.now) c.of_type.result known c.requires.kind c.of_type.ensures.within c.of_type.ensures.value (chunk_of c.args.container.now) _ c.of.result
-    (type_chunk_of c.in_ok-read.read) c.in_ok-read.ensures.value is c.in_ok-check_entries.ensures.read)
+    (type_chunk_of c.in_ok-read.read) c.in_ok-read.ensures.value is c.in_ok-check_entries.ensures.checked)

@@ -1,7 +1,10 @@
 use Rattle.string_pool.specs.chunk_walk.Chunk.{chunk_of}
 use Rattle.type_chunks.specs.TypePlaces.{IsKept}
-use Rattle.type_chunks.proofs.PlacesSteps.{all-behind}
+use Rattle.type_chunks.proofs.PlacesSteps.{first-of, all-behind}
 use Rattle.type_chunks.proofs.types.TypesIterator.next.Goals as goal
+
+pub type_anew-requires : goal.type_anew-requires
+type_anew-requires c = first-of (IsKept c.self.inside.owner (chunk_of c.self.inside.container)) _ _ _ c.in_ok-place.ensures.steps c.self.inside.kept
 
 pub invariant_of-self-inside : goal.invariant_of-self-inside
 invariant_of-self-inside c =
