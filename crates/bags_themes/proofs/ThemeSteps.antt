@@ -1,6 +1,7 @@
 -- How rows are applied to a theme one by one, and how attributes are followed.
 use Rattle.std.proofs.Common.{◌≡◌, ℕ, zero, suc, ◌+◌, ◌-◌, ◌<◌, ◌==◌, ◌||◌, Bool, true, false, cond, List, [], ◌∷◌, ◌++◌, length, take, get_or, Option, Some, refl, sym, ap, subst, ◌∙◌, arith}
 use Rattle.std.specs.Map.{lookup}
+use Rattle.std.specs.Ordering.{nat_cmp, is_eq}
 use Rattle.std.proofs.lemmas.Grind.{common_steps}
 use Rattle.std.proofs.lemmas.List.{take_more}
 use Rattle.std.proofs.lemmas.List.Elements.{filter-append}
@@ -80,7 +81,7 @@ AppliesRows-next force rows index row old mid new on here before one =
     subst (λ (t : List BagRow). AppliesRows force t old new) (sym longer) (AppliesRows-append force (take index rows) (row ∷ []) old mid new before one)
 
 -- a row was set
-pub AppliesRows-set : (force : Bool) (row : BagRow) (set : ThemeValue) (old new : ThemeOf) → set ≡ record { layer = row.layer; value = row.value }
+AppliesRows-set : (force : Bool) (row : BagRow) (set : ThemeValue) (old new : ThemeOf) → set ≡ record { layer = row.layer; value = row.value }
     → (force || is_undefined (value_of old row.name.0)) ≡ true
     → ((q : ResId) → lookup (λ key. q.0 == key.0) new ≡ cond (row.name.0 == q.0) (Some set) (lookup (λ key. q.0 == key.0) old))
     → AppliesRows force (row ∷ []) old new
@@ -101,6 +102,30 @@ AppliesRows-set force row set old new is sets updates attr = by (row.name.0 == a
         ∙ rw e refl
         ∙ sym (value_after-none force (value_of old attr))
         ∙ ap (λ (t : List ThemeValue). value_after force (value_of old attr) t) (sym found)
+
+-- ---- the tree of values
+
+same_test : (a b : ℕ) → is_eq (nat_cmp a b) ≡ (a == b)
+same_test a b = grind arith
+
+-- looking into the tree is looking into the theme
+pub value_of_tree : (attr : ℕ) (theme : ThemeOf) → lookup (λ key. is_eq (nat_cmp attr key.0)) theme ≡ value_of theme attr
+value_of_tree attr [] = refl
+value_of_tree attr (set ∷ theme) =
+    ap (λ (same : Bool). cond same (Some set.1) (lookup (λ key. is_eq (nat_cmp attr key.0)) theme)) (same_test attr set.0.0)
+    ∙ ap (λ (o : Option ThemeValue). cond (attr == set.0.0) (Some set.1) o) (value_of_tree attr theme)
+
+-- a row was put into the tree
+pub AppliesRows-put : (force : Bool) (row : BagRow) (set : ThemeValue) (old new : ThemeOf) → set ≡ record { layer = row.layer; value = row.value }
+    → (force || is_undefined (value_of old row.name.0)) ≡ true
+    → ((q : ResId) → lookup (λ key. is_eq (nat_cmp q.0 key.0)) new ≡ cond (is_eq (nat_cmp row.name.0 q.0)) (Some set) (lookup (λ key. is_eq (nat_cmp q.0 key.0)) old))
+    → AppliesRows force (row ∷ []) old new
+AppliesRows-put force row set old new is sets updates =
+    AppliesRows-set force row set old new is sets (λ q.
+    sym (value_of_tree q.0 new)
+    ∙ updates q
+    ∙ ap (λ (same : Bool). cond same (Some set) (lookup (λ key. is_eq (nat_cmp q.0 key.0)) old)) (same_test row.name.0 q.0)
+    ∙ ap (λ (o : Option ThemeValue). cond (row.name.0 == q.0) (Some set) o) (value_of_tree q.0 old))
 
 -- ---- attributes that are followed
 

@@ -58,6 +58,12 @@ values_after force rows values attr = value_after force (values attr) (values_fo
 abbrev pub AppliesRows : Bool → List BagRow → ThemeOf → ThemeOf → Type 0
 AppliesRows force rows old new = (attr : ℕ) → value_of new attr ≡ values_after force rows (value_of old) attr
 
+-- A call applied the rows of a style's bag, which are meant, or gave why there are none, or that memory ran out.
+-- Contracts within the crate alone speak of this.
+abbrev pub SetsStyle : Bool → ThemeOf → ThemeOf → Result (Unit {0}) BagFault → Result (List BagRow) BagFault → Type 0
+SetsStyle force old new (Ok _) meant = (rows : List BagRow) × (meant ≡ Ok rows) × AppliesRows force rows old new
+SetsStyle force old new (Err fault) meant = fault ≢ OutOfMemory → meant ≡ Err fault
+
 -- A call applied the rows of a style's bag, which are meant, or gave why there are none. Then, and where memory ran
 -- out, the theme is unchanged.
 abbrev pub AppliesStyle : Bool → ThemeOf → ThemeOf → Result (Unit {0}) BagFault → Result (List BagRow) BagFault → Type 0

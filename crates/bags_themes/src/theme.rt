@@ -1,11 +1,10 @@
 //! Themes.
 
-ghost use Rattle.std.specs.Prelude.{◌≡◌, ◌≤◌, ◌<◌, ◌+◌, [], length, ◌∷◌};
-ghost use Rattle.indexmap.specs.IndexMap.{spare};
+ghost use Rattle.std.specs.Prelude.{◌≡◌, [], ◌∷◌, OnOk};
 ghost use Rattle.contract_words.specs.Exact.{GivesOr};
 ghost use Rattle.reference_resolver.specs.config_record.DeviceSeen.{device_numbers};
 ghost use Rattle.bags_themes.specs.Bag.{bag_of};
-ghost use Rattle.bags_themes.specs.Theme.{value_of, unset, is_undefined, AppliesRows, AppliesStyle};
+ghost use Rattle.bags_themes.specs.Theme.{value_of, unset, is_undefined, AppliesRows, SetsStyle, AppliesStyle};
 ghost use Rattle.bags_themes.specs.Styles.{values_after_styles};
 ghost use Rattle.bags_themes.specs.Attribute.{slot_of, attribute_of};
 ghost use Rattle.bags_themes.specs.declared.bag_fault.BagFault.TheVariants.{OutOfMemory};
@@ -15,9 +14,9 @@ use crate::bag_row::BagRow;
 use crate::bags::bag;
 use crate::slot::{AttributeStep, Slot};
 use crate::theme_value::ThemeValue;
-use indexmap::IndexMap;
 use reference_resolver::{Device, End, ResId, Stack, resolve_within};
-use std::alloc::Global;
+use std::alloc::{AllocError, Global};
+use std::collections::BTreeMap;
 use std::marker::Model;
 
 // How many attributes are followed, at most.
@@ -30,7 +29,9 @@ const REFERENCES_AFTER_SLOT: u8 = 19;
 /// with their values, by look-up alone.
 #[derive(Debug, Drop)]
 pub struct Theme {
-    values: IndexMap<ResId, ThemeValue>,
+    alloc: Global,
+    /// A tree, and no table of hashes: no style can choose attributes that make it slow.
+    values: BTreeMap<ResId, ThemeValue>,
 }
 
 impl Model for Theme {
@@ -47,7 +48,8 @@ impl Theme {
         ensures { result ≡ [] }
     {
         Theme {
-            values: IndexMap::new(alloc),
+            alloc,
+            values: BTreeMap::new(alloc),
         }
     }
 
@@ -64,11 +66,11 @@ impl Theme {
         ensures { GivesOr OutOfMemory value_of result
             (values_after_styles stack.now force styles.now unset (device_numbers device.now)) }
     {
-        let mut theme = Theme::new(alloc);
+        let mut values = BTreeMap::new(alloc);
         for style in styles {
-            theme.apply(stack, *style, force, device)?;
+            set_style(alloc, &mut values, stack, *style, force, device)?;
         }
-        Ok(theme)
+        Ok(Theme { alloc, values })
     }
 
     /// Applies a style, the bag of an id, row by row (AOSP: `ResTable::Theme::applyStyle`). With `force` each row
@@ -84,9 +86,9 @@ impl Theme {
         ensures { AppliesStyle force self.old self.new result
             (bag_of stack.now style.0 (device_numbers device.now)) }
     {
-        let rows = bag(*self.values.allocator(), stack, style, device)?;
-        self.values.reserve(rows.as_slice().len())?;
-        apply_rows(&mut self.values, rows.as_slice(), force);
+        let mut values = self.values.clone()?;
+        set_style(self.alloc, &mut values, stack, style, force, device)?;
+        self.values = values;
         Ok(())
     }
 
@@ -120,35 +122,55 @@ impl Theme {
     }
 }
 
-// Applies rows, for which there is room.
-fn apply_rows(values: &mut IndexMap<ResId, ThemeValue>, rows: &[BagRow], force: bool)
-    requires { length rows.now ≤ spare values.old }
-    ensures { AppliesRows force rows.now values.old.entries values.new.entries }
+// Sets what the rows of a style set. After a fault some of them may be set.
+fn set_style(
+    alloc: Global,
+    values: &mut BTreeMap<ResId, ThemeValue>,
+    stack: &Stack<'_>,
+    style: ResId,
+    force: bool,
+    device: &Device,
+) -> Result<(), BagFault>
+    ensures { SetsStyle force values.old.entries values.new.entries result
+        (bag_of stack.now style.0 (device_numbers device.now)) }
 {
-    for row in rows {
-        apply_row(values, row, force);
-    }
+    let rows = bag(alloc, stack, style, device)?;
+    set_rows(values, rows.as_slice(), force)?;
+    Ok(())
 }
 
-// Applies one row, for which there is room.
-fn apply_row(values: &mut IndexMap<ResId, ThemeValue>, row: &BagRow, force: bool)
-    requires { 0 < spare values.old }
-    ensures applies { AppliesRows force (row.now ∷ []) values.old.entries values.new.entries }
-    ensures room { spare values.old ≤ spare values.new + 1 }
+fn set_rows(
+    values: &mut BTreeMap<ResId, ThemeValue>,
+    rows: &[BagRow],
+    force: bool,
+) -> Result<(), AllocError>
+    ensures { OnOk result (AppliesRows force rows.now values.old.entries values.new.entries) }
+{
+    for row in rows {
+        set_row(values, row, force)?;
+    }
+    Ok(())
+}
+
+fn set_row(
+    values: &mut BTreeMap<ResId, ThemeValue>,
+    row: &BagRow,
+    force: bool,
+) -> Result<(), AllocError>
+    ensures { OnOk result (AppliesRows force (row.now ∷ []) values.old.entries values.new.entries) }
 {
     if force || is_undefined(values, row.name) {
         let set = ThemeValue {
             layer: row.layer,
             value: row.value,
         };
-        let Ok(_) = values.insert(row.name, set) else {
-            unreachable!()
-        };
+        values.insert(row.name, set)?;
     }
+    Ok(())
 }
 
 // Whether an attribute is unset, or set to a value that is undefined.
-fn is_undefined(values: &IndexMap<ResId, ThemeValue>, attr: ResId) -> bool
+fn is_undefined(values: &BTreeMap<ResId, ThemeValue>, attr: ResId) -> bool
     ensures { result ≡ is_undefined (value_of values.now.entries attr.0) }
 {
     match values.get(&attr) {

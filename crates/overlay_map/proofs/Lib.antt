@@ -1,5 +1,4 @@
-pub mod LookSteps
 pub mod PairSteps
-pub mod EntrySteps
+pub mod PlaceSteps
 pub mod FewRows
 pub mod SetAsideSteps

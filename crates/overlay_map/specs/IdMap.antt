@@ -1,6 +1,8 @@
 -- Id maps: which id of an overlay stands for an id of the stack.
-use Rattle.std.specs.Prelude.{ℕ, not, List, [], ◌∷◌, map, ◌==◌, Option, Some, None, option_and_then, ok_or, Result, Ok, if◌then◌else◌}
-use Rattle.std.specs.List.{list_any}
+use Rattle.std.specs.Prelude.{ℕ, ◌≡◌, not, List, [], ◌∷◌, map, ◌==◌, Option, Some, None, option_and_then, ok_or, Result, Ok, if◌then◌else◌}
+use Rattle.std.specs.List.{list_any, position}
+use Rattle.std.specs.Ordering.{nat_cmp}
+use Rattle.std.specs.BTreeMap.{BTreeMap, get}
 use Rattle.contract_words.specs.Faults.{◌>>=◌, refuse}
 use Rattle.contract_words.specs.Sequences.{joined_each, with_before}
 use Rattle.serde_json.specs.Data.{Data, Items, no_items, item}
@@ -71,6 +73,16 @@ checked_pair first_package (before, pair) = check_target first_package before pa
 unfoldable pub checked_pairs : List IdPair → Result (List IdPair) MapFault
 checked_pairs [] = Ok []
 checked_pairs (first ∷ pairs) = joined_each (checked_pair (package_of first.0)) (with_before [] (first ∷ pairs))
+
+-- ---- where targets stand; contracts within the crate alone speak of this
+
+-- the place that a tree has for a target
+abbrev pub place_in : BTreeMap ResId ℕ → ResId → Option ℕ
+place_in places target = get (λ a b. nat_cmp a.0 b.0) places target
+
+-- A tree has for each target of these pairs the index of the first pair with it, and for no other target one.
+abbrev pub FindsTargets : List IdPair → BTreeMap ResId ℕ → Type 0
+FindsTargets pairs places = (target : ResId) → place_in places target ≡ position (λ pair. target.0 == pair.0.0) pairs
 
 -- ---- the map of a JSON text, or its first fault: that of the text, of the shape, of a pair
 
