@@ -1,9 +1,8 @@
 -- What follows for two members that are divided, and for predicates that hold of fewer devices.
-use Rattle.std.proofs.Common.{◌≡◌, ◌≢◌, inl, inr, ℕ, true, false, List, [], ◌∷◌, ◌++◌, sym, ◌∙◌, ap, append_assoc}
+use Rattle.std.proofs.Common.{◌≡◌, ◌≢◌, inl, inr, ℕ, true, false, List, [], ◌∷◌, ◌++◌, sym, ◌∙◌, ap}
 use Rattle.reference_resolver.specs.declared.step.Step.{Step}
 use Rattle.reference_resolver.specs.Trace.{Trace}
 use Rattle.box_trace.specs.Division.{has_matched, DividesAt, Divides}
-use Rattle.box_trace.specs.CommonTrace.{SharesTrace}
 
 -- ---- they differ
 
@@ -25,9 +24,6 @@ traces_differ members trace x y parts mx my same = steps_differ members (λ d. (
 
 -- ---- of fewer devices
 
-pub shares_trace_over : (members fewer : List ℕ → Type 0) (trace : List ℕ → Trace) (t : Trace) → ((d : List ℕ) → fewer d → members d) → SharesTrace members trace t → SharesTrace fewer trace t
-shares_trace_over members fewer trace t into shared = λ d m. shared d (into d m)
-
 divides_at_over : (members fewer : List ℕ → Type 0) (step : List ℕ → Step) (x y : List ℕ) → ((d : List ℕ) → fewer d → members d) → DividesAt members step x y → DividesAt fewer step x y
 divides_at_over members fewer step x y into (inl matching) = inl matching
 divides_at_over members fewer step x y into (inr taking) = inr ((λ d m. taking.0 d (into d m)), taking.1, taking.2)
@@ -39,20 +35,4 @@ divides_over members fewer steps x y into parts = record {
   after = parts.after;
   same = λ d m. parts.same d (into d m);
   divides = divides_at_over members fewer parts.step x y into parts.divides;
-}
-
--- ---- within longer lists of steps
-
-pub divides_within : (members : List ℕ → Type 0) (steps longer : List ℕ → List Step) (first : List Step) (last : List ℕ → List Step) (x y : List ℕ)
-    → ((d : List ℕ) → members d → longer d ≡ first ++ (steps d ++ last d)) → Divides members steps x y → Divides members longer x y
-divides_within members steps longer first last x y within parts = record {
-  before = first ++ parts.before;
-  step = parts.step;
-  after = λ d. parts.after d ++ last d;
-  same = λ d m.
-      within d m
-      ∙ ap (λ (inner : List Step). first ++ (inner ++ last d)) (parts.same d m)
-      ∙ ap (λ (inner : List Step). first ++ inner) (append_assoc parts.before (parts.step d ∷ parts.after d) (last d))
-      ∙ sym (append_assoc first parts.before (parts.step d ∷ (parts.after d ++ last d)));
-  divides = parts.divides;
 }

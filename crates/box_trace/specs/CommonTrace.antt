@@ -7,11 +7,13 @@ use Rattle.reference_resolver.specs.config_record.DeviceSeen.{device_numbers}
 use Rattle.config_box.specs.box_answers.NumberSet.{SetOf}
 use Rattle.config_box.specs.box_answers.Members.{set_at, IsMember}
 use Rattle.config_box.specs.box_answers.Sameness.{AreNeighbours}
+use Rattle.reference_resolver.specs.overlay_map.Layer.{LayerOf}
 use Rattle.reference_resolver.specs.declared.step.Step.{Step}
 use Rattle.reference_resolver.specs.Trace.{Trace}
 use Rattle.box_trace.specs.declared.common.CommonTrace.{CommonTrace}
 use Rattle.box_trace.specs.declared.common.CommonTrace.TheVariants.{One, Mixed}
 use Rattle.box_trace.specs.Division.{Divides}
+use Rattle.box_trace.specs.Parting.{IsParting}
 
 -- every member has this trace
 abbrev pub SharesTrace : (List ℕ → Type 0) → (List ℕ → Trace) → Trace → Type 0
@@ -28,11 +30,16 @@ pub record AreSideBySide (sets : List SetOf) (x y : List ℕ) (c : Coord) : Type
 -- members answer differently
 abbrev pub IsCommonTrace : CommonTrace → List SetOf → (List ℕ → Trace) → Type 0
 IsCommonTrace (One end) sets trace = (steps : List Step) × SharesTrace (IsMember sets) trace (record { steps = steps; end = end })
-IsCommonTrace (Mixed pair) sets trace =
-    AreSideBySide sets (device_numbers pair.yes) (device_numbers pair.no) pair.coord
-    × Divides (IsMember sets) (λ d. (trace d).steps) (device_numbers pair.yes) (device_numbers pair.no)
+IsCommonTrace (Mixed parting) sets trace =
+    AreSideBySide sets (device_numbers parting.pair.yes) (device_numbers parting.pair.no) parting.pair.coord
+    × Divides (IsMember sets) (λ d. (trace d).steps) (device_numbers parting.pair.yes) (device_numbers parting.pair.no)
+
+-- where it is mixed, this is that question
+abbrev pub IsParted : CommonTrace → List SetOf → List LayerOf → (List ℕ → Trace) → Type 0
+IsParted (One end) sets stack trace = Unit {0}
+IsParted (Mixed parting) sets stack trace = IsParting parting sets stack trace
 
 -- So two that are named have different traces.
 abbrev pub NamesTwoTraces : CommonTrace → (List ℕ → Trace) → Type 0
 NamesTwoTraces (One end) trace = Unit {0}
-NamesTwoTraces (Mixed pair) trace = trace (device_numbers pair.yes) ≢ trace (device_numbers pair.no)
+NamesTwoTraces (Mixed parting) trace = trace (device_numbers parting.pair.yes) ≢ trace (device_numbers parting.pair.no)

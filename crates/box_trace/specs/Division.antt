@@ -11,6 +11,12 @@ has_matched NoMatch = false
 has_matched KeptOut = true
 has_matched TookOver = true
 
+-- whether it takes over
+abbrev pub has_taken_over : Step → Bool
+has_taken_over NoMatch = false
+has_taken_over KeptOut = false
+has_taken_over TookOver = true
+
 -- One question about a candidate divides two members; `step d` is what the candidate does at a device. The first
 -- answers yes, the second no: it matches the first and not the second; or it matches all members, and takes over at the
 -- first and not at the second.

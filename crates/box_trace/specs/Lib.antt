@@ -1,4 +1,6 @@
 pub mod Division
+pub mod Walk
+pub mod Parting
 pub mod CommonTrace
 pub mod CommonSelection
 pub use Rattle.reference_resolver.specs as reference_resolver

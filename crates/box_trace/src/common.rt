@@ -1,17 +1,16 @@
-//! What all members of a box have in common, or two that differ.
+//! What all members of a box have in common, or where they part.
 
-use config_box::MemberPair;
+use crate::parting::Parting;
 use reference_resolver::{Cand, End};
 
 /// What the traces of all members of a box have in common.
-#[derive(Clone, Copy, Debug, PartialEq, Eq)]
-pub enum CommonTrace {
+#[derive(Clone, Copy, Debug)]
+pub enum CommonTrace<'a> {
     /// All members have one trace, and this is its end.
     One(End),
-    /// Two members with different traces: the first question that members answer differently tells them apart.
-    /// The questions are, of each candidate in turn, whether it matches, and, where it matches all, whether it
-    /// takes over.
-    Mixed(MemberPair),
+    /// The first question that members answer differently, and two whose traces it tells apart. The questions are, of
+    /// each candidate in turn, whether it matches, and, where it matches all, whether it takes over.
+    Mixed(Parting<'a>),
 }
 
 /// What all members of a box select, among the candidates so far.
@@ -19,6 +18,6 @@ pub enum CommonTrace {
 pub(crate) enum CommonSelection<'a> {
     /// All take the same steps to this candidate, or to none.
     One(Option<Cand<'a>>),
-    /// Two members, as above.
-    Mixed(MemberPair),
+    /// Where they part, as above.
+    Mixed(Parting<'a>),
 }

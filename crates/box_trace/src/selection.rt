@@ -4,23 +4,29 @@ ghost use Rattle.box_trace.specs.CommonSelection.{IsCommonSelection};
 
 use crate::common::CommonSelection;
 use crate::step::best_after;
+use crate::walk::Walk;
 use config_box::ConfigBox;
-use reference_resolver::{ResId, Stack};
+use reference_resolver::Stack;
 
-/// The candidate of an id that all members select, and by the same steps.
+/// The candidate that all members select from where a walk stands in a look-up, and by the same steps.
 pub(crate) fn common_selection<'a>(
     stack: &Stack<'a>,
-    id: ResId,
+    walk: &Walk<'a>,
     members: &ConfigBox,
 ) -> CommonSelection<'a>
-    ensures { IsCommonSelection result members.now stack.now id.0 }
+    ensures { IsCommonSelection result members.now stack.now walk.now }
 {
-    let mut best = None;
-    for candidate in stack.candidates(id) {
-        match best_after(best, candidate, members) {
-            CommonSelection::One(picked) => best = picked,
-            CommonSelection::Mixed(pair) => return CommonSelection::Mixed(pair),
-        }
+    let mut candidates = stack.candidates(walk.id);
+    for _ in 0..walk.passed {
+        let _ = candidates.next();
     }
-    CommonSelection::One(best)
+    let mut walk = *walk;
+    for candidate in candidates {
+        match best_after(&walk, candidate, members) {
+            CommonSelection::One(best) => walk.best = best,
+            CommonSelection::Mixed(parting) => return CommonSelection::Mixed(parting),
+        }
+        walk.passed += 1;
+    }
+    CommonSelection::One(walk.best)
 }

@@ -10,37 +10,49 @@ ghost use Rattle.reference_resolver.specs.Selection.{beats, beats_best};
 ghost use Rattle.box_trace.specs.CommonSelection.{IsCommonStep};
 
 use crate::common::CommonSelection;
+use crate::parting::{Asked, Parting};
+use crate::walk::Walk;
 use config_box::{ConfigBox, MemberPair, Sameness};
 use reference_resolver::{Cand, same};
 
-/// The best after a candidate, for all members. Whether it matches is asked first.
+/// The best after the next candidate, for all members. Whether it matches is asked first.
 pub(crate) fn best_after<'a>(
-    best: Option<Cand<'a>>,
+    walk: &Walk<'a>,
     candidate: Cand<'a>,
     members: &ConfigBox,
 ) -> CommonSelection<'a>
-    ensures { IsCommonStep result members.now (option_map cand_of best.entry) (cand_of candidate.entry) }
+    ensures { IsCommonStep result members.now walk.now (cand_of candidate.entry) }
 {
     match members.match_all(&candidate.row.config) {
-        Sameness::Always => best_after_match(best, candidate, members),
-        Sameness::Never => CommonSelection::One(best),
-        Sameness::Mixed(yes, no, coord) => CommonSelection::Mixed(MemberPair { yes, no, coord }),
+        Sameness::Always => best_after_match(walk, candidate, members),
+        Sameness::Never => CommonSelection::One(walk.best),
+        Sameness::Mixed(yes, no, coord) => CommonSelection::Mixed(Parting {
+            pair: MemberPair { yes, no, coord },
+            walk: *walk,
+            candidate,
+            asked: Asked::Matches,
+        }),
     }
 }
 
 /// The same, where the candidate matches all members.
 fn best_after_match<'a>(
-    best: Option<Cand<'a>>,
+    walk: &Walk<'a>,
     candidate: Cand<'a>,
     members: &ConfigBox,
 ) -> CommonSelection<'a>
     requires { (d : List ℕ) → IsMember members.now d → IsTrue (is_match (cand_of candidate).row.config d) }
-    ensures { IsCommonStep result members.now (option_map cand_of best.entry) (cand_of candidate.entry) }
+    ensures { IsCommonStep result members.now walk.now (cand_of candidate.entry) }
 {
-    match is_best_beaten(&best, &candidate, members) {
+    match is_best_beaten(&walk.best, &candidate, members) {
         Sameness::Always => CommonSelection::One(Some(candidate)),
-        Sameness::Never => CommonSelection::One(best),
-        Sameness::Mixed(yes, no, coord) => CommonSelection::Mixed(MemberPair { yes, no, coord }),
+        Sameness::Never => CommonSelection::One(walk.best),
+        Sameness::Mixed(yes, no, coord) => CommonSelection::Mixed(Parting {
+            pair: MemberPair { yes, no, coord },
+            walk: *walk,
+            candidate,
+            asked: Asked::TakesOver,
+        }),
     }
 }
 

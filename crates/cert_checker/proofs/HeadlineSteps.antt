@@ -27,7 +27,7 @@ at_its_leaf : (stack : List LayerOf) (sets : List SetOf) (tree : GoalOf) (d : Li
 at_its_leaf stack sets tree d ok m =
     let r = reaches (goal_trace stack tree.goal) sets tree.nodes d ok in
     record {
-      said = r.0;
+      claimed = r.0;
       reaches = r.1;
       ends = λ end there. rules_end stack tree.goal d end (ends_at_leaf (goal_trace stack tree.goal) sets tree.nodes d end ok m there);
     }

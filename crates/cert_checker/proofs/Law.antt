@@ -26,16 +26,16 @@ FollowsSome d (path ∷ paths) = Follows d path ⊎ FollowsSome d paths
 
 -- a leaf among nodes before which these paths are open
 record ReachesFrom (nodes : List NodeOf) (paths : List Path) (d : List ℕ) : Type 0 where
-  said : End
+  claimed : End
   place : ℕ
   leaf : NodeOf
   stands : slice_get nodes place ≡ Some leaf
-  says : leaf_end leaf ≡ Some said
+  says : leaf_end leaf ≡ Some claimed
   follows : FollowsFirst d (after_all (take place nodes) paths)
 
--- one behind a node
+-- one node later
 later : (node : NodeOf) (nodes : List NodeOf) (path : Path) (paths : List Path) (d : List ℕ) → ReachesFrom nodes (after node path paths) d → ReachesFrom (node ∷ nodes) (path ∷ paths) d
-later node nodes path paths d r = record { said = r.said; place = suc r.place; leaf = r.leaf; stands = r.stands; says = r.says; follows = r.follows }
+later node nodes path paths d r = record { claimed = r.claimed; place = suc r.place; leaf = r.leaf; stands = r.stands; says = r.says; follows = r.follows }
 
 abbrev NoneFailsFrom : (List ℕ → Trace) → List SetOf → List NodeOf → List Path → Type 0
 NoneFailsFrom trace sets nodes paths = (k : ℕ) (rule : Rule) → FailsAt trace sets (slice_get nodes k) (after_all (take k nodes) paths) rule → ⊥
@@ -53,26 +53,26 @@ reach trace sets d (TestAt test ∷ nodes) (path ∷ paths) ok (inl f) =
 reach trace sets d (TestAt test ∷ nodes) (path ∷ paths) ok (inr f) =
     later (TestAt test) nodes path paths d (reach trace sets d nodes (after (TestAt test) path paths) (λ k. ok (suc k)) (inr (inr f)))
 reach trace sets d (ValueAt layer value ∷ nodes) (path ∷ paths) ok (inl f) =
-    record { said = ends.Value layer value; place = 0; leaf = ValueAt layer value; stands = refl; says = refl; follows = f }
+    record { claimed = ends.Value layer value; place = 0; leaf = ValueAt layer value; stands = refl; says = refl; follows = f }
 reach trace sets d (ValueAt layer value ∷ nodes) (path ∷ paths) ok (inr f) =
     later (ValueAt layer value) nodes path paths d (reach trace sets d nodes paths (λ k. ok (suc k)) f)
 reach trace sets d (BagAt id ∷ nodes) (path ∷ paths) ok (inl f) =
-    record { said = ends.Bag id; place = 0; leaf = BagAt id; stands = refl; says = refl; follows = f }
+    record { claimed = ends.Bag id; place = 0; leaf = BagAt id; stands = refl; says = refl; follows = f }
 reach trace sets d (BagAt id ∷ nodes) (path ∷ paths) ok (inr f) =
     later (BagAt id) nodes path paths d (reach trace sets d nodes paths (λ k. ok (suc k)) f)
 
-pub reaches : (trace : List ℕ → Trace) (sets : List SetOf) (nodes : List NodeOf) (d : List ℕ) → NoRuleFails trace sets nodes → (said : End) × Reaches nodes d said
+pub reaches : (trace : List ℕ → Trace) (sets : List SetOf) (nodes : List NodeOf) (d : List ℕ) → NoRuleFails trace sets nodes → (claimed : End) × Reaches nodes d claimed
 unfolding Fails open_at
 reaches trace sets nodes d ok =
     let r = reach trace sets d nodes root ok (inl tt) in
-    (r.said, record { place = r.place; leaf = r.leaf; stands = r.stands; says = r.says; follows = r.follows })
+    (r.claimed, record { place = r.place; leaf = r.leaf; stands = r.stands; says = r.says; follows = r.follows })
 
 -- ---- the trace ends there
 
 -- where no rule fails at a leaf, the trace of each member ends at what it says
-at_leaf : (trace : List ℕ → Trace) (members : List ℕ → Type 0) (said : End) (d : List ℕ) → members d → ((rule : Rule) → FailsAtLeaf trace members said rule → ⊥) → (trace d).end ≡ said
-at_leaf trace members said d m ok =
-    elim (end-cases (trace d).end said) [
+at_leaf : (trace : List ℕ → Trace) (members : List ℕ → Type 0) (claimed : End) (d : List ℕ) → members d → ((rule : Rule) → FailsAtLeaf trace members claimed rule → ⊥) → (trace d).end ≡ claimed
+at_leaf trace members claimed d m ok =
+    elim (end-cases (trace d).end claimed) [
       | inl e ↦ e
       | inr n ↦ absurd (elim (cases_Bool (is_value (trace d).end)) [ inl e ↦ ok OtherValue (trace d, shared, e, n) | inr e ↦ ok NoValue (trace d, shared, e) ])
     ]
@@ -80,17 +80,17 @@ at_leaf trace members said d m ok =
     shared : SharesTrace members trace (trace d)
     shared x other = elim (trace-cases (trace x) (trace d)) [ inl same ↦ same.1 | inr n ↦ absurd (ok MixedTrace (x, d, other, m, n.1)) ]
 
-at_node : (trace : List ℕ → Trace) (sets : List SetOf) (node : NodeOf) (paths : List Path) (said : End) (d : List ℕ) → IsMember sets d → FollowsFirst d paths → leaf_end node ≡ Some said
-    → ((rule : Rule) → FailsAt trace sets (Some node) paths rule → ⊥) → (trace d).end ≡ said
-at_node trace sets node [] said d m f e ok = absurd f
-at_node trace sets (TestAt test) (path ∷ paths) said d m f e ok = absurd cc
-at_node trace sets (ValueAt layer value) (path ∷ paths) said d m f e ok =
+at_node : (trace : List ℕ → Trace) (sets : List SetOf) (node : NodeOf) (paths : List Path) (claimed : End) (d : List ℕ) → IsMember sets d → FollowsFirst d paths → leaf_end node ≡ Some claimed
+    → ((rule : Rule) → FailsAt trace sets (Some node) paths rule → ⊥) → (trace d).end ≡ claimed
+at_node trace sets node [] claimed d m f e ok = absurd f
+at_node trace sets (TestAt test) (path ∷ paths) claimed d m f e ok = absurd cc
+at_node trace sets (ValueAt layer value) (path ∷ paths) claimed d m f e ok =
     at_leaf trace (IsAt sets path) (ends.Value layer value) d (m, f) ok ∙ cc
-at_node trace sets (BagAt id) (path ∷ paths) said d m f e ok =
+at_node trace sets (BagAt id) (path ∷ paths) claimed d m f e ok =
     at_leaf trace (IsAt sets path) (ends.Bag id) d (m, f) ok ∙ cc
 
-pub ends_at_leaf : (trace : List ℕ → Trace) (sets : List SetOf) (nodes : List NodeOf) (d : List ℕ) (said : End) → NoRuleFails trace sets nodes → IsMember sets d → Reaches nodes d said → (trace d).end ≡ said
+pub ends_at_leaf : (trace : List ℕ → Trace) (sets : List SetOf) (nodes : List NodeOf) (d : List ℕ) (claimed : End) → NoRuleFails trace sets nodes → IsMember sets d → Reaches nodes d claimed → (trace d).end ≡ claimed
 unfolding Fails
-ends_at_leaf trace sets nodes d said ok m r =
-    at_node trace sets r.leaf (open_at nodes r.place) said d m r.follows r.says
+ends_at_leaf trace sets nodes d claimed ok m r =
+    at_node trace sets r.leaf (open_at nodes r.place) claimed d m r.follows r.says
     (λ rule h. ok r.place rule (subst (λ (o : Option NodeOf). FailsAt trace sets o (open_at nodes r.place) rule) (sym r.stands) h))

@@ -1,4 +1,4 @@
--- The rules of a leaf, told of the box of its path.
+-- The rules of a leaf, for the box of its path.
 use Rattle.std.proofs.Common.{◌≡◌, ◌≢◌, ℕ, ◌<◌, arith, true, false, List, Some, None, sym, ◌∙◌, ap, refl, subst}
 use Rattle.box_trace.specs.config_record.declared.coord.Coord.{Coord}
 use Rattle.box_trace.specs.config_record.declared.device.Device.{Device}
@@ -27,26 +27,26 @@ use Rattle.cert_checker.proofs.BoxSteps.{some_member}
 -- ---- the rules of leaves
 
 -- Of rules of which Q holds none fails, where these three do not.
-leaf_rules : (trace : List ℕ → Trace) (members : List ℕ → Type 0) (said : End) (Q : Rule → Type 0) → (Q MixedTrace → FailsAtLeaf trace members said MixedTrace → ⊥)
-    → (Q NoValue → FailsAtLeaf trace members said NoValue → ⊥) → (Q OtherValue → FailsAtLeaf trace members said OtherValue → ⊥)
-    → (rule : Rule) → Q rule → FailsAtLeaf trace members said rule → ⊥
-leaf_rules trace members said Q mixed none other GoalList q h = h
-leaf_rules trace members said Q mixed none other EndsEarly q h = h
-leaf_rules trace members said Q mixed none other LeftOver q h = h
-leaf_rules trace members said Q mixed none other TestKind q h = h
-leaf_rules trace members said Q mixed none other EmptyHalf q h = h
-leaf_rules trace members said Q mixed none other MixedTrace q h = mixed q h
-leaf_rules trace members said Q mixed none other NoValue q h = none q h
-leaf_rules trace members said Q mixed none other OtherValue q h = other q h
+leaf_rules : (trace : List ℕ → Trace) (members : List ℕ → Type 0) (claimed : End) (Q : Rule → Type 0) → (Q MixedTrace → FailsAtLeaf trace members claimed MixedTrace → ⊥)
+    → (Q NoValue → FailsAtLeaf trace members claimed NoValue → ⊥) → (Q OtherValue → FailsAtLeaf trace members claimed OtherValue → ⊥)
+    → (rule : Rule) → Q rule → FailsAtLeaf trace members claimed rule → ⊥
+leaf_rules trace members claimed Q mixed none other GoalList q h = h
+leaf_rules trace members claimed Q mixed none other EndsEarly q h = h
+leaf_rules trace members claimed Q mixed none other LeftOver q h = h
+leaf_rules trace members claimed Q mixed none other TestKind q h = h
+leaf_rules trace members claimed Q mixed none other EmptyHalf q h = h
+leaf_rules trace members claimed Q mixed none other MixedTrace q h = mixed q h
+leaf_rules trace members claimed Q mixed none other NoValue q h = none q h
+leaf_rules trace members claimed Q mixed none other OtherValue q h = other q h
 
 -- ---- several traces
 
-pub two_traces : (trace : List ℕ → Trace) (said : End) (part : List SetOf) (x y : Device) (c : Coord) → AreSideBySide part (device_numbers x) (device_numbers y) c
+pub two_traces : (trace : List ℕ → Trace) (claimed : End) (part : List SetOf) (x y : Device) (c : Coord) → AreSideBySide part (device_numbers x) (device_numbers y) c
     → Divides (IsMember part) (λ d. (trace d).steps) (device_numbers x) (device_numbers y) → trace (device_numbers x) ≢ trace (device_numbers y)
-    → TakesLeaf trace said part (Some (record { rule = MixedTrace; shown = Two x y }))
-two_traces trace said part x y c beside divided differ sets path b = (
+    → TakesLeaf trace claimed part (Some (record { rule = MixedTrace; shown = Two x y }))
+two_traces trace claimed part x y c beside divided differ sets path b = (
   (device_numbers x, device_numbers y, first, second, differ),
-  leaf_rules trace (IsAt sets path) said (λ (rule : Rule). number_of rule < 6) (λ p h. omega arith) (λ p h. omega arith) (λ p h. omega arith),
+  leaf_rules trace (IsAt sets path) claimed (λ (rule : Rule). number_of rule < 6) (λ p h. omega arith) (λ p h. omega arith) (λ p h. omega arith),
   record {
     first = first;
     second = second;
@@ -79,23 +79,23 @@ only trace t other sets path part b shared others =
     let m = some_member part b.is_box in
     sym (others m.0 ((b.members m.0).0 m.1)) ∙ shared m.0 m.1
 
-not_mixed : (trace : List ℕ → Trace) (t : Trace) (said : End) (sets : List SetOf) (path : Path) (part : List SetOf) → IsBoxAt sets path part → SharesTrace (IsMember part) trace t
-    → FailsAtLeaf trace (IsAt sets path) said MixedTrace → ⊥
-not_mixed trace t said sets path part b shared h =
+not_mixed : (trace : List ℕ → Trace) (t : Trace) (claimed : End) (sets : List SetOf) (path : Path) (part : List SetOf) → IsBoxAt sets path part → SharesTrace (IsMember part) trace t
+    → FailsAtLeaf trace (IsAt sets path) claimed MixedTrace → ⊥
+not_mixed trace t claimed sets path part b shared h =
     let all = at_path trace t sets path part b shared in h.4 (all h.0 h.2 ∙ sym (all h.1 h.3))
 
 -- it ends at a value or a bag
-not_without : (trace : List ℕ → Trace) (t : Trace) (said end : End) (sets : List SetOf) (path : Path) (part : List SetOf) → IsBoxAt sets path part → is_value end ≡ true → t.end ≡ end → SharesTrace (IsMember part) trace t
-    → FailsAtLeaf trace (IsAt sets path) said NoValue → ⊥
-not_without trace t said end sets path part b value e shared h =
+not_without : (trace : List ℕ → Trace) (t : Trace) (claimed end : End) (sets : List SetOf) (path : Path) (part : List SetOf) → IsBoxAt sets path part → is_value end ≡ true → t.end ≡ end → SharesTrace (IsMember part) trace t
+    → FailsAtLeaf trace (IsAt sets path) claimed NoValue → ⊥
+not_without trace t claimed end sets path part b value e shared h =
     let same : h.0.end ≡ end = ap (λ (x : Trace). x.end) (only trace t h.0 sets path part b shared h.1) ∙ e in
     let no : false ≡ true = sym h.2 ∙ ap is_value same ∙ value in cc
 
-pub as_said : (trace : List ℕ → Trace) (t : Trace) (said : End) (part : List SetOf) → is_value said ≡ true → SharesTrace (IsMember part) trace t → t.end ≡ said → TakesLeaf trace said part None
-as_said trace t said part value shared e sets path b rule =
-    leaf_rules trace (IsAt sets path) said (λ (r : Rule). Unit {0})
-    (λ q h. not_mixed trace t said sets path part b shared h)
-    (λ q h. not_without trace t said said sets path part b value e shared h)
+pub as_claimed : (trace : List ℕ → Trace) (t : Trace) (claimed : End) (part : List SetOf) → is_value claimed ≡ true → SharesTrace (IsMember part) trace t → t.end ≡ claimed → TakesLeaf trace claimed part None
+as_claimed trace t claimed part value shared e sets path b rule =
+    leaf_rules trace (IsAt sets path) claimed (λ (r : Rule). Unit {0})
+    (λ q h. not_mixed trace t claimed sets path part b shared h)
+    (λ q h. not_without trace t claimed claimed sets path part b value e shared h)
     (λ q h. h.3 (ap (λ (x : Trace). x.end) (only trace t h.0 sets path part b shared h.1) ∙ e))
     rule tt
 
@@ -111,32 +111,32 @@ shows_end trace t sets path part corner b shared is = record {
     member c = (is c).is_in
 
 -- a value or a bag
-other_value : (trace : List ℕ → Trace) (t : Trace) (said end : End) (part : List SetOf) (corner : Device) → is_value end ≡ true → t.end ≡ end → end ≢ said → SharesTrace (IsMember part) trace t
-    → IsCorner part (device_numbers corner) → TakesLeaf trace said part (Some (record { rule = OtherValue; shown = One corner end }))
-other_value trace t said end part corner value e ne shared is sets path b = (
+other_value : (trace : List ℕ → Trace) (t : Trace) (claimed end : End) (part : List SetOf) (corner : Device) → is_value end ≡ true → t.end ≡ end → end ≢ claimed → SharesTrace (IsMember part) trace t
+    → IsCorner part (device_numbers corner) → TakesLeaf trace claimed part (Some (record { rule = OtherValue; shown = One corner end }))
+other_value trace t claimed end part corner value e ne shared is sets path b = (
   (t, at_path trace t sets path part b shared, ap is_value e ∙ value, λ f. ne (sym e ∙ f)),
-  leaf_rules trace (IsAt sets path) said (λ (rule : Rule). number_of rule < 8)
-      (λ p h. not_mixed trace t said sets path part b shared h)
-      (λ p h. not_without trace t said end sets path part b value e shared h)
+  leaf_rules trace (IsAt sets path) claimed (λ (rule : Rule). number_of rule < 8)
+      (λ p h. not_mixed trace t claimed sets path part b shared h)
+      (λ p h. not_without trace t claimed end sets path part b value e shared h)
       (λ p h. omega arith),
   subst (λ (x : End). ShowsEnd trace (IsAt sets path) (device_numbers corner) x) e (shows_end trace t sets path part (device_numbers corner) b shared is),
 )
 
 -- neither
-no_value : (trace : List ℕ → Trace) (t : Trace) (said end : End) (part : List SetOf) (corner : Device) → is_value end ≡ false → t.end ≡ end → SharesTrace (IsMember part) trace t
-    → IsCorner part (device_numbers corner) → TakesLeaf trace said part (Some (record { rule = NoValue; shown = One corner end }))
-no_value trace t said end part corner value e shared is sets path b = (
+no_value : (trace : List ℕ → Trace) (t : Trace) (claimed end : End) (part : List SetOf) (corner : Device) → is_value end ≡ false → t.end ≡ end → SharesTrace (IsMember part) trace t
+    → IsCorner part (device_numbers corner) → TakesLeaf trace claimed part (Some (record { rule = NoValue; shown = One corner end }))
+no_value trace t claimed end part corner value e shared is sets path b = (
   (t, at_path trace t sets path part b shared, ap is_value e ∙ value),
-  leaf_rules trace (IsAt sets path) said (λ (rule : Rule). number_of rule < 7)
-      (λ p h. not_mixed trace t said sets path part b shared h)
+  leaf_rules trace (IsAt sets path) claimed (λ (rule : Rule). number_of rule < 7)
+      (λ p h. not_mixed trace t claimed sets path part b shared h)
       (λ p h. omega arith)
       (λ p h. omega arith),
   subst (λ (x : End). ShowsEnd trace (IsAt sets path) (device_numbers corner) x) e (shows_end trace t sets path part (device_numbers corner) b shared is),
 )
 
-pub not_as_said : (trace : List ℕ → Trace) (t : Trace) (said end : End) (part : List SetOf) (corner : Device) → t.end ≡ end → end ≢ said → SharesTrace (IsMember part) trace t → IsCorner part (device_numbers corner)
-    → TakesLeaf trace said part (Some (record { rule = rule_of_end end; shown = One corner end }))
-not_as_said trace t said (ends.Value layer value) part corner e ne shared is = other_value trace t said (ends.Value layer value) part corner refl e ne shared is
-not_as_said trace t said (ends.Bag id) part corner e ne shared is = other_value trace t said (ends.Bag id) part corner refl e ne shared is
-not_as_said trace t said (ends.Absent id) part corner e ne shared is = no_value trace t said (ends.Absent id) part corner refl e shared is
-not_as_said trace t said (ends.TooLong id) part corner e ne shared is = no_value trace t said (ends.TooLong id) part corner refl e shared is
+pub not_as_claimed : (trace : List ℕ → Trace) (t : Trace) (claimed end : End) (part : List SetOf) (corner : Device) → t.end ≡ end → end ≢ claimed → SharesTrace (IsMember part) trace t → IsCorner part (device_numbers corner)
+    → TakesLeaf trace claimed part (Some (record { rule = rule_of_end end; shown = One corner end }))
+not_as_claimed trace t claimed (ends.Value layer value) part corner e ne shared is = other_value trace t claimed (ends.Value layer value) part corner refl e ne shared is
+not_as_claimed trace t claimed (ends.Bag id) part corner e ne shared is = other_value trace t claimed (ends.Bag id) part corner refl e ne shared is
+not_as_claimed trace t claimed (ends.Absent id) part corner e ne shared is = no_value trace t claimed (ends.Absent id) part corner refl e shared is
+not_as_claimed trace t claimed (ends.TooLong id) part corner e ne shared is = no_value trace t claimed (ends.TooLong id) part corner refl e shared is

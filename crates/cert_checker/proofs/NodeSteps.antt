@@ -83,10 +83,10 @@ halves part yes_half no_half test before after right y n e trace sets path paths
 
 -- no path is open
 pub left_over : (trace : List ℕ → Trace) (node : NodeOf) (before after : List (List SetOf)) → before ≡ [] → TakesNode trace node before after (Some (record { rule = LeftOver; shown = Nothing }))
-left_over trace node before after e sets [] stand = ((refl, (λ other p f. absurd (behind other p f)), refl), tt)
+left_over trace node before after e sets [] stand = ((refl, (λ other p f. absurd (none_lower other p f)), refl), tt)
   where
-    behind : (other : Rule) → number_of other < 3 → other ≡ LeftOver → ⊥
-    behind other p f = let same = ap number_of f in omega arith
+    none_lower : (other : Rule) → number_of other < 3 → other ≡ LeftOver → ⊥
+    none_lower other p f = let same = ap number_of f in omega arith
 left_over trace node before after e sets (path ∷ paths) stand = absurd (subst (λ (parts : List (List SetOf)). Stand sets parts (path ∷ paths)) (ap reverse e) stand)
 
 pub at_test : (trace : List ℕ → Trace) (test : TestOf) (part : List SetOf) (before rest after : List (List SetOf)) (outcome : Option Failure) → before ≡ rest ++ part ∷ [] → TakesTest test part rest after outcome

@@ -111,10 +111,10 @@ whole_tree trace sets nodes k boxes e none p j rule f =
 early : (trace : List ℕ → Trace) (sets part : List SetOf) (parts : List (List SetOf)) (paths : List Path) → Stand sets (part ∷ parts) paths
     → FailsAt trace sets None paths EndsEarly × ((other : Rule) → number_of other < 2 → FailsAt trace sets None paths other → ⊥)
 early trace sets part parts [] stand = absurd stand
-early trace sets part parts (path ∷ paths) stand = (refl, behind)
+early trace sets part parts (path ∷ paths) stand = (refl, none_lower)
   where
-    behind : (other : Rule) → number_of other < 2 → other ≡ EndsEarly → ⊥
-    behind other p f = let same = ap number_of f in omega arith
+    none_lower : (other : Rule) → number_of other < 2 → other ≡ EndsEarly → ⊥
+    none_lower other p f = let same = ap number_of f in omega arith
 
 pub ends_early : (trace : List ℕ → Trace) (sets part : List SetOf) (nodes : List NodeOf) (k : ℕ) (boxes rest : List (List SetOf)) → k ≡ length nodes → reverse boxes ≡ part ∷ reverse rest → PassedTo trace sets nodes k boxes
     → IsOutcome trace sets nodes (Some (length nodes, record { rule = EndsEarly; shown = Nothing }))

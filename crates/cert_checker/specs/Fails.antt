@@ -42,7 +42,7 @@ FailsAtNode trace sets members (TestAt test) rule = FailsAtTest sets members tes
 FailsAtNode trace sets members (ValueAt layer value) rule = FailsAtLeaf trace members (ends.Value layer value) rule
 FailsAtNode trace sets members (BagAt id) rule = FailsAtLeaf trace members (ends.Bag id) rule
 
--- Where the next node is this, or none is left, and these paths are open. (Behind the first place at which a rule fails it
+-- Where the next node is this, or none is left, and these paths are open. (After the first place at which a rule fails it
 -- means nothing: no device may come there.)
 abbrev pub FailsAt : (List ℕ → Trace) → List SetOf → Option NodeOf → List Path → Rule → Type 0
 FailsAt trace sets None [] rule = ⊥

@@ -19,8 +19,8 @@ RulesEndAt stack (Id id) d end = IsTheEnd stack id.0 d references_followed end
 
 -- The device reaches a leaf, and the rules end at what each leaf says that it reaches; so there is one such end.
 pub record EndsAtItsLeaf (stack : List LayerOf) (goal : Goal) (nodes : List NodeOf) (d : List ℕ) : Type 0 where
-  pub said : End
-  pub reaches : Reaches nodes d said
+  pub claimed : End
+  pub reaches : Reaches nodes d claimed
   pub ends : (end : End) → Reaches nodes d end → RulesEndAt stack goal d end
 
 -- If the checker accepts a certificate for a stack of tables and overlays, a box and named goals, then for every

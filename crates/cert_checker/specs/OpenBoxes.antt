@@ -67,9 +67,9 @@ TakesTest test part before after outcome =
 
 -- and of a leaf
 abbrev pub TakesLeaf : (List ℕ → Trace) → End → List SetOf → Option Failure → Type 0
-TakesLeaf trace said part outcome =
+TakesLeaf trace claimed part outcome =
     (sets : List SetOf) (path : Path) → IsBoxAt sets path part
-    → IsLowest (FailsAtLeaf trace (IsAt sets path) said) (Shows trace sets (IsAt sets path)) outcome
+    → IsLowest (FailsAtLeaf trace (IsAt sets path) claimed) (Shows trace sets (IsAt sets path)) outcome
 
 -- ---- a whole tree
 

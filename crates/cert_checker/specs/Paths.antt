@@ -1,6 +1,6 @@
--- The nodes of a tree stand in a list, each test before what stands behind its answer yes, and that before what stands
--- behind its answer no. A path is the answers that lead to a node, the last one first. Paths are open where the tree goes on;
--- the next node of the list stands at the first of them.
+-- The nodes of a tree stand in a list: a test, then the tree of its yes half, then that of its no half. A path is the
+-- answers that lead to a node, the last one first. Paths are open where the tree goes on; the next node of the list stands
+-- at the first of them.
 use Rattle.std.specs.Prelude.{◌≡◌, ℕ, Bool, true, false, List, [], ◌∷◌, Option, Some, None, take, slice_get}
 use Rattle.box_trace.specs.reference_resolver.declared.end.End.{End}
 use Rattle.box_trace.specs.reference_resolver.declared.end.End.TheVariants as ends

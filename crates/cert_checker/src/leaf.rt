@@ -17,17 +17,17 @@ pub(crate) fn take_leaf(
     stack: &Stack<'_>,
     id: ResId,
     members: &ConfigBox,
-    said: End,
+    claimed: End,
 ) -> Option<Failure>
-    requires { is_value said ≡ true }
-    ensures { TakesLeaf (trace_of stack.now references_followed id.0) said members.now result }
+    requires { is_value claimed ≡ true }
+    ensures { TakesLeaf (trace_of stack.now references_followed id.0) claimed members.now result }
 {
     match common_trace(stack, id, members) {
-        CommonTrace::Mixed(pair) => Some(Failure {
+        CommonTrace::Mixed(parting) => Some(Failure {
             rule: Rule::MixedTrace,
-            shown: Shown::Two(pair.yes, pair.no),
+            shown: Shown::Two(parting.pair.yes, parting.pair.no),
         }),
-        CommonTrace::One(end) if is_same(end, said) => None,
+        CommonTrace::One(end) if is_same(end, claimed) => None,
         CommonTrace::One(end) => Some(Failure {
             rule: rule_of(end),
             shown: Shown::One(members.corner(), end),

@@ -24,8 +24,8 @@ mod tree;
 mod verdict;
 
 pub use box_trace::{
-    Cand, CommonTrace, Coord, Device, End, Locale, MOST_LAYERS, Next, REFERENCES_FOLLOWED, Stack,
-    Step, common_trace, resolve,
+    CommonTrace, Coord, Device, End, Locale, MOST_LAYERS, Parting, Stack, Walk, common_trace_from,
+    resolve,
 };
 pub use cert_tree::{
     Cert, CertGoal, Choice, ConfigBox, Goal, MemberPair, Node, OutOfMemory, Progress, ResId, Split,

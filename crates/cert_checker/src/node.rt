@@ -31,11 +31,11 @@ pub(crate) fn take_node(
     match node {
         Node::Test(test) => take_test(alloc, &members, test, open_boxes),
         Node::Value { layer, value } => {
-            let said = End::Value {
+            let claimed = End::Value {
                 layer: *layer,
                 value: *value,
             };
-            Ok(take_leaf(stack, id, &members, said))
+            Ok(take_leaf(stack, id, &members, claimed))
         }
         Node::Bag { id: bag } => Ok(take_leaf(stack, id, &members, End::Bag { id: *bag })),
     }

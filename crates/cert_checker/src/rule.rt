@@ -11,7 +11,7 @@ pub enum Rule {
     GoalList,
     /// The list of nodes ends before the tree is whole.
     EndsEarly,
-    /// A node stands behind the whole tree.
+    /// A node stands after the whole tree.
     LeftOver,
     /// An `at most` test of the locale, or a test of listed values where the box has a range.
     TestKind,
@@ -42,7 +42,7 @@ impl Rule {
         }
     }
 
-    /// Its name, as it is printed behind the number.
+    /// Its name, as it is printed after the number.
     #[tactic(auto, unfolding(crate::specs::Rule::name_of))]
     pub fn name(self) -> &'static str
         ensures { result.now ≡ name_of self }

@@ -1,7 +1,7 @@
 -- A trace asks a device for its numbers alone.
 use Rattle.std.proofs.Common.{◌≡◌, ℕ, zero, suc, not, List, [], ◌∷◌, Option, Some, None, refl, ◌∙◌, ap}
 use Rattle.std.proofs.Math.Path.{fun_ext}
-use Rattle.std.specs.Prelude.{◌&&◌}
+use Rattle.std.specs.Prelude.{◌&&◌, Bool}
 use Rattle.std.specs.List.{flat_map}
 use Rattle.cert_checker.specs.config_record.declared.coord.Coord.{Coord}
 use Rattle.cert_checker.specs.config_record.ComparedNumber.{record_number, device_number}
@@ -13,12 +13,15 @@ use Rattle.cert_checker.specs.config_match.Matching.{is_match}
 use Rattle.cert_checker.specs.config_precedence.Rules.{all_rules}
 use Rattle.cert_checker.specs.config_precedence.Precedence.{is_better}
 use Rattle.cert_checker.specs.overlay_map.Layer.{LayerOf}
-use Rattle.cert_checker.specs.overlay_map.Candidates.{CandOf, candidates_of}
+use Rattle.cert_checker.specs.overlay_map.Candidates.{CandOf, cand_of, candidates_of}
 use Rattle.cert_checker.specs.reference_resolver.declared.step.Step.{Step}
 use Rattle.cert_checker.specs.reference_resolver.declared.end.End.{End}
 use Rattle.cert_checker.specs.reference_resolver.Selection.{beats, beats_best, step_of, best_after, scan_candidates, best_of, selected}
 use Rattle.cert_checker.specs.reference_resolver.Ends.{next_of, end_of}
 use Rattle.cert_checker.specs.reference_resolver.Trace.{Trace, look_ups_of, scan_look_up, scan_chain}
+use Rattle.cert_checker.specs.box_trace.declared.parting.Parting.{Parting}
+use Rattle.cert_checker.specs.box_trace.Walk.{best_at}
+use Rattle.cert_checker.specs.box_trace.Parting.{says_yes, answer_of}
 use Rattle.cert_checker.specs.cert_tree.declared.goal.Goal.{Goal}
 use Rattle.cert_checker.specs.cert_tree.declared.goal.Goal.TheVariants.{Id}
 use Rattle.cert_checker.specs.FirstFault.{goal_trace}
@@ -85,6 +88,15 @@ chain-same : (stack : List LayerOf) (most id : ℕ) (x y : List ℕ) → SameNum
 chain-same stack most id x y e =
     ap (λ ids. flat_map (scan_look_up step_of stack x) ids) (look-ups-same stack most id x y e)
     ∙ ap (λ tell. flat_map tell (look_ups_of stack most id y)) (scan-look-up-same stack x y e)
+
+-- so have the answers to a question
+abbrev pub AnswersByNumbers : (List ℕ → Bool) → Type 0
+AnswersByNumbers answer = (x y : List ℕ) → ((c : Coord) → device_number x c ≡ device_number y c) → answer x ≡ answer y
+
+pub parting-by-numbers : (parting : Parting) → AnswersByNumbers (answer_of parting)
+unfolding answer_of
+parting-by-numbers parting x y same =
+    ap (says_yes parting.asked) (step-same (best_at parting.walk) (cand_of parting.candidate) x y (fun_ext same))
 
 pub goal-by-numbers : (stack : List LayerOf) (goal : Goal) → GoesByNumbers (goal_trace stack goal)
 goal-by-numbers stack (Id id) x y same =

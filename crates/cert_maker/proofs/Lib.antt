@@ -14,6 +14,5 @@ pub mod Loop
 pub mod Cut
 pub mod GoalSteps
 pub mod Least
-pub mod Agreement
-pub mod Kept
+pub mod Listings
 pub use Rattle.cert_checker.proofs.cert_tree

@@ -20,7 +20,7 @@ use Rattle.cert_checker.specs.Paths.{Path, IsAt, leaf_end}
 use Rattle.cert_checker.specs.Fails.{FailsAtTest}
 use Rattle.cert_checker.specs.OpenBoxes.{IsBoxAt}
 use Rattle.cert_checker.proofs.MarkSteps.{alike-kind, alike-range}
-use Rattle.cert_checker.proofs.LeafSteps.{as_said}
+use Rattle.cert_checker.proofs.LeafSteps.{as_claimed}
 use Rattle.cert_checker.proofs.NodeSteps.{halves}
 use Rattle.cert_checker.proofs.BoxSteps.{some_member}
 use Rattle.cert_maker.specs.Needed.{NoneBetween, IsNeededTest}
@@ -78,7 +78,7 @@ grows-value trace part t layer value old new boxes e shared ends_at low sets pat
     record {
       node = ValueAt layer value;
       added = e;
-      good = record { passes = as_said trace t (ends.Value layer value) part refl shared ends_at sets path b; needed = tt; fits = omega (arith, below) };
+      good = record { passes = as_claimed trace t (ends.Value layer value) part refl shared ends_at sets path b; needed = tt; fits = omega (arith, below) };
       stand = stand;
     }
 
@@ -88,7 +88,7 @@ grows-bag trace part t id old new boxes e shared ends_at sets path paths b stand
     record {
       node = BagAt id;
       added = e;
-      good = record { passes = as_said trace t (ends.Bag id) part refl shared ends_at sets path b; needed = tt; fits = tt };
+      good = record { passes = as_claimed trace t (ends.Bag id) part refl shared ends_at sets path b; needed = tt; fits = tt };
       stand = stand;
     }
 

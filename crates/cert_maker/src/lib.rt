@@ -16,11 +16,11 @@
 //! ```
 #![tactic(auto)]
 
-mod alike;
 mod growth;
 mod laws;
 mod made;
 mod making;
+mod open_box;
 mod parting;
 mod tree;
 mod trees;

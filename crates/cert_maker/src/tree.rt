@@ -6,7 +6,8 @@ ghost use Rattle.cert_checker.specs.reference_resolver.Trace.{trace_of};
 ghost use Rattle.cert_maker.specs.Growth.{IsGrown};
 
 use crate::growth::add_node;
-use cert_checker::{ConfigBox, Device, End, Node, OutOfMemory, ResId, Stack};
+use crate::open_box::OpenBox;
+use cert_checker::{ConfigBox, Device, End, Node, OutOfMemory, ResId, Stack, Walk};
 use std::alloc::Global;
 
 /// What became of a tree.
@@ -34,16 +35,12 @@ pub(crate) fn grow_tree(
 {
     let mut nodes = Vec::new(alloc);
     let mut open_boxes = Vec::new(alloc);
-    open_boxes.push(members.shared(alloc)?)?;
+    open_boxes.push(OpenBox {
+        members: members.shared(alloc)?,
+        walk: Walk::of(id),
+    })?;
     'boxes: while let Some(part) = open_boxes.pop() {
-        if let Some((device, end)) = add_node(
-            alloc,
-            stack,
-            id,
-            &part,
-            &mut nodes,
-            &mut open_boxes,
-        )? {
+        if let Some((device, end)) = add_node(alloc, stack, &part, &mut nodes, &mut open_boxes)? {
             return Ok(Grown::Counterexample(device, end));
         }
         if nodes.len() + open_boxes.len() > most {

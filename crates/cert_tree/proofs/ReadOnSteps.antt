@@ -18,7 +18,7 @@ pub read_on-none : {A X E : Type 0} (f : List X → A → Result X E) (before : 
 unfolding read_on
 read_on-none f before = refl
 
--- what was read so far, and what is read behind it of the items from a place on, is what is read of all
+-- what was read so far, and what is read after it of the items from a place on, is what is read of all
 pub record ReadOnAllBut {A X E : Type 0} (f : List X → A → Result X E) (so_far : List X) (place : ℕ) (all : List A) : Type 0 where
   pub others : read_on f so_far (drop place all) ≡ read_on f [] all
 

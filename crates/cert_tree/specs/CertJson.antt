@@ -101,7 +101,7 @@ node_in shape value =
     else if has_only (codes "bag" ∷ []) value then bag_in shape value
     else Err shape
 
--- a node of a goal, behind those before it
+-- a node of a goal, after those before it
 abbrev pub node_after : ℕ → List NodeOf → Data → Result NodeOf CertFault
 node_after goal before value = node_in (Shape goal (length before)) value
 

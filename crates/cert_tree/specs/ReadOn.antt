@@ -2,7 +2,7 @@
 use Rattle.std.specs.Prelude.{List, [], ◌∷◌, ◌++◌, Result, Ok}
 use Rattle.contract_words.specs.Faults.{◌>>=◌}
 
--- behind what was read before, what f reads of each item; or the first fault
+-- after what was read before, what f reads of each item; or the first fault
 unfoldable pub read_on : {A X E : Type 0} → (List X → A → Result X E) → List X → List A → Result (List X) E
 read_on f before [] = Ok before
 read_on f before (item ∷ items) = do

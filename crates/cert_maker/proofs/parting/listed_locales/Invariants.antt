@@ -1,0 +1,13 @@
+use Rattle.std.proofs.Common.{◌≡◌, filter, take}
+use Rattle.std.specs.List.{All}
+use Rattle.cert_checker.specs.config_record.DeviceSeen.{device_numbers}
+use Rattle.cert_checker.specs.config_record.Locale.{IsOfSomeText}
+use Rattle.cert_checker.specs.box_trace.Parting.{answer_of}
+use Rattle.cert_maker.specs.Listed.{answer_in}
+use Rattle.cert_maker.proofs.parting.listed_locales.Given as goal
+
+abbrev pub invariant-loop-locale : goal.invariant-loop-locale
+invariant-loop-locale l = record {
+  listed : l.listed.items ≡ filter (answer_in (answer_of l.parting) (device_numbers l.parting.pair.yes)) (take l.locale-index l.locales);
+  of_text : All IsOfSomeText l.listed.items;
+}
