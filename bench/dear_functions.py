@@ -13,13 +13,13 @@ import sys
 from itertools import pairwise
 from pathlib import Path
 
-# What the names of modules begin with, before the function, and end with, behind it.
+# What the names of modules begin with, before the function, and end with, after it.
 BEFORE = re.compile(r"^(proofs|specs\.contracts|specs\.declared|specs)(\.|$)")
-BEHIND = re.compile(r"(\.(decls|[A-Z]\w*|[0-9]+))+$")
+AFTER = re.compile(r"(\.(decls|[A-Z]\w*|[0-9]+))+$")
 
 
 def function_of(module):
-    return BEHIND.sub("", BEFORE.sub("", module))
+    return AFTER.sub("", BEFORE.sub("", module))
 
 
 def taken(folder, crate):

@@ -1,6 +1,6 @@
 #!/bin/sh
 # Prints the processor seconds that the gate takes for each crate: for its proof, its tests and its must-fail edits, and
-# the sums, as a table: gate.sh [CRATE..]. Behind it stand the functions whose proofs took more than twenty of these
+# the sums, as a table: gate.sh [CRATE..]. After it stand the functions whose proofs took more than twenty of these
 # seconds. Without a crate it measures all, and takes as long as the gate. Each part works from nothing, on a copy of the
 # repository; those below a named crate are proved too. Where the crates of the fixed proof (README.md) are among them, the
 # sum is printed as a multiple of that too.

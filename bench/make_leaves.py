@@ -68,7 +68,7 @@ class Restool:
         return done.stdout.splitlines()
 
     def ends(self, names, density):
-        """Where each id ends, without the text behind a string."""
+        """Where each id ends, without the text after a string."""
         with open("device", "w") as out:
             json.dump({**self.phone, "density": density}, out)
         told = (line.split(" ", 1) for line in self.run("query", self.layers, "device", *names)[: len(names)])

@@ -3,7 +3,7 @@
 
 SHAPE says how the entries do it:
   shared   all are one bag of so many rows
-  overlap  they are 1,000 bags of so many rows, each of which begins one row behind the one before it
+  overlap  they are 1,000 bags of so many rows, each of which begins one row after the one before it
   turns    they are two bags of half as many rows, in alternation"""
 import struct
 import sys
@@ -27,7 +27,7 @@ def shared(entries, rows):
 
 def overlap(entries, rows):
     bags = 1000
-    # The rows stand behind all heads; a head's size says how far away.
+    # The rows stand after all heads; a head's size says how far away.
     heads = b"".join(bag(BAG_SIZE * (bags - n) + 12 * n, rows) for n in range(bags))
     return [BAG_SIZE * (n % bags) for n in range(entries)], heads + map_rows(rows + bags)
 

@@ -38,13 +38,19 @@ def config(chunk):
     return chunk[CONFIG : CONFIG + number("I", chunk, CONFIG)]
 
 
-def entries(header, chunk):
-    """Where the entries of a type are in it. Those of a sparse type are not looked at."""
+def offsets(header, chunk):
+    """The offsets of the entries of a type, in bytes. A sparse type has each behind the index of its entry."""
+    count = number("I", chunk, COUNT)
     if chunk[FLAGS] & SPARSE:
-        return []
+        return [4 * number("H", chunk, header + 4 * n + 2) for n in range(count)]
     form, width, none, unit = ("H", 2, 0xFFFF, 4) if chunk[FLAGS] & SHORT_OFFSETS else ("I", 4, 0xFFFFFFFF, 1)
-    offsets = [number(form, chunk, header + width * n) for n in range(number("I", chunk, COUNT))]
-    return [number("I", chunk, START) + offset * unit for offset in offsets if offset != none]
+    all_offsets = [number(form, chunk, header + width * n) for n in range(count)]
+    return [offset * unit for offset in all_offsets if offset != none]
+
+
+def entries(header, chunk):
+    """Where the entries of a type are in it."""
+    return [number("I", chunk, START) + offset for offset in offsets(header, chunk)]
 
 
 def is_compact(chunk, at):

@@ -42,7 +42,7 @@ class Files:
             json.dump(said, text)
 
     def printed(self, *words):
-        """What is printed, messages behind it, and the status."""
+        """What is printed, messages after it, and the status."""
         done = subprocess.run([self.program, *words], cwd=self.folder, capture_output=True, text=True)
         return done.stdout + done.stderr, done.returncode
 

@@ -3,7 +3,7 @@
 
     check_bags.py PROGRAM LAYERS DEVICE [JOBS]
 
-for each id of the layers that has a bag, and for random attributes behind random styles. What an id selects is
+for each id of the layers that has a bag, and for random attributes after random styles. What an id selects is
 read from its explanation; rows are merged and styles applied here, one row after the other. It is run from the
 folder that the paths of the layers are relative to. The last line is the number of bags, and of attributes."""
 import random
@@ -76,7 +76,7 @@ def check_bag(restool, selections, name):
 
 
 def theme_of(bags, styles, force):
-    """What is set for each attribute behind styles."""
+    """What is set for each attribute after styles."""
     theme = {}
     for style in styles:
         for name, layer, value in bags[style]:
@@ -86,7 +86,7 @@ def theme_of(bags, styles, force):
 
 
 def end_of_attribute(restool, theme, attr):
-    """Where an attribute ends. Behind a reference that is where `query` of its id ends."""
+    """Where an attribute ends. After a reference that is where `query` of its id ends."""
     for _ in range(ATTRIBUTES + 1):
         layer, value = theme.get(attr, (0, "null"))
         if value.startswith("null"):
@@ -104,7 +104,7 @@ def check_attribute(restool, bags, styles, force, attr):
     keep = [] if force else ["--keep"]
     lines, status = restool.run("attr", *keep, *restool.of_device, attr, *styles)
     right = lines == [f"{attr} {end}"] and status == int(end.startswith(("absent", "too long")))
-    return [] if right else [f"{attr} behind {styles} {keep}: {lines[:3]}, status {status}, wanted {end}"]
+    return [] if right else [f"{attr} after {styles} {keep}: {lines[:3]}, status {status}, wanted {end}"]
 
 
 def attributes_asked(bags):
@@ -128,8 +128,8 @@ def main():
         faults = list(pool.map(lambda name: check_bag(restool, found, name), names))
         asked = list(attributes_asked(bags))
         faults += pool.map(lambda asks: check_attribute(restool, bags, *asks), asked)
-    for told in faults:
-        for fault in told:
+    for of_one in faults:
+        for fault in of_one:
             print(fault)
     print(f"{len(names)} bags, {len(asked)} attributes")
     sys.exit(any(faults))

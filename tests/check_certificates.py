@@ -25,15 +25,15 @@ from random_cases import CertifiedCase
 
 def check_explanation(files, case, name, device):
     """The faults of what `restool explain` says of a device."""
-    told, wanted = files.explain(name, device), case.layers.explanation(name, device)
-    return [] if told == wanted else [f"explained: {told}", f"wanted: {wanted}"]
+    printed, wanted = files.explain(name, device), case.layers.explanation(name, device)
+    return [] if printed == wanted else [f"explained: {printed}", f"wanted: {wanted}"]
 
 
 def first_question(steps):
     """The first question that lists of steps answer differently: the place of the step, and which steps are a yes."""
-    for place, told in enumerate(zip(*steps)):
-        if len(set(told)) > 1:
-            return place, ("took over",) if "no match" not in told else ("took over", "kept out")
+    for place, step in enumerate(zip(*steps)):
+        if len(set(step)) > 1:
+            return place, ("took over",) if "no match" not in step else ("took over", "kept out")
     return None
 
 
@@ -61,19 +61,19 @@ def faults_of_verdict(files, case):
     rejected = verdict(case.layers, case.box, case.asked, case.goals)
     wanted = verdict_lines(case.layers, case.asked, case.goals, rejected)
     lines, status = files.run("check", "layers", "box", "certificate", *map(id_text, case.asked))
-    told = Counter([f"N{rejected[1].rule}" if rejected else "accepted"])
+    counted = Counter([f"N{rejected[1].rule}" if rejected else "accepted"])
     faults = [] if status == int(rejected is not None) else [f"status {status}"]
     is_mixed = rejected is not None and rejected[1].rule == 6
     seen = [line.split(" ")[0] + " " if is_mixed and place in (1, 2) else line for place, line in enumerate(lines)]
     if seen != wanted:
-        return faults + [f"printed: {lines}", f"wanted: {wanted}"], told
+        return faults + [f"printed: {lines}", f"wanted: {wanted}"], counted
     if not is_mixed:
-        return faults, told
+        return faults, counted
     name = case.asked[rejected[0]]
     shown = [device_of(line.split(" ", 1)[1]) for line in lines[1:3]]
     for device in shown:
         faults += check_explanation(files, case, name, device)
-    return faults + faults_of_pair(files, case, name, rejected[1].members, *shown), told
+    return faults + faults_of_pair(files, case, name, rejected[1].members, *shown), counted
 
 
 def check_case(program, number):
@@ -82,24 +82,24 @@ def check_case(program, number):
     with tempfile.TemporaryDirectory() as folder:
         files = Files(program, folder, case)
         files.write("certificate", certificate_json(case.goals))
-        faults, told = faults_of_verdict(files, case)
+        faults, counted = faults_of_verdict(files, case)
         faults += check_explanation(files, case, chance.choice(case.asked), chance.choice(case.members))
-    return [f"case {number}: {fault}" for fault in faults], told
+    return [f"case {number}: {fault}" for fault in faults], counted
 
 
 def main():
     program, cases = os.path.abspath(sys.argv[1]), int(sys.argv[2])
     jobs, first = (int(word) for word in (sys.argv[3:] + ["1", "0"][len(sys.argv) - 3 :])[:2])
-    told = Counter()
+    counted = Counter()
     wrong = 0
     with ProcessPoolExecutor(jobs) as pool:
         numbers = range(first, first + cases)
         for faults, verdicts in pool.map(check_case, [program] * cases, numbers, chunksize=8):
-            told += verdicts
+            counted += verdicts
             wrong += bool(faults)
             for fault in faults:
                 print(fault)
-    print(f"{cases} certificates: {', '.join(f'{name} {told[name]}' for name in sorted(told))}")
+    print(f"{cases} certificates: {', '.join(f'{name} {counted[name]}' for name in sorted(counted))}")
     sys.exit(wrong > 0)
 
 

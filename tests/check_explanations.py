@@ -5,7 +5,7 @@
 
 for each id of the layers. It is run from the folder that their paths are relative to. The candidates of
 each look-up have to be the rows of its id in all layers, in their order; one that matches comes first, and no
-other is told as first; what the last of those that took over holds has to be what the chain goes on with, or
+other is called first; what the last of those that took over holds has to be what the chain goes on with, or
 ends at; and the end has to be that of `query`. The last line is the number of ids, and of look-ups."""
 import re
 import sys
@@ -29,13 +29,13 @@ def look_ups_of(lines):
     return look_ups
 
 
-def check_candidates(told, rows):
+def check_candidates(printed, rows):
     """The faults of the lines of a look-up, and the candidate that took over last."""
     faults = []
-    if len(rows) != len(told):
-        faults.append(f"{len(told)} candidates, not {len(rows)}")
+    if len(rows) != len(printed):
+        faults.append(f"{len(printed)} candidates, not {len(rows)}")
     best = None
-    for place, (line, (layer, row)) in enumerate(zip(told, rows)):
+    for place, (line, (layer, row)) in enumerate(zip(printed, rows)):
         parts = CANDIDATE.fullmatch(line)
         if not parts or (int(parts[1]), int(parts[2]), parts[3]) != (place, layer, row.record):
             faults.append(f"{line}, wanted {place} of layer {layer} {row.record}")
@@ -56,10 +56,10 @@ def check(restool, ends, name):
     look_ups = look_ups_of(lines[:-1])
     wanted = name
     end = None
-    for n, (looked_up, told) in enumerate(look_ups):
+    for n, (looked_up, printed) in enumerate(look_ups):
         if looked_up != wanted or end is not None:
             faults.append(f"look-up {n} is of {looked_up}, not of {wanted}")
-        more, best = check_candidates(told, restool.candidates(looked_up))
+        more, best = check_candidates(printed, restool.candidates(looked_up))
         faults += [f"{looked_up}: {fault}" for fault in more]
         if best is None:
             end = f"absent {looked_up}"
@@ -72,7 +72,7 @@ def check(restool, ends, name):
         else:
             wanted = best[1].value[1:]
     if lines[-1:] != [f"end {end}"] or ends[name] != end:
-        faults.append(f"ends as {lines[-1:]}, query tells {ends[name]}, the candidates {end}")
+        faults.append(f"ends as {lines[-1:]}, query says {ends[name]}, the candidates {end}")
     if status != int(end is not None and end.startswith(("absent", "too long"))):
         faults.append(f"status {status}")
     return [f"{name}: {fault}" for fault in faults], len(look_ups)

@@ -45,9 +45,9 @@ def equals(value, wanted):
 
 
 def rest_is_valid(root, said, schema, value):
-    """The items behind those that have a schema of their own. Of items that are alike one is judged."""
-    behind = value[len(schema.get("prefixItems", [])) :] if isinstance(value, list) else []
-    return all(is_valid(root, said, item) for item in {repr(item): item for item in behind}.values())
+    """The items after those that have a schema of their own. Of items that are alike one is judged."""
+    others = value[len(schema.get("prefixItems", [])) :] if isinstance(value, list) else []
+    return all(is_valid(root, said, item) for item in {repr(item): item for item in others}.values())
 
 
 def has_no_others(schema, value):
@@ -315,7 +315,7 @@ BEYOND = {
 
 
 def at_the_limits():
-    """Texts of devices and boxes with the greatest number of each coordinate, and with the one behind it."""
+    """Texts of devices and boxes with the greatest number of each coordinate, and with the one above it."""
     for name, greatest in GREATEST.items():
         if greatest is None:
             continue

@@ -94,6 +94,15 @@ else
     echo "not run, since python3 is missing: dump of 20,000 strings in 30 languages"
 fi
 
+# ---- sparse types, beside the same tables with dense ones
+ends "a table that aapt2 wrote with sparse types" 0 "sh '$here/tests/same_tables.sh' \"\$0\" '$tables/dense.arsc' '$tables/sparse.arsc'"
+if command -v python3 >/dev/null; then
+    ends "random tables with sparse types" 0 "python3 '$here/tests/check_sparse.py' \"\$0\" 40 4"
+    ends "hostile bytes of a sparse type" 0 "python3 '$here/tests/hostile_bytes.py' \"\$0\" 4"
+else
+    echo "not run, since python3 is missing: random tables with sparse types, hostile bytes of one"
+fi
+
 # ---- query, explain, bag and attr
 
 # answers LAYERS DEVICE: the ends of all ids of rich.arsc, of which some are absent, how each comes to its end, the
@@ -222,7 +231,7 @@ line box '{"density":{"from":120,"to":640}}'
 printf '%s\n' 'counter goal 0' 'device density=120' 'end absent 0x7f010000' >counter.out
 check "a device without a value" 1 counter.out $none make layers box 0x7f010000
 check "the most nodes that a certificate may have" 1 counter.out $none make --max-nodes 1000000 layers box 0x7f010000
-check "the limit behind the ids" 1 counter.out $none make layers box 0x7f010000 --max-nodes 1
+check "the limit after the ids" 1 counter.out $none make layers box 0x7f010000 --max-nodes 1
 line limit.out 'node limit'
 check "two ids, and one node" 1 limit.out $none make --max-nodes 1 layers box 0x7f010000 0x7f010000
 
@@ -293,7 +302,7 @@ else
     echo "not run, since python3 is missing: worked and random certificates that are made, work on a terminal"
 fi
 
-# ---- README and the guide: what they show behind a command is what it prints
+# ---- README and the guide: what they show after a command is what it prints
 for page in README.md docs/GUIDE.md; do
     rm -rf shown
     mkdir shown

@@ -68,7 +68,7 @@ class Restool:
         return found
 
     def ends(self, names):
-        """What `query` tells of each id, without the text behind a string."""
+        """What `query` says of each id, without the text after a string."""
         ends = {}
         for start in range(0, len(names), IDS_IN_A_QUERY):
             for line in self.ask("query", *names[start : start + IDS_IN_A_QUERY])[0]:

@@ -9,7 +9,7 @@
 #            stands once)
 #   --seen   tries those of seen-by-tests/ alone: of each, the test that it names has to fail (planted_bugs.py)
 #   --control  tries the controls of the edits that name one: the prover has to let each through (planted_bugs.py)
-# A line `control: TEXT` behind a `new:` line says what stands there in the control, the right body in the same form.
+# A line `control: TEXT` after a `new:` line says what stands there in the control, the right body in the same form.
 # An edit shows a bug only where its control is let through: else it may be refused for its form.
 # The last line is 'N refused, M let through' (with --apply 'N apply, M do not'), and the status is 0 only where
 # M is 0. An edit that could not be tried counts as let through.

@@ -209,7 +209,7 @@ french='rich.layers.json phone-fr.device.json'
 prints "styles in another order" 0 "$of_first" attr $french $attribute $second $first
 prints "a style twice" 0 "$of_first" attr $french $attribute $first $second $first
 prints "styles in another order, kept" 0 "$of_second" attr --keep $french $attribute $second $second $first
-prints "--keep behind the words" 0 "$of_first" attr $french $attribute $first $second --keep
+prints "--keep after the words" 0 "$of_first" attr $french $attribute $first $second --keep
 cd "$here" || exit 1
 porcelain='examples/porcelain/layers.json examples/porcelain/phone.json'
 prints "the first faulty style is absent" 1 'no bag Absent' attr $porcelain $attribute 0x7f050009 0x7f050000
@@ -267,8 +267,8 @@ not_text='command: a word is not UTF-8'
 stops "a word that is not UTF-8" 2 "$not_text" "$odd"
 stops "a path that is not UTF-8" 2 "$not_text" rows "$odd"
 stops "an id that is not UTF-8" 2 "$not_text" query layers device $id "$odd"
-stops "a word that is not UTF-8 behind --help" 2 "$not_text" --help "$odd"
-stops "a word that is not UTF-8 behind a bad one" 2 "$not_text" tables "$odd"
+stops "a word that is not UTF-8 after --help" 2 "$not_text" --help "$odd"
+stops "a word that is not UTF-8 after a bad one" 2 "$not_text" tables "$odd"
 
 # ---- standard input
 mkdir folder

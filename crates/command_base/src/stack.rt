@@ -15,7 +15,7 @@ use fault_text::{IdMap, LayersFault, MOST_LAYERS, MapFault, Stack, Table, TableF
 use std::alloc::Global;
 
 /// The stack of layers of which each is the bytes of a table and, at an overlay, those of an id map. More
-/// than 64 are refused before any is read; then each table is read and, behind it, its map.
+/// than 64 are refused before any is read; then each table is read and, after it, its map.
 #[tactic(auto, unfolding(crate::specs::StackBytes::stack_in))]
 pub fn open_stack<'a>(
     alloc: Global,

@@ -115,17 +115,17 @@ dash_or_length : (symbols : List ℕ) → NoDash symbols → position_or_len (λ
 dash_or_length [] none = refl
 dash_or_length (b ∷ symbols) none = let here = none.0 in let others = dash_or_length symbols none.1 in rw here (omega arith)
 
-dash_behind : (symbols after : List ℕ) → NoDash symbols → position_or_len (λ b. b == dash) (symbols ++ dash ∷ after) ≡ length symbols
-dash_behind [] after none = refl
-dash_behind (b ∷ symbols) after none = let here = none.0 in let others = dash_behind symbols after none.1 in rw here (omega arith)
+dash_after : (symbols after : List ℕ) → NoDash symbols → position_or_len (λ b. b == dash) (symbols ++ dash ∷ after) ≡ length symbols
+dash_after [] after none = refl
+dash_after (b ∷ symbols) after none = let here = none.0 in let others = dash_after symbols after none.1 in rw here (omega arith)
 
 position-none : (symbols : List ℕ) → NoDash symbols → position (λ b. b == dash) symbols ≡ None
 position-none symbols none = rw (dash_or_length symbols none, le-ltb (length symbols) (length symbols) (omega arith)) refl
 
-position-behind : (symbols after : List ℕ) → NoDash symbols → position (λ b. b == dash) (symbols ++ dash ∷ after) ≡ Some (length symbols)
-position-behind symbols after none =
+position-after : (symbols after : List ℕ) → NoDash symbols → position (λ b. b == dash) (symbols ++ dash ∷ after) ≡ Some (length symbols)
+position-after symbols after none =
     let within : length symbols < length (symbols ++ dash ∷ after) = omega (arith, length-append symbols (dash ∷ after)) in
-    rw (dash_behind symbols after none, lt-ltb (length symbols) (length (symbols ++ dash ∷ after)) within) refl
+    rw (dash_after symbols after none, lt-ltb (length symbols) (length (symbols ++ dash ∷ after)) within) refl
 
 -- ---- the whole locale
 
@@ -142,7 +142,7 @@ language-region symbols after part region r s =
     let cut : cut_at text (Some (length symbols)) ≡ with_region symbols after =
     ap (λ (t : List ℕ). with_region t (drop (length symbols + 1) text)) (take-append_seam symbols (dash ∷ after))
     ∙ ap (with_region symbols) (drop-append-add symbols (dash ∷ after) 1) in
-    ap (cut_at text) (position-behind symbols after r.no_dash) ∙ cut ∙ rw (s.reads, r.some, r.reads) refl
+    ap (cut_at text) (position-after symbols after r.no_dash) ∙ cut ∙ rw (s.reads, r.some, r.reads) refl
 
 whole : (l : Locale) (z y : Bool) → is_zero l.language ≡ z → is_zero l.region ≡ y → TwoBytes l.language → TwoBytes l.region
     → (z || is_some (language_of (unpacked first_letter l.language))) ≡ true → (y || is_some (region_of (unpacked first_digit l.region))) ≡ true → (z && not y) ≡ false

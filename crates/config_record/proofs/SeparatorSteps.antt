@@ -6,18 +6,18 @@ use Rattle.std.proofs.KnownBytes.{Appends-nil, Appends-trans}
 use Rattle.std.proofs.lemmas.List.{append-nil, drop_more}
 use Rattle.std.proofs.lemmas.List.Concat.{flat_map-append}
 use Rattle.config_record.specs.declared.separator.Separator.{Separator}
-use Rattle.config_record.specs.Separator.{is_some_part, continued, behind, Continues}
+use Rattle.config_record.specs.Separator.{is_some_part, continued, after_parts, Continues}
 
 -- the parts, a byte before each
-abbrev each_behind : ℕ → List (List ℕ) → List ℕ
-each_behind byte parts = flat_map (λ part. byte ∷ part) parts
+abbrev each_after : ℕ → List (List ℕ) → List ℕ
+each_after byte parts = flat_map (λ part. byte ∷ part) parts
 
-join_with_byte-cons : (byte : ℕ) (part : List ℕ) (parts : List (List ℕ)) → join_with_byte byte (part ∷ parts) ≡ part ++ each_behind byte parts
+join_with_byte-cons : (byte : ℕ) (part : List ℕ) (parts : List (List ℕ)) → join_with_byte byte (part ∷ parts) ≡ part ++ each_after byte parts
 join_with_byte-cons byte part [] = sym (append-nil part)
 join_with_byte-cons byte part (next ∷ parts) = ap (λ (t : List ℕ). part ++ (byte ∷ t)) (join_with_byte-cons byte next parts)
 
 abbrev continued_if : Bool → ℕ → List (List ℕ) → List ℕ
-continued_if due byte parts = if due then each_behind byte parts else join_with_byte byte parts
+continued_if due byte parts = if due then each_after byte parts else join_with_byte byte parts
 
 continued_if-append : (due : Bool) (byte : ℕ) (ps qs : List (List ℕ)) → continued_if due byte (ps ++ qs) ≡ continued_if due byte ps ++ continued_if (due || is_some_part ps) byte qs
 continued_if-append true byte ps qs = flat_map-append (λ part. byte ∷ part) ps qs
@@ -25,10 +25,10 @@ continued_if-append false byte [] qs = refl
 continued_if-append false byte (p ∷ ps) qs =
     join_with_byte-cons byte p (ps ++ qs)
     ∙ ap (λ (t : List ℕ). p ++ t) (flat_map-append (λ part. byte ∷ part) ps qs)
-    ∙ sym (append_assoc p (each_behind byte ps) (each_behind byte qs))
-    ∙ ap (λ (t : List ℕ). t ++ each_behind byte qs) (sym (join_with_byte-cons byte p ps))
+    ∙ sym (append_assoc p (each_after byte ps) (each_after byte qs))
+    ∙ ap (λ (t : List ℕ). t ++ each_after byte qs) (sym (join_with_byte-cons byte p ps))
 
-pub continued-append : (s : Separator) (ps qs : List (List ℕ)) → continued s (ps ++ qs) ≡ continued s ps ++ continued (behind s ps) qs
+pub continued-append : (s : Separator) (ps qs : List (List ℕ)) → continued s (ps ++ qs) ≡ continued s ps ++ continued (after_parts s ps) qs
 unfolding continued
 continued-append s ps qs = continued_if-append s.due s.byte ps qs
 
@@ -37,16 +37,16 @@ is_due-append true ps qs = refl
 is_due-append false [] qs = refl
 is_due-append false (p ∷ ps) qs = refl
 
-pub behind-append : (s : Separator) (ps qs : List (List ℕ)) → behind s (ps ++ qs) ≡ behind (behind s ps) qs
-behind-append s ps qs = let made : Bool → Separator = λ due. record { byte = s.byte; due = due } in ap made (is_due-append s.due ps qs)
+pub after_parts-append : (s : Separator) (ps qs : List (List ℕ)) → after_parts s (ps ++ qs) ≡ after_parts (after_parts s ps) qs
+after_parts-append s ps qs = let made : Bool → Separator = λ due. record { byte = s.byte; due = due } in ap made (is_due-append s.due ps qs)
 
 pub Continues-trans : (start mid now : Separator) (old halfway new : Option (List ℕ)) (ps qs : List (List ℕ))
     → Continues start mid old halfway ps → Continues mid now halfway new qs → Continues start now old new (ps ++ qs)
 Continues-trans start mid now old halfway new ps qs first second =
-    let here : Appends halfway new (continued (behind start ps) qs) = subst (λ (s : Separator). Appends halfway new (continued s qs)) first.separator second.text in
+    let here : Appends halfway new (continued (after_parts start ps) qs) = subst (λ (s : Separator). Appends halfway new (continued s qs)) first.separator second.text in
     record {
-      text = subst (λ (t : List ℕ). Appends old new t) (sym (continued-append start ps qs)) (Appends-trans old halfway new (continued start ps) (continued (behind start ps) qs) first.text here);
-      separator = second.separator ∙ ap (λ (s : Separator). behind s qs) first.separator ∙ sym (behind-append start ps qs);
+      text = subst (λ (t : List ℕ). Appends old new t) (sym (continued-append start ps qs)) (Appends-trans old halfway new (continued start ps) (continued (after_parts start ps) qs) first.text here);
+      separator = second.separator ∙ ap (λ (s : Separator). after_parts s qs) first.separator ∙ sym (after_parts-append start ps qs);
     }
 
 -- where nothing stood before, the parts are joined

@@ -57,7 +57,7 @@ region_of = part_of is_capital_letter is_digit first_digit
 abbrev pub no_part : List ℕ
 no_part = 0 ∷ 0 ∷ []
 
--- ---- the locale of a text: a language, and a region behind a dash, or nothing at all
+-- ---- the locale of a text: a language, and a region after a dash, or nothing at all
 
 abbrev pub without_region : List ℕ → Result Locale LocaleFault
 without_region text =
@@ -128,7 +128,7 @@ IsGiven l = checked_locale l ≡ Ok l
 abbrev pub language_text : List ℕ → List ℕ
 language_text language = if is_zero language then [] else unpacked first_letter language
 
--- a region stands behind a dash, also where it is alone
+-- a region stands after a dash, also where it is alone
 abbrev pub region_text : List ℕ → List ℕ
 region_text region = if is_zero region then [] else dash ∷ unpacked first_digit region
 

@@ -39,7 +39,7 @@ record_in bytes = checked_by (record_faults bytes) (Ok (take (size_in bytes) byt
 
 -- ---- the fields of a record, by their offsets
 
--- behind the end of a short record there are zeros
+-- past the end of a short record there are zeros
 abbrev pub byte : List ℕ → ℕ → ℕ
 byte r offset = slice_index r offset
 
@@ -77,7 +77,7 @@ navigation r = byte r 17
 abbrev pub input_flags : List ℕ → ℕ
 input_flags r = byte r 18
 
--- the byte behind the input flags, in which no coordinate stands (AOSP: inputPad0)
+-- the byte after the input flags, in which no coordinate stands (AOSP: inputPad0)
 abbrev pub input_pad : List ℕ → ℕ
 input_pad r = byte r 19
 

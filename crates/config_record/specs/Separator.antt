@@ -14,10 +14,10 @@ unfoldable pub continued : Separator → List (List ℕ) → List ℕ
 continued s parts = if s.due then flat_map (λ part. s.byte ∷ part) parts else join_with_byte s.byte parts
 
 -- the byte is due once a part stands there
-abbrev pub behind : Separator → List (List ℕ) → Separator
-behind s parts = record { byte = s.byte; due = s.due || is_some_part parts }
+abbrev pub after_parts : Separator → List (List ℕ) → Separator
+after_parts s parts = record { byte = s.byte; due = s.due || is_some_part parts }
 
--- parts were written behind what stood there, and the separator has seen them
+-- parts were written after what stood there, and the separator has seen them
 pub record Continues (before after : Separator) (old new : Option (List ℕ)) (parts : List (List ℕ)) : Type 0 where
   pub text : Appends old new (continued before parts)
-  pub separator : after ≡ behind before parts
+  pub separator : after ≡ after_parts before parts

@@ -72,7 +72,7 @@ pub enum Coord {
     Height,
     /// The version of the platform.
     Sdk,
-    /// What is behind the dot of that version.
+    /// The part of that version after its dot.
     Minor,
 }
 

@@ -234,7 +234,7 @@ impl Symbols {
     }
 }
 
-/// Writes the text of a locale: the one that it is read from, a region alone behind its dash, or,
+/// Writes the text of a locale: the one that it is read from, a region alone after its dash, or,
 /// where a part is not what a text gives, `x` and the eight digits of the four bytes. For callers that
 /// show a locale by itself; `write_qualifiers` shows it with all others.
 ///

@@ -58,7 +58,7 @@ pub enum RecordFault {
 }
 
 /// A stored configuration (AOSP: `ResTable_config`), lent from the bytes that it stands in. Fields
-/// behind the end of a short one are zero.
+/// past the end of a short one are zero.
 #[derive(Clone, Copy, Debug)]
 pub struct Record<'a> {
     bytes: &'a [u8],

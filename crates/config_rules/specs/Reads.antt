@@ -29,11 +29,11 @@ DependsOnReads rule =
 
 -- ---- of a table
 
--- the places of all coordinates that the rules read, one rule behind the other
+-- the places of all coordinates that the rules read, one rule after the other
 abbrev pub places_read : List Rule → List ℕ
 places_read rules = map place_of (flat_map reads rules)
 
--- each place is behind the one before it, and the first is not below n
+-- each place is after the one before it, and the first is not below n
 abbrev pub rises_from : ℕ → List ℕ → Bool
 rises_from n [] = true
 rises_from n (place ∷ places) = nat_le n place && rises_from (place + 1) places

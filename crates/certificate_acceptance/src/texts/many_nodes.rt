@@ -7,7 +7,7 @@ use std::test::Fail;
 const BAG: &str = "{\"bag\":\"0x7f010000\"}";
 
 /// Why a certificate of two goals is not read; the first goal has one node, the second the number 0 and
-/// what stands behind it.
+/// what stands after it.
 fn fault(alloc: Global, first: &str, others: &str) -> Result<Option<CertFault>, AllocError> {
     let text = format!(in alloc;
         "{{\"version\":1,\"goals\":[{{\"id\":\"0x7f010000\",\"nodes\":[{first}]}},{{\"id\":\"0x7f010001\",\"nodes\":[0{others}]}}]}}"

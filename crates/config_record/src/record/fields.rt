@@ -54,7 +54,7 @@ const SCREEN_LAYOUT2: usize = 48;
 
 const COLOR_MODE: usize = 49;
 
-/// The fields but the size. Those behind the end of a short record are zero. What their numbers mean is
+/// The fields but the size. Those past the end of a short record are zero. What their numbers mean is
 /// said at `Coord`; where a field holds several, it is given whole.
 impl Record<'_> {
     ghost use Rattle.config_record.specs.Record.{record_bytes, byte, two_bytes, mcc, mnc, language, country, orientation, touchscreen, density, keyboard, navigation, input_flags, input_pad, screen_width, screen_height, sdk_version, minor_version, screen_layout, ui_mode, smallest_screen_width_dp, screen_width_dp, screen_height_dp, locale_script, locale_variant, screen_layout2, color_mode};
@@ -129,7 +129,7 @@ impl Record<'_> {
         self.byte(INPUT_FLAGS)
     }
 
-    /// The byte behind the input flags, which says nothing (AOSP: `inputPad0`).
+    /// The byte after the input flags, which says nothing (AOSP: `inputPad0`).
     pub fn input_pad(&self) -> u8
         ensures { result ≡ input_pad (record_bytes self.now) }
     {
@@ -157,7 +157,7 @@ impl Record<'_> {
         self.two_bytes(SDK_VERSION)
     }
 
-    /// What is behind the dot of that version.
+    /// The part of that version after its dot.
     pub fn minor_version(&self) -> u16
         ensures { result ≡ minor_version (record_bytes self.now) }
     {
@@ -241,7 +241,7 @@ impl Record<'_> {
         self.byte(COLOR_MODE)
     }
 
-    // The byte at an offset; zero behind the end.
+    // The byte at an offset; zero past the end.
     fn byte(&self, offset: usize) -> u8
         ensures { result ≡ byte (record_bytes self.now) offset }
     {

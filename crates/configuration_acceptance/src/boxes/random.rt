@@ -37,7 +37,7 @@ impl Random {
     }
 }
 
-/// The numbers of a coordinate: so many from the first on, each so far behind the one before. At the
+/// The numbers of a coordinate: so many from the first on, each so far after the one before. At the
 /// locale they are places in the list of locales.
 #[derive(Clone, Copy, Debug)]
 pub(crate) struct Axis {
@@ -143,7 +143,7 @@ impl Axes {
         Ok(Device::check(&Fields { numbers, locale })?)
     }
 
-    /// The places of the next member; false behind the last.
+    /// The places of the next member; false after the last.
     pub(crate) fn next(&self, places: &mut [u32; 25]) -> bool {
         for at in Coord::ALL {
             let place = at.place();

@@ -206,7 +206,7 @@ fn compares_sizes_keys_and_dimensions(rt: HostRuntime) {
 }
 
 /// Where the size of a record stands, a byte that is used in the equal record alone, the variant's last byte,
-/// the fields that came with it, and the bytes behind them.
+/// the fields that came with it, and the bytes after them.
 const SIZE: usize = 0;
 
 const PADDING: usize = 19;

@@ -23,7 +23,7 @@ const FULL: [u8; 52] = [
 const FULL_TEXT: &str =
     "[mcc=310,mnc=260,locale=fr-CA,layoutDirection=1,smallestWidthDp=320,widthDp=360,heightDp=640,screenSize=2,long=2,round=2,wideColor=1,hdr=2,orientation=1,uiType=3,night=1,density=160,touchscreen=3,keysHidden=1,navHidden=2,keyboard=2,navigation=1,width=480,height=800,sdk=26,minor=1]";
 
-/// Of the size 28: the bytes behind it are no part of it.
+/// Of the size 28: the bytes after it are no part of it.
 const SHORT: [u8; 32] = [
     28, 0, 0, 0, // size
     0, 0, 0, 0, // mcc, mnc

@@ -90,8 +90,8 @@ fn prints_where_attributes_end(rt: HostRuntime) {
 /// A style without a row, and one with a row.
 const EMPTY: &str = "0 [] bag 0x00000000\n1 [] bag 0x00000000 0x01010001=1";
 
-// Whether the attribute of the second is printed so behind some of them.
-fn is_printed_behind(alloc: Global, styles: &[ResId], status: Status, want: &str) -> bool {
+// Whether the attribute of the second is printed so after some of them.
+fn is_printed_after(alloc: Global, styles: &[ResId], status: Status, want: &str) -> bool {
     let asked = Asked {
         attr: A,
         styles,
@@ -104,10 +104,10 @@ fn is_printed_behind(alloc: Global, styles: &[ResId], status: Status, want: &str
 #[test]
 fn applies_a_style_without_rows(rt: HostRuntime) {
     let absent = "0x01010001 absent 0x01010001\n";
-    assert!(rt; is_printed_behind(rt.alloc(), &[FIRST], Status::Negative, absent));
+    assert!(rt; is_printed_after(rt.alloc(), &[FIRST], Status::Negative, absent));
     let set = "0x01010001 value layer 0 decimal 1\n";
-    assert!(rt; is_printed_behind(rt.alloc(), &[FIRST, SECOND], Status::Done, set));
-    assert!(rt; is_printed_behind(rt.alloc(), &[SECOND, FIRST], Status::Done, set));
+    assert!(rt; is_printed_after(rt.alloc(), &[FIRST, SECOND], Status::Done, set));
+    assert!(rt; is_printed_after(rt.alloc(), &[SECOND, FIRST], Status::Done, set));
 }
 
 /// A style whose attribute names itself, a value, and a style that is its own parent.
@@ -149,9 +149,9 @@ fn prints_cycles_and_the_first_style_without_rows(rt: HostRuntime) {
 // each, and entry 20 has this cell.
 fn chain_is_printed_as(alloc: Global, last: &str, status: Status, want: &str) -> Option<bool> {
     let chain = chain(alloc, 20, "@").ok()?;
-    let (_, behind_first) = chain.split_once('\n')?;
+    let (_, after_first) = chain.split_once('\n')?;
     let style = "0 [] bag 0x00000000 0x01010001=@0x7f010001";
-    let lines = format!(in alloc; "{style}\n{behind_first}20 [] {last}").ok()?;
+    let lines = format!(in alloc; "{style}\n{after_first}20 [] {last}").ok()?;
     let asked = Asked {
         attr: A,
         styles: &[FIRST],

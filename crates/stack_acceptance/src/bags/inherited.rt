@@ -70,7 +70,7 @@ fn knows_what_is_no_bag(rt: HostRuntime) {
     assert!(rt; has_fault(rt.alloc(), "0 [] bag 0x7f010000", BagFault::BagDepth));
 }
 
-// The rows of bags 0 to 64, of which each has the next one as parent, and this row behind them.
+// The rows of bags 0 to 64, of which each has the next one as parent, and this row after them.
 fn bags_before(alloc: Global, last: &str) -> Option<String> {
     let chain = chain(alloc, 65, "bag ").ok()?;
     format!(in alloc; "{chain}{last}").ok()

@@ -36,7 +36,7 @@ fn theme_of(alloc: Global, stack: &Stack, device: &Device, force: bool) -> Optio
     (absent == Err(BagFault::Absent)).then_some(theme)
 }
 
-// Where an attribute of a base ends behind its styles.
+// Where an attribute of a base ends after its styles.
 fn end_of(alloc: Global, lines: &str, force: bool, attr: ResId) -> Option<End> {
     let device = device_of("")?;
     let base = layer_of_lines(alloc, lines).ok()?;
@@ -88,7 +88,7 @@ fn ends_cycles_of_attributes(rt: HostRuntime) {
     assert_eq!(rt; other_cycle(rt.alloc()), None);
 }
 
-// A style with twenty attributes, each naming the next; behind them stands this row.
+// A style with twenty attributes, each naming the next; after them stands this row.
 fn style_of_chain(alloc: Global, last: &str) -> Result<String, AllocError> {
     let mut style = String::from_str(alloc, "0 [] bag 0x00000000")?;
     for place in 0_u32..20 {

@@ -56,7 +56,7 @@ fn names_the_fault(rt: HostRuntime) {
     assert!(rt; fault_of(rt.alloc(), "[]").is_none());
 }
 
-// A list of as many layers, and behind them this item.
+// A list of as many layers, and after them this item.
 fn layers(alloc: Global, count: usize, last: &str) -> Result<String, AllocError> {
     let mut text = String::new(alloc);
     text.push_str("[")?;
@@ -68,7 +68,7 @@ fn layers(alloc: Global, count: usize, last: &str) -> Result<String, AllocError>
     Ok(text)
 }
 
-fn fault_behind(
+fn fault_after(
     alloc: Global,
     count: usize,
     last: &str,
@@ -80,9 +80,9 @@ fn fault_behind(
 #[test]
 fn reads_64_layers(rt: HostRuntime) {
     let layer = r#"{"table":"b"}"#;
-    assert!(rt; fault_behind(rt.alloc(), 63, layer) == Ok(None));
+    assert!(rt; fault_after(rt.alloc(), 63, layer) == Ok(None));
     let too_many = Ok(Some(LayersFault::TooManyLayers));
-    assert!(rt; fault_behind(rt.alloc(), 64, layer) == too_many);
+    assert!(rt; fault_after(rt.alloc(), 64, layer) == too_many);
     let shape = Ok(Some(LayersFault::Shape));
-    assert!(rt; fault_behind(rt.alloc(), 64, "{}") == shape);
+    assert!(rt; fault_after(rt.alloc(), 64, "{}") == shape);
 }

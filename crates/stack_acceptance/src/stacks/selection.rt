@@ -198,7 +198,7 @@ fn follows_references(rt: HostRuntime) {
     assert_eq!(rt; other_reference(rt.alloc()), None);
 }
 
-// The end of a chain of so many references, behind which stands 5.
+// The end of a chain of so many references, after which stands 5.
 fn end_of_chain(alloc: Global, references: u32) -> Option<End> {
     let chain = chain(alloc, references, "@").ok()?;
     let lines = format!(in alloc; "{chain}{references} [] 5").ok()?;
