@@ -4,6 +4,7 @@ pub mod TriedNumbers
 pub mod Changes
 pub mod Question
 pub mod RuleSearch
+pub mod Settled
 pub mod Sameness
 pub mod Facts
 pub mod Unfolded

@@ -7,13 +7,12 @@ use Rattle.box_answers.specs.declared.sameness.Sameness.{Sameness}
 use Rattle.box_answers.specs.declared.sameness.Sameness.TheVariants.{Always, Never, Mixed}
 use Rattle.box_answers.specs.NumberSet.{SetOf, RangeOf, IsIn}
 use Rattle.box_answers.specs.Members.{set_at, IsMember}
+use Rattle.box_answers.specs.Settled.{AllAnswer, IsOneThatAnswers}
 
 -- two members that differ in this coordinate alone, of which the first answers yes and the second no
 pub record Parts (sets : List SetOf) (asks : List ℕ → Bool) (x y : List ℕ) (c : Coord) : Type 0 where
-  pub yes_member : IsMember sets x
-  pub no_member : IsMember sets y
-  pub yes_answer : asks x ≡ true
-  pub no_answer : asks y ≡ false
+  pub yes : IsOneThatAnswers (IsMember sets) asks true x
+  pub no : IsOneThatAnswers (IsMember sets) asks false y
   pub others : (k : Coord) → k ≢ c → device_number x k ≡ device_number y k
 
 abbrev pub DifferByOne : ℕ → ℕ → Type 0
@@ -34,6 +33,6 @@ pub record Separates (sets : List SetOf) (asks : List ℕ → Bool) (x y : List 
 
 -- always: all members answer yes; never: all answer no; mixed: two members, as above
 abbrev pub IsExact : Sameness → List SetOf → (List ℕ → Bool) → Type 0
-IsExact Always sets asks = (d : List ℕ) → IsMember sets d → asks d ≡ true
-IsExact Never sets asks = (d : List ℕ) → IsMember sets d → asks d ≡ false
+IsExact Always sets asks = AllAnswer (IsMember sets) asks true
+IsExact Never sets asks = AllAnswer (IsMember sets) asks false
 IsExact (Mixed x y c) sets asks = Separates sets asks (device_numbers x) (device_numbers y) c
