@@ -17,7 +17,8 @@ use Rattle.box_answers.specs.declared.question.Question.{Question}
 use Rattle.box_answers.specs.NumberSet.{SetOf, RangeOf, NumbersOf, LocalesOf, IsIn}
 use Rattle.box_answers.specs.Members.{IsMember}
 use Rattle.box_answers.specs.Question.{says_yes, answered}
-use Rattle.box_answers.specs.Sameness.{Parts, DifferByOne, AreNeighbours, IsConvex}
+use Rattle.box_answers.specs.Sameness.{Parts, DifferByOne, AreNeighbours}
+use Rattle.box_answers.specs.SearchedSet.{IsConvex}
 use Rattle.box_answers.proofs.Coords.{place_of-below, next-coord}
 use Rattle.box_answers.proofs.Sets.{member-changed}
 

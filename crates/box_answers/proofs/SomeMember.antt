@@ -16,7 +16,7 @@ corner-of : (sets : List SetOf) → IsBox sets → IsCorner sets (map least sets
 unfolding least
 corner-of sets b c =
     let at : device_number (map least sets) c ≡ least (set_at sets c) = get_or-map least sets (place_of c) (RangeOf 0 0) 0 (omega (arith, place_of-below c, b.count)) in
-    subst (λ (n : ℕ). IsLeastIn (set_at sets c) n) (sym at) (least-of (set_at sets c) (b.proper c))
+    subst (λ (n : ℕ). IsLeastIn (set_at sets c) n) (sym at) (least-of (set_at sets c) (b.each c).proper)
 
 pub some_member : (sets : List SetOf) → IsBox sets → (d : List ℕ) × IsMember sets d
 some_member sets b = (map least sets, λ c. (corner-of sets b c).is_in)

@@ -1,5 +1,6 @@
 pub mod NumberSet
 pub mod Members
+pub mod SearchedSet
 pub mod TriedNumbers
 pub mod Changes
 pub mod Question

@@ -1,11 +1,11 @@
 -- Is a question answered alike by all members of a box? If not, by which two that stand side by side?
-use Rattle.std.specs.Prelude.{◌≡◌, ◌≢◌, ℕ, ◌+◌, ◌≤◌, min, max, ◌⊎◌, Bool, true, false, List}
+use Rattle.std.specs.Prelude.{◌≡◌, ◌≢◌, ℕ, ◌+◌, ◌⊎◌, Bool, true, false, List}
 use Rattle.config_precedence.specs.config_record.declared.coord.Coord.{Coord}
 use Rattle.config_precedence.specs.config_record.ComparedNumber.{device_number}
 use Rattle.config_precedence.specs.config_record.DeviceSeen.{device_numbers}
 use Rattle.box_answers.specs.declared.sameness.Sameness.{Sameness}
 use Rattle.box_answers.specs.declared.sameness.Sameness.TheVariants.{Always, Never, Mixed}
-use Rattle.box_answers.specs.NumberSet.{SetOf, RangeOf, IsIn}
+use Rattle.box_answers.specs.NumberSet.{SetOf, RangeOf}
 use Rattle.box_answers.specs.Members.{set_at, IsMember}
 use Rattle.box_answers.specs.Settled.{AllAnswer, IsOneThatAnswers}
 
@@ -22,10 +22,6 @@ DifferByOne x y = (x ≡ y + 1) ⊎ (y ≡ x + 1)
 abbrev pub AreNeighbours : SetOf → ℕ → ℕ → Type 0
 AreNeighbours (RangeOf low high) x y = DifferByOne x y
 AreNeighbours set x y = Unit {0}
-
--- what lies between two numbers of the set is one of it
-abbrev pub IsConvex : SetOf → Type 0
-IsConvex set = (m n k : ℕ) → IsIn set m → IsIn set n → min m n ≤ k → k ≤ max m n → IsIn set k
 
 pub record Separates (sets : List SetOf) (asks : List ℕ → Bool) (x y : List ℕ) (c : Coord) : Type 0 where
   pub parts : Parts sets asks x y c

@@ -8,7 +8,8 @@ ghost use Rattle.box_answers.specs.NumberSet.{IsIn};
 ghost use Rattle.box_answers.specs.Members.{sets_of, set_at, IsMember, IsBox};
 ghost use Rattle.box_answers.specs.Question.{answered};
 ghost use Rattle.box_answers.specs.Settled.{IsOneThatAnswers};
-ghost use Rattle.box_answers.specs.Sameness.{Parts, DifferByOne, IsConvex, Separates};
+ghost use Rattle.box_answers.specs.Sameness.{Parts, DifferByOne, Separates};
+ghost use Rattle.box_answers.specs.SearchedSet.{IsConvex};
 
 use crate::member_pair::MemberPair;
 use crate::members::set_at;

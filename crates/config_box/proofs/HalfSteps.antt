@@ -12,10 +12,9 @@ use Rattle.box_answers.specs.config_record.declared.coord.Coord.TheVariants as c
 use Rattle.box_answers.specs.config_record.declared.locale.Locale.{Locale}
 use Rattle.box_answers.specs.config_record.Coord.{place_of}
 use Rattle.box_answers.specs.config_record.ComparedNumber.{device_number, locale_number}
-use Rattle.box_answers.specs.config_record.Device.{CanHave}
 use Rattle.box_answers.proofs.config_record.ChangedNumber.{by_coord, place_of-injective}
-use Rattle.box_answers.specs.NumberSet.{SetOf, RangeOf, NumbersOf, LocalesOf, locale_numbers, listed, IsIn, IsProper}
-use Rattle.box_answers.specs.Members.{set_at, IsMember, IsOfKind, IsBox, most_values}
+use Rattle.box_answers.specs.NumberSet.{SetOf, RangeOf, NumbersOf, LocalesOf, locale_numbers, IsIn, IsProper}
+use Rattle.box_answers.specs.Members.{set_at, IsMember, IsOfKind, IsSetAt, IsBox}
 use Rattle.box_answers.specs.Settled.{AllAnswer}
 use Rattle.box_answers.proofs.Coords.{place_of-below}
 use Rattle.config_box.specs.Marks.{AreMarkedAlike}
@@ -130,13 +129,14 @@ pub half-box : (sets : List SetOf) (test : TestOf) (answer : Bool) (half : SetOf
     → IsBox (set sets (place_of (coord_of test)) half)
 half-box sets test answer half b h =
     let c = coord_of test in
-    record {
-      count = length-set sets (place_of c) half ∙ b.count;
-      proper = each-set (λ k s. IsProper s) sets c half b.count h.proper b.proper;
-      kinds = each-set (λ k s. IsOfKind k s) sets c half b.count (kind-alike c (set_at sets c) half h.mark (b.kinds c)) b.kinds;
-      few = each-set (λ k s. length (listed s) ≤ most_values) sets c half b.count (let f = h.few in let g = b.few c in omega arith) b.few;
-      can = each-set (λ k s. (n : ℕ) → IsIn s n → CanHave k n) sets c half b.count (λ n is. b.can c n ((h.numbers n).0 is).0) b.can;
-    }
+    let before = b.each c in
+    let now : IsSetAt c half = record {
+      proper = h.proper;
+      kind = kind-alike c (set_at sets c) half h.mark before.kind;
+      few = let fewer = h.few in let few = before.few in omega arith;
+      can = λ n is. before.can n ((h.numbers n).0 is).0;
+    } in
+    record { count = length-set sets (place_of c) half ∙ b.count; each = each-set IsSetAt sets c half b.count now b.each }
 
 pub marks-self : (s : SetOf) → AreMarkedAlike s s
 marks-self (RangeOf a b) = tt

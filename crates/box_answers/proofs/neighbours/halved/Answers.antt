@@ -7,7 +7,7 @@ use Rattle.box_answers.proofs.neighbours.halved.Goals as goal
 
 pub changed-device-requires : goal.changed-device-requires
 changed-device-requires c =
-    c.requires.sets.can c.args.pair.coord c.in-Some.middle
+    (c.requires.sets.each c.args.pair.coord).can c.in-Some.middle
     (middle-in (set_at (sets_of c.args.sets.now) c.args.pair.coord) _ _ _ _ c.in-Some.middle c.requires.range (c.loop-middle.invariant.yes.member c.args.pair.coord) (c.loop-middle.invariant.no.member c.args.pair.coord)
     c.compared_number.ensures.value c.compared_number-in-loop-middle.ensures.value c.in-Some.ensures.found)
 
