@@ -30,16 +30,14 @@ use Rattle.box_trace.proofs.Rests.{rest_first, rest_same, come_over, scanned_com
 -- ---- the two
 
 pub beside : (sets : List SetOf) (answer : List ℕ → Bool) (x y : List ℕ) (c : Coord) → Separates sets answer x y c → AreSideBySide sets x y c
-beside sets answer x y c s = record { x_member = s.parts.yes_member; y_member = s.parts.no_member; others = s.parts.others; near = s.near }
+beside sets answer x y c s = record { x_member = s.parts.yes.member; y_member = s.parts.no.member; others = s.parts.others; near = s.near }
 
 -- another question that members answer in the same way
 pub separates_alike : (sets : List SetOf) (answer other : List ℕ → Bool) (x y : List ℕ) (c : Coord) → ((d : List ℕ) → IsMember sets d → other d ≡ answer d) → Separates sets answer x y c → Separates sets other x y c
 separates_alike sets answer other x y c alike s = record {
   parts = record {
-    yes_member = s.parts.yes_member;
-    no_member = s.parts.no_member;
-    yes_answer = alike x s.parts.yes_member ∙ s.parts.yes_answer;
-    no_answer = alike y s.parts.no_member ∙ s.parts.no_answer;
+    yes = record { member = s.parts.yes.member; answers = alike x s.parts.yes.member ∙ s.parts.yes.answers };
+    no = record { member = s.parts.no.member; answers = alike y s.parts.no.member ∙ s.parts.no.answers };
     others = s.parts.others;
   };
   near = s.near;
@@ -80,7 +78,7 @@ no_match true beaten e = absurd (cc)
 -- it matches some and not others
 pub divides_matching : (sets : List SetOf) (best : Option CandOf) (candidate : CandOf) (x y : List ℕ) (c : Coord) → Separates sets (is_match candidate.row.config) x y c → DividesAt (IsMember sets) (step_of best candidate) x y
 divides_matching sets best candidate x y c s =
-    inl (matched best candidate x ∙ s.parts.yes_answer, no_match (is_match candidate.row.config y) (beats_best best candidate y) s.parts.no_answer)
+    inl (matched best candidate x ∙ s.parts.yes.answers, no_match (is_match candidate.row.config y) (beats_best best candidate y) s.parts.no.answers)
 
 -- it matches all, and takes over at some alone
 pub divides_taking : (sets : List SetOf) (best : Option CandOf) (candidate : CandOf) (x y : List ℕ) (c : Coord) → ((d : List ℕ) → IsMember sets d → IsTrue (is_match candidate.row.config d))
@@ -88,8 +86,8 @@ pub divides_taking : (sets : List SetOf) (best : Option CandOf) (candidate : Can
 divides_taking sets best candidate x y c all s =
     inr (
       λ d m. matched best candidate d ∙ all d m,
-      took_over (is_match candidate.row.config x) (beats_best best candidate x) (all x s.parts.yes_member) s.parts.yes_answer,
-      kept_out (is_match candidate.row.config y) (beats_best best candidate y) (all y s.parts.no_member) s.parts.no_answer,
+      took_over (is_match candidate.row.config x) (beats_best best candidate x) (all x s.parts.yes.member) s.parts.yes.answers,
+      kept_out (is_match candidate.row.config y) (beats_best best candidate y) (all y s.parts.no.member) s.parts.no.answers,
     )
 
 -- ---- along candidates

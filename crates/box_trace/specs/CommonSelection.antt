@@ -1,10 +1,11 @@
 -- What do all members of a box do alike at one candidate, and at the rest of a look-up? (Cited by contracts of this crate
 -- alone.)
-use Rattle.std.specs.Prelude.{◌≡◌, ℕ, List}
+use Rattle.std.specs.Prelude.{◌≡◌, List}
 use Rattle.std.specs.Option.{option_map}
 use Rattle.reference_resolver.specs.config_record.DeviceSeen.{device_numbers}
 use Rattle.config_box.specs.box_answers.NumberSet.{SetOf}
 use Rattle.config_box.specs.box_answers.Members.{IsMember}
+use Rattle.config_box.specs.box_answers.Settled.{AllAnswer}
 use Rattle.config_box.specs.box_answers.Sameness.{Separates}
 use Rattle.reference_resolver.specs.overlay_map.Layer.{LayerOf}
 use Rattle.reference_resolver.specs.overlay_map.Candidates.{CandOf, cand_of}
@@ -22,7 +23,7 @@ use Rattle.box_trace.specs.Parting.{answer_of, IsParting}
 abbrev pub IsCommonStep : CommonSelection → List SetOf → Walk → CandOf → Type 0
 IsCommonStep (One after) sets walk candidate =
     (step : Step)
-    × ((d : List ℕ) → IsMember sets d → step_of (best_at walk) candidate d ≡ step)
+    × AllAnswer (IsMember sets) (step_of (best_at walk) candidate) step
     × (option_map cand_of after ≡ best_after step (best_at walk) candidate)
 IsCommonStep (Mixed parting) sets walk candidate =
     (parting.walk ≡ walk) × (cand_of parting.candidate ≡ candidate)
@@ -33,6 +34,6 @@ IsCommonStep (Mixed parting) sets walk candidate =
 abbrev pub IsCommonSelection : CommonSelection → List SetOf → List LayerOf → Walk → Type 0
 IsCommonSelection (One picked) sets stack walk =
     (steps : List Step)
-    × ((d : List ℕ) → IsMember sets d → scan_candidates step_of (best_at walk) (ahead_of stack walk) d ≡ steps)
-    × ((d : List ℕ) → IsMember sets d → best_of (best_at walk) (ahead_of stack walk) d ≡ option_map cand_of picked)
+    × AllAnswer (IsMember sets) (scan_candidates step_of (best_at walk) (ahead_of stack walk)) steps
+    × AllAnswer (IsMember sets) (best_of (best_at walk) (ahead_of stack walk)) (option_map cand_of picked)
 IsCommonSelection (Mixed parting) sets stack walk = IsParting parting sets stack (rest_of stack walk)

@@ -1,9 +1,10 @@
 //! One candidate more, for all members of a box.
 
-ghost use Rattle.std.specs.Prelude.{ℕ, List, IsTrue};
+ghost use Rattle.std.specs.Prelude.{true};
 ghost use Rattle.std.specs.Option.{option_map};
 ghost use Rattle.reference_resolver.specs.config_match.Matching.{is_match};
 ghost use Rattle.config_box.specs.box_answers.Members.{IsMember};
+ghost use Rattle.config_box.specs.box_answers.Settled.{AllAnswer};
 ghost use Rattle.config_box.specs.box_answers.Sameness.{IsExact};
 ghost use Rattle.reference_resolver.specs.overlay_map.Candidates.{cand_of};
 ghost use Rattle.reference_resolver.specs.Selection.{beats, beats_best};
@@ -41,7 +42,7 @@ fn best_after_match<'a>(
     candidate: Cand<'a>,
     members: &ConfigBox,
 ) -> CommonSelection<'a>
-    requires { (d : List ℕ) → IsMember members.now d → IsTrue (is_match (cand_of candidate).row.config d) }
+    requires { AllAnswer (IsMember members.now) (is_match (cand_of candidate).row.config) true }
     ensures { IsCommonStep result members.now walk.now (cand_of candidate.entry) }
 {
     match is_best_beaten(&walk.best, &candidate, members) {

@@ -5,4 +5,4 @@ use Rattle.box_trace.proofs.step.best_after.Goals as goal
 
 pub returns-in-Mixed : goal.returns-in-Mixed
 unfolding answer_of
-returns-in-Mixed c = (refl, refl, separates_alike _ _ _ _ _ _ (λ d m. matched _ _ d) c.in-Mixed.ensures, divides_matching _ _ _ _ _ _ c.in-Mixed.ensures)
+returns-in-Mixed c = (refl, refl, separates_alike _ _ _ _ _ _ (λ d m. matched _ _ d) c.in-Mixed.ensures.value, divides_matching _ _ _ _ _ _ c.in-Mixed.ensures.value)
