@@ -2,7 +2,7 @@
 use Rattle.std.proofs.Common.{◌≡◌, ℕ, ◌+◌, ◌-◌, Result, refl, sym, ap, ◌∙◌}
 use Rattle.std.specs.Prelude.{slice_get, nat_lt}
 use Rattle.contract_words.specs.Faults.{◌>>=◌, refuse}
-use Rattle.fault_text.specs.res_value.ResId.{type_of}
+use Rattle.reference_resolver.specs.res_value.ResId.{type_of}
 use Rattle.reference_resolver.specs.string_pool.Text.{TextOf, text_in}
 use Rattle.reference_resolver.specs.string_pool.declared.fault.StringFault.{StringFault}
 use Rattle.reference_resolver.specs.string_pool.declared.fault.StringFault.TheVariants.{NoSuch}

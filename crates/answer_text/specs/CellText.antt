@@ -6,15 +6,15 @@ use Rattle.std.specs.Fmt.{decimal}
 use Rattle.reference_resolver.specs.string_pool.Pool.{PoolOf, pool_of}
 use Rattle.reference_resolver.specs.string_pool.Text.{text_in}
 use Rattle.reference_resolver.specs.string_pool.Shown.{string_text}
-use Rattle.fault_text.specs.res_value.Cell.{CellOf, PlainOf, BagOf}
-use Rattle.fault_text.specs.res_value.Kind.{string_kind}
-use Rattle.fault_text.specs.res_value.declared.res_id.ResId.{ResId}
-use Rattle.fault_text.specs.res_value.declared.value.Value.{Value}
-use Rattle.fault_text.specs.res_value.ResId.{id_text}
-use Rattle.fault_text.specs.res_value.ValueText.{value_text}
+use Rattle.reference_resolver.specs.res_value.Cell.{CellOf, PlainOf, BagOf}
+use Rattle.reference_resolver.specs.res_value.Kind.{string_kind}
+use Rattle.reference_resolver.specs.res_value.declared.res_id.ResId.{ResId}
+use Rattle.reference_resolver.specs.res_value.declared.value.Value.{Value}
+use Rattle.reference_resolver.specs.res_value.ResId.{id_text}
+use Rattle.reference_resolver.specs.res_value.ValueText.{value_text}
 use Rattle.reference_resolver.specs.config_record.Qualifiers.{record_text}
 use Rattle.reference_resolver.specs.type_chunks.Row.{RowOf}
-use Rattle.fault_text.specs.NamedText.{named_id}
+use Rattle.line_parts.specs.NamedText.{named_id}
 use Rattle.answer_text.specs.declared.cell.RowFormat.{RowFormat}
 
 -- In what two texts of the same rows differ: what stands before each line of a row of a bag, and the

@@ -4,8 +4,8 @@ use Rattle.std.specs.List.{flat_map}
 use Rattle.hex.specs.Hex.{encode_lower}
 use Rattle.reference_resolver.specs.string_pool.Pool.{PoolOf}
 use Rattle.reference_resolver.specs.string_pool.Shown.{shown_text, string_text}
-use Rattle.fault_text.specs.res_value.ResId.{id_text}
-use Rattle.fault_text.specs.res_value.Word.{word_text}
+use Rattle.reference_resolver.specs.res_value.ResId.{id_text}
+use Rattle.reference_resolver.specs.res_value.Word.{word_text}
 use Rattle.reference_resolver.specs.type_chunks.Row.{RowOf}
 use Rattle.reference_resolver.specs.resource_table.Package.{PackageOf}
 use Rattle.reference_resolver.specs.resource_table.Table.{TableOf}

@@ -1,11 +1,11 @@
 -- Ends of references as text.
 use Rattle.std.specs.Prelude.{ℕ, List, [], ◌∷◌, ◌++◌, codes, Option, None}
 use Rattle.reference_resolver.specs.string_pool.Pool.{PoolOf}
-use Rattle.fault_text.specs.res_value.declared.value.Value.{Value}
+use Rattle.reference_resolver.specs.res_value.declared.value.Value.{Value}
 use Rattle.reference_resolver.specs.declared.end.End.{End}
 use Rattle.reference_resolver.specs.declared.end.End.TheVariants as of_end
-use Rattle.fault_text.specs.NamedText.{named_id}
-use Rattle.fault_text.specs.LayerText.{layer_text}
+use Rattle.line_parts.specs.NamedText.{named_id}
+use Rattle.line_parts.specs.LayerText.{layer_text}
 use Rattle.answer_text.specs.CellText.{value_with_string}
 
 -- `value layer L VALUE`

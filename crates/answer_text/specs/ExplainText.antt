@@ -8,8 +8,8 @@ use Rattle.reference_resolver.specs.declared.decision.Decision.{Decision}
 use Rattle.reference_resolver.specs.declared.decision.Decision.TheVariants.{SetAside, NoMatch, First, TookOver, TookOverEqual, KeptOut}
 use Rattle.reference_resolver.specs.Ends.{references_followed, end_of}
 use Rattle.reference_resolver.specs.Trace.{look_ups_of, TracedCandidateOf, traced, scan_look_up}
-use Rattle.fault_text.specs.NamedText.{named_id, named_coord, named_number}
-use Rattle.fault_text.specs.LayerText.{layer_text}
+use Rattle.line_parts.specs.NamedText.{named_id, named_coord, named_number}
+use Rattle.line_parts.specs.LayerText.{layer_text}
 use Rattle.answer_text.specs.EndText.{end_line}
 
 -- ---- a candidate

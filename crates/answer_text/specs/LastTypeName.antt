@@ -1,7 +1,7 @@
 -- The name of a type that is kept as text. Contracts within the crate alone speak of this.
 use Rattle.std.specs.Prelude.{◌≡◌}
 use Rattle.std.specs.Option.{ForSome}
-use Rattle.fault_text.specs.res_value.ResId.{type_of}
+use Rattle.reference_resolver.specs.res_value.ResId.{type_of}
 use Rattle.reference_resolver.specs.string_pool.Shown.{string_text}
 use Rattle.reference_resolver.specs.type_chunks.Row.{RowOf}
 use Rattle.reference_resolver.specs.resource_table.Table.{TableOf}

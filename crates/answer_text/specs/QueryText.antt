@@ -3,7 +3,7 @@ use Rattle.std.specs.Prelude.{ℕ, List, [], ◌∷◌, ◌++◌, codes, slice_g
 use Rattle.std.specs.Option.{option_map}
 use Rattle.std.specs.Fmt.{decimal}
 use Rattle.reference_resolver.specs.string_pool.Pool.{PoolOf}
-use Rattle.fault_text.specs.res_value.ResId.{id_text}
+use Rattle.reference_resolver.specs.res_value.ResId.{id_text}
 use Rattle.reference_resolver.specs.overlay_map.Layer.{LayerOf}
 use Rattle.reference_resolver.specs.declared.end.End.{End}
 use Rattle.reference_resolver.specs.declared.end.End.TheVariants as of_end

@@ -4,7 +4,7 @@ ghost use Rattle.std.specs.Prelude.{◌++◌};
 ghost use Rattle.contract_words.specs.Writes.{Writes};
 ghost use Rattle.answer_text.specs.ExplainText.{rule_text, decision_text};
 
-use fault_text::write_named_coord;
+use line_parts::write_named_coord;
 use reference_resolver::Decision;
 use std::io::{self, Write};
 

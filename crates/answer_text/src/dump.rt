@@ -11,7 +11,7 @@ use crate::cell::{RowFormat, write_row_end};
 use crate::last_record::LastRecord;
 use crate::last_type_name::LastTypeName;
 use crate::line::Line;
-use fault_text::{write_hex, write_id, write_word};
+use line_parts::{write_hex, write_id, write_word};
 use reference_resolver::{Package, PackageRows, Row, Table, write_string};
 use std::io::{self, Write};
 

@@ -6,8 +6,8 @@ ghost use Rattle.reference_resolver.specs.string_pool.Pool.{pool_of};
 ghost use Rattle.answer_text.specs.EndText.{value_end_text, end_with_string, end_text, end_line};
 
 use crate::cell::write_value_with_string;
-use fault_text::{Value, write_layer, write_named_id};
-use reference_resolver::{End, Pool};
+use line_parts::{write_layer, write_named_id};
+use reference_resolver::{End, Pool, Value};
 use std::io::{self, Write};
 
 /// Writes an end: a value with the place of its layer, counted from 0; the id that selected a bag, or

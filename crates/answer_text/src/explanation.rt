@@ -11,8 +11,10 @@ ghost use Rattle.answer_text.specs.ExplainText.{place_text, traced_text, candida
 
 use crate::decision::write_decision;
 use crate::end::write_end_line;
-use fault_text::{ResId, write_layer, write_named_id, write_named_number};
-use reference_resolver::{Device, End, LookUps, Stack, TracedCandidate, TracedCandidates, resolve};
+use line_parts::{write_layer, write_named_id, write_named_number};
+use reference_resolver::{
+    Device, End, LookUps, ResId, Stack, TracedCandidate, TracedCandidates, resolve,
+};
 use std::io::{self, Write};
 
 /// Writes how an id comes to its end at a device: a line for each id that is looked up, behind it one for

@@ -3,7 +3,7 @@
 ghost use Rattle.std.specs.Prelude.{◌≡◌, true, Some};
 ghost use Rattle.contract_words.specs.Writes.{Writes};
 ghost use Rattle.reference_resolver.specs.string_pool.Shown.{string_text};
-ghost use Rattle.fault_text.specs.res_value.ResId.{type_of};
+ghost use Rattle.reference_resolver.specs.res_value.ResId.{type_of};
 ghost use Rattle.reference_resolver.specs.type_chunks.Row.{row_of};
 ghost use Rattle.reference_resolver.specs.resource_table.Table.{TableOf};
 ghost use Rattle.reference_resolver.specs.resource_table.Names.{type_name_in};

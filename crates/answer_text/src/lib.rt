@@ -30,9 +30,7 @@ mod rows;
 pub use dump::dump_text;
 pub use end::{end_text, write_end_line};
 pub use explanation::explain;
-pub use fault_text::{
-    LayersFault, ResId, ToolFault, fault_text, write_id, write_layer, write_value,
-};
+pub use line_parts::{write_id, write_layer, write_value};
 pub use query::{query_line, set_aside_line};
-pub use reference_resolver::{Device, End, Stack, Table};
+pub use reference_resolver::{Device, End, ResId, Stack, Table};
 pub use rows::rows_text;

@@ -7,8 +7,8 @@ ghost use Rattle.reference_resolver.specs.string_pool.Pool.{pool_of};
 ghost use Rattle.answer_text.specs.QueryText.{strings_of_layer, strings_of_end, query_line, set_aside_line};
 
 use crate::end::write_end_with_string;
-use fault_text::{ResId, write_id};
-use reference_resolver::{End, Pool, Stack};
+use line_parts::write_id;
+use reference_resolver::{End, Pool, ResId, Stack};
 use std::io::{self, Write};
 
 /// Writes the line of an id with its end. A string value is followed by its string, which is one of the

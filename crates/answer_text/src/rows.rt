@@ -6,7 +6,7 @@ ghost use Rattle.answer_text.specs.RowsText.{row_text, totals_text, rows_text};
 
 use crate::cell::{RowFormat, write_row_end};
 use crate::last_record::LastRecord;
-use fault_text::write_id;
+use line_parts::write_id;
 use reference_resolver::{Row, Table};
 use std::io::{self, Write};
 

@@ -4,6 +4,7 @@ pub mod Dimensions
 pub mod Covers
 pub mod Everywhere
 pub mod Sets
+pub mod SomeMember
 pub mod SearchSteps
 pub mod Sides
 pub mod FactSteps

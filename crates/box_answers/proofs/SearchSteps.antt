@@ -19,7 +19,8 @@ use Rattle.config_precedence.specs.config_rules.Rule.{beside, numbers_at, rule_a
 use Rattle.config_precedence.specs.config_rules.Reads.{reads, reads_of, AgreeAt, places_read, rises_from, AreReadInOrder}
 use Rattle.config_precedence.specs.config_rules.Table.{answer_of_table}
 use Rattle.config_precedence.proofs.config_rules.ReadsLemmas.{depends}
-use Rattle.box_answers.specs.NumberSet.{SetOf, IsIn, IsLeastIn, IsGreatestIn}
+use Rattle.box_answers.specs.NumberSet.{SetOf, IsIn, IsLeastIn}
+use Rattle.box_answers.specs.SearchedSet.{IsGreatestIn}
 use Rattle.box_answers.specs.Members.{set_at, IsMember}
 use Rattle.box_answers.specs.TriedNumbers.{tried_numbers}
 use Rattle.box_answers.specs.Changes.{PassesEverywhere, AgreeBelow, ChangesTo, IsNowhere, answer_at}

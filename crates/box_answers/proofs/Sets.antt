@@ -16,7 +16,8 @@ use Rattle.config_precedence.specs.config_rules.declared.answer.Answer.{Answer}
 use Rattle.config_precedence.specs.config_rules.declared.rule.Rule.{Rule}
 use Rattle.config_precedence.specs.config_rules.Rule.{rule_answer}
 use Rattle.box_answers.specs.declared.number_set.NumberSet.{NumberSet}
-use Rattle.box_answers.specs.NumberSet.{SetOf, RangeOf, NumbersOf, LocalesOf, set_of, listed, IsIn, IsProper, IsLeastIn, IsGreatestIn}
+use Rattle.box_answers.specs.NumberSet.{SetOf, RangeOf, NumbersOf, LocalesOf, set_of, listed, IsIn, IsProper, IsLeastIn}
+use Rattle.box_answers.specs.SearchedSet.{IsGreatestIn}
 use Rattle.box_answers.specs.Members.{sets_of, set_at, IsMember}
 use Rattle.box_answers.specs.TriedNumbers.{clamped, tried_numbers}
 use Rattle.box_answers.specs.Changes.{ChangesTo}

@@ -17,7 +17,8 @@ use Rattle.box_answers.specs.declared.question.Question.{Question}
 use Rattle.box_answers.specs.NumberSet.{SetOf, RangeOf, NumbersOf, LocalesOf, IsIn}
 use Rattle.box_answers.specs.Members.{IsMember}
 use Rattle.box_answers.specs.Question.{says_yes, answered}
-use Rattle.box_answers.specs.Sameness.{Parts, DifferByOne, AreNeighbours, IsConvex}
+use Rattle.box_answers.specs.Sameness.{Parts, DifferByOne, AreNeighbours}
+use Rattle.box_answers.specs.SearchedSet.{IsConvex}
 use Rattle.box_answers.proofs.Coords.{place_of-below, next-coord}
 use Rattle.box_answers.proofs.Sets.{member-changed}
 
@@ -55,10 +56,8 @@ pub turns : (sets : List SetOf) (asks : List ℕ → Bool) (device next y : List
     → device_number next c ≡ device_number y c → ((k : Coord) → k ≢ c → device_number next k ≡ device_number device k) → asks next ≡ false
     → Parts sets asks device next c
 turns sets asks device next y place c so_far no_member same others answer = record {
-  yes_member = so_far.member;
-  no_member = member-changed sets device next c (device_number y c) so_far.member (no_member c) same others;
-  yes_answer = so_far.yes_answer;
-  no_answer = answer;
+  yes = record { member = so_far.member; answers = so_far.yes_answer };
+  no = record { member = member-changed sets device next c (device_number y c) so_far.member (no_member c) same others; answers = answer };
   others = λ k ne. sym (others k ne);
 }
 
@@ -67,7 +66,7 @@ turns sets asks device next y place c so_far no_member same others answer = reco
 pub parts-distinct : (sets : List SetOf) (q : Question) (x y : List ℕ) (c : Coord) → Parts sets (answered q) x y c → device_number x c ≡ device_number y c → ⊥
 parts-distinct sets q x y c parts same =
     let alike = answered-alike q x y (λ k. by_coord k c (λ e. ap (device_number x) e ∙ same ∙ ap (device_number y) (sym e)) (λ ne. parts.others k ne)) in
-    let e : true ≡ false = sym parts.yes_answer ∙ alike ∙ parts.no_answer in cc
+    let e : true ≡ false = sym parts.yes.answers ∙ alike ∙ parts.no.answers in cc
 
 pub by_one : (x y : ℕ) → x ≤ y + 1 → y ≤ x + 1 → (x ≡ y → ⊥) → DifferByOne x y
 by_one x y p q ne = elim (cases_eq x (y + 1)) [
@@ -78,20 +77,16 @@ by_one x y p q ne = elim (cases_eq x (y + 1)) [
 pub parts-first : (sets : List SetOf) (asks : List ℕ → Bool) (x y e : List ℕ) (c : Coord) → Parts sets asks x y c → IsMember sets e → asks e ≡ true
     → ((k : Coord) → k ≢ c → device_number e k ≡ device_number x k) → Parts sets asks e y c
 parts-first sets asks x y e c parts member answer others = record {
-  yes_member = member;
-  no_member = parts.no_member;
-  yes_answer = answer;
-  no_answer = parts.no_answer;
+  yes = record { member = member; answers = answer };
+  no = parts.no;
   others = λ k ne. others k ne ∙ parts.others k ne;
 }
 
 pub parts-no : (sets : List SetOf) (asks : List ℕ → Bool) (x y e : List ℕ) (c : Coord) → Parts sets asks x y c → IsMember sets e → asks e ≡ false
     → ((k : Coord) → k ≢ c → device_number e k ≡ device_number x k) → Parts sets asks x e c
 parts-no sets asks x y e c parts member answer others = record {
-  yes_member = parts.yes_member;
-  no_member = member;
-  yes_answer = parts.yes_answer;
-  no_answer = answer;
+  yes = parts.yes;
+  no = record { member = member; answers = answer };
   others = λ k ne. sym (others k ne);
 }
 

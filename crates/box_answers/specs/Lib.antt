@@ -1,9 +1,11 @@
 pub mod NumberSet
 pub mod Members
+pub mod SearchedSet
 pub mod TriedNumbers
 pub mod Changes
 pub mod Question
 pub mod RuleSearch
+pub mod Settled
 pub mod Sameness
 pub mod Facts
 pub mod Unfolded

@@ -30,13 +30,17 @@ IsOfKind c set = Unit {0}
 abbrev pub most_values : ℕ
 most_values = 512
 
--- a set for each coordinate, none of them empty, of numbers that a device can have there
+-- what a box has at a coordinate: numbers that a device can have there, one at least
+pub record IsSetAt (c : coord.Coord) (set : SetOf) : Type 0 where
+  pub proper : IsProper set
+  pub kind : IsOfKind c set
+  pub few : length (listed set) ≤ most_values
+  pub can : (n : ℕ) → IsIn set n → CanHave c n
+
+-- a set for each coordinate
 pub record IsBox (sets : List SetOf) : Type 0 where
   pub count : length sets ≡ 25
-  pub proper : (c : coord.Coord) → IsProper (set_at sets c)
-  pub kinds : (c : coord.Coord) → IsOfKind c (set_at sets c)
-  pub few : (c : coord.Coord) → length (listed (set_at sets c)) ≤ most_values
-  pub can : (c : coord.Coord) (n : ℕ) → IsIn (set_at sets c) n → CanHave c n
+  pub each : (c : coord.Coord) → IsSetAt c (set_at sets c)
 
 -- the member that has the least number of each set
 abbrev pub IsCorner : List SetOf → List ℕ → Type 0

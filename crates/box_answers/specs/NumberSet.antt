@@ -49,7 +49,3 @@ pub record IsProper (set : SetOf) : Type 0 where
 pub record IsLeastIn (set : SetOf) (n : ℕ) : Type 0 where
   pub is_in : IsIn set n
   pub below : (m : ℕ) → IsIn set m → n ≤ m
-
-pub record IsGreatestIn (set : SetOf) (n : ℕ) : Type 0 where
-  pub is_in : IsIn set n
-  pub above : (m : ℕ) → IsIn set m → m ≤ n

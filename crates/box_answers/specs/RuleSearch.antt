@@ -1,5 +1,5 @@
 -- The search for a member of which one rule says something.
-use Rattle.std.specs.Prelude.{◌≡◌, ℕ, List, [], ◌∷◌}
+use Rattle.std.specs.Prelude.{ℕ, List, [], ◌∷◌}
 use Rattle.config_precedence.specs.config_record.Record.{record_bytes}
 use Rattle.config_precedence.specs.config_record.ComparedNumber.{record_number, device_number}
 use Rattle.config_precedence.specs.config_record.DeviceSeen.{device_numbers}

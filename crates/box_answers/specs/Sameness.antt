@@ -1,19 +1,18 @@
 -- Is a question answered alike by all members of a box? If not, by which two that stand side by side?
-use Rattle.std.specs.Prelude.{◌≡◌, ◌≢◌, ℕ, ◌+◌, ◌≤◌, min, max, ◌⊎◌, Bool, true, false, List}
+use Rattle.std.specs.Prelude.{◌≡◌, ◌≢◌, ℕ, ◌+◌, ◌⊎◌, Bool, true, false, List}
 use Rattle.config_precedence.specs.config_record.declared.coord.Coord.{Coord}
 use Rattle.config_precedence.specs.config_record.ComparedNumber.{device_number}
 use Rattle.config_precedence.specs.config_record.DeviceSeen.{device_numbers}
 use Rattle.box_answers.specs.declared.sameness.Sameness.{Sameness}
 use Rattle.box_answers.specs.declared.sameness.Sameness.TheVariants.{Always, Never, Mixed}
-use Rattle.box_answers.specs.NumberSet.{SetOf, RangeOf, IsIn}
+use Rattle.box_answers.specs.NumberSet.{SetOf, RangeOf}
 use Rattle.box_answers.specs.Members.{set_at, IsMember}
+use Rattle.box_answers.specs.Settled.{AllAnswer, IsOneThatAnswers}
 
 -- two members that differ in this coordinate alone, of which the first answers yes and the second no
 pub record Parts (sets : List SetOf) (asks : List ℕ → Bool) (x y : List ℕ) (c : Coord) : Type 0 where
-  pub yes_member : IsMember sets x
-  pub no_member : IsMember sets y
-  pub yes_answer : asks x ≡ true
-  pub no_answer : asks y ≡ false
+  pub yes : IsOneThatAnswers (IsMember sets) asks true x
+  pub no : IsOneThatAnswers (IsMember sets) asks false y
   pub others : (k : Coord) → k ≢ c → device_number x k ≡ device_number y k
 
 abbrev pub DifferByOne : ℕ → ℕ → Type 0
@@ -24,16 +23,12 @@ abbrev pub AreNeighbours : SetOf → ℕ → ℕ → Type 0
 AreNeighbours (RangeOf low high) x y = DifferByOne x y
 AreNeighbours set x y = Unit {0}
 
--- what lies between two numbers of the set is one of it
-abbrev pub IsConvex : SetOf → Type 0
-IsConvex set = (m n k : ℕ) → IsIn set m → IsIn set n → min m n ≤ k → k ≤ max m n → IsIn set k
-
 pub record Separates (sets : List SetOf) (asks : List ℕ → Bool) (x y : List ℕ) (c : Coord) : Type 0 where
   pub parts : Parts sets asks x y c
   pub near : AreNeighbours (set_at sets c) (device_number x c) (device_number y c)
 
 -- always: all members answer yes; never: all answer no; mixed: two members, as above
 abbrev pub IsExact : Sameness → List SetOf → (List ℕ → Bool) → Type 0
-IsExact Always sets asks = (d : List ℕ) → IsMember sets d → asks d ≡ true
-IsExact Never sets asks = (d : List ℕ) → IsMember sets d → asks d ≡ false
+IsExact Always sets asks = AllAnswer (IsMember sets) asks true
+IsExact Never sets asks = AllAnswer (IsMember sets) asks false
 IsExact (Mixed x y c) sets asks = Separates sets asks (device_numbers x) (device_numbers y) c

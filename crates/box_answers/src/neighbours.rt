@@ -7,7 +7,9 @@ ghost use Rattle.config_precedence.specs.config_record.DeviceSeen.{device_number
 ghost use Rattle.box_answers.specs.NumberSet.{IsIn};
 ghost use Rattle.box_answers.specs.Members.{sets_of, set_at, IsMember, IsBox};
 ghost use Rattle.box_answers.specs.Question.{answered};
-ghost use Rattle.box_answers.specs.Sameness.{Parts, DifferByOne, IsConvex, Separates};
+ghost use Rattle.box_answers.specs.Settled.{IsOneThatAnswers};
+ghost use Rattle.box_answers.specs.Sameness.{Parts, DifferByOne, Separates};
+ghost use Rattle.box_answers.specs.SearchedSet.{IsConvex};
 
 use crate::member_pair::MemberPair;
 use crate::members::set_at;
@@ -25,10 +27,8 @@ pub(crate) fn neighbours(
     no: &Device,
 ) -> MemberPair
     requires sets { IsBox (sets_of sets.now) }
-    requires yes_member { IsMember (sets_of sets.now) (device_numbers yes.now) }
-    requires no_member { IsMember (sets_of sets.now) (device_numbers no.now) }
-    requires yes_answer { answered question.now (device_numbers yes.now) ≡ true }
-    requires no_answer { answered question.now (device_numbers no.now) ≡ false }
+    requires yes { IsOneThatAnswers (IsMember (sets_of sets.now)) (answered question.now) true (device_numbers yes.now) }
+    requires no { IsOneThatAnswers (IsMember (sets_of sets.now)) (answered question.now) false (device_numbers no.now) }
     ensures { Separates (sets_of sets.now) (answered question.now) (device_numbers result.yes) (device_numbers result.no) result.coord }
 {
     neighbours_among(sets, question, yes, no, &Coord::ALL)
@@ -42,10 +42,8 @@ fn neighbours_among(
     coords: &[Coord],
 ) -> MemberPair
     requires sets { IsBox (sets_of sets.now) }
-    requires yes_member { IsMember (sets_of sets.now) (device_numbers yes.now) }
-    requires no_member { IsMember (sets_of sets.now) (device_numbers no.now) }
-    requires yes_answer { answered question.now (device_numbers yes.now) ≡ true }
-    requires no_answer { answered question.now (device_numbers no.now) ≡ false }
+    requires yes { IsOneThatAnswers (IsMember (sets_of sets.now)) (answered question.now) true (device_numbers yes.now) }
+    requires no { IsOneThatAnswers (IsMember (sets_of sets.now)) (answered question.now) false (device_numbers no.now) }
     requires coords { coords.now ≡ all_coords }
     ensures { Separates (sets_of sets.now) (answered question.now) (device_numbers result.yes) (device_numbers result.no) result.coord }
 {

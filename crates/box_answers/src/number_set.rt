@@ -2,7 +2,8 @@
 
 ghost use Rattle.std.specs.Prelude.{◌≡◌, ◌<◌, ◌↔◌, ◌==◌, IsTrue, length, slice_index};
 ghost use Rattle.std.specs.List.{list_any};
-ghost use Rattle.box_answers.specs.NumberSet.{set_of, locale_numbers, IsIn, listed, IsProper, IsLeastIn, IsGreatestIn};
+ghost use Rattle.box_answers.specs.NumberSet.{set_of, locale_numbers, IsIn, listed, IsProper, IsLeastIn};
+ghost use Rattle.box_answers.specs.SearchedSet.{IsGreatestIn};
 
 use config_precedence::Locale;
 use std::rc::Rc;

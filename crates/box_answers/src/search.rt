@@ -8,6 +8,7 @@ ghost use Rattle.config_precedence.specs.config_rules.declared.answer.Answer.The
 ghost use Rattle.config_precedence.specs.config_rules.Reads.{AreReadInOrder};
 ghost use Rattle.box_answers.specs.Members.{sets_of, IsMember, IsBox};
 ghost use Rattle.box_answers.specs.Question.{says_yes, table_says, answered};
+ghost use Rattle.box_answers.specs.Settled.{IsOneThatAnswers};
 ghost use Rattle.box_answers.specs.Facts.{OneFails};
 
 use crate::members::corner;
@@ -21,7 +22,7 @@ use config_precedence::{Answer, Device};
 pub(crate) fn member_where(sets: &[NumberSet], question: &Question, wanted: bool) -> Option<Device>
     requires sets { IsBox (sets_of sets.now) }
     requires in_order { AreReadInOrder question.now.rules.now }
-    ensures found { IfSome result (λ device. IsMember (sets_of sets.now) (device_numbers device) × (answered question.now (device_numbers device) ≡ wanted)) }
+    ensures found { IfSome result (λ device. IsOneThatAnswers (IsMember (sets_of sets.now)) (answered question.now) wanted (device_numbers device)) }
     ensures none { IfNone result ((d : List ℕ) → IsMember (sets_of sets.now) d → answered question.now d ≢ wanted) }
     ensures fails { IfNone result (says_yes question.now.asked Pass ≡ wanted → OneFails (sets_of sets.now) question.now.rules.now
         (record_number (record_bytes question.now.a)) (record_number (record_bytes question.now.b))) }
@@ -44,7 +45,7 @@ fn member_if(
 ) -> Option<Device>
     requires sets { IsBox (sets_of sets.now) }
     requires in_order { AreReadInOrder question.now.rules.now }
-    ensures found { IfSome result (λ device. IsMember (sets_of sets.now) (device_numbers device) × (answered question.now (device_numbers device) ≡ wanted)) }
+    ensures found { IfSome result (λ device. IsOneThatAnswers (IsMember (sets_of sets.now)) (answered question.now) wanted (device_numbers device)) }
     ensures none { IfNone result ((d : List ℕ) → IsMember (sets_of sets.now) d → table_says question.now d ≡ answer → answered question.now d ≢ wanted) }
     ensures fails { IfNone result (says_yes question.now.asked answer ≡ wanted → answer ≡ Pass → OneFails (sets_of sets.now) question.now.rules.now
         (record_number (record_bytes question.now.a)) (record_number (record_bytes question.now.b))) }

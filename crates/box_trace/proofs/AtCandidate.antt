@@ -10,7 +10,8 @@ use Rattle.reference_resolver.specs.declared.step.Step.{Step}
 use Rattle.reference_resolver.specs.declared.step.Step.TheVariants.{NoMatch, KeptOut, TookOver}
 use Rattle.reference_resolver.specs.Selection.{beats_best, step_of}
 use Rattle.box_trace.specs.Division.{has_matched, has_taken_over, DividesAt}
-use Rattle.box_trace.specs.Live.{AllMatch}
+use Rattle.config_box.specs.box_answers.Settled.{AllAnswer}
+use Rattle.box_trace.specs.Live.{matches}
 
 matched_by : (matches beaten : Bool) → has_matched (if matches then (if beaten then TookOver else KeptOut) else NoMatch) ≡ matches
 matched_by true true = refl
@@ -43,13 +44,13 @@ no_match false beaten e = refl
 no_match true beaten e = absurd (cc)
 
 -- one that matches no member does nothing
-pub does_nothing : (members : List ℕ → Type 0) (best : Option CandOf) (candidate : CandOf) → AllMatch members candidate false → (d : List ℕ) → members d → step_of best candidate d ≡ NoMatch
+pub does_nothing : (members : List ℕ → Type 0) (best : Option CandOf) (candidate : CandOf) → AllAnswer members (matches candidate) false → (d : List ℕ) → members d → step_of best candidate d ≡ NoMatch
 does_nothing members best candidate none d m = no_match (is_match candidate.row.config d) (beats_best best candidate d) (none d m)
 
 -- it matches some and not others
 pub divides_matching : (sets : List SetOf) (best : Option CandOf) (candidate : CandOf) (x y : List ℕ) (c : Coord) → Separates sets (is_match candidate.row.config) x y c → DividesAt (IsMember sets) (step_of best candidate) x y
 divides_matching sets best candidate x y c s =
-    inl (matched best candidate x ∙ s.parts.yes_answer, no_match (is_match candidate.row.config y) (beats_best best candidate y) s.parts.no_answer)
+    inl (matched best candidate x ∙ s.parts.yes.answers, no_match (is_match candidate.row.config y) (beats_best best candidate y) s.parts.no.answers)
 
 -- it matches all, and takes over at some alone
 pub divides_taking : (sets : List SetOf) (best : Option CandOf) (candidate : CandOf) (x y : List ℕ) (c : Coord) → ((d : List ℕ) → IsMember sets d → IsTrue (is_match candidate.row.config d))
@@ -57,6 +58,6 @@ pub divides_taking : (sets : List SetOf) (best : Option CandOf) (candidate : Can
 divides_taking sets best candidate x y c all s =
     inr (
       λ d m. matched best candidate d ∙ all d m,
-      took_over (is_match candidate.row.config x) (beats_best best candidate x) (all x s.parts.yes_member) s.parts.yes_answer,
-      kept_out (is_match candidate.row.config y) (beats_best best candidate y) (all y s.parts.no_member) s.parts.no_answer,
+      took_over (is_match candidate.row.config x) (beats_best best candidate x) (all x s.parts.yes.member) s.parts.yes.answers,
+      kept_out (is_match candidate.row.config y) (beats_best best candidate y) (all y s.parts.no.member) s.parts.no.answers,
     )

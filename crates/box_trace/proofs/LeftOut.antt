@@ -1,7 +1,8 @@
 -- Candidates that are left out of a list.
 use Rattle.std.proofs.Common.{◌≡◌, ℕ, false, List, [], ◌∷◌, ◌++◌, inl, inr, sym, ◌∙◌, refl, subst}
 use Rattle.reference_resolver.specs.overlay_map.Candidates.{CandOf}
-use Rattle.box_trace.specs.Live.{AllMatch, LeavesOut}
+use Rattle.config_box.specs.box_answers.Settled.{AllAnswer}
+use Rattle.box_trace.specs.Live.{matches, LeavesOut}
 
 pub none_left_out : (members : List ℕ → Type 0) (candidates : List CandOf) → LeavesOut members candidates candidates
 none_left_out members [] = tt
@@ -16,7 +17,7 @@ left_out_fewer members fewer into (c ∷ all) (k ∷ left) (inl l) = inl ((λ d 
 left_out_fewer members fewer into (c ∷ all) (k ∷ left) (inr l) = inr (l.0, left_out_fewer members fewer into all left l.1)
 
 -- one candidate more is left out
-pub leave_last : (members : List ℕ → Type 0) (all left : List CandOf) (c : CandOf) → AllMatch members c false → LeavesOut members all left → LeavesOut members (all ++ c ∷ []) left
+pub leave_last : (members : List ℕ → Type 0) (all left : List CandOf) (c : CandOf) → AllAnswer members (matches c) false → LeavesOut members all left → LeavesOut members (all ++ c ∷ []) left
 leave_last members [] [] c none l = (none, tt)
 leave_last members [] (k ∷ left) c none l = absurd (l)
 leave_last members (b ∷ all) [] c none l = (l.0, leave_last members all [] c none l.1)
@@ -38,7 +39,7 @@ left_out_over members [] (b ∷ some) few l r = absurd (l)
 left_out_over members (a ∷ all) [] [] l r = (l.0, left_out_over members all [] [] l.1 r)
 left_out_over members (a ∷ all) [] (k ∷ few) l r = absurd (r)
 left_out_over members (a ∷ all) (b ∷ some) [] (inl l) r = (l.0, left_out_over members all (b ∷ some) [] l.1 r)
-left_out_over members (a ∷ all) (b ∷ some) [] (inr l) r = (subst (λ (c : CandOf). AllMatch members c false) (sym l.0) r.0, left_out_over members all some [] l.1 r.1)
+left_out_over members (a ∷ all) (b ∷ some) [] (inr l) r = (subst (λ (c : CandOf). AllAnswer members (matches c) false) (sym l.0) r.0, left_out_over members all some [] l.1 r.1)
 left_out_over members (a ∷ all) (b ∷ some) (k ∷ few) (inl l) r = inl (l.0, left_out_over members all (b ∷ some) (k ∷ few) l.1 r)
-left_out_over members (a ∷ all) (b ∷ some) (k ∷ few) (inr l) (inl r) = inl (subst (λ (c : CandOf). AllMatch members c false) (sym l.0) r.0, left_out_over members all some (k ∷ few) l.1 r.1)
+left_out_over members (a ∷ all) (b ∷ some) (k ∷ few) (inr l) (inl r) = inl (subst (λ (c : CandOf). AllAnswer members (matches c) false) (sym l.0) r.0, left_out_over members all some (k ∷ few) l.1 r.1)
 left_out_over members (a ∷ all) (b ∷ some) (k ∷ few) (inr l) (inr r) = inr (l.0 ∙ r.0, left_out_over members all some few l.1 r.1)

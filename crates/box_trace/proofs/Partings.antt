@@ -23,16 +23,14 @@ use Rattle.box_trace.proofs.Rests.{rest_first, rest_same}
 -- ---- the two
 
 pub beside : (sets : List SetOf) (answer : List ℕ → Bool) (x y : List ℕ) (c : Coord) → Separates sets answer x y c → AreSideBySide sets x y c
-beside sets answer x y c s = record { x_member = s.parts.yes_member; y_member = s.parts.no_member; others = s.parts.others; near = s.near }
+beside sets answer x y c s = record { x_member = s.parts.yes.member; y_member = s.parts.no.member; others = s.parts.others; near = s.near }
 
 -- another question that members answer in the same way
 pub separates_alike : (sets : List SetOf) (answer other : List ℕ → Bool) (x y : List ℕ) (c : Coord) → ((d : List ℕ) → IsMember sets d → other d ≡ answer d) → Separates sets answer x y c → Separates sets other x y c
 separates_alike sets answer other x y c alike s = record {
   parts = record {
-    yes_member = s.parts.yes_member;
-    no_member = s.parts.no_member;
-    yes_answer = alike x s.parts.yes_member ∙ s.parts.yes_answer;
-    no_answer = alike y s.parts.no_member ∙ s.parts.no_answer;
+    yes = record { member = s.parts.yes.member; answers = alike x s.parts.yes.member ∙ s.parts.yes.answers };
+    no = record { member = s.parts.no.member; answers = alike y s.parts.no.member ∙ s.parts.no.answers };
     others = s.parts.others;
   };
   near = s.near;

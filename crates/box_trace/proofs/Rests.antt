@@ -17,7 +17,8 @@ use Rattle.reference_resolver.specs.Trace.{Trace, scan_look_up, trace_of}
 use Rattle.reference_resolver.proofs.Chains.{ends_within, goes_on_within}
 use Rattle.box_trace.specs.Walk.{behind, rest_by, rest_at, HaveCome}
 use Rattle.box_trace.specs.CommonTrace.{SharesTrace}
-use Rattle.box_trace.specs.Live.{AllMatch, LeavesOut}
+use Rattle.config_box.specs.box_answers.Settled.{AllAnswer}
+use Rattle.box_trace.specs.Live.{matches, LeavesOut}
 use Rattle.box_trace.proofs.AtCandidate.{does_nothing}
 
 -- ---- traces with steps before them
@@ -87,7 +88,7 @@ come_past members stack trace id left best candidate ahead step come does =
       same = λ d m. one_step stack id left best candidate ahead step d (does d m);
     })
 
-come_past_other : (members : List ℕ → Type 0) (stack : List LayerOf) (trace : List ℕ → Trace) (id left : ℕ) (best : Option CandOf) (candidate : CandOf) (ahead : List CandOf) → AllMatch members candidate false
+come_past_other : (members : List ℕ → Type 0) (stack : List LayerOf) (trace : List ℕ → Trace) (id left : ℕ) (best : Option CandOf) (candidate : CandOf) (ahead : List CandOf) → AllAnswer members (matches candidate) false
     → HaveCome members trace (rest_at stack id left best (candidate ∷ ahead)) → HaveCome members trace (rest_at stack id left best ahead)
 come_past_other members stack trace id left best candidate ahead none come = come_past members stack trace id left best candidate ahead NoMatch come (does_nothing members best candidate none)
 

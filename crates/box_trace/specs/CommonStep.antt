@@ -1,9 +1,10 @@
 -- What do all members of a box do alike at one candidate? (Cited by contracts of this crate alone.)
-use Rattle.std.specs.Prelude.{◌≡◌, ℕ, List, Option}
+use Rattle.std.specs.Prelude.{◌≡◌, List, Option}
 use Rattle.std.specs.Option.{option_map}
 use Rattle.reference_resolver.specs.config_record.DeviceSeen.{device_numbers}
 use Rattle.config_box.specs.box_answers.NumberSet.{SetOf}
 use Rattle.config_box.specs.box_answers.Members.{IsMember}
+use Rattle.config_box.specs.box_answers.Settled.{AllAnswer}
 use Rattle.config_box.specs.box_answers.Sameness.{Separates}
 use Rattle.reference_resolver.specs.overlay_map.Candidates.{CandOf, cand_of}
 use Rattle.reference_resolver.specs.declared.step.Step.{Step}
@@ -24,7 +25,7 @@ pub record PartsAt (sets : List SetOf) (best : Option CandOf) (candidate : CandO
 -- it does the same at all members, and this is the best after it
 pub record StepAlike (sets : List SetOf) (best : Option CandOf) (candidate : CandOf) (after : Option CandOf) : Type 0 where
   pub step : Step
-  pub does : (d : List ℕ) → IsMember sets d → step_of best candidate d ≡ step
+  pub does : AllAnswer (IsMember sets) (step_of best candidate) step
   pub is_after : after ≡ best_after step best candidate
 
 -- one candidate more, where this is the best before it

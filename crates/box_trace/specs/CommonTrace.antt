@@ -6,6 +6,7 @@ use Rattle.reference_resolver.specs.config_record.ComparedNumber.{device_number}
 use Rattle.reference_resolver.specs.config_record.DeviceSeen.{device_numbers}
 use Rattle.config_box.specs.box_answers.NumberSet.{SetOf}
 use Rattle.config_box.specs.box_answers.Members.{set_at, IsMember}
+use Rattle.config_box.specs.box_answers.Settled.{AllAnswer}
 use Rattle.config_box.specs.box_answers.Sameness.{AreNeighbours}
 use Rattle.reference_resolver.specs.declared.step.Step.{Step}
 use Rattle.reference_resolver.specs.Trace.{Trace}
@@ -16,7 +17,7 @@ use Rattle.box_trace.specs.Parting.{IsParting}
 
 -- every member has this trace
 abbrev pub SharesTrace : (List ℕ → Type 0) → (List ℕ → Trace) → Trace → Type 0
-SharesTrace members trace t = (d : List ℕ) → members d → trace d ≡ t
+SharesTrace members trace t = AllAnswer members trace t
 
 -- two members of a box that differ in this coordinate alone, and by one where it is a range
 pub record AreSideBySide (sets : List SetOf) (x y : List ℕ) (c : Coord) : Type 0 where

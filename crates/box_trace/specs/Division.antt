@@ -2,6 +2,7 @@
 -- does, whether it takes over from the best before it. Members are the devices of which a predicate holds, such as those of
 -- a box.
 use Rattle.std.specs.Prelude.{◌≡◌, ◌⊎◌, ℕ, Bool, true, false, IsTrue, List, ◌∷◌, ◌++◌}
+use Rattle.config_box.specs.box_answers.Settled.{AllAnswer}
 use Rattle.reference_resolver.specs.declared.step.Step.{Step}
 use Rattle.reference_resolver.specs.declared.step.Step.TheVariants.{NoMatch, KeptOut, TookOver}
 
@@ -23,7 +24,7 @@ has_taken_over TookOver = true
 abbrev pub DividesAt : (List ℕ → Type 0) → (List ℕ → Step) → List ℕ → List ℕ → Type 0
 DividesAt members step x y =
     (IsTrue (has_matched (step x)) × (step y ≡ NoMatch))
-    ⊎ (((d : List ℕ) → members d → IsTrue (has_matched (step d))) × (step x ≡ TookOver) × (step y ≡ KeptOut))
+    ⊎ (AllAnswer members (λ d. has_matched (step d)) true × (step x ≡ TookOver) × (step y ≡ KeptOut))
 
 -- All members come to a candidate by the same steps, and it divides the two.
 pub record Divides (members : List ℕ → Type 0) (steps : List ℕ → List Step) (x y : List ℕ) : Type 0 where

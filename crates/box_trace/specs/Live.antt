@@ -1,6 +1,7 @@
 -- Which candidates of a look-up concern the members of a box?
 use Rattle.std.specs.Prelude.{◌≡◌, ◌⊎◌, ◌↔◌, ℕ, Bool, true, false, IsTrue, List, [], ◌∷◌, map}
 use Rattle.std.specs.List.{All}
+use Rattle.config_box.specs.box_answers.Settled.{AllAnswer, SomeAnswers}
 use Rattle.reference_resolver.specs.config_match.Matching.{is_match}
 use Rattle.reference_resolver.specs.overlay_map.declared.candidate.Cand.{Cand}
 use Rattle.reference_resolver.specs.overlay_map.Candidates.{CandOf, cand_of}
@@ -16,33 +17,27 @@ live_of live = record { candidate = cand_of live.0; marked = live.1 }
 abbrev pub listed : List LiveOf → List CandOf
 listed live = map (λ l. l.candidate) live
 
--- all members answer so, when they are asked whether a candidate matches
-abbrev pub AllMatch : (List ℕ → Type 0) → CandOf → Bool → Type 0
-AllMatch members candidate answer = (d : List ℕ) → members d → is_match candidate.row.config d ≡ answer
-
--- it matches one of them
-pub record SomeMatch (members : List ℕ → Type 0) (candidate : CandOf) : Type 0 where
-  pub device : List ℕ
-  pub member : members device
-  pub matches : is_match candidate.row.config device ≡ true
+-- whether it matches a device
+abbrev pub matches : CandOf → List ℕ → Bool
+matches candidate d = is_match candidate.row.config d
 
 -- These are left of candidates, in their order, where some are left out that match no member.
 abbrev pub LeavesOut : (List ℕ → Type 0) → List CandOf → List CandOf → Type 0
 LeavesOut members [] [] = Unit {0}
 LeavesOut members [] (other ∷ left) = ⊥
-LeavesOut members (candidate ∷ candidates) [] = AllMatch members candidate false × LeavesOut members candidates []
+LeavesOut members (candidate ∷ candidates) [] = AllAnswer members (matches candidate) false × LeavesOut members candidates []
 LeavesOut members (candidate ∷ candidates) (other ∷ left) =
-    (AllMatch members candidate false × LeavesOut members candidates (other ∷ left)) ⊎ ((candidate ≡ other) × LeavesOut members candidates left)
+    (AllAnswer members (matches candidate) false × LeavesOut members candidates (other ∷ left)) ⊎ ((candidate ≡ other) × LeavesOut members candidates left)
 
 -- those that are marked match all members
 abbrev pub AreMarked : (List ℕ → Type 0) → List LiveOf → Type 0
-AreMarked members live = All (λ l. IsTrue l.marked → AllMatch members l.candidate true) live
+AreMarked members live = All (λ l. IsTrue l.marked → AllAnswer members (matches l.candidate) true) live
 
 -- this stands for a candidate that matches some member, marked just where it matches all
 pub record IsLive (members : List ℕ → Type 0) (candidate : CandOf) (live : LiveOf) : Type 0 where
   pub same : live.candidate ≡ candidate
-  pub some : SomeMatch members candidate
-  pub mark : IsTrue live.marked ↔ AllMatch members candidate true
+  pub some : SomeAnswers members (matches candidate) true
+  pub mark : IsTrue live.marked ↔ AllAnswer members (matches candidate) true
 
 -- of these candidates those that match some member, in their order, each marked just where it matches all
 pub record AreLive (members : List ℕ → Type 0) (candidates : List CandOf) (live : List LiveOf) : Type 0 where

@@ -1,9 +1,10 @@
 //! The candidates of an id that members of a box match.
 
-ghost use Rattle.std.specs.Prelude.{◌≡◌, IsTrue, IfOk, MatchOption, map};
+ghost use Rattle.std.specs.Prelude.{true, false, IsTrue, MatchOption};
 ghost use Rattle.config_box.specs.box_answers.Members.{IsMember};
-ghost use Rattle.reference_resolver.specs.overlay_map.Candidates.{cand_of, candidates_of};
-ghost use Rattle.box_trace.specs.Live.{live_of, listed, AllMatch, IsLive, AreMarked, AreLive};
+ghost use Rattle.config_box.specs.box_answers.Settled.{AllAnswer};
+ghost use Rattle.reference_resolver.specs.overlay_map.Candidates.{cand_of};
+ghost use Rattle.box_trace.specs.Live.{live_of, matches, IsLive};
 
 use config_box::{ConfigBox, OutOfMemory, Sameness};
 use reference_resolver::{Cand, ResId, Stack};
@@ -85,7 +86,7 @@ impl<'a> Live<'a> {
 
 /// A candidate that some member matches, marked where all do.
 fn judged<'a>(candidate: Cand<'a>, members: &ConfigBox) -> Option<(Cand<'a>, bool)>
-    ensures { MatchOption result (AllMatch (IsMember members.now) (cand_of candidate) false) (λ live. IsLive (IsMember members.now) (cand_of candidate) (live_of live)) }
+    ensures { MatchOption result (AllAnswer (IsMember members.now) (matches (cand_of candidate.entry)) false) (λ live. IsLive (IsMember members.now) (cand_of candidate.entry) (live_of live)) }
 {
     match members.match_all(&candidate.row.config) {
         Sameness::Always => Some((candidate, true)),
@@ -96,8 +97,8 @@ fn judged<'a>(candidate: Cand<'a>, members: &ConfigBox) -> Option<(Cand<'a>, boo
 
 /// The same of one that may be marked.
 fn judged_again<'a>(live: (Cand<'a>, bool), members: &ConfigBox) -> Option<(Cand<'a>, bool)>
-    requires { IsTrue live.1 → AllMatch (IsMember members.now) (cand_of live.0) true }
-    ensures { MatchOption result (AllMatch (IsMember members.now) (cand_of live.0) false) (λ again. IsLive (IsMember members.now) (cand_of live.0) (live_of again)) }
+    requires { IsTrue live.1 → AllAnswer (IsMember members.now) (matches (cand_of live.0)) true }
+    ensures { MatchOption result (AllAnswer (IsMember members.now) (matches (cand_of live.entry.0)) false) (λ again. IsLive (IsMember members.now) (cand_of live.entry.0) (live_of again)) }
 {
     if live.1 {
         Some(live)

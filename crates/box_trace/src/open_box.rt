@@ -14,7 +14,7 @@ pub struct OpenBox<'a> {
     pub members: ConfigBox,
     pub(crate) walk: Walk<'a>,
     /// Whether the candidates of its walk are judged anew before it goes on. No promise depends on it.
-    is_narrow: bool,
+    is_stale: bool,
     ghost marked: { AreMarked (IsMember members) walk.live.value },
 }
 
@@ -44,21 +44,21 @@ impl<'a> OpenBox<'a> {
         Ok(OpenBox {
             members,
             walk,
-            is_narrow: false,
+            is_stale: false,
         })
     }
 
-    /// A part of it, which goes on where the whole stopped. It differs at this coordinate.
-    pub fn part(&self, members: ConfigBox, at: Coord) -> Result<OpenBox<'a>, OutOfMemory>
+    /// A part of it, which goes on where the whole stopped. The two differ at this coordinate alone.
+    pub fn narrowed(&self, members: ConfigBox, at: Coord) -> Result<OpenBox<'a>, OutOfMemory>
         requires { (d : List ℕ) → IsMember members d → IsMember self.now.members d }
         ensures members { IfOk result (λ part. part.members ≡ members) }
         ensures reached { IfOk result (λ part. (stack : List LayerOf) (trace : List ℕ → Trace) → IsReached stack trace self.now → IsReached stack trace part) }
     {
-        let is_narrow = is_narrow(&self.members, &members, at);
+        let is_stale = is_much_smaller(&members, &self.members, at);
         Ok(OpenBox {
             members,
             walk: self.walk.shared()?,
-            is_narrow,
+            is_stale,
         })
     }
 
@@ -69,17 +69,17 @@ impl<'a> OpenBox<'a> {
         ensures common { IfOk result (λ common. (trace : List ℕ → Trace) → IsReached stack.now trace self.old → IsCommonTrace common self.new.members trace) }
         ensures parted { IfOk result (λ common. (trace : List ℕ → Trace) → IsReached stack.now trace self.old → IsParted common self.new.members trace) }
     {
-        if self.is_narrow {
+        if self.is_stale {
             self.walk = self.walk.judged(alloc, &self.members)?;
-            self.is_narrow = false;
+            self.is_stale = false;
         }
         self.walk.go_on(alloc, stack, &self.members)
     }
 }
 
-/// Whether a part of a box has at most half of the values at a coordinate. Candidates are judged anew where it does:
-/// so a chain that takes off value by value does not ask all of them each time.
-fn is_narrow(whole: &ConfigBox, part: &ConfigBox, at: Coord) -> bool {
+/// Whether a part of a box has at most half of its values at a coordinate. Candidates are judged anew only then: a chain
+/// that takes off value by value does not ask all of them each time.
+fn is_much_smaller(part: &ConfigBox, whole: &ConfigBox, at: Coord) -> bool {
     count(&part.values(at)) <= count(&whole.values(at)) / 2
 }
 

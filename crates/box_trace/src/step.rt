@@ -1,13 +1,13 @@
 //! One candidate more, for all members of a box.
 
-ghost use Rattle.std.specs.Prelude.{ℕ, List, IsTrue};
+ghost use Rattle.std.specs.Prelude.{true, IsTrue};
 ghost use Rattle.std.specs.Option.{option_map};
-ghost use Rattle.reference_resolver.specs.config_match.Matching.{is_match};
 ghost use Rattle.config_box.specs.box_answers.Members.{IsMember};
+ghost use Rattle.config_box.specs.box_answers.Settled.{AllAnswer};
 ghost use Rattle.config_box.specs.box_answers.Sameness.{IsExact};
 ghost use Rattle.reference_resolver.specs.overlay_map.Candidates.{cand_of};
 ghost use Rattle.reference_resolver.specs.Selection.{beats, beats_best};
-ghost use Rattle.box_trace.specs.Live.{AllMatch};
+ghost use Rattle.box_trace.specs.Live.{matches};
 ghost use Rattle.box_trace.specs.CommonStep.{IsCommonStep};
 
 use crate::common::CommonStep;
@@ -21,8 +21,8 @@ pub(crate) fn best_after<'a>(
     live: (Cand<'a>, bool),
     members: &ConfigBox,
 ) -> CommonStep<'a>
-    requires { IsTrue live.1 → AllMatch (IsMember members.now) (cand_of live.0) true }
-    ensures { IsCommonStep result members.now (option_map cand_of best.now) (cand_of live.0) }
+    requires { IsTrue live.1 → AllAnswer (IsMember members.now) (matches (cand_of live.0)) true }
+    ensures { IsCommonStep result members.now (option_map cand_of best.now) (cand_of live.entry.0) }
 {
     let (candidate, is_marked) = live;
     if is_marked {
@@ -46,8 +46,8 @@ fn best_after_match<'a>(
     candidate: Cand<'a>,
     members: &ConfigBox,
 ) -> CommonStep<'a>
-    requires { AllMatch (IsMember members.now) (cand_of candidate) true }
-    ensures { IsCommonStep result members.now (option_map cand_of best.now) (cand_of candidate) }
+    requires { AllAnswer (IsMember members.now) (matches (cand_of candidate)) true }
+    ensures { IsCommonStep result members.now (option_map cand_of best.now) (cand_of candidate.entry) }
 {
     match is_best_beaten(best, &candidate, members) {
         Sameness::Always => CommonStep::One(Some(candidate)),

@@ -1,7 +1,6 @@
 //! A walk along the candidates of an id, and of the ids to which its references lead, for all members of a box.
 
-ghost use Rattle.std.specs.Prelude.{ℕ, List};
-ghost use Rattle.reference_resolver.specs.Trace.{Trace};
+ghost use Rattle.std.specs.Prelude.{◌≤◌, length};
 
 use crate::common::{CommonStep, CommonTrace};
 use crate::live::Live;
@@ -25,6 +24,7 @@ pub(crate) struct Walk<'a> {
     passed: usize,
     /// The best of those.
     best: Option<Cand<'a>>,
+    ghost within: { passed ≤ length live.value },
 }
 
 impl<'a> Walk<'a> {
@@ -60,7 +60,8 @@ impl<'a> Walk<'a> {
 
     /// The same walk. Its list is not copied.
     pub(crate) fn shared(&self) -> Result<Walk<'a>, OutOfMemory>
-        ensures { IfOk result (λ walk. walk ≡ self.now) }
+        ensures walked { IfOk result (λ walk. (stack : List LayerOf) (members : List ℕ → Type 0) (trace : List ℕ → Trace) → HaveWalked stack members trace self.now → HaveWalked stack members trace walk) }
+        ensures live { IfOk result (λ walk. walk.live.value ≡ self.now.live.value) }
     {
         Ok(Walk {
             id: self.id,

@@ -1,32 +1,14 @@
 -- Boxes of open paths.
-use Rattle.std.proofs.Common.{◌≡◌, ℕ, arith, Bool, List, [], ◌∷◌, ◌++◌, map, get_or, reverse, sym, ◌∙◌, ap, subst}
-use Rattle.std.proofs.lemmas.List.{reverse-append, get_or-map}
-use Rattle.box_trace.specs.config_record.Coord.{place_of}
-use Rattle.box_trace.specs.config_record.ComparedNumber.{device_number}
-use Rattle.cert_tree.specs.box_answers.NumberSet.{SetOf, RangeOf, listed, IsLeastIn}
-use Rattle.cert_tree.specs.box_answers.Members.{set_at, IsMember, IsBox, IsCorner}
-use Rattle.cert_tree.proofs.box_answers.Coords.{place_of-below}
-use Rattle.cert_tree.proofs.box_answers.Sets.{least-of}
+use Rattle.std.proofs.Common.{◌≡◌, Bool, List, [], ◌∷◌, ◌++◌, reverse, ◌∙◌, ap, subst}
+use Rattle.std.proofs.lemmas.List.{reverse-append}
+use Rattle.cert_tree.specs.box_answers.NumberSet.{SetOf}
+use Rattle.cert_tree.specs.box_answers.Members.{set_at, IsBox}
 use Rattle.cert_tree.specs.config_box.Halves.{IsHalf}
 use Rattle.cert_tree.specs.config_box.Tests.{TestOf}
 use Rattle.cert_tree.proofs.config_box.HalfSteps.{marks-self}
 use Rattle.cert_checker.specs.Paths.{Path}
 use Rattle.cert_checker.specs.OpenBoxes.{IsBoxAt, Stand}
 use Rattle.cert_checker.proofs.MarkSteps.{alike-next}
-
--- ---- a box has a member
-
-least : SetOf → ℕ
-least set = get_or (listed set) 0 0
-
-corner-of : (sets : List SetOf) → IsBox sets → IsCorner sets (map least sets)
-unfolding least
-corner-of sets b c =
-    let at : device_number (map least sets) c ≡ least (set_at sets c) = get_or-map least sets (place_of c) (RangeOf 0 0) 0 (omega (arith, place_of-below c, b.count)) in
-    subst (λ (n : ℕ). IsLeastIn (set_at sets c) n) (sym at) (least-of (set_at sets c) (b.proper c))
-
-pub some_member : (sets : List SetOf) → IsBox sets → (d : List ℕ) × IsMember sets d
-some_member sets b = (map least sets, λ c. (corner-of sets b c).is_in)
 
 -- ---- the box of a path
 
@@ -37,8 +19,8 @@ pub half : (sets part halved : List SetOf) (path : Path) (test : TestOf) (answer
 half sets part halved path test answer b h = record {
   is_box = h.is_box;
   members = λ d. (
-    (λ m. let r = (h.members d).0 m in let a = (b.members d).0 r.0 in (a.0, (r.1, a.1))),
-    (λ a. (h.members d).1 ((b.members d).1 (a.0, a.1.1), a.1.0)),
+    (λ m. let r = (h.members d).0 m in let a = (b.members d).0 r.member in (a.0, (r.answers, a.1))),
+    (λ a. (h.members d).1 (record { member = (b.members d).1 (a.0, a.1.1); answers = a.1.0 })),
   );
   marks = λ c. alike-next (set_at sets c) (set_at part c) (set_at halved c) (b.marks c) (h.marks c);
 }

@@ -9,6 +9,7 @@ use Rattle.box_trace.specs.reference_resolver.declared.end.End.TheVariants as en
 use Rattle.box_trace.specs.reference_resolver.Trace.{Trace}
 use Rattle.cert_tree.specs.box_answers.NumberSet.{SetOf}
 use Rattle.cert_tree.specs.box_answers.Members.{set_at, IsMember, IsCorner}
+use Rattle.cert_tree.proofs.box_answers.SomeMember.{some_member}
 use Rattle.box_trace.specs.CommonTrace.{SharesTrace, AreSideBySide}
 use Rattle.box_trace.specs.Division.{Divides}
 use Rattle.box_trace.proofs.Divisions.{divides_over}
@@ -22,7 +23,6 @@ use Rattle.cert_checker.specs.Fails.{FailsAtLeaf}
 use Rattle.cert_checker.specs.Shown.{ShowsEnd}
 use Rattle.cert_checker.specs.OpenBoxes.{IsBoxAt, rule_of_end, TakesLeaf}
 use Rattle.cert_checker.proofs.MarkSteps.{alike-near}
-use Rattle.cert_checker.proofs.BoxSteps.{some_member}
 
 -- ---- the rules of leaves
 

@@ -7,8 +7,10 @@ use Rattle.cert_tree.specs.res_value.declared.res_id.ResId.{ResId}
 use Rattle.cert_tree.specs.res_value.declared.value.Value.{Value}
 use Rattle.cert_tree.specs.box_answers.NumberSet.{SetOf}
 use Rattle.cert_tree.specs.box_answers.Members.{IsMember}
-use Rattle.cert_tree.specs.config_box.Tests.{TestOf, has_wrong_kind}
-use Rattle.cert_tree.specs.config_box.Halves.{IsHalf, AllAnswer}
+use Rattle.cert_tree.specs.box_answers.Settled.{AllAnswer}
+use Rattle.cert_tree.proofs.box_answers.SomeMember.{some_member}
+use Rattle.cert_tree.specs.config_box.Tests.{TestOf, answers, has_wrong_kind}
+use Rattle.cert_tree.specs.config_box.Halves.{IsHalf}
 use Rattle.cert_tree.specs.Certificate.{NodeOf, TestAt, ValueAt, BagAt}
 use Rattle.cert_checker.specs.declared.rule.Rule.{Rule}
 use Rattle.cert_checker.specs.declared.rule.Rule.TheVariants.{GoalList, EndsEarly, LeftOver, TestKind, EmptyHalf, MixedTrace, NoValue, OtherValue}
@@ -19,7 +21,7 @@ use Rattle.cert_checker.specs.Paths.{Path, IsAt}
 use Rattle.cert_checker.specs.Fails.{FailsAtTest}
 use Rattle.cert_checker.specs.OpenBoxes.{IsBoxAt, Stand, TakesNode, TakesTest, TakesLeaf}
 use Rattle.cert_checker.proofs.MarkSteps.{alike-kind}
-use Rattle.cert_checker.proofs.BoxSteps.{some_member, half, popped}
+use Rattle.cert_checker.proofs.BoxSteps.{half, popped}
 
 -- ---- a test
 
@@ -47,25 +49,25 @@ wrong_kind part test before after wrong trace sets path paths b stand =
 right_kind : (sets : List SetOf) (path : Path) (part : List SetOf) (test : TestOf) → IsBoxAt sets path part → has_wrong_kind part test ≡ false → FailsAtTest sets (IsAt sets path) test TestKind → ⊥
 right_kind sets path part test b right h = let no : true ≡ false = sym h ∙ kind sets path part test false b right in cc
 
-all : (sets : List SetOf) (path : Path) (part : List SetOf) (test : TestOf) (answer : Bool) → IsBoxAt sets path part → AllAnswer (IsMember part) test answer → AllAnswer (IsAt sets path) test answer
+all : (sets : List SetOf) (path : Path) (part : List SetOf) (test : TestOf) (answer : Bool) → IsBoxAt sets path part → AllAnswer (IsMember part) (answers test) answer → AllAnswer (IsAt sets path) (answers test) answer
 all sets path part test answer b h d a = h d ((b.members d).1 a)
 
-alike : (sets : List SetOf) (path : Path) (part : List SetOf) (test : TestOf) → IsBoxAt sets path part → AllAnswer (IsMember part) test true ⊎ AllAnswer (IsMember part) test false → FailsAtTest sets (IsAt sets path) test EmptyHalf
+alike : (sets : List SetOf) (path : Path) (part : List SetOf) (test : TestOf) → IsBoxAt sets path part → AllAnswer (IsMember part) (answers test) true ⊎ AllAnswer (IsMember part) (answers test) false → FailsAtTest sets (IsAt sets path) test EmptyHalf
 alike sets path part test b (inl h) = inl (all sets path part test true b h)
 alike sets path part test b (inr h) = inr (all sets path part test false b h)
 
-pub empty_half : (part : List SetOf) (test : TestOf) (before after : List (List SetOf)) → has_wrong_kind part test ≡ false → AllAnswer (IsMember part) test true ⊎ AllAnswer (IsMember part) test false
+pub empty_half : (part : List SetOf) (test : TestOf) (before after : List (List SetOf)) → has_wrong_kind part test ≡ false → AllAnswer (IsMember part) (answers test) true ⊎ AllAnswer (IsMember part) (answers test) false
     → TakesTest test part before after (Some (record { rule = EmptyHalf; shown = Nothing }))
 empty_half part test before after right h trace sets path paths b stand =
     ((alike sets path part test b h, test_rules sets (IsAt sets path) test (λ (rule : Rule). number_of rule < 5) (λ p f. right_kind sets path part test b right f) (λ p f. omega arith), refl), tt)
 
 -- a half has a member, so not all answer otherwise
 not_all : (sets : List SetOf) (path : Path) (part halved : List SetOf) (test : TestOf) (answer other : Bool) → answer ≢ other → IsBoxAt sets path part → IsHalf part test answer halved
-    → AllAnswer (IsAt sets path) test other → ⊥
+    → AllAnswer (IsAt sets path) (answers test) other → ⊥
 not_all sets path part halved test answer other ne b h all =
     let m = some_member halved h.is_box in
     let r = (h.members m.0).0 m.1 in
-    ne (sym r.1 ∙ all m.0 ((b.members m.0).0 r.0))
+    ne (sym r.answers ∙ all m.0 ((b.members m.0).0 r.member))
 
 pub halves : (part yes_half no_half : List SetOf) (test : TestOf) (before after : List (List SetOf)) → has_wrong_kind part test ≡ false → IsHalf part test true yes_half → IsHalf part test false no_half
     → reverse after ≡ yes_half ∷ no_half ∷ reverse before → TakesTest test part before after None

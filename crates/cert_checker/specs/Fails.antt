@@ -7,8 +7,8 @@ use Rattle.box_trace.specs.reference_resolver.Ends.{is_value}
 use Rattle.box_trace.specs.reference_resolver.Trace.{Trace}
 use Rattle.cert_tree.specs.box_answers.NumberSet.{SetOf}
 use Rattle.box_trace.specs.CommonTrace.{SharesTrace}
-use Rattle.cert_tree.specs.config_box.Tests.{TestOf, has_wrong_kind}
-use Rattle.cert_tree.specs.config_box.Halves.{AllAnswer}
+use Rattle.cert_tree.specs.box_answers.Settled.{AllAnswer}
+use Rattle.cert_tree.specs.config_box.Tests.{TestOf, answers, has_wrong_kind}
 use Rattle.cert_tree.specs.Certificate.{NodeOf, TestAt, ValueAt, BagAt}
 use Rattle.cert_checker.specs.declared.rule.Rule.{Rule}
 use Rattle.cert_checker.specs.declared.rule.Rule.TheVariants.{EndsEarly, LeftOver, TestKind, EmptyHalf, MixedTrace, NoValue, OtherValue}
@@ -20,7 +20,7 @@ use Rattle.cert_checker.specs.Paths.{Path, IsAt, open_at}
 -- The kind of a test is judged by the whole box: halves keep ranges as ranges and choices as choices.
 abbrev pub FailsAtTest : List SetOf → (List ℕ → Type 0) → TestOf → Rule → Type 0
 FailsAtTest sets members test TestKind = has_wrong_kind sets test ≡ true
-FailsAtTest sets members test EmptyHalf = AllAnswer members test true ⊎ AllAnswer members test false
+FailsAtTest sets members test EmptyHalf = AllAnswer members (answers test) true ⊎ AllAnswer members (answers test) false
 FailsAtTest sets members test rule = ⊥
 
 -- ---- at a leaf that says this end, to which these members come

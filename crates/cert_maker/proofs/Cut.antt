@@ -26,8 +26,8 @@ turned c x y a k other = sym (a k other)
 -- members that answer differently have different traces
 differ : (trace : List ℕ → Trace) (answer : List ℕ → Bool) (sets : List SetOf) (x y : List ℕ) (c : coord.Coord) → Separates sets answer x y c → Settles (IsMember sets) trace answer → trace x ≢ trace y
 differ trace answer sets x y c s settled e =
-    let same = settled x y s.parts.yes_member s.parts.no_member e in
-    let no : true ≡ false = sym s.parts.yes_answer ∙ same ∙ s.parts.no_answer in
+    let same = settled x y s.parts.yes.member s.parts.no.member e in
+    let no : true ≡ false = sym s.parts.yes.answers ∙ same ∙ s.parts.no.answers in
     cc
 
 -- ---- a range
@@ -41,10 +41,8 @@ by-range trace sets x y c m range right mx my differ others ex ey =
       passes = test-passes sets (IsMember sets) (AtMostOf c m) x y right mx my x_is y_is;
       x = x;
       y = y;
-      x_member = mx;
-      y_member = my;
-      x_answers = x_is;
-      y_answers = y_is;
+      yes = record { member = mx; answers = x_is };
+      no = record { member = my; answers = y_is };
       others = others;
       differ = differ;
       near = λ d md above below. omega arith;
@@ -62,8 +60,8 @@ cut-range trace answer sets x y c m s range right e settled =
     let p = s.parts in
     let d = differ trace answer sets x y c s settled in
     elim (near-one (set_at sets c) (device_number x c) (device_number y c) range s.near) [
-      | inl above ↦ by-range trace sets y x c m range right p.no_member p.yes_member (λ q. d (sym q)) (turned c x y p.others) (omega arith) (omega arith)
-      | inr below ↦ by-range trace sets x y c m range right p.yes_member p.no_member d p.others (omega arith) (omega arith)
+      | inl above ↦ by-range trace sets y x c m range right p.no.member p.yes.member (λ q. d (sym q)) (turned c x y p.others) (omega arith) (omega arith)
+      | inr below ↦ by-range trace sets x y c m range right p.yes.member p.no.member d p.others (omega arith) (omega arith)
     ]
 
 -- ---- a choice: all its numbers with which x answers yes
@@ -93,22 +91,20 @@ cut-choice trace answer sets x y c choice by s right lists settled =
     let p = s.parts in
     let of_member : (z : List ℕ) → IsMember sets z → AgreeBut c z x → answers (AmongOf c choice) z ≡ answer z =
     λ z m others. lists (device_number z c) (m c) ∙ sym (on-line answer c x z by others) in
-    let x_is : answers (AmongOf c choice) x ≡ true = of_member x p.yes_member (λ k other. refl) ∙ p.yes_answer in
-    let y_is : answers (AmongOf c choice) y ≡ false = of_member y p.no_member (turned c x y p.others) ∙ p.no_answer in
+    let x_is : answers (AmongOf c choice) x ≡ true = of_member x p.yes.member (λ k other. refl) ∙ p.yes.answers in
+    let y_is : answers (AmongOf c choice) y ≡ false = of_member y p.no.member (turned c x y p.others) ∙ p.no.answers in
     record {
-      passes = test-passes sets (IsMember sets) (AmongOf c choice) x y right p.yes_member p.no_member x_is y_is;
+      passes = test-passes sets (IsMember sets) (AmongOf c choice) x y right p.yes.member p.no.member x_is y_is;
       x = x;
       y = y;
-      x_member = p.yes_member;
-      y_member = p.no_member;
-      x_answers = x_is;
-      y_answers = y_is;
+      yes = record { member = p.yes.member; answers = x_is };
+      no = record { member = p.no.member; answers = y_is };
       others = p.others;
       differ = differ trace answer sets x y c s settled;
       near = tt;
-      parts = λ is_choice alone u v mu mv u_is v_is e.
-          let u_yes : answer u ≡ true = sym (of_member u mu (alone u x mu p.yes_member)) ∙ u_is in
-          let v_no : answer v ≡ false = sym (of_member v mv (alone v x mv p.yes_member)) ∙ v_is in
-          let same = settled u v mu mv e in
+      parts = λ is_choice alone u v u_is v_is e.
+          let u_yes : answer u ≡ true = sym (of_member u u_is.member (alone u x u_is.member p.yes.member)) ∙ u_is.answers in
+          let v_no : answer v ≡ false = sym (of_member v v_is.member (alone v x v_is.member p.yes.member)) ∙ v_is.answers in
+          let same = settled u v u_is.member v_is.member e in
           absurd (cc);
     }

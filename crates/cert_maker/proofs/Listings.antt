@@ -86,8 +86,8 @@ pub can-locales : (sets : List SetOf) (c : coord.Coord) (locales : List Locale) 
 can-locales sets c locales b e k locale q =
     let n = locale_number (get_or locales k locale) in
     let count = length-map locales locale_number in
-    let can = b.can c n (subst (λ (s : SetOf). IsIn s n) e (k, omega (arith, count, q), get_or-map locale_number locales k locale n q)) in
-    subst (λ (k : coord.Coord). CanHave k n) (at-locale sets c (locale_numbers locales) (b.kinds c) (sym e)) can
+    let can = (b.each c).can n (subst (λ (s : SetOf). IsIn s n) e (k, omega (arith, count, q), get_or-map locale_number locales k locale n q)) in
+    subst (λ (k : coord.Coord). CanHave k n) (at-locale sets c (locale_numbers locales) (b.each c).kind (sym e)) can
 
 pub of-some-text : (locale : Locale) → TwoBytes locale.language → TwoBytes locale.region → IsGiven (locale_of_number (locale_number locale)) → IsOfSomeText locale
 of-some-text locale language region is =
@@ -95,9 +95,9 @@ of-some-text locale language region is =
 
 pub numbers-fit : (sets : List SetOf) (c : coord.Coord) (f : ℕ → Bool) (numbers kept : List ℕ) → IsBox sets → NumbersOf numbers ≡ set_at sets c → kept ≡ filter f numbers → ChoiceFits c (seen.NumbersOf kept)
 numbers-fit sets c f numbers kept b e is =
-    let few : length numbers ≤ 512 = subst (λ (s : SetOf). length (listed s) ≤ 512) (sym e) (b.few c) in
+    let few : length numbers ≤ 512 = subst (λ (s : SetOf). length (listed s) ≤ 512) (sym e) (b.each c).few in
     let count : length kept ≤ length numbers = omega (arith, ap length is, length-filter f numbers, count_by-le-length f numbers) in
-    at c (no-numbers c (set_at sets c) numbers (sym e) (b.kinds c)) (omega (arith, few, count))
+    at c (no-numbers c (set_at sets c) numbers (sym e) (b.each c).kind) (omega (arith, few, count))
   where
     at : (k : coord.Coord) → k ≢ coords.Locale → length kept ≤ 512 → ChoiceFits k (seen.NumbersOf kept)
     at coords.Locale other h = absurd (other refl)
@@ -106,10 +106,10 @@ numbers-fit sets c f numbers kept b e is =
 pub locales-fit : (sets : List SetOf) (c : coord.Coord) (f : Locale → Bool) (locales kept : List Locale) → IsBox sets → LocalesOf (locale_numbers locales) ≡ set_at sets c → kept ≡ filter f locales → All IsOfSomeText kept
     → ChoiceFits c (seen.LocalesOf kept)
 locales-fit sets c f locales kept b e is texts =
-    let few : length (locale_numbers locales) ≤ 512 = subst (λ (s : SetOf). length (listed s) ≤ 512) (sym e) (b.few c) in
+    let few : length (locale_numbers locales) ≤ 512 = subst (λ (s : SetOf). length (listed s) ≤ 512) (sym e) (b.each c).few in
     let of_numbers = length-map locales locale_number in
     let count : length kept ≤ length locales = omega (arith, ap length is, length-filter f locales, count_by-le-length f locales) in
-    subst (λ (k : coord.Coord). ChoiceFits k (seen.LocalesOf kept)) (sym (at-locale sets c (locale_numbers locales) (b.kinds c) (sym e))) (omega (arith, few, of_numbers, count), texts)
+    subst (λ (k : coord.Coord). ChoiceFits k (seen.LocalesOf kept)) (sym (at-locale sets c (locale_numbers locales) (b.each c).kind (sym e))) (omega (arith, few, of_numbers, count), texts)
 
 -- ---- the tests are of the right kind
 
@@ -133,10 +133,10 @@ pub needed-numbers : (trace : List ℕ → Trace) (parting : Parting) (sets : Li
     → kept ≡ filter (answer_with (answer_of parting) x c) numbers → Settles (IsMember sets) trace (answer_of parting) → IsNeededTest trace sets (IsMember sets) (seen.AmongOf c (seen.NumbersOf kept))
 needed-numbers trace parting sets x y c numbers kept s b e is settled =
     let choice = seen.NumbersOf kept in
-    cut-choice trace (answer_of parting) sets x y c choice (parting-by-numbers parting) s (right-choice sets c choice (ap is_range (sym e))) (lists-numbers (answer_of parting) sets x c numbers kept (b.kinds c) (sym e) is) settled
+    cut-choice trace (answer_of parting) sets x y c choice (parting-by-numbers parting) s (right-choice sets c choice (ap is_range (sym e))) (lists-numbers (answer_of parting) sets x c numbers kept (b.each c).kind (sym e) is) settled
 
 pub needed-locales : (trace : List ℕ → Trace) (parting : Parting) (sets : List SetOf) (x y : List ℕ) (c : coord.Coord) (locales kept : List Locale) → Separates sets (answer_of parting) x y c → IsBox sets
     → LocalesOf (locale_numbers locales) ≡ set_at sets c → kept ≡ filter (answer_in (answer_of parting) x) locales → Settles (IsMember sets) trace (answer_of parting) → IsNeededTest trace sets (IsMember sets) (seen.AmongOf c (seen.LocalesOf kept))
 needed-locales trace parting sets x y c locales kept s b e is settled =
     let choice = seen.LocalesOf kept in
-    cut-choice trace (answer_of parting) sets x y c choice (parting-by-numbers parting) s (right-choice sets c choice (ap is_range (sym e))) (lists-locales (answer_of parting) sets x c locales kept (b.kinds c) (sym e) is) settled
+    cut-choice trace (answer_of parting) sets x y c choice (parting-by-numbers parting) s (right-choice sets c choice (ap is_range (sym e))) (lists-locales (answer_of parting) sets x c locales kept (b.each c).kind (sym e) is) settled

@@ -73,9 +73,9 @@ needed-coord : (trace : List ℕ → Trace) (sets : List SetOf) (c : Coord) (t :
     → IsNeededTest trace sets (IsAt sets path) test → coord_of test ≡ c
 needed-coord trace sets c t path test line s =
     by_coord (coord_of test) c (λ e. e)
-    (λ other. let alike = answers-alike trace sets c t test line other s.x s.y s.x_member.0 s.y_member.0 in
-    let told_yes = s.x_answers in
-    let told_no = s.y_answers in
+    (λ other. let alike = answers-alike trace sets c t test line other s.x s.y s.yes.member.0 s.no.member.0 in
+    let told_yes = s.yes.answers in
+    let told_no = s.no.answers in
     absurd cc)
 
 needed-both : (trace : List ℕ → Trace) (sets : List SetOf) (c : Coord) (path : Path) (k : Kept) (test : TestOf) → coord_of test ≡ c
@@ -84,10 +84,10 @@ needed-both trace sets c path k test e s sp =
     record {
       low = device_number s.x c;
       high = device_number s.y c;
-      low_in = sp.within s.x s.x_member;
-      high_in = sp.within s.y s.y_member;
-      low_takes = sym (answers-here c test s.x e) ∙ s.x_answers;
-      high_fails = sym (answers-here c test s.y e) ∙ s.y_answers;
+      low_in = sp.within s.x s.yes.member;
+      high_in = sp.within s.y s.no.member;
+      low_takes = sym (answers-here c test s.x e) ∙ s.yes.answers;
+      high_fails = sym (answers-here c test s.y e) ∙ s.no.answers;
     }
 
 -- between the two there is only the cut
@@ -96,17 +96,17 @@ cut-at : (trace : List ℕ → Trace) (sets : List SetOf) (c : Coord) (t : ℕ �
 cut-at trace sets c t path low high m line s sp eq =
     let x = device_number s.x c in
     let y = device_number s.y c in
-    let xl : x ≤ m = leb-true x m s.x_answers in
-    let yl : m < y = leb-false y m s.y_answers in
-    let xi = sp.within s.x s.x_member in
-    let yi = sp.within s.y s.y_member in
+    let xl : x ≤ m = leb-true x m s.yes.answers in
+    let yl : m < y = leb-false y m s.no.answers in
+    let xi = sp.within s.x s.yes.member in
+    let yi = sp.within s.y s.no.member in
     let none : (n : ℕ) → low ≤ n → n ≤ high → x < n → n < y → ⊥ =
     λ n a b f g.
     let z = sp.inside n (a, b) in
     s.near z.0 z.1 (subst (λ (v : ℕ). x < v) (sym z.2) f) (subst (λ (v : ℕ). v < y) (sym z.2) g) in
     let xm : x ≡ m = elim (cases_lt x m) [ inl lt ↦ absurd (none m (omega (arith, xi.0)) (omega (arith, yi.1)) lt yl) | inr le ↦ omega arith ] in
     let ym : y ≡ m + 1 = elim (cases_lt (m + 1) y) [ inl lt ↦ absurd (none (m + 1) (omega (arith, xi.0)) (omega (arith, yi.1)) (omega arith) lt) | inr le ↦ omega arith ] in
-    s.differ (line.told s.x s.x_member.0 ∙ ap t xm ∙ eq ∙ sym (line.told s.y s.y_member.0 ∙ ap t ym))
+    s.differ (line.told s.x s.yes.member.0 ∙ ap t xm ∙ eq ∙ sym (line.told s.y s.no.member.0 ∙ ap t ym))
 
 parted : (trace : List ℕ → Trace) (sets : List SetOf) (c : Coord) (t : ℕ → Trace) (path : Path) (ns : List ℕ) (test : TestOf) → coord_of test ≡ c → Line trace sets c t
     → is_range (set_at sets c) ≡ false → IsNeededTest trace sets (IsAt sets path) test → Spans sets c path (chosen ns)
@@ -116,9 +116,9 @@ parted trace sets c t path ns test e line mark s sp m n mi ni told_yes told_no e
     let y = sp.inside n ni in
     s.parts (ap (λ i. is_range (set_at sets i)) e ∙ mark)
     (λ a b ai bi. subst (λ (i : Coord). AgreeBut i a b) (sym e) (line.alone a b ai.0 bi.0))
-    x.0 y.0 x.1 y.1
-    (answers-here c test x.0 e ∙ ap (takes test) x.2 ∙ told_yes)
-    (answers-here c test y.0 e ∙ ap (takes test) y.2 ∙ told_no)
+    x.0 y.0
+    (record { member = x.1; answers = answers-here c test x.0 e ∙ ap (takes test) x.2 ∙ told_yes })
+    (record { member = y.1; answers = answers-here c test y.0 e ∙ ap (takes test) y.2 ∙ told_no })
     (line.told x.0 x.1.0 ∙ ap t x.2 ∙ eq ∙ sym (line.told y.0 y.1.0 ∙ ap t y.2))
 
 needed-cuts : (trace : List ℕ → Trace) (sets : List SetOf) (c : Coord) (t : ℕ → Trace) (path : Path) (k : Kept) (test : TestOf) → coord_of test ≡ c → Line trace sets c t

@@ -37,7 +37,7 @@ has-member sets c box others =
       map first sets,
       record {
         count = count ∙ total;
-        member = λ k. subst (IsIn (set_at sets k)) (sym (same k)) (first-in (set_at sets k) (box.proper k));
+        member = λ k. subst (IsIn (set_at sets k)) (sym (same k)) (first-in (set_at sets k) (box.each k).proper);
         others = others;
       },
     )

@@ -10,6 +10,7 @@ use Rattle.cert_checker.specs.overlay_map.Layer.{most_layers}
 use Rattle.cert_checker.specs.reference_resolver.Trace.{Trace}
 use Rattle.cert_checker.specs.box_answers.NumberSet.{SetOf}
 use Rattle.cert_checker.specs.box_answers.Members.{set_at, IsMember}
+use Rattle.cert_checker.proofs.box_answers.SomeMember.{some_member}
 use Rattle.cert_checker.specs.config_box.Tests.{TestOf, AtMostOf, AmongOf, coord_of, answers, has_wrong_kind}
 use Rattle.cert_checker.specs.config_box.Halves.{IsHalf}
 use Rattle.cert_checker.specs.box_trace.CommonTrace.{SharesTrace}
@@ -22,7 +23,6 @@ use Rattle.cert_checker.specs.OpenBoxes.{IsBoxAt}
 use Rattle.cert_checker.proofs.MarkSteps.{alike-kind, alike-range}
 use Rattle.cert_checker.proofs.LeafSteps.{as_claimed}
 use Rattle.cert_checker.proofs.NodeSteps.{halves}
-use Rattle.cert_checker.proofs.BoxSteps.{some_member}
 use Rattle.cert_maker.specs.Needed.{NoneBetween, IsNeededTest}
 use Rattle.cert_maker.specs.Growth.{Grows}
 use Rattle.cert_maker.proofs.Layers.{EndBelow}
@@ -50,22 +50,21 @@ test-passes sets members test x y right mx my is isnt rule f = f
 
 pub moved : (trace : List ℕ → Trace) (sets part : List SetOf) (path : Path) (test : TestOf) → IsBoxAt sets path part → IsNeededTest trace part (IsMember part) test → IsNeededTest trace sets (IsAt sets path) test
 moved trace sets part path test b s =
-    let x_at = (b.members s.x).0 s.x_member in
-    let y_at = (b.members s.y).0 s.y_member in
+    let x_at = (b.members s.x).0 s.yes.member in
+    let y_at = (b.members s.y).0 s.no.member in
     record {
-      passes = test-passes sets (IsAt sets path) test s.x s.y (right-kind sets part path (IsMember part) test b s.passes) x_at y_at s.x_answers s.y_answers;
+      passes = test-passes sets (IsAt sets path) test s.x s.y (right-kind sets part path (IsMember part) test b s.passes) x_at y_at s.yes.answers s.no.answers;
       x = s.x;
       y = s.y;
-      x_member = x_at;
-      y_member = y_at;
-      x_answers = s.x_answers;
-      y_answers = s.y_answers;
+      yes = record { member = x_at; answers = s.yes.answers };
+      no = record { member = y_at; answers = s.no.answers };
       others = s.others;
       differ = s.differ;
       near = none-between sets part path test s.x s.y b s.near;
       parts = λ choice alone u v ua va.
           s.parts (sym (alike-range (set_at sets (coord_of test)) (set_at part (coord_of test)) (b.marks (coord_of test))) ∙ choice)
-          (λ m n mm nm. alone m n ((b.members m).0 mm) ((b.members n).0 nm)) u v ((b.members u).1 ua) ((b.members v).1 va);
+          (λ m n mm nm. alone m n ((b.members m).0 mm) ((b.members n).0 nm)) u v
+          (record { member = (b.members u).1 ua.member; answers = ua.answers }) (record { member = (b.members v).1 va.member; answers = va.answers });
     }
 
 -- ---- leaves

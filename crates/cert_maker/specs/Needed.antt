@@ -6,6 +6,7 @@ use Rattle.cert_checker.specs.config_record.ComparedNumber.{device_number}
 use Rattle.cert_checker.specs.reference_resolver.Trace.{Trace}
 use Rattle.cert_checker.specs.box_answers.NumberSet.{SetOf}
 use Rattle.cert_checker.specs.box_answers.Members.{set_at}
+use Rattle.cert_checker.specs.box_answers.Settled.{IsOneThatAnswers}
 use Rattle.cert_checker.specs.config_box.Tests.{TestOf, AtMostOf, AmongOf, coord_of, answers, is_range}
 use Rattle.cert_checker.specs.cert_tree.Certificate.{NodeOf, TestAt, ValueAt, BagAt}
 use Rattle.cert_checker.specs.declared.rule.Rule.{Rule}
@@ -27,7 +28,7 @@ NoneBetween members (AmongOf c choice) x y = Unit {0}
 -- no trace stands on both sides of a test
 abbrev pub PartsTraces : (List ℕ → Trace) → (List ℕ → Type 0) → TestOf → Type 0
 PartsTraces trace members test =
-    (x y : List ℕ) → members x → members y → answers test x ≡ true → answers test y ≡ false → trace x ≢ trace y
+    (x y : List ℕ) → IsOneThatAnswers members (answers test) true x → IsOneThatAnswers members (answers test) false y → trace x ≢ trace y
 
 abbrev pub VariesOnlyAt : Coord → (List ℕ → Type 0) → Type 0
 VariesOnlyAt c members = (x y : List ℕ) → members x → members y → AgreeBut c x y
@@ -39,10 +40,8 @@ pub record IsNeededTest (trace : List ℕ → Trace) (sets : List SetOf) (member
   pub passes : (rule : Rule) → FailsAtTest sets members test rule → ⊥
   pub x : List ℕ
   pub y : List ℕ
-  pub x_member : members x
-  pub y_member : members y
-  pub x_answers : answers test x ≡ true
-  pub y_answers : answers test y ≡ false
+  pub yes : IsOneThatAnswers members (answers test) true x
+  pub no : IsOneThatAnswers members (answers test) false y
   pub others : AgreeBut (coord_of test) x y
   pub differ : trace x ≢ trace y
   pub near : NoneBetween members test x y

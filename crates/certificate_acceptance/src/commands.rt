@@ -6,6 +6,8 @@ mod goals;
 mod long_texts;
 mod made;
 mod maker;
+mod many_tests;
+mod nested_texts;
 mod refused;
 mod rejected;
 mod watched;

@@ -1,3 +1,4 @@
 pub mod IdSteps
 pub mod Rows
 pub mod CommandLineFacts
+pub mod NamedCommand

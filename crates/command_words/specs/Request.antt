@@ -1,5 +1,5 @@
 -- What the words of a command line ask for.
-use Rattle.std.specs.Prelude.{◌≡◌, ◌≢◌, ◌≤◌, ℕ, Bool, true, false, List, [], ◌∷◌, codes, Option, Some, None, unwrap_or, Result, Ok, Err, IsOkAnd, if◌then◌else◌}
+use Rattle.std.specs.Prelude.{◌≡◌, ◌≢◌, ◌≤◌, ℕ, Bool, true, false, List, [], ◌∷◌, codes, Option, Some, None, unwrap_or, Result, Ok, Err, IsOkAnd, IsSomeAnd, if◌then◌else◌}
 use Rattle.std.specs.Str.{bytes_eq}
 use Rattle.std.specs.Str.Parse.{IsNumeral, digits_value, without_leading_plus}
 use Rattle.clap.specs.Kinds.{IsAmong}
@@ -52,17 +52,18 @@ IsNodeLimit (Some word) limit =
 
 -- ---- what a command asks for
 
--- The command of a name. The command line has no other name than these.
-abbrev pub command_of : List ℕ → Command
+-- the command of a name
+abbrev pub command_of : List ℕ → Option Command
 command_of name =
-    if bytes_eq name (codes "rows") then Rows
-    else if bytes_eq name (codes "dump") then Dump
-    else if bytes_eq name (codes "query") then OfDevice Query
-    else if bytes_eq name (codes "explain") then OfDevice Explain
-    else if bytes_eq name (codes "bag") then OfDevice Bag
-    else if bytes_eq name (codes "attr") then OfDevice Attr
-    else if bytes_eq name (codes "make") then OfBox Make
-    else OfBox Check
+    if bytes_eq name (codes "rows") then Some Rows
+    else if bytes_eq name (codes "dump") then Some Dump
+    else if bytes_eq name (codes "query") then Some (OfDevice Query)
+    else if bytes_eq name (codes "explain") then Some (OfDevice Explain)
+    else if bytes_eq name (codes "bag") then Some (OfDevice Bag)
+    else if bytes_eq name (codes "attr") then Some (OfDevice Attr)
+    else if bytes_eq name (codes "make") then Some (OfBox Make)
+    else if bytes_eq name (codes "check") then Some (OfBox Check)
+    else None
 
 -- The ids that the words of a command spell, from left to right, or the first of these words that spells none.
 abbrev pub ids_asked : DeviceCommand → List Row → Result (List ResId) (List ℕ)
@@ -125,7 +126,8 @@ ReadsWords words (Err (faults.CommandLine error)) = IsAmong (kind_of error) (fau
 ReadsWords words (Err faults.OutOfMemory) = Unit {0}
 ReadsWords words result =
     (fault_of command_line words ≡ [])
-    × ((name : List ℕ) × (rows : List Row) × (subcommand_of command_line words ≡ Some (name, rows)) × ReadsCommand (command_of name) rows result)
+    × ((name : List ℕ) × (rows : List Row) × (subcommand_of command_line words ≡ Some (name, rows))
+    × IsSomeAnd (command_of name) (λ command. ReadsCommand command rows result))
 
 -- The same, where there may be no words after the program's name: they ask for the rows of the standard input.
 abbrev pub AsksFor : List (List ℕ) → Result Request WordsFault → Type 0

@@ -1,6 +1,6 @@
 //! The commands, by their names.
 
-use crate::command_line::{ATTR, BAG, DUMP, EXPLAIN, MAKE, QUERY, ROWS};
+use crate::command_line::{ATTR, BAG, CHECK, DUMP, EXPLAIN, MAKE, QUERY, ROWS};
 
 /// What a name on the command line stands for.
 #[derive(Clone, Copy)]
@@ -28,12 +28,13 @@ pub(crate) enum BoxCommand {
 }
 
 impl Command {
-    ghost use Rattle.std.specs.Prelude.{◌≡◌};
+    ghost use Rattle.std.specs.Prelude.{◌≡◌, true, Some, is_some};
     ghost use Rattle.command_words.specs.Request.{command_of};
 
     /// The command of a name that the command line has.
     pub(crate) fn of_name(name: &str) -> Command
-        ensures { result ≡ command_of name.now }
+        requires { is_some (command_of name.now) ≡ true }
+        ensures { Some result ≡ command_of name.now }
     {
         match name {
             ROWS => Command::Rows,
@@ -43,8 +44,8 @@ impl Command {
             BAG => Command::OfDevice(DeviceCommand::Bag),
             ATTR => Command::OfDevice(DeviceCommand::Attr),
             MAKE => Command::OfBox(BoxCommand::Make),
-            // CHECK, since there is no other command.
-            _ => Command::OfBox(BoxCommand::Check),
+            CHECK => Command::OfBox(BoxCommand::Check),
+            _ => unreachable!(),
         }
     }
 }

@@ -1,10 +1,10 @@
 //! The words of the command line.
 
-ghost use Rattle.std.specs.Prelude.{◌≡◌, ◌≢◌, true, map, IfOk, IfErr, string_bytes};
+ghost use Rattle.std.specs.Prelude.{◌≡◌, ◌≢◌, true, map, is_some, IfOk, IfErr, IfSome, string_bytes};
 ghost use Rattle.std.specs.IoError.{error_kind};
 ghost use Rattle.clap.specs.Words.{FailsBy, fault_of, has_subcommand, rows_of, found_of, subcommand_of, subcommand_rows_of};
 ghost use Rattle.command_words.specs.CommandLine.{command_line};
-ghost use Rattle.command_words.specs.Request.{AsksFor, IsBoxRequestOf, IsDeviceRequestOf, ReadsAlong, ReadsCommand, ReadsWords, ids_asked, ids_of};
+ghost use Rattle.command_words.specs.Request.{AsksFor, IsBoxRequestOf, IsDeviceRequestOf, ReadsAlong, ReadsCommand, ReadsWords, command_of, ids_asked, ids_of};
 ghost use Rattle.command_words.specs.WordsFault.{IsOfReading};
 
 use crate::arguments::{given_flag, given_id, given_ids, given_nodes, given_word};
@@ -72,6 +72,7 @@ fn matches_of<'a>(alloc: Global, words: &'a [String]) -> Result<ArgMatches<'a>, 
     ensures kinds { FailsBy (fault_of command_line (map string_bytes words.entry.now)) result }
     ensures command { IfOk result (λ matches. subcommand_rows_of matches ≡ subcommand_of command_line (map string_bytes words.entry.now)) }
     ensures required { IfOk result (λ matches. has_subcommand matches ≡ true) }
+    ensures named { IfOk result (λ matches. IfSome (subcommand_rows_of matches) (λ found. is_some (command_of found.0) ≡ true)) }
 {
     let program = command_line(alloc)?;
     program.try_get_matches_from(words)

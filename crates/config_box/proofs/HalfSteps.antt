@@ -12,15 +12,15 @@ use Rattle.box_answers.specs.config_record.declared.coord.Coord.TheVariants as c
 use Rattle.box_answers.specs.config_record.declared.locale.Locale.{Locale}
 use Rattle.box_answers.specs.config_record.Coord.{place_of}
 use Rattle.box_answers.specs.config_record.ComparedNumber.{device_number, locale_number}
-use Rattle.box_answers.specs.config_record.Device.{CanHave}
 use Rattle.box_answers.proofs.config_record.ChangedNumber.{by_coord, place_of-injective}
-use Rattle.box_answers.specs.NumberSet.{SetOf, RangeOf, NumbersOf, LocalesOf, locale_numbers, listed, IsIn, IsProper}
-use Rattle.box_answers.specs.Members.{set_at, IsMember, IsOfKind, IsBox, most_values}
+use Rattle.box_answers.specs.NumberSet.{SetOf, RangeOf, NumbersOf, LocalesOf, locale_numbers, IsIn, IsProper}
+use Rattle.box_answers.specs.Members.{set_at, IsMember, IsOfKind, IsSetAt, IsBox}
+use Rattle.box_answers.specs.Settled.{AllAnswer}
 use Rattle.box_answers.proofs.Coords.{place_of-below}
 use Rattle.config_box.specs.Marks.{AreMarkedAlike}
-use Rattle.config_box.specs.Tests.{ChoiceOf, TestOf, AtMostOf, AmongOf, coord_of, passes, is_range, has_wrong_kind}
+use Rattle.config_box.specs.Tests.{ChoiceOf, TestOf, AtMostOf, AmongOf, coord_of, passes, answers, is_range, has_wrong_kind}
 use Rattle.config_box.specs.HalfSets.{gives, IsAskable, NoneAnswers, IsHalfSet}
-use Rattle.config_box.specs.Halves.{IsHalf, AllAnswer}
+use Rattle.config_box.specs.Halves.{IsHalf}
 use Rattle.config_box.proofs.Filters.{kept-in, kept-all, map-filter}
 
 -- ---- what gives an answer
@@ -129,13 +129,14 @@ pub half-box : (sets : List SetOf) (test : TestOf) (answer : Bool) (half : SetOf
     → IsBox (set sets (place_of (coord_of test)) half)
 half-box sets test answer half b h =
     let c = coord_of test in
-    record {
-      count = length-set sets (place_of c) half ∙ b.count;
-      proper = each-set (λ k s. IsProper s) sets c half b.count h.proper b.proper;
-      kinds = each-set (λ k s. IsOfKind k s) sets c half b.count (kind-alike c (set_at sets c) half h.mark (b.kinds c)) b.kinds;
-      few = each-set (λ k s. length (listed s) ≤ most_values) sets c half b.count (let f = h.few in let g = b.few c in omega arith) b.few;
-      can = each-set (λ k s. (n : ℕ) → IsIn s n → CanHave k n) sets c half b.count (λ n is. b.can c n ((h.numbers n).0 is).0) b.can;
-    }
+    let before = b.each c in
+    let now : IsSetAt c half = record {
+      proper = h.proper;
+      kind = kind-alike c (set_at sets c) half h.mark before.kind;
+      few = let fewer = h.few in let few = before.few in omega arith;
+      can = λ n is. before.can n ((h.numbers n).0 is).0;
+    } in
+    record { count = length-set sets (place_of c) half ∙ b.count; each = each-set IsSetAt sets c half b.count now b.each }
 
 pub marks-self : (s : SetOf) → AreMarkedAlike s s
 marks-self (RangeOf a b) = tt
@@ -151,13 +152,13 @@ half-members sets test answer half b h =
       members = λ d. (
         λ member.
             let here : IsIn half (device_number d c) = subst (λ (s : SetOf). IsIn s (device_number d c)) (set_at-same sets c half b.count) (member c) in
-            let r = (h.numbers (device_number d c)).0 here in (
-              λ k. by_coord k c
+            let r = (h.numbers (device_number d c)).0 here in record {
+              member = λ k. by_coord k c
                   (λ e. subst (λ (j : Coord). IsIn (set_at sets j) (device_number d j)) (sym e) r.0)
-                  (λ ne. subst (λ (s : SetOf). IsIn s (device_number d k)) (set_at-other sets c k half ne) (member k)),
-              r.1,
-            ),
-        λ both. each-set (λ k s. IsIn s (device_number d k)) sets c half b.count ((h.numbers (device_number d c)).1 (both.0 c, both.1)) both.0,
+                  (λ ne. subst (λ (s : SetOf). IsIn s (device_number d k)) (set_at-other sets c k half ne) (member k));
+              answers = r.1;
+            },
+        λ both. each-set (λ k s. IsIn s (device_number d k)) sets c half b.count ((h.numbers (device_number d c)).1 (both.member c, both.answers)) both.member,
       );
       marks = λ k. by_coord k c
           (λ e. subst (λ (j : Coord). AreMarkedAlike (set_at sets j) (set_at (set sets (place_of c) half) j)) (sym e)
@@ -183,8 +184,8 @@ askable sets (AtMostOf c most) e = askable-at_most (set_at sets c) c most
 askable sets (AmongOf c choice) e = askable-among (set_at sets c) c choice e
 
 -- all answer alike where no number gives the other answer
-pub all-answer_no : (sets : List SetOf) (test : TestOf) → NoneAnswers (set_at sets (coord_of test)) test true → AllAnswer (IsMember sets) test false
+pub all-answer_no : (sets : List SetOf) (test : TestOf) → NoneAnswers (set_at sets (coord_of test)) test true → AllAnswer (IsMember sets) (answers test) false
 all-answer_no sets test none d member = false_from_ne_true (passes test (device_number d (coord_of test))) (none (device_number d (coord_of test)) (member (coord_of test)))
 
-pub all-answer_yes : (sets : List SetOf) (test : TestOf) → NoneAnswers (set_at sets (coord_of test)) test false → AllAnswer (IsMember sets) test true
+pub all-answer_yes : (sets : List SetOf) (test : TestOf) → NoneAnswers (set_at sets (coord_of test)) test false → AllAnswer (IsMember sets) (answers test) true
 all-answer_yes sets test none d member = true_from_ne_false (passes test (device_number d (coord_of test))) (none (device_number d (coord_of test)) (member (coord_of test)))

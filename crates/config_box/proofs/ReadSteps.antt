@@ -25,7 +25,7 @@ use Rattle.box_answers.specs.config_record.Locale.{IsGiven, checked_locale}
 use Rattle.box_answers.proofs.config_record.DeviceLemmas.{inside-can}
 use Rattle.box_answers.specs.declared.number_set.NumberSet.{NumberSet}
 use Rattle.box_answers.specs.NumberSet.{SetOf, set_of, RangeOf, NumbersOf, LocalesOf}
-use Rattle.box_answers.specs.Members.{sets_of, set_at, IsOfKind, IsBox}
+use Rattle.box_answers.specs.Members.{sets_of, set_at, IsOfKind, IsSetAt, IsBox}
 use Rattle.box_answers.proofs.Coords.{next-coord, every-coord, all_coords-count}
 use Rattle.config_box.specs.BoxJson.{number_of_text}
 use Rattle.config_box.specs.declared.box_fault.BoxFault.{BoxFault}
@@ -33,7 +33,6 @@ use Rattle.config_box.specs.declared.box_fault.BoxFault.TheVariants.{Shape}
 use Rattle.config_box.specs.Choices.{rising}
 use Rattle.config_box.specs.Written.{number_item, text_item, numbers_or_range, numbers_in, texts_in}
 use Rattle.config_box.specs.Written as written
-use Rattle.config_box.specs.HalfSets.{IsSetAt}
 use Rattle.config_box.proofs.ChoiceSteps.{rising-increases, rising-few, rising-some, rising-each, each-not, Each}
 
 -- ---- numbers in their range
@@ -84,17 +83,6 @@ nothing-can : (c : Coord) → c ≢ coords.Locale → c ≢ coords.Density → C
 nothing-can coords.Locale a b = absurd (a refl)
 nothing-can coords.Density a b = absurd (b refl)
 nothing-can c a b = omega arith
-
--- ---- the whole box
-
-pub box-of_sets : (sets : List SetOf) → length sets ≡ 25 → ((c : Coord) → IsSetAt c (set_at sets c)) → IsBox sets
-box-of_sets sets count each = record {
-  count = count;
-  proper = λ c. (each c).proper;
-  kinds = λ c. (each c).kind;
-  few = λ c. (each c).few;
-  can = λ c. (each c).can;
-}
 
 -- ---- a set more
 
@@ -232,4 +220,7 @@ SetsSoFar-end {X} sets pairs i so_far all past within =
     let first : (Coord × X) → Coord = λ p. p.0 in
     let counted : length (map first pairs) ≡ length pairs = simp length-map refl in
     let whole : length (map first pairs) ≡ 25 = ap (λ (cs : List Coord). length cs) all ∙ all_coords-count in
-    box-of_sets (sets_of sets) (so_far.count ∙ omega arith) (every-coord (λ c. IsSetAt c (set_at (sets_of sets) c)) i (map first pairs) all (omega arith) so_far.fits)
+    record {
+      count = so_far.count ∙ omega arith;
+      each = every-coord (λ c. IsSetAt c (set_at (sets_of sets) c)) i (map first pairs) all (omega arith) so_far.fits;
+    }

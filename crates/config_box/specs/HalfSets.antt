@@ -1,9 +1,6 @@
 -- The halves of a set of numbers by a test.
 use Rattle.std.specs.Prelude.{◌≡◌, ◌≢◌, ◌≤◌, ◌↔◌, ℕ, Bool, true, false, not, length}
 use Rattle.box_answers.specs.NumberSet.{SetOf, RangeOf, NumbersOf, LocalesOf, IsIn, IsProper, listed}
-use Rattle.box_answers.specs.config_record.declared.coord.Coord.{Coord}
-use Rattle.box_answers.specs.config_record.Device.{CanHave}
-use Rattle.box_answers.specs.Members.{IsOfKind, most_values}
 use Rattle.config_box.specs.Marks.{AreMarkedAlike}
 use Rattle.config_box.specs.Tests.{TestOf, AtMostOf, AmongOf, passes}
 
@@ -29,10 +26,3 @@ pub record IsHalfSet (set : SetOf) (test : TestOf) (answer : Bool) (half : SetOf
   pub mark : AreMarkedAlike set half
   pub proper : IsProper half
   pub few : length (listed half) ≤ length (listed set)
-
--- what a box has at a coordinate
-pub record IsSetAt (c : Coord) (set : SetOf) : Type 0 where
-  pub proper : IsProper set
-  pub kind : IsOfKind c set
-  pub few : length (listed set) ≤ most_values
-  pub can : (n : ℕ) → IsIn set n → CanHave c n

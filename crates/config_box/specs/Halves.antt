@@ -3,6 +3,7 @@ use Rattle.std.specs.Prelude.{◌≡◌, ◌↔◌, ◌⊎◌, ℕ, Bool, true, 
 use Rattle.box_answers.specs.config_record.declared.coord.Coord.{Coord}
 use Rattle.box_answers.specs.NumberSet.{SetOf}
 use Rattle.box_answers.specs.Members.{set_at, IsMember, IsBox}
+use Rattle.box_answers.specs.Settled.{AllAnswer, IsOneThatAnswers}
 use Rattle.config_box.specs.declared.split.Split.{Split}
 use Rattle.config_box.specs.declared.split.Split.TheVariants.{Halves, WrongKind, EmptyHalf}
 use Rattle.config_box.specs.Marks.{AreMarkedAlike}
@@ -11,14 +12,21 @@ use Rattle.config_box.specs.Tests.{TestOf, answers, has_wrong_kind}
 -- a box, so never without members: those that give this answer, each coordinate marked as before
 pub record IsHalf (box : List SetOf) (test : TestOf) (answer : Bool) (half : List SetOf) : Type 0 where
   pub is_box : IsBox half
-  pub members : (d : List ℕ) → IsMember half d ↔ (IsMember box d × (answers test d ≡ answer))
+  pub members : (d : List ℕ) → IsMember half d ↔ IsOneThatAnswers (IsMember box) (answers test) answer d
   pub marks : (c : Coord) → AreMarkedAlike (set_at box c) (set_at half c)
-
-abbrev pub AllAnswer : (List ℕ → Type 0) → TestOf → Bool → Type 0
-AllAnswer members test answer = (d : List ℕ) → members d → answers test d ≡ answer
 
 -- two halves; or the test is of a wrong kind; else one half would have no member
 abbrev pub IsSplit : List SetOf → TestOf → Split → Type 0
 IsSplit box test (Halves yes_half no_half) = (has_wrong_kind box test ≡ false) × IsHalf box test true yes_half × IsHalf box test false no_half
 IsSplit box test WrongKind = has_wrong_kind box test ≡ true
-IsSplit box test EmptyHalf = (has_wrong_kind box test ≡ false) × (AllAnswer (IsMember box) test true ⊎ AllAnswer (IsMember box) test false)
+IsSplit box test EmptyHalf = (has_wrong_kind box test ≡ false) × (AllAnswer (IsMember box) (answers test) true ⊎ AllAnswer (IsMember box) (answers test) false)
+
+-- What all members of a box answer, whatever is asked, all members of the other answer too.
+abbrev pub StaysSettledOn : List SetOf → List SetOf → Type 0
+StaysSettledOn box half = (asks : List ℕ → Bool) (answer : Bool) → AllAnswer (IsMember box) asks answer → AllAnswer (IsMember half) asks answer
+
+-- what is settled on a box stays settled on its halves
+abbrev pub StaysSettled : List SetOf → Split → Type 0
+StaysSettled box (Halves yes_half no_half) = StaysSettledOn box yes_half × StaysSettledOn box no_half
+StaysSettled box WrongKind = Unit {0}
+StaysSettled box EmptyHalf = Unit {0}

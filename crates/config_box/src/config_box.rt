@@ -46,7 +46,7 @@ impl Model for ConfigBox {
 impl ConfigBox {
     ghost use Rattle.config_box.specs.BoxJson.{box_in};
     ghost use Rattle.config_box.specs.BoxSeen.{values_seen};
-    ghost use Rattle.config_box.specs.Halves.{IsSplit};
+    ghost use Rattle.config_box.specs.Halves.{IsSplit, StaysSettled};
 
     /// The box of a JSON text: an object with a list or a range of numbers for each coordinate and a list of
     /// texts for the locale. What is missing is 0, or no locale; the density has to be there.
@@ -94,21 +94,24 @@ impl ConfigBox {
 
     /// Does a record match all members, none, or some?
     pub fn match_all(&self, stored: &Record) -> Sameness
-        ensures { IsExact result self.now (is_match (record_bytes stored.now)) }
+        ensures value { IsExact result self.now (is_match (record_bytes stored.now)) }
+        ensures sets { IsBox self.now }
     {
         box_answers::match_all(self.sets.as_slice(), stored)
     }
 
     /// Is the first of two records better than the second for all members, for none, or for some?
     pub fn better_all(&self, a: &Record, b: &Record) -> Sameness
-        ensures { IsExact result self.now (is_better (record_bytes a.now) (record_bytes b.now)) }
+        ensures value { IsExact result self.now (is_better (record_bytes a.now) (record_bytes b.now)) }
+        ensures sets { IsBox self.now }
     {
         box_answers::better_all(self.sets.as_slice(), a, b)
     }
 
     /// The halves by a test.
     pub fn split(&self, alloc: Global, test: &Test) -> Result<Split, NoMemory>
-        ensures { IfOk result (IsSplit self.now (test_of test.now)) }
+        ensures halves { IfOk result (IsSplit self.now (test_of test.now)) }
+        ensures settled { IfOk result (StaysSettled self.now) }
     {
         let sets = self.sets.as_slice();
         if has_wrong_kind(sets, test) {

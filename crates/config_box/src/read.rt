@@ -10,8 +10,7 @@ ghost use Rattle.box_answers.specs.config_record.declared.coord.Coord.TheVariant
 ghost use Rattle.box_answers.specs.config_record.Coord.{all_coords, is_outside};
 ghost use Rattle.box_answers.specs.config_record.ComparedNumber.{locale_of_number};
 ghost use Rattle.box_answers.specs.config_record.Locale.{IsGiven};
-ghost use Rattle.box_answers.specs.Members.{sets_of, IsBox};
-ghost use Rattle.config_box.specs.HalfSets.{IsSetAt};
+ghost use Rattle.box_answers.specs.Members.{sets_of, IsSetAt, IsBox};
 ghost use Rattle.config_box.specs.declared.box_fault.BoxFault.TheVariants.{OutOfMemory};
 ghost use Rattle.config_box.specs.BoxJson.{outside_fault, set_of_range, set_of_numbers, is_malformed, is_region_alone, number_of_text, set_of_texts, set_of_nothing, set_in, box_in_value};
 ghost use Rattle.config_box.specs.Choices.{rising};

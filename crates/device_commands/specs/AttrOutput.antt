@@ -10,9 +10,9 @@ use Rattle.bags_themes.specs.declared.bag_fault.BagFault.{BagFault}
 use Rattle.bags_themes.specs.Theme.{AttributeValues, unset}
 use Rattle.bags_themes.specs.Styles.{values_after_styles}
 use Rattle.bags_themes.specs.Attribute.{attribute_of}
-use Rattle.answer_text.specs.fault_text.declared.fault.ToolFault.{ToolFault}
-use Rattle.answer_text.specs.fault_text.ToolFault.{fault_of_device}
 use Rattle.answer_text.specs.EndText.{end_text}
+use Rattle.command_base.specs.fault_text.declared.fault.ToolFault.{ToolFault}
+use Rattle.command_base.specs.fault_text.ToolFault.{fault_of_device}
 use Rattle.command_base.specs.Output.{Output}
 use Rattle.command_base.specs.StackBytes.{LayerBytes, stack_in}
 use Rattle.command_base.specs.MapErr.{map_err}

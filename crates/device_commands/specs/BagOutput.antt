@@ -9,9 +9,9 @@ use Rattle.bags_themes.specs.declared.bag_row.BagRow.{BagRow}
 use Rattle.bags_themes.specs.declared.bag_fault.BagFault.{BagFault}
 use Rattle.bags_themes.specs.declared.bag_fault.BagFault.TheVariants as of_bag
 use Rattle.bags_themes.specs.Bag.{bag_of}
-use Rattle.answer_text.specs.fault_text.declared.fault.ToolFault.{ToolFault}
-use Rattle.answer_text.specs.fault_text.ToolFault.{fault_of_device}
-use Rattle.answer_text.specs.fault_text.LayerText.{layer_text}
+use Rattle.answer_text.specs.line_parts.LayerText.{layer_text}
+use Rattle.command_base.specs.fault_text.declared.fault.ToolFault.{ToolFault}
+use Rattle.command_base.specs.fault_text.ToolFault.{fault_of_device}
 use Rattle.command_base.specs.declared.status.Status.TheVariants.{Done, Negative}
 use Rattle.command_base.specs.Output.{Output}
 use Rattle.command_base.specs.StackBytes.{LayerBytes, stack_in}

@@ -4,9 +4,9 @@ use Rattle.contract_words.specs.Faults.{◌>>=◌}
 use Rattle.bags_themes.specs.config_record.DeviceJson.{device_in_json}
 use Rattle.bags_themes.specs.overlay_map.Layer.{LayerOf}
 use Rattle.bags_themes.specs.reference_resolver.Ends.{references_followed, end_of}
-use Rattle.answer_text.specs.fault_text.declared.fault.ToolFault.{ToolFault}
-use Rattle.answer_text.specs.fault_text.ToolFault.{fault_of_device}
 use Rattle.answer_text.specs.ExplainText.{explain_text}
+use Rattle.command_base.specs.fault_text.declared.fault.ToolFault.{ToolFault}
+use Rattle.command_base.specs.fault_text.ToolFault.{fault_of_device}
 use Rattle.command_base.specs.declared.status.Status.{Status}
 use Rattle.command_base.specs.Output.{Output}
 use Rattle.command_base.specs.StackBytes.{LayerBytes, stack_in}

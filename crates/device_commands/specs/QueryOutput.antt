@@ -8,9 +8,9 @@ use Rattle.bags_themes.specs.overlay_map.Layer.{LayerOf}
 use Rattle.bags_themes.specs.overlay_map.SetAside.{set_aside_in_stack}
 use Rattle.bags_themes.specs.reference_resolver.declared.end.End.{End}
 use Rattle.bags_themes.specs.reference_resolver.Ends.{references_followed, end_of}
-use Rattle.answer_text.specs.fault_text.declared.fault.ToolFault.{ToolFault}
-use Rattle.answer_text.specs.fault_text.ToolFault.{fault_of_device}
 use Rattle.answer_text.specs.QueryText.{query_line, set_aside_line}
+use Rattle.command_base.specs.fault_text.declared.fault.ToolFault.{ToolFault}
+use Rattle.command_base.specs.fault_text.ToolFault.{fault_of_device}
 use Rattle.command_base.specs.declared.status.Status.{Status}
 use Rattle.command_base.specs.declared.status.Status.TheVariants.{Done, Negative}
 use Rattle.command_base.specs.Output.{Output}

@@ -8,9 +8,9 @@ ghost use Rattle.device_commands.specs.AttrOutput.{attribute_line, attr_output};
 
 use crate::end_status::status_of_end;
 use crate::no_bag::print_no_bag;
-use answer_text::{ResId, ToolFault, end_text, write_id};
+use answer_text::{ResId, end_text, write_id};
 use bags_themes::{Device, End, Theme};
-use command_base::{Status, open_stack};
+use command_base::{Status, ToolFault, open_stack};
 use std::alloc::Global;
 use std::io::{self, Write};
 

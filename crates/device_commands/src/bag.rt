@@ -8,9 +8,9 @@ ghost use Rattle.command_base.specs.StackBytesSeen.{layer_bytes};
 ghost use Rattle.device_commands.specs.BagOutput.{name_and_layer, bag_row_line, bag_output};
 
 use crate::no_bag::print_no_bag;
-use answer_text::{ResId, ToolFault, write_id, write_layer, write_value};
+use answer_text::{ResId, write_id, write_layer, write_value};
 use bags_themes::{BagRow, Device, bag};
-use command_base::{Status, open_stack};
+use command_base::{Status, ToolFault, open_stack};
 use std::alloc::Global;
 use std::io::{self, Write};
 

@@ -6,9 +6,9 @@ ghost use Rattle.command_base.specs.StackBytesSeen.{layer_bytes};
 ghost use Rattle.device_commands.specs.ExplainOutput.{explain_output};
 
 use crate::end_status::status_of_end;
-use answer_text::{ResId, ToolFault, explain};
+use answer_text::{ResId, explain};
 use bags_themes::Device;
-use command_base::{Status, open_stack};
+use command_base::{Status, ToolFault, open_stack};
 use std::alloc::Global;
 use std::io::Write;
 

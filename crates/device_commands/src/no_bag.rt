@@ -3,13 +3,12 @@
 ghost use Rattle.std.specs.Prelude.{◌≡◌, ◌≢◌, Ok, Err};
 ghost use Rattle.bags_themes.specs.declared.bag_fault.BagFault.TheVariants as of_bag;
 ghost use Rattle.contract_words.specs.Writes.{Writes};
-ghost use Rattle.answer_text.specs.fault_text.declared.fault.ToolFault.TheVariants.{OutOfMemory};
+ghost use Rattle.command_base.specs.fault_text.declared.fault.ToolFault.TheVariants.{OutOfMemory};
 ghost use Rattle.command_base.specs.Output.{Prints};
 ghost use Rattle.device_commands.specs.BagOutput.{no_bag, no_bag_line};
 
-use answer_text::ToolFault;
 use bags_themes::BagFault;
-use command_base::Status;
+use command_base::{Status, ToolFault};
 use std::io::{self, Write};
 
 /// Prints the line that says why there is no bag. Want of memory is the command's own fault.

@@ -8,9 +8,9 @@ ghost use Rattle.command_base.specs.StackBytesSeen.{layer_bytes};
 ghost use Rattle.device_commands.specs.QueryOutput.{query_status, query_text, query_output};
 
 use crate::end_status::is_unresolved;
-use answer_text::{ResId, ToolFault, query_line, set_aside_line};
+use answer_text::{ResId, query_line, set_aside_line};
 use bags_themes::{Device, Stack, resolve};
-use command_base::{Status, open_stack};
+use command_base::{Status, ToolFault, open_stack};
 use std::alloc::Global;
 use std::io::{self, Write};
 

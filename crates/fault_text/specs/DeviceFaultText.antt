@@ -2,7 +2,7 @@
 use Rattle.std.specs.Prelude.{ℕ, List, codes}
 use Rattle.overlay_map.specs.config_record.declared.fields.DeviceFault.{DeviceFault}
 use Rattle.overlay_map.specs.config_record.declared.fields.DeviceFault.TheVariants.{Syntax, Shape, FieldRange, RegionAlone, Density, OutOfMemory}
-use Rattle.fault_text.specs.NamedText.{named_coord}
+use Rattle.line_parts.specs.NamedText.{named_coord}
 
 unfoldable pub device_fault_text : DeviceFault → List ℕ
 device_fault_text Syntax = codes "Syntax"

@@ -1,5 +1,3 @@
-pub mod NamedText
-pub mod LayerText
 pub mod ToolFault
 pub mod TableFaultText
 pub mod LayersFaultText
@@ -8,6 +6,5 @@ pub mod DeviceFaultText
 pub mod BoxFaultText
 pub mod CertFaultText
 pub mod FaultText
-pub use Rattle.cert_tree.specs.res_value
 pub use Rattle.overlay_map.specs as overlay_map
 pub use Rattle.overlay_map.specs.resource_table

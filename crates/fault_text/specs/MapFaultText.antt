@@ -2,7 +2,7 @@
 use Rattle.std.specs.Prelude.{ℕ, List, codes}
 use Rattle.overlay_map.specs.declared.map_fault.MapFault.{MapFault}
 use Rattle.overlay_map.specs.declared.map_fault.MapFault.TheVariants.{Syntax, Shape, Repeated, OtherPackage, OutOfMemory}
-use Rattle.fault_text.specs.NamedText.{named_id}
+use Rattle.line_parts.specs.NamedText.{named_id}
 
 unfoldable pub map_fault_text : MapFault → List ℕ
 map_fault_text Syntax = codes "Syntax"

@@ -6,7 +6,7 @@ use Rattle.overlay_map.specs.string_pool.declared.fault.PoolFault.{PoolFault}
 use Rattle.overlay_map.specs.string_pool.declared.fault.PoolFault.TheVariants as of_pool
 use Rattle.overlay_map.specs.type_chunks.declared.fault.TableFault.{TableFault}
 use Rattle.overlay_map.specs.type_chunks.declared.fault.TableFault.TheVariants as of_table
-use Rattle.fault_text.specs.NamedText.{named_number}
+use Rattle.line_parts.specs.NamedText.{named_number}
 
 -- the name of a chunk's fault, and its place
 unfoldable pub inner_chunk_fault_text : ChunkFault → List ℕ

@@ -3,7 +3,7 @@
 ghost use Rattle.contract_words.specs.Writes.{Writes};
 ghost use Rattle.fault_text.specs.DeviceFaultText.{device_fault_text};
 
-use crate::named::write_named_coord;
+use line_parts::write_named_coord;
 use overlay_map::DeviceFault;
 use std::io::{self, Write};
 

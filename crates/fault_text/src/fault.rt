@@ -2,7 +2,7 @@
 
 ghost use Rattle.std.specs.Prelude.{◌≡◌, ◌++◌, if◌then◌else◌, codes};
 ghost use Rattle.contract_words.specs.Writes.{Writes};
-ghost use Rattle.fault_text.specs.LayerText.{layer_text};
+ghost use Rattle.line_parts.specs.LayerText.{layer_text};
 ghost use Rattle.fault_text.specs.FaultText.{part_text, reason_text, fault_line};
 ghost use Rattle.fault_text.specs.ToolFault.{fault_of_layer_table, fault_of_layer_map};
 ghost use Rattle.fault_text.specs.declared.fault.ToolFault.TheVariants.{OutOfMemory, Write};
@@ -10,11 +10,11 @@ ghost use Rattle.fault_text.specs.declared.fault.ToolFault.TheVariants.{OutOfMem
 use crate::box_fault::write_box_fault;
 use crate::cert_fault::write_cert_fault;
 use crate::device_fault::write_device_fault;
-use crate::layer::write_layer;
 use crate::layers_fault::{LayersFault, write_layers_fault};
 use crate::map_fault::write_map_fault;
 use crate::table_fault::write_table_fault;
 use cert_tree::{BoxFault, CertFault};
+use line_parts::write_layer;
 use overlay_map::{DeviceFault, MapFault, StackFault, TableFault};
 use std::alloc::AllocError;
 use std::io::{self, Write};

@@ -3,7 +3,7 @@
 ghost use Rattle.contract_words.specs.Writes.{Writes};
 ghost use Rattle.fault_text.specs.MapFaultText.{map_fault_text};
 
-use crate::named::write_named_id;
+use line_parts::write_named_id;
 use overlay_map::MapFault;
 use std::io::{self, Write};
 

@@ -13,8 +13,6 @@
 
 mod verdict;
 
-pub use answer_text::{
-    LayersFault, ToolFault, dump_text, end_text, explain, fault_text, query_line, rows_text,
-    set_aside_line,
-};
+pub use answer_text::{dump_text, end_text, explain, query_line, rows_text, set_aside_line};
+pub use fault_text::{LayersFault, ToolFault, fault_text};
 pub use verdict::{device_with_end, verdict_text};

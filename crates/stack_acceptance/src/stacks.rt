@@ -7,3 +7,4 @@ mod layers;
 mod lent;
 mod query;
 mod selection;
+mod sparse;

@@ -9,5 +9,6 @@ mod many_entries;
 mod rows;
 mod rows_by_id;
 mod shared_bags;
+mod sparse;
 mod strings;
 mod values;

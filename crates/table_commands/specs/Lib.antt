@@ -1,7 +1,7 @@
 pub mod TableOutput
 pub use Rattle.answer_text.specs as answer_text
 pub use Rattle.answer_text.specs.config_record
-pub use Rattle.answer_text.specs.fault_text
 pub use Rattle.answer_text.specs.overlay_map
 pub use Rattle.answer_text.specs.reference_resolver
 pub use Rattle.command_base.specs as command_base
+pub use Rattle.command_base.specs.fault_text

@@ -3,8 +3,8 @@
 ghost use Rattle.command_base.specs.Output.{Prints};
 ghost use Rattle.table_commands.specs.TableOutput.{dump_output};
 
-use answer_text::{Table, ToolFault, dump_text};
-use command_base::Status;
+use answer_text::{Table, dump_text};
+use command_base::{Status, ToolFault};
 use std::alloc::Global;
 use std::io::Write;
 

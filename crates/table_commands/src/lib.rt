@@ -14,7 +14,9 @@
 mod dump;
 mod rows;
 
-pub use answer_text::{Device, End, LayersFault, Stack, ToolFault, fault_text};
-pub use command_base::{InputFault, LayerList, Status, open_stack, read_input};
+pub use answer_text::{Device, End, Stack};
+pub use command_base::{
+    InputFault, LayerList, LayersFault, Status, ToolFault, fault_text, open_stack, read_input,
+};
 pub use dump::dump_bytes;
 pub use rows::rows_bytes;

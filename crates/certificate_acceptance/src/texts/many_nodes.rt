@@ -32,6 +32,15 @@ fn counts_the_nodes_of_all_goals(rt: HostRuntime) -> Result<(), Fail> {
 }
 
 #[test]
+fn counts_the_nodes_of_a_goal_before_it_looks_at_them(rt: HostRuntime) -> Result<(), Fail> {
+    let mut nodes = "0,".repeat(rt.alloc(), 1_000_000)?;
+    nodes.push_str("0")?;
+    let found = fault(rt.alloc(), nodes.as_str(), "")?;
+    assert_eq!(rt; found, Some(CertFault::TooManyNodes));
+    Ok(())
+}
+
+#[test]
 fn looks_at_the_nodes_of_a_goal_before_it_counts_on(rt: HostRuntime) -> Result<(), Fail> {
     let others = ",0".repeat(rt.alloc(), 999_999)?;
     let found = fault(rt.alloc(), "0", others.as_str())?;

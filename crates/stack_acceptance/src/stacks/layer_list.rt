@@ -68,11 +68,7 @@ fn layers(alloc: Global, count: usize, last: &str) -> Result<String, AllocError>
     Ok(text)
 }
 
-fn fault_after(
-    alloc: Global,
-    count: usize,
-    last: &str,
-) -> Result<Option<LayersFault>, AllocError> {
+fn fault_after(alloc: Global, count: usize, last: &str) -> Result<Option<LayersFault>, AllocError> {
     let text = layers(alloc, count, last)?;
     Ok(fault_of(alloc, text.as_str()))
 }

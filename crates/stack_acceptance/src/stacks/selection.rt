@@ -167,12 +167,13 @@ const SECOND_TOO_LONG: End = End::TooLong {
 };
 
 /// The rows of a base, how many references are followed from entry 0, and where they end.
-const REFERENCES: [(&str, u8, End); 5] = [
+const REFERENCES: [(&str, u8, End); 6] = [
     ("0 [] @0x7f010000", 20, End::TooLong { id: FIRST }),
     ("0 [] @0x7f010001", 20, ABSENT),
     ("0 [] @0x7f010001\n1 [] @0x00000000", 20, NO_REFERENCE),
     ("0 [] @0x7f010001\n1 [] bag 0x00000000", 20, BAG),
     ("0 [] @0x7f010001", 0, SECOND_TOO_LONG),
+    ("0 [] @0x7f010001\n1 [] @0x7f010000", 20, SECOND_TOO_LONG),
 ];
 
 // Where entry 0 of a base ends, where at most so many references are followed.

@@ -41,7 +41,7 @@ fn other_fault(alloc: Global, table: &[u8], cases: &[Case]) -> Option<usize> {
 const SHORT_HEADER: TableFault = TableFault::Chunk(ChunkFault::HeaderShort(40));
 
 /// Of table A.
-const WITHOUT_NAMES: [Case; 17] = [
+const WITHOUT_NAMES: [Case; 18] = [
     (408, &[7], TableFault::Value(408)),
     (336, &[0], TableFault::TypeId(328)),
     (368, &[27], TableFault::Config(348)),
@@ -59,6 +59,11 @@ const WITHOUT_NAMES: [Case; 17] = [
     (308, &[0x20, 1, 0, 0], TableFault::PackageHeader(40)),
     (14, &[0x18], TableFault::Pool(12, PoolFault::HeaderSize)),
     (20, &[1], TableFault::Pool(12, PoolFault::Offsets)),
+    (
+        20,
+        &[255, 255, 255, 255],
+        TableFault::Pool(12, PoolFault::Offsets),
+    ),
 ];
 
 const CUT_OFF: TableFault = TableFault::Chunk(ChunkFault::Truncated(484));
@@ -170,11 +175,30 @@ fn other_cut(alloc: Global, table: &[u8]) -> Option<usize> {
     None
 }
 
+/// Where the flags of a type stand in tables A and B.
+const FLAGS_OF_A: usize = 357;
+
+const FLAGS_OF_B: usize = 429;
+
+// Table A as a sparse type.
+fn sparse_a(alloc: Global) -> Result<Vec<u8>, AllocError> {
+    with_piece(alloc, &table_a(alloc)?, FLAGS_OF_A, &[1])
+}
+
+// Table B as a sparse type.
+fn sparse_b(alloc: Global) -> Result<Vec<u8>, AllocError> {
+    with_piece(alloc, &table_b(alloc)?, FLAGS_OF_B, &[1])
+}
+
 #[test]
 fn refuses_what_is_cut(rt: HostRuntime) -> Result<(), AllocError> {
     let table = table_a(rt.alloc())?;
     assert!(rt; other_cut(rt.alloc(), &table).is_none());
     let table = table_b(rt.alloc())?;
+    assert!(rt; other_cut(rt.alloc(), &table).is_none());
+    let table = sparse_a(rt.alloc())?;
+    assert!(rt; other_cut(rt.alloc(), &table).is_none());
+    let table = sparse_b(rt.alloc())?;
     assert!(rt; other_cut(rt.alloc(), &table).is_none());
     Ok(())
 }
@@ -232,6 +256,15 @@ fn returns_whatever_a_byte_is(rt: HostRuntime) -> Result<(), AllocError> {
 #[test]
 fn returns_whatever_a_byte_of_a_table_with_names_is(rt: HostRuntime) -> Result<(), AllocError> {
     let table = table_b(rt.alloc())?;
+    assert!(rt; returns_with_each_byte(rt.alloc(), &table));
+    Ok(())
+}
+
+#[test]
+fn returns_whatever_a_byte_of_a_sparse_type_is(rt: HostRuntime) -> Result<(), AllocError> {
+    let table = sparse_a(rt.alloc())?;
+    assert!(rt; returns_with_each_byte(rt.alloc(), &table));
+    let table = sparse_b(rt.alloc())?;
     assert!(rt; returns_with_each_byte(rt.alloc(), &table));
     Ok(())
 }

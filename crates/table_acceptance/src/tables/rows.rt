@@ -3,8 +3,8 @@
 use res_value::ResId;
 use resource_table::Table;
 use resource_tool::{Status, ToolFault, rows_bytes};
-use std::alloc::Global;
-use test_layers::{layer_of_lines, table_a, table_with};
+use std::alloc::{AllocError, Global};
+use test_layers::{layer_of_lines, put, table_a, table_with};
 
 /// A table with an empty pool of strings, and no package.
 const NO_ROWS: [u8; 40] = [
@@ -15,7 +15,17 @@ const NO_ROWS: [u8; 40] = [
 /// Where the type spec of table A has how many entries there are.
 const SPEC_COUNT: usize = 340;
 
-fn is_printed_as(alloc: Global, table: &[u8], want: &str) -> bool {
+/// Where the type of table A begins.
+const TYPE: usize = 348;
+
+/// A type spec of the same type that counts no entry.
+const NO_ENTRIES: [u8; 16] = [2, 2, 16, 0, 16, 0, 0, 0, 1, 0, 0, 0, 0, 0, 0, 0];
+
+/// Where the sizes of table A and of its package stand, and what they are with another spec and another type.
+const SIZES: [(usize, [u8; 2]); 2] = [(4, [0xf4, 1]), (44, [0xcc, 1])];
+
+/// Whether this is printed of the rows of a table.
+pub(crate) fn is_printed_as(alloc: Global, table: &[u8], want: &str) -> bool {
     let mut out = Vec::new(alloc);
     let ended = rows_bytes(alloc, table, &mut out);
     ended == Ok(Status::Done) && out.as_slice() == want.as_bytes()
@@ -37,6 +47,26 @@ fn prints_tables_that_were_written_byte_by_byte(rt: HostRuntime) {
     assert!(rt; is_printed_as(rt.alloc(), &NO_ROWS, "rows 0 set-aside 0\n"));
     assert!(rt; prints_one_row(rt.alloc()) == Some(true));
     assert!(rt; prints_no_row_that_is_not_counted(rt.alloc()) == Some(true));
+}
+
+// Table A, after whose type the same type stands again, behind a spec that counts no entry.
+fn with_two_specs(alloc: Global) -> Result<Vec<u8>, AllocError> {
+    let once = table_a(alloc)?;
+    let mut bytes = table_a(alloc)?;
+    bytes.extend_from_slice(&NO_ENTRIES)?;
+    bytes.extend_from_slice(once.get(TYPE..).unwrap_or_default())?;
+    for (at, size) in &SIZES {
+        put(&mut bytes, *at, size);
+    }
+    Ok(bytes)
+}
+
+#[test]
+fn counts_entries_by_the_last_spec(rt: HostRuntime) -> Result<(), AllocError> {
+    let table = with_two_specs(rt.alloc())?;
+    let want = "row 0x7f010000 [] decimal 5\nrows 1 set-aside 0\n";
+    assert!(rt; is_printed_as(rt.alloc(), &table, want));
+    Ok(())
 }
 
 fn fails_to_print(alloc: Global) -> bool {

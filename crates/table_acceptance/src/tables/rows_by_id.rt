@@ -4,7 +4,7 @@ use res_value::ResId;
 use resource_table::Table;
 use row_index::IndexedTable;
 use std::alloc::{AllocError, Global};
-use test_layers::{layer, layer_of_lines, put};
+use test_layers::{layer, layer_of_lines, put, sparse_layer_of_lines};
 use type_chunks::Row;
 
 /// Where the numbers of a table's header stand: its size, and how many packages it has.
@@ -111,6 +111,16 @@ fn has_rows_of_one(alloc: Global, lines: &str, counts: &[(u32, usize)]) -> Optio
 fn finds_the_rows_of_one_package(rt: HostRuntime) {
     assert!(rt; has_rows_of_one(rt.alloc(), ONE_PACKAGE, &OF_ONE) == Some(true));
     assert!(rt; has_rows_of_one(rt.alloc(), "", &[(0x7f01_0000, 0)]) == Some(true));
+}
+
+fn has_rows_of_sparse_types(alloc: Global) -> Option<bool> {
+    let bytes = sparse_layer_of_lines(alloc, ONE_PACKAGE).ok()?;
+    has_rows(alloc, &bytes, &OF_ONE)
+}
+
+#[test]
+fn finds_the_rows_of_sparse_types(rt: HostRuntime) {
+    assert!(rt; has_rows_of_sparse_types(rt.alloc()) == Some(true));
 }
 
 /// Of two packages of one id.

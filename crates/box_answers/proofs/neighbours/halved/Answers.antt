@@ -7,26 +7,26 @@ use Rattle.box_answers.proofs.neighbours.halved.Goals as goal
 
 pub changed-device-requires : goal.changed-device-requires
 changed-device-requires c =
-    c.requires.sets.can c.args.pair.coord c.in-Some.middle
-    (middle-in (set_at (sets_of c.args.sets.now) c.args.pair.coord) _ _ _ _ c.in-Some.middle c.requires.range (c.loop-middle.invariant.yes_member c.args.pair.coord) (c.loop-middle.invariant.no_member c.args.pair.coord)
+    (c.requires.sets.each c.args.pair.coord).can c.in-Some.middle
+    (middle-in (set_at (sets_of c.args.sets.now) c.args.pair.coord) _ _ _ _ c.in-Some.middle c.requires.range (c.loop-middle.invariant.yes.member c.args.pair.coord) (c.loop-middle.invariant.no.member c.args.pair.coord)
     c.compared_number.ensures.value c.compared_number-in-loop-middle.ensures.value c.in-Some.ensures.found)
 
 pub loop-middle-preserved-then-answered : goal.loop-middle-preserved-then-answered
 loop-middle-preserved-then-answered c =
     let is : IsIn (set_at (sets_of c.args.sets.now) c.args.pair.coord) c.in-Some.middle =
-    middle-in (set_at (sets_of c.args.sets.now) c.args.pair.coord) _ _ _ _ c.in-Some.middle c.requires.range (c.loop-middle.invariant.yes_member c.args.pair.coord) (c.loop-middle.invariant.no_member c.args.pair.coord)
+    middle-in (set_at (sets_of c.args.sets.now) c.args.pair.coord) _ _ _ _ c.in-Some.middle c.requires.range (c.loop-middle.invariant.yes.member c.args.pair.coord) (c.loop-middle.invariant.no.member c.args.pair.coord)
     c.compared_number.ensures.value c.compared_number-in-loop-middle.ensures.value c.in-Some.ensures.found in
     parts-first _ _ _ _ _ c.args.pair.coord c.loop-middle.invariant
-    (member-changed _ _ _ c.args.pair.coord c.in-Some.middle c.loop-middle.invariant.yes_member is c.changed-device.ensures.same c.changed-device.ensures.others)
+    (member-changed _ _ _ c.args.pair.coord c.in-Some.middle c.loop-middle.invariant.yes.member is c.changed-device.ensures.same c.changed-device.ensures.others)
     (sym c.answered.ensures ∙ c.if-answered.true) c.changed-device.ensures.others
 
 pub loop-middle-preserved : goal.loop-middle-preserved
 loop-middle-preserved c =
     let is : IsIn (set_at (sets_of c.args.sets.now) c.args.pair.coord) c.in-Some.middle =
-    middle-in (set_at (sets_of c.args.sets.now) c.args.pair.coord) _ _ _ _ c.in-Some.middle c.requires.range (c.loop-middle.invariant.yes_member c.args.pair.coord) (c.loop-middle.invariant.no_member c.args.pair.coord)
+    middle-in (set_at (sets_of c.args.sets.now) c.args.pair.coord) _ _ _ _ c.in-Some.middle c.requires.range (c.loop-middle.invariant.yes.member c.args.pair.coord) (c.loop-middle.invariant.no.member c.args.pair.coord)
     c.compared_number.ensures.value c.compared_number-in-loop-middle.ensures.value c.in-Some.ensures.found in
     parts-no _ _ _ _ _ c.args.pair.coord c.loop-middle.invariant
-    (member-changed _ _ _ c.args.pair.coord c.in-Some.middle c.loop-middle.invariant.yes_member is c.changed-device.ensures.same c.changed-device.ensures.others)
+    (member-changed _ _ _ c.args.pair.coord c.in-Some.middle c.loop-middle.invariant.yes.member is c.changed-device.ensures.same c.changed-device.ensures.others)
     (sym c.answered.ensures ∙ c.if-answered.false) c.changed-device.ensures.others
 
 pub returns-clause-near : goal.returns-clause-near

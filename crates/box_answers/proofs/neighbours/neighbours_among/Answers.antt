@@ -7,10 +7,10 @@ use Rattle.box_answers.proofs.neighbours.neighbours_among.Goals as goal
 pub loop-coord-preserved : goal.loop-coord-preserved
 loop-coord-preserved c =
     let answer : c.answered.result ≡ true = search rules in
-    Approaches-next _ _ _ _ _ c.loop-coord.coord-index _ c.args.coords.now _ c.loop-coord.invariant c.requires.coords refl c.loop-coord-test.true c.requires.no_member
+    Approaches-next _ _ _ _ _ c.loop-coord.coord-index _ c.args.coords.now _ c.loop-coord.invariant c.requires.coords refl c.loop-coord-test.true c.requires.no.member
     (c.changed-next.ensures.same ∙ c.compared_number.ensures.value) c.changed-next.ensures.others (sym c.answered.ensures ∙ answer)
 
 pub unreachable-requires : goal.unreachable-requires
 unreachable-requires c =
     Approaches-end _ c.args.question.now _ _ c.loop-coord.coord-index c.loop-coord.invariant
-    (omega (arith, c.loop-coord-test.false, ap (λ (cs : List Coord). length cs) c.requires.coords, all_coords-count)) c.requires.no_answer
+    (omega (arith, c.loop-coord-test.false, ap (λ (cs : List Coord). length cs) c.requires.coords, all_coords-count)) c.requires.no.answers

@@ -16,7 +16,7 @@ returns-in-Range-clause-needed c = λ trace settled.
     let at = c.args.parting.now.pair.coord in
     let range : is_range (set_at c.args.members.now at) ≡ true = ap is_range (sym c.in-Range.ensures.value) in
     cut-range trace (answer_of c.args.parting.now) c.args.members.now (device_numbers c.args.parting.now.pair.yes) (device_numbers c.args.parting.now.pair.no) at c.min-lesser.result c.requires range
-    (right-range c.args.members.now at c.min-lesser.result (c.in-Range.ensures.sets.kinds at) range) (cc) settled
+    (right-range c.args.members.now at c.min-lesser.result (c.in-Range.ensures.sets.each at).kind range) (cc) settled
 
 pub returns-in_ok-listed-in-Numbers-clause-needed : goal.returns-in_ok-listed-in-Numbers-clause-needed
 returns-in_ok-listed-in-Numbers-clause-needed c = λ trace settled.

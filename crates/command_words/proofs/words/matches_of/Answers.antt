@@ -3,6 +3,7 @@ use Rattle.std.proofs.lemmas.Result.{IfOk-weaker}
 use Rattle.clap.specs.Simple.{App, app_of}
 use Rattle.clap.proofs.CallerLemmas.{subcommand_required}
 use Rattle.command_words.proofs.CommandLineFacts.{command_line_needs_command, fails_by_kinds, has_subcommand_of}
+use Rattle.command_words.proofs.NamedCommand.{met_is_named}
 use Rattle.command_words.proofs.words.matches_of.Goals as goal
 
 pub returns-clause-kinds : goal.returns-clause-kinds
@@ -22,3 +23,7 @@ returns-clause-required c =
     (λ m parsed. subcommand_required c.in_ok-program.program m parsed c.in_ok-program.ensures.local
     (ap (λ (a : App). a.top.subcommand_required) c.in_ok-program.ensures.app ∙ command_line_needs_command))
     c.try_get_matches_from.ensures.parsed
+
+pub returns-clause-named : goal.returns-clause-named
+returns-clause-named c =
+    met_is_named (map string_bytes c.args.words.now) c.try_get_matches_from.result (returns-clause-kinds c) (returns-clause-command c)

@@ -17,7 +17,7 @@ returns-then-says-clause-found c =
     let rule = c.args.self.now.rule in
     let set : SetOf = set_of c.set_at-set.result.now in
     let at : set ≡ set_at (sets_of c.args.self.now.sets.now) rule.coord = c.set_at-set.ensures in
-    let proper : IsProper set = subst (λ (s : SetOf). IsProper s) (sym at) (c.requires.search.sets.proper rule.coord) in
+    let proper : IsProper set = subst (λ (s : SetOf). IsProper s) (sym at) (c.requires.search.sets.each rule.coord).proper in
     let on : c.loop-place.place < length (tried_numbers set c.compared_number-a.result c.compared_number-b.result) =
     omega (arith, c.loop-place-test.true, c.tried_count-place-end.ensures c.compared_number-a.result c.compared_number-b.result) in
     let is : IsIn set c.tried_number.result = rw c.tried_number.ensures (tried-in set c.compared_number-a.result c.compared_number-b.result c.loop-place.place proper on) in

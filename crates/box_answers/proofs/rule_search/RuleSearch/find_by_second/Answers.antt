@@ -4,7 +4,8 @@ use Rattle.config_precedence.specs.config_record.Record.{record_bytes}
 use Rattle.config_precedence.specs.config_record.ComparedNumber.{record_number, device_number}
 use Rattle.config_precedence.specs.config_record.DeviceSeen.{device_numbers}
 use Rattle.config_precedence.specs.config_rules.Rule.{rule_answer}
-use Rattle.box_answers.specs.NumberSet.{SetOf, IsIn, IsLeastIn, IsGreatestIn}
+use Rattle.box_answers.specs.NumberSet.{SetOf, IsIn, IsLeastIn}
+use Rattle.box_answers.specs.SearchedSet.{IsGreatestIn}
 use Rattle.box_answers.specs.Members.{sets_of}
 use Rattle.box_answers.specs.Changes.{answer_at}
 use Rattle.box_answers.proofs.Sets.{change-found}

@@ -2,7 +2,8 @@ use Rattle.std.proofs.Common.{ℕ, subst, ap, ◌∙◌}
 use Rattle.config_precedence.specs.config_record.declared.device.Device.{Device}
 use Rattle.config_precedence.specs.config_record.Record.{record_bytes}
 use Rattle.config_precedence.specs.config_record.ComparedNumber.{record_number}
-use Rattle.box_answers.specs.NumberSet.{SetOf, IsIn, IsLeastIn, IsGreatestIn}
+use Rattle.box_answers.specs.NumberSet.{SetOf, IsIn, IsLeastIn}
+use Rattle.box_answers.specs.SearchedSet.{IsGreatestIn}
 use Rattle.box_answers.specs.Members.{sets_of}
 use Rattle.box_answers.specs.Changes.{answer_at}
 use Rattle.box_answers.proofs.Sets.{member-changed, change-twice}

@@ -1,10 +1,10 @@
 use Rattle.std.proofs.Common.{◌≡◌, ◌⊎◌, inl, true, false, List, sym, ◌∙◌, ap, subst}
 use Rattle.box_answers.specs.NumberSet.{SetOf, set_of}
 use Rattle.box_answers.specs.Members.{sets_of, set_at, IsMember}
+use Rattle.box_answers.specs.Settled.{AllAnswer}
 use Rattle.box_answers.specs.config_record.declared.coord.Coord.{Coord}
-use Rattle.config_box.specs.Tests.{test_of, coord_of, has_wrong_kind}
+use Rattle.config_box.specs.Tests.{test_of, coord_of, answers, has_wrong_kind}
 use Rattle.config_box.specs.HalfSets.{IsAskable, NoneAnswers}
-use Rattle.config_box.specs.Halves.{AllAnswer}
 use Rattle.config_box.proofs.HalfSteps.{askable, all-answer_yes}
 use Rattle.config_box.proofs.config_box.ConfigBox.split.Goals as goal
 
@@ -20,14 +20,14 @@ half_of-requires-2-clause-askable c =
     (ap (λ (k : Coord). set_at (sets_of c.as_slice-sets.result.now) k) (sym c.coord.ensures) ∙ sym c.set_at-set.ensures)
     (askable (sets_of c.as_slice-sets.result.now) (test_of c.args.test.now) (sym c.has_wrong_kind.ensures ∙ c.if-has_wrong_kind.false))
 
-pub returns-in_default-2 : goal.returns-in_default-2
-returns-in_default-2 c =
+pub returns-in_default-2-clause-halves : goal.returns-in_default-2-clause-halves
+returns-in_default-2-clause-halves c =
     let sets : List SetOf = sets_of c.as_slice-sets.result.now in
     let test = test_of c.args.test.now in
     let whole : sets ≡ c.args.self.now = ap sets_of c.as_slice-sets.ensures.value ∙ c.self.view_is in
     let at : set_of c.set_at-set.result.now ≡ set_at sets (coord_of test) = c.set_at-set.ensures ∙ ap (λ (k : Coord). set_at sets k) c.coord.ensures in
     let none : NoneAnswers (set_of c.set_at-set.result.now) test false = rw c.in_default-2.is at c.in_ok-no.ensures in
-    subst (λ (b : List SetOf). (has_wrong_kind b test ≡ false) × (AllAnswer (IsMember b) test true ⊎ AllAnswer (IsMember b) test false)) whole (
+    subst (λ (b : List SetOf). (has_wrong_kind b test ≡ false) × (AllAnswer (IsMember b) (answers test) true ⊎ AllAnswer (IsMember b) (answers test) false)) whole (
       sym c.has_wrong_kind.ensures ∙ c.if-has_wrong_kind.false,
       inl (all-answer_yes sets test (subst (λ (s : SetOf). NoneAnswers s test false) at none)),
     )

@@ -1,7 +1,7 @@
 //! Layers, written.
 
 ghost use Rattle.contract_words.specs.Writes.{Writes};
-ghost use Rattle.fault_text.specs.LayerText.{layer_text};
+ghost use Rattle.line_parts.specs.LayerText.{layer_text};
 
 use crate::named::write_named_number;
 use std::io::{self, Write};

@@ -1,9 +1,9 @@
 -- A name, and behind it an id, a coordinate or a number, as text.
 use Rattle.std.specs.Prelude.{ℕ, List, ◌++◌, codes}
 use Rattle.std.specs.Fmt.{decimal}
-use Rattle.cert_tree.specs.res_value.ResId.{id_text}
-use Rattle.overlay_map.specs.config_record.declared.coord.Coord.{Coord}
-use Rattle.overlay_map.specs.config_record.Coord.{name_of}
+use Rattle.res_value.specs.ResId.{id_text}
+use Rattle.config_record.specs.declared.coord.Coord.{Coord}
+use Rattle.config_record.specs.Coord.{name_of}
 
 -- `NAME ID`
 unfoldable pub named_id : List ℕ → ℕ → List ℕ

@@ -1,10 +1,10 @@
 //! A name, and behind it an id, a coordinate or a number, written.
 
 ghost use Rattle.contract_words.specs.Writes.{Writes};
-ghost use Rattle.fault_text.specs.NamedText.{named_id, named_coord, named_number};
+ghost use Rattle.line_parts.specs.NamedText.{named_id, named_coord, named_number};
 
-use cert_tree::{ResId, write_id};
-use overlay_map::Coord;
+use config_record::Coord;
+use res_value::{ResId, write_id};
 use std::io::{self, Write};
 
 /// Writes a name and an id.

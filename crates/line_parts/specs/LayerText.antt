@@ -1,6 +1,6 @@
 -- Layers as text.
 use Rattle.std.specs.Prelude.{ℕ, List, codes}
-use Rattle.fault_text.specs.NamedText.{named_number}
+use Rattle.line_parts.specs.NamedText.{named_number}
 
 -- `layer L`, layers being counted from 0
 unfoldable pub layer_text : ℕ → List ℕ

@@ -1,0 +1,2 @@
+pub mod NamedText
+pub mod LayerText
