@@ -4,6 +4,7 @@ use Rattle.std.proofs.lemmas.Bool.{ltb-false, or_parts}
 use Rattle.std.specs.List.{list_any, range_with_len}
 use Rattle.std.specs.Borrow.{Bor}
 use Rattle.std.proofs.lemmas.Bool.{cases_eq}
+use Rattle.std.proofs.lemmas.Bool.Decides.{nat_tests}
 use Rattle.std.proofs.lemmas.List.{get_or-map, map-append, take_more, length-map}
 use Rattle.std.proofs.lemmas.List.FromFn.{get_or-range_with_len}
 use Rattle.std.proofs.Math.ListN.{get_or-append}
@@ -20,9 +21,8 @@ use Rattle.box_answers.specs.config_record.declared.coord.Coord.{Coord}
 use Rattle.box_answers.specs.config_record.declared.coord.Coord.TheVariants as coords
 use Rattle.box_answers.specs.config_record.Coord.{all_coords, place_of, greatest_of, greatest_of_device, is_outside}
 use Rattle.box_answers.specs.config_record.ComparedNumber.{locale_of_number}
-use Rattle.box_answers.specs.config_record.Device.{CanHave}
 use Rattle.box_answers.specs.config_record.Locale.{IsGiven, checked_locale}
-use Rattle.box_answers.proofs.config_record.DeviceLemmas.{inside-can}
+use Rattle.box_answers.proofs.config_record.DeviceLemmas.{inside-within, inside-some, inside-can}
 use Rattle.box_answers.specs.declared.number_set.NumberSet.{NumberSet}
 use Rattle.box_answers.specs.NumberSet.{SetOf, set_of, RangeOf, NumbersOf, LocalesOf}
 use Rattle.box_answers.specs.Members.{sets_of, set_at, IsOfKind, IsSetAt, IsBox}
@@ -37,10 +37,15 @@ use Rattle.config_box.proofs.ChoiceSteps.{rising-increases, rising-few, rising-s
 
 -- ---- numbers in their range
 
-between-can : (c : Coord) (from to n : ℕ) → c ≢ coords.Locale → CanHave c from → CanHave c to → from ≤ n → n ≤ to → CanHave c n
-between-can coords.Locale from to n other f t p q = absurd (other refl)
-between-can coords.Density from to n other f t p q = (omega (arith, f), omega (arith, t))
-between-can c from to n other f t p q = omega (arith, t)
+between-inside : (c : Coord) (from to n : ℕ) → is_outside c from ≡ false → is_outside c to ≡ false → from ≤ n → n ≤ to → is_outside c n ≡ false
+unfolding is_outside
+between-inside coords.Density from to n f t p q =
+    let some = inside-some from f in
+    let within = inside-within coords.Density to t in
+    let not_zero : (n == 0) ≡ false = grind (arith, nat_tests) in
+    let not_above : nat_lt (greatest_of_device coords.Density) n ≡ false = grind (arith, nat_tests) in
+    cc
+between-inside c from to n f t p q = let within = inside-within c to t in grind (arith, nat_tests)
 
 kind-range : (c : Coord) (from to : ℕ) → c ≢ coords.Locale → IsOfKind c (RangeOf from to)
 kind-range coords.Locale from to other = absurd (other refl)
@@ -55,7 +60,7 @@ range-fits c from to other le first last = record {
   proper = record { nonempty = omega arith; rises = le };
   kind = kind-range c from to other;
   few = omega arith;
-  can = λ n is. between-can c from to n other (inside-can c from other first) (inside-can c to other last) is.0 is.1;
+  can = λ n is. inside-can c n other (between-inside c from to n first last is.0 is.1);
 }
 
 pub numbers-fit : (c : Coord) (numbers : List ℕ) → c ≢ coords.Locale → 0 < length numbers → length numbers ≤ 512 → list_any (is_outside c) numbers ≡ false → IsSetAt c (NumbersOf (rising numbers))
@@ -63,12 +68,8 @@ numbers-fit c numbers other some few inside = record {
   proper = record { nonempty = rising-some numbers some; rises = rising-increases numbers };
   kind = kind-numbers c (rising numbers) other;
   few = let le = rising-few numbers in omega arith;
-  can = rising-each (CanHave c) numbers (each-can numbers (each-not (is_outside c) numbers inside));
+  can = λ n is. inside-can c n other (rising-each (λ m. is_outside c m ≡ false) numbers (each-not (is_outside c) numbers inside) n is);
 }
-  where
-    each-can : (ns : List ℕ) → Each (λ n. is_outside c n ≡ false) ns → Each (CanHave c) ns
-    each-can [] h = tt
-    each-can (n ∷ ns) h = (inside-can c n other h.0, each-can ns h.1)
 
 pub locales-fit : (numbers : List ℕ) → 0 < length numbers → length numbers ≤ 512 → Each (λ n. IsGiven (locale_of_number n)) numbers → IsSetAt coords.Locale (LocalesOf (rising numbers))
 locales-fit numbers some few given = record {
@@ -79,10 +80,10 @@ locales-fit numbers some few given = record {
 }
 
 -- 0 stands for nothing
-nothing-can : (c : Coord) → c ≢ coords.Locale → c ≢ coords.Density → CanHave c 0
-nothing-can coords.Locale a b = absurd (a refl)
-nothing-can coords.Density a b = absurd (b refl)
-nothing-can c a b = omega arith
+pub nothing-inside : (c : Coord) → c ≢ coords.Density → list_any (is_outside c) (0 ∷ []) ≡ false
+unfolding is_outside greatest_of_device greatest_of
+nothing-inside coords.Density other = absurd (other refl)
+nothing-inside c other = refl
 
 -- ---- a set more
 

@@ -8,7 +8,7 @@ use Rattle.config_record.specs.Coord.{all_coords, place_of, number_at, greatest_
 use Rattle.config_record.specs.ComparedNumber.{locale_of_number}
 use Rattle.config_record.specs.Device.{device_locale, CanHave}
 use Rattle.config_record.specs.Locale.{IsGiven}
-use Rattle.config_record.proofs.DeviceLemmas.{coordinate-at_place, place_of-within}
+use Rattle.config_record.proofs.DeviceLemmas.{coordinate-at_place, place_of-within, inside-within, inside-some}
 
 -- two coordinates at one place are one
 pub place_of-injective : (c k : Coord) → place_of c ≡ place_of k → c ≡ k
@@ -31,8 +31,7 @@ number_at-set_other numbers c k n other = get_or-set_other numbers (place_of c) 
 -- what a device can have is what its type asks for
 pub can_have-within : (c : Coord) (n : ℕ) → CanHave c n → c ≢ coords.Locale → n ≤ greatest_of_device c
 can_have-within coords.Locale n h other = absurd (other refl)
-can_have-within coords.Density n h other = h.1
-can_have-within c n h other = h
+can_have-within c n h other = inside-within c n h
 
 pub changed-in_range : (numbers : List ℕ) (at : Coord) (n : ℕ) → length numbers ≡ 25 → CanHave at n
     → ((c : Coord) → c ≢ coords.Locale → number_at numbers c ≤ greatest_of_device c)
@@ -52,7 +51,7 @@ changed-with_density numbers at n count can before =
     by_coord coords.Density at
     (λ e. let new : number_at (set numbers (place_of at) n) coords.Density ≡ n = ap (number_at (set numbers (place_of at) n)) e ∙ number_at-set_same numbers at n count in
     let within : CanHave coords.Density n = subst (λ (k : Coord). CanHave k n) (sym e) can in
-    omega (arith, within.0))
+    omega (arith, inside-some n within))
     (λ ne. let old : number_at (set numbers (place_of at) n) coords.Density ≡ number_at numbers coords.Density = number_at-set_other numbers at coords.Density n ne in
     omega arith)
 

@@ -66,19 +66,18 @@ number_at-given f numbers c e =
 same_number : (a b : ℕ) (r : Result ℕ DeviceFault) → r ≡ Ok a → r ≡ Ok b → a ≡ b
 same_number a b r e f = cc
 
-inside-within : (c : Coord) (n : ℕ) → is_outside c n ≡ false → n ≤ greatest_of_device c
+pub inside-within : (c : Coord) (n : ℕ) → is_outside c n ≡ false → n ≤ greatest_of_device c
 unfolding is_outside
 inside-within coords.Density n e = let h = or_parts (n == 0) (nat_lt (greatest_of_device coords.Density) n) e in let within = ltb-false (greatest_of_device coords.Density) n h.1 in omega arith
 inside-within c n e = let within = ltb-false (greatest_of_device c) n e in omega arith
 
-inside-some : (n : ℕ) → is_outside coords.Density n ≡ false → 1 ≤ n
+pub inside-some : (n : ℕ) → is_outside coords.Density n ≡ false → 1 ≤ n
 unfolding is_outside
 inside-some n e = let h = or_parts (n == 0) (nat_lt (greatest_of_device coords.Density) n) e in let some = eqb-false n 0 h.0 in omega arith
 
 pub inside-can : (c : Coord) (n : ℕ) → c ≢ coords.Locale → is_outside c n ≡ false → CanHave c n
 inside-can coords.Locale n other e = absurd (other refl)
-inside-can coords.Density n other e = (inside-some n e, inside-within coords.Density n e)
-inside-can c n other e = inside-within c n e
+inside-can c n other e = e
 
 field_in-within : (c : Coord) (asked n : ℕ) → field_in c asked ≡ Ok n → n ≤ greatest_of_device c
 field_in-within c asked n e =

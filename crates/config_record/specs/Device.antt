@@ -1,6 +1,6 @@
 -- Devices: the configurations that are asked for. A device is the list of the numbers that are compared,
 -- one for each coordinate, in their order.
-use Rattle.std.specs.Prelude.{ℕ, ◌≤◌, List, [], ◌∷◌, Result, Ok, Err}
+use Rattle.std.specs.Prelude.{◌≡◌, ℕ, false, List, [], ◌∷◌, Result, Ok, Err}
 use Rattle.contract_words.specs.Faults.{checked_by}
 use Rattle.json_input.specs.Each.{each}
 use Rattle.config_record.specs.declared.coord.Coord as coord
@@ -11,7 +11,7 @@ use Rattle.config_record.specs.declared.locale.LocaleFault.TheVariants as of_loc
 use Rattle.config_record.specs.declared.fields.Fields.{Fields}
 use Rattle.config_record.specs.declared.fields.DeviceFault.{DeviceFault}
 use Rattle.config_record.specs.declared.fields.DeviceFault.TheVariants.{FieldRange, RegionAlone, Density}
-use Rattle.config_record.specs.Coord.{all_coords, number_at, greatest_of_device, is_outside}
+use Rattle.config_record.specs.Coord.{all_coords, number_at, is_outside}
 use Rattle.config_record.specs.Locale.{checked_locale, IsGiven}
 use Rattle.config_record.specs.ComparedNumber.{locale_number, locale_of_number, device_number}
 
@@ -58,5 +58,4 @@ device_coordinate d c = device_number d c
 -- A device can have this number at this coordinate: one in its range, and at the locale that of one that a text gives.
 abbrev pub CanHave : coord.Coord → ℕ → Type 0
 CanHave coords.Locale n = IsGiven (locale_of_number n)
-CanHave coords.Density n = (1 ≤ n) × (n ≤ greatest_of_device coords.Density)
-CanHave c n = n ≤ greatest_of_device c
+CanHave c n = is_outside c n ≡ false
