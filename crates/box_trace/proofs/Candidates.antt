@@ -1,11 +1,12 @@
 -- Candidates that are judged by all members of a box.
-use Rattle.std.proofs.Common.{◌≡◌, ℕ, true, false, IsTrue, List, [], ◌∷◌, ◌++◌, append_assoc, append-nil, sym, ◌∙◌, ap, subst}
-use Rattle.std.proofs.lemmas.List.{map-append}
+use Rattle.std.proofs.Common.{◌≡◌, ◌<◌, ◌+◌, ℕ, Bool, true, false, IsTrue, List, [], ◌∷◌, ◌++◌, map, drop, length, get_or, append_assoc, append-nil, sym, ◌∙◌, ap, subst}
+use Rattle.std.proofs.lemmas.List.{map-append, drop-map, drop_more}
 use Rattle.std.specs.List.{All}
-use Rattle.std.proofs.lemmas.List.Elements.{All-nil, All-push, All-weaker}
+use Rattle.std.proofs.lemmas.List.Elements.{All-nil, All-push, All-weaker, All-head, All-drop}
 use Rattle.config_box.specs.box_answers.Settled.{AllAnswer}
+use Rattle.reference_resolver.specs.overlay_map.declared.candidate.Cand.{Cand}
 use Rattle.reference_resolver.specs.overlay_map.Candidates.{CandOf}
-use Rattle.box_trace.specs.Live.{LiveOf, listed, matches, LeavesOut, AreMarked, IsLive, AreLive}
+use Rattle.box_trace.specs.Live.{LiveOf, live_of, listed, matches, LeavesOut, AreMarked, IsLive, AreLive}
 use Rattle.box_trace.proofs.LeftOut.{leave_last, keep_last}
 
 pub none_live : (members : List ℕ → Type 0) → AreLive members [] []
@@ -56,3 +57,16 @@ judged_in members all left more live after candidate l e pushed is to = record {
 pub judged_all : (members : List ℕ → Type 0) (all left : List CandOf) (live : List LiveOf) → left ≡ [] → JudgedTo members all left live → AreLive members all live
 judged_all members all left live none to =
     subst (λ (k : List CandOf). AreLive members k live) (sym (to.parts ∙ ap (λ (k : List CandOf). to.seen ++ k) none ∙ append-nil to.seen)) to.are
+
+-- ---- the next one of a list
+
+pub next_live : (items : List (Cand × Bool)) (live : List LiveOf) (k : ℕ) (x : Cand × Bool) → map live_of items ≡ live → k < length items → x ≡ get_or items k x → drop k live ≡ live_of x ∷ drop (k + 1) live
+next_live items live k x all within is =
+    let next : drop k items ≡ x ∷ drop (k + 1) items = drop_more items k x within ∙ ap (λ (y : Cand × Bool). y ∷ drop (k + 1) items) (sym is) in
+    ap (drop k) (sym all) ∙ drop-map live_of k items ∙ ap (map live_of) next ∙ ap (λ (others : List LiveOf). live_of x ∷ others) (sym (drop-map live_of (k + 1) items) ∙ ap (drop (k + 1)) all)
+
+-- if it is marked, it matches all members
+pub next_marked : (members : List ℕ → Type 0) (live others : List LiveOf) (k : ℕ) (l : LiveOf) → drop k live ≡ l ∷ others → AreMarked members live → IsTrue l.marked → AllAnswer members (matches l.candidate) true
+next_marked members live others k l e marked =
+    let P = λ (l : LiveOf). IsTrue l.marked → AllAnswer members (matches l.candidate) true in
+    All-head P l others (subst (All P) e (All-drop P k live marked))

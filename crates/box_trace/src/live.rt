@@ -101,6 +101,7 @@ fn judged_again<'a>(live: (Cand<'a>, bool), members: &ConfigBox) -> Option<(Cand
     ensures { MatchOption result (AllAnswer (IsMember members.now) (matches (cand_of live.entry.0)) false) (λ again. IsLive (IsMember members.now) (cand_of live.entry.0) (live_of again)) }
 {
     if live.1 {
+        members.has_member();
         Some(live)
     } else {
         judged(live.0, members)

@@ -29,6 +29,7 @@ pub(crate) struct Walk<'a> {
 
 impl<'a> Walk<'a> {
     ghost use Rattle.std.specs.Prelude.{◌≡◌, ℕ, List, IfOk, IfSome, IfNone, [], length};
+    ghost use Rattle.config_box.specs.box_answers.NumberSet.{SetOf};
     ghost use Rattle.config_box.specs.box_answers.Members.{IsMember};
     ghost use Rattle.reference_resolver.specs.overlay_map.Layer.{LayerOf};
     ghost use Rattle.reference_resolver.specs.Trace.{Trace, trace_of};
@@ -60,7 +61,7 @@ impl<'a> Walk<'a> {
 
     /// The same walk. Its list is not copied.
     pub(crate) fn shared(&self) -> Result<Walk<'a>, OutOfMemory>
-        ensures walked { IfOk result (λ walk. (stack : List LayerOf) (members : List ℕ → Type 0) (trace : List ℕ → Trace) → HaveWalked stack members trace self.now → HaveWalked stack members trace walk) }
+        ensures walked { IfOk result (λ walk. (stack : List LayerOf) (sets : List SetOf) (trace : List ℕ → Trace) → HaveWalked stack (IsMember sets) trace self.now → HaveWalked stack (IsMember sets) trace walk) }
         ensures live { IfOk result (λ walk. walk.live.value ≡ self.now.live.value) }
     {
         Ok(Walk {
