@@ -4,7 +4,7 @@ use Rattle.std.proofs.lemmas.List.{get_or-map}
 use Rattle.config_precedence.specs.config_record.Coord.{place_of}
 use Rattle.config_precedence.specs.config_record.ComparedNumber.{device_number}
 use Rattle.box_answers.specs.NumberSet.{SetOf, RangeOf, listed, IsLeastIn}
-use Rattle.box_answers.specs.Members.{set_at, IsMember, IsBox, IsCorner}
+use Rattle.box_answers.specs.Members.{set_at, IsMember, SomeMember, IsBox, IsCorner}
 use Rattle.box_answers.specs.Settled.{AllAnswer, SomeAnswers}
 use Rattle.box_answers.proofs.Coords.{place_of-below}
 use Rattle.box_answers.proofs.Sets.{least-of}
@@ -18,7 +18,7 @@ corner-of sets b c =
     let at : device_number (map least sets) c ≡ least (set_at sets c) = get_or-map least sets (place_of c) (RangeOf 0 0) 0 (omega (arith, place_of-below c, b.count)) in
     subst (λ (n : ℕ). IsLeastIn (set_at sets c) n) (sym at) (least-of (set_at sets c) (b.each c).proper)
 
-pub some_member : (sets : List SetOf) → IsBox sets → (d : List ℕ) × IsMember sets d
+pub some_member : (sets : List SetOf) → IsBox sets → SomeMember sets
 some_member sets b = (map least sets, λ c. (corner-of sets b c).is_in)
 
 -- so what all of them answer, one of them does

@@ -19,6 +19,9 @@ set_at sets c = slice_index_or sets (place_of c) (RangeOf 0 0)
 abbrev pub IsMember : List SetOf → List ℕ → Type 0
 IsMember sets d = (c : coord.Coord) → IsIn (set_at sets c) (device_number d c)
 
+abbrev pub SomeMember : List SetOf → Type 0
+SomeMember sets = (d : List ℕ) × IsMember sets d
+
 -- locales stand at the locale alone, and they are always a choice
 abbrev pub IsOfKind : coord.Coord → SetOf → Type 0
 IsOfKind coords.Locale (LocalesOf numbers) = Unit {0}

@@ -7,7 +7,7 @@ ghost use Rattle.box_answers.specs.config_match.Matching.{is_match};
 ghost use Rattle.box_answers.specs.config_precedence.Precedence.{is_better};
 ghost use Rattle.contract_words.specs.Exact.{GivesOr};
 ghost use Rattle.box_answers.specs.NumberSet.{set_of};
-ghost use Rattle.box_answers.specs.Members.{sets_of, set_at, IsMember, IsCorner, IsBox};
+ghost use Rattle.box_answers.specs.Members.{sets_of, set_at, IsMember, SomeMember, IsCorner, IsBox};
 ghost use Rattle.config_box.specs.Tests.{test_of, coord_of};
 ghost use Rattle.config_box.specs.HalfSets.{IsHalfSet};
 ghost use Rattle.box_answers.specs.Sameness.{IsExact};
@@ -90,6 +90,13 @@ impl ConfigBox {
         ensures { IsCorner self.now (device_numbers result) }
     {
         box_answers::corner(self.sets.as_slice())
+    }
+
+    /// A box has a member. The call does nothing, and is there for its contract.
+    pub fn has_member(&self)
+        ensures { SomeMember self.now }
+    {
+        let _ = &self.sets;
     }
 
     /// Does a record match all members, none, or some?
