@@ -1,6 +1,6 @@
 -- Candidates that are judged by all members of a box.
-use Rattle.std.proofs.Common.{◌≡◌, ◌<◌, ◌+◌, ℕ, Bool, true, false, IsTrue, List, [], ◌∷◌, ◌++◌, map, drop, length, get_or, append_assoc, append-nil, sym, ◌∙◌, ap, subst}
-use Rattle.std.proofs.lemmas.List.{map-append, drop-map, drop_more}
+use Rattle.std.proofs.Common.{arith, ◌≡◌, ◌<◌, ◌+◌, ◌-◌, ℕ, Bool, true, false, IsTrue, List, [], ◌∷◌, ◌++◌, map, take, drop, length, get_or, append_assoc, append-nil, sym, ◌∙◌, ap, subst}
+use Rattle.std.proofs.lemmas.List.{map-append, drop-map, drop_more, take_all, length-drop}
 use Rattle.std.specs.List.{All}
 use Rattle.std.proofs.lemmas.List.Elements.{All-nil, All-push, All-weaker, All-head, All-drop}
 use Rattle.config_box.specs.box_answers.Settled.{AllAnswer}
@@ -70,3 +70,12 @@ pub next_marked : (members : List ℕ → Type 0) (live others : List LiveOf) (k
 next_marked members live others k l e marked =
     let P = λ (l : LiveOf). IsTrue l.marked → AllAnswer members (matches l.candidate) true in
     All-head P l others (subst (All P) e (All-drop P k live marked))
+
+-- ---- a part of a list, from a place on
+
+pub live_part : (items : List (Cand × Bool)) (live : List LiveOf) (k : ℕ) → map live_of items ≡ live → map live_of (take (length items - k) (drop k items)) ≡ drop k live
+live_part items live k all =
+    ap (map live_of) (take_all (length items - k) (drop k items) (omega (arith, length-drop k items))) ∙ sym (drop-map live_of k items) ∙ ap (drop k) all
+
+pub marked_part : (members : List ℕ → Type 0) (items : List (Cand × Bool)) (live : List LiveOf) (k : ℕ) → map live_of items ≡ live → AreMarked members live → AreMarked members (map live_of (take (length items - k) (drop k items)))
+marked_part members items live k all marked = subst (AreMarked members) (sym (live_part items live k all)) (All-drop (λ l. IsTrue l.marked → AllAnswer members (matches l.candidate) true) k live marked)

@@ -16,7 +16,7 @@ pub boxes-push : (before after : List OpenBox) (part : OpenBox) → after ≡ be
 boxes-push before after part e = ap boxes_of e ∙ map-append (λ (p : OpenBox). p.members) before (part ∷ [])
 
 -- what lies ahead of a walk, if its list leaves out nothing
-pub rest_of : List LayerOf → Walk → List ℕ → Trace
+abbrev pub rest_of : List LayerOf → Walk → List ℕ → Trace
 rest_of stack walk d = rest_at stack walk.id.0 walk.left (best_at walk) (listed (live_ahead walk)) d
 
 pub reached_there : (stack : List LayerOf) (part : OpenBox) → IsReached stack (rest_of stack part.walk) part

@@ -66,8 +66,8 @@ impl<'a> OpenBox<'a> {
     pub fn common_trace(&mut self, alloc: Global, stack: &Stack<'a>) -> Result<CommonTrace<'a>, OutOfMemory>
         ensures members { self.new.members ≡ self.old.members }
         ensures reached { (trace : List ℕ → Trace) → IsReached stack.now trace self.old → IsReached stack.now trace self.new }
-        ensures common { IfOk result (λ common. (trace : List ℕ → Trace) → IsReached stack.now trace self.old → IsCommonTrace common self.new.members trace) }
-        ensures parted { IfOk result (λ common. (trace : List ℕ → Trace) → IsReached stack.now trace self.old → IsParted common self.new.members trace) }
+        ensures common { IfOk result (λ common. (trace : List ℕ → Trace) → IsReached stack.now trace self.old → IsCommonTrace common self.old.members trace) }
+        ensures parted { IfOk result (λ common. (trace : List ℕ → Trace) → IsReached stack.now trace self.old → IsParted common self.old.members trace) }
     {
         if self.is_stale {
             self.walk = self.walk.judged(alloc, &self.members)?;

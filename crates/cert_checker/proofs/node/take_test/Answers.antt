@@ -1,4 +1,9 @@
-use Rattle.std.proofs.Common.{Some, sym, subst}
+use Rattle.std.proofs.Common.{ℕ, List, Some, sym, subst}
+use Rattle.std.specs.List.{All}
+use Rattle.std.proofs.lemmas.List.Elements.{All-same, All-push}
+use Rattle.box_trace.specs.reference_resolver.Trace.{Trace}
+use Rattle.box_trace.specs.OpenBox.{boxes_of, IsReached}
+use Rattle.box_trace.proofs.OpenBoxes.{boxes-push}
 use Rattle.cert_tree.specs.config_box.declared.split.Split.{Split}
 use Rattle.cert_tree.specs.config_box.Halves.{IsSplit}
 use Rattle.cert_tree.specs.config_box.Tests.{test_of}
