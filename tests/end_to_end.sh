@@ -283,23 +283,24 @@ else
     echo "not run, since python3 is missing: the step of a build"
 fi
 
-# Work of more than a second: one id 2,000 times, over a box with a long list. With standard error in a file nothing is
-# written there.
-table=$teapot/resources.arsc
-line app "[{\"table\":\"$table\"}]"
-awk 'BEGIN {
-    for (n = 100; n < 612; n++) list = list "," n
-    print "{\"density\":[" substr(list, 2) "],\"sdk\":[26]}"
-}' >long
-many=$(awk 'BEGIN { for (n = 0; n < 2000; n++) print "0x7f030000" }')
-ends "work that nothing is said of" 0 "\"\$0\" make app long $(echo $many) 2>said >made && [ ! -s said ]"
 if command -v python3 >/dev/null; then
     ends "worked certificates that are made" 0 "python3 '$here/tests/worked_made.py' \"\$0\""
     ends "random certificates that are made" 0 "python3 '$here/tests/check_made.py' \"\$0\" 400 4"
-    ends "work that a terminal says how far it is" 0 "python3 '$here/tests/on_terminal.py' \"\$0\" make app long $(echo $many) |
-        grep '^[0-9]* of 2000 goals done'"
+
+    # Work of more than a second: an id in which each pair of a locale and an mnc has a trace of its own, so many times
+    # that a terminal shows a line of it; more often on a fast machine. With standard error in a file nothing is written
+    # there.
+    python3 "$here/bench/make_list.py" 60 table.arsc pairs locale mnc
+    line pairs-layers '[{"table":"table.arsc"}]'
+    for goals in 30 130; do
+        many=$(awk -v goals=$goals 'BEGIN { while (goals-- > 0) print "0x7f010000" }')
+        python3 "$here/tests/on_terminal.py" "$program" make --max-nodes 1000000 pairs-layers pairs $many >terminal
+        grep -q "^[0-9]* of $goals goals done" terminal && break
+    done
+    ends "work that a terminal says how far it is" 0 "grep '^[0-9]* of $goals goals done' terminal"
+    ends "work that nothing is said of" 0 "\"\$0\" make --max-nodes 1000000 pairs-layers pairs $(echo $many) 2>said >made && [ ! -s said ]"
 else
-    echo "not run, since python3 is missing: worked and random certificates that are made, work on a terminal"
+    echo "not run, since python3 is missing: worked and random certificates that are made, work of more than a second"
 fi
 
 # ---- README and the guide: what they show after a command is what it prints

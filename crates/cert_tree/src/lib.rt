@@ -35,6 +35,4 @@ pub use config_box::{BoxFault, Choice, ConfigBox, MemberPair, Split, Test, Value
 pub use goal::Goal;
 pub use node::Node;
 pub use progress::{Progress, Unwatched};
-pub use res_value::{
-    Cell, ChunkFault, MapRows, ResId, Value, kind, write_hex, write_id, write_value, write_word,
-};
+pub use res_value::{ChunkFault, ResId};

@@ -10,9 +10,9 @@
 //! }
 //! ```
 //!
-//! A package holds type specs and types, and types hold entries, each where a slot of the type says. What rows these are, and which fault is the
-//! first, is said of each in `specs/PackageChildren.antt`, `specs/TypeSpec.antt`, `specs/TypeChunk.antt`,
-//! `specs/Slots.antt` and `specs/Entry.antt`.
+//! A package holds type specs and types, and types hold entries, each where a slot of the type says. What rows these
+//! are, and which fault is the first, is said of each in `specs/PackageChildren.antt`, `specs/TypeSpec.antt`,
+//! `specs/TypeChunk.antt`, `specs/Slots.antt` and `specs/Entry.antt`.
 #![tactic(auto)]
 
 mod bag_checks;
