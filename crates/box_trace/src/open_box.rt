@@ -63,7 +63,11 @@ impl<'a> OpenBox<'a> {
     }
 
     /// What the traces of all members have in common. The walk goes on to their end, or to where they part.
-    pub fn common_trace(&mut self, alloc: Global, stack: &Stack<'a>) -> Result<CommonTrace<'a>, OutOfMemory>
+    pub fn common_trace(
+        &mut self,
+        alloc: Global,
+        stack: &Stack<'a>,
+    ) -> Result<CommonTrace<'a>, OutOfMemory>
         ensures members { self.new.members ≡ self.old.members }
         ensures reached { (trace : List ℕ → Trace) → IsReached stack.now trace self.old → IsReached stack.now trace self.new }
         ensures common { IfOk result (λ common. (trace : List ℕ → Trace) → IsReached stack.now trace self.old → IsCommonTrace common self.old.members trace) }

@@ -37,10 +37,7 @@ impl<'a> Parting<'a> {
     pub fn answer(&self, device: &Device) -> bool
         ensures { result ≡ answer_of self.now (device_numbers device.now) }
     {
-        match (
-            Step::of(&self.best, &self.candidate, device),
-            self.asked,
-        ) {
+        match (Step::of(&self.best, &self.candidate, device), self.asked) {
             (Step::NoMatch, _) => false,
             (Step::KeptOut, asked) => asked == Asked::Matches,
             (Step::TookOver, _) => true,

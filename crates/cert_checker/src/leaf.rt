@@ -22,7 +22,7 @@ pub(crate) fn take_leaf<'a>(
     claimed: End,
 ) -> Result<Option<Failure>, OutOfMemory>
     requires { is_value claimed ≡ true }
-    ensures { IfOk result (λ outcome. (trace : List ℕ → Trace) → IsReached stack.now trace part → TakesLeaf trace claimed part.members outcome) }
+    ensures { IfOk result (λ outcome. (trace : List ℕ → Trace) → IsReached stack.now trace part.entry → TakesLeaf trace claimed part.entry.members outcome) }
 {
     let mut part = part;
     match part.common_trace(alloc, stack)? {

@@ -51,8 +51,8 @@ fn take_test<'a>(
     test: &Test,
     open_boxes: &mut Vec<OpenBox<'a>>,
 ) -> Result<Option<Failure>, OutOfMemory>
-    ensures outcome { IfOk result (λ outcome. TakesTest (test_of test.now) part.members (boxes_of open_boxes.old.items) (boxes_of open_boxes.new.items) outcome) }
-    ensures reached { IfOk result (λ _. (trace : List ℕ → Trace) → IsReached stack.now trace part → All (IsReached stack.now trace) open_boxes.old.items → All (IsReached stack.now trace) open_boxes.new.items) }
+    ensures outcome { IfOk result (λ outcome. TakesTest (test_of test.now) part.entry.members (boxes_of open_boxes.old.items) (boxes_of open_boxes.new.items) outcome) }
+    ensures reached { IfOk result (λ _. (trace : List ℕ → Trace) → IsReached stack.now trace part.entry → All (IsReached stack.now trace) open_boxes.old.items → All (IsReached stack.now trace) open_boxes.new.items) }
 {
     match part.members.split(alloc, test)? {
         Split::Halves(yes, no) => {

@@ -28,9 +28,9 @@ pub(crate) fn add_node<'a>(
     nodes: &mut Vec<Node>,
     open_boxes: &mut Vec<OpenBox<'a>>,
 ) -> Result<Option<(Device, End)>, OutOfMemory>
-    ensures grows { IfOk result (λ found. IfNone found (GrowsOn stack.now part (map node_of nodes.old.items) (map node_of nodes.new.items) open_boxes.old.items open_boxes.new.items)) }
+    ensures grows { IfOk result (λ found. IfNone found (GrowsOn stack.now part.entry (map node_of nodes.old.items) (map node_of nodes.new.items) open_boxes.old.items open_boxes.new.items)) }
     ensures one_more { IfOk result (λ found. IfNone found (length nodes.new.items ≡ length nodes.old.items + 1)) }
-    ensures counterexample { IfOk result (λ found. IfSome found (λ shown. (trace : List ℕ → Trace) → IsReached stack.now trace part → IsCounterexampleOf trace part.members (device_numbers shown.0) shown.1)) }
+    ensures counterexample { IfOk result (λ found. IfSome found (λ shown. (trace : List ℕ → Trace) → IsReached stack.now trace part.entry → IsCounterexampleOf trace part.entry.members (device_numbers shown.0) shown.1)) }
 {
     let mut part = part;
     match part.common_trace(alloc, stack)? {

@@ -12,6 +12,6 @@ pub loop-live-preserved : goal.loop-live-preserved
 loop-live-preserved c =
     let ahead = ap listed (next_live c.args.whole.now _ c.loop-live.live-index _ refl c.loop-live-test.true c.live-item.is) in
     elim c.match-judged_again.branch [
-      in-Some+in_ok-push w ↦ rw w.list-is (judged_in _ _ _ _ _ _ _ _ ahead (ap (map live_of) w.in_ok-push.ensures.items ∙ map-append live_of _ _) w.in-Some.ensures c.loop-live.invariant)
-    | in_default w ↦ rw w.list-is (judged_out _ _ _ _ _ _ ahead w.in_default.ensures c.loop-live.invariant)
+      | in-Some+in_ok-push w ↦ rw w.list-is (judged_in _ _ _ _ _ _ _ _ ahead (ap (map live_of) w.in_ok-push.ensures.items ∙ map-append live_of _ _) w.in-Some.ensures c.loop-live.invariant)
+      | in_default w ↦ rw w.list-is (judged_out _ _ _ _ _ _ ahead w.in_default.ensures c.loop-live.invariant)
     ]
