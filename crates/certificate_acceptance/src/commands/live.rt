@@ -7,25 +7,22 @@ use std::alloc::Global;
 use test_layers::layer_of_lines;
 use test_stacks::stack_of_base;
 
-const BOTH: &[u8] = br#"{"density":[160],"locale":["fr","de"]}"#;
-const GERMAN: &[u8] = br#"{"density":[160],"locale":["de"]}"#;
-
-// How many candidates concern the members of the first box, and how many those of the second; of each whether all that are
-// listed are marked.
-fn listed_and_marked(alloc: Global) -> Option<[(usize, bool); 2]> {
+// How many candidates concern the members of a box, and whether all of them are marked.
+fn counted(alloc: Global, members: &[u8]) -> Option<(usize, bool)> {
     let table = layer_of_lines(alloc, "0 [locale=fr] 1\n0 [locale=de] 2").ok()?;
     let stack = stack_of_base(alloc, &table)?;
-    let whole = Live::new(alloc, &stack, FIRST, &ConfigBox::read(alloc, BOTH).ok()?).ok()?;
-    let half = whole.half(alloc, &ConfigBox::read(alloc, GERMAN).ok()?).ok()?;
-    Some([counted(&whole), counted(&half)])
-}
-
-fn counted(live: &Live) -> (usize, bool) {
+    let members = ConfigBox::read(alloc, members).ok()?;
+    let live = Live::new(alloc, &stack, FIRST, &members).ok()?;
     let list = live.list();
-    (list.len(), list.iter().all(|live| live.1))
+    Some((list.len(), list.iter().all(|live| live.1)))
 }
 
 #[test]
 fn lists_what_members_match(rt: HostRuntime) {
-    assert!(rt; listed_and_marked(rt.alloc()) == Some([(2, false), (1, true)]));
+    let both = counted(rt.alloc(), br#"{"density":[160],"locale":["fr","de"]}"#);
+    assert!(rt; both == Some((2, false)));
+    let german = counted(rt.alloc(), br#"{"density":[160],"locale":["de"]}"#);
+    assert!(rt; german == Some((1, true)));
+    let english = counted(rt.alloc(), br#"{"density":[160],"locale":["en"]}"#);
+    assert!(rt; english == Some((0, true)));
 }
