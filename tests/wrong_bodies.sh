@@ -99,7 +99,7 @@ if [ "$applies" ]; then
         done
         mv "$work/edits/$crate" "$copy/must-fail"
         (cd "$copy" && rt fmt) >"$work/answers/fmt" 2>&1 || echo "$crate cannot be read: $(tail -n 1 "$work/answers/fmt")"
-        sed -n "s|^rt: note: must-fail/\(.*\) cannot be applied, so rt ci would fail: |$crate/\1 does not apply: |p" "$work/answers/fmt"
+        sed -n "s|^rt: note: must-fail/\(.*\) cannot be applied, so it is a BAD EDIT: |$crate/\1 does not apply: |p" "$work/answers/fmt"
     done >"$work/answers/apply"
     cat "$work/answers/apply"
     bad=$(wc -l <"$work/answers/apply")

@@ -1,6 +1,10 @@
 pub mod Divisions
-pub mod Scans
+pub mod AtCandidate
+pub mod LeftOut
+pub mod Candidates
 pub mod Rests
 pub mod Partings
+pub mod Walks
+pub mod OpenBoxes
 pub use Rattle.reference_resolver.proofs as reference_resolver
 pub use Rattle.reference_resolver.proofs.config_record

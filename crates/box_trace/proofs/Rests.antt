@@ -1,5 +1,5 @@
 -- What lies ahead of a walk, for all members of a box.
-use Rattle.std.proofs.Common.{arith, ◌≡◌, ◌<◌, ◌-◌, ℕ, zero, suc, List, [], ◌∷◌, ◌++◌, Option, None, sym, ◌∙◌, ap, refl, append_assoc, append-nil}
+use Rattle.std.proofs.Common.{arith, ◌≡◌, ◌<◌, ◌-◌, ℕ, zero, suc, false, List, [], ◌∷◌, ◌++◌, Option, None, inl, inr, sym, ◌∙◌, ap, refl, subst, append_assoc, append-nil}
 use Rattle.std.proofs.Math.Path.{fun_ext}
 use Rattle.std.specs.List.{flat_map}
 use Rattle.std.proofs.lemmas.List.{append_cancel_left}
@@ -10,13 +10,16 @@ use Rattle.reference_resolver.specs.declared.end.End.{End}
 use Rattle.reference_resolver.specs.declared.next.Next.{Next}
 use Rattle.reference_resolver.specs.declared.next.Next.TheVariants.{LookUp, EndsAt}
 use Rattle.reference_resolver.specs.declared.step.Step.{Step}
-use Rattle.reference_resolver.specs.Selection.{selected, step_of, scan_candidates, best_of}
+use Rattle.reference_resolver.specs.declared.step.Step.TheVariants.{NoMatch}
+use Rattle.reference_resolver.specs.Selection.{selected, step_of, best_after, scan_candidates, best_of}
 use Rattle.reference_resolver.specs.Ends.{next_of, cut_off, next_within}
 use Rattle.reference_resolver.specs.Trace.{Trace, scan_look_up, trace_of}
 use Rattle.reference_resolver.proofs.Chains.{ends_within, goes_on_within}
 use Rattle.box_trace.specs.Walk.{behind, rest_by, rest_at, HaveCome}
 use Rattle.box_trace.specs.CommonTrace.{SharesTrace}
-use Rattle.box_trace.proofs.Scans.{IsScanned}
+use Rattle.config_box.specs.box_answers.Settled.{AllAnswer}
+use Rattle.box_trace.specs.Live.{matches, LeavesOut}
+use Rattle.box_trace.proofs.AtCandidate.{does_nothing}
 
 -- ---- traces with steps before them
 
@@ -70,15 +73,47 @@ share_over members trace rest t come shared d m = come.same d m ∙ ap (behind c
 
 -- ---- along candidates
 
-pub scanned_come : (members : List ℕ → Type 0) (stack : List LayerOf) (id left : ℕ) (first best : Option CandOf) (all ahead : List CandOf) → IsScanned members first all best ahead
-    → HaveCome members (rest_at stack id left first all) (rest_at stack id left best ahead)
-scanned_come members stack id left first best all ahead scanned = record {
-  before = scanned.before;
-  same = λ d m.
-      ap (λ (steps : List Step). rest_by stack left d steps (cut_off left (next_of id (best_of first all d)))) (scanned.steps d m)
-      ∙ ap (λ (o : Option CandOf). rest_by stack left d (scanned.before ++ scan_candidates step_of best ahead d) (cut_off left (next_of id o))) (scanned.picked d m)
-      ∙ rest_behind stack left d scanned.before (scan_candidates step_of best ahead d) (cut_off left (next_of id (best_of best ahead d)));
+one_step : (stack : List LayerOf) (id left : ℕ) (best : Option CandOf) (candidate : CandOf) (ahead : List CandOf) (step : Step) (d : List ℕ) → step_of best candidate d ≡ step
+    → rest_at stack id left best (candidate ∷ ahead) d ≡ behind (step ∷ []) (rest_at stack id left (best_after step best candidate) ahead d)
+one_step stack id left best candidate ahead step d does =
+    ap (λ (z : Step). rest_by stack left d (z ∷ scan_candidates step_of (best_after z best candidate) ahead d) (cut_off left (next_of id (best_of (best_after z best candidate) ahead d)))) does
+    ∙ rest_behind stack left d (step ∷ []) (scan_candidates step_of (best_after step best candidate) ahead d) (cut_off left (next_of id (best_of (best_after step best candidate) ahead d)))
+
+-- past one candidate, which does this at all members
+pub come_past : (members : List ℕ → Type 0) (stack : List LayerOf) (trace : List ℕ → Trace) (id left : ℕ) (best : Option CandOf) (candidate : CandOf) (ahead : List CandOf) (step : Step)
+    → HaveCome members trace (rest_at stack id left best (candidate ∷ ahead)) → ((d : List ℕ) → members d → step_of best candidate d ≡ step) → HaveCome members trace (rest_at stack id left (best_after step best candidate) ahead)
+come_past members stack trace id left best candidate ahead step come does =
+    come_over members trace (rest_at stack id left best (candidate ∷ ahead)) (rest_at stack id left (best_after step best candidate) ahead) come (record {
+      before = step ∷ [];
+      same = λ d m. one_step stack id left best candidate ahead step d (does d m);
+    })
+
+come_past_other : (members : List ℕ → Type 0) (stack : List LayerOf) (trace : List ℕ → Trace) (id left : ℕ) (best : Option CandOf) (candidate : CandOf) (ahead : List CandOf) → AllAnswer members (matches candidate) false
+    → HaveCome members trace (rest_at stack id left best (candidate ∷ ahead)) → HaveCome members trace (rest_at stack id left best ahead)
+come_past_other members stack trace id left best candidate ahead none come = come_past members stack trace id left best candidate ahead NoMatch come (does_nothing members best candidate none)
+
+-- to the first candidate that is not left out
+pub record ComesToFirst (members : List ℕ → Type 0) (stack : List LayerOf) (trace : List ℕ → Trace) (id left : ℕ) (best : Option CandOf) (candidate : CandOf) (others : List CandOf) : Type 0 where
+  pub ahead : List CandOf
+  pub come : HaveCome members trace (rest_at stack id left best (candidate ∷ ahead))
+  pub left_out : LeavesOut members ahead others
+
+pub come_to_first : (members : List ℕ → Type 0) (stack : List LayerOf) (trace : List ℕ → Trace) (id left : ℕ) (best : Option CandOf) (candidate : CandOf) (others ahead : List CandOf) → LeavesOut members ahead (candidate ∷ others)
+    → HaveCome members trace (rest_at stack id left best ahead) → ComesToFirst members stack trace id left best candidate others
+come_to_first members stack trace id left best candidate others [] l come = absurd (l)
+come_to_first members stack trace id left best candidate others (other ∷ ahead) (inl l) come =
+    come_to_first members stack trace id left best candidate others ahead l.1 (come_past_other members stack trace id left best other ahead l.0 come)
+come_to_first members stack trace id left best candidate others (other ∷ ahead) (inr l) come = record {
+  ahead = ahead;
+  come = subst (λ (k : CandOf). HaveCome members trace (rest_at stack id left best (k ∷ ahead))) l.0 come;
+  left_out = l.1;
 }
+
+-- past all
+pub come_past_all : (members : List ℕ → Type 0) (stack : List LayerOf) (trace : List ℕ → Trace) (id left : ℕ) (best : Option CandOf) (ahead : List CandOf) → LeavesOut members ahead []
+    → HaveCome members trace (rest_at stack id left best ahead) → HaveCome members trace (rest_at stack id left best [])
+come_past_all members stack trace id left best [] l come = come
+come_past_all members stack trace id left best (other ∷ ahead) l come = come_past_all members stack trace id left best ahead l.1 (come_past_other members stack trace id left best other ahead l.0 come)
 
 -- ---- along look-ups
 
@@ -99,28 +134,17 @@ pub begins : (stack : List LayerOf) (left id : ℕ) → rest_at stack id left No
 unfolding selected
 begins stack left id = fun_ext (λ d. begins_by stack left id d (next_within stack left id d) refl)
 
--- all select this by these steps
-pub record Select (members : List ℕ → Type 0) (first : Option CandOf) (all : List CandOf) (taken : List Step) (picked : Option CandOf) : Type 0 where
-  pub steps : (d : List ℕ) → members d → scan_candidates step_of first all d ≡ taken
-  pub picks : (d : List ℕ) → members d → best_of first all d ≡ picked
-
-select_next : (members : List ℕ → Type 0) (stack : List LayerOf) (id left : ℕ) (first picked : Option CandOf) (all : List CandOf) (taken : List Step) (next : Next) → Select members first all taken picked
-    → cut_off left (next_of id picked) ≡ next → (d : List ℕ) → members d → rest_at stack id left first all d ≡ rest_by stack left d taken next
-select_next members stack id left first picked all taken next selects leads d m =
-    ap (λ (steps : List Step). rest_by stack left d steps (cut_off left (next_of id (best_of first all d)))) (selects.steps d m)
-    ∙ ap (λ (o : Option CandOf). rest_by stack left d taken (cut_off left (next_of id o))) (selects.picks d m)
-    ∙ ap (rest_by stack left d taken) leads
-
-pub select_more : (members : List ℕ → Type 0) (stack : List LayerOf) (id left : ℕ) (first picked : Option CandOf) (all : List CandOf) (taken : List Step) (target : ResId) → Select members first all taken picked
-    → cut_off left (next_of id picked) ≡ LookUp target → HaveCome members (rest_at stack id left first all) (trace_of stack (left - 1) target.0)
-select_more members stack id left first picked all taken target selects leads = record {
-  before = taken;
-  same = λ d m. select_next members stack id left first picked all taken (LookUp target) selects leads d m;
+-- where no candidate is ahead, the best leads on or is the end
+pub leads_to : (members : List ℕ → Type 0) (stack : List LayerOf) (trace : List ℕ → Trace) (id left : ℕ) (best : Option CandOf) (target : ResId) → HaveCome members trace (rest_at stack id left best [])
+    → cut_off left (next_of id best) ≡ LookUp target → HaveCome members trace (trace_of stack (left - 1) target.0)
+leads_to members stack trace id left best target come leads = record {
+  before = come.before;
+  same = λ d m. come.same d m ∙ ap (λ (next : Next). behind come.before (rest_by stack left d [] next)) leads;
 }
 
-pub select_end : (members : List ℕ → Type 0) (stack : List LayerOf) (id left : ℕ) (first picked : Option CandOf) (all : List CandOf) (taken : List Step) (end : End) → Select members first all taken picked
-    → cut_off left (next_of id picked) ≡ EndsAt end → SharesTrace members (rest_at stack id left first all) (record { steps = taken; end = end })
-select_end members stack id left first picked all taken end selects leads d m = select_next members stack id left first picked all taken (EndsAt end) selects leads d m
+pub ends_at : (members : List ℕ → Type 0) (stack : List LayerOf) (trace : List ℕ → Trace) (id left : ℕ) (best : Option CandOf) (end : End) (come : HaveCome members trace (rest_at stack id left best []))
+    → cut_off left (next_of id best) ≡ EndsAt end → SharesTrace members trace (behind come.before (record { steps = []; end = end }))
+ends_at members stack trace id left best end come leads d m = come.same d m ∙ ap (λ (next : Next). behind come.before (rest_by stack left d [] next)) leads
 
 -- a reference leads on only where one may still be followed
 pub leads_on : (left : ℕ) (next : Next) (target : ResId) → cut_off left next ≡ LookUp target → 0 < left

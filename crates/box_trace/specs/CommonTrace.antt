@@ -8,7 +8,6 @@ use Rattle.config_box.specs.box_answers.NumberSet.{SetOf}
 use Rattle.config_box.specs.box_answers.Members.{set_at, IsMember}
 use Rattle.config_box.specs.box_answers.Settled.{AllAnswer}
 use Rattle.config_box.specs.box_answers.Sameness.{AreNeighbours}
-use Rattle.reference_resolver.specs.overlay_map.Layer.{LayerOf}
 use Rattle.reference_resolver.specs.declared.step.Step.{Step}
 use Rattle.reference_resolver.specs.Trace.{Trace}
 use Rattle.box_trace.specs.declared.common.CommonTrace.{CommonTrace}
@@ -36,11 +35,6 @@ IsCommonTrace (Mixed parting) sets trace =
     × Divides (IsMember sets) (λ d. (trace d).steps) (device_numbers parting.pair.yes) (device_numbers parting.pair.no)
 
 -- where it is mixed, this is that question
-abbrev pub IsParted : CommonTrace → List SetOf → List LayerOf → (List ℕ → Trace) → Type 0
-IsParted (One end) sets stack trace = Unit {0}
-IsParted (Mixed parting) sets stack trace = IsParting parting sets stack trace
-
--- So two that are named have different traces.
-abbrev pub NamesTwoTraces : CommonTrace → (List ℕ → Trace) → Type 0
-NamesTwoTraces (One end) trace = Unit {0}
-NamesTwoTraces (Mixed parting) trace = trace (device_numbers parting.pair.yes) ≢ trace (device_numbers parting.pair.no)
+abbrev pub IsParted : CommonTrace → List SetOf → (List ℕ → Trace) → Type 0
+IsParted (One end) sets trace = Unit {0}
+IsParted (Mixed parting) sets trace = IsParting parting sets trace

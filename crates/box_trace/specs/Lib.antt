@@ -1,8 +1,10 @@
 pub mod Division
+pub mod Live
 pub mod Walk
 pub mod Parting
 pub mod CommonTrace
-pub mod CommonSelection
+pub mod CommonStep
+pub mod OpenBox
 pub use Rattle.reference_resolver.specs as reference_resolver
 pub use Rattle.reference_resolver.specs.config_match
 pub use Rattle.reference_resolver.specs.config_precedence

@@ -1,10 +1,10 @@
 -- The question at which the members of a box part.
 use Rattle.std.specs.Prelude.{◌≡◌, ℕ, Bool, List}
+use Rattle.std.specs.Option.{option_map}
 use Rattle.reference_resolver.specs.config_record.DeviceSeen.{device_numbers}
 use Rattle.config_box.specs.box_answers.NumberSet.{SetOf}
 use Rattle.config_box.specs.box_answers.Members.{IsMember}
 use Rattle.config_box.specs.box_answers.Sameness.{Separates}
-use Rattle.reference_resolver.specs.overlay_map.Layer.{LayerOf}
 use Rattle.reference_resolver.specs.overlay_map.Candidates.{cand_of}
 use Rattle.reference_resolver.specs.declared.step.Step.{Step}
 use Rattle.reference_resolver.specs.Selection.{step_of}
@@ -13,7 +13,6 @@ use Rattle.box_trace.specs.declared.parting.Asked.{Asked}
 use Rattle.box_trace.specs.declared.parting.Asked.TheVariants.{Matches, TakesOver}
 use Rattle.box_trace.specs.declared.parting.Parting.{Parting}
 use Rattle.box_trace.specs.Division.{has_matched, has_taken_over, Divides}
-use Rattle.box_trace.specs.Walk.{best_at, rest_of, HaveCome}
 
 -- the answer, where a candidate does this
 abbrev pub says_yes : Asked → Step → Bool
@@ -22,16 +21,14 @@ says_yes TakesOver step = has_taken_over step
 
 -- what a device answers to the question
 unfoldable pub answer_of : Parting → List ℕ → Bool
-answer_of parting d = says_yes parting.asked (step_of (best_at parting.walk) (cand_of parting.candidate) d)
+answer_of parting d = says_yes parting.asked (step_of (option_map cand_of parting.best) (cand_of parting.candidate) d)
 
 -- members with one trace answer alike
 abbrev pub Settles : (List ℕ → Type 0) → (List ℕ → Trace) → (List ℕ → Bool) → Type 0
 Settles members trace answer = (d e : List ℕ) → members d → members e → trace d ≡ trace e → answer d ≡ answer e
 
--- All members come to the question by the same steps, and their traces settle what they answer. Two side by side answer
--- differently, and no members part before.
-pub record IsParting (parting : Parting) (sets : List SetOf) (stack : List LayerOf) (trace : List ℕ → Trace) : Type 0 where
-  pub come : HaveCome (IsMember sets) trace (rest_of stack parting.walk)
+-- Traces settle what members answer. Two side by side answer differently, and no members part before.
+pub record IsParting (parting : Parting) (sets : List SetOf) (trace : List ℕ → Trace) : Type 0 where
   pub settled : Settles (IsMember sets) trace (answer_of parting)
   pub separates : Separates sets (answer_of parting) (device_numbers parting.pair.yes) (device_numbers parting.pair.no) parting.pair.coord
   pub divides : Divides (IsMember sets) (λ d. (trace d).steps) (device_numbers parting.pair.yes) (device_numbers parting.pair.no)

@@ -13,10 +13,10 @@ pub enum CommonTrace<'a> {
     Mixed(Parting<'a>),
 }
 
-/// What all members of a box select, among the candidates so far.
+/// What one candidate does at all members of a box.
 #[derive(Clone, Copy)]
-pub(crate) enum CommonSelection<'a> {
-    /// All take the same steps to this candidate, or to none.
+pub(crate) enum CommonStep<'a> {
+    /// The same, and this is the best after it.
     One(Option<Cand<'a>>),
     /// Where they part, as above.
     Mixed(Parting<'a>),

@@ -4,7 +4,6 @@ ghost use Rattle.std.specs.Prelude.{◌≡◌};
 ghost use Rattle.reference_resolver.specs.config_record.DeviceSeen.{device_numbers};
 ghost use Rattle.box_trace.specs.Parting.{answer_of};
 
-use crate::walk::Walk;
 use config_box::MemberPair;
 use reference_resolver::{Cand, Device, Step};
 
@@ -22,9 +21,9 @@ pub enum Asked {
 pub struct Parting<'a> {
     /// Two members side by side. The first answers yes, the second no.
     pub pair: MemberPair,
-    /// To where all members have come by the same steps. The candidate is the next one.
-    pub walk: Walk<'a>,
+    /// The candidate that is asked about, and the best before it.
     pub candidate: Cand<'a>,
+    pub best: Option<Cand<'a>>,
     pub asked: Asked,
 }
 
@@ -38,10 +37,7 @@ impl<'a> Parting<'a> {
     pub fn answer(&self, device: &Device) -> bool
         ensures { result ≡ answer_of self.now (device_numbers device.now) }
     {
-        match (
-            Step::of(&self.walk.best, &self.candidate, device),
-            self.asked,
-        ) {
+        match (Step::of(&self.best, &self.candidate, device), self.asked) {
             (Step::NoMatch, _) => false,
             (Step::KeptOut, asked) => asked == Asked::Matches,
             (Step::TookOver, _) => true,

@@ -1,35 +1,39 @@
 //! One candidate more, for all members of a box.
 
-ghost use Rattle.std.specs.Prelude.{true};
+ghost use Rattle.std.specs.Prelude.{true, IsTrue};
 ghost use Rattle.std.specs.Option.{option_map};
-ghost use Rattle.reference_resolver.specs.config_match.Matching.{is_match};
 ghost use Rattle.config_box.specs.box_answers.Members.{IsMember};
 ghost use Rattle.config_box.specs.box_answers.Settled.{AllAnswer};
 ghost use Rattle.config_box.specs.box_answers.Sameness.{IsExact};
 ghost use Rattle.reference_resolver.specs.overlay_map.Candidates.{cand_of};
 ghost use Rattle.reference_resolver.specs.Selection.{beats, beats_best};
-ghost use Rattle.box_trace.specs.CommonSelection.{IsCommonStep};
+ghost use Rattle.box_trace.specs.Live.{matches};
+ghost use Rattle.box_trace.specs.CommonStep.{IsCommonStep};
 
-use crate::common::CommonSelection;
+use crate::common::CommonStep;
 use crate::parting::{Asked, Parting};
-use crate::walk::Walk;
 use config_box::{ConfigBox, MemberPair, Sameness};
 use reference_resolver::{Cand, same};
 
-/// The best after the next candidate, for all members. Whether it matches is asked first.
+/// The best after the next candidate, for all members. Whether it matches is asked first, unless it is marked.
 pub(crate) fn best_after<'a>(
-    walk: &Walk<'a>,
-    candidate: Cand<'a>,
+    best: &Option<Cand<'a>>,
+    live: (Cand<'a>, bool),
     members: &ConfigBox,
-) -> CommonSelection<'a>
-    ensures { IsCommonStep result members.now walk.now (cand_of candidate.entry) }
+) -> CommonStep<'a>
+    requires { IsTrue live.1 → AllAnswer (IsMember members.now) (matches (cand_of live.0)) true }
+    ensures { IsCommonStep result members.now (option_map cand_of best.now) (cand_of live.entry.0) }
 {
+    let (candidate, is_marked) = live;
+    if is_marked {
+        return best_after_match(best, candidate, members);
+    }
     match members.match_all(&candidate.row.config) {
-        Sameness::Always => best_after_match(walk, candidate, members),
-        Sameness::Never => CommonSelection::One(walk.best),
-        Sameness::Mixed(yes, no, coord) => CommonSelection::Mixed(Parting {
+        Sameness::Always => best_after_match(best, candidate, members),
+        Sameness::Never => CommonStep::One(*best),
+        Sameness::Mixed(yes, no, coord) => CommonStep::Mixed(Parting {
             pair: MemberPair { yes, no, coord },
-            walk: *walk,
+            best: *best,
             candidate,
             asked: Asked::Matches,
         }),
@@ -38,19 +42,19 @@ pub(crate) fn best_after<'a>(
 
 /// The same, where the candidate matches all members.
 fn best_after_match<'a>(
-    walk: &Walk<'a>,
+    best: &Option<Cand<'a>>,
     candidate: Cand<'a>,
     members: &ConfigBox,
-) -> CommonSelection<'a>
-    requires { AllAnswer (IsMember members.now) (is_match (cand_of candidate).row.config) true }
-    ensures { IsCommonStep result members.now walk.now (cand_of candidate.entry) }
+) -> CommonStep<'a>
+    requires { AllAnswer (IsMember members.now) (matches (cand_of candidate)) true }
+    ensures { IsCommonStep result members.now (option_map cand_of best.now) (cand_of candidate.entry) }
 {
-    match is_best_beaten(&walk.best, &candidate, members) {
-        Sameness::Always => CommonSelection::One(Some(candidate)),
-        Sameness::Never => CommonSelection::One(walk.best),
-        Sameness::Mixed(yes, no, coord) => CommonSelection::Mixed(Parting {
+    match is_best_beaten(best, &candidate, members) {
+        Sameness::Always => CommonStep::One(Some(candidate)),
+        Sameness::Never => CommonStep::One(*best),
+        Sameness::Mixed(yes, no, coord) => CommonStep::Mixed(Parting {
             pair: MemberPair { yes, no, coord },
-            walk: *walk,
+            best: *best,
             candidate,
             asked: Asked::TakesOver,
         }),

@@ -1,44 +1,138 @@
-//! Where a walk along the candidates of an id stands, and of the ids to which its references lead.
+//! A walk along the candidates of an id, and of the ids to which its references lead, for all members of a box.
 
-use reference_resolver::{Cand, REFERENCES_FOLLOWED, ResId};
+ghost use Rattle.std.specs.Prelude.{◌≤◌, length};
+
+use crate::common::{CommonStep, CommonTrace};
+use crate::live::Live;
+use crate::parting::Parting;
+use crate::step::best_after;
+use config_box::{ConfigBox, OutOfMemory};
+use reference_resolver::{Cand, Next, ResId, Stack};
+use std::alloc::Global;
+use std::rc::Rc;
 
 /// Where such a walk stands: the trace from there on depends on nothing that lies behind.
-#[derive(Clone, Copy, Debug)]
-pub struct Walk<'a> {
+#[derive(Drop)]
+pub(crate) struct Walk<'a> {
     /// The id that is looked up.
-    pub(crate) id: ResId,
+    id: ResId,
     /// How many references may still be followed.
-    pub(crate) left: u8,
-    /// How many candidates of the id lie behind.
-    pub(crate) passed: u128,
+    left: u8,
+    /// The candidates of the id. Those that are left out match no member.
+    live: Rc<Live<'a>>,
+    /// How many of these lie behind.
+    passed: usize,
     /// The best of those.
-    pub(crate) best: Option<Cand<'a>>,
+    best: Option<Cand<'a>>,
+    ghost within: { passed ≤ length live.value },
 }
 
 impl<'a> Walk<'a> {
-    ghost use Rattle.std.specs.Prelude.{◌≡◌, List};
+    ghost use Rattle.std.specs.Prelude.{◌≡◌, ℕ, List, IfOk, IfSome, IfNone, [], length};
+    ghost use Rattle.config_box.specs.box_answers.NumberSet.{SetOf};
+    ghost use Rattle.config_box.specs.box_answers.Members.{IsMember};
     ghost use Rattle.reference_resolver.specs.overlay_map.Layer.{LayerOf};
-    ghost use Rattle.reference_resolver.specs.Ends.{references_followed};
-    ghost use Rattle.reference_resolver.specs.Trace.{trace_of};
-    ghost use Rattle.box_trace.specs.Walk.{rest_of};
+    ghost use Rattle.reference_resolver.specs.Trace.{Trace, trace_of};
+    ghost use Rattle.box_trace.specs.Live.{AreMarked};
+    ghost use Rattle.box_trace.specs.Walk.{live_ahead, HaveWalked};
+    ghost use Rattle.box_trace.specs.CommonTrace.{IsCommonTrace, IsParted};
 
-    /// Before the first candidate of an id, where at most twenty references are followed.
-    pub fn of(id: ResId) -> Walk<'a>
-        ensures { (stack : List LayerOf) → rest_of stack result ≡ trace_of stack references_followed id.0 }
+    /// Before the first candidate of an id, where at most so many references may be followed.
+    pub(crate) fn of(
+        alloc: Global,
+        stack: &Stack<'a>,
+        id: ResId,
+        left: u8,
+        members: &ConfigBox,
+    ) -> Result<Walk<'a>, OutOfMemory>
+        ensures walked { IfOk result (HaveWalked stack.now (IsMember members.now) (trace_of stack.now left id.0)) }
+        ensures marked { IfOk result (λ walk. AreMarked (IsMember members.now) walk.live.value) }
+        ensures left { IfOk result (λ walk. walk.left ≡ left) }
     {
-        Walk::within(id, REFERENCES_FOLLOWED)
-    }
-
-    /// The same, where at most so many references may be followed.
-    pub(crate) fn within(id: ResId, left: u8) -> Walk<'a>
-        ensures rest { (stack : List LayerOf) → rest_of stack result ≡ trace_of stack left id.0 }
-        ensures left { result.left ≡ left }
-    {
-        Walk {
+        let live = Live::new(alloc, stack, id, members)?;
+        Ok(Walk {
             id,
             left,
+            live: Rc::new(alloc, live)?,
             passed: 0,
             best: None,
+        })
+    }
+
+    /// The same walk. Its list is not copied.
+    pub(crate) fn shared(&self) -> Result<Walk<'a>, OutOfMemory>
+        ensures walked { IfOk result (λ walk. (stack : List LayerOf) (sets : List SetOf) (trace : List ℕ → Trace) → HaveWalked stack (IsMember sets) trace self.now → HaveWalked stack (IsMember sets) trace walk) }
+        ensures live { IfOk result (λ walk. walk.live.value ≡ self.now.live.value) }
+    {
+        Ok(Walk {
+            id: self.id,
+            left: self.left,
+            live: self.live.clone()?,
+            passed: self.passed,
+            best: self.best,
+        })
+    }
+
+    /// The same walk with a list of the candidates ahead that members of a smaller box match.
+    pub(crate) fn judged(&self, alloc: Global, members: &ConfigBox) -> Result<Walk<'a>, OutOfMemory>
+        requires { AreMarked (IsMember members.now) self.now.live.value }
+        ensures walked { IfOk result (λ walk. (stack : List LayerOf) (trace : List ℕ → Trace) → HaveWalked stack (IsMember members.now) trace self.now → HaveWalked stack (IsMember members.now) trace walk) }
+        ensures marked { IfOk result (λ walk. AreMarked (IsMember members.now) walk.live.value) }
+    {
+        let live = Live::of(alloc, &self.live.as_ref().list()[self.passed..], members)?;
+        Ok(Walk {
+            id: self.id,
+            left: self.left,
+            live: Rc::new(alloc, live)?,
+            passed: 0,
+            best: self.best,
+        })
+    }
+
+    /// Goes on as far as all members go by the same steps: to the end of the one trace that they have, or to the first
+    /// question that they answer differently.
+    pub(crate) fn go_on(
+        &mut self,
+        alloc: Global,
+        stack: &Stack<'a>,
+        members: &ConfigBox,
+    ) -> Result<CommonTrace<'a>, OutOfMemory>
+        requires { AreMarked (IsMember members.now) self.old.live.value }
+        ensures marked { AreMarked (IsMember members.now) self.new.live.value }
+        ensures walked { (trace : List ℕ → Trace) → HaveWalked stack.now (IsMember members.now) trace self.old → HaveWalked stack.now (IsMember members.now) trace self.new }
+        ensures common { IfOk result (λ common. (trace : List ℕ → Trace) → HaveWalked stack.now (IsMember members.now) trace self.old → IsCommonTrace common members.now trace) }
+        ensures parted { IfOk result (λ common. (trace : List ℕ → Trace) → HaveWalked stack.now (IsMember members.now) trace self.old → IsParted common members.now trace) }
+    {
+        'chain: loop {
+            if let Some(parting) = self.pass_candidates(members) {
+                return Ok(CommonTrace::Mixed(parting));
+            }
+            match Next::of(self.id, &self.best).cut_off(self.left) {
+                Next::EndsAt(end) => return Ok(CommonTrace::One(end)),
+                Next::LookUp(target) => {
+                    *self = Walk::of(alloc, stack, target, self.left - 1, members)?;
+                }
+            }
         }
+    }
+
+    /// Passes the candidates of the id that do the same at all members, up to where these part.
+    fn pass_candidates(&mut self, members: &ConfigBox) -> Option<Parting<'a>>
+        requires { AreMarked (IsMember members.now) self.old.live.value }
+        ensures marked { AreMarked (IsMember members.now) self.new.live.value }
+        ensures left { self.new.left ≡ self.old.left }
+        ensures walked { (stack : List LayerOf) (trace : List ℕ → Trace) → HaveWalked stack (IsMember members.now) trace self.old → HaveWalked stack (IsMember members.now) trace self.new }
+        ensures none_ahead { IfNone result (live_ahead self.new ≡ []) }
+        ensures parts { IfSome result (λ parting. (stack : List LayerOf) (trace : List ℕ → Trace) → HaveWalked stack (IsMember members.now) trace self.old → IsParted (CommonTrace.Mixed parting) members.now trace) }
+    {
+        'candidates: while self.passed < self.live.as_ref().list().len() {
+            let live = self.live.as_ref().list()[self.passed];
+            match best_after(&self.best, live, members) {
+                CommonStep::One(best) => self.best = best,
+                CommonStep::Mixed(parting) => return Some(parting),
+            }
+            self.passed += 1;
+        }
+        None
     }
 }

@@ -1,37 +1,40 @@
 //! The rules of leaves.
 
-ghost use Rattle.std.specs.Prelude.{◌≡◌, ◌≢◌, true, MatchBool};
-ghost use Rattle.box_trace.specs.reference_resolver.Ends.{references_followed, is_value};
-ghost use Rattle.box_trace.specs.reference_resolver.Trace.{trace_of};
+ghost use Rattle.std.specs.Prelude.{◌≡◌, ◌≢◌, ℕ, true, List, IfOk, MatchBool};
+ghost use Rattle.box_trace.specs.reference_resolver.Ends.{is_value};
+ghost use Rattle.box_trace.specs.reference_resolver.Trace.{Trace};
+ghost use Rattle.box_trace.specs.OpenBox.{IsReached};
 ghost use Rattle.cert_checker.specs.OpenBoxes.{TakesLeaf, rule_of_end};
 
 use crate::failure::Failure;
 use crate::rule::Rule;
 use crate::verdict::Shown;
-use box_trace::{CommonTrace, End, Stack, common_trace};
-use cert_tree::{ConfigBox, ResId};
+use box_trace::{CommonTrace, End, OpenBox, Stack};
+use cert_tree::OutOfMemory;
+use std::alloc::Global;
 
 /// Why a leaf fails to which the members of this box come, if it does: they have several traces, or one that
 /// ends elsewhere than the leaf says.
-pub(crate) fn take_leaf(
-    stack: &Stack<'_>,
-    id: ResId,
-    members: &ConfigBox,
+pub(crate) fn take_leaf<'a>(
+    alloc: Global,
+    stack: &Stack<'a>,
+    part: OpenBox<'a>,
     claimed: End,
-) -> Option<Failure>
+) -> Result<Option<Failure>, OutOfMemory>
     requires { is_value claimed ≡ true }
-    ensures { TakesLeaf (trace_of stack.now references_followed id.0) claimed members.now result }
+    ensures { IfOk result (λ outcome. (trace : List ℕ → Trace) → IsReached stack.now trace part.entry → TakesLeaf trace claimed part.entry.members outcome) }
 {
-    match common_trace(stack, id, members) {
-        CommonTrace::Mixed(parting) => Some(Failure {
+    let mut part = part;
+    match part.common_trace(alloc, stack)? {
+        CommonTrace::Mixed(parting) => Ok(Some(Failure {
             rule: Rule::MixedTrace,
             shown: Shown::Two(parting.pair.yes, parting.pair.no),
-        }),
-        CommonTrace::One(end) if is_same(end, claimed) => None,
-        CommonTrace::One(end) => Some(Failure {
+        })),
+        CommonTrace::One(end) if is_same(end, claimed) => Ok(None),
+        CommonTrace::One(end) => Ok(Some(Failure {
             rule: rule_of(end),
-            shown: Shown::One(members.corner(), end),
-        }),
+            shown: Shown::One(part.members.corner(), end),
+        })),
     }
 }
 

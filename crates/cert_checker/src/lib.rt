@@ -24,8 +24,7 @@ mod tree;
 mod verdict;
 
 pub use box_trace::{
-    CommonTrace, Coord, Device, End, Locale, MOST_LAYERS, Parting, Stack, Walk, common_trace_from,
-    resolve,
+    CommonTrace, Coord, Device, End, Live, Locale, MOST_LAYERS, OpenBox, Parting, Stack, resolve,
 };
 pub use cert_tree::{
     Cert, CertGoal, Choice, ConfigBox, Goal, MemberPair, Node, OutOfMemory, Progress, ResId, Split,

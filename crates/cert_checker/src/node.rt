@@ -1,8 +1,9 @@
 //! One node of a tree.
 
-ghost use Rattle.std.specs.Prelude.{IfOk};
-ghost use Rattle.box_trace.specs.reference_resolver.Ends.{references_followed};
-ghost use Rattle.box_trace.specs.reference_resolver.Trace.{trace_of};
+ghost use Rattle.std.specs.Prelude.{ℕ, List, IfOk};
+ghost use Rattle.std.specs.List.{All};
+ghost use Rattle.box_trace.specs.reference_resolver.Trace.{Trace};
+ghost use Rattle.box_trace.specs.OpenBox.{boxes_of, IsReached};
 ghost use Rattle.cert_tree.specs.config_box.Tests.{test_of};
 ghost use Rattle.cert_tree.specs.Certificate.{node_of};
 ghost use Rattle.cert_checker.specs.OpenBoxes.{TakesNode, TakesTest};
@@ -10,50 +11,55 @@ ghost use Rattle.cert_checker.specs.OpenBoxes.{TakesNode, TakesTest};
 use crate::failure::Failure;
 use crate::leaf::take_leaf;
 use crate::rule::Rule;
-use box_trace::{End, Stack};
-use cert_tree::{ConfigBox, Node, OutOfMemory, ResId, Split, Test};
+use box_trace::{End, OpenBox, Stack};
+use cert_tree::{Node, OutOfMemory, Split, Test};
 use std::alloc::Global;
 
 /// Takes the next node, to which the members of the last open box come: why it fails, if it does. Else the boxes
 /// are those that are open after it.
-pub(crate) fn take_node(
+pub(crate) fn take_node<'a>(
     alloc: Global,
-    stack: &Stack<'_>,
-    id: ResId,
+    stack: &Stack<'a>,
     node: &Node,
-    open_boxes: &mut Vec<ConfigBox>,
+    open_boxes: &mut Vec<OpenBox<'a>>,
 ) -> Result<Option<Failure>, OutOfMemory>
-    ensures { IfOk result (λ outcome. TakesNode (trace_of stack.now references_followed id.0) (node_of node.now) open_boxes.old.items open_boxes.new.items outcome) }
+    ensures outcome { IfOk result (λ outcome. (trace : List ℕ → Trace) → All (IsReached stack.now trace) open_boxes.old.items → TakesNode trace (node_of node.now) (boxes_of open_boxes.old.items) (boxes_of open_boxes.new.items) outcome) }
+    ensures reached { IfOk result (λ _. (trace : List ℕ → Trace) → All (IsReached stack.now trace) open_boxes.old.items → All (IsReached stack.now trace) open_boxes.new.items) }
 {
-    let Some(members) = open_boxes.pop() else {
+    let Some(part) = open_boxes.pop() else {
         return Ok(Some(Failure::of(Rule::LeftOver)));
     };
     match node {
-        Node::Test(test) => take_test(alloc, &members, test, open_boxes),
+        Node::Test(test) => take_test(alloc, stack, part, test, open_boxes),
         Node::Value { layer, value } => {
             let claimed = End::Value {
                 layer: *layer,
                 value: *value,
             };
-            Ok(take_leaf(stack, id, &members, claimed))
+            take_leaf(alloc, stack, part, claimed)
         }
-        Node::Bag { id: bag } => Ok(take_leaf(stack, id, &members, End::Bag { id: *bag })),
+        Node::Bag { id } => take_leaf(alloc, stack, part, End::Bag { id: *id }),
     }
 }
 
-/// Why a test fails to which these members come; else its halves are opened, the one with yes last.
-fn take_test(
+/// Why a test fails to which these members come; else its halves are opened, the one with yes last. What all members do
+/// alike is asked before they part, and in neither half again.
+fn take_test<'a>(
     alloc: Global,
-    members: &ConfigBox,
+    stack: &Stack<'a>,
+    part: OpenBox<'a>,
     test: &Test,
-    open_boxes: &mut Vec<ConfigBox>,
+    open_boxes: &mut Vec<OpenBox<'a>>,
 ) -> Result<Option<Failure>, OutOfMemory>
-    ensures { IfOk result (λ outcome. TakesTest (test_of test.now) members.now open_boxes.old.items open_boxes.new.items outcome) }
+    ensures outcome { IfOk result (λ outcome. TakesTest (test_of test.now) part.entry.members (boxes_of open_boxes.old.items) (boxes_of open_boxes.new.items) outcome) }
+    ensures reached { IfOk result (λ _. (trace : List ℕ → Trace) → IsReached stack.now trace part.entry → All (IsReached stack.now trace) open_boxes.old.items → All (IsReached stack.now trace) open_boxes.new.items) }
 {
-    match members.split(alloc, test)? {
+    match part.members.split(alloc, test)? {
         Split::Halves(yes, no) => {
-            open_boxes.push(no)?;
-            open_boxes.push(yes)?;
+            let mut whole = part;
+            let _ = whole.common_trace(alloc, stack)?;
+            open_boxes.push(whole.narrowed(no, test.coord())?)?;
+            open_boxes.push(whole.narrowed(yes, test.coord())?)?;
             Ok(None)
         }
         Split::WrongKind => Ok(Some(Failure::of(Rule::TestKind))),

@@ -10,7 +10,7 @@ ghost use Rattle.cert_checker.specs.OpenBoxes.{IsOutcome};
 use crate::failure::Failure;
 use crate::node::take_node;
 use crate::rule::Rule;
-use box_trace::Stack;
+use box_trace::{OpenBox, Stack};
 use cert_tree::{CertGoal, ConfigBox, Goal, Node, OutOfMemory, ResId};
 use std::alloc::Global;
 
@@ -27,7 +27,7 @@ pub(crate) fn check_tree(
     check_nodes(alloc, stack, *id, members, tree.nodes.as_slice())
 }
 
-/// The same for the tree of an id. The boxes of open paths are kept in a list, the next one last.
+/// The same for the tree of an id. The open boxes are kept in a list, the next one last.
 fn check_nodes(
     alloc: Global,
     stack: &Stack<'_>,
@@ -38,9 +38,9 @@ fn check_nodes(
     ensures { IfOk result (IsOutcome (trace_of stack.now references_followed id.0) members.now (map node_of nodes.now)) }
 {
     let mut open_boxes = Vec::new(alloc);
-    open_boxes.push(members.shared(alloc)?)?;
+    open_boxes.push(OpenBox::whole(alloc, stack, id, members.shared(alloc)?)?)?;
     for (place, node) in nodes.iter().enumerate() {
-        if let Some(failure) = take_node(alloc, stack, id, node, &mut open_boxes)? {
+        if let Some(failure) = take_node(alloc, stack, node, &mut open_boxes)? {
             return Ok(Some((place, failure)));
         }
     }

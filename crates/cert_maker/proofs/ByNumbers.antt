@@ -1,4 +1,5 @@
 -- A trace asks a device for its numbers alone.
+use Rattle.std.specs.Option.{option_map}
 use Rattle.std.proofs.Common.{◌≡◌, ℕ, zero, suc, not, List, [], ◌∷◌, Option, Some, None, refl, ◌∙◌, ap}
 use Rattle.std.proofs.Math.Path.{fun_ext}
 use Rattle.std.specs.Prelude.{◌&&◌, Bool}
@@ -20,7 +21,6 @@ use Rattle.cert_checker.specs.reference_resolver.Selection.{beats, beats_best, s
 use Rattle.cert_checker.specs.reference_resolver.Ends.{next_of, end_of}
 use Rattle.cert_checker.specs.reference_resolver.Trace.{Trace, look_ups_of, scan_look_up, scan_chain}
 use Rattle.cert_checker.specs.box_trace.declared.parting.Parting.{Parting}
-use Rattle.cert_checker.specs.box_trace.Walk.{best_at}
 use Rattle.cert_checker.specs.box_trace.Parting.{says_yes, answer_of}
 use Rattle.cert_checker.specs.cert_tree.declared.goal.Goal.{Goal}
 use Rattle.cert_checker.specs.cert_tree.declared.goal.Goal.TheVariants.{Id}
@@ -96,7 +96,7 @@ AnswersByNumbers answer = (x y : List ℕ) → ((c : Coord) → device_number x 
 pub parting-by-numbers : (parting : Parting) → AnswersByNumbers (answer_of parting)
 unfolding answer_of
 parting-by-numbers parting x y same =
-    ap (says_yes parting.asked) (step-same (best_at parting.walk) (cand_of parting.candidate) x y (fun_ext same))
+    ap (says_yes parting.asked) (step-same (option_map cand_of parting.best) (cand_of parting.candidate) x y (fun_ext same))
 
 pub goal-by-numbers : (stack : List LayerOf) (goal : Goal) → GoesByNumbers (goal_trace stack goal)
 goal-by-numbers stack (Id id) x y same =

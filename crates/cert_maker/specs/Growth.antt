@@ -5,8 +5,8 @@ use Rattle.cert_checker.specs.config_record.DeviceSeen.{device_numbers}
 use Rattle.cert_checker.specs.reference_resolver.declared.end.End.{End}
 use Rattle.cert_checker.specs.overlay_map.Layer.{LayerOf}
 use Rattle.cert_checker.specs.reference_resolver.Trace.{Trace, trace_of}
-use Rattle.cert_checker.specs.box_trace.declared.walk.Walk.{Walk}
-use Rattle.cert_checker.specs.box_trace.Walk.{rest_of, HaveCome}
+use Rattle.cert_checker.specs.box_trace.declared.open_box.OpenBox.{OpenBox}
+use Rattle.cert_checker.specs.box_trace.OpenBox.{boxes_of, IsReached}
 use Rattle.cert_checker.specs.box_answers.NumberSet.{SetOf}
 use Rattle.cert_checker.specs.box_answers.Members.{IsMember}
 use Rattle.cert_checker.specs.config_box.Tests.{TestOf}
@@ -17,7 +17,6 @@ use Rattle.cert_checker.specs.reference_resolver.Ends.{references_followed, is_v
 use Rattle.cert_checker.specs.Fails.{FailsAtTest, FailsAtNode, NoRuleFails}
 use Rattle.cert_checker.specs.OpenBoxes.{IsBoxAt, Stand}
 use Rattle.cert_maker.specs.Needed.{IsNeededAt, IsNeeded}
-use Rattle.cert_maker.specs.declared.open_box.OpenBox.{OpenBox}
 use Rattle.cert_maker.specs.declared.tree.Grown.{Grown}
 use Rattle.cert_maker.specs.declared.tree.Grown.TheVariants.{Tree, Counterexample, TooLarge}
 
@@ -40,22 +39,12 @@ Grows trace part old new before after_it =
     (sets : List SetOf) (path : Path) (paths : List Path) → IsBoxAt sets path part → Stand sets (reverse before) paths
     → AddsNode trace sets path paths old new (reverse after_it)
 
--- The members of a box have come to where a walk stands, from the first candidate of an id on and by the same steps.
-abbrev pub HaveWalked : List LayerOf → ℕ → List SetOf → Walk → Type 0
-HaveWalked stack id sets walk = HaveCome (IsMember sets) (trace_of stack references_followed id) (rest_of stack walk)
-
-abbrev pub IsReached : List LayerOf → ℕ → OpenBox → Type 0
-IsReached stack id part = HaveWalked stack id part.members part.walk
-
-abbrev pub boxes_of : List OpenBox → List (List SetOf)
-boxes_of open_boxes = map (λ part. part.members) open_boxes
-
 -- Whatever the id is: the tree grows, and each open box has its walk.
 abbrev pub GrowsOn : List LayerOf → OpenBox → List NodeOf → List NodeOf → List OpenBox → List OpenBox → Type 0
 GrowsOn stack part old new before after_it =
-    (id : ℕ) → IsReached stack id part → All (IsReached stack id) before
+    (id : ℕ) → IsReached stack (trace_of stack references_followed id) part → All (IsReached stack (trace_of stack references_followed id)) before
     → Grows (trace_of stack references_followed id) part.members old new (boxes_of before) (boxes_of after_it)
-    × All (IsReached stack id) after_it
+    × All (IsReached stack (trace_of stack references_followed id)) after_it
 
 -- a member for which the goal ends at no value
 pub record IsCounterexampleOf (trace : List ℕ → Trace) (sets : List SetOf) (d : List ℕ) (end : End) : Type 0 where

@@ -6,36 +6,34 @@ ghost use Rattle.cert_checker.specs.overlay_map.Layer.{LayerOf};
 ghost use Rattle.cert_checker.specs.reference_resolver.Ends.{is_value};
 ghost use Rattle.cert_checker.specs.reference_resolver.Trace.{Trace};
 ghost use Rattle.cert_checker.specs.box_answers.Members.{IsMember};
-ghost use Rattle.cert_checker.specs.box_trace.Walk.{rest_of};
+ghost use Rattle.cert_checker.specs.box_trace.OpenBox.{boxes_of, IsReached};
 ghost use Rattle.cert_checker.specs.config_box.Tests.{test_of};
 ghost use Rattle.cert_checker.specs.cert_tree.Certificate.{TestAt, NodeFits, node_of};
 ghost use Rattle.cert_checker.specs.Paths.{leaf_end};
 ghost use Rattle.cert_maker.specs.Needed.{IsNeededTest};
-ghost use Rattle.cert_maker.specs.Growth.{Grows, GrowsOn, HaveWalked, IsReached, boxes_of, IsCounterexampleOf, CanBeAsked};
+ghost use Rattle.cert_maker.specs.Growth.{Grows, GrowsOn, IsCounterexampleOf, CanBeAsked};
 
-use crate::open_box::OpenBox;
 use crate::parting::parting_test;
 use cert_checker::{
-    CommonTrace, ConfigBox, Device, End, MOST_LAYERS, Node, OutOfMemory, Split, Stack, Test, Walk,
-    common_trace_from,
+    CommonTrace, Device, End, MOST_LAYERS, Node, OpenBox, OutOfMemory, Split, Stack, Test,
 };
 use std::alloc::Global;
 
 /// Adds the node to which the members of an open box come, and opens the boxes behind it, which go on where its members
-/// part; or gives a member for which the id ends at no value and no bag, with that end.
+/// part; or gives a member for which the goal ends at no value and no bag, with that end.
 pub(crate) fn add_node<'a>(
     alloc: Global,
     stack: &Stack<'a>,
-    part: &OpenBox<'a>,
+    part: OpenBox<'a>,
     nodes: &mut Vec<Node>,
     open_boxes: &mut Vec<OpenBox<'a>>,
 ) -> Result<Option<(Device, End)>, OutOfMemory>
-    ensures grows { IfOk result (λ found. IfNone found (GrowsOn stack.now part.now (map node_of nodes.old.items) (map node_of nodes.new.items) open_boxes.old.items open_boxes.new.items)) }
+    ensures grows { IfOk result (λ found. IfNone found (GrowsOn stack.now part.entry (map node_of nodes.old.items) (map node_of nodes.new.items) open_boxes.old.items open_boxes.new.items)) }
     ensures one_more { IfOk result (λ found. IfNone found (length nodes.new.items ≡ length nodes.old.items + 1)) }
-    ensures counterexample { IfOk result (λ found. IfSome found (λ shown. IsCounterexampleOf (rest_of stack.now part.now.walk) part.now.members (device_numbers shown.0) shown.1)) }
+    ensures counterexample { IfOk result (λ found. IfSome found (λ shown. (trace : List ℕ → Trace) → IsReached stack.now trace part.entry → IsCounterexampleOf trace part.entry.members (device_numbers shown.0) shown.1)) }
 {
-    let members = &part.members;
-    match common_trace_from(stack, &part.walk, members) {
+    let mut part = part;
+    match part.common_trace(alloc, stack)? {
         CommonTrace::One(end) => match leaf_of(end) {
             Some(leaf) => {
                 // A certificate can name 64 layers, and a stack has no more.
@@ -44,41 +42,34 @@ pub(crate) fn add_node<'a>(
                 nodes.push(leaf)?;
                 Ok(None)
             }
-            None => Ok(Some((members.corner(), end))),
+            None => Ok(Some((part.members.corner(), end))),
         },
         CommonTrace::Mixed(parting) => {
-            let test = parting_test(alloc, members, &parting)?;
-            add_test(alloc, members, &parting.walk, test, nodes, open_boxes)?;
+            let test = parting_test(alloc, &part.members, &parting)?;
+            add_test(alloc, &part, test, nodes, open_boxes)?;
             Ok(None)
         }
     }
 }
 
-/// Adds a test, and opens its halves, which go on from this walk, the one with yes last.
+/// Adds a test, and opens its halves, the one with yes last.
 fn add_test<'a>(
     alloc: Global,
-    members: &ConfigBox,
-    walk: &Walk<'a>,
+    whole: &OpenBox<'a>,
     test: Test,
     nodes: &mut Vec<Node>,
     open_boxes: &mut Vec<OpenBox<'a>>,
 ) -> Result<(), OutOfMemory>
-    requires asked { CanBeAsked members.now (test_of test) }
+    requires asked { CanBeAsked whole.now.members (test_of test) }
     requires fits { NodeFits (TestAt (test_of test)) }
-    ensures grows { IfOk result (λ _. (trace : List ℕ → Trace) → IsNeededTest trace members.now (IsMember members.now) (test_of test) → Grows trace members.now (map node_of nodes.old.items) (map node_of nodes.new.items) (boxes_of open_boxes.old.items) (boxes_of open_boxes.new.items)) }
-    ensures reached { IfOk result (λ _. (stack : List LayerOf) (id : ℕ) → HaveWalked stack id members.now walk.now → All (IsReached stack id) open_boxes.old.items → All (IsReached stack id) open_boxes.new.items) }
+    ensures grows { IfOk result (λ _. (trace : List ℕ → Trace) → IsNeededTest trace whole.now.members (IsMember whole.now.members) (test_of test) → Grows trace whole.now.members (map node_of nodes.old.items) (map node_of nodes.new.items) (boxes_of open_boxes.old.items) (boxes_of open_boxes.new.items)) }
+    ensures reached { IfOk result (λ _. (stack : List LayerOf) (trace : List ℕ → Trace) → IsReached stack trace whole.now → All (IsReached stack trace) open_boxes.old.items → All (IsReached stack trace) open_boxes.new.items) }
     ensures one_more { IfOk result (λ _. length nodes.new.items ≡ length nodes.old.items + 1) }
 {
-    match members.split(alloc, &test)? {
+    match whole.members.split(alloc, &test)? {
         Split::Halves(yes, no) => {
-            open_boxes.push(OpenBox {
-                members: no,
-                walk: *walk,
-            })?;
-            open_boxes.push(OpenBox {
-                members: yes,
-                walk: *walk,
-            })?;
+            open_boxes.push(whole.narrowed(no, test.coord())?)?;
+            open_boxes.push(whole.narrowed(yes, test.coord())?)?;
             nodes.push(Node::Test(test))?;
             Ok(())
         }

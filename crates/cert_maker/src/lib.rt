@@ -20,7 +20,6 @@ mod growth;
 mod laws;
 mod made;
 mod making;
-mod open_box;
 mod parting;
 mod tree;
 mod trees;

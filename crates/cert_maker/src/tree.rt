@@ -6,8 +6,7 @@ ghost use Rattle.cert_checker.specs.reference_resolver.Trace.{trace_of};
 ghost use Rattle.cert_maker.specs.Growth.{IsGrown};
 
 use crate::growth::add_node;
-use crate::open_box::OpenBox;
-use cert_checker::{ConfigBox, Device, End, Node, OutOfMemory, ResId, Stack, Walk};
+use cert_checker::{ConfigBox, Device, End, Node, OpenBox, OutOfMemory, ResId, Stack};
 use std::alloc::Global;
 
 /// What became of a tree.
@@ -35,12 +34,9 @@ pub(crate) fn grow_tree(
 {
     let mut nodes = Vec::new(alloc);
     let mut open_boxes = Vec::new(alloc);
-    open_boxes.push(OpenBox {
-        members: members.shared(alloc)?,
-        walk: Walk::of(id),
-    })?;
+    open_boxes.push(OpenBox::whole(alloc, stack, id, members.shared(alloc)?)?)?;
     'boxes: while let Some(part) = open_boxes.pop() {
-        if let Some((device, end)) = add_node(alloc, stack, &part, &mut nodes, &mut open_boxes)? {
+        if let Some((device, end)) = add_node(alloc, stack, part, &mut nodes, &mut open_boxes)? {
             return Ok(Grown::Counterexample(device, end));
         }
         if nodes.len() + open_boxes.len() > most {

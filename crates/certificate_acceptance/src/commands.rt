@@ -3,6 +3,7 @@
 mod accepted;
 mod command;
 mod goals;
+mod live;
 mod long_texts;
 mod made;
 mod maker;

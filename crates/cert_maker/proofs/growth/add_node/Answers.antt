@@ -1,41 +1,68 @@
-use Rattle.std.proofs.Common.{ℕ, List, map, arith}
+use Rattle.std.proofs.Common.{ℕ, List, map, arith, sym, ap, subst}
+use Rattle.cert_checker.specs.config_record.DeviceSeen.{device_numbers}
 use Rattle.cert_checker.specs.overlay_map.Layer.{most_layers}
 use Rattle.cert_checker.specs.reference_resolver.Ends.{references_followed}
 use Rattle.cert_checker.specs.reference_resolver.Trace.{Trace, trace_of}
-use Rattle.cert_checker.specs.box_answers.Members.{IsMember}
-use Rattle.cert_checker.specs.box_trace.Walk.{behind, rest_of}
+use Rattle.cert_checker.specs.box_answers.NumberSet.{SetOf}
+use Rattle.cert_checker.specs.box_answers.Members.{IsCorner}
+use Rattle.cert_checker.specs.box_trace.declared.common.CommonTrace.{CommonTrace}
+use Rattle.cert_checker.specs.box_trace.CommonTrace.{IsCommonTrace, IsParted}
+use Rattle.cert_checker.specs.box_trace.Parting.{IsParting}
+use Rattle.cert_checker.specs.box_trace.OpenBox.{boxes_of}
 use Rattle.cert_checker.specs.cert_tree.Certificate.{node_of}
-use Rattle.cert_checker.proofs.box_trace.Rests.{come_over, rest_same, share_over}
-use Rattle.cert_maker.specs.Growth.{boxes_of}
+use Rattle.cert_checker.proofs.box_trace.OpenBoxes.{rest_of, reached_there}
+use Rattle.cert_maker.specs.Growth.{Grows}
 use Rattle.cert_maker.proofs.Layers.{end-below}
 use Rattle.cert_maker.proofs.Steps.{grows-leaf, map-push}
 use Rattle.cert_maker.proofs.growth.add_node.Goals as goal
 
-pub returns-in_ok-push-in-Some-clause-grows : goal.returns-in_ok-push-in-Some-clause-grows
-returns-in_ok-push-in-Some-clause-grows c = λ id reached all.
-    let part = c.args.part.now in
-    let shared = c.in-One.ensures.value in
-    let t : Trace = behind reached.before (record { steps = shared.0; end = c.in-One.end }) in (
-      grows-leaf (trace_of c.args.stack.now references_followed id) part.members t (node_of c.in-Some.leaf)
+pub returns-in-Some-clause-grows : goal.returns-in-Some-clause-grows
+returns-in-Some-clause-grows c = λ id reached all.
+    let trace : List ℕ → Trace = trace_of c.args.stack.now references_followed id in
+    let part = c.args.part.members in
+    let common = subst (λ (k : CommonTrace). IsCommonTrace k part trace) c.in-One.is (c.in_ok-end.ensures.common trace reached) in
+    let t : Trace = record { steps = common.0; end = c.in-One.end } in (
+      grows-leaf trace part t (node_of c.in-Some.leaf)
           (map node_of c.args.nodes.now.items) (map node_of c.push.new.self.items) (boxes_of c.args.open_boxes.now.items)
           (map-push node_of c.args.nodes.now.items c.push.new.self.items c.in-Some.leaf c.in_ok-push-in-Some.ensures.items)
-          (share_over (IsMember part.members) (trace_of c.args.stack.now references_followed id) (rest_of c.args.stack.now part.walk) (record { steps = shared.0; end = c.in-One.end }) reached shared.1)
+          common.1
           c.in-Some.ensures
           (λ d. end-below most_layers c.args.stack.now references_followed id d (omega arith)),
       all,
     )
 
-pub add_test-requires-clause-asked : goal.add_test-requires-clause-asked
-add_test-requires-clause-asked c = (c.in_ok-test-in-Mixed.ensures.needed (rest_of c.args.stack.now c.args.part.now.walk) c.in-Mixed.ensures.parted.settled).passes
+pub returns-in-One-clause-counterexample : goal.returns-in-One-clause-counterexample
+returns-in-One-clause-counterexample c = λ trace reached.
+    let part = c.args.part.members in
+    let common = subst (λ (k : CommonTrace). IsCommonTrace k part trace) c.in-One.is (c.in_ok-end.ensures.common trace reached) in
+    let corner = subst (λ (sets : List SetOf). IsCorner sets (device_numbers c.corner.result)) c.in_ok-end.ensures.members c.corner.ensures in
+    record {
+      member = λ k. (corner k).is_in;
+      ends = ap (λ (t : Trace). t.end) (common.1 (device_numbers c.corner.result) (λ k. (corner k).is_in));
+      no_value = c.in-None.ensures;
+    }
 
-pub returns-in_ok-add_test-in-Mixed-clause-grows : goal.returns-in_ok-add_test-in-Mixed-clause-grows
-returns-in_ok-add_test-in-Mixed-clause-grows c = λ id reached all.
-    let part = c.args.part.now in
+pub parting_test-requires : goal.parting_test-requires
+parting_test-requires c =
+    let part = c.args.part.members in
+    let rest : List ℕ → Trace = rest_of c.args.stack.now c.args.part.walk in
+    let parted = subst (λ (k : CommonTrace). IsParted k part rest) c.in-Mixed.is (c.in_ok-end.ensures.parted rest (reached_there c.args.stack.now c.args.part)) in
+    (subst (λ (sets : List SetOf). IsParting c.in-Mixed.parting sets rest) (sym c.in_ok-end.ensures.members) parted).separates
+
+pub add_test-requires-clause-asked : goal.add_test-requires-clause-asked
+add_test-requires-clause-asked c =
+    let part = c.args.part.members in
+    let rest : List ℕ → Trace = rest_of c.args.stack.now c.args.part.walk in
+    let parted = subst (λ (k : CommonTrace). IsParted k part rest) c.in-Mixed.is (c.in_ok-end.ensures.parted rest (reached_there c.args.stack.now c.args.part)) in
+    (c.in_ok-test-in-Mixed.ensures.needed rest (subst (λ (sets : List SetOf). IsParting c.in-Mixed.parting sets rest) (sym c.in_ok-end.ensures.members) parted).settled).passes
+
+pub returns-clause-grows : goal.returns-clause-grows
+returns-clause-grows c = λ id reached all.
     let trace : List ℕ → Trace = trace_of c.args.stack.now references_followed id in
-    let parts = c.in-Mixed.ensures.parted in (
-      c.in_ok-add_test-in-Mixed.ensures.grows trace
-          (c.in_ok-test-in-Mixed.ensures.needed trace (λ d e md me same. parts.settled d e md me (rest_same (IsMember part.members) trace (rest_of c.args.stack.now part.walk) d e reached md me same))),
-      c.in_ok-add_test-in-Mixed.ensures.reached c.args.stack.now id
-          (come_over (IsMember part.members) trace (rest_of c.args.stack.now part.walk) (rest_of c.args.stack.now c.in-Mixed.parting.walk) reached parts.come)
-          all,
+    let part = c.args.part.members in
+    let parted = subst (λ (k : CommonTrace). IsParted k part trace) c.in-Mixed.is (c.in_ok-end.ensures.parted trace reached) in
+    let settled = (subst (λ (sets : List SetOf). IsParting c.in-Mixed.parting sets trace) (sym c.in_ok-end.ensures.members) parted).settled in
+    let grows = c.in_ok-add_test-in-Mixed.ensures.grows trace (c.in_ok-test-in-Mixed.ensures.needed trace settled) in (
+      subst (λ (sets : List SetOf). Grows trace sets (map node_of c.args.nodes.now.items) (map node_of c.add_test.new.nodes.items) (boxes_of c.args.open_boxes.now.items) (boxes_of c.add_test.new.open_boxes.items)) c.in_ok-end.ensures.members grows,
+      c.in_ok-add_test-in-Mixed.ensures.reached c.args.stack.now trace (c.in_ok-end.ensures.reached trace reached) all,
     )

@@ -9,40 +9,35 @@ use Rattle.cert_checker.specs.reference_resolver.Ends.{references_followed}
 use Rattle.cert_checker.specs.reference_resolver.Trace.{Trace, trace_of}
 use Rattle.cert_checker.specs.box_answers.Members.{IsBox}
 use Rattle.cert_checker.specs.cert_tree.Certificate.{node_of}
-use Rattle.cert_checker.proofs.box_trace.Rests.{come_nowhere}
-use Rattle.cert_maker.specs.declared.open_box.OpenBox.{OpenBox}
-use Rattle.cert_maker.specs.Growth.{IsReached, boxes_of}
-use Rattle.cert_maker.proofs.Steps.{map-push, when-none, when-some}
+use Rattle.cert_checker.specs.box_trace.declared.open_box.OpenBox.{OpenBox}
+use Rattle.cert_checker.specs.box_trace.OpenBox.{boxes_of, IsReached}
+use Rattle.cert_checker.proofs.box_trace.OpenBoxes.{boxes-push}
+use Rattle.cert_maker.proofs.Steps.{when-none, when-some}
 use Rattle.cert_maker.proofs.Loop.{only-box, started, goes-on, done-passes, done-needed, done-fits, too-large, member-of-whole}
 use Rattle.cert_maker.proofs.tree.grow_tree.Goals as goal
 
 pub boxes-init : goal.boxes-init
 boxes-init c =
     let trace : List ℕ → Trace = trace_of c.args.stack.now references_followed c.args.id.0 in
+    let reached = IsReached c.args.stack.now trace in
     let none = c.new-nodes.ensures.items in
-    let pushed = map-push (λ (part : OpenBox). part.members) _ _ _ c.in_ok-push.ensures.items in
-    let one = only-box _ _ _ _ (ap boxes_of c.new-open_boxes.ensures.items) pushed c.in_ok-shared.ensures.value in
+    let pushed = boxes-push _ _ _ c.in_ok-push.ensures.items in
+    let one = only-box _ _ _ _ (ap boxes_of c.new-open_boxes.ensures.items) pushed (c.in_ok-whole.ensures.members ∙ c.in_ok-shared.ensures.value) in
     record {
       going = started trace c.args.members.now (map node_of c.new-nodes.result.items) (boxes_of c.push.new.self.items) (subst IsBox c.in_ok-shared.ensures.value c.in_ok-shared.ensures.sets) (ap (map node_of) none) one;
-      reached = All-same (IsReached c.args.stack.now c.args.id.0) _ _ c.in_ok-push.ensures.items
-          (All-push (IsReached c.args.stack.now c.args.id.0) _ _ (All-same (IsReached c.args.stack.now c.args.id.0) _ _ c.new-open_boxes.ensures.items (All-nil (IsReached c.args.stack.now c.args.id.0)))
-          (come_nowhere _ _ _ (sym (c.of.ensures c.args.stack.now))));
+      reached = All-same reached _ _ c.in_ok-push.ensures.items (All-push reached _ _ (All-same reached _ _ c.new-open_boxes.ensures.items (All-nil reached)) c.in_ok-whole.ensures.reached);
       within = omega (arith, ap length none);
     }
-
--- the open box that is taken, and the others
-taken : (stack : List LayerOf) (id : ℕ) (before rest : List OpenBox) (part : OpenBox) → before ≡ rest ++ part ∷ [] → All (IsReached stack id) before → All (IsReached stack id) rest × IsReached stack id part
-taken stack id before rest part e all = All-pop (IsReached stack id) before rest (Some part) e all
 
 pub returns-in-Some-2 : goal.returns-in-Some-2
 returns-in-Some-2 c =
     let trace : List ℕ → Trace = trace_of c.args.stack.now references_followed c.args.id.0 in
-    let found = when-some _ (c.in-Some-2.device, c.in-Some-2.end) _ c.in-Some-2.is c.in_ok-device.ensures.counterexample in
-    let reached = (taken c.args.stack.now c.args.id.0 _ _ _ c.in-Some.ensures.items c.boxes.invariant.reached).1 in
+    let taken = All-pop (IsReached c.args.stack.now trace) c.boxes.open_boxes.items c.pop.new.self.items (Some c.in-Some.part) c.in-Some.ensures.items c.boxes.invariant.reached in
+    let found = when-some _ (c.in-Some-2.device, c.in-Some-2.end) _ c.in-Some-2.is c.in_ok-device.ensures.counterexample trace taken.1 in
     record {
       member = member-of-whole trace c.args.members.now c.in-Some.part.members (map node_of c.boxes.nodes.items) (boxes_of c.boxes.open_boxes.items) (boxes_of c.pop.new.self.items) (device_numbers c.in-Some-2.device)
-          (map-push (λ (part : OpenBox). part.members) _ _ _ c.in-Some.ensures.items) c.boxes.invariant.going found.member;
-      ends = ap (λ (t : Trace). t.end) (reached.same (device_numbers c.in-Some-2.device) found.member) ∙ found.ends;
+          (boxes-push _ _ _ c.in-Some.ensures.items) c.boxes.invariant.going found.member;
+      ends = found.ends;
       no_value = found.no_value;
     }
 
@@ -51,21 +46,21 @@ returns-then-len-most c =
     let trace : List ℕ → Trace = trace_of c.args.stack.now references_followed c.args.id.0 in
     let count = length-map c.add_node.new.nodes.items node_of in
     let open_count = length-map c.add_node.new.open_boxes.items (λ (part : OpenBox). part.members) in
-    let reached = taken c.args.stack.now c.args.id.0 _ _ _ c.in-Some.ensures.items c.boxes.invariant.reached in
-    let grown = when-none _ _ c.in_default-2.is c.in_ok-device.ensures.grows c.args.id.0 reached.1 reached.0 in
+    let taken = All-pop (IsReached c.args.stack.now trace) c.boxes.open_boxes.items c.pop.new.self.items (Some c.in-Some.part) c.in-Some.ensures.items c.boxes.invariant.reached in
+    let grown = when-none _ _ c.in_default-2.is c.in_ok-device.ensures.grows c.args.id.0 taken.1 taken.0 in
     too-large trace c.args.members.now (map node_of c.add_node.new.nodes.items) (boxes_of c.add_node.new.open_boxes.items) c.args.most
     (goes-on trace c.args.members.now c.in-Some.part.members (map node_of c.boxes.nodes.items) (map node_of c.add_node.new.nodes.items) (boxes_of c.boxes.open_boxes.items) (boxes_of c.pop.new.self.items) (boxes_of c.add_node.new.open_boxes.items)
-    (map-push (λ (part : OpenBox). part.members) _ _ _ c.in-Some.ensures.items) c.boxes.invariant.going grown.0)
+    (boxes-push _ _ _ c.in-Some.ensures.items) c.boxes.invariant.going grown.0)
     (omega (arith, count, open_count))
 
 pub boxes-preserved : goal.boxes-preserved
 boxes-preserved c =
     let trace : List ℕ → Trace = trace_of c.args.stack.now references_followed c.args.id.0 in
-    let reached = taken c.args.stack.now c.args.id.0 _ _ _ c.in-Some.ensures.items c.boxes.invariant.reached in
-    let grown = when-none _ _ c.in_default-2.is c.in_ok-device.ensures.grows c.args.id.0 reached.1 reached.0 in
+    let taken = All-pop (IsReached c.args.stack.now trace) c.boxes.open_boxes.items c.pop.new.self.items (Some c.in-Some.part) c.in-Some.ensures.items c.boxes.invariant.reached in
+    let grown = when-none _ _ c.in_default-2.is c.in_ok-device.ensures.grows c.args.id.0 taken.1 taken.0 in
     record {
       going = goes-on trace c.args.members.now c.in-Some.part.members (map node_of c.boxes.nodes.items) (map node_of c.add_node.new.nodes.items) (boxes_of c.boxes.open_boxes.items) (boxes_of c.pop.new.self.items) (boxes_of c.add_node.new.open_boxes.items)
-          (map-push (λ (part : OpenBox). part.members) _ _ _ c.in-Some.ensures.items) c.boxes.invariant.going grown.0;
+          (boxes-push _ _ _ c.in-Some.ensures.items) c.boxes.invariant.going grown.0;
       reached = grown.1;
       within = omega arith;
     }

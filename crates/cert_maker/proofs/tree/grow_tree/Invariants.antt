@@ -2,15 +2,15 @@ use Rattle.std.proofs.Common.{◌-◌, ◌≤◌, length, map, reverse}
 use Rattle.std.specs.List.{All}
 use Rattle.cert_checker.specs.reference_resolver.Ends.{references_followed}
 use Rattle.cert_checker.specs.reference_resolver.Trace.{trace_of}
+use Rattle.cert_checker.specs.box_trace.OpenBox.{boxes_of, IsReached}
 use Rattle.cert_checker.specs.cert_tree.Certificate.{node_of}
-use Rattle.cert_maker.specs.Growth.{boxes_of, IsReached}
 use Rattle.cert_maker.proofs.Loop.{Going}
 use Rattle.cert_maker.proofs.tree.grow_tree.Given as goal
 
 abbrev pub invariant-boxes : goal.invariant-boxes
 invariant-boxes l = record {
   going : Going (trace_of l.stack references_followed l.fn.id.0) l.members (map node_of l.nodes.items) (reverse (boxes_of l.open_boxes.items));
-  reached : All (IsReached l.stack l.fn.id.0) l.open_boxes.items;
+  reached : All (IsReached l.stack (trace_of l.stack references_followed l.fn.id.0)) l.open_boxes.items;
   within : length l.nodes.items ≤ l.fn.most;
 }
 

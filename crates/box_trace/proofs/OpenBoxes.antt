@@ -1,0 +1,23 @@
+-- The boxes of open paths.
+use Rattle.std.proofs.Common.{◌≡◌, ℕ, List, [], ◌∷◌, ◌++◌, ◌∙◌, ap, refl}
+use Rattle.std.proofs.lemmas.List.{map-append}
+use Rattle.reference_resolver.specs.overlay_map.Layer.{LayerOf}
+use Rattle.reference_resolver.specs.Trace.{Trace}
+use Rattle.config_box.specs.box_answers.Members.{IsMember}
+use Rattle.box_trace.specs.declared.walk.Walk.{Walk}
+use Rattle.box_trace.specs.declared.open_box.OpenBox.{OpenBox}
+use Rattle.box_trace.specs.Live.{listed}
+use Rattle.box_trace.specs.Walk.{rest_at, best_at, live_ahead}
+use Rattle.box_trace.specs.OpenBox.{boxes_of, IsReached}
+use Rattle.box_trace.proofs.LeftOut.{none_left_out}
+use Rattle.box_trace.proofs.Rests.{come_nowhere}
+
+pub boxes-push : (before after : List OpenBox) (part : OpenBox) → after ≡ before ++ part ∷ [] → boxes_of after ≡ boxes_of before ++ part.members ∷ []
+boxes-push before after part e = ap boxes_of e ∙ map-append (λ (p : OpenBox). p.members) before (part ∷ [])
+
+-- what lies ahead of a walk, if its list leaves out nothing
+abbrev pub rest_of : List LayerOf → Walk → List ℕ → Trace
+rest_of stack walk d = rest_at stack walk.id.0 walk.left (best_at walk) (listed (live_ahead walk)) d
+
+pub reached_there : (stack : List LayerOf) (part : OpenBox) → IsReached stack (rest_of stack part.walk) part
+reached_there stack part = record { ahead = listed (live_ahead part.walk); come = come_nowhere _ _ _ refl; left_out = none_left_out _ _ }

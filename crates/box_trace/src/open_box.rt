@@ -1,0 +1,96 @@
+//! The boxes of open paths.
+
+ghost use Rattle.std.specs.Prelude.{ℕ, List};
+
+use crate::common::CommonTrace;
+use crate::walk::Walk;
+use config_box::{ConfigBox, Coord, OutOfMemory, Values};
+use reference_resolver::{REFERENCES_FOLLOWED, ResId, Stack};
+use std::alloc::Global;
+
+/// The box of an open path in a tree, and how far all its members go by the same steps.
+#[derive(Drop)]
+pub struct OpenBox<'a> {
+    pub members: ConfigBox,
+    pub(crate) walk: Walk<'a>,
+    /// Whether the candidates of its walk are judged anew before it goes on. No promise depends on it.
+    is_stale: bool,
+    ghost marked: { AreMarked (IsMember members) walk.live.value },
+}
+
+ghost use Rattle.config_box.specs.box_answers.Members.{IsMember};
+ghost use Rattle.box_trace.specs.Live.{AreMarked};
+
+impl<'a> OpenBox<'a> {
+    ghost use Rattle.std.specs.Prelude.{◌≡◌, ℕ, List, IfOk};
+    ghost use Rattle.config_box.specs.box_answers.Members.{IsMember};
+    ghost use Rattle.reference_resolver.specs.overlay_map.Layer.{LayerOf};
+    ghost use Rattle.reference_resolver.specs.Ends.{references_followed};
+    ghost use Rattle.reference_resolver.specs.Trace.{Trace, trace_of};
+    ghost use Rattle.box_trace.specs.OpenBox.{IsReached};
+    ghost use Rattle.box_trace.specs.CommonTrace.{IsCommonTrace, IsParted};
+
+    /// A whole box, where nothing of an id is asked yet, and at most twenty references are followed.
+    pub fn whole(
+        alloc: Global,
+        stack: &Stack<'a>,
+        id: ResId,
+        members: ConfigBox,
+    ) -> Result<OpenBox<'a>, OutOfMemory>
+        ensures members { IfOk result (λ part. part.members ≡ members) }
+        ensures reached { IfOk result (IsReached stack.now (trace_of stack.now references_followed id.0)) }
+    {
+        let walk = Walk::of(alloc, stack, id, REFERENCES_FOLLOWED, &members)?;
+        Ok(OpenBox {
+            members,
+            walk,
+            is_stale: false,
+        })
+    }
+
+    /// A part of it, which goes on where the whole stopped. The two differ at this coordinate alone.
+    pub fn narrowed(&self, members: ConfigBox, at: Coord) -> Result<OpenBox<'a>, OutOfMemory>
+        requires { (d : List ℕ) → IsMember members d → IsMember self.now.members d }
+        ensures members { IfOk result (λ part. part.members ≡ members) }
+        ensures reached { IfOk result (λ part. (stack : List LayerOf) (trace : List ℕ → Trace) → IsReached stack trace self.now → IsReached stack trace part) }
+    {
+        let is_stale = is_much_smaller(&members, &self.members, at);
+        Ok(OpenBox {
+            members,
+            walk: self.walk.shared()?,
+            is_stale,
+        })
+    }
+
+    /// What the traces of all members have in common. The walk goes on to their end, or to where they part.
+    pub fn common_trace(
+        &mut self,
+        alloc: Global,
+        stack: &Stack<'a>,
+    ) -> Result<CommonTrace<'a>, OutOfMemory>
+        ensures members { self.new.members ≡ self.old.members }
+        ensures reached { (trace : List ℕ → Trace) → IsReached stack.now trace self.old → IsReached stack.now trace self.new }
+        ensures common { IfOk result (λ common. (trace : List ℕ → Trace) → IsReached stack.now trace self.old → IsCommonTrace common self.old.members trace) }
+        ensures parted { IfOk result (λ common. (trace : List ℕ → Trace) → IsReached stack.now trace self.old → IsParted common self.old.members trace) }
+    {
+        if self.is_stale {
+            self.walk = self.walk.judged(alloc, &self.members)?;
+            self.is_stale = false;
+        }
+        self.walk.go_on(alloc, stack, &self.members)
+    }
+}
+
+/// Whether a part of a box has at most half of its values at a coordinate. Candidates are judged anew only then: a chain
+/// that takes off value by value does not ask all of them each time.
+fn is_much_smaller(part: &ConfigBox, whole: &ConfigBox, at: Coord) -> bool {
+    count(&part.values(at)) <= count(&whole.values(at)) / 2
+}
+
+fn count(values: &Values<'_>) -> usize {
+    match values {
+        Values::Range(low, high) => (*high).saturating_sub(*low) as usize,
+        Values::Numbers(numbers) => numbers.len(),
+        Values::Locales(locales) => locales.len(),
+    }
+}
