@@ -287,13 +287,14 @@ if command -v python3 >/dev/null; then
     ends "worked certificates that are made" 0 "python3 '$here/tests/worked_made.py' \"\$0\""
     ends "random certificates that are made" 0 "python3 '$here/tests/check_made.py' \"\$0\" 400 4"
 
-    # Work of more than a second: an id in which each pair of a locale and an mnc has a trace of its own, so many times
-    # that a terminal shows a line of it; more often on a fast machine. With standard error in a file nothing is written
-    # there.
-    python3 "$here/bench/make_list.py" 60 table.arsc pairs locale mnc
+    # Work of more than a second: an id in which each pair of a locale and an mnc has a trace of its own, so many of each
+    # and so many times that a terminal shows a line of it; more on a fast machine. With standard error in a file nothing
+    # is written there.
     line pairs-layers '[{"table":"table.arsc"}]'
-    for goals in 30 130; do
-        many=$(awk -v goals=$goals 'BEGIN { while (goals-- > 0) print "0x7f010000" }')
+    for work_of in "60 30" "60 130" "200 12"; do
+        goals=${work_of#* }
+        python3 "$here/bench/make_list.py" "${work_of% *}" table.arsc pairs locale mnc
+        many=$(awk -v goals="$goals" 'BEGIN { while (goals-- > 0) print "0x7f010000" }')
         python3 "$here/tests/on_terminal.py" "$program" make --max-nodes 1000000 pairs-layers pairs $many >terminal
         grep -q "^[0-9]* of $goals goals done" terminal && break
     done
