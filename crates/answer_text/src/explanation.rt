@@ -1,20 +1,20 @@
 //! How an id comes to its end, written.
 
-ghost use Rattle.std.specs.Prelude.{◌≡◌, ◌<◌, ◌^◌, length, IfOk};
+ghost use Rattle.std.specs.Prelude.{◌≡◌, IfOk};
 ghost use Rattle.std.specs.List.{flat_map};
+ghost use Rattle.std.specs.Option.{option_map};
 ghost use Rattle.contract_words.specs.Writes.{Writes};
 ghost use Rattle.reference_resolver.specs.config_record.DeviceSeen.{device_numbers};
+ghost use Rattle.reference_resolver.specs.overlay_map.Candidates.{cand_of};
+ghost use Rattle.reference_resolver.specs.Selection.{selected};
 ghost use Rattle.reference_resolver.specs.Ends.{references_followed, end_of};
-ghost use Rattle.reference_resolver.specs.Trace.{look_ups_of, IsTraced};
-ghost use Rattle.reference_resolver.specs.Traced.{traced_of};
+ghost use Rattle.reference_resolver.specs.Trace.{look_ups_of, traced, scan_look_up, IsTraced};
 ghost use Rattle.answer_text.specs.ExplainText.{place_text, traced_text, candidate_line, look_up_line, candidate_lines, look_up_text, explain_text};
 
 use crate::decision::write_decision;
 use crate::end::write_end_line;
 use line_parts::{write_layer, write_named_id, write_named_number};
-use reference_resolver::{
-    Device, End, LookUps, ResId, Stack, TracedCandidate, TracedCandidates, resolve,
-};
+use reference_resolver::{Cand, Decision, Device, End, Next, REFERENCES_FOLLOWED, ResId, Stack};
 use std::io::{self, Write};
 
 /// Writes how an id comes to its end at a device: a line for each id that is looked up, behind it one for
@@ -30,80 +30,102 @@ pub fn explain<W: Write + Drop>(
     ensures end { IfOk result (λ end. end ≡ end_of stack.now references_followed id.0 (device_numbers device.now)) }
     ensures trace { IsTraced stack.now references_followed id.0 (device_numbers device.now) }
 {
-    write_look_ups(stack, id, device, out)?;
-    let end = resolve(stack, id, device);
+    let end = write_look_ups(stack, id, REFERENCES_FOLLOWED, device, out)?;
     write_end_line(end, out)?;
     Ok(end)
 }
 
-#[tactic(auto, using(contract_words::proofs::TextSteps::puts))]
+// Writes each look-up, where at most so many references are followed, and gives where they end.
 fn write_look_ups<W: Write + Drop>(
     stack: &Stack<'_>,
     id: ResId,
+    most: u8,
     device: &Device,
     out: &mut W,
-) -> io::Result<()>
-    ensures { Writes W.contents out.old out.new result (flat_map
+) -> io::Result<End>
+    ensures text { Writes W.contents out.old out.new result (flat_map
         (look_up_text stack.now (device_numbers device.now))
-        (look_ups_of stack.now references_followed id.0 (device_numbers device.now))) }
+        (look_ups_of stack.now most id.0 (device_numbers device.now))) }
+    ensures end { IfOk result (λ end. end ≡ end_of stack.now most id.0 (device_numbers device.now)) }
 {
-    for id in LookUps::of(stack, id, device) {
-        write_look_up(stack, id, device, out)?;
+    let mut id = id;
+    let mut left = most;
+    'chain: loop {
+        let picked = write_look_up(stack, id, device, out)?;
+        match Next::of(id, &picked).cut_off(left) {
+            Next::EndsAt(end) => return Ok(end),
+            Next::LookUp(target) => id = target,
+        }
+        left -= 1;
     }
-    Ok(())
 }
 
+// Writes a look-up, and gives what it selects.
 #[tactic(auto, unfolding(crate::specs::ExplainText::look_up_text))]
-fn write_look_up<W: Write + Drop>(
-    stack: &Stack<'_>,
+fn write_look_up<'a, W: Write + Drop>(
+    stack: &Stack<'a>,
     id: ResId,
     device: &Device,
     out: &mut W,
-) -> io::Result<()>
-    ensures { Writes W.contents out.old out.new result (look_up_text stack.now (device_numbers device.now) id.0) }
+) -> io::Result<Option<Cand<'a>>>
+    ensures text { Writes W.contents out.old out.new result (look_up_text stack.now (device_numbers device.now) id.0) }
+    ensures picked { IfOk result (λ picked. option_map cand_of picked ≡ selected stack.now id.0 (device_numbers device.now)) }
 {
     write_look_up_line(id, out)?;
-    write_candidates(TracedCandidates::of(stack, id, device), out)
+    write_candidates(stack, id, device, out)
 }
 
-// Writes a line for each of these candidates, which are counted from 0.
-#[tactic(auto, using(contract_words::proofs::TextSteps::puts), unfolding(crate::specs::ExplainText::candidate_lines))]
-fn write_candidates<W: Write + Drop>(
-    candidates: TracedCandidates<'_, '_>,
+// Writes a line for each candidate of an id, which are counted from 0, and gives the one that is selected.
+#[tactic(auto, using(contract_words::proofs::TextSteps::puts), unfolding(crate::specs::ExplainText::candidate_lines, reference_resolver::specs::Selection::selected))]
+fn write_candidates<'a, W: Write + Drop>(
+    stack: &Stack<'a>,
+    id: ResId,
+    device: &Device,
     out: &mut W,
-) -> io::Result<()>
-    requires { length candidates < 2 ^ 99 }
-    ensures { Writes W.contents out.old out.new result (candidate_lines candidates.entry) }
+) -> io::Result<Option<Cand<'a>>>
+    ensures text { Writes W.contents out.old out.new result
+        (candidate_lines (scan_look_up traced stack.now (device_numbers device.now) id.0)) }
+    ensures picked { IfOk result (λ picked. option_map cand_of picked ≡ selected stack.now id.0 (device_numbers device.now)) }
 {
     let mut place: u128 = 0;
-    for candidate in candidates {
-        write_candidate(place, &candidate, out)?;
+    let mut best = None;
+    for candidate in stack.candidates(id) {
+        let decision = Decision::of(&best, &candidate, device);
+        write_candidate(place, &candidate, decision, out)?;
+        best = decision.step().best_after(best, candidate);
         place += 1;
     }
-    Ok(())
+    Ok(best)
 }
 
 #[tactic(auto, unfolding(crate::specs::ExplainText::candidate_line))]
 fn write_candidate<W: Write + Drop>(
     place: u128,
-    traced: &TracedCandidate<'_>,
+    candidate: &Cand<'_>,
+    decision: Decision,
     out: &mut W,
 ) -> io::Result<()>
-    ensures { Writes W.contents out.old out.new result (candidate_line (place, traced_of traced.now)) }
+    ensures { Writes W.contents out.old out.new result
+        (candidate_line (place, record { candidate = cand_of candidate.now; decision = decision })) }
 {
-    write_place(place, traced.candidate.layer, out)?;
+    write_place(place, candidate.layer, out)?;
     out.write_all(b" ")?;
-    write_traced(traced, out)?;
+    write_traced(candidate, decision, out)?;
     out.write_all(b"\n")
 }
 
 #[tactic(auto, unfolding(crate::specs::ExplainText::traced_text))]
-fn write_traced<W: Write + Drop>(traced: &TracedCandidate<'_>, out: &mut W) -> io::Result<()>
-    ensures { Writes W.contents out.old out.new result (traced_text (traced_of traced.now)) }
+fn write_traced<W: Write + Drop>(
+    candidate: &Cand<'_>,
+    decision: Decision,
+    out: &mut W,
+) -> io::Result<()>
+    ensures { Writes W.contents out.old out.new result
+        (traced_text (record { candidate = cand_of candidate.now; decision = decision })) }
 {
-    traced.candidate.row.config.write_qualifiers(out)?;
+    candidate.row.config.write_qualifiers(out)?;
     out.write_all(b" ")?;
-    write_decision(traced.decision, out)
+    write_decision(decision, out)
 }
 
 #[tactic(auto, unfolding(crate::specs::ExplainText::place_text))]

@@ -1,5 +1,5 @@
 -- What is told of candidates is what they do.
-use Rattle.std.proofs.Common.{◌≡◌, Bool, true, false, if◌then◌else◌, ℕ, suc, List, [], ◌∷◌, ◌++◌, map, length, Option, Some, None, is_none, refl, ◌∙◌, ap}
+use Rattle.std.proofs.Common.{◌≡◌, Bool, true, false, if◌then◌else◌, ℕ, List, [], ◌∷◌, ◌++◌, map, Option, Some, None, is_none, refl, ◌∙◌, ap}
 use Rattle.std.specs.Prelude.{not}
 use Rattle.std.specs.List.{flat_map}
 use Rattle.std.proofs.lemmas.List.{map-append}
@@ -67,9 +67,3 @@ steps_along stack d (id ∷ ids) =
 pub is_traced : (stack : List LayerOf) (most id : ℕ) (d : List ℕ) → IsTraced stack most id d
 unfolding IsTraced
 is_traced stack most id d = steps_along stack d (look_ups_of stack most id d)
-
--- ---- their number
-
-pub scan_length : {X : Type 0} (tell : Option CandOf → CandOf → List ℕ → X) (best : Option CandOf) (candidates : List CandOf) (d : List ℕ) → length (scan_candidates tell best candidates d) ≡ length candidates
-scan_length tell best [] d = refl
-scan_length tell best (candidate ∷ candidates) d = ap (λ (n : ℕ). suc n) (scan_length tell (best_after (step_of best candidate d) best candidate) candidates d)

@@ -5,7 +5,6 @@ pub mod Decision
 pub mod Ends
 pub mod Trace
 pub mod SameTrace
-pub mod Traced
 pub use Rattle.config_precedence.specs as config_precedence
 pub use Rattle.config_precedence.specs.config_match
 pub use Rattle.config_precedence.specs.config_record

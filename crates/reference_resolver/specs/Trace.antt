@@ -1,5 +1,5 @@
 -- The trace of an id at a device: what each candidate of its look-ups does, and where the id ends.
-use Rattle.std.specs.Prelude.{ℕ, zero, suc, ◌≡◌, List, [], ◌∷◌, map, Option, Some, None}
+use Rattle.std.specs.Prelude.{ℕ, zero, suc, ◌≡◌, List, [], ◌∷◌, map, Option, None}
 use Rattle.std.specs.List.{flat_map}
 use Rattle.overlay_map.specs.res_value.declared.res_id.ResId.{ResId}
 use Rattle.overlay_map.specs.Layer.{LayerOf}
@@ -25,11 +25,6 @@ abbrev pub look_ups_of : List LayerOf → ℕ → ℕ → List ℕ → List ℕ
 look_ups_of stack zero id d = id ∷ []
 look_ups_of stack (suc most) id d =
     id ∷ look_ups_by (λ target. look_ups_of stack most target.0 d) (next_of id (selected stack id d))
-
--- those from an id on, none where there is none
-abbrev pub look_ups_from : List LayerOf → ℕ → Option ResId → List ℕ → List ℕ
-look_ups_from stack most None d = []
-look_ups_from stack most (Some id) d = look_ups_of stack most id.0 d
 
 -- ---- a note of each candidate
 

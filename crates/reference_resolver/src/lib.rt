@@ -3,35 +3,27 @@
 //! For the crates above: `select` is the last of an id's candidates that takes over, each from the one
 //! before it; where of any two that match exactly one is better, it is that best one in whatever order
 //! they stand. `resolve` is the end of the chain of look-ups that begins at an id, in which at most twenty
-//! references are followed. `LookUps` are the ids of that chain, and `TracedCandidates` the candidates of one
-//! of them, each with what it does and why; neither takes memory.
+//! references are followed. `Decision` says what a candidate does and why, and `Next` where a look-up leads.
+//! Nothing here takes memory.
 //!
 //! ```text
 //! let picked = select(&stack, id, &device);
 //! if let End::Value { layer, value } = resolve(&stack, id, &device) {
 //!     write_value(value, &mut out)?;
 //! }
-//! for look_up in LookUps::of(&stack, id, &device) {
-//!     for traced in TracedCandidates::of(&stack, look_up, &device) {
-//!         write_decision(traced.decision, &mut out)?;
-//!     }
-//! }
 //! ```
 #![tactic(auto)]
 
 mod decision;
 mod end;
-mod look_ups;
 mod next;
 mod references;
 mod selection;
 mod step;
-mod traced_candidates;
 
 pub use config_precedence::{Coord, Device, Locale, Record, same};
 pub use decision::Decision;
 pub use end::End;
-pub use look_ups::LookUps;
 pub use next::{Next, is_reference};
 pub use overlay_map::{
     Cand, Cell, MOST_LAYERS, MapRows, Package, PackageRows, Pool, ResId, Row, Stack, Table, Value,
@@ -40,4 +32,3 @@ pub use overlay_map::{
 pub use references::{REFERENCES_FOLLOWED, resolve, resolve_within};
 pub use selection::select;
 pub use step::Step;
-pub use traced_candidates::{TracedCandidate, TracedCandidates};

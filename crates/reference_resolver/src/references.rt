@@ -41,8 +41,8 @@ pub fn resolve_within(stack: &Stack<'_>, id: ResId, device: &Device, most: u8) -
     }
 }
 
-/// Where the look-up of an id leads if at most `left` references may still be followed.
-pub(crate) fn next_within(stack: &Stack<'_>, id: ResId, device: &Device, left: u8) -> Next
+// Where the look-up of an id leads if at most `left` references may still be followed.
+fn next_within(stack: &Stack<'_>, id: ResId, device: &Device, left: u8) -> Next
     ensures { result ≡ next_within stack.now left id.0 (device_numbers device.now) }
 {
     Next::of(id, &select(stack, id, device)).cut_off(left)
