@@ -34,7 +34,7 @@ IsCommonTrace (Mixed parting) sets trace =
     AreSideBySide sets (device_numbers parting.pair.yes) (device_numbers parting.pair.no) parting.pair.coord
     × Divides (IsMember sets) (λ d. (trace d).steps) (device_numbers parting.pair.yes) (device_numbers parting.pair.no)
 
--- where it is mixed, this is that question
+-- where it is mixed: the two answer its question differently, and members with one trace answer it alike
 abbrev pub IsParted : CommonTrace → List SetOf → (List ℕ → Trace) → Type 0
 IsParted (One end) sets trace = Unit {0}
 IsParted (Mixed parting) sets trace = IsParting parting sets trace

@@ -21,7 +21,7 @@ listed live = map (λ l. l.candidate) live
 abbrev pub matches : CandOf → List ℕ → Bool
 matches candidate d = is_match candidate.row.config d
 
--- These are left of candidates, in their order, where some are left out that match no member.
+-- The second list is the first without some that match no member, in the same order.
 abbrev pub LeavesOut : (List ℕ → Type 0) → List CandOf → List CandOf → Type 0
 LeavesOut members [] [] = Unit {0}
 LeavesOut members [] (other ∷ left) = ⊥
@@ -29,7 +29,7 @@ LeavesOut members (candidate ∷ candidates) [] = AllAnswer members (matches can
 LeavesOut members (candidate ∷ candidates) (other ∷ left) =
     (AllAnswer members (matches candidate) false × LeavesOut members candidates (other ∷ left)) ⊎ ((candidate ≡ other) × LeavesOut members candidates left)
 
--- those that are marked match all members
+-- each that is marked matches all members
 abbrev pub AreMarked : (List ℕ → Type 0) → List LiveOf → Type 0
 AreMarked members live = All (λ l. IsTrue l.marked → AllAnswer members (matches l.candidate) true) live
 

@@ -51,7 +51,7 @@ impl<'a> Live<'a> {
         Ok(Live { list })
     }
 
-    /// Those of them that a smaller box leaves. What is marked is not asked again.
+    /// Those of them that members of another box match. What is marked has to match all of these, and is not asked again.
     pub fn half(&self, alloc: Global, members: &ConfigBox) -> Result<Live<'a>, OutOfMemory>
         requires { AreMarked (IsMember members.now) self.now }
         ensures { IfOk result (AreLive (IsMember members.now) (listed self.now)) }
@@ -77,6 +77,7 @@ impl<'a> Live<'a> {
         Ok(Live { list })
     }
 
+    /// The candidates in their order, each with its mark.
     pub fn list(&self) -> &[(Cand<'a>, bool)]
         ensures { map live_of result.now ≡ self.now }
     {

@@ -48,7 +48,7 @@ impl<'a> OpenBox<'a> {
         })
     }
 
-    /// A part of it, which goes on where the whole stopped. The two differ at this coordinate alone.
+    /// A part of it, which goes on where the whole stopped. It is smaller at this coordinate; no promise depends on that.
     pub fn narrowed(&self, members: ConfigBox, at: Coord) -> Result<OpenBox<'a>, OutOfMemory>
         requires { (d : List ℕ) → IsMember members d → IsMember self.now.members d }
         ensures members { IfOk result (λ part. part.members ≡ members) }
@@ -81,8 +81,8 @@ impl<'a> OpenBox<'a> {
     }
 }
 
-/// Whether a part of a box has at most half of its values at a coordinate. Candidates are judged anew only then: a chain
-/// that takes off value by value does not ask all of them each time.
+/// Whether a part of a box has at most about half of its values at a coordinate. Candidates are judged anew only then: in a
+/// chain that takes off value by value the long half does not ask all of them each time.
 fn is_much_smaller(part: &ConfigBox, whole: &ConfigBox, at: Coord) -> bool {
     count(&part.values(at)) <= count(&whole.values(at)) / 2
 }

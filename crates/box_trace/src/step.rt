@@ -15,7 +15,8 @@ use crate::parting::{Asked, Parting};
 use config_box::{ConfigBox, MemberPair, Sameness};
 use reference_resolver::{Cand, same};
 
-/// The best after the next candidate, for all members. Whether it matches is asked first, unless it is marked.
+/// The best after the next candidate, for all members. Whether the candidate matches is asked first; of
+/// a marked one it is known.
 pub(crate) fn best_after<'a>(
     best: &Option<Cand<'a>>,
     live: (Cand<'a>, bool),
