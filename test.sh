@@ -12,6 +12,7 @@ start=$(date +%s)
     echo $? >"$work/status"
 } | tee "$work/gate"
 gate_status=$(cat "$work/status")
+if [ "$gate_status" = 0 ]; then rt version >crates/restool/out/proved-with; fi
 echo "the gate took $(($(date +%s) - start)) seconds"
 sh tests/end_to_end.sh 2>&1 | tee "$work/runs"
 

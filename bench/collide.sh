@@ -1,7 +1,7 @@
 #!/bin/sh
-# Times id maps and styles whose ids would collide in a hash map of the toolchain, beside those whose ids follow each
-# other: a query over an overlay with such a map, and an attribute behind such a style. Neither is to take longer by
-# more than what the order of its ids costs. Each command runs three times; the least time counts.
+# Times id maps and styles whose ids would collide in a hash map with the toolchain's fixed seed, beside those whose ids
+# follow each other: a query over an overlay with such a map, and an attribute behind such a style. No factor is to be
+# above three. Each command runs three times; the least time counts.
 #
 # Needs GNU time (Debian's package time) and python3.
 . "$(dirname "$0")/common.sh"
@@ -11,7 +11,7 @@ python3 "$here/make_rows.py" 24 table.arsc || exit 1
 echo '[{"table":"table.arsc"},{"table":"table.arsc","map":"map"}]' >map-layers
 echo '[{"table":"style.arsc"}]' >style-layers
 printf '%-8s %-10s %14s %14s %10s\n' ids of 'in a row, s' 'colliding, s' factor
-for count in 25000 50000 100000; do
+for count in 25000 50000 100000 200000; do
     for kind in map style; do
         for how in row colliding; do
             python3 "$here/make_colliding.py" "$kind" "$how" "$count" "$kind" || exit 1

@@ -286,22 +286,8 @@ fi
 if command -v python3 >/dev/null; then
     ends "worked certificates that are made" 0 "python3 '$here/tests/worked_made.py' \"\$0\""
     ends "random certificates that are made" 0 "python3 '$here/tests/check_made.py' \"\$0\" 400 4"
-
-    # Work of more than a second: an id in which each pair of a locale and an mnc has a trace of its own, so many of each
-    # and so many times that a terminal shows a line of it; more on a fast machine. With standard error in a file nothing
-    # is written there.
-    line pairs-layers '[{"table":"table.arsc"}]'
-    for work_of in "60 30" "60 130" "200 12"; do
-        goals=${work_of#* }
-        python3 "$here/bench/make_list.py" "${work_of% *}" table.arsc pairs locale mnc
-        many=$(awk -v goals="$goals" 'BEGIN { while (goals-- > 0) print "0x7f010000" }')
-        python3 "$here/tests/on_terminal.py" "$program" make --max-nodes 1000000 pairs-layers pairs $many >terminal
-        grep -q "^[0-9]* of $goals goals done" terminal && break
-    done
-    ends "work that a terminal says how far it is" 0 "grep '^[0-9]* of $goals goals done' terminal"
-    ends "work that nothing is said of" 0 "\"\$0\" make --max-nodes 1000000 pairs-layers pairs $(echo $many) 2>said >made && [ ! -s said ]"
 else
-    echo "not run, since python3 is missing: worked and random certificates that are made, work of more than a second"
+    echo "not run, since python3 is missing: worked and random certificates that are made"
 fi
 
 # ---- README and the guide: what they show after a command is what it prints
@@ -408,8 +394,8 @@ for command in rows dump query explain bag attr make check; do
     check "help of $command" 0 "$here/tests/helps/$command.txt" $none "$command" --help
 done
 check "help" 0 "$here/tests/helps/restool.txt" $none --help
-line version.out "restool 0.1.0, proved with $(rt version)"
-check "the version, and the toolchain's" 0 version.out $none --version
+line version.out 'restool 0.1.0'
+check "the version" 0 version.out $none --version
 printf '%s\n' "error: unrecognized subcommand 'tables'" '' 'Usage: restool <COMMAND>' '' \
     "For more information, try '--help'." >tables.err
 check "no such command" 2 $none tables.err tables
@@ -433,6 +419,14 @@ ends "a word that is not UTF-8" 2 '"$0" rows "$(printf "\377")"'
 
 # ---- what the compiler refuses
 ends "a row of bytes that a function owns" 0 "sh '$here/tests/own_bytes.sh' >&2"
+
+# ---- what proved a program stands beside it
+mkdir -p one/tools one/crates/one/src
+cp "$here"/tools/*.py one/tools/
+echo 'one:' >one/crates.txt
+printf '%s\n' '#![tactic(auto)]' '' 'fn main(_rt: HostRuntime) {}' >one/crates/one/src/main.rt
+ends "a program is proved" 0 'python3 one/tools/prove.py one'
+ends "what proved it" 0 'rt version | cmp - one/crates/one/out/proved-with'
 
 # ---- what the toolchain reads
 ends "few paths through crates.txt" 0 "python3 '$here/tools/paths.py' --check >&2"

@@ -3,6 +3,7 @@
 
     planted_bugs.py [CRATE | CRATE/BUG ..]
     planted_bugs.py --control [CRATE | CRATE/BUG ..]
+    planted_bugs.py --apply [CRATE | CRATE/BUG ..]
 
 Without a name it takes all. An edit has a line 'seen by: TESTS: NAME'. TESTS is tests/stops, for which the program is
 proved and built with the bug, or a crate of tests, which is built with it and not proved. NAME is the test that has to
@@ -12,9 +13,13 @@ With --control it takes the edits of must-fail/ and wrong-bodies/ that name a co
 bug: the right body in the same form. The prover has to let it through, or the edit is refused for its form and shows
 nothing. The last line is 'N let through, M refused'.
 
-It works on a copy. The environment may give RT, the command that proves in place of rt, and JOBS, how many edits are
+With --apply it proves nothing: it checks that each edit of all three folders still applies, and that no two edits of a
+crate have one name. The last line is 'N apply, M do not'.
+
+It works on a copy. What rt says is not read, where its status and what it has built tell as much. The environment may give RT, the command that proves in place of rt, and JOBS, how many edits are
 tried side by side."""
 import os
+import re
 import shutil
 import subprocess
 import sys
@@ -26,6 +31,8 @@ HERE = Path(__file__).resolve().parent.parent
 RT = os.environ.get("RT", "rt").split()
 PROGRAM = "restool"
 PROGRAM_TESTS = "tests/stops"
+FOR_THE_PROVER = ("must-fail", "wrong-bodies")
+FOR_TESTS = ("seen-by-tests",)
 
 
 class Edit:
@@ -34,6 +41,7 @@ class Edit:
     def __init__(self, path, is_control=False):
         self.crate, self.name = path.parent.parent.name, path.stem
         self.pairs, self.tests, self.test = [], "", ""
+        self.file, self.old = "", ""
         for line in path.read_text().splitlines():
             key, _, text = line.partition(":")
             self.read(key, text[1:], is_control)
@@ -42,7 +50,7 @@ class Edit:
         if key == "seen by":
             self.tests, _, self.test = text.partition(": ")
         elif key == "file":
-            self.file = text
+            self.file = text.strip()
         elif key == "old":
             self.old = text
         elif key == "new":
@@ -50,20 +58,34 @@ class Edit:
         elif key == "control" and is_control:
             self.pairs[-1] = (*self.pairs[-1][:2], text)
 
-    def plant(self, crate):
-        """Changes the files of a crate. Each old text has to stand there once."""
+    def changed(self, crate):
+        """The files of a crate that it changes, with their new texts. Each old text has to stand there once."""
+        texts = {}
         for file, old, new in self.pairs:
-            source = (crate / file).read_text()
-            if source.count(old) != 1:
-                raise ValueError(f"an old text is in {file} {source.count(old)} times, and not once")
+            if not file.startswith(("src/", "specs/", "proofs/")) or not (crate / file).is_file():
+                raise ValueError(f"there is no file {file}")
+            text = texts.get(file) or (crate / file).read_text()
+            if not old or text.count(old) != 1:
+                raise ValueError(f"an old text is in {file} {text.count(old)} times, and not once")
+            texts[file] = text.replace(old, new)
+        if not texts:
+            raise ValueError("it has no old and new text")
+        return texts
+
+    def plant(self, crate):
+        for file, text in self.changed(crate).items():
             (crate / file).unlink()
-            (crate / file).write_text(source.replace(old, new))
+            (crate / file).write_text(text)
 
 
-def run(words, folder):
-    """What a command writes, line by line."""
-    done = subprocess.run(words, cwd=folder, stdin=subprocess.DEVNULL, capture_output=True, text=True, errors="replace")
-    return (done.stdout + done.stderr).splitlines()
+class Run:
+    """A command that has run: whether its status is 0, and what it wrote, line by line."""
+
+    def __init__(self, words, folder):
+        how = {"stdin": subprocess.DEVNULL, "capture_output": True, "text": True, "errors": "replace"}
+        done = subprocess.run(words, cwd=folder, **how)
+        self.is_well = done.returncode == 0
+        self.lines = (done.stdout + done.stderr).splitlines()
 
 
 def copy_into(folder, name, links):
@@ -74,18 +96,19 @@ def copy_into(folder, name, links):
 
 def tried_on_program(edit, copy):
     crate = copy / "crates" / PROGRAM
-    built = run([*RT, "run"], crate)
-    if any(line.startswith("logic=not-proved") for line in built):
-        return "refused"
-    if not any(line.startswith("linked ") for line in built):
-        return f"NOT BUILT: {built[-1:]}"
-    failed = run(["sh", f"{PROGRAM_TESTS}/stops.sh", str(crate / "out" / PROGRAM)], copy)
-    return seen(edit, [line for line in failed if line.startswith("failed: ")], f"failed: {edit.test}")
+    program = crate / "out" / PROGRAM
+    program.unlink(missing_ok=True)
+    built = Run([*RT, "run"], crate)
+    if not program.exists():
+        return "refused" if any("not-proved" in line for line in built.lines) else f"NOT BUILT: {built.lines[-1:]}"
+    ran = Run(["sh", f"{PROGRAM_TESTS}/stops.sh", str(program)], copy)
+    return seen(edit, [line for line in ran.lines if line.startswith("failed: ")], f"failed: {edit.test}")
 
 
 def tried_on_crate(edit, copy):
-    lines = run([*RT, "try", "--test"], copy / "crates" / edit.tests)
-    return seen(edit, [line for line in lines if line.endswith(" FAILED")], f"test {edit.test} ")
+    ran = Run([*RT, "try", "--test"], copy / "crates" / edit.tests)
+    failed = [] if ran.is_well else [line for line in ran.lines if re.match(r"test \S+ .*fail", line, re.IGNORECASE)]
+    return seen(edit, failed, f"test {edit.test} ")
 
 
 def seen(edit, failed, wanted):
@@ -95,15 +118,11 @@ def seen(edit, failed, wanted):
 
 
 def tried_by_prover(control, copy):
-    lines = run([*RT, "check"], copy / "crates" / control.crate)
-    if is_proved(lines):
+    ran = Run([*RT, "check"], copy / "crates" / control.crate)
+    if ran.is_well:
         return "let through"
-    wrong = [line for line in lines if ": error" in line] or lines
+    wrong = [line for line in ran.lines if ": error" in line] or ran.lines
     return f"REFUSED: {wrong[:1]}"
-
-
-def is_proved(lines):
-    return any(line.startswith("logic=proved") for line in lines)
 
 
 def tried(edit, base, work):
@@ -130,40 +149,72 @@ def edit_tried(edit, copy):
 def paths_of(word, folders):
     """The edits that a word names, `*` those of all crates."""
     crate, _, edit = word.partition("/")
+    if crate != "*" and not (HERE / "crates" / crate).is_dir():
+        sys.exit(f"no crate {crate}")
     found = (HERE / "crates").glob
     return [path for folder in folders for path in sorted(found(f"{crate}/{folder}/{edit or '*'}.edit"))]
 
 
 def bugs_of(word):
-    return [Edit(path) for path in paths_of(word, ["seen-by-tests"])]
+    return [Edit(path) for path in paths_of(word, FOR_TESTS)]
 
 
 def controls_of(word):
-    paths = paths_of(word, ["must-fail", "wrong-bodies"])
+    paths = paths_of(word, FOR_THE_PROVER)
     return [Edit(path, is_control=True) for path in paths if "\ncontrol:" in path.read_text()]
+
+
+def all_of(word):
+    return [Edit(path) for path in paths_of(word, [*FOR_THE_PROVER, *FOR_TESTS])]
 
 
 def prove_below(edits, base):
     """Proves the crates of controls, which are then tried over that work."""
     for crate in sorted({edit.crate for edit in edits}):
-        lines = run([*RT, "check" if crate == PROGRAM else "lib"], base / "crates" / crate)
-        if any("not-proved" in line or ": error" in line for line in lines):
-            print(f"{crate} is not proved without a control: {lines[-1:]}", flush=True)
+        ran = Run([*RT, "check" if crate == PROGRAM else "lib"], base / "crates" / crate)
+        if not ran.is_well:
+            print(f"{crate} is not proved without a control: {ran.lines[-1:]}", flush=True)
+
+
+def tried_on_copy(edits, is_control):
+    with tempfile.TemporaryDirectory() as work, ThreadPoolExecutor(int(os.environ.get("JOBS", "1"))) as pool:
+        base = Path(work) / "base"
+        for name in ("crates", "crates.txt", "HANDLES", "bench", "examples", "tests"):
+            copy_into(base, HERE / name, links=False)
+        if is_control:
+            prove_below(edits, base)
+        return list(pool.map(lambda edit: tried(edit, base, Path(work)), edits))
+
+
+def applies(edits):
+    """Of each edit whether it applies, and is the first of its name in its crate."""
+    names = set()
+    for edit in edits:
+        name = f"{edit.crate}/{edit.name}.edit"
+        why = ""
+        try:
+            edit.changed(HERE / "crates" / edit.crate)
+        except ValueError as error:
+            why = f"{name} does not apply: {error}"
+        if name in names:
+            why = f"{edit.crate} has two edits {edit.name}.edit"
+        names.add(name)
+        if why:
+            print(why)
+        yield not why
 
 
 def main():
     words = sys.argv[1:]
-    is_control = words[:1] == ["--control"]
-    names, edits_of = (words[1:], controls_of) if is_control else (words, bugs_of)
-    edits = [edit for name in names or ["*"] for edit in edits_of(name)]
-    with tempfile.TemporaryDirectory() as work, ThreadPoolExecutor(int(os.environ.get("JOBS", "1"))) as pool:
-        base = Path(work) / "base"
-        for name in ("crates", "crates.txt", "HANDLES", "examples", "tests"):
-            copy_into(base, HERE / name, links=False)
-        if is_control:
-            prove_below(edits, base)
-        found = list(pool.map(lambda edit: tried(edit, base, Path(work)), edits))
-    good, bad = ("let through", "refused") if is_control else ("seen or refused", "let through")
+    option = words.pop(0) if words[:1] in (["--control"], ["--apply"]) else ""
+    edits_of = {"--control": controls_of, "--apply": all_of, "": bugs_of}[option]
+    edits = [edit for name in words or ["*"] for edit in edits_of(name)]
+    found = [*applies(edits)] if option == "--apply" else tried_on_copy(edits, option == "--control")
+    good, bad = {
+        "--control": ("let through", "refused"),
+        "--apply": ("apply", "do not"),
+        "": ("seen or refused", "let through"),
+    }[option]
     print(f"{sum(found)} {good}, {len(found) - sum(found)} {bad}")
     sys.exit(not all(found))
 

@@ -6,13 +6,14 @@
 # Without a crate it takes all. It works on a copy, so the checkout stays as it is and may be used meanwhile.
 #   --all    tries those of must-fail/ too
 #   --apply  proves nothing: checks that each edit of these and of seen-by-tests/ still applies (each `old:` text
-#            stands once)
+#            stands once; planted_bugs.py)
 #   --seen   tries those of seen-by-tests/ alone: of each, the test that it names has to fail (planted_bugs.py)
 #   --control  tries the controls of the edits that name one: the prover has to let each through (planted_bugs.py)
 # A line `control: TEXT` after a `new:` line says what stands there in the control, the right body in the same form.
 # An edit shows a bug only where its control is let through: else it may be refused for its form.
 # The last line is 'N refused, M let through' (with --apply 'N apply, M do not'), and the status is 0 only where
-# M is 0. An edit that could not be tried counts as let through.
+# M is 0. An edit that could not be tried counts as let through. Whether one is refused is told by the status of
+# `rt must-fail`, whatever it says.
 # The environment may give RT, the command that proves in place of rt, and JOBS, how many runs go side by side.
 here=$(CDPATH='' cd "$(dirname "$0")/.." && pwd) || exit 1
 program=$(basename "$0")
@@ -20,19 +21,37 @@ rt=${RT:-rt}
 . "$here/tools/crates_below.sh"
 
 # try_part WORK LIST: tries the edits that the file LIST, CRATE.PART, names, in a copy of its own, since rt locks
-# the folders of a crate and of those below it.
+# the folders of a crate and of those below it. The file refused/CRATE.PART gets the names of those that are refused.
 try_part() {
+    work=$1
     part=$(basename "$2")
     crate=${part%.*}
-    copy=$1/copies/$part
+    copy=$work/copies/$part
     # Links share the files: rt writes none of these in place.
-    cp -al "$1/base" "$copy" && mkdir "$copy/crates/$crate/must-fail" || return
-    while read -r name; do
-        cp "$1/edits/$crate/$name" "$copy/crates/$crate/must-fail/" || return
-    done <"$2"
-    (cd "$copy" && $rt must-fail "$crate") >"$1/answers/$part" 2>&1 </dev/null
-    grep "^rt: must-fail " "$1/answers/$part" || cat "$1/answers/$part"
+    cp -al "$work/base" "$copy" || return
+    if are_refused $(cat "$2"); then
+        cat "$2" >"$work/refused/$part"
+    else
+        # one by one, to know which
+        while read -r name; do
+            if are_refused "$name" </dev/null; then echo "$name"; fi
+        done <"$2" >"$work/refused/$part"
+        grep -vxF -f "$work/refused/$part" "$2" | sed "s|^|let through: $crate/|"
+    fi
     rm -rf "$copy"
+}
+
+# are_refused EDIT..: whether the prover refuses all of these edits of the crate. What it says of them is printed.
+are_refused() {
+    rm -rf "$copy/crates/$crate/must-fail"
+    mkdir "$copy/crates/$crate/must-fail" || return
+    for name in "$@"; do
+        cp "$work/edits/$crate/$name" "$copy/crates/$crate/must-fail/" || return
+    done
+    (cd "$copy" && $rt must-fail "$crate") >"$work/answers/$part" 2>&1 </dev/null
+    status=$?
+    cat "$work/answers/$part" >&2
+    return $status
 }
 if [ "$1" = --part ]; then
     try_part "$2" "$3"
@@ -40,16 +59,14 @@ if [ "$1" = --part ]; then
 fi
 
 folders=wrong-bodies
-applies=
 while :; do
     case $1 in
     --all) folders='must-fail wrong-bodies' ;;
-    --apply) applies=yes folders='must-fail wrong-bodies seen-by-tests' ;;
     --seen)
         shift
         exec python3 "$here/tests/planted_bugs.py" "$@"
         ;;
-    --control) exec python3 "$here/tests/planted_bugs.py" "$@" ;;
+    --control | --apply) exec python3 "$here/tests/planted_bugs.py" "$@" ;;
     -*)
         sed -n '2,/^here=/{/^#/s/^# \{0,1\}//p;}' "$0" >&2
         exit 2
@@ -67,7 +84,7 @@ work=$(mktemp -d) || exit 1
 trap 'rm -rf "$work"' EXIT
 trap 'exit 130' INT TERM
 : >"$work/order"
-mkdir "$work/base" "$work/base/crates" "$work/edits" "$work/parts" "$work/answers" "$work/copies" || exit 1
+mkdir "$work/base" "$work/base/crates" "$work/edits" "$work/parts" "$work/answers" "$work/refused" "$work/copies" || exit 1
 
 # Each crate's edits, of its folders together.
 crates=${*:-$listed}
@@ -88,25 +105,6 @@ for crate in $crates; do
     tried="$tried $crate"
 done
 count=$(find "$work/edits" -name '*.edit' | wc -l)
-
-if [ "$applies" ]; then
-    # rt fmt notes the edits of must-fail/ that cannot be applied.
-    for crate in $tried; do
-        copy=$work/base/crates/$crate
-        mkdir "$copy"
-        for part in src specs proofs; do
-            [ -d "$here/crates/$crate/$part" ] && cp -R "$here/crates/$crate/$part" "$copy/"
-        done
-        mv "$work/edits/$crate" "$copy/must-fail"
-        (cd "$copy" && rt fmt) >"$work/answers/fmt" 2>&1 || echo "$crate cannot be read: $(tail -n 1 "$work/answers/fmt")"
-        sed -n "s|^rt: note: must-fail/\(.*\) cannot be applied, so it is a BAD EDIT: |$crate/\1 does not apply: |p" "$work/answers/fmt"
-    done >"$work/answers/apply"
-    cat "$work/answers/apply"
-    bad=$(wc -l <"$work/answers/apply")
-    echo "$((count - bad)) apply, $bad do not"
-    [ "$bad" = 0 ]
-    exit
-fi
 
 # What the crates stand on, themselves with it, lowest first.
 needed=$(crates_below "$here/crates.txt" $tried)
@@ -142,6 +140,6 @@ for crate in $tried; do
 done
 xargs -r -P "$jobs" -n 1 sh "$0" --part "$work" <"$work/order"
 
-refused=$(cat "$work/answers"/*.* 2>/dev/null | grep -c '^rt: must-fail .*: refused, as it must be')
+refused=$(cat "$work/refused"/* 2>/dev/null | wc -l)
 echo "$refused refused, $((count - refused)) let through"
 [ "$refused" = "$count" ]

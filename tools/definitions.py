@@ -31,7 +31,7 @@ CONSTRUCTOR = re.compile(r"^ +(\w+) :")
 MODULE = re.compile(r"^pub mod (\w+)")
 WORD = re.compile(r"[^\W\d][\w'-]*(?:\.[^\W\d][\w'-]*)?")
 OWNER = re.compile(r"^(pub )?(impl|trait)\b(?:<.*?>(?= ))? (?:[\w:<>, ']+ for )?(\w+)")
-FUNCTION = re.compile(r"^\s*(pub )?(?:const )?fn (\w+)")
+FUNCTION = re.compile(r"^\s*(pub )?(?:pub\(crate\) )?(?:const )?fn (\w+)")
 CLAUSE = re.compile(r"^\s*(?:ensures\b[^{]*|ghost \w+ = )\{")
 
 

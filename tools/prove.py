@@ -8,6 +8,8 @@ jobs that processors and memory allow. A run of rt locks its crate and all crate
 run here works on a copy of what it reads, and what it made is then moved to the crate's out/, whole
 or not at all. Nobody edits such a copy, so rt computes each stamp in it once (rt_once.py). What rt
 finds up to date is not proved again.
+
+Beside a program, out/NAME, stands what proved it: the line of `rt version`, in out/proved-with.
 """
 import fcntl
 import glob
@@ -31,6 +33,8 @@ ROOMS = "proofs-"
 SOURCES = ("src", "specs", "proofs")
 # What a proof leaves in out/: work that a later proof begins with, and the library.
 MADE = ("incremental", "rlib")
+# The file in out/ of a program that says which toolchain proved it.
+PROVED_WITH = "proved-with"
 # The memory that a check takes: at least so much, so much for a line of the crate and for one below,
 # and for each further job such a part of it again.
 LEAST_BYTES = 1_500_000_000
@@ -279,9 +283,19 @@ class Prover:
         self.is_ending = False
         jobs = ["--jobs", str(max(1, min(self.crate.jobs_within(free_memory()), processors())))]
         if os.path.isfile(f"{self.crate.folder}/src/main.rt"):
-            self.run(self.crate, self.crate.folder, *RT, "run", *jobs, "--", "--version")
+            self.prove_program(jobs)
         else:
             self.run(self.crate, self.crate.folder, *RT, "lib", *jobs)
+
+    def prove_program(self, jobs):
+        """Proves and builds the program, and writes beside it what proved it."""
+        proved_with = f"{self.crate.folder}/out/{PROVED_WITH}"
+        if os.path.exists(proved_with):
+            os.remove(proved_with)
+        toolchain = subprocess.run([*RT, "version"], stdout=subprocess.PIPE, text=True, check=True).stdout
+        self.run(self.crate, self.crate.folder, *RT, "run", *jobs, "--", "--version")
+        with open(proved_with, "w", encoding="utf-8") as file:
+            file.write(toolchain)
 
     def run(self, crate, folder, *words):
         """Runs a command in a folder. Its output goes to the crate's log."""

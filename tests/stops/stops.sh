@@ -304,6 +304,28 @@ unwritten() {
 if [ -w /dev/full ]; then unwritten "a full stream" /dev/full; fi
 unwritten "a closed stream" '&-'
 
+# ---- work of more than a second
+# An id in which each pair of a locale and an mnc has a trace of its own, so many of each and so many times that a terminal
+# shows a line of the work; more on a fast machine. Behind them an id without a value. With standard error in a file nothing
+# is written there.
+if command -v python3 >/dev/null; then
+    line pairs-layers '[{"table":"table.arsc"}]'
+    for work_of in "60 30" "60 130" "200 12"; do
+        goals=${work_of#* }
+        python3 "$here/bench/make_list.py" "${work_of% *}" table.arsc pairs locale mnc
+        many=$(awk -v goals="$goals" 'BEGIN { while (goals-- > 0) print "0x7f010000" }')
+        make="make --max-nodes 1000000 pairs-layers pairs $(echo $many)"
+        python3 "$here/tests/on_terminal.py" "$program" $make 0x7f010001 >terminal
+        grep -q "^[0-9]* of $((goals + 1)) goals done" terminal && break
+    done
+    shell "a line of the work on a terminal" 0 '' "grep -q '^[0-9]* of $((goals + 1)) goals done' terminal"
+    erased=$(printf '\033\\[K')
+    shell "a line that is taken away before a counterexample" 0 '' "tail -n 1 terminal | grep -qx '$erased'"
+    shell "no line of the work in a file" 0 '' "\"\$0\" $make >made"
+else
+    echo "not run, since python3 is missing: work of more than a second"
+fi
+
 # ---- memory, files and bytes that are refused
 if command -v cc >/dev/null && command -v python3 >/dev/null; then
     cc -shared -fPIC -O2 -o refuse.so "$here/tests/stops/refuse.c" || exit 1

@@ -15,17 +15,17 @@ use Rattle.bags_themes.specs.Merge.{merge}
 use Rattle.bags_themes.specs.Bag.{FoundBagOf, rows_in, parent_of, chain_of, merged}
 
 -- the topmost bag
-chain_of-top : (stack : List LayerOf) (most : ℕ) (bag : FoundBagOf) (d : List ℕ) → parent_of stack bag d ≡ None → chain_of stack most bag d ≡ Ok (bag ∷ [])
+pub chain_of-top : (stack : List LayerOf) (most : ℕ) (bag : FoundBagOf) (d : List ℕ) → parent_of stack bag d ≡ None → chain_of stack most bag d ≡ Ok (bag ∷ [])
 unfolding chain_of
 chain_of-top stack zero bag d e = rw e refl
 chain_of-top stack (suc most) bag d e = rw e refl
 
 -- a parent too many
-chain_of-deep : (stack : List LayerOf) (most : ℕ) (bag parent : FoundBagOf) (d : List ℕ) → parent_of stack bag d ≡ Some parent → most ≡ 0 → chain_of stack most bag d ≡ Err BagDepth
+pub chain_of-deep : (stack : List LayerOf) (most : ℕ) (bag parent : FoundBagOf) (d : List ℕ) → parent_of stack bag d ≡ Some parent → most ≡ 0 → chain_of stack most bag d ≡ Err BagDepth
 unfolding chain_of
 chain_of-deep stack most bag parent d e none = rw (none, e) refl
 
-chain_of-next : (stack : List LayerOf) (most : ℕ) (bag parent : FoundBagOf) (d : List ℕ) → parent_of stack bag d ≡ Some parent → 0 < most
+pub chain_of-next : (stack : List LayerOf) (most : ℕ) (bag parent : FoundBagOf) (d : List ℕ) → parent_of stack bag d ≡ Some parent → 0 < most
     → chain_of stack most bag d ≡ with_front (bag ∷ []) (chain_of stack (most - 1) parent d)
 unfolding chain_of
 chain_of-next stack zero bag parent d e some = absurd (omega arith)
@@ -34,7 +34,7 @@ chain_of-next stack (suc most) bag parent d e some =
 
 -- ---- a loop over a chain: `bags` were found, `next` of them with this one
 
-twice : {X E : Type 0} (a b : List X) (r : Result (List X) E) → with_front a (with_front b r) ≡ with_front (a ++ b) r
+pub twice : {X E : Type 0} (a b : List X) (r : Result (List X) E) → with_front a (with_front b r) ≡ with_front (a ++ b) r
 twice {X} {E} a b (Ok xs) = let ok : List X → Result (List X) E = λ t. Ok t in ap ok (sym (append_assoc a b xs))
 twice a b (Err fault) = refl
 

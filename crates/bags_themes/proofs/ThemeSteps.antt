@@ -1,7 +1,7 @@
 -- How rows are applied to a theme one by one, and how attributes are followed.
 use Rattle.std.proofs.Common.{◌≡◌, ℕ, zero, suc, ◌+◌, ◌-◌, ◌<◌, ◌==◌, ◌||◌, Bool, true, false, cond, List, [], ◌∷◌, ◌++◌, length, take, get_or, Option, Some, refl, sym, ap, subst, ◌∙◌, arith}
 use Rattle.std.specs.Map.{lookup}
-use Rattle.std.specs.Ordering.{nat_cmp, is_eq}
+use Rattle.std.proofs.Math.Path.{fun_ext}
 use Rattle.std.proofs.lemmas.Grind.{common_steps}
 use Rattle.std.proofs.lemmas.List.{take_more}
 use Rattle.std.proofs.lemmas.List.Elements.{filter-append}
@@ -12,7 +12,7 @@ use Rattle.bags_themes.specs.declared.theme_value.ThemeValue.{ThemeValue}
 use Rattle.bags_themes.specs.declared.slot.Slot.{Slot}
 use Rattle.bags_themes.specs.declared.slot.Slot.TheVariants.{Ends}
 use Rattle.bags_themes.specs.declared.slot.AttributeStep.TheVariants.{Follows, Reaches}
-use Rattle.bags_themes.specs.Theme.{ThemeOf, AttributeValues, value_of, is_undefined, is_undefined_value, values_for, value_after, AppliesRows}
+use Rattle.bags_themes.specs.Theme.{ThemeOf, AttributeValues, value_of, is_undefined, is_undefined_value, values_for, value_after, values_after, AppliesRows}
 use Rattle.bags_themes.specs.Attribute.{step_of, slot_of}
 
 -- ---- the value behind one value more, and behind values
@@ -66,12 +66,19 @@ value_after-append force old (set ∷ first) others =
 values_for-append : (attr : ℕ) (first others : List BagRow) → values_for attr (first ++ others) ≡ values_for attr first ++ values_for attr others
 values_for-append attr first others = grind (arith, common_steps, filter-append (λ (row : BagRow). row.name.0 == attr) first others)
 
+pub values_after-none : (force : Bool) (values : AttributeValues) → values_after force [] values ≡ values
+values_after-none force values = fun_ext (λ attr. value_after-none force (values attr))
+
+pub values_after-append : (force : Bool) (first others : List BagRow) (values : AttributeValues) → values_after force (first ++ others) values ≡ values_after force others (values_after force first values)
+values_after-append force first others values = fun_ext (λ attr.
+    ap (λ (t : List ThemeValue). value_after force (values attr) t) (values_for-append attr first others)
+    ∙ value_after-append force (values attr) (values_for attr first) (values_for attr others))
+
 AppliesRows-append : (force : Bool) (first others : List BagRow) (old mid new : ThemeOf) → AppliesRows force first old mid → AppliesRows force others mid new → AppliesRows force (first ++ others) old new
 AppliesRows-append force first others old mid new before behind attr =
     behind attr
     ∙ ap (λ (o : Option ThemeValue). value_after force o (values_for attr others)) (before attr)
-    ∙ sym (value_after-append force (value_of old attr) (values_for attr first) (values_for attr others))
-    ∙ ap (λ (t : List ThemeValue). value_after force (value_of old attr) t) (sym (values_for-append attr first others))
+    ∙ sym (ap (λ (after : AttributeValues). after attr) (values_after-append force first others (value_of old)))
 
 -- a row more was applied
 pub AppliesRows-next : (force : Bool) (rows : List BagRow) (index : ℕ) (row : BagRow) (old mid new : ThemeOf) → index < length rows → row ≡ get_or rows index row
@@ -81,7 +88,7 @@ AppliesRows-next force rows index row old mid new on here before one =
     subst (λ (t : List BagRow). AppliesRows force t old new) (sym longer) (AppliesRows-append force (take index rows) (row ∷ []) old mid new before one)
 
 -- a row was set
-AppliesRows-set : (force : Bool) (row : BagRow) (set : ThemeValue) (old new : ThemeOf) → set ≡ record { layer = row.layer; value = row.value }
+pub AppliesRows-set : (force : Bool) (row : BagRow) (set : ThemeValue) (old new : ThemeOf) → set ≡ record { layer = row.layer; value = row.value }
     → (force || is_undefined (value_of old row.name.0)) ≡ true
     → ((q : ResId) → lookup (λ key. q.0 == key.0) new ≡ cond (row.name.0 == q.0) (Some set) (lookup (λ key. q.0 == key.0) old))
     → AppliesRows force (row ∷ []) old new
@@ -102,30 +109,6 @@ AppliesRows-set force row set old new is sets updates attr = by (row.name.0 == a
         ∙ rw e refl
         ∙ sym (value_after-none force (value_of old attr))
         ∙ ap (λ (t : List ThemeValue). value_after force (value_of old attr) t) (sym found)
-
--- ---- the tree of values
-
-same_test : (a b : ℕ) → is_eq (nat_cmp a b) ≡ (a == b)
-same_test a b = grind arith
-
--- looking into the tree is looking into the theme
-pub value_of_tree : (attr : ℕ) (theme : ThemeOf) → lookup (λ key. is_eq (nat_cmp attr key.0)) theme ≡ value_of theme attr
-value_of_tree attr [] = refl
-value_of_tree attr (set ∷ theme) =
-    ap (λ (same : Bool). cond same (Some set.1) (lookup (λ key. is_eq (nat_cmp attr key.0)) theme)) (same_test attr set.0.0)
-    ∙ ap (λ (o : Option ThemeValue). cond (attr == set.0.0) (Some set.1) o) (value_of_tree attr theme)
-
--- a row was put into the tree
-pub AppliesRows-put : (force : Bool) (row : BagRow) (set : ThemeValue) (old new : ThemeOf) → set ≡ record { layer = row.layer; value = row.value }
-    → (force || is_undefined (value_of old row.name.0)) ≡ true
-    → ((q : ResId) → lookup (λ key. is_eq (nat_cmp q.0 key.0)) new ≡ cond (is_eq (nat_cmp row.name.0 q.0)) (Some set) (lookup (λ key. is_eq (nat_cmp q.0 key.0)) old))
-    → AppliesRows force (row ∷ []) old new
-AppliesRows-put force row set old new is sets updates =
-    AppliesRows-set force row set old new is sets (λ q.
-    sym (value_of_tree q.0 new)
-    ∙ updates q
-    ∙ ap (λ (same : Bool). cond same (Some set) (lookup (λ key. is_eq (nat_cmp q.0 key.0)) old)) (same_test row.name.0 q.0)
-    ∙ ap (λ (o : Option ThemeValue). cond (row.name.0 == q.0) (Some set) o) (value_of_tree q.0 old))
 
 -- ---- attributes that are followed
 

@@ -1,5 +1,5 @@
 -- Themes (AOSP: ResTable::Theme): what styles have set for attributes.
-use Rattle.std.specs.Prelude.{ℕ, ◌≡◌, ◌≢◌, ◌==◌, Bool, true, ◌&&◌, not, List, map, filter, find, Option, Some, None, Result, Ok, Err, if◌then◌else◌}
+use Rattle.std.specs.Prelude.{ℕ, ◌≡◌, ◌≢◌, ◌==◌, Bool, true, ◌&&◌, not, List, ◌++◌, map, filter, find, Option, Some, None, Result, Ok, Err, if◌then◌else◌}
 use Rattle.std.specs.List.{last_or}
 use Rattle.std.specs.Map.{lookup}
 use Rattle.std.specs.Option.{option_or}
@@ -58,14 +58,12 @@ values_after force rows values attr = value_after force (values attr) (values_fo
 abbrev pub AppliesRows : Bool → List BagRow → ThemeOf → ThemeOf → Type 0
 AppliesRows force rows old new = (attr : ℕ) → value_of new attr ≡ values_after force rows (value_of old) attr
 
--- A call applied the rows of a style's bag, which are meant, or gave why there are none, or that memory ran out.
--- Contracts within the crate alone speak of this.
-abbrev pub SetsStyle : Bool → ThemeOf → ThemeOf → Result (Unit {0}) BagFault → Result (List BagRow) BagFault → Type 0
-SetsStyle force old new (Ok _) meant = (rows : List BagRow) × (meant ≡ Ok rows) × AppliesRows force rows old new
-SetsStyle force old new (Err fault) meant = fault ≢ OutOfMemory → meant ≡ Err fault
-
 -- A call applied the rows of a style's bag, which are meant, or gave why there are none. Then, and where memory ran
 -- out, the theme is unchanged.
 abbrev pub AppliesStyle : Bool → ThemeOf → ThemeOf → Result (Unit {0}) BagFault → Result (List BagRow) BagFault → Type 0
 AppliesStyle force old new (Ok _) meant = (rows : List BagRow) × (meant ≡ Ok rows) × AppliesRows force rows old new
 AppliesStyle force old new (Err fault) meant = (fault ≢ OutOfMemory → meant ≡ Err fault) × (new ≡ old)
+
+-- The attributes that have a value in a theme, and those that rows name. Contracts within the crate alone speak of this.
+abbrev pub attributes_of : ThemeOf → List BagRow → List ℕ
+attributes_of theme rows = map (λ set. set.0.0) theme ++ map (λ row. row.name.0) rows

@@ -3,7 +3,7 @@
 ghost use Rattle.std.specs.Prelude.{◌≡◌};
 ghost use Rattle.bags_themes.specs.declared.bag_fault.BagFault.TheVariants.{OutOfMemory};
 
-use std::alloc::AllocError;
+use std::alloc::{AllocError, AllocFailed};
 use thiserror::Error;
 
 /// Why there is no bag to give. What the id selects is looked at before its parents are.
@@ -26,6 +26,14 @@ impl From<AllocError> for BagFault {
     ghost from_gives = { λ _ e. e ≡ OutOfMemory };
 
     fn from(_error: AllocError) -> BagFault {
+        BagFault::OutOfMemory
+    }
+}
+
+impl<T: Drop> From<AllocFailed<T>> for BagFault {
+    ghost from_gives = { λ _ e. e ≡ OutOfMemory };
+
+    fn from(_error: AllocFailed<T>) -> BagFault {
         BagFault::OutOfMemory
     }
 }

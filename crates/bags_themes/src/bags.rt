@@ -1,23 +1,28 @@
-//! The rows of the bag of an id.
+//! The rows of the bag of an id, and the ids that are looked up for it.
 
-ghost use Rattle.std.specs.Prelude.{◌≡◌, IfOk};
+ghost use Rattle.std.specs.Prelude.{◌≡◌, ◌≤◌, length, IfOk};
 ghost use Rattle.contract_words.specs.Exact.{GivesOr};
 ghost use Rattle.reference_resolver.specs.config_record.DeviceSeen.{device_numbers};
 ghost use Rattle.bags_themes.specs.Bag.{bag_of, merged};
+ghost use Rattle.bags_themes.specs.BagIds.{bag_ids};
 ghost use Rattle.bags_themes.specs.FoundBag.{found_bags_of};
 ghost use Rattle.bags_themes.specs.declared.bag_fault.BagFault.TheVariants.{OutOfMemory};
 
 use crate::bag_fault::BagFault;
+use crate::bag_ids::Chain;
 use crate::bag_row::BagRow;
 use crate::bag_rows::BagRows;
 use crate::found_bag::FoundBag;
 use crate::merging::merge;
-use crate::parents::with_parents;
+use crate::parents::{FoundBags, with_parents};
 use reference_resolver::{Device, ResId, Stack};
 use std::alloc::{AllocError, Global};
 
 // The most parents that a bag can have, one above the other.
 const MOST_PARENTS: u8 = 64;
+
+/// The most bags of a chain: a bag and its parents.
+pub(crate) const MOST_BAGS: u8 = 65;
 
 /// The rows of the bag that an id selects, merged into those of its parents (AOSP:
 /// `ResTable::getBagLocked`): in file order, each own row goes after the inherited rows of smaller names that are
@@ -39,8 +44,23 @@ pub fn bag(
     Ok(BagRows { rows })
 }
 
-// The rows of a bag and its parents, from the topmost parent down.
-fn merged(alloc: Global, chain: Vec<FoundBag<'_>>) -> Result<Vec<BagRow>, AllocError>
+/// The ids that `bag` looks up, in their order: that of the bag, and that of each parent, to the one that the 64th
+/// parent names.
+#[tactic(auto, using(crate::proofs::BagIdSteps::bag_ids_few))]
+pub fn chain<'s, 'a>(stack: &'s Stack<'a>, id: ResId, device: &'s Device) -> Chain<'s, 'a>
+    ensures value { result ≡ bag_ids stack.now id.0 (device_numbers device.now) }
+    ensures few { length result ≤ 66 }
+{
+    Chain {
+        stack,
+        device,
+        next: Some(id),
+        left: MOST_BAGS,
+    }
+}
+
+/// The rows of a bag and its parents, from the topmost parent down.
+pub(crate) fn merged(alloc: Global, chain: FoundBags<'_>) -> Result<Vec<BagRow>, AllocError>
     ensures { IfOk result (λ rows. rows.items ≡ merged (found_bags_of chain.entry.items)) }
 {
     let mut left = chain;

@@ -3,7 +3,7 @@
 ghost use Rattle.std.specs.Prelude.{◌≡◌};
 
 use crate::bag_fault::BagFault;
-use reference_resolver::{Cell, Device, MapRows, ResId, Stack, select};
+use reference_resolver::{Cand, Cell, Device, MapRows, ResId, Stack, select};
 
 /// A bag that was selected. What it lends is lent from the bytes of its table.
 #[derive(Clone, Copy, Debug)]
@@ -19,6 +19,7 @@ pub(crate) struct FoundBag<'a> {
 impl<'a> FoundBag<'a> {
     ghost use Rattle.std.specs.Option.{option_map};
     ghost use Rattle.reference_resolver.specs.config_record.DeviceSeen.{device_numbers};
+    ghost use Rattle.reference_resolver.specs.overlay_map.Candidates.{cand_of};
     ghost use Rattle.reference_resolver.specs.Selection.{selected};
     ghost use Rattle.bags_themes.specs.Bag.{bag_in, parent_of};
     ghost use Rattle.bags_themes.specs.FoundBag.{found_bag_of, seen_bag};
@@ -27,7 +28,14 @@ impl<'a> FoundBag<'a> {
     pub fn select(stack: &Stack<'a>, id: ResId, device: &Device) -> Result<FoundBag<'a>, BagFault>
         ensures { seen_bag result ≡ bag_in (selected stack.now id.0 (device_numbers device.now)) }
     {
-        let Some(candidate) = select(stack, id, device) else {
+        FoundBag::of(&select(stack, id, device))
+    }
+
+    /// The bag that was selected.
+    pub fn of(best: &Option<Cand<'a>>) -> Result<FoundBag<'a>, BagFault>
+        ensures { seen_bag result ≡ bag_in (option_map cand_of best.now) }
+    {
+        let Some(candidate) = best else {
             return Err(BagFault::Absent);
         };
         match candidate.row.cell {
@@ -48,5 +56,16 @@ impl<'a> FoundBag<'a> {
             return None;
         }
         FoundBag::select(stack, self.parent, device).ok()
+    }
+}
+
+/// A bag without a parent and without rows, for the free places of a short list.
+impl Default for FoundBag<'_> {
+    fn default() -> Self {
+        FoundBag {
+            layer: 0,
+            parent: ResId(0),
+            rows: MapRows::within(0, &[]),
+        }
     }
 }

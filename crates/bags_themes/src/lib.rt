@@ -3,6 +3,9 @@
 //! For the crates above: `bag` gives the rows of a bag merged into those of its parents, each with the layer that
 //! it came from, or why there are none. A `Theme` is a finite map from attributes to values; `apply` sets
 //! what the rows of a style set, or leaves the theme unchanged, and `attribute` gives where an attribute ends.
+//! `attribute_under` gives the one end of an attribute under styles. A `Course` says what comes after each look-up on
+//! the way of an id, or of an attribute under styles: these look-ups, with what their candidates do, and the end are
+//! its trace.
 //!
 //! ```text
 //! let rows = bag(alloc, &stack, id, &device)?;
@@ -17,20 +20,28 @@
 //! ```
 #![tactic(auto)]
 
+mod attribute_values;
 mod bag_fault;
+mod bag_ids;
 mod bag_row;
 mod bag_rows;
 mod bags;
+mod course;
 mod found_bag;
 mod merging;
 mod parents;
 mod slot;
+mod style_course;
 mod theme;
 mod theme_value;
 
 pub use bag_fault::BagFault;
+pub use bag_ids::Chain;
 pub use bag_row::BagRow;
 pub use bag_rows::BagRows;
-pub use bags::bag;
+pub use bags::{bag, chain};
+pub use course::{Course, CourseStep, attribute_under};
 pub use reference_resolver::{Device, End, Stack, resolve};
+pub use slot::Slot;
+pub use style_course::StyleCourse;
 pub use theme::Theme;

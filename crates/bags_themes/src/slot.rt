@@ -7,9 +7,9 @@ ghost use Rattle.bags_themes.specs.Attribute.{step_of};
 use crate::theme_value::ThemeValue;
 use reference_resolver::{End, ResId, is_reference, kind};
 
-/// What following attributes arrives at.
+/// What an attribute reaches in a theme.
 #[derive(Clone, Copy, Debug, PartialEq, Eq)]
-pub(crate) enum Slot {
+pub enum Slot {
     /// A reference to this id.
     Refers(ResId),
     /// An end.

@@ -1,37 +1,39 @@
 //! Themes.
 
-ghost use Rattle.std.specs.Prelude.{◌≡◌, [], ◌∷◌, OnOk};
+ghost use Rattle.std.specs.Prelude.{◌≡◌, true, [], IfOk};
 ghost use Rattle.contract_words.specs.Exact.{GivesOr};
 ghost use Rattle.reference_resolver.specs.config_record.DeviceSeen.{device_numbers};
-ghost use Rattle.bags_themes.specs.Bag.{bag_of};
-ghost use Rattle.bags_themes.specs.Theme.{value_of, unset, is_undefined, AppliesRows, SetsStyle, AppliesStyle};
-ghost use Rattle.bags_themes.specs.Styles.{values_after_styles};
-ghost use Rattle.bags_themes.specs.Attribute.{slot_of, attribute_of};
+ghost use Rattle.bags_themes.specs.Bag.{bag_of, merged};
+ghost use Rattle.bags_themes.specs.FoundBag.{found_bags_of};
+ghost use Rattle.bags_themes.specs.Theme.{value_of, unset, AppliesRows, AppliesStyle};
+ghost use Rattle.bags_themes.specs.Styles.{rows_of_styles, values_after_styles};
+ghost use Rattle.bags_themes.specs.Attribute.{attributes_followed, slot_of, attribute_of};
 ghost use Rattle.bags_themes.specs.declared.bag_fault.BagFault.TheVariants.{OutOfMemory};
 
+use crate::attribute_values::{AttributeValues, with_rows};
 use crate::bag_fault::BagFault;
 use crate::bag_row::BagRow;
-use crate::bags::bag;
+use crate::bags::{bag, merged};
+use crate::parents::FoundBags;
 use crate::slot::{AttributeStep, Slot};
-use crate::theme_value::ThemeValue;
+use content_keys::Contents;
+use indexmap::IndexMap;
 use reference_resolver::{Device, End, ResId, Stack, resolve_within};
 use std::alloc::{AllocError, Global};
-use std::collections::BTreeMap;
 use std::marker::Model;
 
 // How many attributes are followed, at most.
 const ATTRIBUTES_FOLLOWED: u8 = 20;
 
-// How many references are followed after that of a slot, at most; it is the first of twenty.
-const REFERENCES_AFTER_SLOT: u8 = 19;
+/// How many references are followed after that of a slot, at most; it is the first of twenty.
+pub(crate) const REFERENCES_AFTER_SLOT: u8 = 19;
 
 /// What styles have set for attributes (AOSP: `ResTable::Theme`). Contracts see it as the list of attributes
 /// with their values, by look-up alone.
 #[derive(Debug, Drop)]
 pub struct Theme {
     alloc: Global,
-    /// A tree, and no table of hashes: no style can choose attributes that make it slow.
-    values: BTreeMap<ResId, ThemeValue>,
+    values: AttributeValues,
 }
 
 impl Model for Theme {
@@ -49,7 +51,7 @@ impl Theme {
     {
         Theme {
             alloc,
-            values: BTreeMap::new(alloc),
+            values: IndexMap::with_hasher(alloc, Contents::new().keys()),
         }
     }
 
@@ -66,10 +68,9 @@ impl Theme {
         ensures { GivesOr OutOfMemory value_of result
             (values_after_styles stack.now force styles.now unset (device_numbers device.now)) }
     {
-        let mut values = BTreeMap::new(alloc);
-        for style in styles {
-            set_style(alloc, &mut values, stack, *style, force, device)?;
-        }
+        let rows = rows_of_styles(alloc, stack, styles, device)?;
+        let unset = Theme::new(alloc);
+        let values = with_rows(alloc, &unset.values, &rows, force)?;
         Ok(Theme { alloc, values })
     }
 
@@ -86,10 +87,21 @@ impl Theme {
         ensures { AppliesStyle force self.old self.new result
             (bag_of stack.now style.0 (device_numbers device.now)) }
     {
-        let mut values = self.values.clone()?;
-        set_style(self.alloc, &mut values, stack, style, force, device)?;
-        self.values = values;
+        let rows = bag(self.alloc, stack, style, device)?;
+        self.values = with_rows(self.alloc, &self.values, rows.as_slice(), force)?;
         Ok(())
+    }
+
+    /// The theme after the bags of a style's chain, merged, were applied with force.
+    pub(crate) fn after_chain(&self, chain: FoundBags<'_>) -> Result<Theme, AllocError>
+        ensures { IfOk result (AppliesRows true (merged (found_bags_of chain.entry.items)) self.now) }
+    {
+        let rows = merged(self.alloc, chain)?;
+        let values = with_rows(self.alloc, &self.values, &rows, true)?;
+        Ok(Theme {
+            alloc: self.alloc,
+            values,
+        })
     }
 
     /// Where an attribute ends: its value, or that of the attribute that it names, and so on for twenty of them
@@ -97,18 +109,19 @@ impl Theme {
     pub fn attribute(&self, stack: &Stack<'_>, attr: ResId, device: &Device) -> End
         ensures { result ≡ attribute_of stack.now (value_of self.now) attr.0 (device_numbers device.now) }
     {
-        match self.slot(attr, ATTRIBUTES_FOLLOWED) {
+        match self.slot(attr) {
             Slot::Refers(target) => resolve_within(stack, target, device, REFERENCES_AFTER_SLOT),
             Slot::Ends(end) => end,
         }
     }
 
-    // What an attribute reaches where at most so many are followed.
-    fn slot(&self, attr: ResId, most: u8) -> Slot
-        ensures { result ≡ slot_of (value_of self.now) most attr.0 }
+    /// What an attribute reaches: the attributes that values name are followed, twenty at most, to a reference or to
+    /// an end.
+    pub fn slot(&self, attr: ResId) -> Slot
+        ensures { result ≡ slot_of (value_of self.now) attributes_followed attr.0 }
     {
         let mut attr = attr;
-        let mut left = most;
+        let mut left = ATTRIBUTES_FOLLOWED;
         'attributes: loop {
             match AttributeStep::of(attr, self.values.get(&attr)) {
                 AttributeStep::Reaches(slot) => return slot,
@@ -122,59 +135,20 @@ impl Theme {
     }
 }
 
-// Sets what the rows of a style set. After a fault some of them may be set.
-fn set_style(
+// The rows of styles, one style after the other.
+fn rows_of_styles(
     alloc: Global,
-    values: &mut BTreeMap<ResId, ThemeValue>,
     stack: &Stack<'_>,
-    style: ResId,
-    force: bool,
+    styles: &[ResId],
     device: &Device,
-) -> Result<(), BagFault>
-    ensures { SetsStyle force values.old.entries values.new.entries result
-        (bag_of stack.now style.0 (device_numbers device.now)) }
+) -> Result<Vec<BagRow>, BagFault>
+    ensures { GivesOr OutOfMemory (λ rows. rows.items) result
+        (rows_of_styles stack.now styles.now (device_numbers device.now)) }
 {
-    let rows = bag(alloc, stack, style, device)?;
-    set_rows(values, rows.as_slice(), force)?;
-    Ok(())
-}
-
-fn set_rows(
-    values: &mut BTreeMap<ResId, ThemeValue>,
-    rows: &[BagRow],
-    force: bool,
-) -> Result<(), AllocError>
-    ensures { OnOk result (AppliesRows force rows.now values.old.entries values.new.entries) }
-{
-    for row in rows {
-        set_row(values, row, force)?;
+    let mut rows = Vec::new(alloc);
+    for style in styles {
+        let own = bag(alloc, stack, *style, device)?;
+        rows.extend_from_slice(own.as_slice())?;
     }
-    Ok(())
-}
-
-fn set_row(
-    values: &mut BTreeMap<ResId, ThemeValue>,
-    row: &BagRow,
-    force: bool,
-) -> Result<(), AllocError>
-    ensures { OnOk result (AppliesRows force (row.now ∷ []) values.old.entries values.new.entries) }
-{
-    if force || is_undefined(values, row.name) {
-        let set = ThemeValue {
-            layer: row.layer,
-            value: row.value,
-        };
-        values.insert(row.name, set)?;
-    }
-    Ok(())
-}
-
-// Whether an attribute is unset, or set to a value that is undefined.
-fn is_undefined(values: &BTreeMap<ResId, ThemeValue>, attr: ResId) -> bool
-    ensures { result ≡ is_undefined (value_of values.now.entries attr.0) }
-{
-    match values.get(&attr) {
-        Some(set) => set.is_undefined(),
-        None => true,
-    }
+    Ok(rows)
 }

@@ -6,6 +6,7 @@ pub mod Everywhere
 pub mod Sets
 pub mod SomeMember
 pub mod SearchSteps
+pub mod OnePass
 pub mod Sides
 pub mod FactSteps
 pub use Rattle.config_precedence.proofs.config_record

@@ -1,4 +1,4 @@
--- What is listed of a set, and what is tried in it, lies in it.
+-- What names a set, and what is tried in it, lies in it.
 use Rattle.std.proofs.Common.{◌≡◌, ℕ, zero, suc, ◌+◌, ◌-◌, ◌<◌, ◌≤◌, ◌≢◌, List, length, get_or, set, sym, ap, subst, ◌∙◌, arith}
 use Rattle.std.specs.Prelude.{◌↔◌, ◌==◌, true, Contains}
 use Rattle.std.specs.List.{list_any}
@@ -16,7 +16,7 @@ use Rattle.config_precedence.specs.config_rules.declared.answer.Answer.{Answer}
 use Rattle.config_precedence.specs.config_rules.declared.rule.Rule.{Rule}
 use Rattle.config_precedence.specs.config_rules.Rule.{rule_answer}
 use Rattle.box_answers.specs.declared.number_set.NumberSet.{NumberSet}
-use Rattle.box_answers.specs.NumberSet.{SetOf, RangeOf, NumbersOf, LocalesOf, set_of, listed, IsIn, IsProper, IsLeastIn}
+use Rattle.box_answers.specs.NumberSet.{SetOf, RangeOf, NumbersOf, LocalesOf, set_of, named_numbers, IsIn, IsProper, IsLeastIn}
 use Rattle.box_answers.specs.SearchedSet.{IsGreatestIn}
 use Rattle.box_answers.specs.Members.{sets_of, set_at, IsMember}
 use Rattle.box_answers.specs.TriedNumbers.{clamped, tried_numbers}
@@ -63,12 +63,12 @@ listed-in ns n = (
 
 -- ---- the ends of a set
 
-pub least-of : (set : SetOf) → IsProper set → IsLeastIn set (get_or (listed set) 0 0)
+pub least-of : (set : SetOf) → IsProper set → IsLeastIn set (get_or (named_numbers set) 0 0)
 least-of (RangeOf low high) p = record { is_in = (omega arith, p.rises); below = λ m is. is.0 }
 least-of (NumbersOf numbers) p = record { is_in = Contains-get_or numbers 0 0 p.nonempty; below = first-least numbers p.rises }
 least-of (LocalesOf locales) p = record { is_in = Contains-get_or locales 0 0 p.nonempty; below = first-least locales p.rises }
 
-pub greatest-of : (set : SetOf) → IsProper set → IsGreatestIn set (get_or (listed set) (length (listed set) - 1) 0)
+pub greatest-of : (set : SetOf) → IsProper set → IsGreatestIn set (get_or (named_numbers set) (length (named_numbers set) - 1) 0)
 greatest-of (RangeOf low high) p = record { is_in = (p.rises, omega arith); above = λ m is. is.1 }
 greatest-of (NumbersOf numbers) p = record { is_in = Contains-get_or numbers (length numbers - 1) 0 (omega (arith, p.nonempty)); above = last-greatest numbers p.rises }
 greatest-of (LocalesOf locales) p =

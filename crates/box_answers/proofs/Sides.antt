@@ -8,7 +8,7 @@ use Rattle.config_precedence.specs.config_record.ComparedNumber.{device_number, 
 use Rattle.config_precedence.specs.config_record.Record.{record_bytes}
 use Rattle.config_precedence.proofs.config_record.ChangedNumber.{by_coord}
 use Rattle.config_precedence.specs.config_rules.declared.rule.Rule.{Rule}
-use Rattle.config_precedence.specs.config_rules.Answer.{or_else}
+use Rattle.config_precedence.specs.config_rules.Answer.{or_else, is_yes}
 use Rattle.config_precedence.specs.config_rules.Rule.{rule_answer}
 use Rattle.config_precedence.specs.config_rules.Reads.{reads, AgreeAt}
 use Rattle.config_precedence.specs.config_rules.Table.{answer_of_table}
@@ -16,7 +16,7 @@ use Rattle.config_precedence.proofs.config_rules.ReadsLemmas.{depends}
 use Rattle.box_answers.specs.declared.question.Question.{Question}
 use Rattle.box_answers.specs.NumberSet.{SetOf, RangeOf, NumbersOf, LocalesOf, IsIn}
 use Rattle.box_answers.specs.Members.{IsMember}
-use Rattle.box_answers.specs.Question.{says_yes, answered}
+use Rattle.box_answers.specs.Question.{answered}
 use Rattle.box_answers.specs.Sameness.{Parts, DifferByOne, AreNeighbours}
 use Rattle.box_answers.specs.SearchedSet.{IsConvex}
 use Rattle.box_answers.proofs.Coords.{place_of-below, next-coord}
@@ -35,7 +35,7 @@ table-alike (rule ∷ rules) a b x y h =
     ∙ ap (or_else (rule_answer rule a b y)) (table-alike rules a b x y h)
 
 pub answered-alike : (q : Question) (x y : List ℕ) → ((c : Coord) → device_number x c ≡ device_number y c) → answered q x ≡ answered q y
-answered-alike q x y h = ap (says_yes q.asked) (table-alike q.rules.now (record_number (record_bytes q.a)) (record_number (record_bytes q.b)) (device_number x) (device_number y) h)
+answered-alike q x y h = ap is_yes (table-alike q.rules.now (record_number (record_bytes q.a)) (record_number (record_bytes q.b)) (device_number x) (device_number y) h)
 
 -- ---- one is changed into the other, coordinate by coordinate
 

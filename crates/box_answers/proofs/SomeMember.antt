@@ -3,14 +3,14 @@ use Rattle.std.proofs.Common.{◌≡◌, ℕ, arith, Bool, List, map, get_or, sy
 use Rattle.std.proofs.lemmas.List.{get_or-map}
 use Rattle.config_precedence.specs.config_record.Coord.{place_of}
 use Rattle.config_precedence.specs.config_record.ComparedNumber.{device_number}
-use Rattle.box_answers.specs.NumberSet.{SetOf, RangeOf, listed, IsLeastIn}
+use Rattle.box_answers.specs.NumberSet.{SetOf, RangeOf, named_numbers, IsLeastIn}
 use Rattle.box_answers.specs.Members.{set_at, IsMember, SomeMember, IsBox, IsCorner}
-use Rattle.box_answers.specs.Settled.{AllAnswer, SomeAnswers}
+use Rattle.box_answers.specs.MemberAnswers.{AllAnswer, SomeAnswers}
 use Rattle.box_answers.proofs.Coords.{place_of-below}
 use Rattle.box_answers.proofs.Sets.{least-of}
 
 least : SetOf → ℕ
-least set = get_or (listed set) 0 0
+least set = get_or (named_numbers set) 0 0
 
 corner-of : (sets : List SetOf) → IsBox sets → IsCorner sets (map least sets)
 unfolding least

@@ -4,8 +4,9 @@ pub mod SearchedSet
 pub mod TriedNumbers
 pub mod Changes
 pub mod Question
+pub mod Condition
 pub mod RuleSearch
-pub mod Settled
+pub mod MemberAnswers
 pub mod Sameness
 pub mod Facts
 pub mod Unfolded

@@ -6,7 +6,7 @@ use Rattle.config_precedence.specs.config_record.Coord.{place_of}
 use Rattle.config_precedence.specs.config_record.ComparedNumber.{device_number}
 use Rattle.config_precedence.specs.config_record.Device.{CanHave}
 use Rattle.box_answers.specs.declared.number_set.NumberSet.{NumberSet}
-use Rattle.box_answers.specs.NumberSet.{SetOf, RangeOf, LocalesOf, set_of, listed, IsIn, IsProper, IsLeastIn}
+use Rattle.box_answers.specs.NumberSet.{SetOf, RangeOf, LocalesOf, set_of, named_numbers, IsIn, IsProper, IsLeastIn}
 
 abbrev pub sets_of : List NumberSet → List SetOf
 sets_of sets = map set_of sets
@@ -37,7 +37,7 @@ most_values = 512
 pub record IsSetAt (c : coord.Coord) (set : SetOf) : Type 0 where
   pub proper : IsProper set
   pub kind : IsOfKind c set
-  pub few : length (listed set) ≤ most_values
+  pub few : length (named_numbers set) ≤ most_values
   pub can : (n : ℕ) → IsIn set n → CanHave c n
 
 -- a set for each coordinate

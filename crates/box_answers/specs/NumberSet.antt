@@ -30,11 +30,11 @@ IsIn (RangeOf low high) n = (low ≤ n) × (n ≤ high)
 IsIn (NumbersOf numbers) n = Contains numbers n
 IsIn (LocalesOf numbers) n = Contains numbers n
 
--- the two ends of a range, all numbers of a choice
-abbrev pub listed : SetOf → List ℕ
-listed (RangeOf low high) = low ∷ high ∷ []
-listed (NumbersOf numbers) = numbers
-listed (LocalesOf numbers) = numbers
+-- the numbers that name it: the two ends of a range, all numbers of a choice
+abbrev pub named_numbers : SetOf → List ℕ
+named_numbers (RangeOf low high) = low ∷ high ∷ []
+named_numbers (NumbersOf numbers) = numbers
+named_numbers (LocalesOf numbers) = numbers
 
 abbrev pub Rises : SetOf → Type 0
 Rises (RangeOf low high) = low ≤ high
@@ -43,7 +43,7 @@ Rises (LocalesOf numbers) = IsStrictlyIncreasing numbers
 
 -- it is not empty, and a choice stands in rising order, each number once
 pub record IsProper (set : SetOf) : Type 0 where
-  pub nonempty : 0 < length (listed set)
+  pub nonempty : 0 < length (named_numbers set)
   pub rises : Rises set
 
 pub record IsLeastIn (set : SetOf) (n : ℕ) : Type 0 where

@@ -7,7 +7,7 @@ use Rattle.box_answers.specs.declared.sameness.Sameness.{Sameness}
 use Rattle.box_answers.specs.declared.sameness.Sameness.TheVariants.{Always, Never, Mixed}
 use Rattle.box_answers.specs.NumberSet.{SetOf, RangeOf}
 use Rattle.box_answers.specs.Members.{set_at, IsMember}
-use Rattle.box_answers.specs.Settled.{AllAnswer, IsOneThatAnswers}
+use Rattle.box_answers.specs.MemberAnswers.{AllAnswer, IsOneThatAnswers}
 
 -- two members that differ in this coordinate alone, of which the first answers yes and the second no
 pub record Parts (sets : List SetOf) (asks : List ℕ → Bool) (x y : List ℕ) (c : Coord) : Type 0 where

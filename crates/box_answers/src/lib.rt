@@ -17,6 +17,8 @@
 //! ```
 #![tactic(auto)]
 
+mod condition;
+mod matching;
 mod member_pair;
 mod members;
 mod neighbours;

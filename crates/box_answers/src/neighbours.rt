@@ -7,7 +7,7 @@ ghost use Rattle.config_precedence.specs.config_record.DeviceSeen.{device_number
 ghost use Rattle.box_answers.specs.NumberSet.{IsIn};
 ghost use Rattle.box_answers.specs.Members.{sets_of, set_at, IsMember, IsBox};
 ghost use Rattle.box_answers.specs.Question.{answered};
-ghost use Rattle.box_answers.specs.Settled.{IsOneThatAnswers};
+ghost use Rattle.box_answers.specs.MemberAnswers.{IsOneThatAnswers};
 ghost use Rattle.box_answers.specs.Sameness.{Parts, DifferByOne, Separates};
 ghost use Rattle.box_answers.specs.SearchedSet.{IsConvex};
 
@@ -101,7 +101,7 @@ fn halved(sets: &[NumberSet], question: &Question, pair: MemberPair) -> MemberPa
 }
 
 /// A number strictly between two, if there is one.
-fn between(x: u32, y: u32) -> Option<u32>
+pub(crate) fn between(x: u32, y: u32) -> Option<u32>
     ensures found { IfSome result (λ n. (min x y < n) × (n < max x y)) }
     ensures none { IfNone result ((x ≤ y + 1) × (y ≤ x + 1)) }
 {

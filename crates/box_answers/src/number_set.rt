@@ -2,7 +2,7 @@
 
 ghost use Rattle.std.specs.Prelude.{◌≡◌, ◌<◌, ◌↔◌, ◌==◌, IsTrue, length, slice_index};
 ghost use Rattle.std.specs.List.{list_any};
-ghost use Rattle.box_answers.specs.NumberSet.{set_of, locale_numbers, IsIn, listed, IsProper, IsLeastIn};
+ghost use Rattle.box_answers.specs.NumberSet.{set_of, locale_numbers, IsIn, named_numbers, IsProper, IsLeastIn};
 ghost use Rattle.box_answers.specs.SearchedSet.{IsGreatestIn};
 
 use config_precedence::Locale;
@@ -31,9 +31,9 @@ impl NumberSet {
         }
     }
 
-    /// How many numbers are listed: the two ends of a range, all numbers of a choice.
-    pub(crate) fn listed_count(&self) -> usize
-        ensures { result ≡ length (listed (set_of self.now)) }
+    /// How many numbers name the set: the two ends of a range, all numbers of a choice.
+    pub(crate) fn named_count(&self) -> usize
+        ensures { result ≡ length (named_numbers (set_of self.now)) }
     {
         match self {
             NumberSet::Range(_, _) => 2,
@@ -42,9 +42,9 @@ impl NumberSet {
         }
     }
 
-    pub(crate) fn listed(&self, place: usize) -> u32
-        requires { place < length (listed (set_of self.now)) }
-        ensures { result ≡ slice_index (listed (set_of self.now)) place }
+    pub(crate) fn named_number(&self, place: usize) -> u32
+        requires { place < length (named_numbers (set_of self.now)) }
+        ensures { result ≡ slice_index (named_numbers (set_of self.now)) place }
     {
         match self {
             NumberSet::Range(low, high) => if place == 0 { *low } else { *high },
@@ -57,14 +57,14 @@ impl NumberSet {
         requires { IsProper (set_of self.now) }
         ensures { IsLeastIn (set_of self.now) result }
     {
-        self.listed(0)
+        self.named_number(0)
     }
 
     pub(crate) fn greatest(&self) -> u32
         requires { IsProper (set_of self.now) }
         ensures { IsGreatestIn (set_of self.now) result }
     {
-        self.listed(self.listed_count() - 1)
+        self.named_number(self.named_count() - 1)
     }
 }
 

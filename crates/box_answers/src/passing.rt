@@ -13,7 +13,7 @@ use config_precedence::{Kind, Record, Rule};
 pub(crate) fn passes_everywhere(rule: Rule, a: &Record, b: &Record) -> bool
     ensures { IsTrue result → PassesEverywhere rule (record_number (record_bytes a.now)) (record_number (record_bytes b.now)) }
 {
-    let (x, y) = (rule.of_record(a), rule.of_record(b));
+    let (x, y) = (rule.numbers_of_record(a), rule.numbers_of_record(b));
     match rule.kind {
         Kind::Always => true,
         Kind::Equal | Kind::AtMost | Kind::KeysSuit | Kind::LocaleSuits => x.first == 0,

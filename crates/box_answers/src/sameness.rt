@@ -1,19 +1,19 @@
 //! The two questions, asked of all members of a box at once.
 
-ghost use Rattle.std.specs.Prelude.{◌≡◌, true};
+ghost use Rattle.std.specs.Prelude.{◌≡◌};
 ghost use Rattle.config_precedence.specs.config_record.Record.{record_bytes};
 ghost use Rattle.config_precedence.specs.config_record.ComparedNumber.{record_number};
-ghost use Rattle.config_precedence.specs.config_rules.declared.answer.Answer.TheVariants.{Pass};
 ghost use Rattle.config_precedence.specs.config_match.Matching.{is_match};
 ghost use Rattle.config_precedence.specs.Precedence.{is_better};
 ghost use Rattle.config_precedence.specs.config_rules.Reads.{AreReadInOrder};
 ghost use Rattle.box_answers.specs.Members.{sets_of, IsBox};
-ghost use Rattle.box_answers.specs.Question.{says_yes, answered};
-ghost use Rattle.box_answers.specs.Facts.{DensityTurnsOnce, SizesFromNormalUpAreAlike, DimensionsAskWhichAreZero, OneFails, FailsOnOneSide};
+ghost use Rattle.box_answers.specs.Question.{answered};
+ghost use Rattle.box_answers.specs.Facts.{DensityTurnsOnce, SizesFromNormalUpAreAlike, DimensionsAskWhichAreZero, FailsOnOneSide};
 
+use crate::matching::pass_all;
 use crate::neighbours::neighbours;
 use crate::number_set::NumberSet;
-use crate::question::{Asked, Question};
+use crate::question::Question;
 use crate::search::member_where;
 use config_precedence::{Coord, Device, Record, conditions, rules};
 
@@ -41,13 +41,7 @@ pub fn match_all(sets: &[NumberSet], stored: &Record) -> Sameness
     if stored.set_aside() {
         return Sameness::Never;
     }
-    let question = Question {
-        asked: Asked::Matches,
-        rules: conditions(),
-        a: *stored,
-        b: *stored,
-    };
-    answer_of_all(sets, &question)
+    pass_all(sets, conditions(), stored)
 }
 
 /// Is the first of two records better than the second for all members, for none, or for some?
@@ -60,7 +54,6 @@ pub fn better_all(sets: &[NumberSet], a: &Record, b: &Record) -> Sameness
     ensures dimensions { DimensionsAskWhichAreZero (record_number (record_bytes a.now)) (record_number (record_bytes b.now)) }
 {
     let question = Question {
-        asked: Asked::IsBetter,
         rules: rules(),
         a: *a,
         b: *b,
@@ -71,9 +64,7 @@ pub fn better_all(sets: &[NumberSet], a: &Record, b: &Record) -> Sameness
 fn answer_of_all(sets: &[NumberSet], question: &Question) -> Sameness
     requires sets { IsBox (sets_of sets.now) }
     requires in_order { AreReadInOrder question.now.rules.now }
-    ensures value { IsExact result (sets_of sets.now) (answered question.now) }
-    ensures one_side { result ≡ Sameness.Never → says_yes question.now.asked Pass ≡ true → OneFails (sets_of sets.now) question.now.rules.now
-        (record_number (record_bytes question.now.a)) (record_number (record_bytes question.now.b)) }
+    ensures { IsExact result (sets_of sets.now) (answered question.now) }
 {
     let Some(yes) = member_where(sets, question, true) else {
         return Sameness::Never;

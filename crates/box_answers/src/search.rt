@@ -1,15 +1,11 @@
 //! The search for a member at which a question has a given answer.
 
 ghost use Rattle.std.specs.Prelude.{◌≡◌, ◌≢◌, ℕ, List, IfSome, IfNone};
-ghost use Rattle.config_precedence.specs.config_record.Record.{record_bytes};
-ghost use Rattle.config_precedence.specs.config_record.ComparedNumber.{record_number};
 ghost use Rattle.config_precedence.specs.config_record.DeviceSeen.{device_numbers};
-ghost use Rattle.config_precedence.specs.config_rules.declared.answer.Answer.TheVariants.{Pass};
 ghost use Rattle.config_precedence.specs.config_rules.Reads.{AreReadInOrder};
 ghost use Rattle.box_answers.specs.Members.{sets_of, IsMember, IsBox};
-ghost use Rattle.box_answers.specs.Question.{says_yes, table_says, answered};
-ghost use Rattle.box_answers.specs.Settled.{IsOneThatAnswers};
-ghost use Rattle.box_answers.specs.Facts.{OneFails};
+ghost use Rattle.box_answers.specs.Question.{table_says, answered};
+ghost use Rattle.box_answers.specs.MemberAnswers.{IsOneThatAnswers};
 
 use crate::members::corner;
 use crate::number_set::NumberSet;
@@ -24,37 +20,14 @@ pub(crate) fn member_where(sets: &[NumberSet], question: &Question, wanted: bool
     requires in_order { AreReadInOrder question.now.rules.now }
     ensures found { IfSome result (λ device. IsOneThatAnswers (IsMember (sets_of sets.now)) (answered question.now) wanted (device_numbers device)) }
     ensures none { IfNone result ((d : List ℕ) → IsMember (sets_of sets.now) d → answered question.now d ≢ wanted) }
-    ensures fails { IfNone result (says_yes question.now.asked Pass ≡ wanted → OneFails (sets_of sets.now) question.now.rules.now
-        (record_number (record_bytes question.now.a)) (record_number (record_bytes question.now.b))) }
 {
-    if let Some(device) = member_if(sets, question, wanted, Answer::Yes) {
+    if wanted {
+        return member_of_answer(sets, question, Answer::Yes);
+    }
+    if let Some(device) = member_of_answer(sets, question, Answer::No) {
         return Some(device);
     }
-    if let Some(device) = member_if(sets, question, wanted, Answer::No) {
-        return Some(device);
-    }
-    member_if(sets, question, wanted, Answer::Pass)
-}
-
-/// The same, of the members at which the table says this.
-fn member_if(
-    sets: &[NumberSet],
-    question: &Question,
-    wanted: bool,
-    answer: Answer,
-) -> Option<Device>
-    requires sets { IsBox (sets_of sets.now) }
-    requires in_order { AreReadInOrder question.now.rules.now }
-    ensures found { IfSome result (λ device. IsOneThatAnswers (IsMember (sets_of sets.now)) (answered question.now) wanted (device_numbers device)) }
-    ensures none { IfNone result ((d : List ℕ) → IsMember (sets_of sets.now) d → table_says question.now d ≡ answer → answered question.now d ≢ wanted) }
-    ensures fails { IfNone result (says_yes question.now.asked answer ≡ wanted → answer ≡ Pass → OneFails (sets_of sets.now) question.now.rules.now
-        (record_number (record_bytes question.now.a)) (record_number (record_bytes question.now.b))) }
-{
-    if question.asked.says_yes(answer) == wanted {
-        member_of_answer(sets, question, answer)
-    } else {
-        None
-    }
+    member_of_answer(sets, question, Answer::Pass)
 }
 
 /// A member at which the table says this. Rule by rule the member so far is changed into one at which
@@ -65,8 +38,6 @@ fn member_of_answer(sets: &[NumberSet], question: &Question, want: Answer) -> Op
     requires in_order { AreReadInOrder question.now.rules.now }
     ensures found { IfSome result (λ device. IsMember (sets_of sets.now) (device_numbers device) × (table_says question.now (device_numbers device) ≡ want)) }
     ensures none { IfNone result ((d : List ℕ) → IsMember (sets_of sets.now) d → table_says question.now d ≢ want) }
-    ensures fails { IfNone result (want ≡ Pass → OneFails (sets_of sets.now) question.now.rules.now
-        (record_number (record_bytes question.now.a)) (record_number (record_bytes question.now.b))) }
 {
     let (a, b) = (question.a, question.b);
     let mut device = corner(sets);

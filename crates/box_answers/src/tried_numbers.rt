@@ -17,7 +17,7 @@ impl NumberSet {
     {
         match self {
             NumberSet::Range(_, _) => OF_A_RANGE,
-            _ => self.listed_count(),
+            _ => self.named_count(),
         }
     }
 
@@ -28,7 +28,7 @@ impl NumberSet {
     {
         match self {
             NumberSet::Range(low, high) => tried_between(*low, *high, place, a, b),
-            _ => self.listed(place),
+            _ => self.named_number(place),
         }
     }
 }

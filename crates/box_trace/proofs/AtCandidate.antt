@@ -6,12 +6,11 @@ use Rattle.config_box.specs.box_answers.NumberSet.{SetOf}
 use Rattle.config_box.specs.box_answers.Members.{IsMember}
 use Rattle.config_box.specs.box_answers.Sameness.{Separates}
 use Rattle.reference_resolver.specs.overlay_map.Candidates.{CandOf}
-use Rattle.reference_resolver.specs.declared.step.Step.{Step}
 use Rattle.reference_resolver.specs.declared.step.Step.TheVariants.{NoMatch, KeptOut, TookOver}
 use Rattle.reference_resolver.specs.Selection.{beats_best, step_of}
 use Rattle.box_trace.specs.Division.{has_matched, has_taken_over, DividesAt}
-use Rattle.config_box.specs.box_answers.Settled.{AllAnswer}
-use Rattle.box_trace.specs.Live.{matches}
+use Rattle.config_box.specs.box_answers.MemberAnswers.{AllAnswer}
+use Rattle.box_trace.specs.Live.{does_match}
 
 matched_by : (matches beaten : Bool) → has_matched (if matches then (if beaten then TookOver else KeptOut) else NoMatch) ≡ matches
 matched_by true true = refl
@@ -44,7 +43,7 @@ no_match false beaten e = refl
 no_match true beaten e = absurd (cc)
 
 -- one that matches no member does nothing
-pub does_nothing : (members : List ℕ → Type 0) (best : Option CandOf) (candidate : CandOf) → AllAnswer members (matches candidate) false → (d : List ℕ) → members d → step_of best candidate d ≡ NoMatch
+pub does_nothing : (members : List ℕ → Type 0) (best : Option CandOf) (candidate : CandOf) → AllAnswer members (does_match candidate) false → (d : List ℕ) → members d → step_of best candidate d ≡ NoMatch
 does_nothing members best candidate none d m = no_match (is_match candidate.row.config d) (beats_best best candidate d) (none d m)
 
 -- it matches some and not others

@@ -3,59 +3,65 @@ use Rattle.std.proofs.Common.{arith, ◌≡◌, ◌<◌, ◌+◌, ◌-◌, ℕ, 
 use Rattle.std.proofs.lemmas.List.{map-append, drop-map, drop_more, take_all, length-drop}
 use Rattle.std.specs.List.{All}
 use Rattle.std.proofs.lemmas.List.Elements.{All-nil, All-push, All-weaker, All-head, All-drop}
-use Rattle.config_box.specs.box_answers.Settled.{AllAnswer}
+use Rattle.config_box.specs.box_answers.MemberAnswers.{AllAnswer}
 use Rattle.reference_resolver.specs.overlay_map.declared.candidate.Cand.{Cand}
 use Rattle.reference_resolver.specs.overlay_map.Candidates.{CandOf}
-use Rattle.box_trace.specs.Live.{LiveOf, live_of, listed, matches, LeavesOut, AreMarked, IsLive, AreLive}
+use Rattle.box_trace.specs.Live.{LiveOf, live_of, candidates_in, does_match, LeavesOut, MarkedMatchAll, IsLive, AreLive}
 use Rattle.box_trace.proofs.LeftOut.{leave_last, keep_last}
 
 pub none_live : (members : List ℕ → Type 0) → AreLive members [] []
-none_live members = record { others = tt; each = All-nil (λ l. IsLive members l.candidate l) }
+none_live members = record { others = tt; each = All-nil (IsLive members) }
 
 -- one candidate more, which matches no member
-pub live_without : (members : List ℕ → Type 0) (all : List CandOf) (live : List LiveOf) (candidate : CandOf) → AllAnswer members (matches candidate) false → AreLive members all live → AreLive members (all ++ candidate ∷ []) live
-live_without members all live candidate none are = record { others = leave_last members all (listed live) candidate none are.others; each = are.each }
+pub live_without : (members : List ℕ → Type 0) (all : List CandOf) (live : List LiveOf) (candidate : CandOf) → AllAnswer members (does_match candidate) false → AreLive members all live → AreLive members (all ++ candidate ∷ []) live
+live_without members all live candidate none are = record { others = leave_last members all (candidates_in live) candidate none are.others; each = are.each }
 
 -- one more, which matches some
-pub live_with : (members : List ℕ → Type 0) (all : List CandOf) (live : List LiveOf) (candidate : CandOf) (l : LiveOf) → IsLive members candidate l → AreLive members all live → AreLive members (all ++ candidate ∷ []) (live ++ l ∷ [])
-live_with members all live candidate l is are = record {
+pub live_with : (members : List ℕ → Type 0) (all : List CandOf) (live : List LiveOf) (l : LiveOf) → IsLive members l → AreLive members all live → AreLive members (all ++ l.candidate ∷ []) (live ++ l ∷ [])
+live_with members all live l is are = record {
   others =
-      subst (λ (left : List CandOf). LeavesOut members (all ++ candidate ∷ []) left) (sym (map-append (λ (k : LiveOf). k.candidate) live (l ∷ [])))
-      (keep_last members all (listed live) candidate l.candidate (sym is.same) are.others);
-  each = All-push (λ k. IsLive members k.candidate k) live l are.each (subst (λ (c : CandOf). IsLive members c l) (sym is.same) is);
+      subst (λ (kept : List CandOf). LeavesOut members (all ++ l.candidate ∷ []) kept) (sym (map-append (λ (k : LiveOf). k.candidate) live (l ∷ [])))
+      (keep_last members all (candidates_in live) l.candidate are.others);
+  each = All-push (IsLive members) live l are.each is;
 }
 
-pub marked_live : (members : List ℕ → Type 0) (all : List CandOf) (live : List LiveOf) → AreLive members all live → AreMarked members live
-marked_live members all live are = All-weaker (λ l. IsLive members l.candidate l) (λ l. IsTrue l.marked → AllAnswer members (matches l.candidate) true) (λ l is. is.mark.0) live are.each
+pub marked_live : (members : List ℕ → Type 0) (all : List CandOf) (live : List LiveOf) → AreLive members all live → MarkedMatchAll members live
+marked_live members all live are = All-weaker (IsLive members) (λ l. IsTrue l.marked → AllAnswer members (does_match l.candidate) true) (λ l is. is.mark.0) live are.each
+
+-- what is marked matches fewer members too
+pub marked_fewer : (members fewer : List ℕ → Type 0) → ((d : List ℕ) → fewer d → members d) → (live : List LiveOf) → MarkedMatchAll members live → MarkedMatchAll fewer live
+marked_fewer members fewer into live marked =
+    let matches_all : (List ℕ → Type 0) → LiveOf → Type 0 = λ some l. IsTrue l.marked → AllAnswer some (does_match l.candidate) true in
+    All-weaker (matches_all members) (matches_all fewer) (λ l matches is d f. matches is d (into d f)) live marked
 
 -- ---- a list that is made candidate by candidate
 
--- of these candidates those before the ones that are left have been judged
-pub record JudgedTo (members : List ℕ → Type 0) (all left : List CandOf) (live : List LiveOf) : Type 0 where
+-- of these candidates those before the ones ahead have been judged
+pub record JudgedTo (members : List ℕ → Type 0) (all ahead : List CandOf) (live : List LiveOf) : Type 0 where
   pub seen : List CandOf
-  pub parts : all ≡ seen ++ left
+  pub parts : all ≡ seen ++ ahead
   pub are : AreLive members seen live
 
-pub judged_none : (members : List ℕ → Type 0) (all left : List CandOf) (live : List LiveOf) → all ≡ left → live ≡ [] → JudgedTo members all left live
-judged_none members all left live e none = record { seen = []; parts = e; are = subst (AreLive members []) (sym none) (none_live members) }
+pub judged_none : (members : List ℕ → Type 0) (all ahead : List CandOf) (live : List LiveOf) → all ≡ ahead → live ≡ [] → JudgedTo members all ahead live
+judged_none members all ahead live e none = record { seen = []; parts = e; are = subst (AreLive members []) (sym none) (none_live members) }
 
-pub judged_out : (members : List ℕ → Type 0) (all left more : List CandOf) (live : List LiveOf) (candidate : CandOf) → left ≡ candidate ∷ more → AllAnswer members (matches candidate) false → JudgedTo members all left live → JudgedTo members all more live
-judged_out members all left more live candidate e none to = record {
+pub judged_out : (members : List ℕ → Type 0) (all ahead more : List CandOf) (live : List LiveOf) (candidate : CandOf) → ahead ≡ candidate ∷ more → AllAnswer members (does_match candidate) false → JudgedTo members all ahead live → JudgedTo members all more live
+judged_out members all ahead more live candidate e none to = record {
   seen = to.seen ++ candidate ∷ [];
   parts = to.parts ∙ ap (λ (k : List CandOf). to.seen ++ k) e ∙ sym (append_assoc to.seen (candidate ∷ []) more);
   are = live_without members to.seen live candidate none to.are;
 }
 
-pub judged_in : (members : List ℕ → Type 0) (all left more : List CandOf) (live after : List LiveOf) (candidate : CandOf) (l : LiveOf) → left ≡ candidate ∷ more → after ≡ live ++ l ∷ [] → IsLive members candidate l
-    → JudgedTo members all left live → JudgedTo members all more after
-judged_in members all left more live after candidate l e pushed is to = record {
-  seen = to.seen ++ candidate ∷ [];
-  parts = to.parts ∙ ap (λ (k : List CandOf). to.seen ++ k) e ∙ sym (append_assoc to.seen (candidate ∷ []) more);
-  are = subst (AreLive members (to.seen ++ candidate ∷ [])) (sym pushed) (live_with members to.seen live candidate l is to.are);
+pub judged_in : (members : List ℕ → Type 0) (all ahead more : List CandOf) (live after : List LiveOf) (l : LiveOf) → ahead ≡ l.candidate ∷ more → after ≡ live ++ l ∷ [] → IsLive members l
+    → JudgedTo members all ahead live → JudgedTo members all more after
+judged_in members all ahead more live after l e pushed is to = record {
+  seen = to.seen ++ l.candidate ∷ [];
+  parts = to.parts ∙ ap (λ (k : List CandOf). to.seen ++ k) e ∙ sym (append_assoc to.seen (l.candidate ∷ []) more);
+  are = subst (AreLive members (to.seen ++ l.candidate ∷ [])) (sym pushed) (live_with members to.seen live l is to.are);
 }
 
-pub judged_all : (members : List ℕ → Type 0) (all left : List CandOf) (live : List LiveOf) → left ≡ [] → JudgedTo members all left live → AreLive members all live
-judged_all members all left live none to =
+pub judged_all : (members : List ℕ → Type 0) (all ahead : List CandOf) (live : List LiveOf) → ahead ≡ [] → JudgedTo members all ahead live → AreLive members all live
+judged_all members all ahead live none to =
     subst (λ (k : List CandOf). AreLive members k live) (sym (to.parts ∙ ap (λ (k : List CandOf). to.seen ++ k) none ∙ append-nil to.seen)) to.are
 
 -- ---- the next one of a list
@@ -66,9 +72,9 @@ next_live items live k x all within is =
     ap (drop k) (sym all) ∙ drop-map live_of k items ∙ ap (map live_of) next ∙ ap (λ (others : List LiveOf). live_of x ∷ others) (sym (drop-map live_of (k + 1) items) ∙ ap (drop (k + 1)) all)
 
 -- if it is marked, it matches all members
-pub next_marked : (members : List ℕ → Type 0) (live others : List LiveOf) (k : ℕ) (l : LiveOf) → drop k live ≡ l ∷ others → AreMarked members live → IsTrue l.marked → AllAnswer members (matches l.candidate) true
+pub next_marked : (members : List ℕ → Type 0) (live others : List LiveOf) (k : ℕ) (l : LiveOf) → drop k live ≡ l ∷ others → MarkedMatchAll members live → IsTrue l.marked → AllAnswer members (does_match l.candidate) true
 next_marked members live others k l e marked =
-    let P = λ (l : LiveOf). IsTrue l.marked → AllAnswer members (matches l.candidate) true in
+    let P = λ (l : LiveOf). IsTrue l.marked → AllAnswer members (does_match l.candidate) true in
     All-head P l others (subst (All P) e (All-drop P k live marked))
 
 -- ---- a part of a list, from a place on
@@ -77,5 +83,5 @@ pub live_part : (items : List (Cand × Bool)) (live : List LiveOf) (k : ℕ) →
 live_part items live k all =
     ap (map live_of) (take_all (length items - k) (drop k items) (omega (arith, length-drop k items))) ∙ sym (drop-map live_of k items) ∙ ap (drop k) all
 
-pub marked_part : (members : List ℕ → Type 0) (items : List (Cand × Bool)) (live : List LiveOf) (k : ℕ) → map live_of items ≡ live → AreMarked members live → AreMarked members (map live_of (take (length items - k) (drop k items)))
-marked_part members items live k all marked = subst (AreMarked members) (sym (live_part items live k all)) (All-drop (λ l. IsTrue l.marked → AllAnswer members (matches l.candidate) true) k live marked)
+pub marked_part : (members : List ℕ → Type 0) (items : List (Cand × Bool)) (live : List LiveOf) (k : ℕ) → map live_of items ≡ live → MarkedMatchAll members live → MarkedMatchAll members (map live_of (take (length items - k) (drop k items)))
+marked_part members items live k all marked = subst (MarkedMatchAll members) (sym (live_part items live k all)) (All-drop (λ l. IsTrue l.marked → AllAnswer members (does_match l.candidate) true) k live marked)

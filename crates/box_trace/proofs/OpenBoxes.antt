@@ -3,11 +3,10 @@ use Rattle.std.proofs.Common.{◌≡◌, ℕ, List, [], ◌∷◌, ◌++◌, ◌
 use Rattle.std.proofs.lemmas.List.{map-append}
 use Rattle.reference_resolver.specs.overlay_map.Layer.{LayerOf}
 use Rattle.reference_resolver.specs.Trace.{Trace}
-use Rattle.config_box.specs.box_answers.Members.{IsMember}
 use Rattle.box_trace.specs.declared.walk.Walk.{Walk}
 use Rattle.box_trace.specs.declared.open_box.OpenBox.{OpenBox}
-use Rattle.box_trace.specs.Live.{listed}
-use Rattle.box_trace.specs.Walk.{rest_at, best_at, live_ahead}
+use Rattle.box_trace.specs.Live.{candidates_in}
+use Rattle.box_trace.specs.Walk.{rest_at, after_walk, best_at, live_ahead}
 use Rattle.box_trace.specs.OpenBox.{boxes_of, IsReached}
 use Rattle.box_trace.proofs.LeftOut.{none_left_out}
 use Rattle.box_trace.proofs.Rests.{come_nowhere}
@@ -17,7 +16,7 @@ boxes-push before after part e = ap boxes_of e ∙ map-append (λ (p : OpenBox).
 
 -- what lies ahead of a walk, if its list leaves out nothing
 abbrev pub rest_of : List LayerOf → Walk → List ℕ → Trace
-rest_of stack walk d = rest_at stack walk.id.0 walk.left (best_at walk) (listed (live_ahead walk)) d
+rest_of stack walk d = rest_at (after_walk stack walk) (best_at walk) (candidates_in (live_ahead walk)) d
 
 pub reached_there : (stack : List LayerOf) (part : OpenBox) → IsReached stack (rest_of stack part.walk) part
-reached_there stack part = record { ahead = listed (live_ahead part.walk); come = come_nowhere _ _ _ refl; left_out = none_left_out _ _ }
+reached_there stack part = record { ahead = candidates_in (live_ahead part.walk); come = come_nowhere _ _ _ (λ d. refl); left_out = none_left_out _ _ }

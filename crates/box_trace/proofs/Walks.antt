@@ -1,61 +1,84 @@
 -- Walks of all members of a box.
-use Rattle.std.proofs.Common.{◌≡◌, ◌<◌, ◌≤◌, ◌+◌, ℕ, List, [], ◌∷◌, drop, map, length, get_or, Option, sym, ◌∙◌, ap, subst}
+use Rattle.std.proofs.Common.{◌≡◌, ℕ, List, [], ◌∷◌, Option, sym, ◌∙◌, ap, subst}
 use Rattle.reference_resolver.specs.res_value.declared.res_id.ResId.{ResId}
 use Rattle.reference_resolver.specs.overlay_map.Layer.{LayerOf}
 use Rattle.reference_resolver.specs.overlay_map.Candidates.{CandOf}
+use Rattle.reference_resolver.specs.Selection.{step_of, scan_candidates, best_of}
 use Rattle.reference_resolver.specs.Trace.{Trace}
 use Rattle.config_box.specs.box_answers.NumberSet.{SetOf}
 use Rattle.config_box.specs.box_answers.Members.{IsMember}
+use Rattle.bags_themes.specs.AttributeTrace.{behind}
+use Rattle.bags_themes.specs.Course.{after_course, SameCourse}
+use Rattle.bags_themes.specs.declared.course.Course.{Course}
 use Rattle.box_trace.specs.declared.walk.Walk.{Walk}
 use Rattle.box_trace.specs.declared.parting.Parting.{Parting}
-use Rattle.box_trace.specs.Live.{LiveOf, listed, LeavesOut}
-use Rattle.box_trace.specs.Walk.{rest_at, best_at, live_ahead, HaveCome, HaveWalked}
+use Rattle.box_trace.specs.Live.{LiveOf, candidates_in, LeavesOut}
+use Rattle.box_trace.specs.Walk.{rest_at, after_walk, best_at, live_ahead, HaveCome, HaveWalked}
 use Rattle.box_trace.specs.Parting.{IsParting}
 use Rattle.box_trace.specs.CommonStep.{StepAlike, PartsAt}
 use Rattle.box_trace.proofs.LeftOut.{left_out_fewer}
-use Rattle.box_trace.proofs.Rests.{come_over, come_fewer, come_past, come_past_all, come_to_first}
+use Rattle.box_trace.proofs.Rests.{come_over, come_fewer, come_nowhere, come_same, come_past, come_past_all, come_to_first}
 use Rattle.box_trace.proofs.Partings.{parts_here}
 
 pub walk_over : (stack : List LayerOf) (members : List ℕ → Type 0) (trace rest : List ℕ → Trace) (walk : Walk) → HaveCome members trace rest → HaveWalked stack members rest walk → HaveWalked stack members trace walk
 walk_over stack members trace rest walk come walked = record {
   ahead = walked.ahead;
-  come = come_over members trace rest (rest_at stack walk.id.0 walk.left (best_at walk) walked.ahead) come walked.come;
+  come = come_over members trace rest (rest_at (after_walk stack walk) (best_at walk) walked.ahead) come walked.come;
   left_out = walked.left_out;
 }
 
 pub walk_fewer : (stack : List LayerOf) (members fewer : List ℕ → Type 0) (trace : List ℕ → Trace) (walk : Walk) → ((d : List ℕ) → fewer d → members d) → HaveWalked stack members trace walk → HaveWalked stack fewer trace walk
 walk_fewer stack members fewer trace walk into walked = record {
   ahead = walked.ahead;
-  come = come_fewer members fewer trace (rest_at stack walk.id.0 walk.left (best_at walk) walked.ahead) into walked.come;
-  left_out = left_out_fewer members fewer into walked.ahead (listed (live_ahead walk)) walked.left_out;
+  come = come_fewer members fewer trace (rest_at (after_walk stack walk) (best_at walk) walked.ahead) into walked.come;
+  left_out = left_out_fewer members fewer into walked.ahead (candidates_in (live_ahead walk)) walked.left_out;
 }
+
+-- another walk that stands at the same place; its list leaves out the same
+pub walk_same : (stack : List LayerOf) (members : List ℕ → Type 0) (trace : List ℕ → Trace) (walk other : Walk) → SameCourse other.course walk.course → other.id ≡ walk.id → best_at other ≡ best_at walk
+    → ((ahead : List CandOf) → LeavesOut members ahead (candidates_in (live_ahead walk)) → LeavesOut members ahead (candidates_in (live_ahead other))) → HaveWalked stack members trace walk → HaveWalked stack members trace other
+walk_same stack members trace walk other course id best left_out walked =
+    let after : (b : Option CandOf) (d : List ℕ) → after_walk stack walk b d ≡ after_walk stack other b d =
+    λ b d. ap (λ (i : ResId). after_course stack walk.course i.0 b d) (sym id) ∙ sym (course.same stack other.id.0 b d) in
+    record {
+      ahead = walked.ahead;
+      come =
+          subst (λ (b : Option CandOf). HaveCome members trace (rest_at (after_walk stack other) b walked.ahead)) (sym best)
+          (come_same members trace (rest_at (after_walk stack walk) (best_at walk) walked.ahead) (rest_at (after_walk stack other) (best_at walk) walked.ahead)
+          (λ d. ap (behind (scan_candidates step_of (best_at walk) walked.ahead d)) (after (best_of (best_at walk) walked.ahead d) d)) walked.come);
+      left_out = left_out walked.ahead walked.left_out;
+    }
 
 -- one candidate of the list more
 pub walk_on : (stack : List LayerOf) (sets : List SetOf) (trace : List ℕ → Trace) (walk : Walk) (live : LiveOf) (others : List LiveOf) (after : Option CandOf) → live_ahead walk ≡ live ∷ others
     → StepAlike sets (best_at walk) live.candidate after → HaveWalked stack (IsMember sets) trace walk
-    → (next : Walk) → next.id ≡ walk.id → next.left ≡ walk.left → best_at next ≡ after → live_ahead next ≡ others → HaveWalked stack (IsMember sets) trace next
-walk_on stack sets trace walk live others after ahead alike walked next same_id same_left best_is others_are =
-    let first = come_to_first (IsMember sets) stack trace walk.id.0 walk.left (best_at walk) live.candidate (listed others) walked.ahead
-    (subst (λ (l : List LiveOf). LeavesOut (IsMember sets) walked.ahead (listed l)) ahead walked.left_out) walked.come in
+    → (next : Walk) → next.id ≡ walk.id → next.course ≡ walk.course → best_at next ≡ after → live_ahead next ≡ others → HaveWalked stack (IsMember sets) trace next
+walk_on stack sets trace walk live others after ahead alike walked next same_id same_course best_is others_are =
+    let first = come_to_first (IsMember sets) trace (after_walk stack walk) (best_at walk) live.candidate (candidates_in others) walked.ahead
+    (subst (λ (l : List LiveOf). LeavesOut (IsMember sets) walked.ahead (candidates_in l)) ahead walked.left_out) walked.come in
     record {
       ahead = first.ahead;
       come =
-          subst (λ (i : ResId). HaveCome (IsMember sets) trace (rest_at stack i.0 next.left (best_at next) first.ahead)) (sym same_id)
-          (subst (λ (n : ℕ). HaveCome (IsMember sets) trace (rest_at stack walk.id.0 n (best_at next) first.ahead)) (sym same_left)
-          (subst (λ (o : Option CandOf). HaveCome (IsMember sets) trace (rest_at stack walk.id.0 walk.left o first.ahead)) (sym (best_is ∙ alike.is_after))
-          (come_past (IsMember sets) stack trace walk.id.0 walk.left (best_at walk) live.candidate first.ahead alike.step first.come alike.does)));
-      left_out = subst (λ (l : List LiveOf). LeavesOut (IsMember sets) first.ahead (listed l)) (sym others_are) first.left_out;
+          subst (λ (i : ResId). HaveCome (IsMember sets) trace (rest_at (after_course stack next.course i.0) (best_at next) first.ahead)) (sym same_id)
+          (subst (λ (c : Course). HaveCome (IsMember sets) trace (rest_at (after_course stack c walk.id.0) (best_at next) first.ahead)) (sym same_course)
+          (subst (λ (o : Option CandOf). HaveCome (IsMember sets) trace (rest_at (after_walk stack walk) o first.ahead)) (sym (best_is ∙ alike.is_after))
+          (come_past (IsMember sets) trace (after_walk stack walk) (best_at walk) live.candidate first.ahead alike.step first.come alike.does)));
+      left_out = subst (λ (l : List LiveOf). LeavesOut (IsMember sets) first.ahead (candidates_in l)) (sym others_are) first.left_out;
     }
 
 -- members part at the next one
 pub walk_parts : (stack : List LayerOf) (sets : List SetOf) (trace : List ℕ → Trace) (walk : Walk) (live : LiveOf) (others : List LiveOf) (parting : Parting) → live_ahead walk ≡ live ∷ others
     → PartsAt sets (best_at walk) live.candidate parting → HaveWalked stack (IsMember sets) trace walk → IsParting parting sets trace
 walk_parts stack sets trace walk live others parting ahead parts walked =
-    let first = come_to_first (IsMember sets) stack trace walk.id.0 walk.left (best_at walk) live.candidate (listed others) walked.ahead
-    (subst (λ (l : List LiveOf). LeavesOut (IsMember sets) walked.ahead (listed l)) ahead walked.left_out) walked.come in
-    parts_here sets stack trace walk.id.0 walk.left (best_at walk) live.candidate first.ahead parting first.come parts
+    let first = come_to_first (IsMember sets) trace (after_walk stack walk) (best_at walk) live.candidate (candidates_in others) walked.ahead
+    (subst (λ (l : List LiveOf). LeavesOut (IsMember sets) walked.ahead (candidates_in l)) ahead walked.left_out) walked.come in
+    parts_here sets trace (after_walk stack walk) (best_at walk) live.candidate first.ahead parting first.come parts
 
 -- none is ahead
-pub walk_past_all : (stack : List LayerOf) (members : List ℕ → Type 0) (trace : List ℕ → Trace) (walk : Walk) → live_ahead walk ≡ [] → HaveWalked stack members trace walk → HaveCome members trace (rest_at stack walk.id.0 walk.left (best_at walk) [])
+pub walk_past_all : (stack : List LayerOf) (members : List ℕ → Type 0) (trace : List ℕ → Trace) (walk : Walk) → live_ahead walk ≡ [] → HaveWalked stack members trace walk → HaveCome members trace (after_walk stack walk (best_at walk))
 walk_past_all stack members trace walk none walked =
-    come_past_all members stack trace walk.id.0 walk.left (best_at walk) walked.ahead (subst (λ (l : List LiveOf). LeavesOut members walked.ahead (listed l)) none walked.left_out) walked.come
+    come_past_all members trace (after_walk stack walk) (best_at walk) walked.ahead (subst (λ (l : List LiveOf). LeavesOut members walked.ahead (candidates_in l)) none walked.left_out) walked.come
+
+-- another trace that is the same
+pub walk_of_same : (stack : List LayerOf) (members : List ℕ → Type 0) (trace other : List ℕ → Trace) (walk : Walk) → ((d : List ℕ) → other d ≡ trace d) → HaveWalked stack members trace walk → HaveWalked stack members other walk
+walk_of_same stack members trace other walk same walked = walk_over stack members other trace walk (come_nowhere members other trace same) walked

@@ -4,7 +4,7 @@ use Rattle.std.specs.Option.{option_map}
 use Rattle.reference_resolver.specs.config_record.DeviceSeen.{device_numbers}
 use Rattle.config_box.specs.box_answers.NumberSet.{SetOf}
 use Rattle.config_box.specs.box_answers.Members.{IsMember}
-use Rattle.config_box.specs.box_answers.Settled.{AllAnswer}
+use Rattle.config_box.specs.box_answers.MemberAnswers.{AllAnswer}
 use Rattle.config_box.specs.box_answers.Sameness.{Separates}
 use Rattle.reference_resolver.specs.overlay_map.Candidates.{CandOf, cand_of}
 use Rattle.reference_resolver.specs.declared.step.Step.{Step}

@@ -1,8 +1,8 @@
--- Where do traces part? Of each candidate of an id's look-ups in turn a device is asked whether it matches and, where it
+-- Where do traces part? Of each candidate of the look-ups in turn a device is asked whether it matches and, where it
 -- does, whether it takes over from the best before it. Members are the devices of which a predicate holds, such as those of
 -- a box.
 use Rattle.std.specs.Prelude.{◌≡◌, ◌⊎◌, ℕ, Bool, true, false, IsTrue, List, ◌∷◌, ◌++◌}
-use Rattle.config_box.specs.box_answers.Settled.{AllAnswer}
+use Rattle.config_box.specs.box_answers.MemberAnswers.{AllAnswer}
 use Rattle.reference_resolver.specs.declared.step.Step.{Step}
 use Rattle.reference_resolver.specs.declared.step.Step.TheVariants.{NoMatch, KeptOut, TookOver}
 

@@ -1,6 +1,7 @@
-//! The trace of an id for all members of a box at once: what each candidate of its look-ups does, and where
-//! its references end. The candidates are gone through in turn, and each question about one is asked of all
-//! members: does it match, and does it take over from the best before it? No member is tried by itself.
+//! The trace of an id, or of an attribute under styles, for all members of a box at once: what each candidate of the
+//! look-ups does, and where they end. The candidates are gone through in turn, and each question about one is asked of
+//! all members: does it match, and does it take over from the best before it? No member is tried by itself. What
+//! comes after a look-up is the same for all, and is asked of its course (`bags_themes`).
 //!
 //! For the crates above: `OpenBox::common_trace` gives the end of the one trace that all members have, or where they
 //! part: the first question that members answer differently, and two of them side by side with different traces. A part
@@ -26,6 +27,4 @@ pub use common::CommonTrace;
 pub use live::Live;
 pub use open_box::OpenBox;
 pub use parting::{Asked, Parting};
-pub use reference_resolver::{
-    Cand, Coord, Device, End, Locale, MOST_LAYERS, REFERENCES_FOLLOWED, Stack, Step, resolve,
-};
+pub use reference_resolver::{Cand, Coord, Device, End, Locale, MOST_LAYERS, Stack};

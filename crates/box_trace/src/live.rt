@@ -2,9 +2,9 @@
 
 ghost use Rattle.std.specs.Prelude.{true, false, IsTrue, MatchOption};
 ghost use Rattle.config_box.specs.box_answers.Members.{IsMember};
-ghost use Rattle.config_box.specs.box_answers.Settled.{AllAnswer};
+ghost use Rattle.config_box.specs.box_answers.MemberAnswers.{AllAnswer};
 ghost use Rattle.reference_resolver.specs.overlay_map.Candidates.{cand_of};
-ghost use Rattle.box_trace.specs.Live.{live_of, matches, IsLive};
+ghost use Rattle.box_trace.specs.Live.{live_of, does_match, IsLive};
 
 use config_box::{ConfigBox, OutOfMemory, Sameness};
 use reference_resolver::{Cand, ResId, Stack};
@@ -31,7 +31,7 @@ impl<'a> Live<'a> {
     ghost use Rattle.std.specs.Prelude.{◌≡◌, IfOk, map};
     ghost use Rattle.config_box.specs.box_answers.Members.{IsMember};
     ghost use Rattle.reference_resolver.specs.overlay_map.Candidates.{candidates_of};
-    ghost use Rattle.box_trace.specs.Live.{live_of, listed, AreMarked, AreLive};
+    ghost use Rattle.box_trace.specs.Live.{live_of, candidates_in, MarkedMatchAll, AreLive};
 
     /// Those of an id. Each candidate is asked of all members.
     pub fn new(
@@ -44,8 +44,8 @@ impl<'a> Live<'a> {
     {
         let mut list = Vec::new(alloc);
         for candidate in stack.candidates(id) {
-            if let Some(live) = judged(candidate, members) {
-                list.push(live)?;
+            if let Some(marked) = judged(&candidate, members) {
+                list.push((candidate, marked))?;
             }
         }
         Ok(Live { list })
@@ -53,8 +53,8 @@ impl<'a> Live<'a> {
 
     /// Those of them that members of another box match. What is marked has to match all of these, and is not asked again.
     pub fn half(&self, alloc: Global, members: &ConfigBox) -> Result<Live<'a>, OutOfMemory>
-        requires { AreMarked (IsMember members.now) self.now }
-        ensures { IfOk result (AreLive (IsMember members.now) (listed self.now)) }
+        requires { MarkedMatchAll (IsMember members.now) self.now }
+        ensures { IfOk result (AreLive (IsMember members.now) (candidates_in self.now)) }
     {
         Live::of(alloc, self.list(), members)
     }
@@ -65,13 +65,13 @@ impl<'a> Live<'a> {
         whole: &[(Cand<'a>, bool)],
         members: &ConfigBox,
     ) -> Result<Live<'a>, OutOfMemory>
-        requires { AreMarked (IsMember members.now) (map live_of whole.now) }
-        ensures { IfOk result (AreLive (IsMember members.now) (listed (map live_of whole.now))) }
+        requires { MarkedMatchAll (IsMember members.now) (map live_of whole.now) }
+        ensures { IfOk result (AreLive (IsMember members.now) (candidates_in (map live_of whole.now))) }
     {
         let mut list = Vec::new(alloc);
         for live in whole {
-            if let Some(live) = judged_again(*live, members) {
-                list.push(live)?;
+            if let Some(marked) = judged_again(live, members) {
+                list.push((live.0, marked))?;
             }
         }
         Ok(Live { list })
@@ -85,26 +85,26 @@ impl<'a> Live<'a> {
     }
 }
 
-/// A candidate that some member matches, marked where all do.
-fn judged<'a>(candidate: Cand<'a>, members: &ConfigBox) -> Option<(Cand<'a>, bool)>
-    ensures { MatchOption result (AllAnswer (IsMember members.now) (matches (cand_of candidate.entry)) false) (λ live. IsLive (IsMember members.now) (cand_of candidate.entry) (live_of live)) }
+/// The mark of a candidate that some member matches: whether all do.
+fn judged(candidate: &Cand<'_>, members: &ConfigBox) -> Option<bool>
+    ensures { MatchOption result (AllAnswer (IsMember members.now) (does_match (cand_of candidate.now)) false) (λ marked. IsLive (IsMember members.now) (live_of (candidate.now, marked))) }
 {
     match members.match_all(&candidate.row.config) {
-        Sameness::Always => Some((candidate, true)),
+        Sameness::Always => Some(true),
         Sameness::Never => None,
-        Sameness::Mixed(_, _, _) => Some((candidate, false)),
+        Sameness::Mixed(_, _, _) => Some(false),
     }
 }
 
 /// The same of one that may be marked.
-fn judged_again<'a>(live: (Cand<'a>, bool), members: &ConfigBox) -> Option<(Cand<'a>, bool)>
-    requires { IsTrue live.1 → AllAnswer (IsMember members.now) (matches (cand_of live.0)) true }
-    ensures { MatchOption result (AllAnswer (IsMember members.now) (matches (cand_of live.entry.0)) false) (λ again. IsLive (IsMember members.now) (cand_of live.entry.0) (live_of again)) }
+fn judged_again(live: &(Cand<'_>, bool), members: &ConfigBox) -> Option<bool>
+    requires { IsTrue live.now.1 → AllAnswer (IsMember members.now) (does_match (cand_of live.now.0)) true }
+    ensures { MatchOption result (AllAnswer (IsMember members.now) (does_match (cand_of live.now.0)) false) (λ marked. IsLive (IsMember members.now) (live_of (live.now.0, marked))) }
 {
     if live.1 {
-        members.has_member();
-        Some(live)
+        members.is_never_empty();
+        Some(true)
     } else {
-        judged(live.0, members)
+        judged(&live.0, members)
     }
 }

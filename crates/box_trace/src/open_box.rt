@@ -4,8 +4,9 @@ ghost use Rattle.std.specs.Prelude.{ℕ, List};
 
 use crate::common::CommonTrace;
 use crate::walk::Walk;
+use bags_themes::{Course, CourseStep};
 use config_box::{ConfigBox, Coord, OutOfMemory, Values};
-use reference_resolver::{REFERENCES_FOLLOWED, ResId, Stack};
+use reference_resolver::{ResId, Stack};
 use std::alloc::Global;
 
 /// The box of an open path in a tree, and how far all its members go by the same steps.
@@ -15,11 +16,11 @@ pub struct OpenBox<'a> {
     pub(crate) walk: Walk<'a>,
     /// Whether the candidates of its walk are judged anew before it goes on. No promise depends on it.
     is_stale: bool,
-    ghost marked: { AreMarked (IsMember members) walk.live.value },
+    ghost marked: { MarkedMatchAll (IsMember members) walk.live.value },
 }
 
 ghost use Rattle.config_box.specs.box_answers.Members.{IsMember};
-ghost use Rattle.box_trace.specs.Live.{AreMarked};
+ghost use Rattle.box_trace.specs.Live.{MarkedMatchAll};
 
 impl<'a> OpenBox<'a> {
     ghost use Rattle.std.specs.Prelude.{◌≡◌, ℕ, List, IfOk};
@@ -27,8 +28,10 @@ impl<'a> OpenBox<'a> {
     ghost use Rattle.reference_resolver.specs.overlay_map.Layer.{LayerOf};
     ghost use Rattle.reference_resolver.specs.Ends.{references_followed};
     ghost use Rattle.reference_resolver.specs.Trace.{Trace, trace_of};
+    ghost use Rattle.bags_themes.specs.AttributeTrace.{attribute_trace};
+    ghost use Rattle.bags_themes.specs.Course.{trace_from};
     ghost use Rattle.box_trace.specs.OpenBox.{IsReached};
-    ghost use Rattle.box_trace.specs.CommonTrace.{IsCommonTrace, IsParted};
+    ghost use Rattle.box_trace.specs.CommonTrace.{IsCommonTrace};
 
     /// A whole box, where nothing of an id is asked yet, and at most twenty references are followed.
     pub fn whole(
@@ -40,7 +43,35 @@ impl<'a> OpenBox<'a> {
         ensures members { IfOk result (λ part. part.members ≡ members) }
         ensures reached { IfOk result (IsReached stack.now (trace_of stack.now references_followed id.0)) }
     {
-        let walk = Walk::of(alloc, stack, id, REFERENCES_FOLLOWED, &members)?;
+        OpenBox::from_step(alloc, stack, Course::of_id(id), members)
+    }
+
+    /// The same of an attribute under styles.
+    pub fn whole_of_attribute(
+        alloc: Global,
+        stack: &Stack<'a>,
+        attr: ResId,
+        styles: &'a [ResId],
+        members: ConfigBox,
+    ) -> Result<OpenBox<'a>, OutOfMemory>
+        ensures members { IfOk result (λ part. part.members ≡ members) }
+        ensures reached { IfOk result (IsReached stack.now (attribute_trace stack.now attr.0 styles.now)) }
+    {
+        let first = Course::of_attribute(alloc, attr, styles)?;
+        OpenBox::from_step(alloc, stack, first, members)
+    }
+
+    // The same, where this is what comes first.
+    fn from_step(
+        alloc: Global,
+        stack: &Stack<'a>,
+        first: CourseStep<'a>,
+        members: ConfigBox,
+    ) -> Result<OpenBox<'a>, OutOfMemory>
+        ensures members { IfOk result (λ part. part.members ≡ members) }
+        ensures reached { IfOk result (IsReached stack.now (trace_from stack.now first.entry)) }
+    {
+        let walk = Walk::from_step(alloc, stack, first, &members)?;
         Ok(OpenBox {
             members,
             walk,
@@ -71,7 +102,6 @@ impl<'a> OpenBox<'a> {
         ensures members { self.new.members ≡ self.old.members }
         ensures reached { (trace : List ℕ → Trace) → IsReached stack.now trace self.old → IsReached stack.now trace self.new }
         ensures common { IfOk result (λ common. (trace : List ℕ → Trace) → IsReached stack.now trace self.old → IsCommonTrace common self.old.members trace) }
-        ensures parted { IfOk result (λ common. (trace : List ℕ → Trace) → IsReached stack.now trace self.old → IsParted common self.old.members trace) }
     {
         if self.is_stale {
             self.walk = self.walk.judged(alloc, &self.members)?;

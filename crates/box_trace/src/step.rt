@@ -3,11 +3,11 @@
 ghost use Rattle.std.specs.Prelude.{true, IsTrue};
 ghost use Rattle.std.specs.Option.{option_map};
 ghost use Rattle.config_box.specs.box_answers.Members.{IsMember};
-ghost use Rattle.config_box.specs.box_answers.Settled.{AllAnswer};
+ghost use Rattle.config_box.specs.box_answers.MemberAnswers.{AllAnswer};
 ghost use Rattle.config_box.specs.box_answers.Sameness.{IsExact};
 ghost use Rattle.reference_resolver.specs.overlay_map.Candidates.{cand_of};
 ghost use Rattle.reference_resolver.specs.Selection.{beats, beats_best};
-ghost use Rattle.box_trace.specs.Live.{matches};
+ghost use Rattle.box_trace.specs.Live.{does_match};
 ghost use Rattle.box_trace.specs.CommonStep.{IsCommonStep};
 
 use crate::common::CommonStep;
@@ -16,49 +16,41 @@ use config_box::{ConfigBox, MemberPair, Sameness};
 use reference_resolver::{Cand, same};
 
 /// The best after the next candidate, for all members. Whether the candidate matches is asked first; of
-/// a marked one it is known.
+/// a marked one it is known. Whether it takes over is asked where it matches all.
 pub(crate) fn best_after<'a>(
     best: &Option<Cand<'a>>,
     live: (Cand<'a>, bool),
     members: &ConfigBox,
 ) -> CommonStep<'a>
-    requires { IsTrue live.1 → AllAnswer (IsMember members.now) (matches (cand_of live.0)) true }
+    requires { IsTrue live.1 → AllAnswer (IsMember members.now) (does_match (cand_of live.0)) true }
     ensures { IsCommonStep result members.now (option_map cand_of best.now) (cand_of live.entry.0) }
 {
-    let (candidate, is_marked) = live;
-    if is_marked {
-        return best_after_match(best, candidate, members);
-    }
-    match members.match_all(&candidate.row.config) {
-        Sameness::Always => best_after_match(best, candidate, members),
-        Sameness::Never => CommonStep::One(*best),
-        Sameness::Mixed(yes, no, coord) => CommonStep::Mixed(Parting {
-            pair: MemberPair { yes, no, coord },
-            best: *best,
-            candidate,
-            asked: Asked::Matches,
-        }),
-    }
-}
-
-/// The same, where the candidate matches all members.
-fn best_after_match<'a>(
-    best: &Option<Cand<'a>>,
-    candidate: Cand<'a>,
-    members: &ConfigBox,
-) -> CommonStep<'a>
-    requires { AllAnswer (IsMember members.now) (matches (cand_of candidate)) true }
-    ensures { IsCommonStep result members.now (option_map cand_of best.now) (cand_of candidate.entry) }
-{
-    match is_best_beaten(best, &candidate, members) {
+    let candidate = live.0;
+    let (asked, answer) = match matching(&live, members) {
+        Sameness::Always => (Asked::TakesOver, is_best_beaten(best, &candidate, members)),
+        answer => (Asked::Matches, answer),
+    };
+    match answer {
         Sameness::Always => CommonStep::One(Some(candidate)),
         Sameness::Never => CommonStep::One(*best),
         Sameness::Mixed(yes, no, coord) => CommonStep::Mixed(Parting {
             pair: MemberPair { yes, no, coord },
-            best: *best,
             candidate,
-            asked: Asked::TakesOver,
+            best: *best,
+            asked,
         }),
+    }
+}
+
+/// Whether it matches.
+fn matching(live: &(Cand<'_>, bool), members: &ConfigBox) -> Sameness
+    requires { IsTrue live.now.1 → AllAnswer (IsMember members.now) (does_match (cand_of live.now.0)) true }
+    ensures { IsExact result members.now (does_match (cand_of live.now.0)) }
+{
+    if live.1 {
+        Sameness::Always
+    } else {
+        members.match_all(&live.0.row.config)
     }
 }
 

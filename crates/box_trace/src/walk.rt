@@ -1,4 +1,4 @@
-//! A walk along the candidates of an id, and of the ids to which its references lead, for all members of a box.
+//! A walk along the candidates of one look-up after the other, for all members of a box.
 
 ghost use Rattle.std.specs.Prelude.{◌≤◌, length};
 
@@ -6,8 +6,9 @@ use crate::common::{CommonStep, CommonTrace};
 use crate::live::Live;
 use crate::parting::Parting;
 use crate::step::best_after;
+use bags_themes::{Course, CourseStep};
 use config_box::{ConfigBox, OutOfMemory};
-use reference_resolver::{Cand, Next, ResId, Stack};
+use reference_resolver::{Cand, ResId, Stack};
 use std::alloc::Global;
 use std::rc::Rc;
 
@@ -16,8 +17,8 @@ use std::rc::Rc;
 pub(crate) struct Walk<'a> {
     /// The id that is looked up.
     id: ResId,
-    /// How many references may still be followed.
-    left: u8,
+    /// What for.
+    course: Course<'a>,
     /// The candidates of the id. Those that are left out match no member.
     live: Rc<Live<'a>>,
     /// How many of these lie behind.
@@ -32,27 +33,55 @@ impl<'a> Walk<'a> {
     ghost use Rattle.config_box.specs.box_answers.NumberSet.{SetOf};
     ghost use Rattle.config_box.specs.box_answers.Members.{IsMember};
     ghost use Rattle.reference_resolver.specs.overlay_map.Layer.{LayerOf};
-    ghost use Rattle.reference_resolver.specs.Trace.{Trace, trace_of};
-    ghost use Rattle.box_trace.specs.Live.{AreMarked};
+    ghost use Rattle.reference_resolver.specs.Trace.{Trace};
+    ghost use Rattle.bags_themes.specs.Course.{trace_from};
+    ghost use Rattle.bags_themes.specs.declared.course.CourseStep.TheVariants.{LookUp};
+    ghost use Rattle.box_trace.specs.Live.{MarkedMatchAll};
     ghost use Rattle.box_trace.specs.Walk.{live_ahead, HaveWalked};
-    ghost use Rattle.box_trace.specs.CommonTrace.{IsCommonTrace, IsParted};
+    ghost use Rattle.box_trace.specs.Parting.{IsParting};
+    ghost use Rattle.box_trace.specs.CommonTrace.{IsCommonTrace};
 
-    /// Before the first candidate of an id, where at most so many references may be followed.
-    pub(crate) fn of(
+    /// Before what comes first.
+    pub(crate) fn from_step(
+        alloc: Global,
+        stack: &Stack<'a>,
+        step: CourseStep<'a>,
+        members: &ConfigBox,
+    ) -> Result<Walk<'a>, OutOfMemory>
+        ensures walked { IfOk result (HaveWalked stack.now (IsMember members.now) (trace_from stack.now step.entry)) }
+        ensures marked { IfOk result (λ walk. MarkedMatchAll (IsMember members.now) walk.live.value) }
+    {
+        match step {
+            CourseStep::LookUp(id, course) => Walk::at_look_up(alloc, stack, id, course, members),
+            CourseStep::EndsAt(end) => {
+                let none = Live::of(alloc, &[], members)?;
+                Ok(Walk {
+                    id: ResId(0),
+                    course: Course::Ended(end),
+                    live: Rc::new(alloc, none)?,
+                    passed: 0,
+                    best: None,
+                })
+            }
+        }
+    }
+
+    /// Before the first candidate of an id.
+    fn at_look_up(
         alloc: Global,
         stack: &Stack<'a>,
         id: ResId,
-        left: u8,
+        course: Course<'a>,
         members: &ConfigBox,
     ) -> Result<Walk<'a>, OutOfMemory>
-        ensures walked { IfOk result (HaveWalked stack.now (IsMember members.now) (trace_of stack.now left id.0)) }
-        ensures marked { IfOk result (λ walk. AreMarked (IsMember members.now) walk.live.value) }
-        ensures left { IfOk result (λ walk. walk.left ≡ left) }
+        ensures walked { IfOk result (HaveWalked stack.now (IsMember members.now) (trace_from stack.now (LookUp id course.entry))) }
+        ensures marked { IfOk result (λ walk. MarkedMatchAll (IsMember members.now) walk.live.value) }
+        ensures course { IfOk result (λ walk. walk.course ≡ course.entry) }
     {
         let live = Live::new(alloc, stack, id, members)?;
         Ok(Walk {
             id,
-            left,
+            course,
             live: Rc::new(alloc, live)?,
             passed: 0,
             best: None,
@@ -66,7 +95,7 @@ impl<'a> Walk<'a> {
     {
         Ok(Walk {
             id: self.id,
-            left: self.left,
+            course: self.course.shared()?,
             live: self.live.clone()?,
             passed: self.passed,
             best: self.best,
@@ -75,14 +104,14 @@ impl<'a> Walk<'a> {
 
     /// The same walk with a list of the candidates ahead that members of a smaller box match.
     pub(crate) fn judged(&self, alloc: Global, members: &ConfigBox) -> Result<Walk<'a>, OutOfMemory>
-        requires { AreMarked (IsMember members.now) self.now.live.value }
+        requires { MarkedMatchAll (IsMember members.now) self.now.live.value }
         ensures walked { IfOk result (λ walk. (stack : List LayerOf) (trace : List ℕ → Trace) → HaveWalked stack (IsMember members.now) trace self.now → HaveWalked stack (IsMember members.now) trace walk) }
-        ensures marked { IfOk result (λ walk. AreMarked (IsMember members.now) walk.live.value) }
+        ensures marked { IfOk result (λ walk. MarkedMatchAll (IsMember members.now) walk.live.value) }
     {
         let live = Live::of(alloc, &self.live.as_ref().list()[self.passed..], members)?;
         Ok(Walk {
             id: self.id,
-            left: self.left,
+            course: self.course.shared()?,
             live: Rc::new(alloc, live)?,
             passed: 0,
             best: self.best,
@@ -97,20 +126,19 @@ impl<'a> Walk<'a> {
         stack: &Stack<'a>,
         members: &ConfigBox,
     ) -> Result<CommonTrace<'a>, OutOfMemory>
-        requires { AreMarked (IsMember members.now) self.old.live.value }
-        ensures marked { AreMarked (IsMember members.now) self.new.live.value }
+        requires { MarkedMatchAll (IsMember members.now) self.old.live.value }
+        ensures marked { MarkedMatchAll (IsMember members.now) self.new.live.value }
         ensures walked { (trace : List ℕ → Trace) → HaveWalked stack.now (IsMember members.now) trace self.old → HaveWalked stack.now (IsMember members.now) trace self.new }
         ensures common { IfOk result (λ common. (trace : List ℕ → Trace) → HaveWalked stack.now (IsMember members.now) trace self.old → IsCommonTrace common members.now trace) }
-        ensures parted { IfOk result (λ common. (trace : List ℕ → Trace) → HaveWalked stack.now (IsMember members.now) trace self.old → IsParted common members.now trace) }
     {
-        'chain: loop {
+        'look_ups: loop {
             if let Some(parting) = self.pass_candidates(members) {
                 return Ok(CommonTrace::Mixed(parting));
             }
-            match Next::of(self.id, &self.best).cut_off(self.left) {
-                Next::EndsAt(end) => return Ok(CommonTrace::One(end)),
-                Next::LookUp(target) => {
-                    *self = Walk::of(alloc, stack, target, self.left - 1, members)?;
+            match self.course.after(alloc, self.id, &self.best)? {
+                CourseStep::EndsAt(end) => return Ok(CommonTrace::One(end)),
+                CourseStep::LookUp(target, course) => {
+                    *self = Walk::at_look_up(alloc, stack, target, course, members)?;
                 }
             }
         }
@@ -118,12 +146,12 @@ impl<'a> Walk<'a> {
 
     /// Passes the candidates of the id that do the same at all members, up to where these part.
     fn pass_candidates(&mut self, members: &ConfigBox) -> Option<Parting<'a>>
-        requires { AreMarked (IsMember members.now) self.old.live.value }
-        ensures marked { AreMarked (IsMember members.now) self.new.live.value }
-        ensures left { self.new.left ≡ self.old.left }
+        requires { MarkedMatchAll (IsMember members.now) self.old.live.value }
+        ensures marked { MarkedMatchAll (IsMember members.now) self.new.live.value }
+        ensures course { self.new.course ≡ self.old.course }
         ensures walked { (stack : List LayerOf) (trace : List ℕ → Trace) → HaveWalked stack (IsMember members.now) trace self.old → HaveWalked stack (IsMember members.now) trace self.new }
         ensures none_ahead { IfNone result (live_ahead self.new ≡ []) }
-        ensures parts { IfSome result (λ parting. (stack : List LayerOf) (trace : List ℕ → Trace) → HaveWalked stack (IsMember members.now) trace self.old → IsParted (CommonTrace.Mixed parting) members.now trace) }
+        ensures parts { IfSome result (λ parting. (stack : List LayerOf) (trace : List ℕ → Trace) → HaveWalked stack (IsMember members.now) trace self.old → IsParting parting members.now trace) }
     {
         'candidates: while self.passed < self.live.as_ref().list().len() {
             let live = self.live.as_ref().list()[self.passed];

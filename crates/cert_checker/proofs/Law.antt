@@ -9,7 +9,7 @@ use Rattle.box_trace.specs.reference_resolver.Trace.{Trace}
 use Rattle.box_trace.proofs.reference_resolver.SameTraces.{end-cases, trace-cases}
 use Rattle.cert_tree.specs.box_answers.NumberSet.{SetOf}
 use Rattle.cert_tree.specs.box_answers.Members.{IsMember}
-use Rattle.box_trace.specs.CommonTrace.{SharesTrace}
+use Rattle.cert_tree.specs.box_answers.MemberAnswers.{AllAnswer}
 use Rattle.cert_tree.specs.config_box.Tests.{TestOf, answers}
 use Rattle.cert_tree.specs.Certificate.{NodeOf, TestAt, ValueAt, BagAt}
 use Rattle.cert_checker.specs.declared.rule.Rule.{Rule}
@@ -77,7 +77,7 @@ at_leaf trace members claimed d m ok =
       | inr n ↦ absurd (elim (cases_Bool (is_value (trace d).end)) [ inl e ↦ ok OtherValue (trace d, shared, e, n) | inr e ↦ ok NoValue (trace d, shared, e) ])
     ]
   where
-    shared : SharesTrace members trace (trace d)
+    shared : AllAnswer members trace (trace d)
     shared x other = elim (trace-cases (trace x) (trace d)) [ inl same ↦ same.1 | inr n ↦ absurd (ok MixedTrace (x, d, other, m, n.1)) ]
 
 at_node : (trace : List ℕ → Trace) (sets : List SetOf) (node : NodeOf) (paths : List Path) (claimed : End) (d : List ℕ) → IsMember sets d → FollowsFirst d paths → leaf_end node ≡ Some claimed

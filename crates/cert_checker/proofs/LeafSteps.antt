@@ -1,5 +1,5 @@
 -- The rules of a leaf, for the box of its path.
-use Rattle.std.proofs.Common.{◌≡◌, ◌≢◌, ℕ, ◌<◌, arith, true, false, List, Some, None, sym, ◌∙◌, ap, refl, subst}
+use Rattle.std.proofs.Common.{◌≡◌, ◌≢◌, ℕ, ◌<◌, arith, Bool, true, false, List, Some, None, sym, ◌∙◌, ap, refl, subst}
 use Rattle.box_trace.specs.config_record.declared.coord.Coord.{Coord}
 use Rattle.box_trace.specs.config_record.declared.device.Device.{Device}
 use Rattle.box_trace.specs.config_record.ComparedNumber.{device_number}
@@ -10,9 +10,12 @@ use Rattle.box_trace.specs.reference_resolver.Trace.{Trace}
 use Rattle.cert_tree.specs.box_answers.NumberSet.{SetOf}
 use Rattle.cert_tree.specs.box_answers.Members.{set_at, IsMember, IsCorner}
 use Rattle.cert_tree.proofs.box_answers.SomeMember.{some_member}
-use Rattle.box_trace.specs.CommonTrace.{SharesTrace, AreSideBySide}
+use Rattle.cert_tree.specs.box_answers.MemberAnswers.{AllAnswer}
+use Rattle.cert_tree.specs.box_answers.Sameness.{Separates}
 use Rattle.box_trace.specs.Division.{Divides}
+use Rattle.box_trace.specs.Parting.{TraceTells}
 use Rattle.box_trace.proofs.Divisions.{divides_over}
+use Rattle.box_trace.proofs.Partings.{traces_differ}
 use Rattle.cert_checker.specs.declared.rule.Rule.{Rule}
 use Rattle.cert_checker.specs.declared.rule.Rule.TheVariants.{GoalList, EndsEarly, LeftOver, TestKind, EmptyHalf, MixedTrace, NoValue, OtherValue}
 use Rattle.cert_checker.specs.declared.verdict.Shown.TheVariants.{Two, One}
@@ -41,11 +44,10 @@ leaf_rules trace members claimed Q mixed none other OtherValue q h = other q h
 
 -- ---- several traces
 
-pub two_traces : (trace : List ℕ → Trace) (claimed : End) (part : List SetOf) (x y : Device) (c : Coord) → AreSideBySide part (device_numbers x) (device_numbers y) c
-    → Divides (IsMember part) (λ d. (trace d).steps) (device_numbers x) (device_numbers y) → trace (device_numbers x) ≢ trace (device_numbers y)
-    → TakesLeaf trace claimed part (Some (record { rule = MixedTrace; shown = Two x y }))
-two_traces trace claimed part x y c beside divided differ sets path b = (
-  (device_numbers x, device_numbers y, first, second, differ),
+pub two_traces : (trace : List ℕ → Trace) (claimed : End) (part : List SetOf) (answer : List ℕ → Bool) (x y : Device) (c : Coord) → Separates part answer (device_numbers x) (device_numbers y) c
+    → Divides (IsMember part) (λ d. (trace d).steps) (device_numbers x) (device_numbers y) → TraceTells (IsMember part) trace answer → TakesLeaf trace claimed part (Some (record { rule = MixedTrace; shown = Two x y }))
+two_traces trace claimed part answer x y c separates divided tells sets path b = (
+  (device_numbers x, device_numbers y, first, second, traces_differ trace answer part (device_numbers x) (device_numbers y) c separates tells),
   leaf_rules trace (IsAt sets path) claimed (λ (rule : Rule). number_of rule < 6) (λ p h. omega arith) (λ p h. omega arith) (λ p h. omega arith),
   record {
     first = first;
@@ -54,44 +56,44 @@ two_traces trace claimed part x y c beside divided differ sets path b = (
     side_by_side = record {
       x_member = first.0;
       y_member = second.0;
-      others = beside.others;
-      near = alike-near (set_at sets c) (set_at part c) (device_number (device_numbers x) c) (device_number (device_numbers y) c) (b.marks c) beside.near;
+      others = separates.parts.others;
+      near = alike-near (set_at sets c) (set_at part c) (device_number (device_numbers x) c) (device_number (device_numbers y) c) (b.marks c) separates.near;
     };
     divided = divides_over (IsMember part) (IsAt sets path) (λ d. (trace d).steps) (device_numbers x) (device_numbers y) (λ d. (b.members d).1) divided;
   },
 )
   where
     first : IsAt sets path (device_numbers x)
-    first = (b.members (device_numbers x)).0 beside.x_member
+    first = (b.members (device_numbers x)).0 separates.parts.yes.member
 
     second : IsAt sets path (device_numbers y)
-    second = (b.members (device_numbers y)).0 beside.y_member
+    second = (b.members (device_numbers y)).0 separates.parts.no.member
 
 -- ---- one trace
 
 -- all at the end of the path have the trace that all members of the box have
-at_path : (trace : List ℕ → Trace) (t : Trace) (sets : List SetOf) (path : Path) (part : List SetOf) → IsBoxAt sets path part → SharesTrace (IsMember part) trace t → SharesTrace (IsAt sets path) trace t
+at_path : (trace : List ℕ → Trace) (t : Trace) (sets : List SetOf) (path : Path) (part : List SetOf) → IsBoxAt sets path part → AllAnswer (IsMember part) trace t → AllAnswer (IsAt sets path) trace t
 at_path trace t sets path part b shared d a = shared d ((b.members d).1 a)
 
 -- it is the only one that they have
-only : (trace : List ℕ → Trace) (t other : Trace) (sets : List SetOf) (path : Path) (part : List SetOf) → IsBoxAt sets path part → SharesTrace (IsMember part) trace t → SharesTrace (IsAt sets path) trace other → other ≡ t
+only : (trace : List ℕ → Trace) (t other : Trace) (sets : List SetOf) (path : Path) (part : List SetOf) → IsBoxAt sets path part → AllAnswer (IsMember part) trace t → AllAnswer (IsAt sets path) trace other → other ≡ t
 only trace t other sets path part b shared others =
     let m = some_member part b.is_box in
     sym (others m.0 ((b.members m.0).0 m.1)) ∙ shared m.0 m.1
 
-not_mixed : (trace : List ℕ → Trace) (t : Trace) (claimed : End) (sets : List SetOf) (path : Path) (part : List SetOf) → IsBoxAt sets path part → SharesTrace (IsMember part) trace t
+not_mixed : (trace : List ℕ → Trace) (t : Trace) (claimed : End) (sets : List SetOf) (path : Path) (part : List SetOf) → IsBoxAt sets path part → AllAnswer (IsMember part) trace t
     → FailsAtLeaf trace (IsAt sets path) claimed MixedTrace → ⊥
 not_mixed trace t claimed sets path part b shared h =
     let all = at_path trace t sets path part b shared in h.4 (all h.0 h.2 ∙ sym (all h.1 h.3))
 
 -- it ends at a value or a bag
-not_without : (trace : List ℕ → Trace) (t : Trace) (claimed end : End) (sets : List SetOf) (path : Path) (part : List SetOf) → IsBoxAt sets path part → is_value end ≡ true → t.end ≡ end → SharesTrace (IsMember part) trace t
+not_without : (trace : List ℕ → Trace) (t : Trace) (claimed end : End) (sets : List SetOf) (path : Path) (part : List SetOf) → IsBoxAt sets path part → is_value end ≡ true → t.end ≡ end → AllAnswer (IsMember part) trace t
     → FailsAtLeaf trace (IsAt sets path) claimed NoValue → ⊥
 not_without trace t claimed end sets path part b value e shared h =
     let same : h.0.end ≡ end = ap (λ (x : Trace). x.end) (only trace t h.0 sets path part b shared h.1) ∙ e in
     let no : false ≡ true = sym h.2 ∙ ap is_value same ∙ value in cc
 
-pub as_claimed : (trace : List ℕ → Trace) (t : Trace) (claimed : End) (part : List SetOf) → is_value claimed ≡ true → SharesTrace (IsMember part) trace t → t.end ≡ claimed → TakesLeaf trace claimed part None
+pub as_claimed : (trace : List ℕ → Trace) (t : Trace) (claimed : End) (part : List SetOf) → is_value claimed ≡ true → AllAnswer (IsMember part) trace t → t.end ≡ claimed → TakesLeaf trace claimed part None
 as_claimed trace t claimed part value shared e sets path b rule =
     leaf_rules trace (IsAt sets path) claimed (λ (r : Rule). Unit {0})
     (λ q h. not_mixed trace t claimed sets path part b shared h)
@@ -99,7 +101,7 @@ as_claimed trace t claimed part value shared e sets path b rule =
     (λ q h. h.3 (ap (λ (x : Trace). x.end) (only trace t h.0 sets path part b shared h.1) ∙ e))
     rule tt
 
-shows_end : (trace : List ℕ → Trace) (t : Trace) (sets : List SetOf) (path : Path) (part : List SetOf) (corner : List ℕ) → IsBoxAt sets path part → SharesTrace (IsMember part) trace t → IsCorner part corner
+shows_end : (trace : List ℕ → Trace) (t : Trace) (sets : List SetOf) (path : Path) (part : List SetOf) (corner : List ℕ) → IsBoxAt sets path part → AllAnswer (IsMember part) trace t → IsCorner part corner
     → ShowsEnd trace (IsAt sets path) corner t.end
 shows_end trace t sets path part corner b shared is = record {
   member = (b.members corner).0 member;
@@ -111,7 +113,7 @@ shows_end trace t sets path part corner b shared is = record {
     member c = (is c).is_in
 
 -- a value or a bag
-other_value : (trace : List ℕ → Trace) (t : Trace) (claimed end : End) (part : List SetOf) (corner : Device) → is_value end ≡ true → t.end ≡ end → end ≢ claimed → SharesTrace (IsMember part) trace t
+other_value : (trace : List ℕ → Trace) (t : Trace) (claimed end : End) (part : List SetOf) (corner : Device) → is_value end ≡ true → t.end ≡ end → end ≢ claimed → AllAnswer (IsMember part) trace t
     → IsCorner part (device_numbers corner) → TakesLeaf trace claimed part (Some (record { rule = OtherValue; shown = One corner end }))
 other_value trace t claimed end part corner value e ne shared is sets path b = (
   (t, at_path trace t sets path part b shared, ap is_value e ∙ value, λ f. ne (sym e ∙ f)),
@@ -123,7 +125,7 @@ other_value trace t claimed end part corner value e ne shared is sets path b = (
 )
 
 -- neither
-no_value : (trace : List ℕ → Trace) (t : Trace) (claimed end : End) (part : List SetOf) (corner : Device) → is_value end ≡ false → t.end ≡ end → SharesTrace (IsMember part) trace t
+no_value : (trace : List ℕ → Trace) (t : Trace) (claimed end : End) (part : List SetOf) (corner : Device) → is_value end ≡ false → t.end ≡ end → AllAnswer (IsMember part) trace t
     → IsCorner part (device_numbers corner) → TakesLeaf trace claimed part (Some (record { rule = NoValue; shown = One corner end }))
 no_value trace t claimed end part corner value e shared is sets path b = (
   (t, at_path trace t sets path part b shared, ap is_value e ∙ value),
@@ -134,7 +136,7 @@ no_value trace t claimed end part corner value e shared is sets path b = (
   subst (λ (x : End). ShowsEnd trace (IsAt sets path) (device_numbers corner) x) e (shows_end trace t sets path part (device_numbers corner) b shared is),
 )
 
-pub not_as_claimed : (trace : List ℕ → Trace) (t : Trace) (claimed end : End) (part : List SetOf) (corner : Device) → t.end ≡ end → end ≢ claimed → SharesTrace (IsMember part) trace t → IsCorner part (device_numbers corner)
+pub not_as_claimed : (trace : List ℕ → Trace) (t : Trace) (claimed end : End) (part : List SetOf) (corner : Device) → t.end ≡ end → end ≢ claimed → AllAnswer (IsMember part) trace t → IsCorner part (device_numbers corner)
     → TakesLeaf trace claimed part (Some (record { rule = rule_of_end end; shown = One corner end }))
 not_as_claimed trace t claimed (ends.Value layer value) part corner e ne shared is = other_value trace t claimed (ends.Value layer value) part corner refl e ne shared is
 not_as_claimed trace t claimed (ends.Bag id) part corner e ne shared is = other_value trace t claimed (ends.Bag id) part corner refl e ne shared is

@@ -1,4 +1,5 @@
 pub mod Law
+pub mod Places
 pub mod MarkSteps
 pub mod BoxSteps
 pub mod LeafSteps

@@ -7,7 +7,7 @@ use Rattle.cert_tree.specs.res_value.declared.res_id.ResId.{ResId}
 use Rattle.cert_tree.specs.res_value.declared.value.Value.{Value}
 use Rattle.cert_tree.specs.box_answers.NumberSet.{SetOf}
 use Rattle.cert_tree.specs.box_answers.Members.{IsMember}
-use Rattle.cert_tree.specs.box_answers.Settled.{AllAnswer}
+use Rattle.cert_tree.specs.box_answers.MemberAnswers.{AllAnswer}
 use Rattle.cert_tree.proofs.box_answers.SomeMember.{some_member}
 use Rattle.cert_tree.specs.config_box.Tests.{TestOf, answers, has_wrong_kind}
 use Rattle.cert_tree.specs.config_box.Halves.{IsHalf}

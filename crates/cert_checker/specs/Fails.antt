@@ -6,8 +6,7 @@ use Rattle.box_trace.specs.reference_resolver.declared.end.End.TheVariants as en
 use Rattle.box_trace.specs.reference_resolver.Ends.{is_value}
 use Rattle.box_trace.specs.reference_resolver.Trace.{Trace}
 use Rattle.cert_tree.specs.box_answers.NumberSet.{SetOf}
-use Rattle.box_trace.specs.CommonTrace.{SharesTrace}
-use Rattle.cert_tree.specs.box_answers.Settled.{AllAnswer}
+use Rattle.cert_tree.specs.box_answers.MemberAnswers.{AllAnswer}
 use Rattle.cert_tree.specs.config_box.Tests.{TestOf, answers, has_wrong_kind}
 use Rattle.cert_tree.specs.Certificate.{NodeOf, TestAt, ValueAt, BagAt}
 use Rattle.cert_checker.specs.declared.rule.Rule.{Rule}
@@ -31,8 +30,8 @@ HaveTwoTraces members trace = (x : List ℕ) × (y : List ℕ) × members x × m
 -- all members have one trace, which ends at no value, or at another than the leaf says
 abbrev pub FailsAtLeaf : (List ℕ → Trace) → (List ℕ → Type 0) → End → Rule → Type 0
 FailsAtLeaf trace members leaf MixedTrace = HaveTwoTraces members trace
-FailsAtLeaf trace members leaf NoValue = (t : Trace) × SharesTrace members trace t × (is_value t.end ≡ false)
-FailsAtLeaf trace members leaf OtherValue = (t : Trace) × SharesTrace members trace t × (is_value t.end ≡ true) × (t.end ≢ leaf)
+FailsAtLeaf trace members leaf NoValue = (t : Trace) × AllAnswer members trace t × (is_value t.end ≡ false)
+FailsAtLeaf trace members leaf OtherValue = (t : Trace) × AllAnswer members trace t × (is_value t.end ≡ true) × (t.end ≢ leaf)
 FailsAtLeaf trace members leaf rule = ⊥
 
 -- ---- at a node

@@ -1,5 +1,5 @@
 -- The devices that show why a rule fails.
-use Rattle.std.specs.Prelude.{◌≡◌, ℕ, ◌≤◌, List, Some, slice_get}
+use Rattle.std.specs.Prelude.{◌≡◌, ◌≢◌, ℕ, ◌≤◌, List, Some, slice_get}
 use Rattle.box_trace.specs.config_record.declared.coord.Coord.{Coord}
 use Rattle.box_trace.specs.config_record.ComparedNumber.{device_number}
 use Rattle.box_trace.specs.config_record.DeviceSeen.{device_numbers}
@@ -7,7 +7,8 @@ use Rattle.box_trace.specs.reference_resolver.declared.end.End.{End}
 use Rattle.box_trace.specs.reference_resolver.Trace.{Trace}
 use Rattle.box_trace.specs.overlay_map.Layer.{LayerOf}
 use Rattle.cert_tree.specs.box_answers.NumberSet.{SetOf}
-use Rattle.box_trace.specs.CommonTrace.{AreSideBySide}
+use Rattle.cert_tree.specs.box_answers.Members.{set_at, IsMember}
+use Rattle.cert_tree.specs.box_answers.Sameness.{AreNeighbours}
 use Rattle.box_trace.specs.Division.{Divides}
 use Rattle.cert_tree.specs.Certificate.{NodeOf, GoalOf}
 use Rattle.cert_checker.specs.declared.rule.Rule.{Rule}
@@ -16,6 +17,13 @@ use Rattle.cert_checker.specs.declared.verdict.Shown.{Shown}
 use Rattle.cert_checker.specs.declared.verdict.Shown.TheVariants.{Nothing, Two, One}
 use Rattle.cert_checker.specs.Paths.{ComesTo}
 use Rattle.cert_checker.specs.FirstFault.{goal_trace}
+
+-- two members of a box that differ in this coordinate alone, and by one where it is a range
+pub record AreSideBySide (sets : List SetOf) (x y : List ℕ) (c : Coord) : Type 0 where
+  pub x_member : IsMember sets x
+  pub y_member : IsMember sets y
+  pub others : (k : Coord) → k ≢ c → device_number x k ≡ device_number y k
+  pub near : AreNeighbours (set_at sets c) (device_number x c) (device_number y c)
 
 -- Two members that differ in one coordinate alone, by one where the box has a range. At the first question that members
 -- answer differently the first answers yes, the second no.

@@ -19,17 +19,19 @@ mod failure;
 mod goals;
 mod leaf;
 mod node;
+mod open_boxes;
 mod rule;
 mod tree;
 mod verdict;
 
 pub use box_trace::{
-    CommonTrace, Coord, Device, End, Live, Locale, MOST_LAYERS, OpenBox, Parting, Stack, resolve,
+    Cand, CommonTrace, Coord, Device, End, Live, Locale, MOST_LAYERS, OpenBox, Parting, Stack,
 };
 pub use cert_tree::{
-    Cert, CertGoal, Choice, ConfigBox, Goal, MemberPair, Node, OutOfMemory, Progress, ResId, Split,
-    Test, Unwatched, Values,
+    Cert, CertGoal, Choice, ConfigBox, Goal, Node, OutOfMemory, Progress, ResId, Split, Test,
+    Unwatched, Values,
 };
 pub use checking::check;
+pub use open_boxes::OpenBoxes;
 pub use rule::Rule;
 pub use verdict::{Shown, Verdict};

@@ -10,6 +10,7 @@ ghost use Rattle.cert_checker.specs.OpenBoxes.{TakesNode, TakesTest};
 
 use crate::failure::Failure;
 use crate::leaf::take_leaf;
+use crate::open_boxes::OpenBoxes;
 use crate::rule::Rule;
 use box_trace::{End, OpenBox, Stack};
 use cert_tree::{Node, OutOfMemory, Split, Test};
@@ -21,10 +22,10 @@ pub(crate) fn take_node<'a>(
     alloc: Global,
     stack: &Stack<'a>,
     node: &Node,
-    open_boxes: &mut Vec<OpenBox<'a>>,
+    open_boxes: &mut OpenBoxes<'a>,
 ) -> Result<Option<Failure>, OutOfMemory>
-    ensures outcome { IfOk result (λ outcome. (trace : List ℕ → Trace) → All (IsReached stack.now trace) open_boxes.old.items → TakesNode trace (node_of node.now) (boxes_of open_boxes.old.items) (boxes_of open_boxes.new.items) outcome) }
-    ensures reached { IfOk result (λ _. (trace : List ℕ → Trace) → All (IsReached stack.now trace) open_boxes.old.items → All (IsReached stack.now trace) open_boxes.new.items) }
+    ensures outcome { IfOk result (λ outcome. (trace : List ℕ → Trace) → All (IsReached stack.now trace) open_boxes.old → TakesNode trace (node_of node.now) (boxes_of open_boxes.old) (boxes_of open_boxes.new) outcome) }
+    ensures reached { IfOk result (λ _. (trace : List ℕ → Trace) → All (IsReached stack.now trace) open_boxes.old → All (IsReached stack.now trace) open_boxes.new) }
 {
     let Some(part) = open_boxes.pop() else {
         return Ok(Some(Failure::of(Rule::LeftOver)));
@@ -49,10 +50,10 @@ fn take_test<'a>(
     stack: &Stack<'a>,
     part: OpenBox<'a>,
     test: &Test,
-    open_boxes: &mut Vec<OpenBox<'a>>,
+    open_boxes: &mut OpenBoxes<'a>,
 ) -> Result<Option<Failure>, OutOfMemory>
-    ensures outcome { IfOk result (λ outcome. TakesTest (test_of test.now) part.entry.members (boxes_of open_boxes.old.items) (boxes_of open_boxes.new.items) outcome) }
-    ensures reached { IfOk result (λ _. (trace : List ℕ → Trace) → IsReached stack.now trace part.entry → All (IsReached stack.now trace) open_boxes.old.items → All (IsReached stack.now trace) open_boxes.new.items) }
+    ensures outcome { IfOk result (λ outcome. TakesTest (test_of test.now) part.entry.members (boxes_of open_boxes.old) (boxes_of open_boxes.new) outcome) }
+    ensures reached { IfOk result (λ _. (trace : List ℕ → Trace) → IsReached stack.now trace part.entry → All (IsReached stack.now trace) open_boxes.old → All (IsReached stack.now trace) open_boxes.new) }
 {
     match part.members.split(alloc, test)? {
         Split::Halves(yes, no) => {

@@ -9,6 +9,7 @@ ghost use Rattle.cert_checker.specs.OpenBoxes.{IsOutcome};
 
 use crate::failure::Failure;
 use crate::node::take_node;
+use crate::open_boxes::OpenBoxes;
 use crate::rule::Rule;
 use box_trace::{OpenBox, Stack};
 use cert_tree::{CertGoal, ConfigBox, Goal, Node, OutOfMemory, ResId};
@@ -37,7 +38,7 @@ fn check_nodes(
 ) -> Result<Option<(usize, Failure)>, OutOfMemory>
     ensures { IfOk result (IsOutcome (trace_of stack.now references_followed id.0) members.now (map node_of nodes.now)) }
 {
-    let mut open_boxes = Vec::new(alloc);
+    let mut open_boxes = OpenBoxes::new(alloc);
     open_boxes.push(OpenBox::whole(alloc, stack, id, members.shared(alloc)?)?)?;
     for (place, node) in nodes.iter().enumerate() {
         if let Some(failure) = take_node(alloc, stack, node, &mut open_boxes)? {

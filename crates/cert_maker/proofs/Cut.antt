@@ -13,8 +13,9 @@ use Rattle.cert_checker.specs.reference_resolver.Trace.{Trace}
 use Rattle.cert_checker.specs.box_answers.NumberSet.{SetOf, RangeOf, NumbersOf, LocalesOf, IsIn}
 use Rattle.cert_checker.specs.box_answers.Members.{set_at, IsMember}
 use Rattle.cert_checker.specs.box_answers.Sameness.{AreNeighbours, Separates}
-use Rattle.cert_checker.specs.box_trace.Parting.{Settles}
+use Rattle.cert_checker.specs.box_trace.Parting.{TraceTells}
 use Rattle.cert_checker.specs.config_box.Tests.{ChoiceOf, AtMostOf, AmongOf, is_listed, answers, is_range, has_wrong_kind}
+use Rattle.cert_checker.proofs.box_trace.Partings.{traces_differ}
 use Rattle.cert_maker.specs.Needed.{AgreeBut, IsNeededTest}
 use Rattle.cert_maker.specs.Listed.{numbers_of, answer_with}
 use Rattle.cert_maker.proofs.ByNumbers.{AnswersByNumbers}
@@ -22,13 +23,6 @@ use Rattle.cert_maker.proofs.Steps.{test-passes}
 
 turned : (c : coord.Coord) (x y : List ℕ) → AgreeBut c x y → AgreeBut c y x
 turned c x y a k other = sym (a k other)
-
--- members that answer differently have different traces
-differ : (trace : List ℕ → Trace) (answer : List ℕ → Bool) (sets : List SetOf) (x y : List ℕ) (c : coord.Coord) → Separates sets answer x y c → Settles (IsMember sets) trace answer → trace x ≢ trace y
-differ trace answer sets x y c s settled e =
-    let same = settled x y s.parts.yes.member s.parts.no.member e in
-    let no : true ≡ false = sym s.parts.yes.answers ∙ same ∙ s.parts.no.answers in
-    cc
 
 -- ---- a range
 
@@ -55,10 +49,10 @@ near-one (NumbersOf numbers) m n range near = absurd (cc range)
 near-one (LocalesOf numbers) m n range near = absurd (cc range)
 
 pub cut-range : (trace : List ℕ → Trace) (answer : List ℕ → Bool) (sets : List SetOf) (x y : List ℕ) (c : coord.Coord) (m : ℕ) → Separates sets answer x y c → is_range (set_at sets c) ≡ true
-    → has_wrong_kind sets (AtMostOf c m) ≡ false → m ≡ min (device_number x c) (device_number y c) → Settles (IsMember sets) trace answer → IsNeededTest trace sets (IsMember sets) (AtMostOf c m)
-cut-range trace answer sets x y c m s range right e settled =
+    → has_wrong_kind sets (AtMostOf c m) ≡ false → m ≡ min (device_number x c) (device_number y c) → TraceTells (IsMember sets) trace answer → IsNeededTest trace sets (IsMember sets) (AtMostOf c m)
+cut-range trace answer sets x y c m s range right e tells =
     let p = s.parts in
-    let d = differ trace answer sets x y c s settled in
+    let d = traces_differ trace answer sets x y c s tells in
     elim (near-one (set_at sets c) (device_number x c) (device_number y c) range s.near) [
       | inl above ↦ by-range trace sets y x c m range right p.no.member p.yes.member (λ q. d (sym q)) (turned c x y p.others) (omega arith) (omega arith)
       | inr below ↦ by-range trace sets x y c m range right p.yes.member p.no.member d p.others (omega arith) (omega arith)
@@ -86,8 +80,8 @@ abbrev pub ListsYes : (List ℕ → Bool) → List SetOf → List ℕ → coord.
 ListsYes answer sets x c choice = (n : ℕ) → IsIn (set_at sets c) n → is_listed c choice n ≡ answer_with answer x c n
 
 pub cut-choice : (trace : List ℕ → Trace) (answer : List ℕ → Bool) (sets : List SetOf) (x y : List ℕ) (c : coord.Coord) (choice : ChoiceOf) → AnswersByNumbers answer → Separates sets answer x y c
-    → has_wrong_kind sets (AmongOf c choice) ≡ false → ListsYes answer sets x c choice → Settles (IsMember sets) trace answer → IsNeededTest trace sets (IsMember sets) (AmongOf c choice)
-cut-choice trace answer sets x y c choice by s right lists settled =
+    → has_wrong_kind sets (AmongOf c choice) ≡ false → ListsYes answer sets x c choice → TraceTells (IsMember sets) trace answer → IsNeededTest trace sets (IsMember sets) (AmongOf c choice)
+cut-choice trace answer sets x y c choice by s right lists tells =
     let p = s.parts in
     let of_member : (z : List ℕ) → IsMember sets z → AgreeBut c z x → answers (AmongOf c choice) z ≡ answer z =
     λ z m others. lists (device_number z c) (m c) ∙ sym (on-line answer c x z by others) in
@@ -100,11 +94,11 @@ cut-choice trace answer sets x y c choice by s right lists settled =
       yes = record { member = p.yes.member; answers = x_is };
       no = record { member = p.no.member; answers = y_is };
       others = p.others;
-      differ = differ trace answer sets x y c s settled;
+      differ = traces_differ trace answer sets x y c s tells;
       near = tt;
       parts = λ is_choice alone u v u_is v_is e.
           let u_yes : answer u ≡ true = sym (of_member u u_is.member (alone u x u_is.member p.yes.member)) ∙ u_is.answers in
           let v_no : answer v ≡ false = sym (of_member v v_is.member (alone v x v_is.member p.yes.member)) ∙ v_is.answers in
-          let same = settled u v u_is.member v_is.member e in
+          let same = tells u v u_is.member v_is.member e in
           absurd (cc);
     }

@@ -16,9 +16,9 @@ use Rattle.cert_checker.proofs.config_record.LocaleGiven.{TwoBytes, given, numbe
 use Rattle.cert_checker.specs.config_record.Device.{CanHave}
 use Rattle.cert_checker.specs.reference_resolver.Trace.{Trace}
 use Rattle.cert_checker.specs.box_trace.declared.parting.Parting.{Parting}
-use Rattle.cert_checker.specs.box_trace.Parting.{answer_of, Settles}
+use Rattle.cert_checker.specs.box_trace.Parting.{answer_of, TraceTells}
 use Rattle.cert_checker.specs.box_answers.Sameness.{Separates}
-use Rattle.cert_checker.specs.box_answers.NumberSet.{SetOf, RangeOf, NumbersOf, LocalesOf, IsIn, listed, locale_numbers}
+use Rattle.cert_checker.specs.box_answers.NumberSet.{SetOf, RangeOf, NumbersOf, LocalesOf, IsIn, named_numbers, locale_numbers}
 use Rattle.cert_checker.specs.box_answers.Members.{set_at, IsMember, IsOfKind, IsBox}
 use Rattle.cert_checker.specs.config_box.Tests.{is_listed, is_range, has_wrong_kind}
 use Rattle.cert_checker.specs.config_box.Tests as seen
@@ -95,7 +95,7 @@ of-some-text locale language region is =
 
 pub numbers-fit : (sets : List SetOf) (c : coord.Coord) (f : ℕ → Bool) (numbers kept : List ℕ) → IsBox sets → NumbersOf numbers ≡ set_at sets c → kept ≡ filter f numbers → ChoiceFits c (seen.NumbersOf kept)
 numbers-fit sets c f numbers kept b e is =
-    let few : length numbers ≤ 512 = subst (λ (s : SetOf). length (listed s) ≤ 512) (sym e) (b.each c).few in
+    let few : length numbers ≤ 512 = subst (λ (s : SetOf). length (named_numbers s) ≤ 512) (sym e) (b.each c).few in
     let count : length kept ≤ length numbers = omega (arith, ap length is, length-filter f numbers, count_by-le-length f numbers) in
     at c (no-numbers c (set_at sets c) numbers (sym e) (b.each c).kind) (omega (arith, few, count))
   where
@@ -106,7 +106,7 @@ numbers-fit sets c f numbers kept b e is =
 pub locales-fit : (sets : List SetOf) (c : coord.Coord) (f : Locale → Bool) (locales kept : List Locale) → IsBox sets → LocalesOf (locale_numbers locales) ≡ set_at sets c → kept ≡ filter f locales → All IsOfSomeText kept
     → ChoiceFits c (seen.LocalesOf kept)
 locales-fit sets c f locales kept b e is texts =
-    let few : length (locale_numbers locales) ≤ 512 = subst (λ (s : SetOf). length (listed s) ≤ 512) (sym e) (b.each c).few in
+    let few : length (locale_numbers locales) ≤ 512 = subst (λ (s : SetOf). length (named_numbers s) ≤ 512) (sym e) (b.each c).few in
     let of_numbers = length-map locales locale_number in
     let count : length kept ≤ length locales = omega (arith, ap length is, length-filter f locales, count_by-le-length f locales) in
     subst (λ (k : coord.Coord). ChoiceFits k (seen.LocalesOf kept)) (sym (at-locale sets c (locale_numbers locales) (b.each c).kind (sym e))) (omega (arith, few, of_numbers, count), texts)
@@ -130,13 +130,13 @@ right-choice sets c choice no_range = no_range
 -- ---- so the tests are needed
 
 pub needed-numbers : (trace : List ℕ → Trace) (parting : Parting) (sets : List SetOf) (x y : List ℕ) (c : coord.Coord) (numbers kept : List ℕ) → Separates sets (answer_of parting) x y c → IsBox sets → NumbersOf numbers ≡ set_at sets c
-    → kept ≡ filter (answer_with (answer_of parting) x c) numbers → Settles (IsMember sets) trace (answer_of parting) → IsNeededTest trace sets (IsMember sets) (seen.AmongOf c (seen.NumbersOf kept))
-needed-numbers trace parting sets x y c numbers kept s b e is settled =
+    → kept ≡ filter (answer_with (answer_of parting) x c) numbers → TraceTells (IsMember sets) trace (answer_of parting) → IsNeededTest trace sets (IsMember sets) (seen.AmongOf c (seen.NumbersOf kept))
+needed-numbers trace parting sets x y c numbers kept s b e is tells =
     let choice = seen.NumbersOf kept in
-    cut-choice trace (answer_of parting) sets x y c choice (parting-by-numbers parting) s (right-choice sets c choice (ap is_range (sym e))) (lists-numbers (answer_of parting) sets x c numbers kept (b.each c).kind (sym e) is) settled
+    cut-choice trace (answer_of parting) sets x y c choice (parting-by-numbers parting) s (right-choice sets c choice (ap is_range (sym e))) (lists-numbers (answer_of parting) sets x c numbers kept (b.each c).kind (sym e) is) tells
 
 pub needed-locales : (trace : List ℕ → Trace) (parting : Parting) (sets : List SetOf) (x y : List ℕ) (c : coord.Coord) (locales kept : List Locale) → Separates sets (answer_of parting) x y c → IsBox sets
-    → LocalesOf (locale_numbers locales) ≡ set_at sets c → kept ≡ filter (answer_in (answer_of parting) x) locales → Settles (IsMember sets) trace (answer_of parting) → IsNeededTest trace sets (IsMember sets) (seen.AmongOf c (seen.LocalesOf kept))
-needed-locales trace parting sets x y c locales kept s b e is settled =
+    → LocalesOf (locale_numbers locales) ≡ set_at sets c → kept ≡ filter (answer_in (answer_of parting) x) locales → TraceTells (IsMember sets) trace (answer_of parting) → IsNeededTest trace sets (IsMember sets) (seen.AmongOf c (seen.LocalesOf kept))
+needed-locales trace parting sets x y c locales kept s b e is tells =
     let choice = seen.LocalesOf kept in
-    cut-choice trace (answer_of parting) sets x y c choice (parting-by-numbers parting) s (right-choice sets c choice (ap is_range (sym e))) (lists-locales (answer_of parting) sets x c locales kept (b.each c).kind (sym e) is) settled
+    cut-choice trace (answer_of parting) sets x y c choice (parting-by-numbers parting) s (right-choice sets c choice (ap is_range (sym e))) (lists-locales (answer_of parting) sets x c locales kept (b.each c).kind (sym e) is) tells

@@ -13,7 +13,7 @@ use Rattle.cert_checker.specs.box_answers.Members.{set_at, IsMember}
 use Rattle.cert_checker.proofs.box_answers.SomeMember.{some_member}
 use Rattle.cert_checker.specs.config_box.Tests.{TestOf, AtMostOf, AmongOf, coord_of, answers, has_wrong_kind}
 use Rattle.cert_checker.specs.config_box.Halves.{IsHalf}
-use Rattle.cert_checker.specs.box_trace.CommonTrace.{SharesTrace}
+use Rattle.cert_checker.specs.box_answers.MemberAnswers.{AllAnswer}
 use Rattle.cert_checker.specs.cert_tree.Certificate.{NodeOf, TestAt, ValueAt, BagAt, NodeFits}
 use Rattle.cert_checker.specs.declared.rule.Rule.{Rule}
 use Rattle.cert_checker.specs.declared.rule.Rule.TheVariants.{TestKind, EmptyHalf}
@@ -70,7 +70,7 @@ moved trace sets part path test b s =
 -- ---- leaves
 
 pub grows-value : (trace : List ℕ → Trace) (part : List SetOf) (t : Trace) (layer : ℕ) (value : Value) (old new : List NodeOf) (boxes : List (List SetOf)) → new ≡ old ++ ValueAt layer value ∷ []
-    → SharesTrace (IsMember part) trace t → t.end ≡ ends.Value layer value → ((d : List ℕ) → EndBelow most_layers (trace d).end) → Grows trace part old new boxes boxes
+    → AllAnswer (IsMember part) trace t → t.end ≡ ends.Value layer value → ((d : List ℕ) → EndBelow most_layers (trace d).end) → Grows trace part old new boxes boxes
 grows-value trace part t layer value old new boxes e shared ends_at low sets path paths b stand =
     let d = some_member part b.is_box in
     let below : EndBelow most_layers (ends.Value layer value) = subst (EndBelow most_layers) (ap (λ (u : Trace). u.end) (shared d.0 d.1) ∙ ends_at) (low d.0) in
@@ -82,7 +82,7 @@ grows-value trace part t layer value old new boxes e shared ends_at low sets pat
     }
 
 pub grows-bag : (trace : List ℕ → Trace) (part : List SetOf) (t : Trace) (id : ResId) (old new : List NodeOf) (boxes : List (List SetOf)) → new ≡ old ++ BagAt id ∷ []
-    → SharesTrace (IsMember part) trace t → t.end ≡ ends.Bag id → Grows trace part old new boxes boxes
+    → AllAnswer (IsMember part) trace t → t.end ≡ ends.Bag id → Grows trace part old new boxes boxes
 grows-bag trace part t id old new boxes e shared ends_at sets path paths b stand =
     record {
       node = BagAt id;
@@ -92,7 +92,7 @@ grows-bag trace part t id old new boxes e shared ends_at sets path paths b stand
     }
 
 pub grows-leaf : (trace : List ℕ → Trace) (part : List SetOf) (t : Trace) (node : NodeOf) (old new : List NodeOf) (boxes : List (List SetOf)) → new ≡ old ++ node ∷ []
-    → SharesTrace (IsMember part) trace t → leaf_end node ≡ Some t.end → ((d : List ℕ) → EndBelow most_layers (trace d).end) → Grows trace part old new boxes boxes
+    → AllAnswer (IsMember part) trace t → leaf_end node ≡ Some t.end → ((d : List ℕ) → EndBelow most_layers (trace d).end) → Grows trace part old new boxes boxes
 grows-leaf trace part t (TestAt test) old new boxes e shared says low = absurd cc
 grows-leaf trace part t (ValueAt layer value) old new boxes e shared says low =
     let is : t.end ≡ ends.Value layer value = cc in

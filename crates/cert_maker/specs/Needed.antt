@@ -6,7 +6,7 @@ use Rattle.cert_checker.specs.config_record.ComparedNumber.{device_number}
 use Rattle.cert_checker.specs.reference_resolver.Trace.{Trace}
 use Rattle.cert_checker.specs.box_answers.NumberSet.{SetOf}
 use Rattle.cert_checker.specs.box_answers.Members.{set_at}
-use Rattle.cert_checker.specs.box_answers.Settled.{IsOneThatAnswers}
+use Rattle.cert_checker.specs.box_answers.MemberAnswers.{IsOneThatAnswers}
 use Rattle.cert_checker.specs.config_box.Tests.{TestOf, AtMostOf, AmongOf, coord_of, answers, is_range}
 use Rattle.cert_checker.specs.cert_tree.Certificate.{NodeOf, TestAt, ValueAt, BagAt}
 use Rattle.cert_checker.specs.declared.rule.Rule.{Rule}

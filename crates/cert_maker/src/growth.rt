@@ -15,7 +15,8 @@ ghost use Rattle.cert_maker.specs.Growth.{Grows, GrowsOn, IsCounterexampleOf, Ca
 
 use crate::parting::parting_test;
 use cert_checker::{
-    CommonTrace, Device, End, MOST_LAYERS, Node, OpenBox, OutOfMemory, Split, Stack, Test,
+    CommonTrace, Device, End, MOST_LAYERS, Node, OpenBox, OpenBoxes, OutOfMemory, Split, Stack,
+    Test,
 };
 use std::alloc::Global;
 
@@ -26,9 +27,9 @@ pub(crate) fn add_node<'a>(
     stack: &Stack<'a>,
     part: OpenBox<'a>,
     nodes: &mut Vec<Node>,
-    open_boxes: &mut Vec<OpenBox<'a>>,
+    open_boxes: &mut OpenBoxes<'a>,
 ) -> Result<Option<(Device, End)>, OutOfMemory>
-    ensures grows { IfOk result (λ found. IfNone found (GrowsOn stack.now part.entry (map node_of nodes.old.items) (map node_of nodes.new.items) open_boxes.old.items open_boxes.new.items)) }
+    ensures grows { IfOk result (λ found. IfNone found (GrowsOn stack.now part.entry (map node_of nodes.old.items) (map node_of nodes.new.items) open_boxes.old open_boxes.new)) }
     ensures one_more { IfOk result (λ found. IfNone found (length nodes.new.items ≡ length nodes.old.items + 1)) }
     ensures counterexample { IfOk result (λ found. IfSome found (λ shown. (trace : List ℕ → Trace) → IsReached stack.now trace part.entry → IsCounterexampleOf trace part.entry.members (device_numbers shown.0) shown.1)) }
 {
@@ -58,12 +59,12 @@ fn add_test<'a>(
     whole: &OpenBox<'a>,
     test: Test,
     nodes: &mut Vec<Node>,
-    open_boxes: &mut Vec<OpenBox<'a>>,
+    open_boxes: &mut OpenBoxes<'a>,
 ) -> Result<(), OutOfMemory>
     requires asked { CanBeAsked whole.now.members (test_of test) }
     requires fits { NodeFits (TestAt (test_of test)) }
-    ensures grows { IfOk result (λ _. (trace : List ℕ → Trace) → IsNeededTest trace whole.now.members (IsMember whole.now.members) (test_of test) → Grows trace whole.now.members (map node_of nodes.old.items) (map node_of nodes.new.items) (boxes_of open_boxes.old.items) (boxes_of open_boxes.new.items)) }
-    ensures reached { IfOk result (λ _. (stack : List LayerOf) (trace : List ℕ → Trace) → IsReached stack trace whole.now → All (IsReached stack trace) open_boxes.old.items → All (IsReached stack trace) open_boxes.new.items) }
+    ensures grows { IfOk result (λ _. (trace : List ℕ → Trace) → IsNeededTest trace whole.now.members (IsMember whole.now.members) (test_of test) → Grows trace whole.now.members (map node_of nodes.old.items) (map node_of nodes.new.items) (boxes_of open_boxes.old) (boxes_of open_boxes.new)) }
+    ensures reached { IfOk result (λ _. (stack : List LayerOf) (trace : List ℕ → Trace) → IsReached stack trace whole.now → All (IsReached stack trace) open_boxes.old → All (IsReached stack trace) open_boxes.new) }
     ensures one_more { IfOk result (λ _. length nodes.new.items ≡ length nodes.old.items + 1) }
 {
     match whole.members.split(alloc, &test)? {

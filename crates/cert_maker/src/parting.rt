@@ -8,7 +8,7 @@ ghost use Rattle.cert_checker.specs.config_record.DeviceSeen.{device_numbers};
 ghost use Rattle.cert_checker.specs.reference_resolver.Trace.{Trace};
 ghost use Rattle.cert_checker.specs.box_answers.Members.{IsMember};
 ghost use Rattle.cert_checker.specs.box_answers.Sameness.{Separates};
-ghost use Rattle.cert_checker.specs.box_trace.Parting.{answer_of, Settles};
+ghost use Rattle.cert_checker.specs.box_trace.Parting.{answer_of, TraceTells};
 ghost use Rattle.cert_checker.specs.config_box.Tests.{test_of};
 ghost use Rattle.cert_checker.specs.cert_tree.Certificate.{TestAt, NodeFits};
 ghost use Rattle.cert_maker.specs.Needed.{IsNeededTest};
@@ -25,7 +25,7 @@ pub(crate) fn parting_test(
     parting: &Parting<'_>,
 ) -> Result<Test, OutOfMemory>
     requires { Separates members.now (answer_of parting.now) (device_numbers parting.now.pair.yes) (device_numbers parting.now.pair.no) parting.now.pair.coord }
-    ensures needed { IfOk result (λ test. (trace : List ℕ → Trace) → Settles (IsMember members.now) trace (answer_of parting.now) → IsNeededTest trace members.now (IsMember members.now) (test_of test)) }
+    ensures needed { IfOk result (λ test. (trace : List ℕ → Trace) → TraceTells (IsMember members.now) trace (answer_of parting.now) → IsNeededTest trace members.now (IsMember members.now) (test_of test)) }
     ensures fits { IfOk result (λ test. NodeFits (TestAt (test_of test))) }
 {
     let coord = parting.pair.coord;

@@ -6,7 +6,7 @@ ghost use Rattle.cert_checker.specs.reference_resolver.Trace.{trace_of};
 ghost use Rattle.cert_maker.specs.Growth.{IsGrown};
 
 use crate::growth::add_node;
-use cert_checker::{ConfigBox, Device, End, Node, OpenBox, OutOfMemory, ResId, Stack};
+use cert_checker::{ConfigBox, Device, End, Node, OpenBox, OpenBoxes, OutOfMemory, ResId, Stack};
 use std::alloc::Global;
 
 /// What became of a tree.
@@ -33,13 +33,13 @@ pub(crate) fn grow_tree(
     ensures { IfOk result (IsGrown (trace_of stack.now references_followed id.0) members.now most) }
 {
     let mut nodes = Vec::new(alloc);
-    let mut open_boxes = Vec::new(alloc);
+    let mut open_boxes = OpenBoxes::new(alloc);
     open_boxes.push(OpenBox::whole(alloc, stack, id, members.shared(alloc)?)?)?;
     'boxes: while let Some(part) = open_boxes.pop() {
         if let Some((device, end)) = add_node(alloc, stack, part, &mut nodes, &mut open_boxes)? {
             return Ok(Grown::Counterexample(device, end));
         }
-        if nodes.len() + open_boxes.len() > most {
+        if nodes.len() as u128 + open_boxes.len() as u128 > most as u128 {
             return Ok(Grown::TooLarge);
         }
     }

@@ -1,11 +1,7 @@
 -- The goals and nodes that are read, each after those before it.
-use Rattle.std.proofs.Common.{◌≡◌, ℕ, ◌+◌, List, [], ◌∷◌, ◌++◌, map, length, Some, ok_or, Result, Ok, sym, ap, ◌∙◌, arith}
+use Rattle.std.proofs.Common.{◌≡◌, ℕ, ◌+◌, List, [], ◌∷◌, ◌++◌, map, length, Result, sym, ap, ◌∙◌, arith}
 use Rattle.std.proofs.lemmas.List.{length-map, map-append}
-use Rattle.serde_json.specs.Data.{Data}
-use Rattle.serde_json.specs.Find.{as_array}
-use Rattle.serde_json.specs.View.{view, items_view}
-use Rattle.json_input.specs.Each.{list_of}
-use Rattle.json_input.proofs.EachSteps.{list_items-view}
+use Rattle.serde_json.specs.View.{view}
 use Rattle.serde_json.specs.declared.value.Value.{Value}
 use Rattle.cert_tree.specs.declared.cert.CertGoal.{CertGoal}
 use Rattle.cert_tree.specs.declared.cert_fault.CertFault.{CertFault}
@@ -41,8 +37,3 @@ count-next goals g =
     ap node_count (map-append goal_of goals (g ∷ []))
     ∙ count-push (map goal_of goals) (goal_of g)
     ∙ ap (λ (k : ℕ). node_count (map goal_of goals) + k) (length-map g.nodes.items node_of)
-
--- the items of a list, where they are lent
-pub items-lent : (shape : CertFault) (value : Data) (items lent : List Value) → Some (items_view items) ≡ as_array value → lent ≡ items → Ok (map view lent) ≡ ok_or (list_of value) shape
-items-lent shape value items lent is same =
-    rw (same, ← is) (ap (λ (ds : List Data). Ok ds) (sym (list_items-view items)))

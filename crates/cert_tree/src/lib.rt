@@ -31,7 +31,7 @@ mod write;
 
 pub use cert::{Cert, CertGoal, OutOfMemory};
 pub use cert_fault::CertFault;
-pub use config_box::{BoxFault, Choice, ConfigBox, MemberPair, Split, Test, Values};
+pub use config_box::{BoxFault, Choice, ConfigBox, Split, Test, Values};
 pub use goal::Goal;
 pub use node::Node;
 pub use progress::{Progress, Unwatched};

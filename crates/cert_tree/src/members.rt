@@ -1,14 +1,14 @@
 //! Members of JSON objects. A member of another shape than asked for has the fault that the caller names.
 
-ghost use Rattle.std.specs.Prelude.{◌≡◌, ◌≤◌, bytes_eq, find, ok_or, IfOk};
+ghost use Rattle.std.specs.Prelude.{◌≡◌, ◌≤◌, bytes_eq, find, IfOk};
 ghost use Rattle.serde_json.specs.View.{view};
-ghost use Rattle.json_input.specs.Each.{list_of};
 ghost use Rattle.config_box.specs.config_record.Coord.{name_of};
 ghost use Rattle.cert_tree.specs.CertJson.{number_within, number_at, id_at, list_at, coord_named, coord_at};
 ghost use Rattle.cert_tree.specs.Lent.{items_seen};
 
 use crate::cert_fault::CertFault;
 use config_box::Coord;
+use json_input::list_of;
 use res_value::ResId;
 use serde_json::Value;
 
@@ -66,16 +66,7 @@ pub(crate) fn list_at<'a>(
     ensures { items_seen result ≡ list_at shape name.now (view value.now) }
 {
     match value.get(name) {
-        Some(list) => items_in(list, shape),
-        None => Err(shape),
-    }
-}
-
-fn items_in(list: &Value, shape: CertFault) -> Result<&[Value], CertFault>
-    ensures { items_seen result ≡ ok_or (list_of (view list.now)) shape }
-{
-    match list.as_array() {
-        Some(items) => Ok(items.as_slice()),
+        Some(list) => list_of(list).ok_or(shape),
         None => Err(shape),
     }
 }

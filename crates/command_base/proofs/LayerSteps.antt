@@ -1,13 +1,10 @@
 -- What comes of the items of a list of layers.
 use Rattle.std.proofs.Common.{◌≡◌, ℕ, List, map, length, nat_lt, Bool, Option, Some, ok_or, Result, Ok, Err, sym, ap, ◌∙◌}
-use Rattle.std.specs.Option.{option_map}
 use Rattle.contract_words.specs.Faults.{◌>>=◌, refuse}
-use Rattle.serde_json.specs.Data.{Data, Items}
-use Rattle.serde_json.specs.Find.{as_array}
-use Rattle.serde_json.specs.View.{view, items_view}
+use Rattle.serde_json.specs.Data.{Data}
+use Rattle.serde_json.specs.View.{view}
 use Rattle.serde_json.specs.declared.value.Value.{Value}
-use Rattle.json_input.specs.Each.{list_items, list_of, each}
-use Rattle.json_input.proofs.EachSteps.{list_items-view}
+use Rattle.json_input.specs.Each.{list_of, each}
 use Rattle.fault_text.specs.overlay_map.Layer.{most_layers}
 use Rattle.fault_text.specs.declared.layers_fault.LayersFault.{LayersFault}
 use Rattle.fault_text.specs.declared.layers_fault.LayersFault.TheVariants.{Shape, TooManyLayers}
@@ -17,22 +14,19 @@ use Rattle.command_base.specs.LayerList.{LayerPaths, layer_paths_in, layers_in_v
 within_limit : Bool → List LayerPaths → Result (List LayerPaths) LayersFault
 within_limit over layers = refuse over TooManyLayers >>= λ _. Ok layers
 
-layers-in : (value : Data) (items : List Value) (r : Result (List LayerPaths) LayersFault) → Some (items_view items) ≡ as_array value
+layers-in : (value : Data) (items : List Value) (r : Result (List LayerPaths) LayersFault) → Some (map view items) ≡ list_of value
     → each layer_paths_in (map view items) ≡ r → layers_in_value value ≡ (r >>= λ layers. within_limit (nat_lt most_layers (length layers)) layers)
 unfolding layers_in_value within_limit
 layers-in value items r given read =
-    let wrapped : List Data → Option (List Data) = λ xs. Some xs in
-    let is : list_of value ≡ Some (map view items) =
-    ap (λ (o : Option Items). option_map list_items o) (sym given) ∙ ap wrapped (list_items-view items) in
-    ap (λ (o : Option (List Data)). ok_or o Shape >>= (λ xs. each layer_paths_in xs >>= λ layers. within_limit (nat_lt most_layers (length layers)) layers)) is
+    ap (λ (o : Option (List Data)). ok_or o Shape >>= (λ xs. each layer_paths_in xs >>= λ layers. within_limit (nat_lt most_layers (length layers)) layers)) (sym given)
     ∙ ap (λ (found : Result (List LayerPaths) LayersFault). found >>= λ layers. within_limit (nat_lt most_layers (length layers)) layers) read
 
-pub layers-fault : (value : Data) (items : List Value) (fault : LayersFault) → Some (items_view items) ≡ as_array value
+pub layers-fault : (value : Data) (items : List Value) (fault : LayersFault) → Some (map view items) ≡ list_of value
     → each layer_paths_in (map view items) ≡ Err fault → layers_in_value value ≡ Err fault
 layers-fault value items fault given read = layers-in value items (Err fault) given read
 
 pub layers-counted : (value : Data) (items : List Value) (layers : List LayerPaths) (count : ℕ) (counted : Result (Unit {0}) LayersFault)
-    → Some (items_view items) ≡ as_array value → each layer_paths_in (map view items) ≡ Ok layers
+    → Some (map view items) ≡ list_of value → each layer_paths_in (map view items) ≡ Ok layers
     → count ≡ length layers → counted ≡ refuse (nat_lt most_layers count) TooManyLayers → layers_in_value value ≡ (counted >>= λ _. Ok layers)
 unfolding within_limit
 layers-counted value items layers count counted given read same is =

@@ -1,19 +1,19 @@
 //! Lists of layers: which files the layers of a stack are.
 
-ghost use Rattle.std.specs.Prelude.{◌≡◌, map, length, nat_lt, None, Some, IfOk, IfErr, OnErr};
+ghost use Rattle.std.specs.Prelude.{◌≡◌, map, length, nat_lt, IfOk};
 ghost use Rattle.contract_words.specs.Faults.{refuse};
 ghost use Rattle.contract_words.specs.Exact.{GivesOr};
 ghost use Rattle.contract_words.specs.FillsIn.{FillsIn};
-ghost use Rattle.serde_json.specs.Find.{as_array};
-ghost use Rattle.serde_json.specs.View.{items_view, view};
+ghost use Rattle.serde_json.specs.View.{view};
 ghost use Rattle.json_input.specs.Each.{each};
 ghost use Rattle.fault_text.specs.overlay_map.Layer.{most_layers};
-ghost use Rattle.fault_text.specs.declared.layers_fault.LayersFault.TheVariants.{Shape, TooManyLayers, OutOfMemory};
+ghost use Rattle.fault_text.specs.declared.layers_fault.LayersFault.TheVariants.{TooManyLayers, OutOfMemory};
 ghost use Rattle.command_base.specs.LayerList.{table_path, map_path, layer_paths_in, layers_in_value};
 ghost use Rattle.command_base.specs.LayerListSeen.{path_seen, optional_path_seen, lent_paths_of, lent_paths_seen, paths_of, all_paths_of, listed};
 
+use crate::layer_parts::LayerParts;
 use fault_text::{LayersFault, MOST_LAYERS};
-use json_input::{has_only, read_value};
+use json_input::{has_only, list_of, read_value};
 use serde_json::Value;
 use std::alloc::{AllocError, Global};
 
@@ -27,7 +27,7 @@ const MAP: &str = "map";
 #[derive(Drop)]
 pub struct LayerList {
     /// The path of each layer's table and, at an overlay, of its id map.
-    pub paths: Vec<(String, Option<String>)>,
+    pub paths: Vec<LayerParts<String>>,
 }
 
 impl LayerList {
@@ -47,24 +47,14 @@ impl LayerList {
 fn read_list<'v>(alloc: Global, value: &'v Value) -> Result<LayerList, LayersFault>
     ensures { GivesOr OutOfMemory listed result (layers_in_value (view value.now)) }
 {
-    let items = items_of(value)?;
-    let mut layers: Vec<(&'v str, Option<&'v str>)> = vec![in alloc; ("", None); items.len()]?;
+    let Some(items) = list_of(value) else {
+        return Err(LayersFault::Shape);
+    };
+    let mut layers: Vec<LayerParts<&'v str>> = vec![in alloc; ("", None); items.len()]?;
     fill_layers(items, &mut layers)?;
     check_count(layers.len())?;
     let paths = owned_paths(alloc, &layers)?;
     Ok(LayerList { paths })
-}
-
-// The items of a value that is a list.
-fn items_of(value: &Value) -> Result<&Vec<Value>, LayersFault>
-    ensures list { IfOk result (λ items. Some (items_view items.now.items) ≡ as_array (view value.now)) }
-    ensures no_list { OnErr result (as_array (view value.now) ≡ None) }
-    ensures fault { IfErr result (λ fault. fault ≡ Shape) }
-{
-    match value.as_array() {
-        Some(items) => Ok(items),
-        None => Err(LayersFault::Shape),
-    }
 }
 
 // Whether there may be so many layers.
@@ -81,7 +71,7 @@ fn check_count(count: usize) -> Result<(), LayersFault>
 // Fills in the paths of each layer.
 fn fill_layers<'v>(
     items: &'v [Value],
-    layers: &mut [(&'v str, Option<&'v str>)],
+    layers: &mut [LayerParts<&'v str>],
 ) -> Result<(), LayersFault>
     requires { length layers.old ≡ length items.now }
     ensures { FillsIn (map lent_paths_of layers.new) result (each layer_paths_in (map view items.now)) }
@@ -94,7 +84,7 @@ fn fill_layers<'v>(
 
 // The paths of one layer.
 #[tactic(auto, unfolding(crate::specs::LayerList::layer_paths_in))]
-fn layer_paths(value: &Value) -> Result<(&str, Option<&str>), LayersFault>
+fn layer_paths(value: &Value) -> Result<LayerParts<&str>, LayersFault>
     ensures { lent_paths_seen result ≡ layer_paths_in (view value.now) }
 {
     if !has_only(value, &[TABLE, MAP]) {
@@ -107,8 +97,8 @@ fn layer_paths(value: &Value) -> Result<(&str, Option<&str>), LayersFault>
 
 fn owned_paths<'v>(
     alloc: Global,
-    layers: &[(&'v str, Option<&'v str>)],
-) -> Result<Vec<(String, Option<String>)>, AllocError>
+    layers: &[LayerParts<&'v str>],
+) -> Result<Vec<LayerParts<String>>, AllocError>
     ensures { IfOk result (λ paths. all_paths_of paths ≡ map lent_paths_of layers.now) }
 {
     let mut paths = Vec::new(alloc);
@@ -123,7 +113,7 @@ fn owned_layer(
     alloc: Global,
     table: &str,
     map: Option<&str>,
-) -> Result<(String, Option<String>), AllocError>
+) -> Result<LayerParts<String>, AllocError>
     ensures { IfOk result (λ paths. paths_of paths ≡ lent_paths_of (table.entry, map.entry)) }
 {
     let table = String::from_str(alloc, table)?;

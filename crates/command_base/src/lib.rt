@@ -15,11 +15,13 @@
 
 mod input;
 mod layer_list;
+mod layer_parts;
 mod stack;
 mod status;
 
 pub use fault_text::{LayersFault, Progress, ToolFault, fault_text};
 pub use input::{InputFault, read_input};
 pub use layer_list::LayerList;
+pub use layer_parts::LayerParts;
 pub use stack::open_stack;
 pub use status::Status;

@@ -11,6 +11,7 @@ ghost use Rattle.command_base.specs.Output.{IsOfInput};
 ghost use Rattle.command_base.specs.StackBytes.{table_of_layer, map_of_layer, layer_in, layers_from, stack_in};
 ghost use Rattle.command_base.specs.StackBytesSeen.{layer_bytes, with_layer};
 
+use crate::layer_parts::LayerParts;
 use fault_text::{IdMap, LayersFault, MOST_LAYERS, MapFault, Stack, Table, TableFault, ToolFault};
 use std::alloc::Global;
 
@@ -19,7 +20,7 @@ use std::alloc::Global;
 #[tactic(auto, unfolding(crate::specs::StackBytes::stack_in))]
 pub fn open_stack<'a>(
     alloc: Global,
-    layers: &[(&'a [u8], Option<&[u8]>)],
+    layers: &[LayerParts<&'a [u8]>],
 ) -> Result<Stack<'a>, ToolFault>
     ensures value { GivesOr OutOfMemory (λ stack. stack) result (stack_in (map layer_bytes layers.now)) }
     ensures of_input { IsOfInput result }
@@ -31,10 +32,7 @@ pub fn open_stack<'a>(
 }
 
 #[tactic(auto, using(crate::proofs::StackSteps::stack_steps))]
-fn open_layers<'a>(
-    alloc: Global,
-    layers: &[(&'a [u8], Option<&[u8]>)],
-) -> Result<Stack<'a>, ToolFault>
+fn open_layers<'a>(alloc: Global, layers: &[LayerParts<&'a [u8]>]) -> Result<Stack<'a>, ToolFault>
     requires { length layers.now ≤ most_layers }
     ensures value { GivesOr OutOfMemory (λ stack. stack) result (layers_from 0 (map layer_bytes layers.now)) }
     ensures of_input { IsOfInput result }
@@ -50,7 +48,7 @@ fn open_layers<'a>(
 #[tactic(auto, unfolding(crate::specs::StackBytes::layer_in))]
 fn push_layer<'a>(
     alloc: Global,
-    layer: (&'a [u8], Option<&[u8]>),
+    layer: LayerParts<&'a [u8]>,
     stack: &mut Stack<'a>,
 ) -> Result<(), ToolFault>
     requires { length stack.old < most_layers }

@@ -10,9 +10,8 @@ use clap::error::ErrorKind;
 use clap::{Arg, ArgAction, Command, value_parser};
 use std::alloc::Global;
 
-/// What `--version` prints after the program's name: its version, and the line of `rt version` that
-/// it was proved with.
-const VERSION: &str = "0.1.0, proved with rattle-kit-13f logic dac8208d650f15bf";
+/// What `--version` prints after the program's name.
+const VERSION: &str = "0.1.0";
 
 const ABOUT: &str = "Reads Android's compiled resource tables (resources.arsc)";
 

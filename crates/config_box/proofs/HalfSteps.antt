@@ -15,7 +15,7 @@ use Rattle.box_answers.specs.config_record.ComparedNumber.{device_number, locale
 use Rattle.box_answers.proofs.config_record.ChangedNumber.{by_coord, place_of-injective}
 use Rattle.box_answers.specs.NumberSet.{SetOf, RangeOf, NumbersOf, LocalesOf, locale_numbers, IsIn, IsProper}
 use Rattle.box_answers.specs.Members.{set_at, IsMember, IsOfKind, IsSetAt, IsBox}
-use Rattle.box_answers.specs.Settled.{AllAnswer}
+use Rattle.box_answers.specs.MemberAnswers.{AllAnswer}
 use Rattle.box_answers.proofs.Coords.{place_of-below}
 use Rattle.config_box.specs.Marks.{AreMarkedAlike}
 use Rattle.config_box.specs.Tests.{ChoiceOf, TestOf, AtMostOf, AmongOf, coord_of, passes, answers, is_range, has_wrong_kind}

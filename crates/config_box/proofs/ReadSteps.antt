@@ -9,14 +9,11 @@ use Rattle.std.proofs.lemmas.List.{get_or-map, map-append, take_more, length-map
 use Rattle.std.proofs.lemmas.List.FromFn.{get_or-range_with_len}
 use Rattle.std.proofs.Math.ListN.{get_or-append}
 use Rattle.std.proofs.Math.Seq.{get_or-append_seam}
-use Rattle.std.specs.Option.{option_map}
 use Rattle.contract_words.specs.Faults.{◌>>=◌}
 use Rattle.serde_json.specs.Data.{Data}
-use Rattle.serde_json.specs.Find.{as_array}
-use Rattle.serde_json.specs.View.{view, items_view}
+use Rattle.serde_json.specs.View.{view}
 use Rattle.serde_json.specs.declared.value.Value.{Value}
-use Rattle.json_input.specs.Each.{list_items, list_of, each}
-use Rattle.json_input.proofs.EachSteps.{list_items-view}
+use Rattle.json_input.specs.Each.{list_of, each}
 use Rattle.box_answers.specs.config_record.declared.coord.Coord.{Coord}
 use Rattle.box_answers.specs.config_record.declared.coord.Coord.TheVariants as coords
 use Rattle.box_answers.specs.config_record.Coord.{all_coords, place_of, greatest_of, greatest_of_device, is_outside}
@@ -168,23 +165,18 @@ each-next P numbers new n before pushed last k q =
 
 -- ---- what a list says
 
-list_of-some : (value : Data) (items : List Value) → Some (items_view items) ≡ as_array value → list_of value ≡ Some (map view items)
-list_of-some value items e =
-    let wrapped : List Data → Option (List Data) = λ t. Some t in
-    ap (option_map list_items) (sym e) ∙ ap wrapped (list_items-view items)
-
-pub numbers-of : (value : Data) (items : List Value) (r : Result (List ℕ) BoxFault) → Some (items_view items) ≡ as_array value → each number_item (map view items) ≡ r
+pub numbers-of : (value : Data) (items : List Value) (r : Result (List ℕ) BoxFault) → Some (map view items) ≡ list_of value → each number_item (map view items) ≡ r
     → numbers_in value ≡ (r >>= λ numbers. Ok (written.NumbersOf numbers))
 unfolding numbers_in
 numbers-of value items r e given =
-    ap (λ (l : Option (List Data)). numbers_or_range l value) (list_of-some value items e)
+    ap (λ (l : Option (List Data)). numbers_or_range l value) (sym e)
     ∙ ap (λ (s : Result (List ℕ) BoxFault). s >>= λ numbers. Ok (written.NumbersOf numbers)) given
 
-pub texts-of : (value : Data) (items : List Value) (r : Result (List (List ℕ)) BoxFault) → Some (items_view items) ≡ as_array value → each text_item (map view items) ≡ r
+pub texts-of : (value : Data) (items : List Value) (r : Result (List (List ℕ)) BoxFault) → Some (map view items) ≡ list_of value → each text_item (map view items) ≡ r
     → texts_in value ≡ (r >>= λ texts. Ok (written.TextsOf texts))
 unfolding texts_in
 texts-of value items r e given =
-    ap (λ (l : Option (List Data)). ok_or l Shape >>= λ items. each text_item items >>= λ texts. Ok (written.TextsOf texts)) (list_of-some value items e)
+    ap (λ (l : Option (List Data)). ok_or l Shape >>= λ items. each text_item items >>= λ texts. Ok (written.TextsOf texts)) (sym e)
     ∙ ap (λ (s : Result (List (List ℕ)) BoxFault). s >>= λ texts. Ok (written.TextsOf texts)) given
 
 -- ---- a coordinate more

@@ -1,6 +1,6 @@
 -- The halves of a set of numbers by a test.
 use Rattle.std.specs.Prelude.{◌≡◌, ◌≢◌, ◌≤◌, ◌↔◌, ℕ, Bool, true, false, not, length}
-use Rattle.box_answers.specs.NumberSet.{SetOf, RangeOf, NumbersOf, LocalesOf, IsIn, IsProper, listed}
+use Rattle.box_answers.specs.NumberSet.{SetOf, RangeOf, NumbersOf, LocalesOf, IsIn, IsProper, named_numbers}
 use Rattle.config_box.specs.Marks.{AreMarkedAlike}
 use Rattle.config_box.specs.Tests.{TestOf, AtMostOf, AmongOf, passes}
 
@@ -25,4 +25,4 @@ pub record IsHalfSet (set : SetOf) (test : TestOf) (answer : Bool) (half : SetOf
   pub numbers : (n : ℕ) → IsIn half n ↔ (IsIn set n × (passes test n ≡ answer))
   pub mark : AreMarkedAlike set half
   pub proper : IsProper half
-  pub few : length (listed half) ≤ length (listed set)
+  pub few : length (named_numbers half) ≤ length (named_numbers set)

@@ -3,7 +3,7 @@ use Rattle.std.specs.Prelude.{◌≡◌, ◌↔◌, ◌⊎◌, ℕ, Bool, true, 
 use Rattle.box_answers.specs.config_record.declared.coord.Coord.{Coord}
 use Rattle.box_answers.specs.NumberSet.{SetOf}
 use Rattle.box_answers.specs.Members.{set_at, IsMember, IsBox}
-use Rattle.box_answers.specs.Settled.{AllAnswer, IsOneThatAnswers}
+use Rattle.box_answers.specs.MemberAnswers.{AllAnswer, IsOneThatAnswers}
 use Rattle.config_box.specs.declared.split.Split.{Split}
 use Rattle.config_box.specs.declared.split.Split.TheVariants.{Halves, WrongKind, EmptyHalf}
 use Rattle.config_box.specs.Marks.{AreMarkedAlike}
@@ -22,11 +22,11 @@ IsSplit box test WrongKind = has_wrong_kind box test ≡ true
 IsSplit box test EmptyHalf = (has_wrong_kind box test ≡ false) × (AllAnswer (IsMember box) (answers test) true ⊎ AllAnswer (IsMember box) (answers test) false)
 
 -- What all members of a box answer, whatever is asked, all members of the other answer too.
-abbrev pub StaysSettledOn : List SetOf → List SetOf → Type 0
-StaysSettledOn box half = (asks : List ℕ → Bool) (answer : Bool) → AllAnswer (IsMember box) asks answer → AllAnswer (IsMember half) asks answer
+abbrev pub KeepsAnswers : List SetOf → List SetOf → Type 0
+KeepsAnswers box half = (asks : List ℕ → Bool) (answer : Bool) → AllAnswer (IsMember box) asks answer → AllAnswer (IsMember half) asks answer
 
--- what is settled on a box stays settled on its halves
-abbrev pub StaysSettled : List SetOf → Split → Type 0
-StaysSettled box (Halves yes_half no_half) = StaysSettledOn box yes_half × StaysSettledOn box no_half
-StaysSettled box WrongKind = Unit {0}
-StaysSettled box EmptyHalf = Unit {0}
+-- the same of a box and its halves
+abbrev pub HalvesKeepAnswers : List SetOf → Split → Type 0
+HalvesKeepAnswers box (Halves yes_half no_half) = KeepsAnswers box yes_half × KeepsAnswers box no_half
+HalvesKeepAnswers box WrongKind = Unit {0}
+HalvesKeepAnswers box EmptyHalf = Unit {0}

@@ -46,7 +46,7 @@ impl Model for ConfigBox {
 impl ConfigBox {
     ghost use Rattle.config_box.specs.BoxJson.{box_in};
     ghost use Rattle.config_box.specs.BoxSeen.{values_seen};
-    ghost use Rattle.config_box.specs.Halves.{IsSplit, StaysSettled};
+    ghost use Rattle.config_box.specs.Halves.{IsSplit, HalvesKeepAnswers};
 
     /// The box of a JSON text: an object with a list or a range of numbers for each coordinate and a list of
     /// texts for the locale. What is missing is 0, or no locale; the density has to be there.
@@ -92,8 +92,8 @@ impl ConfigBox {
         box_answers::corner(self.sets.as_slice())
     }
 
-    /// A box has a member. The call does nothing, and is there for its contract.
-    pub fn has_member(&self)
+    /// A law, for callers that ask nothing else of a box: it has a member.
+    pub fn is_never_empty(&self)
         ensures { SomeMember self.now }
     {
         let _ = &self.sets;
@@ -118,7 +118,7 @@ impl ConfigBox {
     /// The halves by a test.
     pub fn split(&self, alloc: Global, test: &Test) -> Result<Split, NoMemory>
         ensures halves { IfOk result (IsSplit self.now (test_of test.now)) }
-        ensures settled { IfOk result (StaysSettled self.now) }
+        ensures answers { IfOk result (HalvesKeepAnswers self.now) }
     {
         let sets = self.sets.as_slice();
         if has_wrong_kind(sets, test) {

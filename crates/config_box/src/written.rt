@@ -11,7 +11,7 @@ ghost use Rattle.config_box.specs.Written.{number_item, text_item, number_member
 
 use crate::box_fault::BoxFault;
 use box_answers::Coord;
-use json_input::has_only;
+use json_input::{has_only, list_of};
 use serde_json::Value;
 use std::alloc::Global;
 
@@ -97,7 +97,7 @@ fn value_at(alloc: Global, at: Coord, value: &Value) -> Result<Written<'_>, BoxF
 fn numbers_in(alloc: Global, value: &Value) -> Result<Written<'_>, BoxFault>
     ensures { GivesOr OutOfMemory written_seen result (numbers_in (view value.now)) }
 {
-    if let Some(items) = value.as_array() {
+    if let Some(items) = list_of(value) {
         let numbers = number_items(alloc, items)?;
         return Ok(Written::Numbers(numbers));
     }
@@ -127,7 +127,7 @@ fn number_item(item: &Value) -> Result<u64, BoxFault>
 fn texts_in(alloc: Global, value: &Value) -> Result<Written<'_>, BoxFault>
     ensures { GivesOr OutOfMemory written_seen result (texts_in (view value.now)) }
 {
-    let Some(items) = value.as_array() else {
+    let Some(items) = list_of(value) else {
         return Err(BoxFault::Shape);
     };
     let texts = text_items(alloc, items)?;

@@ -16,8 +16,8 @@ mod reason;
 mod table;
 
 pub use config_rules::{
-    Answer, COORD_COUNT, Coord, Device, Kind, Locale, LocaleFault, Record, Rule, SOFT_KEYS,
-    deciding_place, table_answer, write_locale,
+    Answer, COORD_COUNT, Coord, Device, Kind, Locale, LocaleFault, Numbers, Record, Rule,
+    SOFT_KEYS, deciding_place, table_answer, write_locale,
 };
 pub use matching::{matches, mismatch};
 pub use reason::Mismatch;

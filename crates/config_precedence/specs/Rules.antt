@@ -9,27 +9,27 @@ use Rattle.config_match.specs.config_rules.Rule.{at}
 -- in their order; the first has the number 1
 unfoldable pub all_rules : List Rule
 all_rules =
-    at coords.Mcc kinds.Given  -- 1
-    ∷ at coords.Mnc kinds.Given  -- 2
-    ∷ at coords.Locale kinds.LocaleRank  -- 3
-    ∷ at coords.LayoutDirection kinds.Larger  -- 4
-    ∷ at coords.SmallestWidthDp kinds.AlwaysLarger  -- 5
-    ∷ at coords.WidthDp kinds.Dimensions  -- 6
-    ∷ at coords.ScreenSize kinds.ScreenSize  -- 7
-    ∷ at coords.Long kinds.Given  -- 8
-    ∷ at coords.Round kinds.Given  -- 9
-    ∷ at coords.WideColor kinds.Given  -- 10
-    ∷ at coords.Hdr kinds.Given  -- 11
-    ∷ at coords.Orientation kinds.Given  -- 12
-    ∷ at coords.UiType kinds.Given  -- 13
-    ∷ at coords.Night kinds.Given  -- 14
-    ∷ at coords.Density kinds.Density  -- 15
-    ∷ at coords.Touchscreen kinds.Given  -- 16
-    ∷ at coords.KeysHidden kinds.KeysHidden  -- 17
-    ∷ at coords.NavHidden kinds.NavHidden  -- 18
-    ∷ at coords.Keyboard kinds.Given  -- 19
-    ∷ at coords.Navigation kinds.Given  -- 20
-    ∷ at coords.Width kinds.Dimensions  -- 21
-    ∷ at coords.Sdk kinds.Larger  -- 22
-    ∷ at coords.Minor kinds.Given  -- 23
+    at coords.Mcc kinds.Given  -- P1
+    ∷ at coords.Mnc kinds.Given  -- P2
+    ∷ at coords.Locale kinds.LocaleRank  -- P3
+    ∷ at coords.LayoutDirection kinds.Larger  -- P4
+    ∷ at coords.SmallestWidthDp kinds.AlwaysLarger  -- P5
+    ∷ at coords.WidthDp kinds.Dimensions  -- P6
+    ∷ at coords.ScreenSize kinds.ScreenSize  -- P7
+    ∷ at coords.Long kinds.Given  -- P8
+    ∷ at coords.Round kinds.Given  -- P9
+    ∷ at coords.WideColor kinds.Given  -- P10
+    ∷ at coords.Hdr kinds.Given  -- P11
+    ∷ at coords.Orientation kinds.Given  -- P12
+    ∷ at coords.UiType kinds.Given  -- P13
+    ∷ at coords.Night kinds.Given  -- P14
+    ∷ at coords.Density kinds.Density  -- P15
+    ∷ at coords.Touchscreen kinds.Given  -- P16
+    ∷ at coords.KeysHidden kinds.KeysHidden  -- P17
+    ∷ at coords.NavHidden kinds.NavHidden  -- P18
+    ∷ at coords.Keyboard kinds.Given  -- P19
+    ∷ at coords.Navigation kinds.Given  -- P20
+    ∷ at coords.Width kinds.Dimensions  -- P21
+    ∷ at coords.Sdk kinds.Larger  -- P22
+    ∷ at coords.Minor kinds.Given  -- P23
     ∷ []

@@ -16,7 +16,7 @@ mod precedence;
 mod table;
 
 pub use config_match::{
-    Answer, COORD_COUNT, Coord, Device, Kind, Locale, LocaleFault, Mismatch, Record, Rule,
+    Answer, COORD_COUNT, Coord, Device, Kind, Locale, LocaleFault, Mismatch, Numbers, Record, Rule,
     SOFT_KEYS, conditions, matches, mismatch, table_answer, write_locale,
 };
 pub use equal_record::same;

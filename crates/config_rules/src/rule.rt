@@ -27,7 +27,11 @@ impl Rule {
         ensures { result ≡ rule_answer self (record_number (record_bytes a.now))
             (record_number (record_bytes b.now)) (device_number (device_numbers device.now)) }
     {
-        self.kind.answer(self.of_record(a), self.of_record(b), self.of_device(device))
+        self.kind.answer(
+            self.numbers_of_record(a),
+            self.numbers_of_record(b),
+            self.numbers_of_device(device),
+        )
     }
 
     /// The coordinate that it reads beside its own; only dimensions have one. What it says depends on the
@@ -45,10 +49,10 @@ impl Rule {
     /// What it may look at in a record: for callers that ask when two records differ for a rule.
     ///
     /// ```text
-    /// let numbers = rule.of_record(&record);
+    /// let numbers = rule.numbers_of_record(&record);
     /// numbers.first // the record's number at rule.coord
     /// ```
-    pub fn of_record(self, stored: &Record) -> Numbers
+    pub fn numbers_of_record(self, stored: &Record) -> Numbers
         ensures { result ≡ numbers_at self.coord (record_number (record_bytes stored.now)) }
     {
         let first = stored.compared_number(self.coord);
@@ -59,7 +63,7 @@ impl Rule {
         Numbers { first, second }
     }
 
-    fn of_device(self, device: &Device) -> Numbers
+    fn numbers_of_device(self, device: &Device) -> Numbers
         ensures { result ≡ numbers_at self.coord (device_number (device_numbers device.now)) }
     {
         let first = device.compared_number(self.coord);

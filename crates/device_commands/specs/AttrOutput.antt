@@ -3,7 +3,6 @@ use Rattle.std.specs.Prelude.{ℕ, Bool, List, [], ◌∷◌, ◌++◌, codes, R
 use Rattle.contract_words.specs.Faults.{◌>>=◌}
 use Rattle.answer_text.specs.res_value.declared.res_id.ResId.{ResId}
 use Rattle.answer_text.specs.res_value.ResId.{id_text}
-use Rattle.bags_themes.specs.config_record.DeviceJson.{device_in_json}
 use Rattle.bags_themes.specs.overlay_map.Layer.{LayerOf}
 use Rattle.bags_themes.specs.reference_resolver.declared.end.End.{End}
 use Rattle.bags_themes.specs.declared.bag_fault.BagFault.{BagFault}
@@ -12,10 +11,9 @@ use Rattle.bags_themes.specs.Styles.{values_after_styles}
 use Rattle.bags_themes.specs.Attribute.{attribute_of}
 use Rattle.answer_text.specs.EndText.{end_text}
 use Rattle.command_base.specs.fault_text.declared.fault.ToolFault.{ToolFault}
-use Rattle.command_base.specs.fault_text.ToolFault.{fault_of_device}
 use Rattle.command_base.specs.Output.{Output}
-use Rattle.command_base.specs.StackBytes.{LayerBytes, stack_in}
-use Rattle.command_base.specs.MapErr.{map_err}
+use Rattle.command_base.specs.StackBytes.{LayerBytes}
+use Rattle.device_commands.specs.Opened.{opened_in}
 use Rattle.device_commands.specs.EndStatus.{status_of_end}
 use Rattle.device_commands.specs.BagOutput.{no_bag}
 
@@ -33,9 +31,8 @@ attr_answer stack attr d (Ok values) = end_output attr (attribute_of stack value
 attr_answer stack attr d (Err fault) = no_bag fault
 
 -- What `attr` prints of these layers, a device's text, an attribute and styles that are applied to nothing in
--- their order, with or without force. The layers are read before the device.
+-- their order, with or without force.
 unfoldable pub attr_output : List LayerBytes → List ℕ → ℕ → List ResId → Bool → Result Output ToolFault
 attr_output layers device_json attr styles force = do
-  stack ← stack_in layers
-  device ← map_err fault_of_device (device_in_json device_json)
-  Ok (attr_answer stack attr device (values_after_styles stack force styles unset device))
+  asked ← opened_in layers device_json
+  Ok (attr_answer asked.stack attr asked.device (values_after_styles asked.stack force styles unset asked.device))

@@ -4,18 +4,16 @@ use Rattle.std.specs.List.{flat_map}
 use Rattle.contract_words.specs.Faults.{◌>>=◌}
 use Rattle.answer_text.specs.res_value.ResId.{id_text}
 use Rattle.answer_text.specs.res_value.ValueText.{value_text}
-use Rattle.bags_themes.specs.config_record.DeviceJson.{device_in_json}
 use Rattle.bags_themes.specs.declared.bag_row.BagRow.{BagRow}
 use Rattle.bags_themes.specs.declared.bag_fault.BagFault.{BagFault}
 use Rattle.bags_themes.specs.declared.bag_fault.BagFault.TheVariants as of_bag
 use Rattle.bags_themes.specs.Bag.{bag_of}
 use Rattle.answer_text.specs.line_parts.LayerText.{layer_text}
 use Rattle.command_base.specs.fault_text.declared.fault.ToolFault.{ToolFault}
-use Rattle.command_base.specs.fault_text.ToolFault.{fault_of_device}
 use Rattle.command_base.specs.declared.status.Status.TheVariants.{Done, Negative}
 use Rattle.command_base.specs.Output.{Output}
-use Rattle.command_base.specs.StackBytes.{LayerBytes, stack_in}
-use Rattle.command_base.specs.MapErr.{map_err}
+use Rattle.command_base.specs.StackBytes.{LayerBytes}
+use Rattle.device_commands.specs.Opened.{opened_in}
 
 -- `NAME layer L`
 unfoldable pub name_and_layer : ℕ → ℕ → List ℕ
@@ -44,9 +42,8 @@ abbrev pub bag_answer : Result (List BagRow) BagFault → Output
 bag_answer (Ok rows) = record { status = Done; text = flat_map bag_row_line rows }
 bag_answer (Err fault) = no_bag fault
 
--- What `bag` prints of these layers, a device's text and this id. The layers are read before the device.
+-- What `bag` prints of these layers, a device's text and this id.
 unfoldable pub bag_output : List LayerBytes → List ℕ → ℕ → Result Output ToolFault
 bag_output layers device_json id = do
-  stack ← stack_in layers
-  device ← map_err fault_of_device (device_in_json device_json)
-  Ok (bag_answer (bag_of stack id device))
+  asked ← opened_in layers device_json
+  Ok (bag_answer (bag_of asked.stack id asked.device))

@@ -1,3 +1,5 @@
+pub mod Opened
+pub mod OpenedSeen
 pub mod EndStatus
 pub mod QueryOutput
 pub mod ExplainOutput

@@ -3,19 +3,17 @@ use Rattle.std.specs.Prelude.{ℕ, ◌++◌, Bool, List, Result, Ok, if◌then�
 use Rattle.std.specs.List.{flat_map, list_any}
 use Rattle.contract_words.specs.Faults.{◌>>=◌}
 use Rattle.answer_text.specs.res_value.declared.res_id.ResId.{ResId}
-use Rattle.bags_themes.specs.config_record.DeviceJson.{device_in_json}
 use Rattle.bags_themes.specs.overlay_map.Layer.{LayerOf}
 use Rattle.bags_themes.specs.overlay_map.SetAside.{set_aside_in_stack}
 use Rattle.bags_themes.specs.reference_resolver.declared.end.End.{End}
 use Rattle.bags_themes.specs.reference_resolver.Ends.{references_followed, end_of}
 use Rattle.answer_text.specs.QueryText.{query_line, set_aside_line}
 use Rattle.command_base.specs.fault_text.declared.fault.ToolFault.{ToolFault}
-use Rattle.command_base.specs.fault_text.ToolFault.{fault_of_device}
 use Rattle.command_base.specs.declared.status.Status.{Status}
 use Rattle.command_base.specs.declared.status.Status.TheVariants.{Done, Negative}
 use Rattle.command_base.specs.Output.{Output}
-use Rattle.command_base.specs.StackBytes.{LayerBytes, stack_in}
-use Rattle.command_base.specs.MapErr.{map_err}
+use Rattle.command_base.specs.StackBytes.{LayerBytes}
+use Rattle.device_commands.specs.Opened.{opened_in}
 use Rattle.device_commands.specs.EndStatus.{is_unresolved}
 
 -- where an id ends
@@ -38,9 +36,8 @@ line_of stack device id = query_line stack id.0 (end_for stack device id)
 unfoldable pub query_text : List LayerOf → List ℕ → List ResId → List ℕ
 query_text stack device ids = flat_map (line_of stack device) ids ++ set_aside_line (set_aside_in_stack stack)
 
--- What `query` prints of these layers, a device's text and these ids. The layers are read before the device.
+-- What `query` prints of these layers, a device's text and these ids.
 unfoldable pub query_output : List LayerBytes → List ℕ → List ResId → Result Output ToolFault
 query_output layers device_json ids = do
-  stack ← stack_in layers
-  device ← map_err fault_of_device (device_in_json device_json)
-  Ok (record { status = query_status stack device ids; text = query_text stack device ids })
+  asked ← opened_in layers device_json
+  Ok (record { status = query_status asked.stack asked.device ids; text = query_text asked.stack asked.device ids })

@@ -8,20 +8,20 @@ ghost use Rattle.device_commands.specs.AttrOutput.{attribute_line, attr_output};
 
 use crate::end_status::status_of_end;
 use crate::no_bag::print_no_bag;
+use crate::opened::{Opened, open};
 use answer_text::{ResId, end_text, write_id};
-use bags_themes::{Device, End, Theme};
-use command_base::{Status, ToolFault, open_stack};
+use bags_themes::{End, Theme};
+use command_base::{LayerParts, Status, ToolFault};
 use std::alloc::Global;
 use std::io::{self, Write};
 
 /// Prints where an attribute ends for a device after styles that are applied in their order, with `force` or
 /// without, or why the first style that is no bag, or has too many parents, is refused. The status is Negative
-/// there, and where the end is absent or too long. A layer is the bytes of a table and, at an overlay, those of
-/// an id map.
+/// there, and where the end is absent or too long.
 #[tactic(auto, unfolding(crate::specs::AttrOutput::attr_output))]
 pub fn attr_bytes<W: Write + Drop>(
     alloc: Global,
-    layers: &[(&[u8], Option<&[u8]>)],
+    layers: &[LayerParts<&[u8]>],
     device: &[u8],
     attr: ResId,
     styles: &[ResId],
@@ -31,8 +31,7 @@ pub fn attr_bytes<W: Write + Drop>(
     ensures { Prints W.contents out.old out.new result
         (attr_output (map layer_bytes layers.now) device.now attr.0 styles.now force) }
 {
-    let stack = open_stack(alloc, layers)?;
-    let device = Device::read(alloc, device)?;
+    let Opened { stack, device } = open(alloc, layers, device)?;
     match Theme::of_styles(alloc, &stack, styles, force, &device) {
         Ok(theme) => {
             let end = theme.attribute(&stack, attr, &device);

@@ -8,27 +8,26 @@ ghost use Rattle.command_base.specs.StackBytesSeen.{layer_bytes};
 ghost use Rattle.device_commands.specs.BagOutput.{name_and_layer, bag_row_line, bag_output};
 
 use crate::no_bag::print_no_bag;
+use crate::opened::{Opened, open};
 use answer_text::{ResId, write_id, write_layer, write_value};
-use bags_themes::{BagRow, Device, bag};
-use command_base::{Status, ToolFault, open_stack};
+use bags_themes::{BagRow, bag};
+use command_base::{LayerParts, Status, ToolFault};
 use std::alloc::Global;
 use std::io::{self, Write};
 
 /// Prints a line for each row of the bag that an id selects for a device, those that it inherits among them, or
-/// one that says why there is no such bag; then the status is Negative. A layer is the bytes of a table and, at an
-/// overlay, those of an id map.
+/// one that says why there is no such bag; then the status is Negative.
 #[tactic(auto, unfolding(crate::specs::BagOutput::bag_output))]
 pub fn bag_bytes<W: Write + Drop>(
     alloc: Global,
-    layers: &[(&[u8], Option<&[u8]>)],
+    layers: &[LayerParts<&[u8]>],
     device: &[u8],
     id: ResId,
     out: &mut W,
 ) -> Result<Status, ToolFault>
     ensures { Prints W.contents out.old out.new result (bag_output (map layer_bytes layers.now) device.now id.0) }
 {
-    let stack = open_stack(alloc, layers)?;
-    let device = Device::read(alloc, device)?;
+    let Opened { stack, device } = open(alloc, layers, device)?;
     match bag(alloc, &stack, id, &device) {
         Ok(rows) => {
             write_rows(rows.as_slice(), out)?;

@@ -6,27 +6,26 @@ ghost use Rattle.command_base.specs.StackBytesSeen.{layer_bytes};
 ghost use Rattle.device_commands.specs.ExplainOutput.{explain_output};
 
 use crate::end_status::status_of_end;
+use crate::opened::{Opened, open};
 use answer_text::{ResId, explain};
-use bags_themes::Device;
-use command_base::{Status, ToolFault, open_stack};
+use command_base::{LayerParts, Status, ToolFault};
 use std::alloc::Global;
 use std::io::Write;
 
-/// Prints how an id comes to its end for a device: a line for each id that is looked up and one for each
-/// of its candidates, with the rule that decided, and last the end. A layer is the bytes of a table and, at
-/// an overlay, those of an id map. The status is Negative where the end is absent or too long.
+/// Prints how an id comes to its end for a device: a line for each id that is looked up and one for each of its
+/// candidates, with the rule that decided, and last the end. The status is Negative where the end is absent or
+/// too long.
 #[tactic(auto, unfolding(crate::specs::ExplainOutput::explain_output))]
 pub fn explain_bytes<W: Write + Drop>(
     alloc: Global,
-    layers: &[(&[u8], Option<&[u8]>)],
+    layers: &[LayerParts<&[u8]>],
     device: &[u8],
     id: ResId,
     out: &mut W,
 ) -> Result<Status, ToolFault>
     ensures { Prints W.contents out.old out.new result (explain_output (map layer_bytes layers.now) device.now id.0) }
 {
-    let stack = open_stack(alloc, layers)?;
-    let device = Device::read(alloc, device)?;
+    let Opened { stack, device } = open(alloc, layers, device)?;
     let end = explain(&stack, id, &device, out)?;
     Ok(status_of_end(end))
 }

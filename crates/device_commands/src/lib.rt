@@ -22,6 +22,7 @@ mod bag;
 mod end_status;
 mod explain;
 mod no_bag;
+mod opened;
 mod query;
 
 pub use attr::attr_bytes;

@@ -8,27 +8,26 @@ ghost use Rattle.command_base.specs.StackBytesSeen.{layer_bytes};
 ghost use Rattle.device_commands.specs.QueryOutput.{query_status, query_text, query_output};
 
 use crate::end_status::is_unresolved;
+use crate::opened::{Opened, open};
 use answer_text::{ResId, query_line, set_aside_line};
 use bags_themes::{Device, Stack, resolve};
-use command_base::{Status, ToolFault, open_stack};
+use command_base::{LayerParts, Status, ToolFault};
 use std::alloc::Global;
 use std::io::{self, Write};
 
 /// Prints a line for each of some ids with its end for a device, in the order of the ids, and one with the
-/// number of rows of all layers that are set aside. A layer is the bytes of a table and, at an overlay, those of
-/// an id map. The status is Negative where an end is absent or too long.
+/// number of rows of all layers that are set aside. The status is Negative where an end is absent or too long.
 #[tactic(auto, unfolding(crate::specs::QueryOutput::query_output))]
 pub fn query_bytes<W: Write + Drop>(
     alloc: Global,
-    layers: &[(&[u8], Option<&[u8]>)],
+    layers: &[LayerParts<&[u8]>],
     device: &[u8],
     ids: &[ResId],
     out: &mut W,
 ) -> Result<Status, ToolFault>
     ensures { Prints W.contents out.old out.new result (query_output (map layer_bytes layers.now) device.now ids.now) }
 {
-    let stack = open_stack(alloc, layers)?;
-    let device = Device::read(alloc, device)?;
+    let Opened { stack, device } = open(alloc, layers, device)?;
     Ok(write_ends(&stack, &device, ids, out)?)
 }
 

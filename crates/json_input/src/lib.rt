@@ -19,11 +19,12 @@
 //!     return Err(Fault::Shape);
 //! }
 //! let table = value.get("table").and_then(Value::as_str);
+//! let items = list_of(&value).ok_or(Fault::Shape)?; // of another value, a list
 //! ```
 #![tactic(auto)]
 
 mod shape;
 mod value;
 
-pub use shape::has_only;
+pub use shape::{has_only, list_of};
 pub use value::{JsonFault, read_value};

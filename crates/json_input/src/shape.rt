@@ -1,7 +1,9 @@
 //! Shapes of values.
 
 ghost use Rattle.std.specs.Prelude.{◌≡◌, map};
+ghost use Rattle.std.specs.Option.{option_map};
 ghost use Rattle.serde_json.specs.View.{view, members_view};
+ghost use Rattle.json_input.specs.Each.{list_of};
 ghost use Rattle.json_input.specs.Shape.{is_among, are_among, has_only};
 
 use serde_json::{Map, Value};
@@ -14,6 +16,16 @@ pub fn has_only(value: &Value, names: &[&str]) -> bool
     match value.as_object() {
         Some(members) => are_among(members, names),
         None => false,
+    }
+}
+
+/// The items of a value that is a list.
+pub fn list_of(value: &Value) -> Option<&[Value]>
+    ensures { option_map (λ items. map view items.now) result ≡ list_of (view value.now) }
+{
+    match value.as_array() {
+        Some(items) => Some(items.as_slice()),
+        None => None,
     }
 }
 

@@ -1,4 +1,4 @@
 pub mod PairSteps
-pub mod PlaceSteps
+pub mod CheckSteps
 pub mod FewRows
 pub mod SetAsideSteps

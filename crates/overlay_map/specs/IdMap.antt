@@ -1,12 +1,9 @@
 -- Id maps: which id of an overlay stands for an id of the stack.
-use Rattle.std.specs.Prelude.{ℕ, ◌≡◌, not, List, [], ◌∷◌, map, ◌==◌, Option, Some, None, option_and_then, ok_or, Result, Ok, if◌then◌else◌}
-use Rattle.std.specs.List.{list_any, position}
-use Rattle.std.specs.Ordering.{nat_cmp}
-use Rattle.std.specs.BTreeMap.{BTreeMap, get}
+use Rattle.std.specs.Prelude.{ℕ, not, List, [], ◌∷◌, map, ◌==◌, Option, Some, None, option_and_then, ok_or, Result, Ok, if◌then◌else◌}
+use Rattle.std.specs.List.{list_any}
 use Rattle.contract_words.specs.Faults.{◌>>=◌, refuse}
 use Rattle.contract_words.specs.Sequences.{joined_each, with_before}
-use Rattle.serde_json.specs.Data.{Data, Items, no_items, item}
-use Rattle.serde_json.specs.Find.{as_array}
+use Rattle.serde_json.specs.Data.{Data}
 use Rattle.json_input.specs.Each.{list_of, each}
 use Rattle.json_input.specs.Json.{value_of}
 use Rattle.json_input.specs.Shape.{text_of}
@@ -32,6 +29,10 @@ IdPair = ResId × ResId
 abbrev pub pairs_of : List IdPair → MapOf
 pairs_of pairs = map (λ pair. (pair.0.0, pair.1.0)) pairs
 
+-- those of their targets
+abbrev pub targets_of : List IdPair → List ℕ
+targets_of pairs = map (λ pair. pair.0.0) pairs
+
 -- ---- the shape: a list of pairs of ids
 
 -- the id of a value: that of a text which spells one
@@ -43,13 +44,13 @@ both (Some target) (Some own) = Some (target, own)
 both (Some target) None = None
 both None own = None
 
-abbrev pub pair_of_items : Items → Option IdPair
-pair_of_items (item target (item own no_items)) = both (id_in target) (id_in own)
+abbrev pub pair_of_items : List Data → Option IdPair
+pair_of_items (target ∷ own ∷ []) = both (id_in target) (id_in own)
 pair_of_items _ = None
 
 -- a list of two ids
 abbrev pub pair_in : Data → Option IdPair
-pair_in value = option_and_then pair_of_items (as_array value)
+pair_in value = option_and_then pair_of_items (list_of value)
 
 abbrev pub pair_item : Data → Result IdPair MapFault
 pair_item value = ok_or (pair_in value) Shape
@@ -73,16 +74,6 @@ checked_pair first_package (before, pair) = check_target first_package before pa
 unfoldable pub checked_pairs : List IdPair → Result (List IdPair) MapFault
 checked_pairs [] = Ok []
 checked_pairs (first ∷ pairs) = joined_each (checked_pair (package_of first.0)) (with_before [] (first ∷ pairs))
-
--- ---- where targets stand; contracts within the crate alone speak of this
-
--- the place that a tree has for a target
-abbrev pub place_in : BTreeMap ResId ℕ → ResId → Option ℕ
-place_in places target = get (λ a b. nat_cmp a.0 b.0) places target
-
--- A tree has for each target of these pairs the index of the first pair with it, and for no other target one.
-abbrev pub FindsTargets : List IdPair → BTreeMap ResId ℕ → Type 0
-FindsTargets pairs places = (target : ResId) → place_in places target ≡ position (λ pair. target.0 == pair.0.0) pairs
 
 -- ---- the map of a JSON text, or its first fault: that of the text, of the shape, of a pair
 

@@ -21,6 +21,7 @@
 
 mod candidate;
 mod candidates;
+mod checked_pairs;
 mod id_map;
 mod layer;
 mod map_fault;
@@ -33,7 +34,7 @@ pub use candidates::Cands;
 pub use id_map::IdMap;
 pub use map_fault::MapFault;
 pub use row_index::{
-    Cell, Coord, DeviceFault, MapRows, Package, PackageRows, Pool, PoolFault, ResId, Row, Table,
+    Cell, DeviceFault, MapRows, Package, PackageRows, Pool, PoolFault, ResId, Row, Table,
     TableFault, Value, kind, write_string,
 };
 pub use stack::{MOST_LAYERS, Stack};

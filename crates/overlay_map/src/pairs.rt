@@ -1,14 +1,15 @@
 //! The pairs of ids that a JSON value is.
 
-ghost use Rattle.std.specs.Prelude.{◌≡◌, length, map, Some, None, IfOk, IfErr};
+ghost use Rattle.std.specs.Prelude.{◌≡◌, length, map};
 ghost use Rattle.serde_json.specs.View.{view};
 ghost use Rattle.contract_words.specs.Exact.{GivesOr};
 ghost use Rattle.contract_words.specs.FillsIn.{FillsIn};
-ghost use Rattle.json_input.specs.Each.{each, list_of};
+ghost use Rattle.json_input.specs.Each.{each};
 ghost use Rattle.overlay_map.specs.IdMap.{id_in, pair_in, pair_item, pairs_in};
-ghost use Rattle.overlay_map.specs.declared.map_fault.MapFault.TheVariants.{OutOfMemory, Shape};
+ghost use Rattle.overlay_map.specs.declared.map_fault.MapFault.TheVariants.{OutOfMemory};
 
 use crate::map_fault::MapFault;
+use json_input::list_of;
 use row_index::ResId;
 use serde_json::Value;
 use std::alloc::Global;
@@ -18,21 +19,12 @@ use std::alloc::Global;
 pub(crate) fn pairs_in(alloc: Global, value: &Value) -> Result<Vec<(ResId, ResId)>, MapFault>
     ensures { GivesOr OutOfMemory (λ pairs. pairs.items) result (pairs_in (view value.now)) }
 {
-    let items = items_in(value)?;
+    let Some(items) = list_of(value) else {
+        return Err(MapFault::Shape);
+    };
     let mut pairs = vec![in alloc; (ResId(0), ResId(0)); items.len()]?;
     fill_pairs(items, &mut pairs)?;
     Ok(pairs)
-}
-
-// The items of a list.
-fn items_in(value: &Value) -> Result<&[Value], MapFault>
-    ensures items { IfOk result (λ items. list_of (view value.now) ≡ Some (map view items.now)) }
-    ensures fault { IfErr result (λ fault. (list_of (view value.now) ≡ None) × (fault ≡ Shape)) }
-{
-    match value.as_array() {
-        Some(items) => Ok(items.as_slice()),
-        None => Err(MapFault::Shape),
-    }
 }
 
 // Fills in the pair of each item.
@@ -50,8 +42,7 @@ fn fill_pairs(items: &[Value], pairs: &mut [(ResId, ResId)]) -> Result<(), MapFa
 fn pair_in(value: &Value) -> Option<(ResId, ResId)>
     ensures { result ≡ pair_in (view value.now) }
 {
-    let items = value.as_array()?;
-    let [target, own] = items.as_slice() else {
+    let [target, own] = list_of(value)? else {
         return None;
     };
     Some((id_in(target)?, id_in(own)?))

@@ -10,13 +10,13 @@ ghost use Rattle.program_run.specs.FilesSeen.{layer_held, all_held, layers_held,
 
 use crate::input::{Inputs, file_bytes, layer_file_bytes};
 use crate::stop::Stop;
-use command_base::LayerList;
+use command_base::{LayerList, LayerParts};
 use std::alloc::{AllocError, Global};
 
 /// The bytes of the files of layers: each table with its id map, if it is an overlay.
 #[derive(Drop)]
 pub struct LayerFiles {
-    files: Vec<(Vec<u8>, Option<Vec<u8>>)>,
+    files: Vec<LayerParts<Vec<u8>>>,
 }
 
 impl LayerFiles {
@@ -36,7 +36,7 @@ impl LayerFiles {
     }
 
     /// The layers, lent.
-    pub fn layers(&self, alloc: Global) -> Result<Vec<(&[u8], Option<&[u8]>)>, AllocError>
+    pub fn layers(&self, alloc: Global) -> Result<Vec<LayerParts<&[u8]>>, AllocError>
         ensures { IfOk result (λ layers. map layer_bytes layers.items ≡ layers_held self.now) }
     {
         let mut layers = Vec::new(alloc);
@@ -50,8 +50,8 @@ impl LayerFiles {
 fn read_each_layer<I: Inputs>(
     alloc: Global,
     inputs: &I,
-    paths: Vec<(String, Option<String>)>,
-) -> Result<Vec<(Vec<u8>, Option<Vec<u8>>)>, Stop<'static>>
+    paths: Vec<LayerParts<String>>,
+) -> Result<Vec<LayerParts<Vec<u8>>>, Stop<'static>>
     ensures { IfSome (I.places inputs.now) (λ places. GivesOrStops all_held result (each (layer_of places) (all_paths_of paths))) }
 {
     let mut files = Vec::new(alloc);
@@ -65,8 +65,8 @@ fn read_each_layer<I: Inputs>(
 #[tactic(auto, unfolding(crate::specs::Inputs::layer_of))]
 fn read_layer<I: Inputs>(
     inputs: &I,
-    paths: (String, Option<String>),
-) -> Result<(Vec<u8>, Option<Vec<u8>>), Stop<'static>>
+    paths: LayerParts<String>,
+) -> Result<LayerParts<Vec<u8>>, Stop<'static>>
     ensures { IfSome (I.places inputs.now) (λ places. GivesOrStops layer_held result (layer_of places (paths_of paths))) }
 {
     let (table, map) = paths;

@@ -46,7 +46,7 @@ impl Decision {
         match mismatch(&candidate.row.config, device) {
             Some(Mismatch::SetAside) => Decision::SetAside,
             Some(Mismatch::At(coord)) => Decision::NoMatch(coord),
-            None => of_match(best, candidate, device),
+            None => decision_of_match(best, candidate, device),
         }
     }
 
@@ -63,7 +63,7 @@ impl Decision {
 }
 
 // What a candidate does that matches.
-fn of_match(best: &Option<Cand<'_>>, candidate: &Cand<'_>, device: &Device) -> Decision
+fn decision_of_match(best: &Option<Cand<'_>>, candidate: &Cand<'_>, device: &Device) -> Decision
     ensures { result ≡ decision_of_match
         (option_map cand_of best.now) (cand_of candidate.now) (device_numbers device.now) }
 {

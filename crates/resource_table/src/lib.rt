@@ -33,6 +33,6 @@ pub use package_rows::PackageRows;
 pub use rows::{AllRows, Rows};
 pub use table::Table;
 pub use type_chunks::{
-    Cell, CheckedType, Coord, DeviceFault, MapRows, Pool, PoolFault, ResId, Row, TableFault, Value,
-    kind, write_string,
+    Cell, CheckedType, DeviceFault, MapRows, Pool, PoolFault, ResId, Row, TableFault, Value, kind,
+    write_string,
 };

@@ -1,5 +1,5 @@
 //! The lines that commands print, written straight to a writer: those of verdicts stand here, those of rows,
-//! ends, explanations and faults are handed on.
+//! ends and explanations are handed on.
 //!
 //! For the crates above: what each call appends is the one text of its value, as `specs/` define it,
 //! and nothing else; the only error is the writer's.
@@ -13,6 +13,5 @@
 
 mod verdict;
 
-pub use answer_text::{dump_text, end_text, explain, query_line, rows_text, set_aside_line};
-pub use fault_text::{LayersFault, ToolFault, fault_text};
+pub use answer_text::{dump_text, end_text, explain, rows_text, set_aside_line};
 pub use verdict::{device_with_end, verdict_text};

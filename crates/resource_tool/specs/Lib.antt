@@ -1,6 +1,6 @@
 pub mod CheckOutput
 pub mod CheckHeadline
-pub mod CheckInputsSeen
+pub mod CheckedSeen
 pub mod MakeOutput
 pub mod LineReadsBack
 pub use Rattle.cert_maker.specs.cert_tree

@@ -14,15 +14,15 @@ use cert_maker::{Cert, ConfigBox, ResId, Verdict, check};
 use resource_text::{set_aside_line, verdict_text};
 use std::alloc::Global;
 use std::io::{self, Write};
-use table_commands::{Stack, Status, ToolFault, open_stack};
+use table_commands::{LayerParts, Stack, Status, ToolFault, open_stack};
 
 /// Prints whether a certificate is true of some ids for every device of a box, or the first of its nodes that
 /// fails with the devices that show it; and a line with the number of rows of all layers that are set aside.
 /// The certificate has to have a tree for each of the ids, in their order. The status is Negative where it is
-/// rejected. A layer is the bytes of a table and, at an overlay, those of an id map.
+/// rejected.
 pub fn check_bytes<W: Write + Drop>(
     alloc: Global,
-    layers: &[(&[u8], Option<&[u8]>)],
+    layers: &[LayerParts<&[u8]>],
     box_json: &[u8],
     cert: &[u8],
     goals: &[ResId],
@@ -33,34 +33,34 @@ pub fn check_bytes<W: Write + Drop>(
     ensures headline { IfOk result (HeadlineHolds (map layer_bytes layers.now) box_json.now cert.now goals.now
         (W.contents out.old) (W.contents out.new)) }
 {
-    let inputs = read_inputs(alloc, layers, box_json, cert)?;
-    Ok(answer(alloc, &inputs, goals, out)?)
+    let checked = read_checked(alloc, layers, box_json, cert)?;
+    Ok(answer(alloc, &checked, goals, out)?)
 }
 
 /// What is checked.
 #[derive(Drop)]
-struct Inputs<'a> {
+struct Checked<'a> {
     stack: Stack<'a>,
     members: ConfigBox,
     certificate: Cert,
 }
 
-ghost use Rattle.resource_tool.specs.CheckInputsSeen.{inputs_of};
+ghost use Rattle.resource_tool.specs.CheckedSeen.{checked_of};
 
 #[tactic(auto, unfolding(crate::specs::CheckOutput::check_inputs))]
-fn read_inputs<'a>(
+fn read_checked<'a>(
     alloc: Global,
-    layers: &[(&'a [u8], Option<&[u8]>)],
+    layers: &[LayerParts<&'a [u8]>],
     box_json: &[u8],
     cert: &[u8],
-) -> Result<Inputs<'a>, ToolFault>
-    ensures value { GivesOr OutOfMemory inputs_of result (check_inputs (map layer_bytes layers.now) box_json.now cert.now) }
+) -> Result<Checked<'a>, ToolFault>
+    ensures value { GivesOr OutOfMemory checked_of result (check_inputs (map layer_bytes layers.now) box_json.now cert.now) }
     ensures of_input { IsOfInput result }
 {
     let stack = open_stack(alloc, layers)?;
     let members = ConfigBox::read(alloc, box_json)?;
     let certificate = Cert::read(alloc, cert)?;
-    Ok(Inputs {
+    Ok(Checked {
         stack,
         members,
         certificate,
@@ -69,34 +69,34 @@ fn read_inputs<'a>(
 
 fn answer<W: Write + Drop>(
     alloc: Global,
-    inputs: &Inputs<'_>,
+    checked: &Checked<'_>,
     goals: &[ResId],
     out: &mut W,
 ) -> Result<Status, ToolFault>
-    ensures { PrintsOneOf (IsCheckOutput goals.now) W.contents out.old out.new result (Ok (inputs_of inputs.now)) }
+    ensures { PrintsOneOf (IsCheckOutput goals.now) W.contents out.old out.new result (Ok (checked_of checked.now)) }
 {
     let goals = goals_asked(alloc, goals)?;
     let verdict = check(
         alloc,
-        &inputs.stack,
-        &inputs.members,
+        &checked.stack,
+        &checked.members,
         &goals,
-        &inputs.certificate,
+        &checked.certificate,
     )?;
-    write_verdict(&verdict, inputs, out)?;
+    write_verdict(&verdict, checked, out)?;
     Ok(status_of_verdict(verdict))
 }
 
 #[tactic(auto, unfolding(crate::specs::CheckOutput::check_text))]
 fn write_verdict<W: Write + Drop>(
     verdict: &Verdict,
-    inputs: &Inputs<'_>,
+    checked: &Checked<'_>,
     out: &mut W,
 ) -> io::Result<()>
-    ensures { Writes W.contents out.old out.new result (check_text (inputs_of inputs.now) verdict.now) }
+    ensures { Writes W.contents out.old out.new result (check_text (checked_of checked.now) verdict.now) }
 {
-    verdict_text(verdict, &inputs.certificate, out)?;
-    set_aside_line(inputs.stack.set_aside(), out)
+    verdict_text(verdict, &checked.certificate, out)?;
+    set_aside_line(checked.stack.set_aside(), out)
 }
 
 fn status_of_verdict(verdict: Verdict) -> Status

@@ -20,6 +20,6 @@ pub use check::check_bytes;
 pub use device_commands::{attr_bytes, bag_bytes, explain_bytes, query_bytes};
 pub use make::{make_bytes, make_bytes_watched};
 pub use table_commands::{
-    InputFault, LayerList, LayersFault, Status, ToolFault, dump_bytes, fault_text, read_input,
-    rows_bytes,
+    InputFault, LayerList, LayerParts, LayersFault, Status, ToolFault, dump_bytes, fault_text,
+    read_input, rows_bytes,
 };

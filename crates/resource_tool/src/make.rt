@@ -13,16 +13,15 @@ use cert_maker::{ConfigBox, Made, Progress, ResId, Unwatched, make_watched};
 use resource_text::device_with_end;
 use std::alloc::Global;
 use std::io::{self, Write};
-use table_commands::{Device, End, Stack, Status, ToolFault, open_stack};
+use table_commands::{Device, End, LayerParts, Stack, Status, ToolFault, open_stack};
 
-/// Prints a certificate that `check_bytes` accepts for the same layers, box and ids, in one line of JSON; then the
-/// status is Done. Or it prints the place of an id, from 0, with a device of the box for which that id ends at no
-/// value and no bag, and where it ends; or `node limit`, where the trees of all ids can have more than `max_nodes`
-/// nodes together. A certificate of more than 1,000,000 nodes is not read again. A layer is the bytes of a table
-/// and, at an overlay, those of an id map.
+/// Prints a certificate that `check_bytes` accepts for the same layers, box and ids, in one line of JSON; then
+/// the status is Done. Or it prints the place of an id, from 0, with a device of the box for which that id ends
+/// at no value and no bag, and where it ends; or `node limit`, where the trees of all ids can have more than
+/// `max_nodes` nodes together. A certificate of more than 1,000,000 nodes is not read again.
 pub fn make_bytes<W: Write + Drop>(
     alloc: Global,
-    layers: &[(&[u8], Option<&[u8]>)],
+    layers: &[LayerParts<&[u8]>],
     box_json: &[u8],
     goals: &[ResId],
     max_nodes: u32,
@@ -46,7 +45,7 @@ pub fn make_bytes<W: Write + Drop>(
 #[tactic(auto, unfolding(crate::specs::MakeOutput::make_inputs))]
 pub fn make_bytes_watched<W: Write + Drop, P: Progress>(
     alloc: Global,
-    layers: &[(&[u8], Option<&[u8]>)],
+    layers: &[LayerParts<&[u8]>],
     box_json: &[u8],
     goals: &[ResId],
     max_nodes: u32,

@@ -22,6 +22,6 @@ mod row_places;
 pub use indexed_rows::IndexedRows;
 pub use indexed_table::IndexedTable;
 pub use resource_table::{
-    Cell, Coord, DeviceFault, MapRows, Package, PackageRows, Pool, PoolFault, ResId, Row, Table,
+    Cell, DeviceFault, MapRows, Package, PackageRows, Pool, PoolFault, ResId, Row, Table,
     TableFault, Value, kind, write_string,
 };

@@ -2,5 +2,8 @@
 
 mod attr_command;
 mod bag_command;
+mod chains;
 mod inherited;
+mod slots;
 mod themes;
+mod under_styles;

@@ -27,7 +27,7 @@ mod spans;
 mod text;
 mod units;
 
-pub use chunk_walk::{ALIGNMENT, Chunk, ChunkFault, chunk_at, u16_at, u16_within, u32_within};
+pub use chunk_walk::{ALIGNMENT, Chunk, ChunkFault, chunk_at, u16_within, u32_within};
 pub use fault::{PoolFault, StringFault};
 pub use pool::Pool;
 pub use shown::write_string;

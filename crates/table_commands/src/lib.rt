@@ -16,7 +16,8 @@ mod rows;
 
 pub use answer_text::{Device, End, Stack};
 pub use command_base::{
-    InputFault, LayerList, LayersFault, Status, ToolFault, fault_text, open_stack, read_input,
+    InputFault, LayerList, LayerParts, LayersFault, Status, ToolFault, fault_text, open_stack,
+    read_input,
 };
 pub use dump::dump_bytes;
 pub use rows::rows_bytes;

@@ -45,5 +45,5 @@ pub use qualifier::{RECORD_SIZE, record_of};
 pub use row_chain::chain;
 pub use sparse::{sparse_layer_of_entries, sparse_layer_of_lines};
 pub use table::{layer, layer_of_entries, layer_of_lines, layer_with_string};
-pub use type_chunk::sparse_slot;
+pub use type_chunk::sparse_pair;
 pub use unnamed_entry::{put, table_a, table_with};

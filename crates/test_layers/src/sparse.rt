@@ -4,7 +4,7 @@ use crate::fault::LayerFault;
 use crate::qualifier::record_of;
 use crate::row::{TestRow, entry_count, rows_of};
 use crate::table::{empty_pool, lines_of, table_of};
-use crate::type_chunk::{TestType, WORD_SIZE, push_type_spec, sparse_slot};
+use crate::type_chunk::{TestType, WORD_SIZE, push_type_spec, sparse_pair};
 use std::alloc::Global;
 
 /// A sparse type that rows are put into.
@@ -13,7 +13,7 @@ struct SparseType<'a> {
     qualifiers: &'a str,
     /// The entry of the last row.
     last: u32,
-    slots: Vec<u32>,
+    offsets: Vec<u32>,
     entries: Vec<u8>,
 }
 
@@ -22,7 +22,7 @@ impl<'a> SparseType<'a> {
         let mut made = SparseType {
             qualifiers: row.qualifiers,
             last: row.entry,
-            slots: Vec::new(alloc),
+            offsets: Vec::new(alloc),
             entries: Vec::new(alloc),
         };
         made.push(alloc, row)?;
@@ -38,7 +38,7 @@ impl<'a> SparseType<'a> {
         let index = u16::try_from(row.entry).map_err(|_| LayerFault::Malformed)?;
         let words = self.entries.len() / WORD_SIZE;
         let words = u16::try_from(words).map_err(|_| LayerFault::Malformed)?;
-        self.slots.push(sparse_slot(index, words))?;
+        self.offsets.push(sparse_pair(index, words))?;
         self.entries.extend_from_slice(&row.cell.entry(alloc)?)?;
         self.last = row.entry;
         Ok(())
@@ -49,7 +49,7 @@ impl<'a> SparseType<'a> {
         let made = TestType {
             is_sparse: true,
             record: &record,
-            slots: &self.slots,
+            offsets: &self.offsets,
             entries: &self.entries,
         };
         made.push_to(alloc, chunks)
@@ -68,18 +68,18 @@ pub fn sparse_layer_of_lines(alloc: Global, lines: &str) -> Result<Vec<u8>, Laye
     table_of(alloc, &empty_pool(alloc)?, &chunks)
 }
 
-/// The bytes of a table of one sparse type that has these slots and these entries. Its type spec counts so many.
+/// The bytes of a table of one sparse type that has these entry offsets and these entries. Its type spec counts so many.
 pub fn sparse_layer_of_entries(
     alloc: Global,
     counted: u32,
-    slots: &[u32],
+    offsets: &[u32],
     entries: &[u8],
 ) -> Result<Vec<u8>, LayerFault> {
     let record = record_of("").ok_or(LayerFault::Malformed)?;
     let made = TestType {
         is_sparse: true,
         record: &record,
-        slots,
+        offsets,
         entries,
     };
     let mut chunks = Vec::new(alloc);

@@ -48,7 +48,7 @@ pub fn layer_of_entries(
     let made = TestType {
         is_sparse: false,
         record: &record,
-        slots: offsets,
+        offsets,
         entries,
     };
     let mut chunks = Vec::new(alloc);
@@ -99,7 +99,7 @@ fn push_type(
     let made = TestType {
         is_sparse: false,
         record: &record,
-        slots: &offsets,
+        offsets: &offsets,
         entries: &entry,
     };
     made.push_to(alloc, chunks)

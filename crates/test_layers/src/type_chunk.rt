@@ -10,13 +10,13 @@ const TYPE_SPEC: u16 = 0x0202;
 
 const TYPE_ID: u8 = 1;
 
-/// The flag of a type whose slots name the indexes of their entries.
+/// The flag of a type whose entry offsets name the indexes of their entries.
 const IS_SPARSE: u8 = 1;
 
 /// The size of a type chunk's header.
 const TYPE_HEADER: u32 = 72;
 
-/// The slot of an entry that is not there.
+/// The offset of an entry that is not there.
 pub(crate) const NO_ENTRY: u32 = 0xffff_ffff;
 
 /// How many bytes a word is in which a sparse type counts offsets.
@@ -27,14 +27,14 @@ pub(crate) const WORD_SIZE: usize = 4;
 pub(crate) struct TestType<'a> {
     pub(crate) is_sparse: bool,
     pub(crate) record: &'a [u8],
-    /// The offsets of entries, or what `sparse_slot` gives.
-    pub(crate) slots: &'a [u32],
+    /// The offsets of entries, or what `sparse_pair` gives.
+    pub(crate) offsets: &'a [u32],
     pub(crate) entries: &'a [u8],
 }
 
-/// The slot of a sparse type for the entry of an index, which stands so many words of four bytes behind where the
-/// entries begin.
-pub fn sparse_slot(index: u16, words: u16) -> u32 {
+/// The entry offset of a sparse type for the entry of an index, which stands so many words of four bytes behind where
+/// the entries begin.
+pub fn sparse_pair(index: u16, words: u16) -> u32 {
     let [low, high] = index.to_le_bytes();
     let [low_words, high_words] = words.to_le_bytes();
     u32::from_le_bytes([low, high, low_words, high_words])
@@ -61,7 +61,7 @@ impl TestType<'_> {
     /// Appends the type.
     pub(crate) fn push_to(&self, alloc: Global, chunks: &mut Vec<u8>) -> Result<(), LayerFault> {
         let flags = if self.is_sparse { IS_SPARSE } else { 0 };
-        let count = u32::try_from(self.slots.len()).map_err(|_| LayerFault::Malformed)?;
+        let count = u32::try_from(self.offsets.len()).map_err(|_| LayerFault::Malformed)?;
         let entries_start = count.saturating_mul(4).saturating_add(TYPE_HEADER);
         let mut header = Vec::new(alloc);
         header.extend_from_slice(&[TYPE_ID, flags, 0, 0])?;
@@ -69,8 +69,8 @@ impl TestType<'_> {
         push_u32(&mut header, entries_start)?;
         header.extend_from_slice(self.record)?;
         let mut body = Vec::new(alloc);
-        for slot in self.slots {
-            push_u32(&mut body, *slot)?;
+        for offset in self.offsets {
+            push_u32(&mut body, *offset)?;
         }
         body.extend_from_slice(self.entries)?;
         push_chunk(chunks, TYPE, &header, &body)?;

@@ -11,23 +11,23 @@ use Rattle.type_chunks.specs.Row.{RowOf}
 use Rattle.type_chunks.specs.TypeChunk.{TypeChunkOf}
 use Rattle.type_chunks.specs.Entry.{rows_of_entry}
 use Rattle.type_chunks.specs.PackageChildren.{rows_of_entries}
-use Rattle.type_chunks.specs.Slots.{is_empty, indexes_rise}
-use Rattle.type_chunks.specs.Entries.{AreEmpty, AreRead, IsChecked, or_none, row_of_slot, rows_from}
+use Rattle.type_chunks.specs.EntryOffsets.{is_empty, indexes_rise}
+use Rattle.type_chunks.specs.Entries.{AreEmpty, AreRead, IsChecked, or_none, row_at_position, rows_from}
 
 -- where no entry is, nothing is wrong, and no row is
-pub empty-read : (chunk : TypeChunkOf) (slot : ℕ) → is_empty chunk slot ≡ true → rows_of_entry chunk slot ≡ Ok []
+pub empty-read : (chunk : TypeChunkOf) (position : ℕ) → is_empty chunk position ≡ true → rows_of_entry chunk position ≡ Ok []
 unfolding rows_of_entry
-empty-read chunk slot none = rw none refl
+empty-read chunk position none = rw none refl
 
 pub AreRead-empty : (chunk : TypeChunkOf) (from behind : ℕ) → AreRead chunk from → AreEmpty chunk from behind → AreRead chunk behind
-AreRead-empty chunk from behind read empty slot below = by (nat_lt slot from) refl
+AreRead-empty chunk from behind read empty position below = by (nat_lt position from) refl
   where
-    by : (b : Bool) → nat_lt slot from ≡ b → IsOk (rows_of_entry chunk slot)
-    by true e = read slot (grind (arith, nat_tests))
-    by false e = rw (empty-read chunk slot (empty slot (grind (arith, nat_tests)) below)) refl
+    by : (b : Bool) → nat_lt position from ≡ b → IsOk (rows_of_entry chunk position)
+    by true e = read position (grind (arith, nat_tests))
+    by false e = rw (empty-read chunk position (empty position (grind (arith, nat_tests)) below)) refl
 
-pub AreRead-next : (chunk : TypeChunkOf) (from slot : ℕ) → AreRead chunk from → AreEmpty chunk from slot → IsOk (rows_of_entry chunk slot) → AreRead chunk (slot + 1)
-AreRead-next chunk from slot read empty one = below_more (λ i. IsOk (rows_of_entry chunk i)) slot (AreRead-empty chunk from slot read empty) one
+pub AreRead-next : (chunk : TypeChunkOf) (from position : ℕ) → AreRead chunk from → AreEmpty chunk from position → IsOk (rows_of_entry chunk position) → AreRead chunk (position + 1)
+AreRead-next chunk from position read empty one = below_more (λ i. IsOk (rows_of_entry chunk i)) position (AreRead-empty chunk from position read empty) one
 
 -- ---- the rows of all entries, or the first fault
 
@@ -62,18 +62,18 @@ module _ (f : ℕ → Result (List RowOf) TableFault) where
       fault-behind s n (f s) fault refl (all s (omega arith) (omega arith)) (joined-stops n (s + 1) k fault (omega arith) (λ i above less. all i (omega arith) (omega arith)) (ap f same ∙ wrong))
 
 pub rows_of_entries-read : (chunk : TypeChunkOf) → IsChecked chunk → rows_of_entries chunk ≡ Ok (rows_from chunk 0)
-unfolding joined_from joined_each rows_from row_of_slot
-rows_of_entries-read chunk checked = rw checked.rise (joined-all (rows_of_entry chunk) 0 (chunk.entry_count - 0) (λ i from below. checked.read i (omega arith)))
+unfolding joined_from joined_each rows_from row_at_position
+rows_of_entries-read chunk checked = rw checked.rise (joined-all (rows_of_entry chunk) 0 (chunk.offset_count - 0) (λ i from below. checked.read i (omega arith)))
 
 -- where the indexes do not rise, no entry is looked at
 pub rows_of_entries-falls : (chunk : TypeChunkOf) → indexes_rise chunk ≡ false → rows_of_entries chunk ≡ Err (faults.Offsets chunk.place)
 rows_of_entries-falls chunk falls = rw falls refl
 
-pub rows_of_entries-stops : (chunk : TypeChunkOf) (from slot : ℕ) (fault : TableFault) → indexes_rise chunk ≡ true → AreRead chunk from → AreEmpty chunk from slot → slot < chunk.entry_count
-    → rows_of_entry chunk slot ≡ Err fault → rows_of_entries chunk ≡ Err fault
+pub rows_of_entries-stops : (chunk : TypeChunkOf) (from position : ℕ) (fault : TableFault) → indexes_rise chunk ≡ true → AreRead chunk from → AreEmpty chunk from position → position < chunk.offset_count
+    → rows_of_entry chunk position ≡ Err fault → rows_of_entries chunk ≡ Err fault
 unfolding joined_from joined_each
-rows_of_entries-stops chunk from slot fault rise read empty within wrong =
-    let same : 0 + slot ≡ slot = omega arith in
-    rw rise (joined-stops (rows_of_entry chunk) (chunk.entry_count - 0) 0 slot fault (omega arith) (λ i above below. AreRead-empty chunk from slot read empty i (omega arith)) (ap (λ i. rows_of_entry chunk i) same ∙ wrong))
+rows_of_entries-stops chunk from position fault rise read empty within wrong =
+    let same : 0 + position ≡ position = omega arith in
+    rw rise (joined-stops (rows_of_entry chunk) (chunk.offset_count - 0) 0 position fault (omega arith) (λ i above below. AreRead-empty chunk from position read empty i (omega arith)) (ap (λ i. rows_of_entry chunk i) same ∙ wrong))
 
 pub ruleset check_steps = (AreRead-empty, AreRead-next, rows_of_entries-falls, rows_of_entries-stops)

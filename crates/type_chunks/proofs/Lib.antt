@@ -1,5 +1,5 @@
 pub mod KnownSteps
-pub mod SlotSteps
+pub mod EntryOffsetSteps
 pub mod EntrySteps
 pub mod EntriesSteps
 pub mod TypeRowsSteps

@@ -11,10 +11,10 @@ use Rattle.type_chunks.specs.declared.checked_type.CheckedType.{CheckedType}
 use Rattle.type_chunks.specs.Row.{RowOf}
 use Rattle.type_chunks.specs.TypeChunk.{TypeChunkOf, type_chunk_of}
 use Rattle.type_chunks.specs.Entry.{is_row, row_of_entry, rows_of_entry, rows_of_entry_at}
-use Rattle.type_chunks.specs.Slots.{index_of, is_empty, offset_of, slot_of}
-use Rattle.type_chunks.specs.Entries.{or_none, row_of_slot, rows_from, held_at}
+use Rattle.type_chunks.specs.EntryOffsets.{index_of, is_empty, offset_of, position_of}
+use Rattle.type_chunks.specs.Entries.{or_none, row_at_position, rows_from, held_at}
 use Rattle.type_chunks.specs.TypeRows.{rows_of_type, row_at}
-use Rattle.type_chunks.proofs.SlotSteps.{slot_of-found}
+use Rattle.type_chunks.proofs.EntryOffsetSteps.{position_of-found}
 use Rattle.type_chunks.proofs.EntrySteps.{rows_with, entry_at-with}
 
 -- an entry has no row, or one whose id ends with its index
@@ -41,16 +41,16 @@ of_read : (chunk : TypeChunkOf) (index at : ℕ) (read : Result (List RowOf) Tab
 of_read chunk index at (Ok rows) e = subst (λ r. IsOwn index (or_none r)) (sym (entry_at-with chunk index at (rw e refl)) ∙ e) (of_held chunk index at (held_at chunk at))
 of_read chunk index at (Err fault) e = none_own refl
 
-row_of_slot-own : (chunk : TypeChunkOf) (slot : ℕ) → IsOwn (index_of chunk slot) (row_of_slot chunk slot)
-unfolding row_of_slot rows_of_entry
-row_of_slot-own chunk slot = by (is_empty chunk slot)
+row_at_position-own : (chunk : TypeChunkOf) (position : ℕ) → IsOwn (index_of chunk position) (row_at_position chunk position)
+unfolding row_at_position rows_of_entry
+row_at_position-own chunk position = by (is_empty chunk position)
   where
     at : ℕ
-    at = chunk.entries_start + offset_of chunk slot
+    at = chunk.entries_start + offset_of chunk position
 
-    by : (none : Bool) → IsOwn (index_of chunk slot) (or_none (if none then Ok [] else rows_of_entry_at chunk (index_of chunk slot) at))
+    by : (none : Bool) → IsOwn (index_of chunk position) (or_none (if none then Ok [] else rows_of_entry_at chunk (index_of chunk position) at))
     by true = none_own refl
-    by false = of_read chunk (index_of chunk slot) at (rows_of_entry_at chunk (index_of chunk slot) at) refl
+    by false = of_read chunk (index_of chunk position) at (rows_of_entry_at chunk (index_of chunk position) at) refl
 
 -- the row of its id's index is the row itself
 abbrev pub StandsInType : CheckedType → RowOf → Type 0
@@ -60,19 +60,19 @@ module _ (checked : CheckedType) where
   abbrev chunk : TypeChunkOf
   chunk = type_chunk_of checked.chunk
 
-  stands : (slot : ℕ) → slot < chunk.entry_count → (rows : List RowOf) → row_of_slot chunk slot ≡ rows → IsOwn (index_of chunk slot) rows → All (StandsInType checked) rows
+  stands : (position : ℕ) → position < chunk.offset_count → (rows : List RowOf) → row_at_position chunk position ≡ rows → IsOwn (index_of chunk position) rows → All (StandsInType checked) rows
   unfolding row_at
-  stands slot within rows is (none_own none) = rw none (All-nil (StandsInType checked))
-  stands slot within rows is (one_own row own one) =
-      let found : slot_of chunk (index_of chunk slot) ≡ Some slot = slot_of-found chunk (index_of chunk slot) slot checked.checked.rise within refl in
+  stands position within rows is (none_own none) = rw none (All-nil (StandsInType checked))
+  stands position within rows is (one_own row own one) =
+      let found : position_of chunk (index_of chunk position) ≡ Some position = position_of-found chunk (index_of chunk position) position checked.checked.rise within refl in
       rw one (All-cons (StandsInType checked) row [] (rw (own, found, is, one) refl) (All-nil (StandsInType checked)))
 
-  all-stand : (n slot : ℕ) → slot + n ≤ chunk.entry_count → All (StandsInType checked) (flat_map (row_of_slot chunk) (range_with_len slot n))
-  all-stand zero slot within = All-nil (StandsInType checked)
-  all-stand (suc n) slot within =
-      All-append (StandsInType checked) (row_of_slot chunk slot) (flat_map (row_of_slot chunk) (range_with_len (slot + 1) n))
-      (stands slot (omega arith) (row_of_slot chunk slot) refl (row_of_slot-own chunk slot)) (all-stand n (slot + 1) (omega arith))
+  all-stand : (n position : ℕ) → position + n ≤ chunk.offset_count → All (StandsInType checked) (flat_map (row_at_position chunk) (range_with_len position n))
+  all-stand zero position within = All-nil (StandsInType checked)
+  all-stand (suc n) position within =
+      All-append (StandsInType checked) (row_at_position chunk position) (flat_map (row_at_position chunk) (range_with_len (position + 1) n))
+      (stands position (omega arith) (row_at_position chunk position) refl (row_at_position-own chunk position)) (all-stand n (position + 1) (omega arith))
 
   pub rows-stand : All (StandsInType checked) (rows_of_type checked)
   unfolding rows_of_type rows_from
-  rows-stand = all-stand (checked.chunk.entry_count - 0) 0 (omega arith)
+  rows-stand = all-stand (checked.chunk.offset_count - 0) 0 (omega arith)

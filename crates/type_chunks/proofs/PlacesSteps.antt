@@ -51,9 +51,9 @@ module _ (owner : Owner) (within : ChunkOf) where
   type_at-found place chunk spec found of = rw (found, of) refl
 
   pub keeps : (places : List TypePlace) (place : TypePlace) (chunk : TypeChunkOf) → AreKept owner within places → place.chunk ≤ length within.whole → place.spec ≤ length within.whole
-      → type_at owner within place ≡ Ok chunk → chunk.entry_count < 2 ^ 32 → IsChecked chunk → AreKept owner within (places ++ place ∷ [])
+      → type_at owner within place ≡ Ok chunk → chunk.offset_count < 2 ^ 32 → IsChecked chunk → AreKept owner within (places ++ place ∷ [])
   keeps places place chunk kept inside spec_inside is few read =
-      All-push (IsKept owner within) places place kept (inside, spec_inside, rw is refl, λ x e. let same : chunk ≡ x = cc in subst (λ (t : TypeChunkOf). (t.entry_count < 2 ^ 32) × IsChecked t) same (few, read))
+      All-push (IsKept owner within) places place kept (inside, spec_inside, rw is refl, λ x e. let same : chunk ≡ x = cc in subst (λ (t : TypeChunkOf). (t.offset_count < 2 ^ 32) × IsChecked t) same (few, read))
 
   pub pushes-place : (places : List TypePlace) (place : TypePlace) (chunk : TypeChunkOf) → type_at owner within place ≡ Ok chunk → IsChecked chunk
       → with_front (rows_of_places owner within places) (rows_of_entries chunk) ≡ Ok (rows_of_places owner within (places ++ place ∷ []))
@@ -84,7 +84,7 @@ module _ (owner : Owner) (within : ChunkOf) where
 
   -- ---- how many rows they have
 
-  few-of : (read : Result TypeChunkOf TableFault) → ForOk read (λ chunk. (chunk.entry_count < 2 ^ 32) × IsChecked chunk) → length (rows_of_read read) ≤ 2 ^ 32
+  few-of : (read : Result TypeChunkOf TableFault) → ForOk read (λ chunk. (chunk.offset_count < 2 ^ 32) × IsChecked chunk) → length (rows_of_read read) ≤ 2 ^ 32
   few-of (Ok chunk) few = omega (arith, length-rows_of_chunk chunk, (few chunk refl).0)
   few-of (Err fault) few = omega arith
 

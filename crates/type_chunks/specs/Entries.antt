@@ -7,34 +7,34 @@ use Rattle.res_value.specs.Cell.{CellOf}
 use Rattle.type_chunks.specs.Layout.{least_entry, least_entry_size}
 use Rattle.type_chunks.specs.Row.{RowOf}
 use Rattle.type_chunks.specs.TypeChunk.{TypeChunkOf}
-use Rattle.type_chunks.specs.Slots.{is_empty, indexes_rise}
+use Rattle.type_chunks.specs.EntryOffsets.{is_empty, indexes_rise}
 use Rattle.type_chunks.specs.Entry.{is_complex, value_of_entry, bag_of_entry, rows_of_entry}
 
--- no entry is from one slot on and below another
+-- no entry is from one position on and below another
 abbrev pub AreEmpty : TypeChunkOf → ℕ → ℕ → Type 0
-AreEmpty chunk from behind = (slot : ℕ) → from ≤ slot → slot < behind → is_empty chunk slot ≡ true
+AreEmpty chunk from behind = (position : ℕ) → from ≤ position → position < behind → is_empty chunk position ≡ true
 
--- the entries of the slots below one have no fault
+-- the entries at the positions below one have no fault
 abbrev pub AreRead : TypeChunkOf → ℕ → Type 0
-AreRead chunk behind = (slot : ℕ) → slot < behind → IsOk (rows_of_entry chunk slot)
+AreRead chunk behind = (position : ℕ) → position < behind → IsOk (rows_of_entry chunk position)
 
 -- the indexes of a type rise, and no entry has a fault
 pub record IsChecked (chunk : TypeChunkOf) : Type 0 where
   pub rise : indexes_rise chunk ≡ true
-  pub read : AreRead chunk chunk.entry_count
+  pub read : AreRead chunk chunk.offset_count
 
 -- what was read; nothing where there is a fault
 abbrev pub or_none : Result (List RowOf) TableFault → List RowOf
 or_none (Ok rows) = rows
 or_none (Err fault) = []
 
--- the row of the entry of a slot, or none
-unfoldable pub row_of_slot : TypeChunkOf → ℕ → List RowOf
-row_of_slot chunk slot = or_none (rows_of_entry chunk slot)
+-- the row of the entry at a position, or none
+unfoldable pub row_at_position : TypeChunkOf → ℕ → List RowOf
+row_at_position chunk position = or_none (rows_of_entry chunk position)
 
--- the rows of the entries from a slot on
+-- the rows of the entries from a position on
 unfoldable pub rows_from : TypeChunkOf → ℕ → List RowOf
-rows_from chunk slot = flat_map (row_of_slot chunk) (range_with_len slot (chunk.entry_count - slot))
+rows_from chunk position = flat_map (row_at_position chunk) (range_with_len position (chunk.offset_count - position))
 
 -- what the entry at a place holds, which has room for its size
 unfoldable pub held_at : TypeChunkOf → ℕ → Result CellOf TableFault

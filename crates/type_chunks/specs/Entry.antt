@@ -18,7 +18,7 @@ use Rattle.type_chunks.specs.declared.fault.TableFault.TheVariants as faults
 use Rattle.type_chunks.specs.declared.row.Row.{Row}
 use Rattle.type_chunks.specs.Row.{RowOf, row_of}
 use Rattle.type_chunks.specs.TypeChunk.{TypeChunkOf}
-use Rattle.type_chunks.specs.Slots.{index_of, is_empty, offset_of}
+use Rattle.type_chunks.specs.EntryOffsets.{index_of, is_empty, offset_of}
 use Rattle.type_chunks.specs.Layout.{entry_flags_size, least_entry, least_entry_size, indexes}
 
 -- an entry of this index is a row: its type spec counts it, and an id has room for it
@@ -74,10 +74,10 @@ rows_of_entry_at chunk index at = do
   cell ← (if is_complex chunk at then bag_of_entry chunk at (at + size) else value_of_entry chunk at (at + size))
   Ok (if is_row chunk index then row_of_entry chunk index at cell ∷ [] else [])
 
--- The entry of a slot. Its offset counts from where the entries start, and that from the chunk's start.
+-- The entry at a position. Its offset counts from where the entries start, and that from the chunk's start.
 unfoldable pub rows_of_entry : TypeChunkOf → ℕ → Result (List RowOf) TableFault
-rows_of_entry chunk slot =
-    if is_empty chunk slot then Ok [] else rows_of_entry_at chunk (index_of chunk slot) (chunk.entries_start + offset_of chunk slot)
+rows_of_entry chunk position =
+    if is_empty chunk position then Ok [] else rows_of_entry_at chunk (index_of chunk position) (chunk.entries_start + offset_of chunk position)
 
 -- how contracts see what a call returned: a row or none is a list, and a cell has no place in memory
 abbrev pub seen_entry : Result (Option Row) TableFault → Result (List RowOf) TableFault

@@ -20,13 +20,13 @@ least_type_header = 24
 abbrev pub entry_flags_size : ℕ
 entry_flags_size = 4
 
--- Behind the header of a type stand its slots. A slot is the offset of an entry; in a sparse type it is the index of
--- an entry, and behind it the offset in words of four bytes (AOSP: ResTable_sparseTypeEntry).
-abbrev pub slot_size : ℕ
-slot_size = 4
+-- Behind the header of a type stand its entry offsets. In a sparse type each is a pair: the index of an entry, and behind
+-- it the offset in words of four bytes (AOSP: ResTable_sparseTypeEntry).
+abbrev pub entry_offset_size : ℕ
+entry_offset_size = 4
 
-abbrev pub slot_index_size : ℕ
-slot_index_size = 2
+abbrev pub sparse_index_size : ℕ
+sparse_index_size = 2
 
 abbrev pub word_size : ℕ
 word_size = 4

@@ -3,7 +3,7 @@ pub mod FoundChunk
 pub mod Row
 pub mod TypeSpec
 pub mod TypeChunk
-pub mod Slots
+pub mod EntryOffsets
 pub mod Entry
 pub mod Checks
 pub mod Entries

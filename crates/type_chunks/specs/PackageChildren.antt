@@ -14,16 +14,16 @@ use Rattle.type_chunks.specs.Layout.{type_kind, type_spec_kind}
 use Rattle.type_chunks.specs.Row.{RowOf}
 use Rattle.type_chunks.specs.TypeSpec.{type_spec_in}
 use Rattle.type_chunks.specs.TypeChunk.{TypeChunkOf, type_in}
-use Rattle.type_chunks.specs.Slots.{indexes_rise}
+use Rattle.type_chunks.specs.EntryOffsets.{indexes_rise}
 use Rattle.type_chunks.specs.Entry.{rows_of_entry}
 use Rattle.type_chunks.specs.TypePlaces.{rows_of_places}
 
--- The rows of the entries of a type, in the order of its slots. That the indexes rise is checked before the first
+-- The rows of the entries of a type, in the order of its entry offsets. That the indexes rise is checked before the first
 -- entry.
 abbrev pub rows_of_entries : TypeChunkOf → Result (List RowOf) TableFault
 rows_of_entries chunk = do
   _ ← refuse (not (indexes_rise chunk)) (faults.Offsets chunk.place)
-  joined_from (rows_of_entry chunk) 0 chunk.entry_count
+  joined_from (rows_of_entry chunk) 0 chunk.offset_count
 
 -- A chunk in a package, with the chunks that stand before it there. A type spec has no rows, and
 -- chunks of other kinds are passed over.

@@ -11,22 +11,21 @@ use Rattle.type_chunks.specs.declared.fault.TableFault.{TableFault}
 use Rattle.type_chunks.specs.declared.fault.TableFault.TheVariants as faults
 use Rattle.type_chunks.specs.declared.owner.Owner.{Owner}
 use Rattle.type_chunks.specs.declared.type_chunk.TypeChunk.{TypeChunk}
-use Rattle.type_chunks.specs.Layout.{least_type_header, slot_size}
+use Rattle.type_chunks.specs.Layout.{least_type_header, entry_offset_size}
 use Rattle.type_chunks.specs.TypeSpec.{TypeSpecOf, type_spec_of, last_spec}
 
 -- A type in its package, with the type spec that it belongs to, the bytes of its configuration, those
--- that begin with its slots, of which each says where an entry stands, and the whole chunk, in which the
--- entries stand.
+-- that begin with its entry offsets, and the whole chunk, in which the entries stand.
 pub record TypeChunkOf : Type 0 where
   pub owner : Owner
   pub spec : TypeSpecOf
   pub place : ℕ
   pub id : ℕ
   pub is_sparse : Bool
-  pub entry_count : ℕ
+  pub offset_count : ℕ
   pub entries_start : ℕ
   pub config : List ℕ
-  pub slots : List ℕ
+  pub offsets : List ℕ
   pub whole : List ℕ
 
 abbrev pub type_chunk_of : TypeChunk → TypeChunkOf
@@ -36,10 +35,10 @@ type_chunk_of chunk = record {
   place = chunk.place;
   id = chunk.id;
   is_sparse = chunk.is_sparse;
-  entry_count = chunk.entry_count;
+  offset_count = chunk.offset_count;
   entries_start = chunk.entries_start;
   config = record_bytes chunk.config;
-  slots = chunk.slots.now;
+  offsets = chunk.offsets.now;
   whole = chunk.whole.now;
 }
 
@@ -58,8 +57,8 @@ found_config (Ok bytes) place = Ok bytes
 found_config (Err fault) place = Err (faults.Config place)
 
 -- A type, or its first fault; `found` is the type spec that it belongs to. Its id is at 8, its
--- flags at 9 (the lowest bit says that it is sparse), the count of its slots at 12, where its entries start
--- at 16, and its configuration at 20. Behind the header stand the slots.
+-- flags at 9 (the lowest bit says that it is sparse), the count of its entry offsets at 12, where its entries start
+-- at 16, and its configuration at 20. Behind the header stand the entry offsets.
 unfoldable pub type_with : Owner → Option TypeSpecOf → ChunkOf → Result TypeChunkOf TableFault
 type_with owner found chunk = do
   _ ← refuse (nat_lt (length chunk.header) least_type_header) (faults.Chunk (HeaderShort chunk.place))
@@ -67,18 +66,18 @@ type_with owner found chunk = do
   _ ← refuse (id == 0) (faults.TypeId chunk.place)
   spec ← found_spec found chunk.place
   config ← found_config (record_in (drop 20 chunk.header)) chunk.place
-  let entry_count = number 4 chunk.header 12
-  _ ← refuse (nat_lt (length chunk.body) (slot_size * entry_count)) (faults.Offsets chunk.place)
+  let offset_count = number 4 chunk.header 12
+  _ ← refuse (nat_lt (length chunk.body) (entry_offset_size * offset_count)) (faults.Offsets chunk.place)
   Ok (record {
     owner = owner;
     spec = spec;
     place = chunk.place;
     id = id;
     is_sparse = slice_index chunk.header 9 % 2 == 1;
-    entry_count = entry_count;
+    offset_count = offset_count;
     entries_start = number 4 chunk.header 16;
     config = config;
-    slots = chunk.body;
+    offsets = chunk.body;
     whole = chunk.whole;
   })
 

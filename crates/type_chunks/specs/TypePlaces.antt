@@ -35,7 +35,7 @@ type_at owner within place = do
 abbrev pub IsKept : Owner → ChunkOf → TypePlace → Type 0
 IsKept owner within place =
     (place.chunk ≤ length within.whole) × (place.spec ≤ length within.whole) × IsOk (type_at owner within place)
-    × ForOk (type_at owner within place) (λ chunk. (chunk.entry_count < 2 ^ 32) × IsChecked chunk)
+    × ForOk (type_at owner within place) (λ chunk. (chunk.offset_count < 2 ^ 32) × IsChecked chunk)
 
 abbrev pub AreKept : Owner → ChunkOf → List TypePlace → Type 0
 AreKept owner within places = All (IsKept owner within) places

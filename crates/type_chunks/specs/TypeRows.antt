@@ -5,8 +5,8 @@ use Rattle.std.specs.Option.{option_and_then}
 use Rattle.type_chunks.specs.declared.checked_type.CheckedType.{CheckedType}
 use Rattle.type_chunks.specs.Row.{RowOf}
 use Rattle.type_chunks.specs.TypeChunk.{type_chunk_of}
-use Rattle.type_chunks.specs.Slots.{slot_of}
-use Rattle.type_chunks.specs.Entries.{row_of_slot, rows_from}
+use Rattle.type_chunks.specs.EntryOffsets.{position_of}
+use Rattle.type_chunks.specs.Entries.{row_at_position, rows_from}
 
 -- the rows of a type, in the order of their indexes
 unfoldable pub rows_of_type : CheckedType → List RowOf
@@ -16,7 +16,7 @@ rows_of_type checked = rows_from (type_chunk_of checked.chunk) 0
 unfoldable pub row_at : CheckedType → ℕ → Option RowOf
 row_at checked index =
     let chunk = type_chunk_of checked.chunk in
-    option_and_then (λ slot. slice_get (row_of_slot chunk slot) 0) (slot_of chunk index)
+    option_and_then (λ position. slice_get (row_at_position chunk position) 0) (position_of chunk index)
 
 -- the rows of types, one type after the other
 unfoldable pub rows_of_types : List CheckedType → List RowOf

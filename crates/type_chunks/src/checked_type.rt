@@ -7,7 +7,7 @@ ghost use Rattle.type_chunks.specs.Entries.{IsChecked};
 use crate::type_chunk::TypeChunk;
 use crate::type_rows::TypeRows;
 
-/// A type (AOSP: `ResTable_type`), whose slots and entries were checked. Its rows are read from its bytes as
+/// A type (AOSP: `ResTable_type`), whose entry offsets and entries were checked. Its rows are read from its bytes as
 /// they are asked for.
 #[derive(Clone, Copy, Debug)]
 pub struct CheckedType<'a> {

@@ -20,17 +20,17 @@ impl<'a> TypeChunk<'a> {
     ghost use Rattle.type_chunks.specs.Entry.{rows_of_entry_at, rows_of_entry, value_of_entry, bag_of_entry, seen_entry, seen_cell};
     ghost use Rattle.type_chunks.specs.Entries.{HasEntry, held_at};
 
-    /// The row of the entry of a slot, which has no fault, where there is one.
+    /// The row of the entry at a position, which has no fault, where there is one.
     #[tactic(auto, unfolding(crate::specs::Entry::rows_of_entry))]
-    pub fn entry(&self, slot: u32) -> Option<Row<'a>>
-        requires within { slot < self.now.entry_count }
-        requires checked { IsOk (rows_of_entry (type_chunk_of self.now) slot) }
-        ensures { seen_entry (Ok result) ≡ rows_of_entry (type_chunk_of self.now) slot }
+    pub fn entry(&self, position: u32) -> Option<Row<'a>>
+        requires within { position < self.now.offset_count }
+        requires checked { IsOk (rows_of_entry (type_chunk_of self.now) position) }
+        ensures { seen_entry (Ok result) ≡ rows_of_entry (type_chunk_of self.now) position }
     {
-        if self.is_empty(slot) {
+        if self.is_empty(position) {
             return None;
         }
-        self.entry_at(self.index(slot), self.entry_place(slot))
+        self.entry_at(self.index(position), self.entry_place(position))
     }
 
     // The row of the entry at a place from the chunk's start.
@@ -103,7 +103,7 @@ impl<'a> CheckedType<'a> {
     ghost use Rattle.std.specs.Option.{option_to_list, option_map};
     ghost use Rattle.type_chunks.specs.Row.{row_of};
     ghost use Rattle.type_chunks.specs.TypeChunk.{type_chunk_of};
-    ghost use Rattle.type_chunks.specs.Entries.{row_of_slot};
+    ghost use Rattle.type_chunks.specs.Entries.{row_at_position};
     ghost use Rattle.type_chunks.specs.TypeRows.{row_at};
 
     /// The row of an index, where there is one. It is read anew each time, and found without a walk over the others.
@@ -111,18 +111,18 @@ impl<'a> CheckedType<'a> {
     pub fn row(&self, index: u32) -> Option<Row<'a>>
         ensures { option_map row_of result ≡ row_at self.now index }
     {
-        match self.chunk.slot_of(index) {
-            Some(slot) => self.row_of_slot(slot),
+        match self.chunk.position_of(index) {
+            Some(position) => self.row_at_position(position),
             None => None,
         }
     }
 
-    // The row of the entry of a slot, where there is one.
-    #[tactic(auto, unfolding(crate::specs::Entries::row_of_slot))]
-    pub(crate) fn row_of_slot(&self, slot: u32) -> Option<Row<'a>>
-        requires { slot < self.now.chunk.entry_count }
-        ensures { option_to_list (option_map row_of result) ≡ row_of_slot (type_chunk_of self.now.chunk) slot }
+    // The row of the entry at a position, where there is one.
+    #[tactic(auto, unfolding(crate::specs::Entries::row_at_position))]
+    pub(crate) fn row_at_position(&self, position: u32) -> Option<Row<'a>>
+        requires { position < self.now.chunk.offset_count }
+        ensures { option_to_list (option_map row_of result) ≡ row_at_position (type_chunk_of self.now.chunk) position }
     {
-        self.chunk.entry(slot)
+        self.chunk.entry(position)
     }
 }

@@ -17,18 +17,18 @@ impl<'a> TypeChunk<'a> {
     ghost use Rattle.type_chunks.specs.TypeChunk.{type_chunk_of};
     ghost use Rattle.type_chunks.specs.Entry.{rows_of_entry_at, rows_of_entry, value_of_entry, bag_of_entry};
 
-    /// The first fault of the entry of a slot, where there is one.
+    /// The first fault of the entry at a position, where there is one.
     #[tactic(auto, unfolding(crate::specs::Entry::rows_of_entry))]
-    pub fn check_entry(&self, bags: &mut BagChecks<'a>, slot: u32) -> Result<(), TableFault>
-        requires within { slot < self.now.entry_count }
+    pub fn check_entry(&self, bags: &mut BagChecks<'a>, position: u32) -> Result<(), TableFault>
+        requires within { position < self.now.offset_count }
         requires bags { bags.old.whole.now ≡ self.now.whole.now }
         ensures same { bags.new.whole.now ≡ bags.old.whole.now }
-        ensures checked { Checks result (rows_of_entry (type_chunk_of self.now) slot) }
+        ensures checked { Checks result (rows_of_entry (type_chunk_of self.now) position) }
     {
-        if self.is_empty(slot) {
+        if self.is_empty(position) {
             return Ok(());
         }
-        self.check_entry_at(bags, self.index(slot), self.entry_place(slot))
+        self.check_entry_at(bags, self.index(position), self.entry_place(position))
     }
 
     // The first fault of the entry at a place from the chunk's start.

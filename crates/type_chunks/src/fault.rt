@@ -37,7 +37,7 @@ pub enum TableFault {
     /// A type's configuration is too short or passes the header.
     #[error("Config {0}")]
     Config(usize),
-    /// The flags of a type spec or the slots of a type do not fit, or the indexes of a sparse type do not rise.
+    /// The flags of a type spec or the entry offsets of a type do not fit, or the indexes of a sparse type do not rise.
     #[error("Offsets {0}")]
     Offsets(usize),
     /// An entry stands at no multiple of four, is too short, or does not fit with what it holds.

@@ -25,7 +25,7 @@ pub(crate) mod type_header {
 
     pub const FLAGS: usize = 9;
 
-    pub const ENTRY_COUNT: usize = 12;
+    pub const OFFSET_COUNT: usize = 12;
 
     pub const ENTRIES_START: usize = 16;
 
@@ -34,15 +34,15 @@ pub(crate) mod type_header {
     /// With the size field of the configuration.
     pub const LEAST_SIZE: usize = 24;
 
-    /// How many bytes a slot has, behind the header.
-    pub const SLOT_SIZE: usize = 4;
+    /// How many bytes an entry offset has, behind the header.
+    pub const ENTRY_OFFSET_SIZE: usize = 4;
 
     /// The offset that says that there is no entry (AOSP: `ResTable_type::NO_ENTRY`).
     pub const NO_ENTRY: u32 = 0xffff_ffff;
 }
 
-/// A slot of a sparse type (AOSP: `ResTable_sparseTypeEntry`).
-pub(crate) mod sparse_slot {
+/// An entry offset of a sparse type (AOSP: `ResTable_sparseTypeEntry`).
+pub(crate) mod sparse_pair {
     pub const INDEX: usize = 0;
 
     pub const OFFSET: usize = 2;

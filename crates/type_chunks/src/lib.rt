@@ -10,9 +10,9 @@
 //! }
 //! ```
 //!
-//! A package holds type specs and types, and types hold entries, each where a slot of the type says. What rows these
+//! A package holds type specs and types, and types hold entries, each where an entry offset of the type says. What rows these
 //! are, and which fault is the first, is said of each in `specs/PackageChildren.antt`, `specs/TypeSpec.antt`,
-//! `specs/TypeChunk.antt`, `specs/Slots.antt` and `specs/Entry.antt`.
+//! `specs/TypeChunk.antt`, `specs/EntryOffsets.antt` and `specs/Entry.antt`.
 #![tactic(auto)]
 
 mod bag_checks;
@@ -20,6 +20,7 @@ mod checked_type;
 mod entry;
 mod entry_check;
 mod entry_flags;
+mod entry_offsets;
 mod fault;
 mod known_specs;
 mod layout;
@@ -27,7 +28,6 @@ mod owner;
 mod package_children;
 mod package_types;
 mod row;
-mod slots;
 mod type_check;
 mod type_chunk;
 mod type_flags;
@@ -37,7 +37,7 @@ mod type_spec;
 mod types;
 
 pub use checked_type::CheckedType;
-pub use config_record::{Coord, DeviceFault};
+pub use config_record::DeviceFault;
 pub use fault::TableFault;
 pub use owner::Owner;
 pub use package_children::types_of_children;

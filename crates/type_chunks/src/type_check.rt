@@ -3,7 +3,7 @@
 ghost use Rattle.std.specs.Prelude.{◌≡◌, ◌≢◌, ◌<◌, true, Err, OnOk, IfOk, IfErr};
 ghost use Rattle.type_chunks.specs.declared.fault.TableFault.TheVariants.{OutOfMemory};
 ghost use Rattle.type_chunks.specs.Entries.{AreRead, IsChecked};
-ghost use Rattle.type_chunks.specs.Slots.{indexes_rise};
+ghost use Rattle.type_chunks.specs.EntryOffsets.{indexes_rise};
 ghost use Rattle.type_chunks.specs.PackageChildren.{rows_of_entries};
 ghost use Rattle.type_chunks.specs.TypeChunk.{type_chunk_of};
 
@@ -12,8 +12,8 @@ use crate::fault::TableFault;
 use crate::type_chunk::TypeChunk;
 use std::alloc::Global;
 
-/// The first fault of the slots and entries of a type. Memory is asked for between the checks, and only where entries share
-/// bags, or bags overlap.
+/// The first fault of the entry offsets and entries of a type. Memory is asked for between the checks, and only where
+/// entries share bags, or bags overlap.
 #[tactic(auto, using(crate::proofs::EntriesSteps::check_steps))]
 pub(crate) fn check_entries(alloc: Global, chunk: &TypeChunk<'_>) -> Result<(), TableFault>
     ensures checked { OnOk result (IsChecked (type_chunk_of chunk.now)) }
@@ -24,14 +24,14 @@ pub(crate) fn check_entries(alloc: Global, chunk: &TypeChunk<'_>) -> Result<(), 
     }
     let mut bags = BagChecks::new(alloc, chunk.whole);
     let mut from = 0;
-    while from < chunk.entry_count {
+    while from < chunk.offset_count {
         bags.make_ready(alloc)?;
         from = check_from(chunk, &mut bags, from)?;
     }
     Ok(())
 }
 
-// The first fault of the entries from a slot on, as long as no counts are needed; or the slot behind those
+// The first fault of the entries from a position on, as long as no counts are needed; or the position behind those
 // that were checked.
 #[tactic(auto, using(crate::proofs::EntriesSteps::check_steps))]
 fn check_from<'a>(
@@ -39,7 +39,7 @@ fn check_from<'a>(
     bags: &mut BagChecks<'a>,
     from: u32,
 ) -> Result<u32, TableFault>
-    requires within { from < chunk.now.entry_count }
+    requires within { from < chunk.now.offset_count }
     requires bags { bags.old.whole.now ≡ chunk.now.whole.now }
     requires rise { indexes_rise (type_chunk_of chunk.now) ≡ true }
     requires read { AreRead (type_chunk_of chunk.now) from }
@@ -49,12 +49,12 @@ fn check_from<'a>(
     ensures fault { IfErr result (λ fault. rows_of_entries (type_chunk_of chunk.now) ≡ Err fault) }
 {
     let mut behind = from;
-    while let Some(slot) = chunk.next_entry(behind) {
-        chunk.check_entry(bags, slot)?;
-        behind = slot + 1;
+    while let Some(position) = chunk.next_entry(behind) {
+        chunk.check_entry(bags, position)?;
+        behind = position + 1;
         if bags.need_counts() {
             return Ok(behind);
         }
     }
-    Ok(chunk.entry_count)
+    Ok(chunk.offset_count)
 }

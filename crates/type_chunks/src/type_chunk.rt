@@ -1,7 +1,7 @@
 //! Types: their headers. The entries in them are read in `entry.rt`.
 
 ghost use Rattle.std.specs.Prelude.{◌≡◌, ◌+◌, ◌*◌, ◌<◌, ◌≤◌, ◌^◌, Some, IfOk, length};
-ghost use Rattle.type_chunks.specs.Layout.{slot_size};
+ghost use Rattle.type_chunks.specs.Layout.{entry_offset_size};
 
 use crate::fault::TableFault;
 use crate::layout::type_header as header;
@@ -12,7 +12,7 @@ use bitflags::Flags;
 use config_record::Record;
 use string_pool::{Chunk, ChunkFault, u32_within};
 
-/// A type whose header was checked and whose slots fit, with the type spec that it belongs to (AOSP:
+/// A type whose header was checked and whose entry offsets fit, with the type spec that it belongs to (AOSP:
 /// `ResTable_type`).
 #[derive(Clone, Copy, Debug)]
 pub(crate) struct TypeChunk<'a> {
@@ -21,17 +21,17 @@ pub(crate) struct TypeChunk<'a> {
     pub place: usize,
     pub id: u8,
     pub is_sparse: bool,
-    /// How many slots it has.
-    pub entry_count: u32,
+    /// How many entry offsets it has.
+    pub offset_count: u32,
     pub entries_start: u32,
     pub config: Record<'a>,
-    /// Four bytes for each slot.
-    pub slots: &'a [u8],
+    /// Four bytes for each entry offset.
+    pub offsets: &'a [u8],
     pub whole: &'a [u8],
     ghost in_range: { place + length whole.now < 2 ^ 63 },
     ghost small: { length whole.now < 2 ^ 32 },
-    ghost few: { entry_count < 2 ^ 32 },
-    ghost slots_fit: { slot_size * entry_count ≤ length slots.now },
+    ghost few: { offset_count < 2 ^ 32 },
+    ghost offsets_fit: { entry_offset_size * offset_count ≤ length offsets.now },
 }
 
 impl<'a> TypeChunk<'a> {
@@ -63,8 +63,8 @@ impl<'a> TypeChunk<'a> {
         let Ok(config) = Record::read(&chunk.header[header::CONFIG..]) else {
             return Err(TableFault::Config(chunk.place));
         };
-        let entry_count = u32_within(chunk.header, header::ENTRY_COUNT);
-        if chunk.body.len() < header::SLOT_SIZE * entry_count as usize {
+        let offset_count = u32_within(chunk.header, header::OFFSET_COUNT);
+        if chunk.body.len() < header::ENTRY_OFFSET_SIZE * offset_count as usize {
             return Err(TableFault::Offsets(chunk.place));
         }
         let flags = TypeFlags::from_bits_retain(chunk.header[header::FLAGS]);
@@ -74,10 +74,10 @@ impl<'a> TypeChunk<'a> {
             place: chunk.place,
             id,
             is_sparse: flags.is_sparse(),
-            entry_count,
+            offset_count,
             entries_start: u32_within(chunk.header, header::ENTRIES_START),
             config,
-            slots: chunk.body,
+            offsets: chunk.body,
             whole: chunk.whole,
         })
     }

@@ -16,7 +16,7 @@ impl TypeFlags {
         value: TypeFlags::SPARSE,
     }];
 
-    /// Whether the type has slots for the entries alone that are there.
+    /// Whether the type has entry offsets for the entries alone that are there.
     pub fn is_sparse(self) -> bool
         ensures { result ≡ (self.0 % 2 == 1) }
     {

@@ -11,8 +11,8 @@ use std::marker::Model;
 #[derive(Drop)]
 pub struct TypeRows<'a> {
     of: CheckedType<'a>,
-    /// The first slot that is left.
-    slot: u32,
+    /// The first position that is left.
+    position: u32,
 }
 
 impl<'a> Model for TypeRows<'a> {
@@ -23,7 +23,7 @@ impl<'a> Model for TypeRows<'a> {
 
     ghost Value = { List RowOf };
 
-    ghost view = { λ s. rows_from (type_chunk_of s.of.chunk) s.slot };
+    ghost view = { λ s. rows_from (type_chunk_of s.of.chunk) s.position };
 }
 
 impl<'a> TypeRows<'a> {
@@ -31,7 +31,7 @@ impl<'a> TypeRows<'a> {
     pub(crate) fn new(of: CheckedType<'a>) -> Self
         ensures { result ≡ rows_of_type of.entry }
     {
-        TypeRows { of, slot: 0 }
+        TypeRows { of, position: 0 }
     }
 }
 
@@ -47,9 +47,9 @@ impl<'a> Iterator for TypeRows<'a> {
 
     #[tactic(auto, using(crate::proofs::TypeRowsSteps::type_rows_steps))]
     fn next(&mut self) -> Option<Row<'a>> {
-        while let Some(slot) = self.of.chunk.next_entry(self.slot) {
-            self.slot = slot + 1;
-            if let Some(row) = self.of.row_of_slot(slot) {
+        while let Some(position) = self.of.chunk.next_entry(self.position) {
+            self.position = position + 1;
+            if let Some(row) = self.of.row_at_position(position) {
                 return Some(row);
             }
         }

@@ -101,7 +101,7 @@ fn dimensions_of(qualifiers: &str) -> Option<Numbers> {
         kind: Kind::Dimensions,
         coord: Coord::Width,
     };
-    Some(rule.of_record(&Record::read(&bytes).ok()?))
+    Some(rule.numbers_of_record(&Record::read(&bytes).ok()?))
 }
 
 /// Only the first of two dimensions has a coordinate beside it.

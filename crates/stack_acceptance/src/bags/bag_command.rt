@@ -1,7 +1,7 @@
 //! Bags, printed.
 
 use crate::ids::FIRST;
-use resource_tool::{Status, bag_bytes};
+use resource_tool::{LayerParts, Status, bag_bytes};
 use std::alloc::Global;
 use test_layers::{layer, layer_of_lines};
 
@@ -27,12 +27,7 @@ const PRINTED: [(&str, Status, &str); 5] = [
 ];
 
 // Whether the bag of entry 0 is printed so.
-fn is_printed_as(
-    alloc: Global,
-    layers: &[(&[u8], Option<&[u8]>)],
-    status: Status,
-    want: &str,
-) -> bool {
+fn is_printed_as(alloc: Global, layers: &[LayerParts<&[u8]>], status: Status, want: &str) -> bool {
     let mut out = Vec::new(alloc);
     let ended = bag_bytes(alloc, layers, MEDIUM, FIRST, &mut out);
     ended == Ok(status) && out.as_slice() == want.as_bytes()

@@ -2,7 +2,7 @@
 
 use crate::ids::FIRST;
 use config_record::DeviceFault;
-use resource_tool::{Status, ToolFault, explain_bytes};
+use resource_tool::{LayerParts, Status, ToolFault, explain_bytes};
 use std::alloc::Global;
 use test_layers::{layer, layer_of_lines};
 use test_stacks::SAME;
@@ -80,7 +80,7 @@ end bag 0x7f010000
 // Whether this is printed of entry 0.
 fn is_explained_as(
     alloc: Global,
-    layers: &[(&[u8], Option<&[u8]>)],
+    layers: &[LayerParts<&[u8]>],
     device: &str,
     status: Status,
     want: &str,
@@ -177,13 +177,13 @@ fn explains_why_overlays_win_and_lose(rt: HostRuntime) {
 }
 
 // Whether a device without a density is refused, and nothing is printed.
-fn refuses_device(alloc: Global, layers: &[(&[u8], Option<&[u8]>)]) -> bool {
+fn refuses_device(alloc: Global, layers: &[LayerParts<&[u8]>]) -> bool {
     let mut out = Vec::new(alloc);
     let refused = explain_bytes(alloc, layers, b"{}", FIRST, &mut out);
     refused == Err(ToolFault::Device(DeviceFault::Density)) && out.is_empty()
 }
 
-fn fails_where_writing_does(alloc: Global, layers: &[(&[u8], Option<&[u8]>)]) -> bool {
+fn fails_where_writing_does(alloc: Global, layers: &[LayerParts<&[u8]>]) -> bool {
     let mut short = [0; 20];
     let device = MEDIUM.as_bytes();
     let failed = explain_bytes(alloc, layers, device, FIRST, &mut short.as_mut_slice());

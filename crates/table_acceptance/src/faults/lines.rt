@@ -12,7 +12,7 @@ use string_pool::PoolFault;
 use type_chunks::TableFault;
 
 /// Faults of tables and of stacks, and their lines.
-const OF_LAYERS: [(ToolFault, &str); 9] = [
+const OF_LAYERS: [(ToolFault, &str); 10] = [
     (
         ToolFault::Table(TableFault::Chunk(ChunkFault::Oversize(0))),
         "refused: table: Chunk Oversize 0\n",
@@ -44,6 +44,10 @@ const OF_LAYERS: [(ToolFault, &str); 9] = [
     (
         ToolFault::LayerMap(1, MapFault::Repeated(ResId(0x7f01_0000))),
         "refused: layer 1 map: Repeated 0x7f010000\n",
+    ),
+    (
+        ToolFault::LayerMap(1, MapFault::Repeated(ResId(0))),
+        "refused: layer 1 map: Repeated 0x00000000\n",
     ),
     (
         ToolFault::LayerMap(63, MapFault::OtherPackage(ResId(0x0101_000a))),

@@ -43,10 +43,25 @@ const FAILED: Option<ErrorKind> = Some(ErrorKind::Other);
 
 const BLOCKED: Option<ErrorKind> = Some(ErrorKind::WouldBlock);
 
-const READS: [Case; 8] = [
+const READS: [Case; 11] = [
     ("whole", &[], 3, Ok(true), 4),
     ("too large", &[], 2, Err(InputFault::TooLarge), 3),
+    ("failed at once", &[FAILED], 3, Err(InputFault::Read), 1),
     ("failed", &[None, FAILED], 3, Err(InputFault::Read), 2),
+    (
+        "failed late",
+        &[None, None, FAILED],
+        3,
+        Err(InputFault::Read),
+        3,
+    ),
+    (
+        "failed after the last byte",
+        &[None, None, None, FAILED],
+        3,
+        Err(InputFault::Read),
+        4,
+    ),
     ("blocked", &[None, BLOCKED], 3, Err(InputFault::Read), 2),
     // an interrupted read counts
     (

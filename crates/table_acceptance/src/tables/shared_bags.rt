@@ -2,7 +2,7 @@
 
 use resource_table::Table;
 use std::alloc::Global;
-use test_layers::{layer_of_entries, sparse_layer_of_entries, sparse_slot};
+use test_layers::{layer_of_entries, sparse_layer_of_entries, sparse_pair};
 use type_chunks::TableFault;
 
 /// How many entries a table has here: as bags they have more rows than their type has room for.
@@ -87,11 +87,11 @@ fn names_a_wrong_value(alloc: Global) -> Option<bool> {
 
 // A table of one sparse type, whose entries stand so many words behind the first.
 fn sparse_layer(alloc: Global, words: &[u16; ENTRIES], bags: &[u8]) -> Option<Vec<u8>> {
-    let mut slots = Vec::new(alloc);
+    let mut offsets = Vec::new(alloc);
     for (index, words) in (0..).zip(words) {
-        slots.push(sparse_slot(index, *words)).ok()?;
+        offsets.push(sparse_pair(index, *words)).ok()?;
     }
-    sparse_layer_of_entries(alloc, ENTRIES as u32, &slots, bags).ok()
+    sparse_layer_of_entries(alloc, ENTRIES as u32, &offsets, bags).ok()
 }
 
 fn opens_one_bag_of_a_sparse_type(alloc: Global) -> Option<bool> {

@@ -1,20 +1,20 @@
-//! Sparse types: each slot names the index of its entry.
+//! Sparse types: each entry offset names the index of its entry.
 
 use crate::tables::rows::is_printed_as;
 use res_value::ResId;
 use resource_table::Table;
 use std::alloc::{AllocError, Global};
 use test_layers::{
-    layer_of_lines, put, sparse_layer_of_entries, sparse_layer_of_lines, sparse_slot, table_a,
+    layer_of_lines, put, sparse_layer_of_entries, sparse_layer_of_lines, sparse_pair, table_a,
     table_b,
 };
 use type_chunks::TableFault;
 
-/// Where table A has the flags of its type, how many slots there are, the index and the offset of the first slot, the
+/// Where table A has the flags of its type, how many entry offsets there are, the first index and offset, the
 /// index of a second one, which is the size of the entry too, and the size of its value.
 const FLAGS: usize = 357;
 
-const SLOT_COUNT: usize = 360;
+const OFFSET_COUNT: usize = 360;
 
 const FIRST_INDEX: usize = 396;
 
@@ -47,8 +47,8 @@ const PRINTED: [(Pieces, &str); 3] = [
     (&[], ONE_ROW),
     // an index that the type spec does not count
     (&[(FIRST_INDEX, &[1])], "rows 0 set-aside 0\n"),
-    // the second slot has index 8, and the same entry
-    (&[(SLOT_COUNT, &[2])], ONE_ROW),
+    // the second entry offset has index 8, and the same entry
+    (&[(OFFSET_COUNT, &[2])], ONE_ROW),
 ];
 
 // The first text that is not printed.
@@ -62,7 +62,7 @@ fn other_print(alloc: Global) -> Result<Option<&'static str>, AllocError> {
 }
 
 #[test]
-fn prints_the_entries_that_slots_name(rt: HostRuntime) {
+fn prints_the_entries_that_offsets_name(rt: HostRuntime) {
     assert!(rt; other_print(rt.alloc()) == Ok(None));
 }
 
@@ -72,20 +72,20 @@ const REFUSED: [(Pieces, TableFault); 6] = [
     (&[(FIRST_OFFSET, &[255, 255])], TableFault::Entry(262_540)),
     // the indexes are the same, then fall
     (
-        &[(SLOT_COUNT, &[2]), (SECOND_INDEX, &[0])],
+        &[(OFFSET_COUNT, &[2]), (SECOND_INDEX, &[0])],
         TableFault::Offsets(348),
     ),
     (
-        &[(SLOT_COUNT, &[2]), (FIRST_INDEX, &[9])],
+        &[(OFFSET_COUNT, &[2]), (FIRST_INDEX, &[9])],
         TableFault::Offsets(348),
     ),
     // they come before the entries
     (
-        &[(SLOT_COUNT, &[2]), (FIRST_INDEX, &[9, 0, 255, 255])],
+        &[(OFFSET_COUNT, &[2]), (FIRST_INDEX, &[9, 0, 255, 255])],
         TableFault::Offsets(348),
     ),
-    // the slots do not fit
-    (&[(SLOT_COUNT, &[6])], TableFault::Offsets(348)),
+    // the entry offsets do not fit
+    (&[(OFFSET_COUNT, &[6])], TableFault::Offsets(348)),
     // what is not counted is checked
     (
         &[(FIRST_INDEX, &[1]), (VALUE_SIZE, &[7])],
@@ -109,7 +109,7 @@ fn names_the_first_fault(rt: HostRuntime) {
     assert!(rt; other_fault(rt.alloc()) == Ok(None));
 }
 
-// The id of the names of table B as a sparse type, whose slot has this index.
+// The id of the names of table B as a sparse type, whose entry offset has this index.
 fn id_of_index(alloc: Global, index: u8) -> Option<ResId> {
     let mut table = table_b(alloc).ok()?;
     put(&mut table, FLAGS + NAMES_SIZE, &[1]);
@@ -166,14 +166,14 @@ const ALL_ENTRIES: u32 = 65_536;
 
 // Whether the last index has a row where it is counted.
 fn prints_the_last_index(alloc: Global) -> Option<bool> {
-    let slots = [sparse_slot(7, 0), sparse_slot(LAST_INDEX, 0)];
-    let counted = sparse_layer_of_entries(alloc, ALL_ENTRIES, &slots, &FIVE).ok()?;
+    let offsets = [sparse_pair(7, 0), sparse_pair(LAST_INDEX, 0)];
+    let counted = sparse_layer_of_entries(alloc, ALL_ENTRIES, &offsets, &FIVE).ok()?;
     let both = "\
 row 0x7f010007 [] decimal 5
 row 0x7f01ffff [] decimal 5
 rows 2 set-aside 0
 ";
-    let not_counted = sparse_layer_of_entries(alloc, 8, &slots, &FIVE).ok()?;
+    let not_counted = sparse_layer_of_entries(alloc, 8, &offsets, &FIVE).ok()?;
     let first = "row 0x7f010007 [] decimal 5\nrows 1 set-aside 0\n";
     Some(is_printed_as(alloc, &counted, both) && is_printed_as(alloc, &not_counted, first))
 }

@@ -7,4 +7,4 @@ use Rattle.box_answers.proofs.passing.passes_everywhere.Goals as goal
 pub returns-in_default : goal.returns-in_default
 returns-in_default c = λ same. same-passes c.args.rule (record_number (record_bytes c.args.a.now)) (record_number (record_bytes c.args.b.now))
     c.in_default.not-Equal c.in_default.not-AtMost c.in_default.not-KeysSuit c.in_default.not-LocaleSuits
-    (sym c.of_record-x.ensures ∙ numbers-same c.of_record-x.result c.of_record-y.result c.eq.result c.eq.ensures same ∙ c.of_record-y.ensures)
+    (sym c.numbers_of_record-x.ensures ∙ numbers-same c.numbers_of_record-x.result c.numbers_of_record-y.result c.eq.result c.eq.ensures same ∙ c.numbers_of_record-y.ensures)

@@ -1,5 +1,5 @@
 use Rattle.std.proofs.lemmas.List.{drop_more}
-use Rattle.box_answers.proofs.SearchSteps.{Reaches-found, Reaches-alone, Reaches-stops, Reaches-next, Reaches-passing, one-fails}
+use Rattle.box_answers.proofs.SearchSteps.{Reaches-found, Reaches-alone, Reaches-stops, Reaches-next, Reaches-passing}
 use Rattle.box_answers.proofs.search.member_of_answer.Goals as goal
 
 pub find_deciding-requires : goal.find_deciding-requires
@@ -30,9 +30,6 @@ pub loop-rule-preserved : goal.loop-rule-preserved
 loop-rule-preserved c =
     Reaches-next _ _ _ _ _ _ _ c.args.want _ _ c.loop-rule.invariant (drop_more c.args.question.now.rules.now c.loop-rule.rule-index _ c.loop-rule-test.true)
     c.in-Some-find.ensures.found c.in_default.ensures.none
-
-pub returns-in-None-clause-fails : goal.returns-in-None-clause-fails
-returns-in-None-clause-fails c = λ _. one-fails _ c.args.question.now.rules.now _ _ c.loop-rule.rule-index _ c.loop-rule-test.true c.in-None.ensures.none
 
 pub loop-rule-preserved-then-passes_everywhere : goal.loop-rule-preserved-then-passes_everywhere
 loop-rule-preserved-then-passes_everywhere c =

@@ -4,7 +4,6 @@ use Rattle.box_trace.proofs.live.judged.Goals as goal
 
 pub returns-in-Always : goal.returns-in-Always
 returns-in-Always c = record {
-  same = refl;
   some = some-of-all _ _ _ c.in-Always.ensures.sets c.in-Always.ensures.value;
   mark = ((λ _. c.in-Always.ensures.value), (λ _. refl));
 }
@@ -13,7 +12,6 @@ pub returns-in-Mixed : goal.returns-in-Mixed
 returns-in-Mixed c =
     let parts = c.in-Mixed.ensures.value.parts in
     record {
-      same = refl;
       some = (_, parts.yes);
       mark = ((λ no. absurd (cc)), (λ all. let no = sym (all _ parts.no.member) ∙ parts.no.answers in cc));
     }

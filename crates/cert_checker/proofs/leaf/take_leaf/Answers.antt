@@ -3,9 +3,9 @@ use Rattle.std.proofs.lemmas.Bool.{MatchBool-at_true, MatchBool-at_false}
 use Rattle.box_trace.specs.config_record.DeviceSeen.{device_numbers}
 use Rattle.box_trace.specs.declared.common.CommonTrace.{CommonTrace}
 use Rattle.box_trace.specs.CommonTrace.{IsCommonTrace}
-use Rattle.box_trace.proofs.Divisions.{traces_differ}
+use Rattle.box_trace.specs.Parting.{answer_of}
 use Rattle.cert_tree.specs.box_answers.NumberSet.{SetOf}
-use Rattle.cert_tree.specs.box_answers.Members.{IsMember, IsCorner}
+use Rattle.cert_tree.specs.box_answers.Members.{IsCorner}
 use Rattle.cert_checker.specs.declared.rule.Rule.{Rule}
 use Rattle.cert_checker.specs.declared.verdict.Shown.TheVariants.{One}
 use Rattle.cert_checker.specs.OpenBoxes.{TakesLeaf}
@@ -17,8 +17,7 @@ returns-in-Mixed c = λ trace reached.
     let part = c.args.part.members in
     let common = subst (λ (k : CommonTrace). IsCommonTrace k part trace) c.in-Mixed.is (c.in_ok-parting.ensures.common trace reached) in
     let pair = c.in-Mixed.parting.pair in
-    two_traces trace c.args.claimed part pair.yes pair.no pair.coord common.0 common.1
-    (traces_differ (IsMember part) trace (device_numbers pair.yes) (device_numbers pair.no) common.1 common.0.x_member common.0.y_member)
+    two_traces trace c.args.claimed part (answer_of c.in-Mixed.parting) pair.yes pair.no pair.coord common.separates common.divides common.trace_tells
 
 pub returns-in-One : goal.returns-in-One
 returns-in-One c = λ trace reached.

@@ -1,5 +1,4 @@
-use Rattle.std.proofs.Common.{◌≡◌, List, ◌∷◌, [], ◌++◌, Some, sym, subst}
-use Rattle.std.specs.List.{All}
+use Rattle.std.proofs.Common.{Some, sym, subst}
 use Rattle.std.proofs.lemmas.List.Elements.{All-pop}
 use Rattle.std.proofs.lemmas.Result.{IfOk-weaker}
 use Rattle.box_trace.specs.OpenBox.{boxes_of, IsReached}
@@ -14,25 +13,30 @@ use Rattle.cert_checker.proofs.node.take_node.Goals as goal
 pub returns-in-Test-clause-outcome : goal.returns-in-Test-clause-outcome
 returns-in-Test-clause-outcome c =
     IfOk-weaker c.take_test.result _ _ (λ outcome h trace reached.
-    subst (λ (n : Node). TakesNode trace (node_of n) (boxes_of c.args.open_boxes.now.items) (boxes_of c.take_test.new.open_boxes.items) outcome) (sym c.in-Test.is)
-    (at_test trace (test_of c.in-Test.test) c.in-Some.part.members (boxes_of c.args.open_boxes.now.items) (boxes_of c.pop.new.self.items) (boxes_of c.take_test.new.open_boxes.items) outcome (boxes-push _ _ _ c.in-Some.ensures.items) h)) c.take_test.ensures.outcome
+    subst (λ (n : Node). TakesNode trace (node_of n) (boxes_of c.args.open_boxes.now) (boxes_of c.take_test.new.open_boxes) outcome) (sym c.in-Test.is)
+    (at_test trace (test_of c.in-Test.test) c.in-Some.part.members (boxes_of c.args.open_boxes.now) (boxes_of c.pop.new.self) (boxes_of c.take_test.new.open_boxes) outcome (boxes-push _ _ _ c.in-Some.ensures.items) h)) c.take_test.ensures.outcome
 
 pub returns-in-Test-clause-reached : goal.returns-in-Test-clause-reached
 returns-in-Test-clause-reached c =
     IfOk-weaker c.take_test.result _ _ (λ outcome h trace reached.
-    let taken = All-pop (IsReached c.args.stack.now trace) c.args.open_boxes.now.items c.pop.new.self.items (Some c.in-Some.part) c.in-Some.ensures.items reached in
+    let taken = All-pop (IsReached c.args.stack.now trace) c.args.open_boxes.now c.pop.new.self (Some c.in-Some.part) c.in-Some.ensures.items reached in
     h trace taken.1 taken.0) c.take_test.ensures.reached
 
 pub returns-in-Value-clause-outcome : goal.returns-in-Value-clause-outcome
 returns-in-Value-clause-outcome c =
     IfOk-weaker c.take_leaf.result _ _ (λ outcome h trace reached.
-    let taken = All-pop (IsReached c.args.stack.now trace) c.args.open_boxes.now.items c.pop.new.self.items (Some c.in-Some.part) c.in-Some.ensures.items reached in
-    subst (λ (n : Node). TakesNode trace (node_of n) (boxes_of c.args.open_boxes.now.items) (boxes_of c.pop.new.self.items) outcome) (sym c.in-Value.is)
-    (at_value trace c.in-Value.layer c.in-Value.value c.in-Some.part.members (boxes_of c.args.open_boxes.now.items) (boxes_of c.pop.new.self.items) outcome (boxes-push _ _ _ c.in-Some.ensures.items) (h trace taken.1))) c.take_leaf.ensures
+    let taken = All-pop (IsReached c.args.stack.now trace) c.args.open_boxes.now c.pop.new.self (Some c.in-Some.part) c.in-Some.ensures.items reached in
+    subst (λ (n : Node). TakesNode trace (node_of n) (boxes_of c.args.open_boxes.now) (boxes_of c.pop.new.self) outcome) (sym c.in-Value.is)
+    (at_value trace c.in-Value.layer c.in-Value.value c.in-Some.part.members (boxes_of c.args.open_boxes.now) (boxes_of c.pop.new.self) outcome (boxes-push _ _ _ c.in-Some.ensures.items) (h trace taken.1))) c.take_leaf.ensures
 
 pub returns-in-Bag-clause-outcome : goal.returns-in-Bag-clause-outcome
 returns-in-Bag-clause-outcome c =
     IfOk-weaker c.take_leaf-in-Bag.result _ _ (λ outcome h trace reached.
-    let taken = All-pop (IsReached c.args.stack.now trace) c.args.open_boxes.now.items c.pop.new.self.items (Some c.in-Some.part) c.in-Some.ensures.items reached in
-    subst (λ (n : Node). TakesNode trace (node_of n) (boxes_of c.args.open_boxes.now.items) (boxes_of c.pop.new.self.items) outcome) (sym c.in-Bag.is)
-    (at_bag trace c.in-Bag.id c.in-Some.part.members (boxes_of c.args.open_boxes.now.items) (boxes_of c.pop.new.self.items) outcome (boxes-push _ _ _ c.in-Some.ensures.items) (h trace taken.1))) c.take_leaf-in-Bag.ensures
+    let taken = All-pop (IsReached c.args.stack.now trace) c.args.open_boxes.now c.pop.new.self (Some c.in-Some.part) c.in-Some.ensures.items reached in
+    subst (λ (n : Node). TakesNode trace (node_of n) (boxes_of c.args.open_boxes.now) (boxes_of c.pop.new.self) outcome) (sym c.in-Bag.is)
+    (at_bag trace c.in-Bag.id c.in-Some.part.members (boxes_of c.args.open_boxes.now) (boxes_of c.pop.new.self) outcome (boxes-push _ _ _ c.in-Some.ensures.items) (h trace taken.1))) c.take_leaf-in-Bag.ensures
+
+pub returns-in-Bag-clause-reached : goal.returns-in-Bag-clause-reached
+returns-in-Bag-clause-reached c =
+    IfOk-weaker c.take_leaf-in-Bag.result _ _ (λ outcome h trace reached.
+    (All-pop (IsReached c.args.stack.now trace) c.args.open_boxes.now c.pop.new.self (Some c.in-Some.part) c.in-Some.ensures.items reached).0) c.take_leaf-in-Bag.ensures

@@ -25,9 +25,9 @@ returns-in_ok-push-in-Halves-2-clause-outcome c =
     let split = subst (λ (s : Split). IsSplit part test s) c.in-Halves.is c.in_ok-yes.ensures.halves in
     let no = c.in_ok-narrowed-in-Halves in
     let yes = c.in_ok-narrowed-in-Halves-2 in
-    halves part yes.field-0.members no.field-0.members test (boxes_of c.args.open_boxes.now.items) (boxes_of c.push-in-Halves.new.self.items) split.0
+    halves part yes.field-0.members no.field-0.members test (boxes_of c.args.open_boxes.now) (boxes_of c.push-in-Halves.new.self) split.0
     (subst (λ (sets : List SetOf). IsHalf part test true sets) (sym yes.ensures.members) split.1) (subst (λ (sets : List SetOf). IsHalf part test false sets) (sym no.ensures.members) split.2)
-    (pushed (boxes_of c.args.open_boxes.now.items) (boxes_of c.push.new.self.items) (boxes_of c.push-in-Halves.new.self.items) yes.field-0.members no.field-0.members
+    (pushed (boxes_of c.args.open_boxes.now) (boxes_of c.push.new.self) (boxes_of c.push-in-Halves.new.self) yes.field-0.members no.field-0.members
     (boxes-push _ _ _ c.in_ok-push-in-Halves.ensures.items) (boxes-push _ _ _ c.in_ok-push-in-Halves-2.ensures.items))
 
 pub returns-in_ok-push-in-Halves-2-clause-reached : goal.returns-in_ok-push-in-Halves-2-clause-reached
@@ -41,14 +41,14 @@ returns-in_ok-push-in-Halves-2-clause-reached c = λ trace reached all.
 
 pub returns-in-WrongKind-clause-outcome : goal.returns-in-WrongKind-clause-outcome
 returns-in-WrongKind-clause-outcome c =
-    let boxes = boxes_of c.args.open_boxes.now.items in
+    let boxes = boxes_of c.args.open_boxes.now in
     let wrong = subst (λ (s : Split). IsSplit c.args.part.members (test_of c.args.test.now) s) c.in-WrongKind.is c.in_ok-yes.ensures.halves in
     subst (λ (f : Failure). TakesTest (test_of c.args.test.now) c.args.part.members boxes boxes (Some f)) (sym c.of.ensures)
     (wrong_kind c.args.part.members (test_of c.args.test.now) boxes boxes wrong)
 
 pub returns-in-EmptyHalf-clause-outcome : goal.returns-in-EmptyHalf-clause-outcome
 returns-in-EmptyHalf-clause-outcome c =
-    let boxes = boxes_of c.args.open_boxes.now.items in
+    let boxes = boxes_of c.args.open_boxes.now in
     let split = subst (λ (s : Split). IsSplit c.args.part.members (test_of c.args.test.now) s) c.in-EmptyHalf.is c.in_ok-yes.ensures.halves in
     subst (λ (f : Failure). TakesTest (test_of c.args.test.now) c.args.part.members boxes boxes (Some f)) (sym c.of-in-EmptyHalf.ensures)
     (empty_half c.args.part.members (test_of c.args.test.now) boxes boxes split.0 split.1)

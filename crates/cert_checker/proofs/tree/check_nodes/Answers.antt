@@ -1,5 +1,4 @@
 use Rattle.std.proofs.Common.{◌≡◌, ℕ, List, [], ◌∷◌, ◌++◌, length, map, reverse, Some, sym, ◌∙◌, ap, subst, arith}
-use Rattle.std.proofs.lemmas.Grind.{common_steps}
 use Rattle.std.proofs.lemmas.List.Elements.{All-nil, All-same, All-push}
 use Rattle.std.proofs.lemmas.List.{length-map}
 use Rattle.box_trace.specs.reference_resolver.Ends.{references_followed}
@@ -27,13 +26,13 @@ loop-place-init c =
     let is_box : IsBox sets = subst (λ (b : List SetOf). IsBox b) s.value s.sets in
     let pushed = boxes-push _ _ _ c.in_ok-push.ensures.items in
     let whole_is : c.in_ok-whole.field-0.members ≡ sets = c.in_ok-whole.ensures.members ∙ s.value in
-    let e : reverse (boxes_of c.push.new.self.items) ≡ sets ∷ [] =
-    ap reverse (pushed ∙ ap (λ (parts : List OpenBox). boxes_of parts ++ c.in_ok-whole.field-0.members ∷ []) c.new-open_boxes.ensures.items) ∙ ap (λ (b : List SetOf). b ∷ []) whole_is in
+    let e : reverse (boxes_of c.push.new.self) ≡ sets ∷ [] =
+    ap reverse (pushed ∙ ap (λ (parts : List OpenBox). boxes_of parts ++ c.in_ok-whole.field-0.members ∷ []) c.new-open_boxes.ensures) ∙ ap (λ (b : List SetOf). b ∷ []) whole_is in
     record {
-      passed = started trace sets (map node_of c.args.nodes.now) (boxes_of c.push.new.self.items)
+      passed = started trace sets (map node_of c.args.nodes.now) (boxes_of c.push.new.self)
           (subst (λ (parts : List (List SetOf)). Stand sets parts root) (sym e) (whole sets is_box, tt));
       reached = All-same (IsReached c.args.stack.now trace) _ _ c.in_ok-push.ensures.items
-          (All-push (IsReached c.args.stack.now trace) _ _ (All-same (IsReached c.args.stack.now trace) _ _ c.new-open_boxes.ensures.items (All-nil (IsReached c.args.stack.now trace))) c.in_ok-whole.ensures.reached);
+          (All-push (IsReached c.args.stack.now trace) _ _ (All-same (IsReached c.args.stack.now trace) _ _ c.new-open_boxes.ensures (All-nil (IsReached c.args.stack.now trace))) c.in_ok-whole.ensures.reached);
     }
 
 pub loop-place-preserved : goal.loop-place-preserved
@@ -42,7 +41,7 @@ loop-place-preserved c =
     let trace : List ℕ → Trace = trace_of c.args.stack.now references_followed c.args.id.0 in
     let l = c.loop-place in
     record {
-      passed = passed_more trace c.args.members.now nodes l.place (node_of c.index-nodes-place.result) (boxes_of l.open_boxes.items) (boxes_of c.take_node.new.open_boxes.items) c.in_ok-failure.field-0
+      passed = passed_more trace c.args.members.now nodes l.place (node_of c.index-nodes-place.result) (boxes_of l.open_boxes) (boxes_of c.take_node.new.open_boxes) c.in_ok-failure.field-0
           (seen_at node_of c.args.nodes.now l.place c.index-nodes-place.result c.loop-place-test.true c.index-nodes-place.is)
           c.in_default.is l.invariant.passed (c.in_ok-failure.ensures.outcome trace l.invariant.reached c.args.members.now (open_at nodes l.place) l.invariant.passed.stand);
       reached = c.in_ok-failure.ensures.reached trace l.invariant.reached;
@@ -53,16 +52,15 @@ returns-in-Some c =
     let nodes : List NodeOf = map node_of c.args.nodes.now in
     let trace : List ℕ → Trace = trace_of c.args.stack.now references_followed c.args.id.0 in
     let l = c.loop-place in
-    failed trace c.args.members.now nodes l.place (node_of c.index-nodes-place.result) (boxes_of l.open_boxes.items) (boxes_of c.take_node.new.open_boxes.items) c.in_ok-failure.field-0 c.in-Some.failure
+    failed trace c.args.members.now nodes l.place (node_of c.index-nodes-place.result) (boxes_of l.open_boxes) (boxes_of c.take_node.new.open_boxes) c.in_ok-failure.field-0 c.in-Some.failure
     (seen_at node_of c.args.nodes.now l.place c.index-nodes-place.result c.loop-place-test.true c.index-nodes-place.is)
     c.in-Some.is l.invariant.passed (c.in_ok-failure.ensures.outcome trace l.invariant.reached c.args.members.now (open_at nodes l.place) l.invariant.passed.stand)
 
 pub returns-in-None : goal.returns-in-None
 returns-in-None c =
     let l = c.loop-place in
-    let none : l.open_boxes.items ≡ [] = grind (arith, common_steps, c.in-None.ensures) in
-    whole_tree (trace_of c.args.stack.now references_followed c.args.id.0) c.args.members.now (map node_of c.args.nodes.now) l.place (boxes_of l.open_boxes.items)
-    (omega (arith, length-map c.args.nodes.now node_of)) (ap boxes_of none) l.invariant.passed
+    whole_tree (trace_of c.args.stack.now references_followed c.args.id.0) c.args.members.now (map node_of c.args.nodes.now) l.place (boxes_of l.open_boxes)
+    (omega (arith, length-map c.args.nodes.now node_of)) (ap boxes_of c.in-None.ensures.none) l.invariant.passed
 
 pub returns : goal.returns
 returns c =
@@ -71,5 +69,5 @@ returns c =
     let l = c.loop-place in
     subst (λ (f : Failure). IsOutcome trace c.args.members.now nodes (Some (length c.args.nodes.now, f))) (sym c.of.ensures)
     (subst (λ (n : ℕ). IsOutcome trace c.args.members.now nodes (Some (n, record { rule = EndsEarly; shown = Nothing }))) (length-map c.args.nodes.now node_of)
-    (ends_early trace c.args.members.now c.in-Some-pop.field-0.members nodes l.place (boxes_of l.open_boxes.items) (boxes_of c.pop.new.self.items) (omega (arith, length-map c.args.nodes.now node_of))
-    (ap reverse (boxes-push _ _ _ c.in-Some-pop.ensures.items) ∙ reverse-push (boxes_of c.pop.new.self.items) c.in-Some-pop.field-0.members) l.invariant.passed))
+    (ends_early trace c.args.members.now c.in-Some-pop.field-0.members nodes l.place (boxes_of l.open_boxes) (boxes_of c.pop.new.self) (omega (arith, length-map c.args.nodes.now node_of))
+    (ap reverse (boxes-push _ _ _ c.in-Some-pop.ensures.items) ∙ reverse-push (boxes_of c.pop.new.self) c.in-Some-pop.field-0.members) l.invariant.passed))

@@ -9,6 +9,6 @@ use Rattle.cert_checker.proofs.tree.check_nodes.Given as goal
 
 abbrev pub invariant-loop-place : goal.invariant-loop-place
 invariant-loop-place l = record {
-  passed : PassedTo (trace_of l.stack references_followed l.fn.id.0) l.members (map node_of l.nodes) l.place (boxes_of l.open_boxes.items);
-  reached : All (IsReached l.stack (trace_of l.stack references_followed l.fn.id.0)) l.open_boxes.items;
+  passed : PassedTo (trace_of l.stack references_followed l.fn.id.0) l.members (map node_of l.nodes) l.place (boxes_of l.open_boxes);
+  reached : All (IsReached l.stack (trace_of l.stack references_followed l.fn.id.0)) l.open_boxes;
 }

@@ -6,7 +6,7 @@ use Rattle.cert_checker.specs.reference_resolver.Trace.{Trace, trace_of}
 use Rattle.cert_checker.specs.box_answers.NumberSet.{SetOf}
 use Rattle.cert_checker.specs.box_answers.Members.{IsCorner}
 use Rattle.cert_checker.specs.box_trace.declared.common.CommonTrace.{CommonTrace}
-use Rattle.cert_checker.specs.box_trace.CommonTrace.{IsCommonTrace, IsParted}
+use Rattle.cert_checker.specs.box_trace.CommonTrace.{IsCommonTrace}
 use Rattle.cert_checker.specs.box_trace.Parting.{IsParting}
 use Rattle.cert_checker.specs.box_trace.OpenBox.{boxes_of}
 use Rattle.cert_checker.specs.cert_tree.Certificate.{node_of}
@@ -23,7 +23,7 @@ returns-in-Some-clause-grows c = λ id reached all.
     let common = subst (λ (k : CommonTrace). IsCommonTrace k part trace) c.in-One.is (c.in_ok-end.ensures.common trace reached) in
     let t : Trace = record { steps = common.0; end = c.in-One.end } in (
       grows-leaf trace part t (node_of c.in-Some.leaf)
-          (map node_of c.args.nodes.now.items) (map node_of c.push.new.self.items) (boxes_of c.args.open_boxes.now.items)
+          (map node_of c.args.nodes.now.items) (map node_of c.push.new.self.items) (boxes_of c.args.open_boxes.now)
           (map-push node_of c.args.nodes.now.items c.push.new.self.items c.in-Some.leaf c.in_ok-push-in-Some.ensures.items)
           common.1
           c.in-Some.ensures
@@ -46,23 +46,23 @@ pub parting_test-requires : goal.parting_test-requires
 parting_test-requires c =
     let part = c.args.part.members in
     let rest : List ℕ → Trace = rest_of c.args.stack.now c.args.part.walk in
-    let parted = subst (λ (k : CommonTrace). IsParted k part rest) c.in-Mixed.is (c.in_ok-end.ensures.parted rest (reached_there c.args.stack.now c.args.part)) in
+    let parted = subst (λ (k : CommonTrace). IsCommonTrace k part rest) c.in-Mixed.is (c.in_ok-end.ensures.common rest (reached_there c.args.stack.now c.args.part)) in
     (subst (λ (sets : List SetOf). IsParting c.in-Mixed.parting sets rest) (sym c.in_ok-end.ensures.members) parted).separates
 
 pub add_test-requires-clause-asked : goal.add_test-requires-clause-asked
 add_test-requires-clause-asked c =
     let part = c.args.part.members in
     let rest : List ℕ → Trace = rest_of c.args.stack.now c.args.part.walk in
-    let parted = subst (λ (k : CommonTrace). IsParted k part rest) c.in-Mixed.is (c.in_ok-end.ensures.parted rest (reached_there c.args.stack.now c.args.part)) in
-    (c.in_ok-test-in-Mixed.ensures.needed rest (subst (λ (sets : List SetOf). IsParting c.in-Mixed.parting sets rest) (sym c.in_ok-end.ensures.members) parted).settled).passes
+    let parted = subst (λ (k : CommonTrace). IsCommonTrace k part rest) c.in-Mixed.is (c.in_ok-end.ensures.common rest (reached_there c.args.stack.now c.args.part)) in
+    (c.in_ok-test-in-Mixed.ensures.needed rest (subst (λ (sets : List SetOf). IsParting c.in-Mixed.parting sets rest) (sym c.in_ok-end.ensures.members) parted).trace_tells).passes
 
 pub returns-clause-grows : goal.returns-clause-grows
 returns-clause-grows c = λ id reached all.
     let trace : List ℕ → Trace = trace_of c.args.stack.now references_followed id in
     let part = c.args.part.members in
-    let parted = subst (λ (k : CommonTrace). IsParted k part trace) c.in-Mixed.is (c.in_ok-end.ensures.parted trace reached) in
-    let settled = (subst (λ (sets : List SetOf). IsParting c.in-Mixed.parting sets trace) (sym c.in_ok-end.ensures.members) parted).settled in
-    let grows = c.in_ok-add_test-in-Mixed.ensures.grows trace (c.in_ok-test-in-Mixed.ensures.needed trace settled) in (
-      subst (λ (sets : List SetOf). Grows trace sets (map node_of c.args.nodes.now.items) (map node_of c.add_test.new.nodes.items) (boxes_of c.args.open_boxes.now.items) (boxes_of c.add_test.new.open_boxes.items)) c.in_ok-end.ensures.members grows,
+    let parted = subst (λ (k : CommonTrace). IsCommonTrace k part trace) c.in-Mixed.is (c.in_ok-end.ensures.common trace reached) in
+    let tells = (subst (λ (sets : List SetOf). IsParting c.in-Mixed.parting sets trace) (sym c.in_ok-end.ensures.members) parted).trace_tells in
+    let grows = c.in_ok-add_test-in-Mixed.ensures.grows trace (c.in_ok-test-in-Mixed.ensures.needed trace tells) in (
+      subst (λ (sets : List SetOf). Grows trace sets (map node_of c.args.nodes.now.items) (map node_of c.add_test.new.nodes.items) (boxes_of c.args.open_boxes.now) (boxes_of c.add_test.new.open_boxes)) c.in_ok-end.ensures.members grows,
       c.in_ok-add_test-in-Mixed.ensures.reached c.args.stack.now trace (c.in_ok-end.ensures.reached trace reached) all,
     )

@@ -35,9 +35,9 @@ returns-clause-grows c = λ trace needed.
     let split = subst (λ (s : Split). IsSplit part test s) c.in-Halves.is c.in_ok-yes.ensures.halves in
     let no = c.in_ok-narrowed-in-Halves in
     let yes = c.in_ok-narrowed-in-Halves-2 in
-    grows-test trace part yes.field-0.members no.field-0.members test (map node_of c.args.nodes.now.items) (map node_of c.push-in-Halves-2.new.self.items) (boxes_of c.args.open_boxes.now.items) (boxes_of c.push-in-Halves.new.self.items)
+    grows-test trace part yes.field-0.members no.field-0.members test (map node_of c.args.nodes.now.items) (map node_of c.push-in-Halves-2.new.self.items) (boxes_of c.args.open_boxes.now) (boxes_of c.push-in-Halves.new.self)
     (map-push node_of c.args.nodes.now.items c.push-in-Halves-2.new.self.items (code.Test c.args.test) c.in_ok-push-in-Halves-3.ensures.items)
-    (pushed (boxes_of c.args.open_boxes.now.items) (boxes_of c.push.new.self.items) (boxes_of c.push-in-Halves.new.self.items) yes.field-0.members no.field-0.members
+    (pushed (boxes_of c.args.open_boxes.now) (boxes_of c.push.new.self) (boxes_of c.push-in-Halves.new.self) yes.field-0.members no.field-0.members
     (boxes-push _ _ _ c.in_ok-push-in-Halves.ensures.items) (boxes-push _ _ _ c.in_ok-push-in-Halves-2.ensures.items))
     split.0 (subst (λ (sets : List SetOf). IsHalf part test true sets) (sym yes.ensures.members) split.1) (subst (λ (sets : List SetOf). IsHalf part test false sets) (sym no.ensures.members) split.2) needed c.requires.fits
 

@@ -9,8 +9,8 @@ use Rattle.cert_maker.proofs.tree.grow_tree.Given as goal
 
 abbrev pub invariant-boxes : goal.invariant-boxes
 invariant-boxes l = record {
-  going : Going (trace_of l.stack references_followed l.fn.id.0) l.members (map node_of l.nodes.items) (reverse (boxes_of l.open_boxes.items));
-  reached : All (IsReached l.stack (trace_of l.stack references_followed l.fn.id.0)) l.open_boxes.items;
+  going : Going (trace_of l.stack references_followed l.fn.id.0) l.members (map node_of l.nodes.items) (reverse (boxes_of l.open_boxes));
+  reached : All (IsReached l.stack (trace_of l.stack references_followed l.fn.id.0)) l.open_boxes;
   within : length l.nodes.items ≤ l.fn.most;
 }
 

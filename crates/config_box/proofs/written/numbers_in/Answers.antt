@@ -6,7 +6,7 @@ use Rattle.config_box.proofs.written.numbers_in.Goals as goal
 pub returns-in_err-numbers : goal.returns-in_err-numbers
 returns-in_err-numbers c =
     let p = err_from_is_err_and c.from_residual.result c.from_residual.ensures.1 in
-    rw (p.1, p.2) (λ other. numbers-of (view c.args.value.now) c.in-Some.items.now.items _ c.in-Some.ensures (rw c.deref.ensures.value at (c.in_err-numbers.ensures other)))
+    rw (p.1, p.2) (λ other. numbers-of (view c.args.value.now) c.in-Some.items.now _ c.in-Some.ensures (c.in_err-numbers.ensures other))
 
 pub returns-in-Some : goal.returns-in-Some
-returns-in-Some c = numbers-of (view c.args.value.now) c.in-Some.items.now.items _ c.in-Some.ensures (rw c.deref.ensures.value at c.in_ok-numbers.ensures)
+returns-in-Some c = numbers-of (view c.args.value.now) c.in-Some.items.now _ c.in-Some.ensures c.in_ok-numbers.ensures

@@ -11,4 +11,4 @@ invariant-loop-from l = record {
 }
 
 abbrev pub decreases-loop-from : goal.decreases-loop-from
-decreases-loop-from l = l.chunk.entry_count - l.from
+decreases-loop-from l = l.chunk.offset_count - l.from

@@ -1,14 +1,12 @@
-use Rattle.std.proofs.Common.{arith}
-use Rattle.std.proofs.lemmas.Result.{err_from_is_err_and}
-use Rattle.bags_themes.proofs.StyleSteps.{StylesAllBut-next, StylesAllBut-stops}
+use Rattle.std.proofs.Common.{List, subst, ◌∙◌}
+use Rattle.bags_themes.specs.declared.bag_row.BagRow.{BagRow}
+use Rattle.bags_themes.specs.Theme.{AppliesRows}
+use Rattle.bags_themes.proofs.StyleSteps.{styles_applied}
 use Rattle.bags_themes.proofs.theme.Theme.of_styles.Goals as goal
 
-pub returns-in_err-set_style : goal.returns-in_err-set_style
-returns-in_err-set_style c =
-    let p = err_from_is_err_and c.from_residual.result c.from_residual.ensures.1 in
-    rw (p.1, p.2) (λ other. StylesAllBut-stops _ _ _ _ _ _ _ _ c.loop-style.invariant (omega arith) (c.in_err-set_style.ensures other))
-
-pub loop-style-preserved : goal.loop-style-preserved
-loop-style-preserved c =
-    let applied = c.in_ok-set_style.ensures in
-    StylesAllBut-next _ _ _ _ _ _ _ _ applied.0 c.loop-style.invariant (omega arith) applied.1 applied.2
+pub returns : goal.returns
+returns c =
+    let old = c.unset.inside.values.entries in
+    let new = c.in_ok-values.values.entries in
+    styles_applied _ _ _ _ c.in_ok-rows.rows.items old new c.in_ok-rows.ensures (c.unset.view_is ∙ c.new-unset.ensures)
+    (subst (λ (rows : List BagRow). AppliesRows c.args.force rows old new) c.deref.ensures.value c.in_ok-values.ensures.applied)

@@ -8,7 +8,7 @@ pub loop-candidate-preserved-in-Continue-1 : goal.loop-candidate-preserved-in-Co
 loop-candidate-preserved-in-Continue-1 c = record {
   can = tt;
   ends = tt;
-  judged = judged_in _ _ _ _ _ _ _ _ c.in-Some.ensures.steps (ap (map live_of) c.in_ok-push.ensures.items ∙ map-append live_of _ _) c.in-Some-judged.ensures c.loop-candidate.invariant.judged;
+  judged = judged_in _ _ _ _ _ _ _ c.in-Some.ensures.steps (ap (map live_of) c.in_ok-push.ensures.items ∙ map-append live_of _ _) c.in-Some-judged.ensures c.loop-candidate.invariant.judged;
 }
 
 pub loop-candidate-preserved : goal.loop-candidate-preserved

@@ -2,14 +2,13 @@ use Rattle.std.proofs.Common.{◌≡◌, ◌-◌, ℕ, List, length}
 use Rattle.config_box.specs.box_answers.Members.{IsMember}
 use Rattle.reference_resolver.specs.overlay_map.Layer.{LayerOf}
 use Rattle.reference_resolver.specs.Trace.{Trace}
-use Rattle.box_trace.specs.Live.{AreMarked}
 use Rattle.box_trace.specs.Walk.{HaveWalked}
 use Rattle.box_trace.proofs.walk.Walk.pass_candidates.Given as goal
 
 abbrev pub invariant-candidates : goal.invariant-candidates
 invariant-candidates l = record {
   live : l.self.live.value ≡ l.fn.self.live.value;
-  left : l.self.left ≡ l.fn.self.left;
+  course : l.self.course ≡ l.fn.self.course;
   walked : (stack : List LayerOf) (trace : List ℕ → Trace) → HaveWalked stack (IsMember l.members) trace l.fn.self → HaveWalked stack (IsMember l.members) trace l.self;
 }
 

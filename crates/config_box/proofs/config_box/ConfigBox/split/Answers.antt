@@ -1,7 +1,7 @@
 use Rattle.std.proofs.Common.{◌≡◌, ◌⊎◌, inl, true, false, List, sym, ◌∙◌, ap, subst}
 use Rattle.box_answers.specs.NumberSet.{SetOf, set_of}
 use Rattle.box_answers.specs.Members.{sets_of, set_at, IsMember}
-use Rattle.box_answers.specs.Settled.{AllAnswer}
+use Rattle.box_answers.specs.MemberAnswers.{AllAnswer}
 use Rattle.box_answers.specs.config_record.declared.coord.Coord.{Coord}
 use Rattle.config_box.specs.Tests.{test_of, coord_of, answers, has_wrong_kind}
 use Rattle.config_box.specs.HalfSets.{IsAskable, NoneAnswers}

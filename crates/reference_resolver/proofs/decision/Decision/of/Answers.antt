@@ -12,4 +12,4 @@ returns-in-None-clause-step c =
     let candidate = cand_of c.args.candidate.now in
     let d = device_numbers c.args.device.now in
     let matches = sym c.mismatch.ensures.value ∙ c.in-None.is in
-    ap step_by (c.of_match.ensures ∙ sym (ap (λ mismatch. decision_by mismatch best candidate d) matches)) ∙ step_told best candidate d
+    ap step_by (c.decision_of_match.ensures ∙ sym (ap (λ mismatch. decision_by mismatch best candidate d) matches)) ∙ step_told best candidate d

@@ -4,11 +4,11 @@ use Rattle.type_chunks.specs.Entries.{AreEmpty}
 use Rattle.type_chunks.proofs.type_chunk.TypeChunk.behind_empty_eights.Given as goal
 
 -- no entry was passed over
-abbrev pub invariant-loop-slot : goal.invariant-loop-slot
-invariant-loop-slot l = record {
-  behind : l.from ≤ l.slot;
-  passed : AreEmpty (type_chunk_of l.self) l.from l.slot;
+abbrev pub invariant-loop-position : goal.invariant-loop-position
+invariant-loop-position l = record {
+  behind : l.from ≤ l.position;
+  passed : AreEmpty (type_chunk_of l.self) l.from l.position;
 }
 
-abbrev pub decreases-loop-slot : goal.decreases-loop-slot
-decreases-loop-slot l = l.self.entry_count - l.slot
+abbrev pub decreases-loop-position : goal.decreases-loop-position
+decreases-loop-position l = l.self.offset_count - l.position

@@ -4,8 +4,8 @@ use Rattle.type_chunks.specs.Entries.{rows_from}
 use Rattle.type_chunks.proofs.type_rows.TypeRowsIterator.next.Given as goal
 
 -- only entries that are no rows were passed over
-abbrev pub invariant-loop-slot : goal.invariant-loop-slot
-invariant-loop-slot l = rows_from (type_chunk_of l.self-inside.of.chunk) l.self-inside.slot ≡ l.fn.self
+abbrev pub invariant-loop-position : goal.invariant-loop-position
+invariant-loop-position l = rows_from (type_chunk_of l.self-inside.of.chunk) l.self-inside.position ≡ l.fn.self
 
-abbrev pub decreases-loop-slot : goal.decreases-loop-slot
-decreases-loop-slot l = l.self-inside.of.chunk.entry_count - l.self-inside.slot
+abbrev pub decreases-loop-position : goal.decreases-loop-position
+decreases-loop-position l = l.self-inside.of.chunk.offset_count - l.self-inside.position

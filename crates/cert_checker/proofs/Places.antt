@@ -1,0 +1,12 @@
+-- A list of places that all hold something.
+use Rattle.std.proofs.Common.{◌≡◌, suc, List, [], ◌∷◌, length, Option, None, Some, IsSome, ◌∙◌, ap, refl}
+use Rattle.std.specs.List.{All, flat_map}
+use Rattle.std.specs.Option.{option_to_list}
+use Rattle.std.proofs.lemmas.List.Elements.{All-head, All-tail}
+use Rattle.std.proofs.lemmas.List.Concat.{flat_map-cons}
+
+-- they hold as many things as there are places
+pub all_held : {X : Type 0} (places : List (Option X)) → All IsSome places → length (flat_map option_to_list places) ≡ length places
+all_held [] all = refl
+all_held (None ∷ places) all = let some = All-head IsSome None places all in absurd (cc)
+all_held (Some x ∷ places) all = ap length (flat_map-cons option_to_list (Some x) places) ∙ ap suc (all_held places (All-tail IsSome (Some x) places all))
