@@ -1,9 +1,9 @@
 //! Which candidates of an id members of a box match.
 
 use crate::commands::command::FIRST;
-use cert_checker::Live;
-use config_box::ConfigBox;
+use cert_checker::{Cand, Choice, ConfigBox, Coord, Live, Locale, Split, Stack, Test};
 use std::alloc::Global;
+use std::test::Fail;
 use test_layers::layer_of_lines;
 use test_stacks::stack_of_base;
 
@@ -25,4 +25,38 @@ fn lists_what_members_match(rt: HostRuntime) {
     assert!(rt; german == Some((1, true)));
     let english = counted(rt.alloc(), br#"{"density":[160],"locale":["en"]}"#);
     assert!(rt; english == Some((0, true)));
+}
+
+// Those that concern the part of a box that has the locale de.
+fn german_half<'a>(alloc: Global, stack: &Stack<'a>, members: &ConfigBox) -> Option<Live<'a>> {
+    let whole = Live::new(alloc, stack, FIRST, members).ok()?;
+    let german = Vec::from_slice(alloc, &[Locale::read("de").ok()?]).ok()?;
+    let is_german = Test::Among(Coord::Locale, Choice::Locales(german));
+    match members.split(alloc, &is_german).ok()? {
+        Split::Halves(german, _) => whole.half(alloc, &german).ok(),
+        Split::WrongKind | Split::EmptyHalf => None,
+    }
+}
+
+// Whether the candidates for the German half have these locales, each with its mark.
+fn is_listed_for_german(alloc: Global, want: &[(Locale, bool)]) -> Option<bool> {
+    let rows = "0 [locale=fr] 1\n0 [locale=de] 2\n0 [locale=de,sdk=21] 3";
+    let table = layer_of_lines(alloc, rows).ok()?;
+    let stack = stack_of_base(alloc, &table)?;
+    let members = br#"{"density":[160],"sdk":[19,21],"locale":["fr","de"]}"#;
+    let members = ConfigBox::read(alloc, members).ok()?;
+    let half = german_half(alloc, &stack, &members)?;
+    let list = half.list();
+    let is_same = |pair: (&(Cand<'_>, bool), &(Locale, bool))| {
+        pair.0.0.row.config.locale() == pair.1.0 && pair.0.1 == pair.1.1
+    };
+    Some(list.len() == want.len() && list.iter().zip(want).all(is_same))
+}
+
+#[test]
+fn leaves_out_what_no_member_of_a_half_matches(rt: HostRuntime) -> Result<(), Fail> {
+    let german = Locale::read("de")?;
+    let want = [(german, true), (german, false)];
+    assert!(rt; is_listed_for_german(rt.alloc(), &want) == Some(true));
+    Ok(())
 }
