@@ -106,7 +106,7 @@ only_end stack attr values styles d end ends = elim ends [
   | inr here ↦ here.is_end ∙ sym (in_theme stack attr values here.set styles d here.applied)
 ]
 
-the_end_under : (stack : List LayerOf) (attr : ℕ) (values : AttributeValues) (styles : List ResId) (d : List ℕ) → IsTheEndUnder stack attr values styles d (styles_trace stack attr values styles d).end
+pub the_end_under : (stack : List LayerOf) (attr : ℕ) (values : AttributeValues) (styles : List ResId) (d : List ℕ) → IsTheEndUnder stack attr values styles d (styles_trace stack attr values styles d).end
 the_end_under stack attr values styles d = record { ends = ends_under stack attr values styles d; only = λ other ends. only_end stack attr values styles d other ends }
 
 -- the same of what a call returns

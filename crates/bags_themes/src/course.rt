@@ -16,25 +16,25 @@ use std::rc::Rc;
 
 /// What comes after a look-up. The rest of the trace depends on this and on what is selected alone.
 #[derive(Drop)]
-pub enum Course<'a> {
+pub enum Course<'a, 's> {
     /// So many references may still be followed.
     References { left: u8 },
     /// A bag of a style was looked up.
-    Style(Rc<StyleCourse<'a>>),
+    Style(Rc<StyleCourse<'a, 's>>),
     /// This end, whatever is selected.
     Ended(End),
 }
 
 /// What comes next.
 #[derive(Drop)]
-pub enum CourseStep<'a> {
+pub enum CourseStep<'a, 's> {
     /// The look-up of this id, and what comes after it.
-    LookUp(ResId, Course<'a>),
+    LookUp(ResId, Course<'a, 's>),
     /// Nothing: this is the end.
     EndsAt(End),
 }
 
-impl<'a> Course<'a> {
+impl<'a, 's> Course<'a, 's> {
     ghost use Rattle.std.specs.Prelude.{IfOk};
     ghost use Rattle.std.specs.Option.{option_map};
     ghost use Rattle.reference_resolver.specs.overlay_map.Candidates.{cand_of};
@@ -44,7 +44,7 @@ impl<'a> Course<'a> {
     ghost use Rattle.bags_themes.specs.Course.{after_course, look_ups_after, look_ups_of_styles, IsWay, SameCourse};
 
     /// The first look-up of an id, of which at most twenty references are followed.
-    pub fn of_id(id: ResId) -> CourseStep<'a>
+    pub fn of_id(id: ResId) -> CourseStep<'a, 's>
         ensures { IsWay (λ stack. trace_of stack references_followed id.0) 21 result }
     {
         CourseStep::LookUp(
@@ -59,8 +59,8 @@ impl<'a> Course<'a> {
     pub fn of_attribute(
         alloc: Global,
         attr: ResId,
-        styles: &'a [ResId],
-    ) -> Result<CourseStep<'a>, AllocError>
+        styles: &'s [ResId],
+    ) -> Result<CourseStep<'a, 's>, AllocError>
         ensures { IfOk result (IsWay
             (λ stack. attribute_trace stack attr.0 styles.now) (look_ups_of_styles styles.now)) }
     {
@@ -68,7 +68,7 @@ impl<'a> Course<'a> {
     }
 
     /// The same course. What it has found is not copied.
-    pub fn shared(&self) -> Result<Course<'a>, AllocError>
+    pub fn shared(&self) -> Result<Course<'a, 's>, AllocError>
         ensures { IfOk result (λ course. SameCourse course self.now) }
     {
         match self {
@@ -84,7 +84,7 @@ impl<'a> Course<'a> {
         alloc: Global,
         id: ResId,
         best: &Option<Cand<'a>>,
-    ) -> Result<CourseStep<'a>, AllocError>
+    ) -> Result<CourseStep<'a, 's>, AllocError>
         ensures { IfOk result (IsWay
             (λ stack. after_course stack self.now id.0 (option_map cand_of best.now)) (look_ups_after self.now)) }
     {
@@ -96,7 +96,7 @@ impl<'a> Course<'a> {
     }
 }
 
-impl<'a> CourseStep<'a> {
+impl<'a, 's> CourseStep<'a, 's> {
     ghost use Rattle.std.specs.Prelude.{◌≡◌, IfOk};
     ghost use Rattle.reference_resolver.specs.config_record.DeviceSeen.{device_numbers};
     ghost use Rattle.bags_themes.specs.Course.{trace_from};
@@ -119,11 +119,11 @@ impl<'a> CourseStep<'a> {
 }
 
 /// Where an attribute ends at a device under styles, which are applied in their order, with force.
-pub fn attribute_under<'a>(
+pub fn attribute_under<'a, 's>(
     alloc: Global,
     stack: &Stack<'a>,
     attr: ResId,
-    styles: &'a [ResId],
+    styles: &'s [ResId],
     device: &Device,
 ) -> Result<End, AllocError>
     ensures { IfOk result
@@ -132,7 +132,7 @@ pub fn attribute_under<'a>(
     Course::of_attribute(alloc, attr, styles)?.end(alloc, stack, device)
 }
 
-fn after_reference<'a>(id: ResId, best: &Option<Cand<'a>>, left: u8) -> CourseStep<'a>
+fn after_reference<'a, 's>(id: ResId, best: &Option<Cand<'a>>, left: u8) -> CourseStep<'a, 's>
     ensures { IsWay (λ stack. after_reference stack left id.0 (option_map cand_of best.now)) left result }
 {
     match Next::of(id, best).cut_off(left) {

@@ -19,7 +19,7 @@ use std::rc::Rc;
 
 /// A style that is not applied yet, since bags of its chain are still looked up.
 #[derive(Drop)]
-pub struct StyleCourse<'a> {
+pub struct StyleCourse<'a, 's> {
     pub(crate) style: ResId,
     /// The bags of its chain so far.
     pub(crate) found: FoundBags<'a>,
@@ -28,11 +28,11 @@ pub struct StyleCourse<'a> {
     /// What the styles before it have set.
     pub(crate) theme: Rc<Theme>,
     /// The styles after it.
-    pub(crate) styles: &'a [ResId],
+    pub(crate) styles: &'s [ResId],
     pub(crate) attr: ResId,
 }
 
-impl<'a> StyleCourse<'a> {
+impl<'a, 's> StyleCourse<'a, 's> {
     ghost use Rattle.std.specs.Prelude.{◌≡◌, ◌++◌, [], ◌∷◌, true, Err, IfOk};
     ghost use Rattle.std.specs.Option.{option_map};
     ghost use Rattle.reference_resolver.specs.overlay_map.Candidates.{cand_of};
@@ -47,7 +47,7 @@ impl<'a> StyleCourse<'a> {
         &self,
         alloc: Global,
         best: &Option<Cand<'a>>,
-    ) -> Result<CourseStep<'a>, AllocError>
+    ) -> Result<CourseStep<'a, 's>, AllocError>
         ensures { IfOk result (IsWay
             (λ stack. after_style stack self.now (option_map cand_of best.now)) (look_ups_in self.now)) }
     {
@@ -74,7 +74,7 @@ impl<'a> StyleCourse<'a> {
     }
 
     // The same where no bag was found. It ends the chain, if it has one.
-    fn after_none(&self, alloc: Global, fault: BagFault) -> Result<CourseStep<'a>, AllocError>
+    fn after_none(&self, alloc: Global, fault: BagFault) -> Result<CourseStep<'a, 's>, AllocError>
         ensures { IfOk result (IsWay
             (λ stack. after_bag stack self.now.attr.0 self.now.styles.now (value_of self.now.theme.value)
             self.now.style self.now.left (found_bags_of self.now.found.items) (Err fault)) (look_ups_in self.now)) }
@@ -96,7 +96,11 @@ impl<'a> StyleCourse<'a> {
     }
 
     // What comes after the whole chain: it is applied, and the next style has its turn.
-    fn after_chain(&self, alloc: Global, chain: FoundBags<'a>) -> Result<CourseStep<'a>, AllocError>
+    fn after_chain(
+        &self,
+        alloc: Global,
+        chain: FoundBags<'a>,
+    ) -> Result<CourseStep<'a, 's>, AllocError>
         ensures { IfOk result (IsWay
             (λ stack. styles_trace stack self.now.attr.0
             (values_after true (merged (found_bags_of chain.entry.items)) (value_of self.now.theme.value))
@@ -108,12 +112,12 @@ impl<'a> StyleCourse<'a> {
 }
 
 /// The first look-up of the next style, or that of the reference that the attribute is.
-pub(crate) fn next_style<'a>(
+pub(crate) fn next_style<'a, 's>(
     alloc: Global,
     theme: Theme,
-    styles: &'a [ResId],
+    styles: &'s [ResId],
     attr: ResId,
-) -> Result<CourseStep<'a>, AllocError>
+) -> Result<CourseStep<'a, 's>, AllocError>
     ensures { IfOk result (IsWay
         (λ stack. styles_trace stack attr.0 (value_of theme) styles.now) (look_ups_of_styles styles.now)) }
 {
@@ -132,7 +136,7 @@ pub(crate) fn next_style<'a>(
 }
 
 // The look-up of the reference that the attribute is, or its end.
-fn after_styles<'a>(theme: &Theme, attr: ResId) -> CourseStep<'a>
+fn after_styles<'a, 's>(theme: &Theme, attr: ResId) -> CourseStep<'a, 's>
     ensures { IsWay
         (λ stack. slot_trace stack (slot_of (value_of theme.now) attributes_followed attr.0)) 20 result }
 {

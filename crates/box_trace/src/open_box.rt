@@ -11,9 +11,9 @@ use std::alloc::Global;
 
 /// The box of an open path in a tree, and how far all its members go by the same steps.
 #[derive(Drop)]
-pub struct OpenBox<'a> {
+pub struct OpenBox<'a, 's> {
     pub members: ConfigBox,
-    pub(crate) walk: Walk<'a>,
+    pub(crate) walk: Walk<'a, 's>,
     /// Whether the candidates of its walk are judged anew before it goes on. No promise depends on it.
     is_stale: bool,
     ghost marked: { MarkedMatchAll (IsMember members) walk.live.value },
@@ -22,7 +22,7 @@ pub struct OpenBox<'a> {
 ghost use Rattle.config_box.specs.box_answers.Members.{IsMember};
 ghost use Rattle.box_trace.specs.Live.{MarkedMatchAll};
 
-impl<'a> OpenBox<'a> {
+impl<'a, 's> OpenBox<'a, 's> {
     ghost use Rattle.std.specs.Prelude.{◌≡◌, ℕ, List, IfOk};
     ghost use Rattle.config_box.specs.box_answers.Members.{IsMember};
     ghost use Rattle.reference_resolver.specs.overlay_map.Layer.{LayerOf};
@@ -39,7 +39,7 @@ impl<'a> OpenBox<'a> {
         stack: &Stack<'a>,
         id: ResId,
         members: ConfigBox,
-    ) -> Result<OpenBox<'a>, OutOfMemory>
+    ) -> Result<OpenBox<'a, 's>, OutOfMemory>
         ensures members { IfOk result (λ part. part.members ≡ members) }
         ensures reached { IfOk result (IsReached stack.now (trace_of stack.now references_followed id.0)) }
     {
@@ -51,9 +51,9 @@ impl<'a> OpenBox<'a> {
         alloc: Global,
         stack: &Stack<'a>,
         attr: ResId,
-        styles: &'a [ResId],
+        styles: &'s [ResId],
         members: ConfigBox,
-    ) -> Result<OpenBox<'a>, OutOfMemory>
+    ) -> Result<OpenBox<'a, 's>, OutOfMemory>
         ensures members { IfOk result (λ part. part.members ≡ members) }
         ensures reached { IfOk result (IsReached stack.now (attribute_trace stack.now attr.0 styles.now)) }
     {
@@ -65,9 +65,9 @@ impl<'a> OpenBox<'a> {
     fn from_step(
         alloc: Global,
         stack: &Stack<'a>,
-        first: CourseStep<'a>,
+        first: CourseStep<'a, 's>,
         members: ConfigBox,
-    ) -> Result<OpenBox<'a>, OutOfMemory>
+    ) -> Result<OpenBox<'a, 's>, OutOfMemory>
         ensures members { IfOk result (λ part. part.members ≡ members) }
         ensures reached { IfOk result (IsReached stack.now (trace_from stack.now first.entry)) }
     {
@@ -80,7 +80,7 @@ impl<'a> OpenBox<'a> {
     }
 
     /// A part of it, which goes on where the whole stopped. It is smaller at this coordinate; no promise depends on that.
-    pub fn narrowed(&self, members: ConfigBox, at: Coord) -> Result<OpenBox<'a>, OutOfMemory>
+    pub fn narrowed(&self, members: ConfigBox, at: Coord) -> Result<OpenBox<'a, 's>, OutOfMemory>
         requires { (d : List ℕ) → IsMember members d → IsMember self.now.members d }
         ensures members { IfOk result (λ part. part.members ≡ members) }
         ensures reached { IfOk result (λ part. (stack : List LayerOf) (trace : List ℕ → Trace) → IsReached stack trace self.now → IsReached stack trace part) }

@@ -14,11 +14,11 @@ use std::rc::Rc;
 
 /// Where such a walk stands: the trace from there on depends on nothing that lies behind.
 #[derive(Drop)]
-pub(crate) struct Walk<'a> {
+pub(crate) struct Walk<'a, 's> {
     /// The id that is looked up.
     id: ResId,
     /// What for.
-    course: Course<'a>,
+    course: Course<'a, 's>,
     /// The candidates of the id. Those that are left out match no member.
     live: Rc<Live<'a>>,
     /// How many of these lie behind.
@@ -28,7 +28,7 @@ pub(crate) struct Walk<'a> {
     ghost within: { passed ≤ length live.value },
 }
 
-impl<'a> Walk<'a> {
+impl<'a, 's> Walk<'a, 's> {
     ghost use Rattle.std.specs.Prelude.{◌≡◌, ℕ, List, IfOk, IfSome, IfNone, [], length};
     ghost use Rattle.config_box.specs.box_answers.NumberSet.{SetOf};
     ghost use Rattle.config_box.specs.box_answers.Members.{IsMember};
@@ -45,9 +45,9 @@ impl<'a> Walk<'a> {
     pub(crate) fn from_step(
         alloc: Global,
         stack: &Stack<'a>,
-        step: CourseStep<'a>,
+        step: CourseStep<'a, 's>,
         members: &ConfigBox,
-    ) -> Result<Walk<'a>, OutOfMemory>
+    ) -> Result<Walk<'a, 's>, OutOfMemory>
         ensures walked { IfOk result (HaveWalked stack.now (IsMember members.now) (trace_from stack.now step.entry)) }
         ensures marked { IfOk result (λ walk. MarkedMatchAll (IsMember members.now) walk.live.value) }
     {
@@ -71,9 +71,9 @@ impl<'a> Walk<'a> {
         alloc: Global,
         stack: &Stack<'a>,
         id: ResId,
-        course: Course<'a>,
+        course: Course<'a, 's>,
         members: &ConfigBox,
-    ) -> Result<Walk<'a>, OutOfMemory>
+    ) -> Result<Walk<'a, 's>, OutOfMemory>
         ensures walked { IfOk result (HaveWalked stack.now (IsMember members.now) (trace_from stack.now (LookUp id course.entry))) }
         ensures marked { IfOk result (λ walk. MarkedMatchAll (IsMember members.now) walk.live.value) }
         ensures course { IfOk result (λ walk. walk.course ≡ course.entry) }
@@ -89,7 +89,7 @@ impl<'a> Walk<'a> {
     }
 
     /// The same walk. Its list is not copied.
-    pub(crate) fn shared(&self) -> Result<Walk<'a>, OutOfMemory>
+    pub(crate) fn shared(&self) -> Result<Walk<'a, 's>, OutOfMemory>
         ensures walked { IfOk result (λ walk. (stack : List LayerOf) (sets : List SetOf) (trace : List ℕ → Trace) → HaveWalked stack (IsMember sets) trace self.now → HaveWalked stack (IsMember sets) trace walk) }
         ensures live { IfOk result (λ walk. walk.live.value ≡ self.now.live.value) }
     {
@@ -103,7 +103,11 @@ impl<'a> Walk<'a> {
     }
 
     /// The same walk with a list of the candidates ahead that members of a smaller box match.
-    pub(crate) fn judged(&self, alloc: Global, members: &ConfigBox) -> Result<Walk<'a>, OutOfMemory>
+    pub(crate) fn judged(
+        &self,
+        alloc: Global,
+        members: &ConfigBox,
+    ) -> Result<Walk<'a, 's>, OutOfMemory>
         requires { MarkedMatchAll (IsMember members.now) self.now.live.value }
         ensures walked { IfOk result (λ walk. (stack : List LayerOf) (trace : List ℕ → Trace) → HaveWalked stack (IsMember members.now) trace self.now → HaveWalked stack (IsMember members.now) trace walk) }
         ensures marked { IfOk result (λ walk. MarkedMatchAll (IsMember members.now) walk.live.value) }

@@ -15,10 +15,10 @@ use std::alloc::Global;
 
 /// Why a leaf fails to which the members of this box come, if it does: they have several traces, or one that
 /// ends elsewhere than the leaf says.
-pub(crate) fn take_leaf<'a>(
+pub(crate) fn take_leaf<'a, 's>(
     alloc: Global,
     stack: &Stack<'a>,
-    part: OpenBox<'a>,
+    part: OpenBox<'a, 's>,
     claimed: End,
 ) -> Result<Option<Failure>, OutOfMemory>
     requires { is_value claimed ≡ true }

@@ -18,11 +18,11 @@ use std::alloc::Global;
 
 /// Takes the next node, to which the members of the last open box come: why it fails, if it does. Else the boxes
 /// are those that are open after it.
-pub(crate) fn take_node<'a>(
+pub(crate) fn take_node<'a, 's>(
     alloc: Global,
     stack: &Stack<'a>,
     node: &Node,
-    open_boxes: &mut OpenBoxes<'a>,
+    open_boxes: &mut OpenBoxes<'a, 's>,
 ) -> Result<Option<Failure>, OutOfMemory>
     ensures outcome { IfOk result (λ outcome. (trace : List ℕ → Trace) → All (IsReached stack.now trace) open_boxes.old → TakesNode trace (node_of node.now) (boxes_of open_boxes.old) (boxes_of open_boxes.new) outcome) }
     ensures reached { IfOk result (λ _. (trace : List ℕ → Trace) → All (IsReached stack.now trace) open_boxes.old → All (IsReached stack.now trace) open_boxes.new) }
@@ -45,12 +45,12 @@ pub(crate) fn take_node<'a>(
 
 /// Why a test fails to which these members come; else its halves are opened, the one with yes last. What all members do
 /// alike is asked before they part, and in neither half again.
-fn take_test<'a>(
+fn take_test<'a, 's>(
     alloc: Global,
     stack: &Stack<'a>,
-    part: OpenBox<'a>,
+    part: OpenBox<'a, 's>,
     test: &Test,
-    open_boxes: &mut OpenBoxes<'a>,
+    open_boxes: &mut OpenBoxes<'a, 's>,
 ) -> Result<Option<Failure>, OutOfMemory>
     ensures outcome { IfOk result (λ outcome. TakesTest (test_of test.now) part.entry.members (boxes_of open_boxes.old) (boxes_of open_boxes.new) outcome) }
     ensures reached { IfOk result (λ _. (trace : List ℕ → Trace) → IsReached stack.now trace part.entry → All (IsReached stack.now trace) open_boxes.old → All (IsReached stack.now trace) open_boxes.new) }

@@ -9,12 +9,12 @@ use std::marker::Model;
 /// The boxes of open paths, the next one last. Few trees have more than four paths open at once; so many boxes take
 /// no memory beside their own. Contracts see the list of them.
 #[derive(Drop)]
-pub struct OpenBoxes<'a> {
+pub struct OpenBoxes<'a, 's> {
     /// A place holds a box, or none while it is free. There are no free places among those in use.
-    places: SmallVec<Option<OpenBox<'a>>, 4>,
+    places: SmallVec<Option<OpenBox<'a, 's>>, 4>,
 }
 
-impl<'a> Model for OpenBoxes<'a> {
+impl<'a, 's> Model for OpenBoxes<'a, 's> {
     ghost use Rattle.std.specs.Prelude.{List, IsSome};
     ghost use Rattle.std.specs.List.{All, flat_map};
     ghost use Rattle.std.specs.Option.{option_to_list};
@@ -27,11 +27,11 @@ impl<'a> Model for OpenBoxes<'a> {
     ghost invariant = { λ boxes. All IsSome boxes.places.items };
 }
 
-impl<'a> OpenBoxes<'a> {
+impl<'a, 's> OpenBoxes<'a, 's> {
     ghost use Rattle.std.specs.Prelude.{◌≡◌, [], ◌∷◌, ◌++◌, length, OnOk, OnErr, IfNone};
     ghost use Rattle.std.specs.Option.{option_to_list};
 
-    pub fn new(alloc: Global) -> OpenBoxes<'a>
+    pub fn new(alloc: Global) -> OpenBoxes<'a, 's>
         ensures { result ≡ [] }
     {
         OpenBoxes {
@@ -45,7 +45,7 @@ impl<'a> OpenBoxes<'a> {
         self.places.len()
     }
 
-    pub fn push(&mut self, part: OpenBox<'a>) -> Result<(), OutOfMemory>
+    pub fn push(&mut self, part: OpenBox<'a, 's>) -> Result<(), OutOfMemory>
         ensures items { OnOk result (self.new ≡ self.old ++ part.entry ∷ []) }
         ensures err { OnErr result (self.new ≡ self.old) }
     {
@@ -54,7 +54,7 @@ impl<'a> OpenBoxes<'a> {
     }
 
     /// Takes the last one away.
-    pub fn pop(&mut self) -> Option<OpenBox<'a>>
+    pub fn pop(&mut self) -> Option<OpenBox<'a, 's>>
         ensures items { self.old ≡ self.new ++ option_to_list result }
         ensures none { IfNone result (self.old ≡ []) }
     {

@@ -38,8 +38,9 @@ fn check_nodes(
 ) -> Result<Option<(usize, Failure)>, OutOfMemory>
     ensures { IfOk result (IsOutcome (trace_of stack.now references_followed id.0) members.now (map node_of nodes.now)) }
 {
+    let whole = OpenBox::whole(alloc, stack, id, members.shared(alloc)?)?;
     let mut open_boxes = OpenBoxes::new(alloc);
-    open_boxes.push(OpenBox::whole(alloc, stack, id, members.shared(alloc)?)?)?;
+    open_boxes.push(whole)?;
     for (place, node) in nodes.iter().enumerate() {
         if let Some(failure) = take_node(alloc, stack, node, &mut open_boxes)? {
             return Ok(Some((place, failure)));

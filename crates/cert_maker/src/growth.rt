@@ -22,12 +22,12 @@ use std::alloc::Global;
 
 /// Adds the node to which the members of an open box come, and opens the boxes behind it, which go on where its members
 /// part; or gives a member for which the goal ends at no value and no bag, with that end.
-pub(crate) fn add_node<'a>(
+pub(crate) fn add_node<'a, 's>(
     alloc: Global,
     stack: &Stack<'a>,
-    part: OpenBox<'a>,
+    part: OpenBox<'a, 's>,
     nodes: &mut Vec<Node>,
-    open_boxes: &mut OpenBoxes<'a>,
+    open_boxes: &mut OpenBoxes<'a, 's>,
 ) -> Result<Option<(Device, End)>, OutOfMemory>
     ensures grows { IfOk result (λ found. IfNone found (GrowsOn stack.now part.entry (map node_of nodes.old.items) (map node_of nodes.new.items) open_boxes.old open_boxes.new)) }
     ensures one_more { IfOk result (λ found. IfNone found (length nodes.new.items ≡ length nodes.old.items + 1)) }
@@ -54,12 +54,12 @@ pub(crate) fn add_node<'a>(
 }
 
 /// Adds a test, and opens its halves, the one with yes last.
-fn add_test<'a>(
+fn add_test<'a, 's>(
     alloc: Global,
-    whole: &OpenBox<'a>,
+    whole: &OpenBox<'a, 's>,
     test: Test,
     nodes: &mut Vec<Node>,
-    open_boxes: &mut OpenBoxes<'a>,
+    open_boxes: &mut OpenBoxes<'a, 's>,
 ) -> Result<(), OutOfMemory>
     requires asked { CanBeAsked whole.now.members (test_of test) }
     requires fits { NodeFits (TestAt (test_of test)) }

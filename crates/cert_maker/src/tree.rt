@@ -33,8 +33,9 @@ pub(crate) fn grow_tree(
     ensures { IfOk result (IsGrown (trace_of stack.now references_followed id.0) members.now most) }
 {
     let mut nodes = Vec::new(alloc);
+    let whole = OpenBox::whole(alloc, stack, id, members.shared(alloc)?)?;
     let mut open_boxes = OpenBoxes::new(alloc);
-    open_boxes.push(OpenBox::whole(alloc, stack, id, members.shared(alloc)?)?)?;
+    open_boxes.push(whole)?;
     'boxes: while let Some(part) = open_boxes.pop() {
         if let Some((device, end)) = add_node(alloc, stack, part, &mut nodes, &mut open_boxes)? {
             return Ok(Grown::Counterexample(device, end));

@@ -25,9 +25,9 @@ loop-place-init c =
     let s = c.in_ok-shared.ensures in
     let is_box : IsBox sets = subst (λ (b : List SetOf). IsBox b) s.value s.sets in
     let pushed = boxes-push _ _ _ c.in_ok-push.ensures.items in
-    let whole_is : c.in_ok-whole.field-0.members ≡ sets = c.in_ok-whole.ensures.members ∙ s.value in
+    let whole_is : c.in_ok-whole.whole.members ≡ sets = c.in_ok-whole.ensures.members ∙ s.value in
     let e : reverse (boxes_of c.push.new.self) ≡ sets ∷ [] =
-    ap reverse (pushed ∙ ap (λ (parts : List OpenBox). boxes_of parts ++ c.in_ok-whole.field-0.members ∷ []) c.new-open_boxes.ensures) ∙ ap (λ (b : List SetOf). b ∷ []) whole_is in
+    ap reverse (pushed ∙ ap (λ (parts : List OpenBox). boxes_of parts ++ c.in_ok-whole.whole.members ∷ []) c.new-open_boxes.ensures) ∙ ap (λ (b : List SetOf). b ∷ []) whole_is in
     record {
       passed = started trace sets (map node_of c.args.nodes.now) (boxes_of c.push.new.self)
           (subst (λ (parts : List (List SetOf)). Stand sets parts root) (sym e) (whole sets is_box, tt));
