@@ -1,10 +1,35 @@
 //! What a tree is about.
 
+ghost use Rattle.cert_tree.specs.Certificate.{most_styles};
+
 use res_value::ResId;
 
+/// How many styles a goal can have.
+pub(crate) const MOST_STYLES: usize = 64;
+
 /// What is asked of a device.
-#[derive(Debug, PartialEq, Eq, Drop)]
+#[derive(Clone, Debug, PartialEq, Eq, Drop)]
 pub enum Goal {
     /// Where an id ends.
     Id(ResId),
+    /// Where an attribute ends under styles, which are applied in their order, with force.
+    Attr { attr: ResId, styles: Vec<ResId> },
+}
+
+impl Goal {
+    ghost use Rattle.std.specs.Prelude.{◌≡◌, ◌≤◌, nat_le, length, if◌then◌else◌, Some, None};
+    ghost use Rattle.std.specs.Option.{option_map};
+    ghost use Rattle.cert_tree.specs.Certificate.{AttrGoal, goal_seen, most_styles};
+
+    /// The goal of an attribute under styles; none where there are more than 64 of them.
+    pub fn attr(attr: ResId, styles: Vec<ResId>) -> Option<Goal>
+        ensures { option_map goal_seen result ≡
+            if nat_le (length styles.items) most_styles then Some (AttrGoal attr styles.items) else None }
+    {
+        if styles.len() <= MOST_STYLES {
+            Some(Goal::Attr { attr, styles })
+        } else {
+            None
+        }
+    }
 }
