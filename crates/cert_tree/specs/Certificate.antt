@@ -92,5 +92,5 @@ GoalFits (AttrGoal attr styles) = length styles ≤ most_styles
 -- a certificate within the limits, whose lists are of their coordinates' kinds
 pub record CertFits (goals : List GoalOf) : Type 0 where
   pub few : node_count goals ≤ most_nodes
-  pub goals : All (λ g. GoalFits g.goal) goals
+  pub styles : All (λ g. GoalFits g.goal) goals
   pub nodes : All (λ g. All NodeFits g.nodes) goals
