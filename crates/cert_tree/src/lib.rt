@@ -21,6 +21,7 @@
 mod cert;
 mod cert_fault;
 mod goal;
+mod goal_word;
 mod members;
 mod node;
 mod progress;
@@ -33,6 +34,7 @@ pub use cert::{Cert, CertGoal, OutOfMemory};
 pub use cert_fault::CertFault;
 pub use config_box::{BoxFault, Choice, ConfigBox, Split, Test, Values};
 pub use goal::Goal;
+pub use goal_word::GoalFault;
 pub use node::Node;
 pub use progress::{Progress, Unwatched};
 pub use res_value::{ChunkFault, ResId};
