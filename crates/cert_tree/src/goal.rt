@@ -17,7 +17,7 @@ pub enum Goal {
 }
 
 impl Goal {
-    ghost use Rattle.std.specs.Prelude.{◌≡◌, ◌≤◌, nat_le, length, if◌then◌else◌, Some, None};
+    ghost use Rattle.std.specs.Prelude.{◌≡◌, ◌≢◌, nat_le, length, if◌then◌else◌, Some, None, MatchBool};
     ghost use Rattle.std.specs.Option.{option_map};
     ghost use Rattle.contract_words.specs.Exact.{GivesOr};
     ghost use Rattle.cert_tree.specs.GoalWord.{goal_in_word};
@@ -41,5 +41,15 @@ impl Goal {
         ensures { GivesOr OutOfMemory goal_seen result (goal_in_word word.now) }
     {
         goal_in_word(alloc, word)
+    }
+
+    /// Whether both ask the same, which is what `==` says.
+    #[tactic(auto, using(crate::proofs::GoalEquality::told_goals))]
+    pub fn asks_same(&self, other: &Goal) -> bool
+        ensures { MatchBool result
+            (goal_seen self.now ≡ goal_seen other.now)
+            (goal_seen self.now ≢ goal_seen other.now) }
+    {
+        self == other
     }
 }

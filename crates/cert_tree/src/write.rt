@@ -1,11 +1,11 @@
 //! Certificates as JSON values.
 
 ghost use Rattle.std.specs.Prelude.{◌≡◌, Ok, map, IfOk};
-ghost use Rattle.std.specs.List.{All};
+ghost use Rattle.std.specs.List.{All, list_all};
 ghost use Rattle.serde_json.specs.View.{view};
-ghost use Rattle.cert_tree.specs.WrittenJson.{number_data, id_data, locale_data, choice_items, test_data, node_data, goal_data, version_of, cert_data};
+ghost use Rattle.cert_tree.specs.WrittenJson.{number_data, id_data, locale_data, choice_items, test_data, node_data, goal_data, is_id_goal, version_of, cert_data};
 ghost use Rattle.config_box.specs.Tests.{choice_of, test_of};
-ghost use Rattle.cert_tree.specs.Certificate.{TestAt, node_of, goal_of, goals_of, CertFits};
+ghost use Rattle.cert_tree.specs.Certificate.{TestAt, is_id, node_of, goal_seen, goal_of, goals_of, CertFits};
 ghost use Rattle.cert_tree.specs.CertJson.{goals_in_value};
 ghost use Rattle.cert_tree.specs.ReadsBack.{NumberReadsBack, IdReadsBack, ChoiceReadsBack, NodeReadsBack, GoalReadsBack};
 
@@ -33,11 +33,19 @@ pub(crate) fn cert_value(alloc: Global, cert: &Cert) -> Result<Value, AllocError
 fn version_of(goals: &[CertGoal]) -> u64
     ensures { result ≡ version_of (map goal_of goals.now) }
 {
-    if goals.iter().all(|goal| matches!(goal.goal, Goal::Id(_))) {
-        1
-    } else {
-        2
-    }
+    if are_ids(goals) { 1 } else { 2 }
+}
+
+fn are_ids(goals: &[CertGoal]) -> bool
+    ensures { result ≡ list_all (λ g. is_id_goal (goal_of g)) goals.now }
+{
+    goals.iter().all(|goal| is_id(&goal.goal))
+}
+
+fn is_id(goal: &Goal) -> bool
+    ensures { result ≡ is_id (goal_seen goal.now) }
+{
+    matches!(goal, Goal::Id(_))
 }
 
 #[tactic(auto, using(crate::proofs::WrittenSteps::written_steps))]
