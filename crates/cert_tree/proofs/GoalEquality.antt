@@ -1,5 +1,5 @@
 -- Goals are equal where they ask the same.
-use Rattle.std.proofs.Common.{◌≡◌, ◌≢◌, MatchBool, Bool, true, false, ◌==◌, ◌&&◌, List, ap, sym, refl}
+use Rattle.std.proofs.Common.{◌≡◌, ◌≢◌, MatchBool, Bool, true, false, ◌==◌, ◌&&◌, ap, sym, refl}
 use Rattle.std.specs.Bool.{Decides}
 use Rattle.std.specs.Cmp.{unsigned_Decides}
 use Rattle.std.specs.Cmp.Lexicographic.{pointwise, pointwise_decides}
@@ -7,7 +7,7 @@ use Rattle.res_value.specs.declared.res_id.ResId.{ResId}
 use Rattle.cert_tree.specs.contracts.goal.GoalPartialEq.TheImpl.{eq-value}
 use Rattle.cert_tree.specs.declared.goal.Goal.{Goal}
 use Rattle.cert_tree.specs.declared.goal.Goal.TheVariants as goals
-use Rattle.cert_tree.specs.Certificate.{GoalSeen, IdGoal, AttrGoal, goal_seen}
+use Rattle.cert_tree.specs.Certificate.{IdGoal, goal_seen}
 
 abbrev same_id : ResId → ResId → Bool
 same_id i j = i.0 == j.0
@@ -26,9 +26,10 @@ goal-Decides (goals.Id i) (goals.Id j) =
     (λ e. ap (λ k. IdGoal k) (ids.0 e), λ e. ids.1 (let same = e in cc))
 goal-Decides (goals.Attr i s) (goals.Attr j t) =
     let ids = id-Decides i j in
-    let styles = pointwise_decides id-Decides s.items t.items in
-    (λ e. (let h = both (same_id i j) (pointwise same_id s.items t.items) e in let p = ids.0 h.0 in let q = styles.0 h.1 in cc),
-    λ e. (let p = ids.1 (let same = e in cc) in let q = styles.1 (let same = e in cc) in rw (p, q) refl))
+    let styles = pointwise_decides id-Decides s.items t.items in (
+      λ e. (let h = both (same_id i j) (pointwise same_id s.items t.items) e in let p = ids.0 h.0 in let q = styles.0 h.1 in cc),
+      λ e. (let p = ids.1 (let same = e in cc) in let q = styles.1 (let same = e in cc) in rw (p, q) refl),
+    )
 goal-Decides (goals.Id i) (goals.Attr j t) = (λ e. absurd cc, λ e. absurd cc)
 goal-Decides (goals.Attr i s) (goals.Id j) = (λ e. absurd cc, λ e. absurd cc)
 

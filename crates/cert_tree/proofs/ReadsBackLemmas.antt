@@ -1,12 +1,11 @@
 -- What is written of a certificate is read as the same goals and nodes.
 use Rattle.std.proofs.Common.{◌≡◌, ℕ, ◌+◌, ◌≤◌, ◌==◌, ◌||◌, Bool, true, false, List, [], ◌∷◌, ◌++◌, map, length, get_or, Option, Some, ok_or, Result, Ok, append_assoc, refl, sym, ap, ◌∙◌, arith}
-use Rattle.std.specs.List.{All}
+use Rattle.std.specs.List.{All, list_all}
 use Rattle.std.specs.Result.{result_ok}
 use Rattle.std.proofs.Math.Bool.{or-true}
 use Rattle.std.proofs.lemmas.Bool.{le-leb, le-ltb}
 use Rattle.std.proofs.lemmas.List.{append-nil, length-map}
 use Rattle.std.proofs.lemmas.List.Sums.{AllPass-from_list_all}
-use Rattle.std.specs.List.{list_all}
 use Rattle.std.proofs.lemmas.List.Elements.{All-head, All-tail}
 use Rattle.contract_words.specs.Faults.{◌>>=◌}
 use Rattle.contract_words.specs.Sequences.{with_front}
@@ -171,8 +170,15 @@ unfolding goal_in asked_in attr_goal_in id_at list_at has_only are_among is_amon
 attr_goal-back attr styles nodes same ids back few_styles fits attributes can place nodes_before few =
     let count : length (map node_data nodes) ≡ length nodes = length-map nodes node_data in
     let style_count : length (map id_data styles) ≡ length styles = length-map styles id_data in
-    rw (can, same, list_items-items_of (map id_data styles), le-ltb most_styles (length (map id_data styles)) (omega arith), ids-read styles ids (Shape place 0),
-    list_items-items_of (map node_data nodes), le-ltb most_nodes (nodes_before + length (map node_data nodes)) (omega arith))
+    rw (
+      can,
+      same,
+      list_items-items_of (map id_data styles),
+      le-ltb most_styles (length (map id_data styles)) (omega arith),
+      ids-read styles ids (Shape place 0),
+      list_items-items_of (map node_data nodes),
+      le-ltb most_nodes (nodes_before + length (map node_data nodes)) (omega arith),
+    )
     (ap (λ (r : Result (List NodeOf) CertFault). r >>= λ ns. Ok (record { goal = AttrGoal attr styles; nodes = ns })) (nodes-read place [] nodes back fits))
 
 goals-read : (attributes : Bool) (before goals : List GoalOf) → All GoalReadsBack goals → All (λ g. GoalFits g.goal) goals → All (λ g. All NodeFits g.nodes) goals

@@ -20,7 +20,8 @@ pub data NodeOf : Type 0 where
   ValueAt : ℕ → Value → NodeOf
   BagAt : ResId → NodeOf
 
--- what is asked of a device: where an id ends, or where an attribute ends under styles, which are applied in their order
+-- what is asked of a device: where an id ends, or where an attribute ends under styles, which are
+-- applied in their order
 pub data GoalSeen : Type 0 where
   IdGoal : ResId → GoalSeen
   AttrGoal : ResId → List ResId → GoalSeen

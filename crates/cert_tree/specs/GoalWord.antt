@@ -1,5 +1,5 @@
--- What a word asks: `0x7f010000` the end of an id; `0x01010001@0x7f010000,0x7f010001` the end of an attribute under styles,
--- which stand in their order.
+-- What a word asks: `0x7f010000` where an id ends, `0x01010001@0x7f010000,0x7f010001` where an
+-- attribute ends under styles.
 use Rattle.std.specs.Prelude.{ℕ, ◌==◌, nat_lt, Bool, if◌then◌else◌, List, length, Result, Ok, ok_or}
 use Rattle.std.specs.List.{list_any, before_first, after_first, slice_split}
 use Rattle.contract_words.specs.Faults.{◌>>=◌, refuse}

@@ -61,7 +61,7 @@ pub(crate) fn goal_in_word(alloc: Global, word: &str) -> Result<Goal, GoalFault>
 fn cut_at_sign(word: &str) -> Option<(&str, &str)>
     ensures { MatchOption result (list_any is_at_sign word.now ≡ false)
         (λ parts. (list_any is_at_sign word.now ≡ true)
-            × (parts.0.now ≡ before_first is_at_sign word.now) × (parts.1.now ≡ after_first is_at_sign word.now)) }
+        × (parts.0.now ≡ before_first is_at_sign word.now) × (parts.1.now ≡ after_first is_at_sign word.now)) }
 {
     word.split_once(AT_SIGN)
 }

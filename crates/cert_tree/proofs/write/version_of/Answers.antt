@@ -1,5 +1,4 @@
-use Rattle.std.proofs.Common.{◌≡◌, true, false, sym, ◌∙◌, refl, map}
-use Rattle.std.specs.List.{list_all}
+use Rattle.std.proofs.Common.{sym, refl}
 use Rattle.std.proofs.lemmas.List.Folds.{list_all-map}
 use Rattle.cert_tree.specs.Certificate.{goal_of}
 use Rattle.cert_tree.specs.WrittenJson.{is_id_goal}
