@@ -115,6 +115,16 @@ def goals(text):
     return '{"version":1,"goals":' + text + "}"
 
 
+def goals_2(text):
+    """The same of version 2."""
+    return '{"version":2,"goals":' + text + "}"
+
+
+def attribute(styles):
+    """A goal of an attribute under so many styles."""
+    return '{"attr":"0x01010001","styles":' + listed('"0x7f010000"', styles) + ',"nodes":[]}'
+
+
 def goal_of(count):
     """A goal of so many nodes."""
     return '{"id":"0x7f010000","nodes":' + listed(BAG, count) + "}"
@@ -233,11 +243,12 @@ ALIKE = {
         ('{"goals":[],"version":1}', None),
         ("{}", "Version"),
         ('{"goals":[]}', "Version"),
-        ('{"version":2,"goals":[]}', "Version"),
+        ('{"version":0,"goals":[]}', "Version"),
+        ('{"version":3,"goals":[]}', "Version"),
         ('{"version":"1","goals":[]}', "Version"),
         ('{"version":true,"goals":[]}', "Version"),
         ('{"version":null,"goals":[]}', "Version"),
-        ('{"version":2,"goals":[],"more":0}', "Version"),
+        ('{"version":3,"goals":[],"more":0}', "Version"),
         ("[]", "Shape 0 0"),
         ("null", "Shape 0 0"),
         ('{"version":1}', "Shape 0 0"),
@@ -250,6 +261,22 @@ ALIKE = {
         (goals('[{"id":2130771968,"nodes":[]}]'), "Shape 0 0"),
         (goals('[{"id":"0x7f010000","nodes":{}}]'), "Shape 0 0"),
         (goals('[{"id":"0x7f010000","nodes":[],"more":0}]'), "Shape 0 0"),
+        (goals_2("[]"), None),
+        (goals_2("[" + GOAL + "," + attribute(1) + "," + GOAL + "]"), None),
+        (goals_2("[" + attribute(0) + "]"), None),
+        (goals_2("[" + attribute(64) + "]"), None),
+        (goals_2("[" + GOAL + "," + attribute(65) + "]"), "Shape 1 0"),
+        (goals("[" + GOAL + "," + attribute(1) + "]"), "Shape 1 0"),
+        (goals_2('[{"attr":"0x01010001","nodes":[]}]'), "Shape 0 0"),
+        (goals_2('[{"styles":[],"nodes":[]}]'), "Shape 0 0"),
+        (goals_2('[{"attr":"0x01010001","styles":[]}]'), "Shape 0 0"),
+        (goals_2('[{"attr":"0x01010001","styles":"0x7f010000","nodes":[]}]'), "Shape 0 0"),
+        (goals_2('[{"attr":"0x01010001","styles":["0x7f01"],"nodes":[]}]'), "Shape 0 0"),
+        (goals_2('[{"attr":16842753,"styles":[],"nodes":[]}]'), "Shape 0 0"),
+        (goals_2('[{"attr":"0x01010001","styles":[],"nodes":{}}]'), "Shape 0 0"),
+        (goals_2('[{"id":"0x7f010000","attr":"0x01010001","styles":[],"nodes":[]}]'), "Shape 0 0"),
+        (goals_2('[{"attr":"0x01010001","styles":[],"nodes":[5]}]'), "Shape 0 0"),
+        (goals_2("[" + GOAL + ',{"attr":"0x01010001","styles":[],"nodes":[' + LEAF + ',5]}]'), "Shape 1 1"),
         node(LEAF),
         node('{"word":4294967295,"kind":255,"layer":63}'),
         node('{"bag":"0x7f010000"}'),
@@ -307,6 +334,7 @@ BEYOND = {
     ],
     "certificate": [
         ('{"version":1.0,"goals":[]}', "Version"),
+        ('{"version":2.0,"goals":[]}', "Version"),
         node('{"layer":0.0,"kind":16,"word":1}', "Shape 0 0"),
         node('{"coord":"density","atMost":1e2}', "Shape 0 0"),
         (goals(f"[{goal_of(600000)},{goal_of(400001)}]"), "TooManyNodes"),

@@ -1,5 +1,5 @@
 -- The goals and nodes that are read, each after those before it.
-use Rattle.std.proofs.Common.{◌≡◌, ℕ, ◌+◌, List, [], ◌∷◌, ◌++◌, map, length, Result, sym, ap, ◌∙◌, arith}
+use Rattle.std.proofs.Common.{◌≡◌, ℕ, ◌+◌, Bool, List, [], ◌∷◌, ◌++◌, map, length, Result, sym, ap, ◌∙◌, arith}
 use Rattle.std.proofs.lemmas.List.{length-map, map-append}
 use Rattle.serde_json.specs.View.{view}
 use Rattle.serde_json.specs.declared.value.Value.{Value}
@@ -19,13 +19,13 @@ node_after-is goal before place item there r given is count =
     ∙ given
 
 -- a goal whose number is the count of those before it, and the count of their nodes
-pub goal_after-is : (before : List CertGoal) (place nodes_before : ℕ) (item there : Value) (r : Result GoalOf CertFault)
-    → goal_in place nodes_before (view item) ≡ r → item ≡ there → place ≡ length before → nodes_before ≡ node_count (map goal_of before)
-    → goal_after (map goal_of before) (view there) ≡ r
-goal_after-is before place nodes_before item there r given is count nodes =
-    ap (λ (k : ℕ). goal_in k (node_count (map goal_of before)) (view there)) (length-map before goal_of ∙ sym count)
-    ∙ ap (λ (k : ℕ). goal_in place k (view there)) (sym nodes)
-    ∙ ap (λ (v : Value). goal_in place nodes_before (view v)) (sym is)
+pub goal_after-is : (attributes : Bool) (before : List CertGoal) (place nodes_before : ℕ) (item there : Value) (r : Result GoalOf CertFault)
+    → goal_in attributes place nodes_before (view item) ≡ r → item ≡ there → place ≡ length before → nodes_before ≡ node_count (map goal_of before)
+    → goal_after attributes (map goal_of before) (view there) ≡ r
+goal_after-is attributes before place nodes_before item there r given is count nodes =
+    ap (λ (k : ℕ). goal_in attributes k (node_count (map goal_of before)) (view there)) (length-map before goal_of ∙ sym count)
+    ∙ ap (λ (k : ℕ). goal_in attributes place k (view there)) (sym nodes)
+    ∙ ap (λ (v : Value). goal_in attributes place nodes_before (view v)) (sym is)
     ∙ given
 
 pub count-push : (goals : List GoalOf) (g : GoalOf) → node_count (goals ++ g ∷ []) ≡ node_count goals + length g.nodes

@@ -1,9 +1,11 @@
 -- What is written of a certificate is read as the same goals and nodes.
-use Rattle.std.proofs.Common.{◌≡◌, ℕ, ◌+◌, ◌≤◌, false, List, [], ◌∷◌, ◌++◌, map, length, get_or, Option, Some, ok_or, Result, Ok, append_assoc, refl, sym, ap, ◌∙◌, arith}
-use Rattle.std.specs.List.{All}
+use Rattle.std.proofs.Common.{◌≡◌, ℕ, ◌+◌, ◌≤◌, ◌==◌, ◌||◌, Bool, true, false, List, [], ◌∷◌, ◌++◌, map, length, get_or, Option, Some, ok_or, Result, Ok, append_assoc, refl, sym, ap, ◌∙◌, arith}
+use Rattle.std.specs.List.{All, list_all}
 use Rattle.std.specs.Result.{result_ok}
+use Rattle.std.proofs.Math.Bool.{or-true}
 use Rattle.std.proofs.lemmas.Bool.{le-leb, le-ltb}
 use Rattle.std.proofs.lemmas.List.{append-nil, length-map}
+use Rattle.std.proofs.lemmas.List.Sums.{AllPass-from_list_all}
 use Rattle.std.proofs.lemmas.List.Elements.{All-head, All-tail}
 use Rattle.contract_words.specs.Faults.{◌>>=◌}
 use Rattle.contract_words.specs.Sequences.{with_front}
@@ -27,14 +29,12 @@ use Rattle.res_value.specs.declared.value.Value.{Value}
 use Rattle.res_value.specs.ResId.{id_of, id_text}
 use Rattle.cert_tree.specs.declared.cert_fault.CertFault.{CertFault}
 use Rattle.cert_tree.specs.declared.cert_fault.CertFault.TheVariants.{Syntax, Shape}
-use Rattle.cert_tree.specs.declared.goal.Goal.{Goal}
-use Rattle.cert_tree.specs.declared.goal.Goal.TheVariants.{Id}
 use Rattle.config_box.specs.Tests.{ChoiceOf, NumbersOf, LocalesOf, AtMostOf, AmongOf}
-use Rattle.cert_tree.specs.Certificate.{NodeOf, TestAt, ValueAt, BagAt, GoalOf, ChoiceFits, NodeFits, CertFits, node_count, most_nodes, most_listed, last_layer}
+use Rattle.cert_tree.specs.Certificate.{NodeOf, TestAt, ValueAt, BagAt, GoalSeen, IdGoal, AttrGoal, GoalOf, ChoiceFits, NodeFits, GoalFits, CertFits, node_count, most_nodes, most_styles, most_listed, last_layer}
 use Rattle.cert_tree.specs.ReadOn.{read_on}
-use Rattle.cert_tree.specs.CertJson.{last_word, last_kind, number_within, number_at, id_at, list_at, coord_named, coord_at, number_item, locale_item, choice_in, at_most_in, among_in, value_in, bag_in, node_in, node_after, goal_members, goal_in, goal_after, is_version_1, goal_list, goals_in_value, cert_in}
-use Rattle.cert_tree.specs.WrittenJson.{number_data, locale_data, choice_items, node_data, goal_id_data, goal_data, cert_data}
-use Rattle.cert_tree.specs.ReadsBack.{NumberReadsBack, ChoiceReadsBack, NodeReadsBack, GoalReadsBack}
+use Rattle.cert_tree.specs.CertJson.{last_word, last_kind, number_within, number_at, id_at, list_at, coord_named, coord_at, number_item, locale_item, choice_in, at_most_in, among_in, value_in, bag_in, node_in, node_after, id_goal_in, id_item, attr_goal_in, asked_in, goal_in, goal_after, is_version, goal_list, goals_in_value, cert_in}
+use Rattle.cert_tree.specs.WrittenJson.{number_data, id_data, locale_data, list_data, choice_items, node_data, asked_data, goal_data, is_id_goal, version_of, cert_data}
+use Rattle.cert_tree.specs.ReadsBack.{NumberReadsBack, IdReadsBack, ChoiceReadsBack, NodeReadsBack, CanBeRead, GoalReadsBack}
 use Rattle.cert_tree.proofs.ReadOnSteps.{read_on-ok, read_on-none}
 use Rattle.cert_tree.proofs.ReadSteps.{count-push}
 
@@ -56,6 +56,10 @@ each-back {X} {E} f data_of (x ∷ xs) back =
 pub number-back : (n : ℕ) → n ≤ last_word → NumberReadsBack n
 unfolding number_within
 number-back n le shape = rw (le-leb n last_word le) refl
+
+id_item-back : (id : ResId) → IdReadsBack id → (shape : CertFault) → id_item shape (id_data id) ≡ Ok id
+unfolding id_item
+id_item-back id back shape = rw back refl
 
 locale-read : (shape : CertFault) (r : Result Locale LocaleFault) (locale : Locale) → r ≡ Ok locale → ok_or (result_ok r) shape ≡ Ok locale
 locale-read shape r locale given = rw given refl
@@ -150,30 +154,70 @@ nodes-read goal before (node ∷ nodes) back fits =
 
 -- ---- goals
 
-pub goal-back : (id : ResId) (nodes : List NodeOf) → id_of (id_text id.0) ≡ Some id → All NodeReadsBack nodes → GoalReadsBack (record { goal = Id id; nodes = nodes })
-unfolding goal_in goal_members id_at list_at has_only are_among is_among
-goal-back id nodes same back fits place nodes_before few =
+ids-read : (ids : List ResId) → All IdReadsBack ids → (shape : CertFault) → each (id_item shape) (map id_data ids) ≡ Ok ids
+ids-read ids back shape = each-back (id_item shape) id_data ids (λ k d on. id_item-back (get_or ids k d) (back k d on) shape)
+
+pub id_goal-back : (id : ResId) (nodes : List NodeOf) → IdReadsBack id → All NodeReadsBack nodes → GoalReadsBack (record { goal = IdGoal id; nodes = nodes })
+unfolding goal_in asked_in id_goal_in id_at list_at has_only are_among is_among
+id_goal-back id nodes same back styles fits attributes can place nodes_before few =
     let count : length (map node_data nodes) ≡ length nodes = length-map nodes node_data in
     rw (same, list_items-items_of (map node_data nodes), le-ltb most_nodes (nodes_before + length (map node_data nodes)) (omega arith))
-    (ap (λ (r : Result (List NodeOf) CertFault). r >>= λ ns. Ok (record { goal = Id id; nodes = ns })) (nodes-read place [] nodes back fits))
+    (ap (λ (r : Result (List NodeOf) CertFault). r >>= λ ns. Ok (record { goal = IdGoal id; nodes = ns })) (nodes-read place [] nodes back fits))
 
-goals-read : (before goals : List GoalOf) → All GoalReadsBack goals → All (λ g. All NodeFits g.nodes) goals → node_count before + node_count goals ≤ most_nodes
-    → read_on goal_after before (map goal_data goals) ≡ Ok (before ++ goals)
-goals-read before [] back fits few =
+pub attr_goal-back : (attr : ResId) (styles : List ResId) (nodes : List NodeOf) → IdReadsBack attr → All IdReadsBack styles → All NodeReadsBack nodes
+    → GoalReadsBack (record { goal = AttrGoal attr styles; nodes = nodes })
+unfolding goal_in asked_in attr_goal_in id_at list_at has_only are_among is_among
+attr_goal-back attr styles nodes same ids back few_styles fits attributes can place nodes_before few =
+    let count : length (map node_data nodes) ≡ length nodes = length-map nodes node_data in
+    let style_count : length (map id_data styles) ≡ length styles = length-map styles id_data in
+    rw (
+      can,
+      same,
+      list_items-items_of (map id_data styles),
+      le-ltb most_styles (length (map id_data styles)) (omega arith),
+      ids-read styles ids (Shape place 0),
+      list_items-items_of (map node_data nodes),
+      le-ltb most_nodes (nodes_before + length (map node_data nodes)) (omega arith),
+    )
+    (ap (λ (r : Result (List NodeOf) CertFault). r >>= λ ns. Ok (record { goal = AttrGoal attr styles; nodes = ns })) (nodes-read place [] nodes back fits))
+
+goals-read : (attributes : Bool) (before goals : List GoalOf) → All GoalReadsBack goals → All (λ g. GoalFits g.goal) goals → All (λ g. All NodeFits g.nodes) goals
+    → All (λ g. CanBeRead attributes g.goal) goals → node_count before + node_count goals ≤ most_nodes
+    → read_on (goal_after attributes) before (map goal_data goals) ≡ Ok (before ++ goals)
+goals-read attributes before [] back styles fits can few =
     let wrapped : List GoalOf → Result (List GoalOf) CertFault = λ t. Ok t in
-    read_on-none goal_after before ∙ ap wrapped (sym (append-nil before))
-goals-read before (g ∷ goals) back fits few =
+    read_on-none (goal_after attributes) before ∙ ap wrapped (sym (append-nil before))
+goals-read attributes before (g ∷ goals) back styles fits can few =
     let wrapped : List GoalOf → Result (List GoalOf) CertFault = λ t. Ok t in
     let pushed : node_count (before ++ g ∷ []) ≡ node_count before + length g.nodes = count-push before g in
-    read_on-ok goal_after before (goal_data g) (map goal_data goals) g
-    (All-head GoalReadsBack g goals back (All-head (λ h. All NodeFits h.nodes) g goals fits) (length before) (node_count before) (omega arith))
-    ∙ goals-read (before ++ g ∷ []) goals (All-tail GoalReadsBack g goals back) (All-tail (λ h. All NodeFits h.nodes) g goals fits) (omega arith)
+    read_on-ok (goal_after attributes) before (goal_data g) (map goal_data goals) g
+    (All-head GoalReadsBack g goals back (All-head (λ h. GoalFits h.goal) g goals styles) (All-head (λ h. All NodeFits h.nodes) g goals fits)
+    attributes (All-head (λ h. CanBeRead attributes h.goal) g goals can) (length before) (node_count before) (omega arith))
+    ∙ goals-read attributes (before ++ g ∷ []) goals (All-tail GoalReadsBack g goals back) (All-tail (λ h. GoalFits h.goal) g goals styles) (All-tail (λ h. All NodeFits h.nodes) g goals fits)
+    (All-tail (λ h. CanBeRead attributes h.goal) g goals can) (omega arith)
     ∙ ap wrapped (append_assoc before (g ∷ []) goals)
 
+-- goals of attributes are written as version 2
+can_be_read : (goals : List GoalOf) → All (λ g. CanBeRead (version_of goals == 2) g.goal) goals
+can_be_read goals = by (list_all is_id_goal goals) refl
+  where
+    by : (ids : Bool) → list_all is_id_goal goals ≡ ids → All (λ g. CanBeRead (version_of goals == 2) g.goal) goals
+    by true e = λ k d on. ap (λ (b : Bool). b || (version_of goals == 2)) (AllPass-from_list_all is_id_goal goals e k d on)
+    by false e = λ k d on. rw e (or-true (is_id_goal (get_or goals k d)))
+
+-- the version is 1 or 2
+is_written_version : (goals : List GoalOf) → (version_of goals == 1 || version_of goals == 2) ≡ true
+is_written_version goals = by (list_all is_id_goal goals) refl
+  where
+    by : (ids : Bool) → list_all is_id_goal goals ≡ ids → (version_of goals == 1 || version_of goals == 2) ≡ true
+    by true e = rw e refl
+    by false e = rw e refl
+
 pub cert-back : (goals : List GoalOf) → All GoalReadsBack goals → CertFits goals → goals_in_value (cert_data goals) ≡ Ok goals
-unfolding goals_in_value goal_list is_version_1 list_at has_only are_among is_among
+unfolding goals_in_value goal_list is_version list_at has_only are_among is_among
 cert-back goals back fits =
-    rw (list_items-items_of (map goal_data goals)) (goals-read [] goals back fits.nodes (omega (arith, fits.few)))
+    rw (is_written_version goals, list_items-items_of (map goal_data goals))
+    (goals-read (version_of goals == 2) [] goals back fits.styles fits.nodes (can_be_read goals) (omega (arith, fits.few)))
 
 pub cert_in-back : (json : List ℕ) (value : Data) (goals : List GoalOf) → value_of json ≡ Some value → value ≡ cert_data goals → goals_in_value (cert_data goals) ≡ Ok goals → cert_in json ≡ Ok goals
 cert_in-back json value goals was is back = ap (λ (o : Option Data). ok_or o Syntax >>= goals_in_value) was ∙ ap goals_in_value is ∙ back
@@ -205,14 +249,17 @@ plain-node (TestAt (AmongOf c choice)) = let items = plain-choice choice in reco
 plain-node (ValueAt layer value) = record { no_float = refl; shallow = omega arith }
 plain-node (BagAt id) = record { no_float = refl; shallow = omega arith }
 
-plain-id : (goal : Goal) → Plain 0 (goal_id_data goal)
-plain-id (Id id) = record { no_float = refl; shallow = omega arith }
+plain-asked : (goal : GoalSeen) (nodes : List NodeOf) → Plain 4 (asked_data goal (list_data (map node_data nodes)))
+plain-asked (IdGoal id) nodes =
+    let items = plain-items node_data 2 plain-node nodes in
+    record { no_float = rw items.no_float refl; shallow = omega (arith, items.shallow) }
+plain-asked (AttrGoal attr styles) nodes =
+    let items = plain-items node_data 2 plain-node nodes in
+    let ids = plain-items id_data 0 (λ id. record { no_float = refl; shallow = omega arith }) styles in
+    record { no_float = rw (items.no_float, ids.no_float) refl; shallow = omega (arith, items.shallow, ids.shallow) }
 
 plain-goal : (g : GoalOf) → Plain 4 (goal_data g)
-plain-goal g =
-    let id = plain-id g.goal in
-    let items = plain-items node_data 2 plain-node g.nodes in
-    record { no_float = rw (id.no_float, items.no_float) refl; shallow = omega (arith, id.shallow, items.shallow) }
+plain-goal g = plain-asked g.goal g.nodes
 
 pub cert-no_float : (goals : List GoalOf) → has_float (cert_data goals) ≡ false
 cert-no_float goals = let items = plain-items goal_data 4 plain-goal goals in rw items.no_float refl
@@ -220,4 +267,4 @@ cert-no_float goals = let items = plain-items goal_data 4 plain-goal goals in rw
 pub cert-shallow : (goals : List GoalOf) → depth (cert_data goals) ≤ max_depth
 cert-shallow goals = let items = plain-items goal_data 4 plain-goal goals in omega (arith, items.shallow)
 
-pub ruleset parts_back = (number-back, at_most-back, among-back, value-back, bag-back, numbers-back, locales-back, goal-back, cert-back)
+pub ruleset parts_back = (number-back, at_most-back, among-back, value-back, bag-back, numbers-back, locales-back, id_goal-back, attr_goal-back, cert-back)

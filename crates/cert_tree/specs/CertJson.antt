@@ -1,5 +1,5 @@
 -- The certificate that a JSON text means, or its first fault.
-use Rattle.std.specs.Prelude.{ℕ, ◌+◌, ◌==◌, nat_le, nat_lt, not, bytes_eq, Bool, false, if◌then◌else◌, List, [], ◌∷◌, codes, find, length, Option, Some, None, option_and_then, ok_or, is_some, unwrap_or, Result, Ok, Err}
+use Rattle.std.specs.Prelude.{ℕ, ◌+◌, ◌==◌, ◌&&◌, ◌||◌, nat_le, nat_lt, not, bytes_eq, Bool, false, if◌then◌else◌, List, [], ◌∷◌, codes, find, length, Option, Some, None, option_and_then, ok_or, is_some, unwrap_or, Result, Ok, Err}
 use Rattle.std.specs.Option.{option_map}
 use Rattle.std.specs.Result.{result_ok}
 use Rattle.contract_words.specs.Faults.{◌>>=◌, refuse}
@@ -15,11 +15,10 @@ use Rattle.config_box.specs.config_record.Coord.{all_coords, name_of}
 use Rattle.config_box.specs.config_record.Locale.{locale_of}
 use Rattle.res_value.specs.declared.res_id.ResId.{ResId}
 use Rattle.res_value.specs.ResId.{id_of}
-use Rattle.cert_tree.specs.declared.goal.Goal.TheVariants.{Id}
 use Rattle.cert_tree.specs.declared.cert_fault.CertFault.{CertFault}
 use Rattle.cert_tree.specs.declared.cert_fault.CertFault.TheVariants.{Syntax, Version, Shape, TooManyNodes}
 use Rattle.config_box.specs.Tests.{ChoiceOf, NumbersOf, LocalesOf, AtMostOf, AmongOf}
-use Rattle.cert_tree.specs.Certificate.{NodeOf, TestAt, ValueAt, BagAt, GoalOf, node_count, most_nodes, last_layer, most_listed}
+use Rattle.cert_tree.specs.Certificate.{NodeOf, TestAt, ValueAt, BagAt, GoalSeen, IdGoal, AttrGoal, GoalOf, node_count, most_nodes, most_styles, last_layer, most_listed}
 use Rattle.cert_tree.specs.ReadOn.{read_on}
 
 -- ---- members, and items of lists; `shape` is the fault of what has none of the shapes
@@ -107,42 +106,58 @@ node_after goal before value = node_in (Shape goal (length before)) value
 
 -- ---- goals
 
--- an object with an id and a list of nodes, and no other member
-unfoldable pub goal_members : CertFault → Data → Result (ResId × List Data) CertFault
-goal_members shape value = do
-  _ ← refuse (not (has_only (codes "id" ∷ codes "nodes" ∷ []) value)) shape
-  id ← id_at shape (codes "id") value
-  items ← list_at shape (codes "nodes") value
-  Ok (id, items)
+unfoldable pub id_goal_in : CertFault → Data → Result GoalSeen CertFault
+id_goal_in shape value = id_at shape (codes "id") value >>= λ id. Ok (IdGoal id)
+
+-- a text that gives an id
+unfoldable pub id_item : CertFault → Data → Result ResId CertFault
+id_item shape value = ok_or (option_and_then id_of (text_of value)) shape
+
+unfoldable pub attr_goal_in : CertFault → Data → Result GoalSeen CertFault
+attr_goal_in shape value = do
+  attr ← id_at shape (codes "attr") value
+  items ← list_at shape (codes "styles") value
+  _ ← refuse (nat_lt most_styles (length items)) shape
+  styles ← each (id_item shape) items
+  Ok (AttrGoal attr styles)
+
+-- an object with the members of a goal of an id, or, where there can be such, of a goal of an attribute
+unfoldable pub asked_in : Bool → CertFault → Data → Result GoalSeen CertFault
+asked_in attributes shape value =
+    if has_only (codes "id" ∷ codes "nodes" ∷ []) value then id_goal_in shape value
+    else if attributes && has_only (codes "attr" ∷ codes "styles" ∷ codes "nodes" ∷ []) value then attr_goal_in shape value
+    else Err shape
 
 -- the goal of this number, where so many nodes stand in those before it: first its shape, then how
 -- many nodes there are, then the nodes
-unfoldable pub goal_in : ℕ → ℕ → Data → Result GoalOf CertFault
-goal_in goal nodes_before value = do
-  members ← goal_members (Shape goal 0) value
-  _ ← refuse (nat_lt most_nodes (nodes_before + length members.1)) TooManyNodes
-  nodes ← read_on (node_after goal) [] members.1
-  Ok (record { goal = Id members.0; nodes = nodes })
+unfoldable pub goal_in : Bool → ℕ → ℕ → Data → Result GoalOf CertFault
+goal_in attributes goal nodes_before value = do
+  asked ← asked_in attributes (Shape goal 0) value
+  items ← list_at (Shape goal 0) (codes "nodes") value
+  _ ← refuse (nat_lt most_nodes (nodes_before + length items)) TooManyNodes
+  nodes ← read_on (node_after goal) [] items
+  Ok (record { goal = asked; nodes = nodes })
 
-abbrev pub goal_after : List GoalOf → Data → Result GoalOf CertFault
-goal_after before value = goal_in (length before) (node_count before) value
+abbrev pub goal_after : Bool → List GoalOf → Data → Result GoalOf CertFault
+goal_after attributes before value = goal_in attributes (length before) (node_count before) value
 
 -- ---- the whole
 
--- the version is the number 1
-unfoldable pub is_version_1 : Data → Bool
-is_version_1 value = unwrap_or (option_map (λ n. n == 1) (option_and_then number_of (get (codes "version") value))) false
+-- the version is this number
+unfoldable pub is_version : ℕ → Data → Bool
+is_version version value = unwrap_or (option_map (λ n. n == version) (option_and_then number_of (get (codes "version") value))) false
 
--- an object of version 1, with a list of goals and no other member
+-- an object of version 1 or 2, with a list of goals and no other member
 unfoldable pub goal_list : Data → Result (List Data) CertFault
 goal_list value = do
   _ ← refuse (not (is_some (as_object value))) (Shape 0 0)
-  _ ← refuse (not (is_version_1 value)) Version
+  _ ← refuse (not (is_version 1 value || is_version 2 value)) Version
   _ ← refuse (not (has_only (codes "version" ∷ codes "goals" ∷ []) value)) (Shape 0 0)
   list_at (Shape 0 0) (codes "goals") value
 
+-- goals of attributes can be there from version 2 on
 unfoldable pub goals_in_value : Data → Result (List GoalOf) CertFault
-goals_in_value value = goal_list value >>= read_on goal_after []
+goals_in_value value = goal_list value >>= read_on (goal_after (is_version 2 value)) []
 
 abbrev pub cert_in : List ℕ → Result (List GoalOf) CertFault
 cert_in json = ok_or (value_of json) Syntax >>= goals_in_value

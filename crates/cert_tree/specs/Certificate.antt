@@ -1,5 +1,5 @@
 -- Certificates as contracts see them: goals and nodes, by their content, not their address.
-use Rattle.std.specs.Prelude.{ℕ, ◌+◌, ◌≤◌, List, [], ◌∷◌, map, length}
+use Rattle.std.specs.Prelude.{ℕ, ◌+◌, ◌≤◌, Bool, true, false, List, [], ◌∷◌, map, length}
 use Rattle.std.specs.List.{All}
 use Rattle.config_box.specs.config_record.declared.coord.Coord as coord
 use Rattle.config_box.specs.config_record.declared.coord.Coord.TheVariants as coords
@@ -8,6 +8,7 @@ use Rattle.config_box.specs.Tests.{ChoiceOf, NumbersOf, LocalesOf, TestOf, AtMos
 use Rattle.res_value.specs.declared.res_id.ResId.{ResId}
 use Rattle.res_value.specs.declared.value.Value.{Value}
 use Rattle.cert_tree.specs.declared.goal.Goal.{Goal}
+use Rattle.cert_tree.specs.declared.goal.Goal.TheVariants as goal
 use Rattle.cert_tree.specs.declared.node.Node.{Node}
 use Rattle.cert_tree.specs.declared.node.Node.TheVariants as node
 use Rattle.cert_tree.specs.declared.cert.Cert.{Cert}
@@ -19,9 +20,19 @@ pub data NodeOf : Type 0 where
   ValueAt : ℕ → Value → NodeOf
   BagAt : ResId → NodeOf
 
+-- what is asked of a device: where an id ends, or where an attribute ends under styles, which are
+-- applied in their order
+pub data GoalSeen : Type 0 where
+  IdGoal : ResId → GoalSeen
+  AttrGoal : ResId → List ResId → GoalSeen
+
+abbrev pub is_id : GoalSeen → Bool
+is_id (IdGoal id) = true
+is_id (AttrGoal attr styles) = false
+
 -- a goal with its tree
 pub record GoalOf : Type 0 where
-  pub goal : Goal
+  pub goal : GoalSeen
   pub nodes : List NodeOf
 
 abbrev pub node_of : Node → NodeOf
@@ -29,8 +40,12 @@ node_of (node.Test test) = TestAt (test_of test)
 node_of (node.Value layer value) = ValueAt layer value
 node_of (node.Bag id) = BagAt id
 
+abbrev pub goal_seen : Goal → GoalSeen
+goal_seen (goal.Id id) = IdGoal id
+goal_seen (goal.Attr attr styles) = AttrGoal attr styles.items
+
 abbrev pub goal_of : CertGoal → GoalOf
-goal_of g = record { goal = g.goal; nodes = map node_of g.nodes.items }
+goal_of g = record { goal = goal_seen g.goal; nodes = map node_of g.nodes.items }
 
 abbrev pub goals_of : Cert → List GoalOf
 goals_of certificate = map goal_of certificate.goals.items
@@ -45,6 +60,10 @@ node_count (g ∷ goals) = length g.nodes + node_count goals
 -- how many nodes all goals of a certificate can have
 abbrev pub most_nodes : ℕ
 most_nodes = 1000000
+
+-- how many styles a goal can have
+abbrev pub most_styles : ℕ
+most_styles = 64
 
 -- the last layer
 abbrev pub last_layer : ℕ
@@ -67,7 +86,12 @@ NodeFits (TestAt (AmongOf c choice)) = ChoiceFits c choice
 NodeFits (ValueAt layer value) = layer ≤ last_layer
 NodeFits (BagAt id) = Unit {0}
 
+abbrev pub GoalFits : GoalSeen → Type 0
+GoalFits (IdGoal id) = Unit {0}
+GoalFits (AttrGoal attr styles) = length styles ≤ most_styles
+
 -- a certificate within the limits, whose lists are of their coordinates' kinds
 pub record CertFits (goals : List GoalOf) : Type 0 where
   pub few : node_count goals ≤ most_nodes
+  pub styles : All (λ g. GoalFits g.goal) goals
   pub nodes : All (λ g. All NodeFits g.nodes) goals

@@ -4,7 +4,6 @@ use Rattle.std.specs.Borrow.{Bor}
 use Rattle.serde_json.specs.Data.{Data}
 use Rattle.serde_json.specs.View.{view}
 use Rattle.serde_json.specs.declared.value.Value.{Value}
-use Rattle.res_value.specs.declared.res_id.ResId.{ResId}
 use Rattle.cert_tree.specs.declared.node.Node.{Node}
 use Rattle.cert_tree.specs.declared.cert_fault.CertFault.{CertFault}
 use Rattle.cert_tree.specs.Certificate.{NodeOf, node_of}
@@ -13,11 +12,6 @@ use Rattle.cert_tree.specs.Certificate.{NodeOf, node_of}
 abbrev pub items_seen : Result (Bor (List Value)) CertFault → Result (List Data) CertFault
 items_seen (Ok items) = Ok (map view items.now)
 items_seen (Err fault) = Err fault
-
--- an id, and the items of a list
-abbrev pub members_seen : Result (ResId × Bor (List Value)) CertFault → Result (ResId × List Data) CertFault
-members_seen (Ok members) = Ok (members.0, map view members.1.now)
-members_seen (Err fault) = Err fault
 
 -- a node
 abbrev pub node_seen : Result Node CertFault → Result NodeOf CertFault

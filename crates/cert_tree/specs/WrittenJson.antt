@@ -1,6 +1,7 @@
 -- The JSON value that a certificate is written as. The members of an object stand in the order of
 -- their names' bytes.
-use Rattle.std.specs.Prelude.{ℕ, List, codes, map}
+use Rattle.std.specs.Prelude.{ℕ, Bool, if◌then◌else◌, List, codes, map}
+use Rattle.std.specs.List.{list_all}
 use Rattle.serde_json.specs.Data.{Data, number, unsigned, string, array, object, no_members, member}
 use Rattle.serde_json.specs.View.{items_of}
 use Rattle.config_box.specs.config_record.declared.locale.Locale.{Locale}
@@ -8,10 +9,8 @@ use Rattle.config_box.specs.config_record.Coord.{name_of}
 use Rattle.config_box.specs.config_record.Locale.{locale_text}
 use Rattle.res_value.specs.declared.res_id.ResId.{ResId}
 use Rattle.res_value.specs.ResId.{id_text}
-use Rattle.cert_tree.specs.declared.goal.Goal.{Goal}
-use Rattle.cert_tree.specs.declared.goal.Goal.TheVariants.{Id}
 use Rattle.config_box.specs.Tests.{ChoiceOf, NumbersOf, LocalesOf, TestOf, AtMostOf, AmongOf}
-use Rattle.cert_tree.specs.Certificate.{NodeOf, TestAt, ValueAt, BagAt, GoalOf}
+use Rattle.cert_tree.specs.Certificate.{NodeOf, TestAt, ValueAt, BagAt, GoalSeen, IdGoal, AttrGoal, GoalOf, is_id}
 
 abbrev pub number_data : ℕ → Data
 number_data n = number (unsigned n)
@@ -45,15 +44,27 @@ node_data (ValueAt layer value) =
     (member (codes "word") (number_data value.word) no_members)))
 node_data (BagAt id) = object (member (codes "bag") (id_data id) no_members)
 
-abbrev pub goal_id_data : Goal → Data
-goal_id_data (Id id) = id_data id
+-- a goal with this list of nodes
+abbrev pub asked_data : GoalSeen → Data → Data
+asked_data (IdGoal id) nodes =
+    object (member (codes "id") (id_data id)
+    (member (codes "nodes") nodes no_members))
+asked_data (AttrGoal attr styles) nodes =
+    object (member (codes "attr") (id_data attr)
+    (member (codes "nodes") nodes
+    (member (codes "styles") (list_data (map id_data styles)) no_members)))
 
 abbrev pub goal_data : GoalOf → Data
-goal_data g =
-    object (member (codes "id") (goal_id_data g.goal)
-    (member (codes "nodes") (list_data (map node_data g.nodes)) no_members))
+goal_data g = asked_data g.goal (list_data (map node_data g.nodes))
+
+abbrev pub is_id_goal : GoalOf → Bool
+is_id_goal g = is_id g.goal
+
+-- 1 where all goals are ids, else 2
+abbrev pub version_of : List GoalOf → ℕ
+version_of goals = if list_all is_id_goal goals then 1 else 2
 
 abbrev pub cert_data : List GoalOf → Data
 cert_data goals =
     object (member (codes "goals") (list_data (map goal_data goals))
-    (member (codes "version") (number_data 1) no_members))
+    (member (codes "version") (number_data (version_of goals)) no_members))

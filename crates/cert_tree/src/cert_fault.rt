@@ -16,7 +16,7 @@ pub enum CertFault {
     /// The bytes are no JSON text that `serde_json` reads.
     #[error("Syntax")]
     Syntax,
-    /// The version is missing, or is not the number 1.
+    /// The version is missing, or is neither the number 1 nor 2.
     #[error("Version")]
     Version,
     /// A goal, and its node that has none of the shapes, both counted from 0. Where the goal itself has

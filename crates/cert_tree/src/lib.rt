@@ -1,14 +1,15 @@
 //! Certificates: for each goal a decision tree over the coordinates of a device, whose leaves name
-//! values and bags. A certificate is read from JSON and written as JSON; nothing here says whether it
-//! is true.
+//! values and bags. A goal asks where an id ends, or where an attribute ends under styles. A
+//! certificate is read from JSON and written as JSON; nothing here says whether it is true.
 //!
 //! A tree is the list of its nodes, each test before what stands behind its answer yes, and that
 //! before what stands behind its answer no. So a tree of any depth is read and written item by item.
 //!
 //! For the crates above: contracts see a certificate as the list of its goals with their nodes,
-//! by their content, not their address (`goals_of`), and a node as `node_of` says. What is read of a text
-//! is exactly what it means (`cert_in`), or its first fault. What is written of a certificate within
-//! the limits (`CertFits`) is read as the same goals and nodes.
+//! by their content, not their address (`goals_of`), what a goal asks as `goal_seen` says, and a node
+//! as `node_of` says. What is read of a text is exactly what it means (`cert_in`), or its first fault.
+//! What is written of a certificate within the limits (`CertFits`) is read as the same goals and nodes.
+//! A word asks for the goal of `goal_in_word`.
 //!
 //! ```text
 //! let certificate = Cert::read(alloc, b"{\"version\":1,\"goals\":[]}")?;
@@ -21,6 +22,7 @@
 mod cert;
 mod cert_fault;
 mod goal;
+mod goal_word;
 mod members;
 mod node;
 mod progress;
@@ -33,6 +35,7 @@ pub use cert::{Cert, CertGoal, OutOfMemory};
 pub use cert_fault::CertFault;
 pub use config_box::{BoxFault, Choice, ConfigBox, Split, Test, Values};
 pub use goal::Goal;
+pub use goal_word::GoalFault;
 pub use node::Node;
 pub use progress::{Progress, Unwatched};
 pub use res_value::{ChunkFault, ResId};

@@ -3,7 +3,7 @@
 ghost use Rattle.std.specs.Prelude.{◌≡◌, ◌≤◌, bytes_eq, find, IfOk};
 ghost use Rattle.serde_json.specs.View.{view};
 ghost use Rattle.config_box.specs.config_record.Coord.{name_of};
-ghost use Rattle.cert_tree.specs.CertJson.{number_within, number_at, id_at, list_at, coord_named, coord_at};
+ghost use Rattle.cert_tree.specs.CertJson.{number_within, number_at, id_at, id_item, list_at, coord_named, coord_at};
 ghost use Rattle.cert_tree.specs.Lent.{items_seen};
 
 use crate::cert_fault::CertFault;
@@ -54,6 +54,14 @@ pub(crate) fn id_at(value: &Value, name: &str, shape: CertFault) -> Result<ResId
         .and_then(Value::as_str)
         .and_then(ResId::read)
         .ok_or(shape)
+}
+
+/// The id that a text spells.
+#[tactic(auto, unfolding(crate::specs::CertJson::id_item))]
+pub(crate) fn id_item(value: &Value, shape: CertFault) -> Result<ResId, CertFault>
+    ensures { result ≡ id_item shape (view value.now) }
+{
+    value.as_str().and_then(ResId::read).ok_or(shape)
 }
 
 /// The items of a member that is a list.

@@ -1,19 +1,20 @@
 //! Certificates as JSON values.
 
 ghost use Rattle.std.specs.Prelude.{◌≡◌, Ok, map, IfOk};
-ghost use Rattle.std.specs.List.{All};
+ghost use Rattle.std.specs.List.{All, list_all};
 ghost use Rattle.serde_json.specs.View.{view};
-ghost use Rattle.cert_tree.specs.WrittenJson.{number_data, locale_data, choice_items, test_data, node_data, goal_data, cert_data};
+ghost use Rattle.cert_tree.specs.WrittenJson.{number_data, id_data, locale_data, choice_items, test_data, node_data, goal_data, is_id_goal, version_of, cert_data};
 ghost use Rattle.config_box.specs.Tests.{choice_of, test_of};
-ghost use Rattle.cert_tree.specs.Certificate.{TestAt, node_of, goal_of, goals_of, CertFits};
+ghost use Rattle.cert_tree.specs.Certificate.{TestAt, is_id, node_of, goal_seen, goal_of, goals_of, CertFits};
 ghost use Rattle.cert_tree.specs.CertJson.{goals_in_value};
-ghost use Rattle.cert_tree.specs.ReadsBack.{NumberReadsBack, ChoiceReadsBack, NodeReadsBack, GoalReadsBack};
+ghost use Rattle.cert_tree.specs.ReadsBack.{NumberReadsBack, IdReadsBack, ChoiceReadsBack, NodeReadsBack, GoalReadsBack};
 
 use crate::cert::{Cert, CertGoal};
 use crate::goal::Goal;
 use crate::node::Node;
 use crate::texts::{id_value, locale_value};
 use config_box::{Choice, Locale, Test};
+use res_value::ResId;
 use serde_json::{Value, json};
 use std::alloc::{AllocError, Global};
 
@@ -24,7 +25,27 @@ pub(crate) fn cert_value(alloc: Global, cert: &Cert) -> Result<Value, AllocError
     ensures reads_back { IfOk result (λ _. CertFits (goals_of cert.now) → goals_in_value (cert_data (goals_of cert.now)) ≡ Ok (goals_of cert.now)) }
 {
     let goals = Value::Array(goal_values(alloc, cert.goals.as_slice())?);
-    json!(in alloc; {"goals": goals, "version": 1})
+    let version = version_of(cert.goals.as_slice());
+    json!(in alloc; {"goals": goals, "version": version})
+}
+
+/// The version that can say these goals.
+fn version_of(goals: &[CertGoal]) -> u64
+    ensures { result ≡ version_of (map goal_of goals.now) }
+{
+    if are_ids(goals) { 1 } else { 2 }
+}
+
+fn are_ids(goals: &[CertGoal]) -> bool
+    ensures { result ≡ list_all (λ g. is_id_goal (goal_of g)) goals.now }
+{
+    goals.iter().all(|goal| is_id(&goal.goal))
+}
+
+fn is_id(goal: &Goal) -> bool
+    ensures { result ≡ is_id (goal_seen goal.now) }
+{
+    matches!(goal, Goal::Id(_))
 }
 
 #[tactic(auto, using(crate::proofs::WrittenSteps::written_steps))]
@@ -45,10 +66,31 @@ fn goal_value(alloc: Global, goal: &CertGoal) -> Result<Value, AllocError>
     ensures data { IfOk result (λ value. view value ≡ goal_data (goal_of goal.now)) }
     ensures reads_back { IfOk result (λ _. GoalReadsBack (goal_of goal.now)) }
 {
-    let Goal::Id(id) = &goal.goal;
-    let id = id_value(alloc, *id)?;
     let nodes = Value::Array(node_values(alloc, goal.nodes.as_slice())?);
-    json!(in alloc; {"id": id, "nodes": nodes})
+    match &goal.goal {
+        Goal::Id(id) => {
+            let id = id_value(alloc, *id)?;
+            json!(in alloc; {"id": id, "nodes": nodes})
+        }
+        Goal::Attr { attr, styles } => {
+            let attr = id_value(alloc, *attr)?;
+            let styles = Value::Array(id_values(alloc, styles.as_slice())?);
+            json!(in alloc; {"attr": attr, "nodes": nodes, "styles": styles})
+        }
+    }
+}
+
+#[tactic(auto, using(crate::proofs::WrittenSteps::written_steps))]
+fn id_values(alloc: Global, ids: &[ResId]) -> Result<Vec<Value>, AllocError>
+    ensures data { IfOk result (λ values. map view values.items ≡ map id_data ids.now) }
+    ensures reads_back { IfOk result (λ _. All IdReadsBack ids.now) }
+{
+    let mut values = Vec::with_capacity(alloc, ids.len())?;
+    for id in ids {
+        let value = id_value(alloc, *id)?;
+        values.push(value)?;
+    }
+    Ok(values)
 }
 
 #[tactic(auto, using(crate::proofs::WrittenSteps::written_steps))]

@@ -56,7 +56,7 @@ const REFUSED: [(&str, &str, ToolFault); 9] = [
     (MEMBERS, "[", ToolFault::Certificate(CertFault::Syntax)),
     (
         MEMBERS,
-        r#"{"version":2,"goals":[]}"#,
+        r#"{"version":3,"goals":[]}"#,
         ToolFault::Certificate(CertFault::Version),
     ),
     (

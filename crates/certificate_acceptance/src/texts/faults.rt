@@ -18,12 +18,13 @@ fn names_the_fault_of_the_whole(rt: HostRuntime) {
         // the version comes before other members
         ("{}", CertFault::Version),
         ("{\"goals\":[]}", CertFault::Version),
-        ("{\"version\":2,\"goals\":[]}", CertFault::Version),
+        ("{\"version\":0,\"goals\":[]}", CertFault::Version),
+        ("{\"version\":3,\"goals\":[]}", CertFault::Version),
         ("{\"version\":\"1\",\"goals\":[]}", CertFault::Version),
         ("{\"version\":1.0,\"goals\":[]}", CertFault::Version),
         ("{\"version\":true,\"goals\":[]}", CertFault::Version),
         ("{\"version\":null,\"goals\":[]}", CertFault::Version),
-        ("{\"version\":2,\"other\":0}", CertFault::Version),
+        ("{\"version\":3,\"other\":0}", CertFault::Version),
         (
             "{\"version\":1,\"goals\":[],\"other\":0}",
             CertFault::Shape(0, 0),
@@ -32,7 +33,7 @@ fn names_the_fault_of_the_whole(rt: HostRuntime) {
         ("{\"version\":1,\"goals\":{}}", CertFault::Shape(0, 0)),
         // of a member that stands twice the last counts
         (
-            "{\"version\":1,\"version\":2,\"goals\":[]}",
+            "{\"version\":1,\"version\":3,\"goals\":[]}",
             CertFault::Version,
         ),
     ];
@@ -40,7 +41,7 @@ fn names_the_fault_of_the_whole(rt: HostRuntime) {
         assert_eq!(rt; fault(rt.alloc(), text), Some(want), "{text}");
     }
     assert_eq!(rt;
-        fault(rt.alloc(), "{\"version\":2,\"version\":1,\"goals\":[]}"),
+        fault(rt.alloc(), "{\"version\":3,\"version\":1,\"goals\":[]}"),
         None
     );
 }
