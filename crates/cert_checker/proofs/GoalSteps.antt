@@ -7,9 +7,8 @@ use Rattle.std.proofs.lemmas.List.{length-map}
 use Rattle.std.specs.Option.{option_map}
 use Rattle.box_trace.specs.overlay_map.Layer.{LayerOf}
 use Rattle.cert_tree.specs.box_answers.NumberSet.{SetOf}
-use Rattle.cert_tree.specs.declared.goal.Goal.{Goal}
 use Rattle.cert_tree.specs.declared.cert.CertGoal.{CertGoal}
-use Rattle.cert_tree.specs.Certificate.{NodeOf, TestAt, ValueAt, BagAt, GoalOf, goal_of}
+use Rattle.cert_tree.specs.Certificate.{NodeOf, TestAt, ValueAt, BagAt, GoalSeen, GoalOf, goal_seen, goal_of}
 use Rattle.cert_checker.specs.declared.rule.Rule.{Rule}
 use Rattle.cert_checker.specs.declared.rule.Rule.TheVariants as rules
 use Rattle.cert_checker.specs.declared.verdict.Shown.{Shown}
@@ -38,19 +37,19 @@ same_so_far xs ys n past few same = same_items xs ys at
     at k = elim (cases_lt k n) [ inl lt ↦ same k lt | inr le ↦ slice_get_past xs k (omega arith) ∙ sym (slice_get_past ys k (omega arith)) ]
 
 -- a list that ends where the other does not differs from it there
-pub shorter : (found asked : List Goal) (n : ℕ) → length found ≤ n → n < length asked → slice_get found n ≢ slice_get asked n
+pub shorter : (found asked : List GoalSeen) (n : ℕ) → length found ≤ n → n < length asked → slice_get found n ≢ slice_get asked n
 shorter found asked n past within e =
     elim (slice_get_cases asked n).1 [ inl h ↦ (let no = sym (slice_get_past found n past) ∙ e ∙ h.2 in cc) | inr h ↦ omega (arith, h.0) ]
 
 -- the goal of a tree
-pub goal_at : (trees : List CertGoal) (k : ℕ) (tree : CertGoal) → k < length trees → tree ≡ get_or trees k tree → slice_get (goals_in (map goal_of trees)) k ≡ Some tree.goal
+pub goal_at : (trees : List CertGoal) (k : ℕ) (tree : CertGoal) → k < length trees → tree ≡ get_or trees k tree → slice_get (goals_in (map goal_of trees)) k ≡ Some (goal_seen tree.goal)
 goal_at trees k tree within is = slice_get-map (λ (t : GoalOf). t.goal) (map goal_of trees) k ∙ ap (option_map (λ (t : GoalOf). t.goal)) (seen_at goal_of trees k tree within is)
 
 pub goals-count : (trees : List CertGoal) → length (goals_in (map goal_of trees)) ≡ length trees
 goals-count trees = length-map (map goal_of trees) (λ (t : GoalOf). t.goal) ∙ length-map trees goal_of
 
 -- the same goals stand before a place, and at it
-pub same_more : (found asked : List Goal) (n : ℕ) → ((k : ℕ) → k < n → slice_get found k ≡ slice_get asked k) → slice_get found n ≡ slice_get asked n → (k : ℕ) → k < n + 1 → slice_get found k ≡ slice_get asked k
+pub same_more : (found asked : List GoalSeen) (n : ℕ) → ((k : ℕ) → k < n → slice_get found k ≡ slice_get asked k) → slice_get found n ≡ slice_get asked n → (k : ℕ) → k < n + 1 → slice_get found k ≡ slice_get asked k
 same_more found asked n before here k p =
     elim (cases_lt k n) [
       | inl lt ↦ before k lt
@@ -85,14 +84,14 @@ passed_tree stack sets trees g tree at before here h other p is =
           subst (λ (t : GoalOf). NoRuleFailsIn stack sets t) (sym found) here)
     ]
 
-pub all_passed : (stack : List LayerOf) (sets : List SetOf) (asked : List Goal) (trees : List GoalOf) (g : ℕ) → goals_in trees ≡ asked → length trees ≤ g → ArePassed stack sets trees g → IsAccepted stack sets asked trees
+pub all_passed : (stack : List LayerOf) (sets : List SetOf) (asked : List GoalSeen) (trees : List GoalOf) (g : ℕ) → goals_in trees ≡ asked → length trees ≤ g → ArePassed stack sets trees g → IsAccepted stack sets asked trees
 all_passed stack sets asked trees g e past before = record {
   goals = e;
   passes = λ h tree at. before h tree (omega (arith, slice_get_within trees h tree at)) at;
 }
 
 -- the fault of a tree is that of the certificate
-first_of : (stack : List LayerOf) (sets : List SetOf) (asked : List Goal) (trees : List GoalOf) (g k : ℕ) (tree : GoalOf) (rule : Rule) → goals_in trees ≡ asked → slice_get trees g ≡ Some tree → ArePassed stack sets trees g
+first_of : (stack : List LayerOf) (sets : List SetOf) (asked : List GoalSeen) (trees : List GoalOf) (g k : ℕ) (tree : GoalOf) (rule : Rule) → goals_in trees ≡ asked → slice_get trees g ≡ Some tree → ArePassed stack sets trees g
     → FailsFirst (goal_trace stack tree.goal) sets tree.nodes k rule → FailsFirstIn stack sets asked trees g k rule
 first_of stack sets asked trees g k tree rule e at before f = record { goals = e; before = before; tree = tree; stands = at; fails = f }
 
@@ -102,7 +101,7 @@ shown_of stack sets trees g k tree rule shown at s other is =
     let same : tree ≡ other = (let there = sym at ∙ is in cc) in
     subst (λ (t : GoalOf). ShowsAt (goal_trace stack t.goal) sets t.nodes k rule shown) same s
 
-pub rejected : (stack : List LayerOf) (sets : List SetOf) (asked : List Goal) (trees : List GoalOf) (g k : ℕ) (tree : GoalOf) (rule : Rule) (shown : Shown) → goals_in trees ≡ asked → slice_get trees g ≡ Some tree → ArePassed stack sets trees g
+pub rejected : (stack : List LayerOf) (sets : List SetOf) (asked : List GoalSeen) (trees : List GoalOf) (g k : ℕ) (tree : GoalOf) (rule : Rule) (shown : Shown) → goals_in trees ≡ asked → slice_get trees g ≡ Some tree → ArePassed stack sets trees g
     → FailsFirst (goal_trace stack tree.goal) sets tree.nodes k rule → ShowsAt (goal_trace stack tree.goal) sets tree.nodes k rule shown
     → IsVerdict stack sets asked trees (Rejected g k rule shown)
 rejected stack sets asked trees g k tree rules.GoalList shown e at before f s = absurd (not_of_goals stack sets tree k f.fails)

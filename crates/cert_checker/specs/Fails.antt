@@ -1,5 +1,5 @@
 -- Which rules fail at the nodes of a tree. A trace says for each device what the rules of the platform do: the trace of an
--- id (`trace_of`).
+-- id (`trace_of`), or that of an attribute under styles (`attribute_trace`).
 use Rattle.std.specs.Prelude.{◌≡◌, ◌≢◌, ◌⊎◌, ℕ, ◌<◌, true, false, List, [], ◌∷◌, Option, Some, None, slice_get}
 use Rattle.box_trace.specs.reference_resolver.declared.end.End.{End}
 use Rattle.box_trace.specs.reference_resolver.declared.end.End.TheVariants as ends

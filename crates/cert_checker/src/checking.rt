@@ -1,7 +1,7 @@
 //! The check of a certificate.
 
-ghost use Rattle.std.specs.Prelude.{IfOk};
-ghost use Rattle.cert_tree.specs.Certificate.{goals_of};
+ghost use Rattle.std.specs.Prelude.{IfOk, map};
+ghost use Rattle.cert_tree.specs.Certificate.{goal_seen, goals_of};
 ghost use Rattle.cert_checker.specs.Verdict.{IsVerdict};
 ghost use Rattle.cert_checker.specs.Headline.{Headline};
 
@@ -22,8 +22,8 @@ pub fn check(
     asked: &[Goal],
     certificate: &Cert,
 ) -> Result<Verdict, OutOfMemory>
-    ensures verdict { IfOk result (IsVerdict stack.now members.now asked.now (goals_of certificate.now)) }
-    ensures headline { IfOk result (Headline stack.now members.now asked.now (goals_of certificate.now)) }
+    ensures verdict { IfOk result (IsVerdict stack.now members.now (map goal_seen asked.now) (goals_of certificate.now)) }
+    ensures headline { IfOk result (Headline stack.now members.now (map goal_seen asked.now) (goals_of certificate.now)) }
 {
     if let Some(goal) = first_difference(certificate.goals.as_slice(), asked) {
         return Ok(Verdict::Rejected {

@@ -1,7 +1,7 @@
 //! The list of goals.
 
 ghost use Rattle.std.specs.Prelude.{◌≡◌, ◌≢◌, map, slice_get, MatchBool, MatchOption};
-ghost use Rattle.cert_tree.specs.Certificate.{goal_of};
+ghost use Rattle.cert_tree.specs.Certificate.{goal_seen, goal_of};
 ghost use Rattle.cert_checker.specs.FirstFault.{goals_in, DifferFirstAt};
 
 use cert_tree::{CertGoal, Goal};
@@ -9,8 +9,8 @@ use cert_tree::{CertGoal, Goal};
 /// The first place at which the goals of trees are not the ones that are asked.
 pub(crate) fn first_difference(trees: &[CertGoal], asked: &[Goal]) -> Option<usize>
     ensures { MatchOption result
-        (goals_in (map goal_of trees.now) ≡ asked.now)
-        (DifferFirstAt (goals_in (map goal_of trees.now)) asked.now) }
+        (goals_in (map goal_of trees.now) ≡ map goal_seen asked.now)
+        (DifferFirstAt (goals_in (map goal_of trees.now)) (map goal_seen asked.now)) }
 {
     for (place, tree) in trees.iter().enumerate() {
         if !stands_at(asked, place, &tree.goal) {
@@ -26,11 +26,18 @@ pub(crate) fn first_difference(trees: &[CertGoal], asked: &[Goal]) -> Option<usi
 
 fn stands_at(goals: &[Goal], place: usize, goal: &Goal) -> bool
     ensures { MatchBool result
-        (slice_get goals.now place ≡ Some goal.now)
-        (slice_get goals.now place ≢ Some goal.now) }
+        (slice_get (map goal_seen goals.now) place ≡ Some (goal_seen goal.now))
+        (slice_get (map goal_seen goals.now) place ≢ Some (goal_seen goal.now)) }
 {
     match goals.get(place) {
-        Some(found) => found == goal,
+        Some(found) => is_same(found, goal),
         None => false,
     }
+}
+
+// Whether two goals ask the same.
+fn is_same(a: &Goal, b: &Goal) -> bool
+    ensures { MatchBool result (goal_seen a.now ≡ goal_seen b.now) (goal_seen a.now ≢ goal_seen b.now) }
+{
+    a == b
 }

@@ -4,7 +4,7 @@
 //! For the crates above: `check` answers `Accepted` exactly where no rule fails, and else names the first goal, its
 //! first node and the first rule that fails, with the devices that show it. Where a certificate is accepted, the
 //! rules of the platform end, for every device of the box and every goal that was asked, at the value or the bag of
-//! the leaf that the device reaches.
+//! the leaf that the device reaches. `goal_end` gives where a goal ends at one device.
 //!
 //! ```text
 //! match check(alloc, &stack, &phones, &asked, &certificate)? {
@@ -17,12 +17,15 @@
 mod checking;
 mod failure;
 mod goals;
+mod laws;
 mod leaf;
 mod node;
+mod one_device;
 mod open_boxes;
 mod rule;
 mod tree;
 mod verdict;
+mod whole_box;
 
 pub use box_trace::{
     Cand, CommonTrace, Coord, Device, End, Live, Locale, MOST_LAYERS, OpenBox, Parting, Stack,
@@ -32,6 +35,9 @@ pub use cert_tree::{
     Unwatched, Values,
 };
 pub use checking::check;
+pub use laws::ids_end_by_references;
+pub use one_device::goal_end;
 pub use open_boxes::OpenBoxes;
 pub use rule::Rule;
 pub use verdict::{Shown, Verdict};
+pub use whole_box::goal_box;

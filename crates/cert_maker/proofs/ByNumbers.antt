@@ -19,18 +19,15 @@ use Rattle.cert_checker.specs.reference_resolver.declared.step.Step.{Step}
 use Rattle.cert_checker.specs.reference_resolver.declared.end.End.{End}
 use Rattle.cert_checker.specs.reference_resolver.Selection.{beats, beats_best, step_of, best_after, scan_candidates, best_of, selected}
 use Rattle.cert_checker.specs.reference_resolver.Ends.{next_of, end_of}
-use Rattle.cert_checker.specs.reference_resolver.Trace.{Trace, look_ups_of, scan_look_up, scan_chain}
+use Rattle.cert_checker.specs.reference_resolver.Trace.{Trace, look_ups_of, scan_look_up, scan_chain, trace_of}
 use Rattle.cert_checker.specs.box_trace.declared.parting.Parting.{Parting}
 use Rattle.cert_checker.specs.box_trace.Parting.{says_yes, answer_of}
-use Rattle.cert_checker.specs.cert_tree.declared.goal.Goal.{Goal}
-use Rattle.cert_checker.specs.cert_tree.declared.goal.Goal.TheVariants.{Id}
-use Rattle.cert_checker.specs.FirstFault.{goal_trace}
 
 -- devices of the same numbers have one trace
 abbrev pub GoesByNumbers : (List ℕ → Trace) → Type 0
 GoesByNumbers trace = (x y : List ℕ) → ((c : Coord) → device_number x c ≡ device_number y c) → trace x ≡ trace y
 
-abbrev SameNumbers : List ℕ → List ℕ → Type 0
+abbrev pub SameNumbers : List ℕ → List ℕ → Type 0
 SameNumbers x y = device_number x ≡ device_number y
 
 matches-same : (r x y : List ℕ) → SameNumbers x y → is_match r x ≡ is_match r y
@@ -62,7 +59,7 @@ best-same best (a ∷ candidates) x y e =
     let rest = best-same (best_after (step_of best a y) best a) candidates x y e in
     ap (λ step. best_of (best_after step best a) candidates x) here ∙ rest
 
-selected-same : (stack : List LayerOf) (id : ℕ) (x y : List ℕ) → SameNumbers x y → selected stack id x ≡ selected stack id y
+pub selected-same : (stack : List LayerOf) (id : ℕ) (x y : List ℕ) → SameNumbers x y → selected stack id x ≡ selected stack id y
 unfolding selected
 selected-same stack id x y e = best-same None (candidates_of stack id) x y e
 
@@ -81,13 +78,19 @@ look-ups-same stack (suc most) id x y e =
     let rest : (next : ℕ) → look_ups_of stack most next x ≡ look_ups_of stack most next y = λ next. look-ups-same stack most next x y e in
     simp (next-same stack id x y e, rest)
 
-scan-look-up-same : (stack : List LayerOf) (x y : List ℕ) → SameNumbers x y → scan_look_up step_of stack x ≡ scan_look_up step_of stack y
+pub scan-look-up-same : (stack : List LayerOf) (x y : List ℕ) → SameNumbers x y → scan_look_up step_of stack x ≡ scan_look_up step_of stack y
 scan-look-up-same stack x y e = fun_ext (λ id. scan-same None (candidates_of stack id) x y e)
 
 chain-same : (stack : List LayerOf) (most id : ℕ) (x y : List ℕ) → SameNumbers x y → scan_chain step_of stack most id x ≡ scan_chain step_of stack most id y
 chain-same stack most id x y e =
     ap (λ ids. flat_map (scan_look_up step_of stack x) ids) (look-ups-same stack most id x y e)
     ∙ ap (λ tell. flat_map tell (look_ups_of stack most id y)) (scan-look-up-same stack x y e)
+
+pub trace-same : (stack : List LayerOf) (most id : ℕ) (x y : List ℕ) → SameNumbers x y → trace_of stack most id x ≡ trace_of stack most id y
+trace-same stack most id x y e =
+    let with_steps : List Step → Trace = λ steps. record { steps = steps; end = end_of stack most id x } in
+    let with_end : End → Trace = λ end. record { steps = scan_chain step_of stack most id y; end = end } in
+    ap with_steps (chain-same stack most id x y e) ∙ ap with_end (end-same stack most id x y e)
 
 -- so have the answers to a question
 abbrev pub AnswersByNumbers : (List ℕ → Bool) → Type 0
@@ -97,10 +100,3 @@ pub parting-by-numbers : (parting : Parting) → AnswersByNumbers (answer_of par
 unfolding answer_of
 parting-by-numbers parting x y same =
     ap (says_yes parting.asked) (step-same (option_map cand_of parting.best) (cand_of parting.candidate) x y (fun_ext same))
-
-pub goal-by-numbers : (stack : List LayerOf) (goal : Goal) → GoesByNumbers (goal_trace stack goal)
-goal-by-numbers stack (Id id) x y same =
-    let e : SameNumbers x y = fun_ext same in
-    let with_steps : List Step → Trace = λ steps. record { steps = steps; end = end_of stack 20 id.0 x } in
-    let with_end : End → Trace = λ end. record { steps = scan_chain step_of stack 20 id.0 y; end = end } in
-    ap with_steps (chain-same stack 20 id.0 x y e) ∙ ap with_end (end-same stack 20 id.0 x y e)

@@ -5,16 +5,11 @@ use Rattle.std.specs.List.{All}
 use Rattle.std.proofs.lemmas.List.{map-append, length-map}
 use Rattle.std.proofs.lemmas.List.Elements.{All-get_or, All-cons, All-push, All-append, All-map, All-weaker}
 use Rattle.std.proofs.lemmas.Option.{slice_get_within, get_or_from_slice_get}
-use Rattle.cert_checker.specs.res_value.declared.res_id.ResId.{ResId}
 use Rattle.cert_checker.specs.reference_resolver.declared.end.End.{End}
-use Rattle.cert_checker.specs.reference_resolver.Ends.{references_followed}
-use Rattle.cert_checker.specs.reference_resolver.Trace.{trace_of}
-use Rattle.cert_checker.proofs.reference_resolver.Chains.{is_the_end}
+use Rattle.cert_checker.proofs.HeadlineSteps.{rules_end}
 use Rattle.cert_checker.specs.overlay_map.Layer.{LayerOf}
 use Rattle.cert_checker.specs.box_answers.NumberSet.{SetOf}
-use Rattle.cert_checker.specs.cert_tree.declared.goal.Goal.{Goal}
-use Rattle.cert_checker.specs.cert_tree.declared.goal.Goal.TheVariants.{Id}
-use Rattle.cert_checker.specs.cert_tree.Certificate.{BagAt, GoalOf, NodeFits, node_count}
+use Rattle.cert_checker.specs.cert_tree.Certificate.{BagAt, GoalSeen, GoalOf, NodeFits, node_count}
 use Rattle.cert_checker.specs.FirstFault.{goal_trace, goals_in, IsAccepted}
 use Rattle.cert_maker.specs.Needed.{IsNeeded}
 use Rattle.cert_maker.specs.Made.{AreNeeded, IsCounterexample}
@@ -36,13 +31,13 @@ node_count-append (tree ∷ trees) others = let e = node_count-append trees othe
 -- ---- goal by goal
 
 -- the next goal has its tree
-pub one-more : (stack : List LayerOf) (sets : List SetOf) (asked left : List Goal) (most spare : ℕ) (trees : List GoalOf) (tree : GoalOf) → AreDone stack sets asked (tree.goal ∷ left) most trees spare → IsGoodTree stack sets tree
+pub one-more : (stack : List LayerOf) (sets : List SetOf) (asked left : List GoalSeen) (most spare : ℕ) (trees : List GoalOf) (tree : GoalOf) → AreDone stack sets asked (tree.goal ∷ left) most trees spare → IsGoodTree stack sets tree
     → length tree.nodes ≤ spare + 1 → AreDone stack sets asked left most (trees ++ tree ∷ []) (spare + 1 - length tree.nodes)
 one-more stack sets asked left most spare trees tree h good few =
     let count = node_count-append trees (tree ∷ []) in
     let room = h.room in
     record {
-      goals = ap (λ (goals : List Goal). goals ++ left) (map-append (λ (t : GoalOf). t.goal) trees (tree ∷ [])) ∙ append_assoc (goals_in trees) (tree.goal ∷ []) left ∙ h.goals;
+      goals = ap (λ (goals : List GoalSeen). goals ++ left) (map-append (λ (t : GoalOf). t.goal) trees (tree ∷ [])) ∙ append_assoc (goals_in trees) (tree.goal ∷ []) left ∙ h.goals;
       good = All-push (IsGoodTree stack sets) trees tree h.good good;
       room = omega (arith, count, room);
     }
@@ -56,7 +51,7 @@ have-needed stack sets trees good = All-weaker (IsGoodTree stack sets) (HasNeede
 
 -- ---- all goals have their trees
 
-pub accepted : (stack : List LayerOf) (sets : List SetOf) (asked : List Goal) (most spare : ℕ) (trees : List GoalOf) → AreDone stack sets asked [] most trees spare
+pub accepted : (stack : List LayerOf) (sets : List SetOf) (asked : List GoalSeen) (most spare : ℕ) (trees : List GoalOf) → AreDone stack sets asked [] most trees spare
     → IsAccepted stack sets asked trees × AreNeeded stack sets trees × (node_count trees ≤ most)
 accepted stack sets asked most spare trees h =
     let room = h.room in (
@@ -74,29 +69,29 @@ written stack sets trees good = All-weaker (IsGoodTree stack sets) (λ (tree : G
 -- ---- the trees have more nodes than the limit
 
 -- a goal with a bare leaf
-abbrev bare : Goal → GoalOf
+abbrev bare : GoalSeen → GoalOf
 bare goal = record { goal = goal; nodes = BagAt (record { 0 = 0 }) ∷ [] }
 
-goals_in-bare : (goals : List Goal) → goals_in (map bare goals) ≡ goals
+goals_in-bare : (goals : List GoalSeen) → goals_in (map bare goals) ≡ goals
 goals_in-bare [] = refl
-goals_in-bare (goal ∷ goals) = ap (λ (others : List Goal). goal ∷ others) (goals_in-bare goals)
+goals_in-bare (goal ∷ goals) = ap (λ (others : List GoalSeen). goal ∷ others) (goals_in-bare goals)
 
-node_count-bare : (goals : List Goal) → node_count (map bare goals) ≡ length goals
+node_count-bare : (goals : List GoalSeen) → node_count (map bare goals) ≡ length goals
 node_count-bare [] = refl
 node_count-bare (goal ∷ goals) = let e = node_count-bare goals in omega (arith, e)
 
 -- nothing is said of leaves
-have-needed-bare : (stack : List LayerOf) (sets : List SetOf) (goals : List Goal) → All (HasNeeded stack sets) (map bare goals)
+have-needed-bare : (stack : List LayerOf) (sets : List SetOf) (goals : List GoalSeen) → All (HasNeeded stack sets) (map bare goals)
 have-needed-bare stack sets goals = All-map (HasNeeded stack sets) bare goals (λ k d within. (tt, tt))
 
-pub more-goals : (stack : List LayerOf) (sets : List SetOf) (asked : List Goal) (most : ℕ) → most < length asked
+pub more-goals : (stack : List LayerOf) (sets : List SetOf) (asked : List GoalSeen) (most : ℕ) → most < length asked
     → (trees : List GoalOf) × (goals_in trees ≡ asked) × AreNeeded stack sets trees × (most < node_count trees)
 more-goals stack sets asked most more =
     let count = node_count-bare asked in
     (map bare asked, goals_in-bare asked, (λ g tree is. all-at (HasNeeded stack sets) (map bare asked) g tree (have-needed-bare stack sets asked) is), omega (arith, count))
 
 -- the trees so far, a large one, and a leaf for each goal behind it
-pub too-large : (stack : List LayerOf) (sets : List SetOf) (asked left : List Goal) (most spare : ℕ) (done : List GoalOf) (tree : GoalOf) → AreDone stack sets asked (tree.goal ∷ left) most done spare
+pub too-large : (stack : List LayerOf) (sets : List SetOf) (asked left : List GoalSeen) (most spare : ℕ) (done : List GoalOf) (tree : GoalOf) → AreDone stack sets asked (tree.goal ∷ left) most done spare
     → HasNeeded stack sets tree → spare + 1 < length tree.nodes → (trees : List GoalOf) × (goals_in trees ≡ asked) × AreNeeded stack sets trees × (most < node_count trees)
 too-large stack sets asked left most spare done tree h needed more =
     let trees = done ++ tree ∷ map bare left in
@@ -105,25 +100,21 @@ too-large stack sets asked left most spare done tree h needed more =
     let bare_count = node_count-bare left in
     let room = h.room in (
       trees,
-      map-append (λ (t : GoalOf). t.goal) done (tree ∷ map bare left) ∙ ap (λ (others : List Goal). goals_in done ++ (tree.goal ∷ others)) (goals_in-bare left) ∙ h.goals,
+      map-append (λ (t : GoalOf). t.goal) done (tree ∷ map bare left) ∙ ap (λ (others : List GoalSeen). goals_in done ++ (tree.goal ∷ others)) (goals_in-bare left) ∙ h.goals,
       (λ g t is. all-at (HasNeeded stack sets) trees g t all is),
       omega (arith, count, bare_count, room),
     )
 
 -- ---- the next goal ends at no value
 
-next-goal : (stack : List LayerOf) (sets : List SetOf) (asked left : List Goal) (most spare : ℕ) (done : List GoalOf) (goal : Goal) → AreDone stack sets asked (goal ∷ left) most done spare → slice_get asked (length done) ≡ Some goal
+next-goal : (stack : List LayerOf) (sets : List SetOf) (asked left : List GoalSeen) (most spare : ℕ) (done : List GoalOf) (goal : GoalSeen) → AreDone stack sets asked (goal ∷ left) most done spare → slice_get asked (length done) ≡ Some goal
 next-goal stack sets asked left most spare done goal h =
-    ap (λ (goals : List Goal). slice_get goals (length done)) (sym h.goals) ∙ ap (slice_get (goals_in done ++ goal ∷ left)) (sym (length-map done (λ (t : GoalOf). t.goal))) ∙ slice_get-middle (goals_in done) left goal
+    ap (λ (goals : List GoalSeen). slice_get goals (length done)) (sym h.goals) ∙ ap (slice_get (goals_in done ++ goal ∷ left)) (sym (length-map done (λ (t : GoalOf). t.goal))) ∙ slice_get-middle (goals_in done) left goal
 
-pub no-value : (stack : List LayerOf) (sets : List SetOf) (asked left : List Goal) (most spare : ℕ) (done : List GoalOf) (id : ResId) (d : List ℕ) (end : End) → AreDone stack sets asked (Id id ∷ left) most done spare
-    → IsCounterexampleOf (trace_of stack references_followed id.0) sets d end → (goal : Goal) × (slice_get asked (length done) ≡ Some goal) × IsCounterexample stack sets goal d end
-no-value stack sets asked left most spare done id d end h e = (
-  Id id,
-  next-goal stack sets asked left most spare done (Id id) h,
-  record {
-    member = e.member;
-    ends = is_the_end stack references_followed id.0 d end (sym e.ends);
-    no_value = e.no_value;
-  },
+pub no-value : (stack : List LayerOf) (sets : List SetOf) (asked left : List GoalSeen) (most spare : ℕ) (done : List GoalOf) (goal : GoalSeen) (d : List ℕ) (end : End) → AreDone stack sets asked (goal ∷ left) most done spare
+    → IsCounterexampleOf (goal_trace stack goal) sets d end → (g : GoalSeen) × (slice_get asked (length done) ≡ Some g) × IsCounterexample stack sets g d end
+no-value stack sets asked left most spare done goal d end h e = (
+  goal,
+  next-goal stack sets asked left most spare done goal h,
+  record { member = e.member; ends = rules_end stack goal d end e.ends; no_value = e.no_value },
 )

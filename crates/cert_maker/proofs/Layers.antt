@@ -21,7 +21,7 @@ use Rattle.cert_checker.specs.reference_resolver.Ends.{is_reference, next_of, en
 abbrev IsBelow : ℕ → CandOf → Type 0
 IsBelow count candidate = candidate.layer < count
 
-abbrev BestBelow : ℕ → Option CandOf → Type 0
+abbrev pub BestBelow : ℕ → Option CandOf → Type 0
 BestBelow count None = Unit {0}
 BestBelow count (Some candidate) = IsBelow count candidate
 
@@ -61,7 +61,7 @@ best-below count best (candidate ∷ candidates) d b all =
     best-below count (best_after (step_of best candidate d) best candidate) candidates d
     (after-below count (step_of best candidate d) best candidate b (All-head (IsBelow count) candidate candidates all)) (All-tail (IsBelow count) candidate candidates all)
 
-selected-below : (count : ℕ) (stack : List LayerOf) (id : ℕ) (d : List ℕ) → length stack ≤ count → BestBelow count (selected stack id d)
+pub selected-below : (count : ℕ) (stack : List LayerOf) (id : ℕ) (d : List ℕ) → length stack ≤ count → BestBelow count (selected stack id d)
 unfolding selected candidates_of
 selected-below count stack id d few = best-below count None (candidates_from 0 stack id) d tt (layers-below count 0 stack id (omega arith))
 

@@ -4,8 +4,7 @@ use Rattle.std.specs.Prelude.{slice_get}
 use Rattle.cert_checker.specs.config_record.declared.coord.Coord.{Coord}
 use Rattle.cert_checker.specs.overlay_map.Layer.{LayerOf}
 use Rattle.cert_checker.specs.box_answers.NumberSet.{SetOf}
-use Rattle.cert_checker.specs.cert_tree.declared.goal.Goal.{Goal}
-use Rattle.cert_checker.specs.cert_tree.Certificate.{GoalOf, node_count}
+use Rattle.cert_checker.specs.cert_tree.Certificate.{GoalSeen, GoalOf, node_count}
 use Rattle.cert_checker.specs.Fails.{NoRuleFails}
 use Rattle.cert_checker.specs.FirstFault.{goal_trace, goals_in, NoRuleFailsIn}
 use Rattle.cert_maker.specs.Needed.{IsNeeded}
@@ -33,12 +32,12 @@ fewer stack sets c d (tree ∷ trees) [] l e needed ok = absurd (let same = ap l
 fewer stack sets c d (tree ∷ trees) (other ∷ others) l e needed ok =
     let same : tree.goal ≡ other.goal = cc in
     let rest : goals_in trees ≡ goals_in others = cc in
-    let passes : NoRuleFails (goal_trace stack tree.goal) sets other.nodes = subst (λ (goal : Goal). NoRuleFails (goal_trace stack goal) sets other.nodes) (sym same) (ok 0 other refl) in
+    let passes : NoRuleFails (goal_trace stack tree.goal) sets other.nodes = subst (λ (goal : GoalSeen). NoRuleFails (goal_trace stack goal) sets other.nodes) (sym same) (ok 0 other refl) in
     let here = least stack tree.goal sets c d tree.nodes other.nodes l (needed 0 tree refl) passes in
     let behind = fewer stack sets c d trees others l rest (λ g t is. needed (suc g) t is) (λ g t is. ok (suc g) t is) in
     omega (arith, here, behind)
 
-pub made-least : (stack : List LayerOf) (sets : List SetOf) (asked : List Goal) (most : ℕ) (made : Made) → IsMade stack sets asked most made → IsLeast stack sets asked most made
+pub made-least : (stack : List LayerOf) (sets : List SetOf) (asked : List GoalSeen) (most : ℕ) (made : Made) → IsMade stack sets asked most made → IsLeast stack sets asked most made
 made-least stack sets asked most (Cert certificate) h = λ c d l g tree is. least-tree stack sets c d tree l (h.1 g tree is) (h.0.passes g tree is)
 made-least stack sets asked most (Counter g device end) h = tt
 made-least stack sets asked most NodeLimit h = λ c d l trees ok.

@@ -3,7 +3,7 @@ use Rattle.std.proofs.Common.{arith}
 use Rattle.cert_checker.specs.FirstFault.{goal_trace}
 use Rattle.cert_maker.specs.LeastTree.{NeededIsSmall, AcceptedIsLarge, NeededIsLeast}
 use Rattle.cert_maker.proofs.Passing.{passes-walk}
-use Rattle.cert_maker.proofs.ByNumbers.{goal-by-numbers}
+use Rattle.cert_maker.proofs.AttributeNumbers.{goal-by-numbers}
 use Rattle.cert_maker.proofs.OneLine.{needed-is-small, accepted-is-large}
 
 pub small : NeededIsSmall

@@ -4,10 +4,12 @@ pub mod Lines
 pub mod Counting
 pub mod Passing
 pub mod ByNumbers
+pub mod AttributeNumbers
 pub mod OneLine
 pub mod LeastTree
 pub mod OneMember
 pub mod Layers
+pub mod AttributeLayers
 pub mod Parts
 pub mod Steps
 pub mod Loop

@@ -4,17 +4,18 @@ use Rattle.std.specs.List.{All}
 use Rattle.cert_checker.specs.config_record.DeviceSeen.{device_numbers}
 use Rattle.cert_checker.specs.reference_resolver.declared.end.End.{End}
 use Rattle.cert_checker.specs.overlay_map.Layer.{LayerOf}
-use Rattle.cert_checker.specs.reference_resolver.Trace.{Trace, trace_of}
+use Rattle.cert_checker.specs.reference_resolver.Trace.{Trace}
 use Rattle.cert_checker.specs.box_trace.declared.open_box.OpenBox.{OpenBox}
 use Rattle.cert_checker.specs.box_trace.OpenBox.{boxes_of, IsReached}
 use Rattle.cert_checker.specs.box_answers.NumberSet.{SetOf}
 use Rattle.cert_checker.specs.box_answers.Members.{IsMember}
 use Rattle.cert_checker.specs.config_box.Tests.{TestOf}
-use Rattle.cert_checker.specs.cert_tree.Certificate.{NodeOf, NodeFits, node_of}
+use Rattle.cert_checker.specs.cert_tree.Certificate.{GoalSeen, NodeOf, NodeFits, node_of}
 use Rattle.cert_checker.specs.declared.rule.Rule.{Rule}
 use Rattle.cert_checker.specs.Paths.{Path, IsAt, after}
-use Rattle.cert_checker.specs.reference_resolver.Ends.{references_followed, is_value}
+use Rattle.cert_checker.specs.reference_resolver.Ends.{is_value}
 use Rattle.cert_checker.specs.Fails.{FailsAtTest, FailsAtNode, NoRuleFails}
+use Rattle.cert_checker.specs.FirstFault.{goal_trace}
 use Rattle.cert_checker.specs.OpenBoxes.{IsBoxAt, Stand}
 use Rattle.cert_maker.specs.Needed.{IsNeededAt, IsNeeded}
 use Rattle.cert_maker.specs.declared.tree.Grown.{Grown}
@@ -39,12 +40,12 @@ Grows trace part old new before after_it =
     (sets : List SetOf) (path : Path) (paths : List Path) → IsBoxAt sets path part → Stand sets (reverse before) paths
     → AddsNode trace sets path paths old new (reverse after_it)
 
--- Whatever the id is: the tree grows, and each open box has its walk.
+-- Whatever the goal is: the tree grows, and each open box has its walk.
 abbrev pub GrowsOn : List LayerOf → OpenBox → List NodeOf → List NodeOf → List OpenBox → List OpenBox → Type 0
 GrowsOn stack part old new before after_it =
-    (id : ℕ) → IsReached stack (trace_of stack references_followed id) part → All (IsReached stack (trace_of stack references_followed id)) before
-    → Grows (trace_of stack references_followed id) part.members old new (boxes_of before) (boxes_of after_it)
-    × All (IsReached stack (trace_of stack references_followed id)) after_it
+    (goal : GoalSeen) → IsReached stack (goal_trace stack goal) part → All (IsReached stack (goal_trace stack goal)) before
+    → Grows (goal_trace stack goal) part.members old new (boxes_of before) (boxes_of after_it)
+    × All (IsReached stack (goal_trace stack goal)) after_it
 
 -- a member for which the goal ends at no value
 pub record IsCounterexampleOf (trace : List ℕ → Trace) (sets : List SetOf) (d : List ℕ) (end : End) : Type 0 where

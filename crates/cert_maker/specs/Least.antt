@@ -3,8 +3,7 @@ use Rattle.std.specs.Prelude.{◌≡◌, ℕ, ◌+◌, ◌*◌, ◌<◌, ◌≤�
 use Rattle.cert_checker.specs.config_record.declared.coord.Coord.{Coord}
 use Rattle.cert_checker.specs.overlay_map.Layer.{LayerOf}
 use Rattle.cert_checker.specs.box_answers.NumberSet.{SetOf}
-use Rattle.cert_checker.specs.cert_tree.declared.goal.Goal.{Goal}
-use Rattle.cert_checker.specs.cert_tree.Certificate.{NodeOf, GoalOf, goals_of, node_count}
+use Rattle.cert_checker.specs.cert_tree.Certificate.{GoalSeen, NodeOf, GoalOf, goals_of, node_count}
 use Rattle.cert_checker.specs.Fails.{NoRuleFails}
 use Rattle.cert_checker.specs.FirstFault.{goal_trace, IsAccepted}
 use Rattle.cert_maker.specs.Runs.{runs_along, IsOnLine}
@@ -17,7 +16,7 @@ pub record IsLeastTree (stack : List LayerOf) (sets : List SetOf) (c : Coord) (d
   pub least : (other : List NodeOf) → NoRuleFails (goal_trace stack tree.goal) sets other → length tree.nodes ≤ length other
 
 -- each tree is the least; or no certificate within the limit is accepted
-abbrev pub IsLeast : List LayerOf → List SetOf → List Goal → ℕ → Made → Type 0
+abbrev pub IsLeast : List LayerOf → List SetOf → List GoalSeen → ℕ → Made → Type 0
 IsLeast stack sets asked most (Cert certificate) =
     (c : Coord) (d : List ℕ) → IsOnLine sets c d → (g : ℕ) (tree : GoalOf) → slice_get (goals_of certificate) g ≡ Some tree → IsLeastTree stack sets c d tree
 IsLeast stack sets asked most (Counter g device end) = Unit {0}

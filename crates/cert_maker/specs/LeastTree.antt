@@ -4,8 +4,7 @@ use Rattle.cert_checker.specs.config_record.declared.coord.Coord.{Coord}
 use Rattle.cert_checker.specs.overlay_map.Layer.{LayerOf}
 use Rattle.cert_checker.specs.box_answers.NumberSet.{SetOf}
 use Rattle.cert_checker.specs.box_answers.Members.{IsBox}
-use Rattle.cert_checker.specs.cert_tree.declared.goal.Goal.{Goal}
-use Rattle.cert_checker.specs.cert_tree.Certificate.{NodeOf}
+use Rattle.cert_checker.specs.cert_tree.Certificate.{GoalSeen, NodeOf}
 use Rattle.cert_checker.specs.Fails.{NoRuleFails}
 use Rattle.cert_checker.specs.FirstFault.{goal_trace}
 use Rattle.cert_maker.specs.Needed.{IsNeeded}
@@ -18,17 +17,17 @@ HasMember = (sets : List SetOf) (c : Coord) → IsBox sets → VariesAlone sets 
 -- a tree whose tests are needed has at most twice as many nodes as there are runs, less one
 abbrev pub NeededIsSmall : Type 0
 NeededIsSmall =
-    (stack : List LayerOf) (goal : Goal) (sets : List SetOf) (c : Coord) (d : List ℕ) (nodes : List NodeOf) → IsOnLine sets c d
+    (stack : List LayerOf) (goal : GoalSeen) (sets : List SetOf) (c : Coord) (d : List ℕ) (nodes : List NodeOf) → IsOnLine sets c d
     → IsNeeded (goal_trace stack goal) sets nodes → length nodes + 1 ≤ 2 * runs_along (goal_trace stack goal) sets c d
 
 -- and a tree of which no rule fails has at least as many
 abbrev pub AcceptedIsLarge : Type 0
 AcceptedIsLarge =
-    (stack : List LayerOf) (goal : Goal) (sets : List SetOf) (c : Coord) (d : List ℕ) (nodes : List NodeOf) → IsOnLine sets c d
+    (stack : List LayerOf) (goal : GoalSeen) (sets : List SetOf) (c : Coord) (d : List ℕ) (nodes : List NodeOf) → IsOnLine sets c d
     → NoRuleFails (goal_trace stack goal) sets nodes → 2 * runs_along (goal_trace stack goal) sets c d ≤ length nodes + 1
 
 -- so no tree that is accepted has fewer nodes than one whose tests are needed
 abbrev pub NeededIsLeast : Type 0
 NeededIsLeast =
-    (stack : List LayerOf) (goal : Goal) (sets : List SetOf) (c : Coord) (d : List ℕ) (needed accepted : List NodeOf) → IsOnLine sets c d
+    (stack : List LayerOf) (goal : GoalSeen) (sets : List SetOf) (c : Coord) (d : List ℕ) (needed accepted : List NodeOf) → IsOnLine sets c d
     → IsNeeded (goal_trace stack goal) sets needed → NoRuleFails (goal_trace stack goal) sets accepted → length needed ≤ length accepted

@@ -1,6 +1,7 @@
 //! A certificate for all goals.
 
-ghost use Rattle.std.specs.Prelude.{IfOk};
+ghost use Rattle.std.specs.Prelude.{IfOk, map};
+ghost use Rattle.cert_checker.specs.cert_tree.Certificate.{goal_seen};
 ghost use Rattle.cert_maker.specs.Made.{IsMade, CanBeWritten};
 ghost use Rattle.cert_maker.specs.Least.{IsLeast};
 
@@ -19,8 +20,8 @@ pub fn make(
     asked: &[Goal],
     max_nodes: u32,
 ) -> Result<Made, OutOfMemory>
-    ensures made { IfOk result (IsMade stack.now members.now asked.now max_nodes) }
-    ensures least { IfOk result (IsLeast stack.now members.now asked.now max_nodes) }
+    ensures made { IfOk result (IsMade stack.now members.now (map goal_seen asked.now) max_nodes) }
+    ensures least { IfOk result (IsLeast stack.now members.now (map goal_seen asked.now) max_nodes) }
     ensures fits { IfOk result CanBeWritten }
 {
     make_watched(alloc, stack, members, asked, max_nodes, &mut Unwatched)
@@ -35,8 +36,8 @@ pub fn make_watched<P: Progress>(
     max_nodes: u32,
     progress: &mut P,
 ) -> Result<Made, OutOfMemory>
-    ensures made { IfOk result (IsMade stack.now members.now asked.now max_nodes) }
-    ensures least { IfOk result (IsLeast stack.now members.now asked.now max_nodes) }
+    ensures made { IfOk result (IsMade stack.now members.now (map goal_seen asked.now) max_nodes) }
+    ensures least { IfOk result (IsLeast stack.now members.now (map goal_seen asked.now) max_nodes) }
     ensures fits { IfOk result CanBeWritten }
 {
     // The tree of each goal has one node at least.
@@ -48,8 +49,7 @@ pub fn make_watched<P: Progress>(
         spare,
     };
     for (place, goal) in asked.iter().enumerate() {
-        let Goal::Id(id) = goal;
-        if let Some(made) = trees.add(alloc, stack, members, *id)? {
+        if let Some(made) = trees.add(alloc, stack, members, goal)? {
             return Ok(made);
         }
         progress.goals_done(place + 1, asked.len());

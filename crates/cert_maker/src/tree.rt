@@ -1,12 +1,12 @@
 //! The tree of one goal.
 
 ghost use Rattle.std.specs.Prelude.{IfOk};
-ghost use Rattle.cert_checker.specs.reference_resolver.Ends.{references_followed};
-ghost use Rattle.cert_checker.specs.reference_resolver.Trace.{trace_of};
+ghost use Rattle.cert_checker.specs.cert_tree.Certificate.{goal_seen};
+ghost use Rattle.cert_checker.specs.FirstFault.{goal_trace};
 ghost use Rattle.cert_maker.specs.Growth.{IsGrown};
 
 use crate::growth::add_node;
-use cert_checker::{ConfigBox, Device, End, Node, OpenBox, OpenBoxes, OutOfMemory, ResId, Stack};
+use cert_checker::{ConfigBox, Device, End, Goal, Node, OpenBoxes, OutOfMemory, Stack, goal_box};
 use std::alloc::Global;
 
 /// What became of a tree.
@@ -14,26 +14,26 @@ use std::alloc::Global;
 pub(crate) enum Grown {
     /// A tree of which no rule fails.
     Tree(Vec<Node>),
-    /// A device for which the id ends at no value and no bag, and where it ends.
+    /// A device for which the goal ends at no value and no bag, and where it ends.
     Counterexample(Device, End),
     /// The tree has more nodes than allowed.
     TooLarge,
 }
 
-/// The tree of an id for a box, of at most so many nodes. The boxes of open paths are kept in a list, the next one
+/// The tree of a goal for a box, of at most so many nodes. The boxes of open paths are kept in a list, the next one
 /// last. Each of them needs at least one node, so a tree is given up where its nodes and the open boxes together
 /// exceed the limit.
 pub(crate) fn grow_tree(
     alloc: Global,
     stack: &Stack<'_>,
-    id: ResId,
+    goal: &Goal,
     members: &ConfigBox,
     most: usize,
 ) -> Result<Grown, OutOfMemory>
-    ensures { IfOk result (IsGrown (trace_of stack.now references_followed id.0) members.now most) }
+    ensures { IfOk result (IsGrown (goal_trace stack.now (goal_seen goal.now)) members.now most) }
 {
     let mut nodes = Vec::new(alloc);
-    let whole = OpenBox::whole(alloc, stack, id, members.shared(alloc)?)?;
+    let whole = goal_box(alloc, stack, goal, members.shared(alloc)?)?;
     let mut open_boxes = OpenBoxes::new(alloc);
     open_boxes.push(whole)?;
     'boxes: while let Some(part) = open_boxes.pop() {

@@ -1,11 +1,12 @@
 //! The trees of all goals.
 
-ghost use Rattle.std.specs.Prelude.{◌<◌, ◌^◌, IfOk};
+ghost use Rattle.std.specs.Prelude.{◌≡◌, ◌<◌, ◌^◌, IfOk};
+ghost use Rattle.cert_checker.specs.cert_tree.Certificate.{goal_seen};
 ghost use Rattle.cert_maker.specs.Trees.{TakesGoal};
 
 use crate::made::Made;
 use crate::tree::{Grown, grow_tree};
-use cert_checker::{CertGoal, ConfigBox, Goal, OutOfMemory, ResId, Stack};
+use cert_checker::{CertGoal, ConfigBox, Goal, OutOfMemory, Stack};
 use std::alloc::Global;
 
 /// The trees of the first goals.
@@ -17,24 +18,22 @@ pub(crate) struct Trees {
 }
 
 impl Trees {
-    /// Adds the tree of the next goal, an id. `Some` ends the work: a device without a value, or the limit.
+    /// Adds the tree of the next goal. `Some` ends the work: a device without a value, or the limit.
     pub(crate) fn add(
         &mut self,
         alloc: Global,
         stack: &Stack<'_>,
         members: &ConfigBox,
-        id: ResId,
+        goal: &Goal,
     ) -> Result<Option<Made>, OutOfMemory>
         requires { self.old.spare < 2 ^ 32 }
-        ensures { IfOk result (TakesGoal stack.now members.now (Goal.Id id) self.old self.new) }
+        ensures { IfOk result (TakesGoal stack.now members.now (goal_seen goal.now) self.old self.new) }
     {
-        match grow_tree(alloc, stack, id, members, self.spare + 1)? {
+        match grow_tree(alloc, stack, goal, members, self.spare + 1)? {
             Grown::Tree(nodes) => {
                 self.spare = self.spare + 1 - nodes.len();
-                self.grown.push(CertGoal {
-                    goal: Goal::Id(id),
-                    nodes,
-                })?;
+                let goal = copied(goal)?;
+                self.grown.push(CertGoal { goal, nodes })?;
                 Ok(None)
             }
             Grown::Counterexample(device, ending) => {
@@ -48,4 +47,11 @@ impl Trees {
             Grown::TooLarge => Ok(Some(Made::NodeLimit)),
         }
     }
+}
+
+// The same goal, with styles of its own.
+fn copied(goal: &Goal) -> Result<Goal, OutOfMemory>
+    ensures { IfOk result (λ copied. goal_seen copied ≡ goal_seen goal.now) }
+{
+    goal.clone()
 }

@@ -1,6 +1,7 @@
 //! Worked rows of what `check` and `make` print.
 
 mod accepted;
+mod attributes;
 mod command;
 mod goals;
 mod live;

@@ -2,7 +2,7 @@ use Rattle.std.proofs.Common.{◌≡◌, ℕ, ◌<◌, List, length, map, get_or
 use Rattle.std.specs.Prelude.{slice_get}
 use Rattle.std.proofs.lemmas.List.{length-map}
 use Rattle.cert_tree.specs.declared.cert.CertGoal.{CertGoal}
-use Rattle.cert_tree.specs.Certificate.{goal_of, goals_of}
+use Rattle.cert_tree.specs.Certificate.{goal_seen, goal_of, goals_of}
 use Rattle.cert_checker.specs.declared.failure.Failure.{Failure}
 use Rattle.cert_checker.specs.declared.verdict.Verdict.TheVariants.{Accepted}
 use Rattle.cert_checker.specs.FirstFault.{goal_trace, goals_in, IsAccepted}
@@ -22,9 +22,9 @@ returns-in-Some-2-clause-verdict c =
     let tree = goal_of c.tree-item.result in
     let l = c.loop-goal in
     let at = tree_at items c.deref-tree-items.result.now l.goal c.tree-item.result c.deref-tree-items.ensures.value c.loop-goal-test.true c.tree-item.is in
-    let same : goals_in (goals_of c.args.certificate.now) ≡ c.args.asked.now = subst (λ (xs : List CertGoal). goals_in (map goal_of xs) ≡ c.args.asked.now) c.as_slice.ensures.value c.in_default.ensures in
+    let same : goals_in (goals_of c.args.certificate.now) ≡ (map goal_seen c.args.asked.now) = subst (λ (xs : List CertGoal). goals_in (map goal_of xs) ≡ (map goal_seen c.args.asked.now)) c.as_slice.ensures.value c.in_default.ensures in
     let found = subst (λ (o : Option (ℕ × Failure)). IsOutcome (goal_trace c.args.stack.now tree.goal) c.args.members.now tree.nodes o) c.in-Some-2.is c.in_ok-node.ensures in
-    rejected c.args.stack.now c.args.members.now c.args.asked.now (goals_of c.args.certificate.now) l.goal c.in-Some-2.node tree c.in-Some-2.failure.rule c.in-Some-2.failure.shown same at l.invariant found.0 found.1
+    rejected c.args.stack.now c.args.members.now (map goal_seen c.args.asked.now) (goals_of c.args.certificate.now) l.goal c.in-Some-2.node tree c.in-Some-2.failure.rule c.in-Some-2.failure.shown same at l.invariant found.0 found.1
 
 pub returns-in-Some-2-clause-headline : goal.returns-in-Some-2-clause-headline
 returns-in-Some-2-clause-headline c = (returns-in-Some-2-clause-verdict c).0
@@ -37,15 +37,15 @@ loop-goal-preserved c =
     passed_tree c.args.stack.now c.args.members.now (goals_of c.args.certificate.now) l.goal tree at l.invariant
     (subst (λ (o : Option (ℕ × Failure)). IsOutcome (goal_trace c.args.stack.now tree.goal) c.args.members.now tree.nodes o) c.in_default-2.is c.in_ok-node.ensures)
 
-accepted : (c : goal.After-loop-goal) → IsAccepted c.args.stack.now c.args.members.now c.args.asked.now (goals_of c.args.certificate.now)
+accepted : (c : goal.After-loop-goal) → IsAccepted c.args.stack.now c.args.members.now (map goal_seen c.args.asked.now) (goals_of c.args.certificate.now)
 accepted c =
     let items = c.args.certificate.now.goals.items in
-    let same : goals_in (goals_of c.args.certificate.now) ≡ c.args.asked.now = subst (λ (xs : List CertGoal). goals_in (map goal_of xs) ≡ c.args.asked.now) c.as_slice.ensures.value c.in_default.ensures in
+    let same : goals_in (goals_of c.args.certificate.now) ≡ (map goal_seen c.args.asked.now) = subst (λ (xs : List CertGoal). goals_in (map goal_of xs) ≡ (map goal_seen c.args.asked.now)) c.as_slice.ensures.value c.in_default.ensures in
     let count : length c.deref-tree-items.result.now ≡ length items = ap (λ (xs : List CertGoal). length xs) c.deref-tree-items.ensures.value in
-    all_passed c.args.stack.now c.args.members.now c.args.asked.now (goals_of c.args.certificate.now) c.loop-goal.goal same (omega (arith, count, length-map items goal_of)) c.loop-goal.invariant
+    all_passed c.args.stack.now c.args.members.now (map goal_seen c.args.asked.now) (goals_of c.args.certificate.now) c.loop-goal.goal same (omega (arith, count, length-map items goal_of)) c.loop-goal.invariant
 
 pub returns-clause-verdict : goal.returns-clause-verdict
 returns-clause-verdict c = accepted c
 
 pub returns-clause-headline : goal.returns-clause-headline
-returns-clause-headline c = headline c.args.stack.now c.args.members.now c.args.asked.now (goals_of c.args.certificate.now) (Ok Accepted) (accepted c)
+returns-clause-headline c = headline c.args.stack.now c.args.members.now (map goal_seen c.args.asked.now) (goals_of c.args.certificate.now) (Ok Accepted) (accepted c)

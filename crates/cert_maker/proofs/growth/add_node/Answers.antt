@@ -1,8 +1,7 @@
 use Rattle.std.proofs.Common.{ℕ, List, map, arith, sym, ap, subst}
 use Rattle.cert_checker.specs.config_record.DeviceSeen.{device_numbers}
 use Rattle.cert_checker.specs.overlay_map.Layer.{most_layers}
-use Rattle.cert_checker.specs.reference_resolver.Ends.{references_followed}
-use Rattle.cert_checker.specs.reference_resolver.Trace.{Trace, trace_of}
+use Rattle.cert_checker.specs.reference_resolver.Trace.{Trace}
 use Rattle.cert_checker.specs.box_answers.NumberSet.{SetOf}
 use Rattle.cert_checker.specs.box_answers.Members.{IsCorner}
 use Rattle.cert_checker.specs.box_trace.declared.common.CommonTrace.{CommonTrace}
@@ -10,15 +9,16 @@ use Rattle.cert_checker.specs.box_trace.CommonTrace.{IsCommonTrace}
 use Rattle.cert_checker.specs.box_trace.Parting.{IsParting}
 use Rattle.cert_checker.specs.box_trace.OpenBox.{boxes_of}
 use Rattle.cert_checker.specs.cert_tree.Certificate.{node_of}
+use Rattle.cert_checker.specs.FirstFault.{goal_trace}
 use Rattle.cert_checker.proofs.box_trace.OpenBoxes.{rest_of, reached_there}
 use Rattle.cert_maker.specs.Growth.{Grows}
-use Rattle.cert_maker.proofs.Layers.{end-below}
+use Rattle.cert_maker.proofs.AttributeLayers.{goal-below}
 use Rattle.cert_maker.proofs.Steps.{grows-leaf, map-push}
 use Rattle.cert_maker.proofs.growth.add_node.Goals as goal
 
 pub returns-in-Some-clause-grows : goal.returns-in-Some-clause-grows
-returns-in-Some-clause-grows c = λ id reached all.
-    let trace : List ℕ → Trace = trace_of c.args.stack.now references_followed id in
+returns-in-Some-clause-grows c = λ goal reached all.
+    let trace : List ℕ → Trace = goal_trace c.args.stack.now goal in
     let part = c.args.part.members in
     let common = subst (λ (k : CommonTrace). IsCommonTrace k part trace) c.in-One.is (c.in_ok-end.ensures.common trace reached) in
     let t : Trace = record { steps = common.0; end = c.in-One.end } in (
@@ -27,7 +27,7 @@ returns-in-Some-clause-grows c = λ id reached all.
           (map-push node_of c.args.nodes.now.items c.push.new.self.items c.in-Some.leaf c.in_ok-push-in-Some.ensures.items)
           common.1
           c.in-Some.ensures
-          (λ d. end-below most_layers c.args.stack.now references_followed id d (omega arith)),
+          (λ d. goal-below most_layers c.args.stack.now goal d (omega arith)),
       all,
     )
 
@@ -57,8 +57,8 @@ add_test-requires-clause-asked c =
     (c.in_ok-test-in-Mixed.ensures.needed rest (subst (λ (sets : List SetOf). IsParting c.in-Mixed.parting sets rest) (sym c.in_ok-end.ensures.members) parted).trace_tells).passes
 
 pub returns-clause-grows : goal.returns-clause-grows
-returns-clause-grows c = λ id reached all.
-    let trace : List ℕ → Trace = trace_of c.args.stack.now references_followed id in
+returns-clause-grows c = λ goal reached all.
+    let trace : List ℕ → Trace = goal_trace c.args.stack.now goal in
     let part = c.args.part.members in
     let parted = subst (λ (k : CommonTrace). IsCommonTrace k part trace) c.in-Mixed.is (c.in_ok-end.ensures.common trace reached) in
     let tells = (subst (λ (sets : List SetOf). IsParting c.in-Mixed.parting sets trace) (sym c.in_ok-end.ensures.members) parted).trace_tells in

@@ -1,16 +1,15 @@
 use Rattle.std.proofs.Common.{◌-◌, ◌≤◌, length, map, reverse}
 use Rattle.std.specs.List.{All}
-use Rattle.cert_checker.specs.reference_resolver.Ends.{references_followed}
-use Rattle.cert_checker.specs.reference_resolver.Trace.{trace_of}
 use Rattle.cert_checker.specs.box_trace.OpenBox.{boxes_of, IsReached}
-use Rattle.cert_checker.specs.cert_tree.Certificate.{node_of}
+use Rattle.cert_checker.specs.cert_tree.Certificate.{node_of, goal_seen}
+use Rattle.cert_checker.specs.FirstFault.{goal_trace}
 use Rattle.cert_maker.proofs.Loop.{Going}
 use Rattle.cert_maker.proofs.tree.grow_tree.Given as goal
 
 abbrev pub invariant-boxes : goal.invariant-boxes
 invariant-boxes l = record {
-  going : Going (trace_of l.stack references_followed l.fn.id.0) l.members (map node_of l.nodes.items) (reverse (boxes_of l.open_boxes));
-  reached : All (IsReached l.stack (trace_of l.stack references_followed l.fn.id.0)) l.open_boxes;
+  going : Going (goal_trace l.stack (goal_seen l.goal)) l.members (map node_of l.nodes.items) (reverse (boxes_of l.open_boxes));
+  reached : All (IsReached l.stack (goal_trace l.stack (goal_seen l.goal))) l.open_boxes;
   within : length l.nodes.items ≤ l.fn.most;
 }
 

@@ -1,0 +1,28 @@
+//! The whole box, for a goal of either kind.
+
+ghost use Rattle.std.specs.Prelude.{◌≡◌, IfOk};
+ghost use Rattle.box_trace.specs.OpenBox.{IsReached};
+ghost use Rattle.cert_tree.specs.Certificate.{goal_seen};
+ghost use Rattle.cert_checker.specs.FirstFault.{goal_trace};
+
+use box_trace::{OpenBox, Stack};
+use cert_tree::{ConfigBox, Goal, OutOfMemory};
+use std::alloc::Global;
+
+/// A whole box, where nothing of a goal is asked yet.
+pub fn goal_box<'a, 's>(
+    alloc: Global,
+    stack: &Stack<'a>,
+    goal: &'s Goal,
+    members: ConfigBox,
+) -> Result<OpenBox<'a, 's>, OutOfMemory>
+    ensures members { IfOk result (λ part. part.members ≡ members) }
+    ensures reached { IfOk result (IsReached stack.now (goal_trace stack.now (goal_seen goal.now))) }
+{
+    match goal {
+        Goal::Id(id) => OpenBox::whole(alloc, stack, *id, members),
+        Goal::Attr { attr, styles } => {
+            OpenBox::whole_of_attribute(alloc, stack, *attr, styles.as_slice(), members)
+        }
+    }
+}
