@@ -15,14 +15,6 @@ cat >densities <<'END'
 {"density":{"from":120,"to":640},"locale":["de-DE"],"sdk":[27],"smallestWidthDp":[360],"widthDp":[360],"heightDp":[640],
  "screenSize":[2],"orientation":[1],"night":[2]}
 END
-cat >phones <<'END'
-{"density":[160,240,320,400,480,640],"sdk":{"from":26,"to":30},"night":[1,2],"orientation":[1,2],
- "screenSize":{"from":2,"to":4},"smallestWidthDp":{"from":320,"to":840},"widthDp":{"from":320,"to":1000},
- "heightDp":{"from":320,"to":1000},
- "locale":["ar-EG","cs-CZ","da-DK","de-DE","el-GR","en-GB","en-US","es-ES","es-MX","es-US","fi-FI","fr-CA","fr-FR","hi-IN",
-  "hu-HU","it-IT","iw-IL","ja-JP","nb-NO","nl-NL","pl-PL","pt-BR","pt-PT","ro-RO","ru-RU","sv-SE","th-TH","tr-TR","uk-UA",
-  "zh-CN"]}
-END
 
 # of_box BOX NAME: makes and checks certificates for the ids in `all`.
 of_box() {
@@ -50,4 +42,4 @@ fi
 echo '[{"table":"framework.arsc"}]' >layers
 "$program" rows framework.arsc | awk '$1 == "row" { print $2 }' | sort -u >all
 echo "the framework's table, $(wc -c <framework.arsc) bytes, $(wc -l <all) ids"
-of_box densities 'densities from 120 to 640 of one phone' && of_box phones "a phone maker's devices"
+of_box densities 'densities from 120 to 640 of one phone' && of_box "$here/phones.json" "a phone maker's devices"

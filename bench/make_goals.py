@@ -1,11 +1,12 @@
 #!/usr/bin/env python3
-"""Finds the ids for which a certificate can be made:
+"""Finds the goals for which a certificate can be made:
 
-    make_goals.py PROGRAM LAYERS BOX <IDS >GOALS
+    make_goals.py PROGRAM LAYERS BOX <WORDS >GOALS
 
-An id that has no value on some device of the box is dropped, since `restool make` ends at the first of them. Those that
-are absent on the device with the least value of each qualifier are found by one `restool query`. Of the others goals
-are made in groups, and each that `restool make` names is dropped. What was dropped is counted on standard error."""
+A goal that has no value on some device of the box is dropped, since `restool make` ends at the first of them. The ids
+that are absent on the device with the least value of each qualifier are found by one `restool query`. Of the others, and
+of attributes under styles, certificates are made in groups, and each that `restool make` names is dropped. What was
+dropped is counted on standard error."""
 import json
 import subprocess
 import sys
@@ -31,18 +32,20 @@ def write_corner(box):
 
 
 def with_value(program, layers, names):
-    """Those of the ids that end at a value or a bag on the device `corner`."""
-    lines = run(program, "query", layers, "corner", *names).splitlines()
-    return [name for name, line in zip(names, lines) if line.split(" ")[1] in ("value", "bag")]
+    """The goals without the ids that end at no value and no bag on the device `corner`."""
+    ids = [name for name in names if "@" not in name]
+    lines = run(program, "query", layers, "corner", *ids).splitlines() if ids else []
+    absent = {name for name, line in zip(ids, lines) if line.split(" ")[1] not in ("value", "bag")}
+    return [name for name in names if name not in absent]
 
 
 def made(program, layers, box, names):
-    """Those of the ids for which a certificate is made."""
+    """Those of the goals for which a certificate is made."""
     while names:
         told = run(program, "make", "--max-nodes", MOST_NODES, layers, box, *names)
         if not told.startswith("counter goal "):
             if told.startswith("node limit"):
-                sys.exit(f"more than {MOST_NODES} nodes for {len(names)} ids from {names[0]} on")
+                sys.exit(f"more than {MOST_NODES} nodes for {len(names)} goals from {names[0]} on")
             return names
         place = int(told.splitlines()[0].split(" ")[2])
         names = names[:place] + names[place + 1 :]

@@ -4,11 +4,9 @@ import os
 import subprocess
 
 from made_layers import table_bytes
+from plain_bags import Attribute
+from plain_certificates import id_text
 from plain_rules import COORDS
-
-
-def id_text(name):
-    return f"0x{name:08x}"
 
 
 def device_of(words):
@@ -58,3 +56,18 @@ class Files:
 
     def explain(self, name, device):
         return self.ask("explain", device, name)
+
+    def end(self, goal, device):
+        """Where a goal ends, as `query` or `attr` says it."""
+        if not isinstance(goal, Attribute):
+            return self.ask("query", device, goal)[0].split(" ", 1)[1]
+        line = self.ask("attr", device, goal.attr, *goal.styles)[0]
+        return self.end_at_style(goal, device) if line.startswith("no bag") else line.split(" ", 1)[1]
+
+    def end_at_style(self, goal, device):
+        """The same at the first style that is no bag or has too many parents, which `attr` does not name."""
+        for style in goal.styles:
+            line = self.ask("bag", device, style)[:1]
+            if line and line[0].startswith("no bag"):
+                return f"{'too long' if line[0] == 'no bag BagDepth' else 'absent'} {id_text(style)}"
+        return "no such style"

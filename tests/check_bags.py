@@ -10,10 +10,9 @@ import random
 import sys
 from concurrent.futures import ThreadPoolExecutor
 
+from plain_bags import ATTRIBUTES, PARENTS, insert_rows
 from printed import CANDIDATE, TAKES_OVER, Restool
 
-PARENTS = 64
-ATTRIBUTES = 20
 STYLE_LISTS = 200
 ATTRIBUTES_ASKED = 3
 
@@ -28,19 +27,6 @@ def selected(restool, name):
         if parts[4].startswith(TAKES_OVER):
             best = int(parts[1])
     return None if best is None else restool.candidates(name)[best]
-
-
-def insert_rows(merged, layer, rows):
-    """Own rows go into merged ones from the front, in place."""
-    at = 0
-    for name, value in rows:
-        while at < len(merged) and int(merged[at][0], 16) < int(name, 16):
-            at += 1
-        if at < len(merged) and merged[at][0] == name:
-            merged[at] = (name, layer, value)
-        else:
-            merged.insert(at, (name, layer, value))
-        at += 1
 
 
 def bag_of(selections, name):

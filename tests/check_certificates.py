@@ -4,10 +4,10 @@
     check_certificates.py PROGRAM CASES [JOBS [FIRST]]
 
 for so many random layers, boxes of at most some thousand devices, and certificates, of which some are true and most
-have a fault. Goal, node, rule, and what is shown have to be the same. Of two devices that are shown for a mixed leaf it
+have a fault. Every second one has styles, and goals of attributes. Goal, node, rule, and what is shown have to be the same. Of two devices that are shown for a mixed leaf it
 is asked whether they stand at it, whether they differ in one coordinate alone, by one where it is a range, and whether
 at the first question that devices at the leaf answer differently the first answers yes and the second no; and what
-`restool explain` says of them, and of some other device of the box, has to be what the rules say. The cases are
+`restool explain` or `restool attr` says of them, and of some other device of the box, has to be what the rules say. The cases are
 numbered from FIRST on, which is 0 if it is not given. The last line counts the certificates by their verdicts."""
 import os
 import random
@@ -16,16 +16,19 @@ import tempfile
 from collections import Counter
 from concurrent.futures import ProcessPoolExecutor
 
-from case_files import Files, device_of, id_text
-from plain_certificates import certificate_json, verdict, verdict_lines
-from plain_rules import COORDS, step_of
-from printed import CANDIDATE
+from case_files import Files, device_of
+from plain_bags import Attribute
+from plain_certificates import certificate_json, goal_word, verdict, verdict_lines
+from plain_rules import COORDS, end_text
 from random_cases import CertifiedCase
 
 
-def check_explanation(files, case, name, device):
-    """The faults of what `restool explain` says of a device."""
-    printed, wanted = files.explain(name, device), case.layers.explanation(name, device)
+def check_explanation(files, case, goal, device):
+    """The faults of what `restool explain` says of an id at a device, or `restool attr` of an attribute."""
+    if isinstance(goal, Attribute):
+        printed, wanted = files.end(goal, device), end_text(case.layers.trace(goal, device)[1])
+        return [] if f"{printed} ".startswith(f"{wanted} ") else [f"ends: {printed}", f"wanted: {wanted}"]
+    printed, wanted = files.explain(goal, device), case.layers.explanation(goal, device)
     return [] if printed == wanted else [f"explained: {printed}", f"wanted: {wanted}"]
 
 
@@ -37,11 +40,7 @@ def first_question(steps):
     return None
 
 
-def steps_of(lines):
-    return [step_of(parts[4]) for parts in map(CANDIDATE.fullmatch, lines) if parts]
-
-
-def faults_of_pair(files, case, name, members, first, second):
+def faults_of_pair(case, goal, members, first, second):
     """The faults of two devices that are shown for a mixed leaf."""
     differing = [coord for coord in COORDS if first[coord] != second[coord]]
     faults = [] if first in members and second in members else ["a device that is not at the leaf"]
@@ -49,8 +48,8 @@ def faults_of_pair(files, case, name, members, first, second):
         return faults + [f"they differ in {differing}"]
     if case.box.is_range(differing[0]) and abs(first[differing[0]] - second[differing[0]]) != 1:
         faults.append(f"they are no neighbours in {differing[0]}")
-    place, yes = first_question([case.layers.trace(name, device)[0] for device in members])
-    answers = [steps_of(files.explain(name, device))[place] in yes for device in (first, second)]
+    place, yes = first_question([case.layers.trace(goal, device)[0] for device in members])
+    answers = [case.layers.trace(goal, device)[0][place] in yes for device in (first, second)]
     if answers != [True, False]:
         faults.append(f"at candidate {place} of the way they answer {answers}")
     return faults
@@ -60,7 +59,7 @@ def faults_of_verdict(files, case):
     """The faults of a verdict, and what it is."""
     rejected = verdict(case.layers, case.box, case.asked, case.goals)
     wanted = verdict_lines(case.layers, case.asked, case.goals, rejected)
-    lines, status = files.run("check", "layers", "box", "certificate", *map(id_text, case.asked))
+    lines, status = files.run("check", "layers", "box", "certificate", *map(goal_word, case.asked))
     counted = Counter([f"N{rejected[1].rule}" if rejected else "accepted"])
     faults = [] if status == int(rejected is not None) else [f"status {status}"]
     is_mixed = rejected is not None and rejected[1].rule == 6
@@ -69,16 +68,16 @@ def faults_of_verdict(files, case):
         return faults + [f"printed: {lines}", f"wanted: {wanted}"], counted
     if not is_mixed:
         return faults, counted
-    name = case.asked[rejected[0]]
+    goal = case.asked[rejected[0]]
     shown = [device_of(line.split(" ", 1)[1]) for line in lines[1:3]]
     for device in shown:
-        faults += check_explanation(files, case, name, device)
-    return faults + faults_of_pair(files, case, name, rejected[1].members, *shown), counted
+        faults += check_explanation(files, case, goal, device)
+    return faults + faults_of_pair(case, goal, rejected[1].members, *shown), counted
 
 
 def check_case(program, number):
     chance = random.Random(number)
-    case = CertifiedCase(chance)
+    case = CertifiedCase(chance, has_styles=number % 2 == 1)
     with tempfile.TemporaryDirectory() as folder:
         files = Files(program, folder, case)
         files.write("certificate", certificate_json(case.goals))

@@ -4,10 +4,10 @@
     check_made.py PROGRAM CASES [JOBS [FIRST]]
 
 for so many random layers, boxes of at most some thousand devices, of which in some at most one qualifier varies, and
-lists of ids. A certificate has to be one that `restool check` accepts, each of its tests has to be needed, and
-`restool query` has to end for devices of the box at the values of their leaves. Where at most one qualifier varies, no
+lists of goals, in every second one with attributes under styles. A certificate has to be one that `restool check` accepts, each of its tests has to be needed, and
+`restool query` and `restool attr` have to end for devices of the box at the values of their leaves. Where at most one qualifier varies, no
 tree with fewer nodes may be there. With a limit of as many nodes the same has to be made, and with fewer none. A device
-without a value has to be in the box, and `restool query` has to say of it what is shown. With a limit that makes that
+without a value has to be in the box, and they have to say of it what is shown. With a limit that makes that
 `node limit` there have to be trees of needed tests that pass it.
 
 The cases are numbered from FIRST on, which is 0 if it is not given. The last line counts what was made."""
@@ -19,8 +19,8 @@ import tempfile
 from collections import Counter
 from concurrent.futures import ProcessPoolExecutor
 
-from case_files import Files, device_of, id_text
-from plain_certificates import corner, order_of, says
+from case_files import Files, device_of
+from plain_certificates import certificate_json, goal_word, order_of, says
 from plain_rules import end_text
 from plain_trees import Traces, fault_of_need, needed_size, places, runs, varying
 from random_cases import Case
@@ -31,7 +31,7 @@ DEVICES_ASKED = 3
 
 
 def make(files, case, *limit):
-    return files.printed("make", *limit, "layers", "box", *map(id_text, case.asked))
+    return files.printed("make", *limit, "layers", "box", *map(goal_word, case.asked))
 
 
 # ---- a certificate
@@ -39,44 +39,43 @@ def make(files, case, *limit):
 
 def faults_of_text(text, goals, asked):
     """The faults of a certificate's text."""
-    wanted = json.dumps({"goals": goals, "version": 1}, sort_keys=True, separators=(",", ":")) + "\n"
-    faults = [] if text == wanted else [f"not written as {wanted}"]
-    return faults + ([] if [goal["id"] for goal in goals] == [id_text(name) for name in asked] else ["other ids"])
+    said = certificate_json(list(zip(asked, (goal["nodes"] for goal in goals))))
+    wanted = json.dumps(said, sort_keys=True, separators=(",", ":")) + "\n"
+    return [] if text == wanted else [f"not written as {wanted}"]
 
 
 def faults_of_check(files, case, text, size):
     """The faults of what `restool check` says of a certificate."""
     with open(os.path.join(files.folder, "certificate"), "w") as certificate:
         certificate.write(text)
-    told = files.run("check", "layers", "box", "certificate", *map(id_text, case.asked))
+    told = files.run("check", "layers", "box", "certificate", *map(goal_word, case.asked))
     wanted = [f"accepted goals {len(case.asked)} nodes {size}", f"set-aside {case.layers.set_aside()}"]
     return [] if told == (wanted, 0) else [f"checked: {told}"]
 
 
-def faults_of_tree(case, name, nodes):
+def faults_of_tree(case, asked, nodes):
     """The faults of the tests of a tree, and of its size where at most one coordinate varies."""
-    traces = Traces(case.layers, name)
+    traces = Traces(case.layers, asked)
     faults = []
     for place, (node, members) in enumerate(places(case.members, nodes)):
         fault = fault_of_need(case.box, node, members, traces) if "coord" in node else None
         if "in" in node and node["in"] != sorted(node["in"], key=order_of):
             fault = "the values of a list do not rise"
-        faults += [f"{id_text(name)} node {place}: {fault}"] if fault else []
+        faults += [f"{goal_word(asked)} node {place}: {fault}"] if fault else []
     if len(varying(case.members)) <= 1:
         least = 2 * runs(case.box, case.members, traces) - 1
-        faults += [] if len(nodes) == least else [f"{id_text(name)}: {len(nodes)} nodes, where {least} would do"]
+        faults += [] if len(nodes) == least else [f"{goal_word(asked)}: {len(nodes)} nodes, where {least} would do"]
     return faults
 
 
 def faults_of_device(files, case, goals, device):
-    """The faults of what `restool query` says of a device, against the leaves that it comes to."""
-    lines = files.ask("query", device, *case.asked)
+    """The faults of what is said of a device, against the leaves that it comes to."""
     faults = []
-    for name, goal, line in zip(case.asked, goals, lines):
+    for asked, goal in zip(case.asked, goals):
         leaf = next(node for node, here in places([device], goal["nodes"]) if here and "coord" not in node)
-        end = case.layers.trace(name, device)[1]
-        if not says(leaf, end) or not f"{line} ".startswith(f"{id_text(name)} {end_text(end)} "):
-            faults.append(f"{line}, where the leaf says {leaf}, and the rules {end_text(end)}")
+        end, told = case.layers.trace(asked, device)[1], files.end(asked, device)
+        if not says(leaf, end) or not f"{told} ".startswith(f"{end_text(end)} "):
+            faults.append(f"{goal_word(asked)}: {told}, where the leaf says {leaf}, and the rules {end_text(end)}")
     return faults
 
 
@@ -86,8 +85,8 @@ def faults_of_certificate(files, case, text):
     faults = faults_of_text(text, goals, case.asked) + faults_of_check(files, case, text, size)
     if faults:
         return faults
-    for name, goal in zip(case.asked, goals):
-        faults += faults_of_tree(case, name, goal["nodes"])
+    for asked, goal in zip(case.asked, goals):
+        faults += faults_of_tree(case, asked, goal["nodes"])
     for device in case.chance.choices(case.members, k=DEVICES_ASKED):
         faults += faults_of_device(files, case, goals, device)
     if make(files, case, "--max-nodes", str(size)) != (text, 0):
@@ -103,18 +102,18 @@ def faults_of_certificate(files, case, text):
 
 def faults_of_shown(files, case, lines):
     """The faults of the lines that show a device without a value."""
-    name = case.asked[int(lines[0].removeprefix("counter goal "))]
+    asked = case.asked[int(lines[0].removeprefix("counter goal "))]
     device = device_of(lines[1].removeprefix("device "))
     end = lines[2].removeprefix("end ")
     faults = [] if device in case.members else ["a device that is not in the box"]
     faults += [] if end.startswith(("absent ", "too long ")) else ["an end that is a value or a bag"]
-    told = files.ask("query", device, name)[0]
-    return faults + ([] if told == f"{id_text(name)} {end}" else [f"asked: {told}"])
+    told = files.end(asked, device)
+    return faults + ([] if told == end else [f"asked: {told}"])
 
 
 def may_pass(case, limit):
     """Whether there are needed trees that have more nodes."""
-    traces = [Traces(case.layers, name) for name in case.asked]
+    traces = [Traces(case.layers, goal) for goal in case.asked]
     if len(varying(case.members)) <= 1:
         return sum(2 * runs(case.box, case.members, of_id) - 1 for of_id in traces) > limit
     sizes = (
@@ -137,7 +136,7 @@ def faults_of_counter(files, case, text):
 
 def check_case(program, number):
     chance = random.Random(number)
-    case = Case(chance)
+    case = Case(chance, has_styles=number % 2 == 1)
     if number % 5 < 2:
         case.narrow()
     with tempfile.TemporaryDirectory() as folder:

@@ -17,8 +17,9 @@ import tempfile
 from concurrent.futures import ProcessPoolExecutor
 
 from case_files import id_text
-from made_layers import BAG_NAME, chunk, entries_chunk, pool_chunk, type_spec, value_bytes
-from random_cases import Case
+from made_layers import chunk, entries_chunk, pool_chunk, type_spec, value_bytes
+from plain_bags import Bag
+from random_cases import FIRST_ATTRIBUTE, Case
 
 PACKAGE_ID = 0x7F
 PACKAGE_HEADER = 288
@@ -31,10 +32,10 @@ DEVICES = 2
 def entry_bytes(chance, case):
     """A value, or a bag of up to three rows."""
     cell, key = case.cell(), chance.randrange(KEYS)
-    if cell != "bag":
+    if not isinstance(cell, Bag):
         return struct.pack("<HHI", 8, 0, key) + value_bytes(*cell)
     parent = chance.choice((0, PACKAGE_ID << 24 | chance.randint(1, len(TYPES)) << 16 | chance.randrange(4)))
-    rows = [struct.pack("<I", BAG_NAME + place) + value_bytes(0x10, chance.randrange(9)) for place in range(chance.randrange(4))]
+    rows = [struct.pack("<I", FIRST_ATTRIBUTE + place) + value_bytes(0x10, chance.randrange(9)) for place in range(chance.randrange(4))]
     return struct.pack("<HHIII", 16, 1, key, parent, len(rows)) + b"".join(rows)
 
 

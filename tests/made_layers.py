@@ -6,9 +6,8 @@ import sys
 sys.path.append(os.path.join(os.path.dirname(os.path.abspath(__file__)), "..", "bench"))
 from make_rows import NO_ENTRY, chunk, type_spec
 
+from plain_bags import Bag
 from plain_certificates import order_of
-
-BAG_NAME = 0x01010000
 
 
 def record_bytes(record):
@@ -50,9 +49,10 @@ def value_bytes(kind, word):
 
 
 def entry_bytes(cell):
-    """A value, or a bag with one row."""
-    if cell == "bag":
-        return struct.pack("<HHIIII", 16, 1, 0, 0, 1, BAG_NAME) + value_bytes(0x10, 0)
+    """A value, or a bag."""
+    if isinstance(cell, Bag):
+        rows = b"".join(struct.pack("<I", name) + value_bytes(*value) for name, value in cell.rows)
+        return struct.pack("<HHIII", 16, 1, 0, cell.parent, len(cell.rows)) + rows
     return struct.pack("<HHI", 8, 0, 0) + value_bytes(*cell)
 
 

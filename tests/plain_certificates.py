@@ -4,6 +4,7 @@ A box is a dictionary of what its JSON says: a pair of numbers for a range, a li
 certificate is what its JSON says of it."""
 import itertools
 
+from plain_bags import Attribute
 from plain_rules import COORDS, device_text, end_text, parts
 
 NOT_GIVEN = {"locale": [""]}
@@ -133,7 +134,7 @@ def fault_of_nodes(box, nodes, trace_of):
 
 
 def goal_that_differs(asked, goals):
-    """The first place where two lists of ids differ, the shorter length where one begins the other."""
+    """The first place where two lists of goals differ, the shorter length where one begins the other."""
     for place in range(max(len(asked), len(goals))):
         if asked[place : place + 1] != goals[place : place + 1]:
             return place
@@ -141,28 +142,46 @@ def goal_that_differs(asked, goals):
 
 
 def verdict(layers, box, asked, goals):
-    """Where a certificate, a list of ids with their nodes, is rejected: the goal and the fault. None where it is
+    """Where a certificate, a list of goals with their nodes, is rejected: the goal and the fault. None where it is
     accepted."""
-    place = goal_that_differs(asked, [name for name, _ in goals])
+    place = goal_that_differs(asked, [goal for goal, _ in goals])
     if place is not None:
         return place, Fault(0, 1)
-    for goal, (name, nodes) in enumerate(goals):
+    for place, (goal, nodes) in enumerate(goals):
         traces = {}
 
         def trace_of(device):
             key = tuple(device.values())
             if key not in traces:
-                traces[key] = layers.trace(name, device)
+                traces[key] = layers.trace(goal, device)
             return traces[key]
 
         fault = fault_of_nodes(box, nodes, trace_of)
         if fault is not None:
-            return goal, fault
+            return place, fault
     return None
 
 
+def id_text(name):
+    return f"0x{name:08x}"
+
+
+def goal_word(goal):
+    """A goal as a word of a command."""
+    if isinstance(goal, Attribute):
+        return f"{id_text(goal.attr)}@{','.join(map(id_text, goal.styles))}"
+    return id_text(goal)
+
+
+def goal_json(goal):
+    if isinstance(goal, Attribute):
+        return {"attr": id_text(goal.attr), "styles": [id_text(style) for style in goal.styles]}
+    return {"id": id_text(goal)}
+
+
 def certificate_json(goals):
-    return {"version": 1, "goals": [{"id": f"0x{name:08x}", "nodes": nodes} for name, nodes in goals]}
+    version = 2 if any(isinstance(goal, Attribute) for goal, _ in goals) else 1
+    return {"version": version, "goals": [{**goal_json(goal), "nodes": nodes} for goal, nodes in goals]}
 
 
 def verdict_lines(layers, asked, goals, rejected):

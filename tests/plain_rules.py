@@ -2,6 +2,7 @@
 beside it, which hold what restool says against it.
 
 A device is a dictionary of numbers, with a text at `locale`; what it leaves out is 0 or no text."""
+from plain_bags import Attribute, Bag, look_up_bag, slot_of
 
 REFERENCES = 20
 
@@ -47,6 +48,7 @@ class Record:
         self.variant = variant
         self.spare = spare
         """Byte 19, which is compared in equal records alone."""
+        self.named = [name for name, _ in given_of(self.numbers, self.locale)]
 
     def __getitem__(self, name):
         return self.numbers[name]
@@ -99,7 +101,7 @@ def mismatch(record, device):
     """Why a row does not match, None where it does."""
     if record.script or record.variant:
         return "set aside"
-    return next((f"no match {name}" for name in COORDS if not suits(name, record, device)), None)
+    return next((f"no match {name}" for name in record.named if not suits(name, record, device)), None)
 
 
 # ---- which of two rows is better; a rule that does not decide answers None
@@ -214,7 +216,7 @@ def better(a, b, device):
 
 
 class Candidate:
-    """A row of a layer. Its cell is `(kind, word)`, or "bag"."""
+    """A row of a layer. Its cell is `(kind, word)`, or a bag."""
 
     def __init__(self, layer, is_overlay, record, cell):
         self.layer = layer
@@ -254,6 +256,7 @@ class Layers:
 
     def __init__(self, layers):
         self.layers = layers
+        self.found = {}
 
     def candidates(self, name):
         found = []
@@ -266,19 +269,31 @@ class Layers:
         rows = [record for rows, _ in self.layers for of_id in rows.values() for record, _ in of_id]
         return sum(1 for record in rows if record.script or record.variant)
 
-    def way(self, name, device):
+    def look_up(self, name, device):
+        """What the candidates of an id do, and which of them it selects, None where it selects none. Each device is asked
+        once."""
+        asked = name, *device.values()
+        if asked not in self.found:
+            self.found[asked] = self.selection(name, device)
+        return self.found[asked]
+
+    def selection(self, name, device):
+        best, decided = None, []
+        for candidate in self.candidates(name):
+            decided.append((candidate, decision(candidate, best, device)))
+            if takes_over(decided[-1][1]):
+                best = candidate
+        return decided, best
+
+    def way(self, name, device, references=REFERENCES):
         """The look-ups of an id, each with its candidates and what they do, and the end."""
         look_ups = []
-        for followed in range(REFERENCES + 1):
-            best, decided = None, []
-            for candidate in self.candidates(name):
-                decided.append((candidate, decision(candidate, best, device)))
-                if takes_over(decided[-1][1]):
-                    best = candidate
+        for _ in range(references + 1):
+            decided, best = self.look_up(name, device)
             look_ups.append((name, decided))
             if best is None:
                 return look_ups, ("absent", name)
-            if best.cell == "bag":
+            if isinstance(best.cell, Bag):
                 return look_ups, ("bag", name)
             kind, word = best.cell
             if kind != 1 or word == 0:
@@ -286,9 +301,32 @@ class Layers:
             name = word
         return look_ups, ("too long", name)
 
-    def trace(self, name, device):
+    def way_of_attribute(self, attr, styles, device):
+        """The same of an attribute under styles: the bags of each, and then the reference that the attribute is."""
+        look_ups, theme = [], {}
+
+        def select(name):
+            decided, best = self.look_up(name, device)
+            look_ups.append((name, decided))
+            return None if best is None else (best.layer, best.cell)
+
+        for style in styles:
+            rows = look_up_bag(select, style)
+            if rows is None or rows == "too long":
+                return look_ups, (rows or "absent", style)
+            theme.update((name, (layer, value)) for name, layer, value in rows)
+        target, end = slot_of(theme, attr)
+        if target is None:
+            return look_ups, end
+        more, end = self.way(target, device, REFERENCES - 1)
+        return look_ups + more, end
+
+    def trace(self, goal, device):
         """What each candidate does, and the end."""
-        look_ups, end = self.way(name, device)
+        if isinstance(goal, Attribute):
+            look_ups, end = self.way_of_attribute(*goal, device)
+        else:
+            look_ups, end = self.way(goal, device)
         return tuple(step_of(decided) for _, told in look_ups for _, decided in told), end
 
     def explanation(self, name, device):

@@ -7,17 +7,17 @@ from plain_rules import COORDS
 
 
 class Traces:
-    """The traces of an id. Each device is asked once."""
+    """The traces of a goal. Each device is asked once."""
 
-    def __init__(self, layers, name):
+    def __init__(self, layers, goal):
         self.layers = layers
-        self.name = name
+        self.goal = goal
         self.found = {}
 
     def of(self, device):
         key = tuple(device.values())
         if key not in self.found:
-            self.found[key] = self.layers.trace(self.name, device)
+            self.found[key] = self.layers.trace(self.goal, device)
         return self.found[key]
 
 

@@ -1,9 +1,14 @@
 """Random layers, boxes and certificates. For the scripts beside it."""
+from plain_bags import Attribute, Bag
 from plain_certificates import Box, leaf_of
 from plain_rules import COORDS, Layers, Record
 
 FIRST_ID = 0x7F010000
 ENTRIES = 5
+STYLES = 3
+FIRST_ATTRIBUTE = 0x01010000
+ATTRIBUTES = 4
+MOST_STYLES = 3
 MOST_MEMBERS = 1500
 MOST_NODES = 40
 GREATEST_DENSITY = 32767
@@ -42,10 +47,11 @@ OTHER_CELLS = ((1, 0), (2, 0x01010001), (3, 0), (0, 0), (0, 1), (0x12, 0xFFFFFFF
 
 
 class Case:
-    """Layers, a box, and the ids that are asked."""
+    """Layers, a box, and the goals that are asked: ids, and, where the case has styles, attributes too."""
 
-    def __init__(self, chance):
+    def __init__(self, chance, has_styles=False):
         self.chance = chance
+        self.has_styles = has_styles
         self.focus = chance.sample(list(COORDS), chance.randint(1, 4))
         if chance.random() < 0.3 and "density" not in self.focus:
             self.focus.append("density")
@@ -54,7 +60,17 @@ class Case:
         self.layers = Layers([(by_id(rows), own) for rows, own in zip(self.tables, self.maps)])
         self.box = self.random_box()
         self.members = self.box.members()
-        self.asked = chance.choices(range(FIRST_ID, FIRST_ID + ENTRIES), k=chance.randint(1, 3))
+        self.asked = [self.goal() for _ in range(chance.randint(1, 3))]
+
+    def goal(self):
+        if self.has_styles and self.chance.random() < 0.8:
+            named = ENTRIES + 1 if self.chance.random() < 0.1 else STYLES
+            styles = self.chance.choices(range(FIRST_ID, FIRST_ID + named), k=self.chance.randint(1, MOST_STYLES))
+            return Attribute(self.attribute(), tuple(styles))
+        return FIRST_ID + self.chance.randrange(ENTRIES)
+
+    def attribute(self):
+        return FIRST_ATTRIBUTE + self.chance.randrange(ATTRIBUTES)
 
     # ---- layers
 
@@ -67,12 +83,37 @@ class Case:
         variant = b"polytoni" if self.chance.random() < 0.02 else b""
         return Record(given, script, variant, int(self.chance.random() < 0.05))
 
+    def value_of_row(self):
+        draw = self.chance.random()
+        if draw < 0.1:
+            return 2, self.attribute()
+        if draw < 0.3:
+            return 1, FIRST_ID + self.chance.randrange(STYLES, ENTRIES)
+        if draw < 0.38:
+            return self.chance.choice(OTHER_CELLS)
+        return 0x10, self.chance.choice((1, 1, 2))
+
+    def style(self, name):
+        """A bag, whose parent seldom leads back to it."""
+        draw = self.chance.random()
+        parent = 0
+        if draw < 0.4 and name > FIRST_ID:
+            parent = self.chance.randrange(FIRST_ID, name)
+        elif draw < 0.45:
+            parent = FIRST_ID + self.chance.randint(0, ENTRIES)
+        rows = [(self.attribute(), self.value_of_row()) for _ in range(self.chance.randint(3, ATTRIBUTES + 3))]
+        return Bag(parent, rows)
+
+    def cell_of(self, name):
+        is_style = self.has_styles and name < FIRST_ID + STYLES
+        return self.style(name) if is_style and self.chance.random() < 0.99 else self.cell()
+
     def cell(self):
         draw = self.chance.random()
         if draw < 0.2:
             return 1, FIRST_ID + self.chance.randint(0, ENTRIES)
         if draw < 0.3:
-            return "bag"
+            return Bag(rows=[(FIRST_ATTRIBUTE, (0x10, 0))])
         if draw < 0.4:
             return self.chance.choice(OTHER_CELLS)
         return 0x10, self.chance.choice((1, 1, 2, 0xFFFFFFFF))
@@ -81,8 +122,8 @@ class Case:
         rows = []
         for name in range(FIRST_ID, FIRST_ID + ENTRIES):
             if self.chance.random() < 0.95:
-                rows.append((name, Record({}), self.cell()))
-            rows += [(name, self.record(), self.cell()) for _ in range(self.chance.randint(0, 5))]
+                rows.append((name, Record({}), self.cell_of(name)))
+            rows += [(name, self.record(), self.cell_of(name)) for _ in range(self.chance.randint(0, 5))]
         self.chance.shuffle(rows)
         return rows
 
@@ -116,7 +157,7 @@ class Case:
 
     def random_box(self):
         said = {}
-        left = self.chance.choice((2, 30, 300, MOST_MEMBERS))
+        left = self.chance.choice((2, 30, 100, 300) if self.has_styles else (2, 30, 300, MOST_MEMBERS))
         for name in self.chance.sample(self.focus, len(self.focus)):
             if name == "locale" or self.chance.random() < 0.4:
                 said[name] = self.random_choice(name, min(left, 8))
@@ -144,11 +185,11 @@ class Case:
 
 
 class CertifiedCase(Case):
-    """A case with a certificate: a list of ids with their nodes."""
+    """A case with a certificate: a list of goals with their nodes."""
 
-    def __init__(self, chance):
-        super().__init__(chance)
-        self.goals = [(name, self.tree(name)) for name in self.asked]
+    def __init__(self, chance, has_styles=False):
+        super().__init__(chance, has_styles)
+        self.goals = [(goal, self.tree(goal)) for goal in self.asked]
         for _ in range(chance.choice((0, 0, 1, 1, 2))):
             self.mutate()
 
@@ -166,9 +207,9 @@ class CertifiedCase(Case):
         most = 3 if name == "locale" else self.chance.choice(NUMBERS[name]) + self.chance.randint(-1, 1)
         return {"coord": name, "atMost": most}
 
-    def tree(self, name):
+    def tree(self, goal):
         """Nodes of which most are true: while devices with different traces are left, a test that parts two of them."""
-        traces = {tuple(device.values()): self.layers.trace(name, device) for device in self.members}
+        traces = {tuple(device.values()): self.layers.trace(goal, device) for device in self.members}
         nodes, waiting = [], [self.members]
         while waiting:
             members = waiting.pop()
@@ -276,7 +317,15 @@ class CertifiedCase(Case):
         elif draw == 2:
             self.goals.reverse()
         elif self.goals:
-            self.goals[place] = (self.goals[place][0] + 1, self.goals[place][1])
+            goal, nodes = self.goals[place]
+            self.goals[place] = (self.other_goal(goal), nodes)
+
+    def other_goal(self, goal):
+        if not isinstance(goal, Attribute):
+            return goal + 1
+        attr, styles = goal
+        others = [(attr + 1, styles), (attr, styles + (FIRST_ID,)), (attr, styles[1:]), (attr, styles[::-1])]
+        return Attribute(*self.chance.choice(others))
 
 
 def by_id(rows):
