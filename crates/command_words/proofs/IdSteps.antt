@@ -1,4 +1,4 @@
--- How words are read as ids, one after the other.
+-- How words are read as ids or goals, one after the other.
 use Rattle.std.proofs.Common.{◌≡◌, ℕ, ◌<◌, List, [], ◌∷◌, map, length, get_or, ap, ◌∙◌}
 use Rattle.std.specs.Prelude.{Ok, Err}
 use Rattle.std.specs.Borrow.{Bor}
@@ -7,7 +7,9 @@ use Rattle.json_input.proofs.EachSteps.{EachAllBut, EachAllBut-stops_item}
 use Rattle.res_value.specs.declared.res_id.ResId.{ResId}
 use Rattle.command_words.specs.declared.words_fault.WordsFault.{WordsFault}
 use Rattle.command_words.specs.declared.words_fault.WordsFault.TheVariants.{CommandLine, NotText, BadId, OutOfMemory}
+use Rattle.cert_tree.specs.Certificate.{GoalSeen}
 use Rattle.command_words.specs.Ids.{id_in, ids_in, ReadsId, ReadsIds}
+use Rattle.command_words.specs.Goals.{goal_spelled, goals_spelled, ReadsGoal, ReadsGoals}
 use Rattle.json_input.proofs.EachSteps.{each-ok}
 use Rattle.json_input.proofs.EachLeft.{each-nil}
 
@@ -23,6 +25,15 @@ ids_stop so_far place words d (CommandLine error) before on told = absurd told
 ids_stop so_far place words d NotText before on told = absurd told
 ids_stop so_far place words d (BadId word) before on told = EachAllBut-stops_item id_in word_of so_far place words d word.now before on told
 ids_stop so_far place words d OutOfMemory before on told = absurd told
+
+-- the same of a word that is no goal, or that is not read for want of memory
+pub goals_stop : (so_far : List GoalSeen) (place : ℕ) (words : List (Bor (List ℕ))) (d : Bor (List ℕ)) (fault : WordsFault)
+    → EachAllBut goal_spelled so_far place (map word_of words) → place < length words
+    → ReadsGoal (Err fault) (goal_spelled (get_or words place d).now) → ReadsGoals (Err fault) (goals_spelled (map word_of words))
+goals_stop so_far place words d (CommandLine error) before on told = absurd told
+goals_stop so_far place words d NotText before on told = absurd told
+goals_stop so_far place words d (BadId word) before on told = EachAllBut-stops_item goal_spelled word_of so_far place words d word.now before on told
+goals_stop so_far place words d OutOfMemory before on told = tt
 
 -- the ids of one word, and of one and others
 

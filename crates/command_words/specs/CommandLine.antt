@@ -54,6 +54,9 @@ device = one_word (codes "DEVICE")
 abbrev pub ids : Rule
 ids = several_words (codes "ID")
 
+abbrev pub goals : Rule
+goals = several_words (codes "GOAL")
+
 abbrev pub commands : List Shape
 commands =
     command (codes "rows") (one_word (codes "TABLE") ∷ [])
@@ -63,8 +66,8 @@ commands =
     ∷ command (codes "bag") (layers ∷ device ∷ one_word (codes "ID") ∷ [])
     ∷ command (codes "attr")
     (flag (codes "keep") ∷ layers ∷ device ∷ one_word (codes "ATTR") ∷ several_words (codes "STYLE") ∷ [])
-    ∷ command (codes "make") (nodes (codes "max-nodes") ∷ layers ∷ one_word (codes "BOX") ∷ ids ∷ [])
-    ∷ command (codes "check") (layers ∷ one_word (codes "BOX") ∷ one_word (codes "CERT") ∷ ids ∷ [])
+    ∷ command (codes "make") (nodes (codes "max-nodes") ∷ layers ∷ one_word (codes "BOX") ∷ goals ∷ [])
+    ∷ command (codes "check") (layers ∷ one_word (codes "BOX") ∷ one_word (codes "CERT") ∷ goals ∷ [])
     ∷ []
 
 -- the program, which has a version, and has to be given a command

@@ -1,5 +1,5 @@
 -- What the words of a command line ask for.
-use Rattle.std.specs.Prelude.{◌≡◌, ◌≢◌, ◌≤◌, ℕ, Bool, true, false, List, [], ◌∷◌, codes, Option, Some, None, unwrap_or, Result, Ok, Err, IsOkAnd, IsSomeAnd, if◌then◌else◌}
+use Rattle.std.specs.Prelude.{◌≡◌, ◌≢◌, ◌≤◌, ℕ, Bool, true, false, List, [], ◌∷◌, map, codes, Option, Some, None, unwrap_or, Result, Ok, Err, IsOkAnd, IsSomeAnd, if◌then◌else◌}
 use Rattle.std.specs.Str.{bytes_eq}
 use Rattle.std.specs.Str.Parse.{IsNumeral, digits_value, without_leading_plus}
 use Rattle.clap.specs.Kinds.{IsAmong}
@@ -8,6 +8,7 @@ use Rattle.clap.specs.Simple.{subcommand_of}
 use Rattle.clap.specs.Values.{kind_of}
 use Rattle.clap.specs.Walk.{Row, first_of, one_of, all_of}
 use Rattle.res_value.specs.declared.res_id.ResId.{ResId}
+use Rattle.cert_tree.specs.Certificate.{GoalSeen, goal_seen}
 use Rattle.command_words.specs.declared.words_fault.WordsFault.{WordsFault}
 use Rattle.command_words.specs.declared.words_fault.WordsFault.TheVariants as faults
 use Rattle.command_words.specs.declared.request.Request.{Request}
@@ -24,6 +25,7 @@ use Rattle.command_words.specs.declared.command.BoxCommand.{BoxCommand}
 use Rattle.command_words.specs.declared.command.BoxCommand.TheVariants.{Make, Check}
 use Rattle.command_words.specs.CommandLine.{command_line, most_nodes, nodes_if_left_out}
 use Rattle.command_words.specs.Ids.{ids_in}
+use Rattle.command_words.specs.Goals.{goals_spelled}
 
 -- ---- no words
 
@@ -72,16 +74,14 @@ ids_asked Explain rows = ids_in (word_at (codes "ID") rows ∷ [])
 ids_asked Bag rows = ids_in (word_at (codes "ID") rows ∷ [])
 ids_asked Attr rows = ids_in (word_at (codes "ATTR") rows ∷ words_at (codes "STYLE") rows)
 
-abbrev pub ids_of : Command → List Row → Result (List ResId) (List ℕ)
-ids_of Rows rows = Ok []
-ids_of Dump rows = Ok []
-ids_of (OfDevice command) rows = ids_asked command rows
-ids_of (OfBox command) rows = ids_in (words_at (codes "ID") rows)
+-- the same of the goals of a command for a box
+abbrev pub goals_asked : List Row → Result (List GoalSeen) (List ℕ)
+goals_asked rows = goals_spelled (words_at (codes "GOAL") rows)
 
--- Words were read that are to spell ids: what was read is right for these ids, or the first word that is no id is named.
--- Where memory ran out, nothing is said.
-abbrev pub ReadsAlong : {X : Type 0} → Result (List ResId) (List ℕ) → (List ResId → X → Type 0) → Result X WordsFault → Type 0
-ReadsAlong meant IsRight (Ok x) = (ids : List ResId) × (meant ≡ Ok ids) × IsRight ids x
+-- Words were read that are to spell ids or goals: what was read is right for what they spell, or the first word that spells
+-- none is named. Where memory ran out, nothing is said.
+abbrev pub ReadsAlong : {S X : Type 0} → Result S (List ℕ) → (S → X → Type 0) → Result X WordsFault → Type 0
+ReadsAlong {S} meant IsRight (Ok x) = (spelled : S) × (meant ≡ Ok spelled) × IsRight spelled x
 ReadsAlong meant IsRight (Err (faults.BadId word)) = meant ≡ Err word.now
 ReadsAlong meant IsRight (Err faults.OutOfMemory) = Unit {0}
 ReadsAlong meant IsRight (Err fault) = ⊥
@@ -99,25 +99,36 @@ IsDeviceRequestOf Bag rows spelled (of_device.Bag id) = spelled ≡ id ∷ []
 IsDeviceRequestOf Attr rows spelled (of_device.Attr attr styles force) = (spelled ≡ attr ∷ styles.items) × IsForced rows force
 IsDeviceRequestOf _ rows spelled _ = ⊥
 
--- what a command asks of a box whose words spell these ids
-abbrev pub IsBoxRequestOf : BoxCommand → List Row → List ResId → BoxRequest → Type 0
-IsBoxRequestOf Make rows spelled (of_box.Make max_nodes ids) = (spelled ≡ ids.items) × IsNodeLimit (one_of (codes "max-nodes") rows) max_nodes
-IsBoxRequestOf Check rows spelled (of_box.Check certificate_path ids) = (spelled ≡ ids.items) × (certificate_path.now ≡ word_at (codes "CERT") rows)
+-- what a command asks of a box whose words spell these goals
+abbrev pub IsBoxRequestOf : BoxCommand → List Row → List GoalSeen → BoxRequest → Type 0
+IsBoxRequestOf Make rows spelled (of_box.Make max_nodes goals) = (spelled ≡ map goal_seen goals.items) × IsNodeLimit (one_of (codes "max-nodes") rows) max_nodes
+IsBoxRequestOf Check rows spelled (of_box.Check certificate_path goals) =
+    (spelled ≡ map goal_seen goals.items) × (certificate_path.now ≡ word_at (codes "CERT") rows)
 IsBoxRequestOf _ rows spelled _ = ⊥
 
--- what a command asks for whose words spell these ids
-abbrev pub IsRequestOf : Command → List Row → List ResId → Request → Type 0
-IsRequestOf Rows rows spelled (requests.Rows table_path) = table_path.now ≡ word_at (codes "TABLE") rows
-IsRequestOf Dump rows spelled (requests.Dump table_path) = table_path.now ≡ word_at (codes "TABLE") rows
-IsRequestOf (OfDevice command) rows spelled (requests.OfDevice layers_path device_path request) =
+-- what a command asks for that spells neither ids nor goals
+abbrev pub IsTableRequestOf : Command → List Row → Request → Type 0
+IsTableRequestOf Rows rows (requests.Rows table_path) = table_path.now ≡ word_at (codes "TABLE") rows
+IsTableRequestOf Dump rows (requests.Dump table_path) = table_path.now ≡ word_at (codes "TABLE") rows
+IsTableRequestOf _ rows _ = ⊥
+
+-- what a command for a device asks for whose words spell these ids
+abbrev pub IsRequestForDevice : DeviceCommand → List Row → List ResId → Request → Type 0
+IsRequestForDevice command rows spelled (requests.OfDevice layers_path device_path request) =
     (layers_path.now ≡ word_at (codes "LAYERS") rows) × (device_path.now ≡ word_at (codes "DEVICE") rows) × IsDeviceRequestOf command rows spelled request
-IsRequestOf (OfBox command) rows spelled (requests.OfBox layers_path box_path request) =
+IsRequestForDevice command rows spelled _ = ⊥
+
+-- what a command for a box asks for whose words spell these goals
+abbrev pub IsRequestForBox : BoxCommand → List Row → List GoalSeen → Request → Type 0
+IsRequestForBox command rows spelled (requests.OfBox layers_path box_path request) =
     (layers_path.now ≡ word_at (codes "LAYERS") rows) × (box_path.now ≡ word_at (codes "BOX") rows) × IsBoxRequestOf command rows spelled request
-IsRequestOf _ rows spelled _ = ⊥
+IsRequestForBox command rows spelled _ = ⊥
 
 -- a command was read, whose arguments have these rows
 abbrev pub ReadsCommand : Command → List Row → Result Request WordsFault → Type 0
-ReadsCommand command rows = ReadsAlong (ids_of command rows) (IsRequestOf command rows)
+ReadsCommand (OfDevice command) rows result = ReadsAlong (ids_asked command rows) (IsRequestForDevice command rows) result
+ReadsCommand (OfBox command) rows result = ReadsAlong (goals_asked rows) (IsRequestForBox command rows) result
+ReadsCommand command rows result = IsOkAnd result (IsTableRequestOf command rows)
 
 -- Words were read, of which the first is the program's name: a fault of the command line comes first, and else it is the
 -- command that they name.

@@ -2,12 +2,15 @@
 
 ghost use Rattle.std.specs.Prelude.{◌≡◌, ◌≢◌, map, codes, Some, MatchBool, option_map};
 ghost use Rattle.clap.specs.Words.{all_of, found_of, one_of, rows_of};
+ghost use Rattle.command_words.specs.Goals.{ReadsGoals, goals_spelled};
 ghost use Rattle.command_words.specs.Ids.{ReadsId, ReadsIds, id_in, ids_in};
 ghost use Rattle.command_words.specs.Request.{IsNodeLimit, word_at, words_at};
 
 use crate::command_line::{Argument, MAX_NODES, MOST_NODES, NODES_IF_LEFT_OUT};
+use crate::goals::read_goals;
 use crate::ids::{read_id, read_ids};
 use crate::words_fault::WordsFault;
+use cert_tree::Goal;
 use clap::ArgMatches;
 use res_value::ResId;
 use std::alloc::Global;
@@ -42,6 +45,21 @@ pub(crate) fn given_ids<'a>(
     match given.get_strs(argument.name) {
         Some(words) => read_ids(alloc, words),
         None => read_ids(alloc, &[]),
+    }
+}
+
+/// The goals that the words of an argument spell, in their order.
+#[tactic(auto, using(crate::proofs::Rows::rows))]
+pub(crate) fn given_goals<'a>(
+    alloc: Global,
+    given: &ArgMatches<'a>,
+    argument: &Argument,
+) -> Result<Vec<Goal>, WordsFault<'a>>
+    ensures { ReadsGoals result (goals_spelled (words_at argument.now.name.now (rows_of (found_of given.now)))) }
+{
+    match given.get_strs(argument.name) {
+        Some(words) => read_goals(alloc, words),
+        None => read_goals(alloc, &[]),
     }
 }
 

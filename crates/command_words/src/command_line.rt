@@ -85,12 +85,12 @@ const USAGES: &[Usage] = &[
     Usage {
         name: MAKE,
         about: "Prints a certificate for every device of a box, a device without a value, or node limit",
-        arguments: &[MAX_NODES, LAYERS, BOX, IDS],
+        arguments: &[MAX_NODES, LAYERS, BOX, GOALS],
     },
     Usage {
         name: CHECK,
         about: "Checks whether a certificate is true for every device of a box",
-        arguments: &[LAYERS, BOX, CERTIFICATE, IDS],
+        arguments: &[LAYERS, BOX, CERTIFICATE, GOALS],
     },
 ];
 
@@ -159,6 +159,13 @@ pub(crate) const IDS: Argument = Argument {
     name: "ID",
     takes: Takes::Words,
     help: "Resource id, such as 0x7f010000",
+};
+
+pub(crate) const GOALS: Argument = Argument {
+    name: "GOAL",
+    takes: Takes::Words,
+    help: "Resource id, such as 0x7f010000, or an attribute under styles, such as \
+           0x01010000@0x7f020000,0x7f020001",
 };
 
 pub(crate) const BAG_ID: Argument = Argument {

@@ -4,7 +4,7 @@
 //! ask for, a `Request`. Both are of a table, of a device or of a box.
 //!
 //! For the program above: `read_words` gives the request, or why there is none. What clap says of the words comes
-//! first, and then the first word that is no id.
+//! first, and then the first word that is no id, or for a box no goal.
 //!
 //! ```text
 //! let words = program_words(&rt)?;     // restool query layers.json device.json 0x7f010000
@@ -18,12 +18,13 @@
 mod arguments;
 mod command;
 mod command_line;
+mod goals;
 mod ids;
 mod request;
 mod words;
 mod words_fault;
 
+pub use cert_tree::Goal;
 pub use request::{BoxRequest, DeviceRequest, Request};
-pub use res_value::ResId;
 pub use words::{STANDARD_INPUT, program_words, read_words};
 pub use words_fault::WordsFault;

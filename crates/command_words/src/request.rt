@@ -1,5 +1,6 @@
 //! What words ask for.
 
+use cert_tree::Goal;
 use res_value::ResId;
 
 /// What words ask for.
@@ -53,14 +54,14 @@ pub enum DeviceRequest {
 /// What is asked of all devices of a box.
 #[derive(Drop)]
 pub enum BoxRequest<'a> {
-    /// A certificate for some ids, of at most so many nodes.
+    /// A certificate for some goals, of at most so many nodes.
     Make {
         max_nodes: u32,
-        ids: Vec<ResId>,
+        goals: Vec<Goal>,
     },
-    /// Whether a certificate is true of some ids.
+    /// Whether a certificate is true of some goals.
     Check {
         certificate_path: &'a str,
-        ids: Vec<ResId>,
+        goals: Vec<Goal>,
     },
 }

@@ -4,13 +4,16 @@ ghost use Rattle.std.specs.Prelude.{◌≡◌, ◌≢◌, true, map, is_some, If
 ghost use Rattle.std.specs.IoError.{error_kind};
 ghost use Rattle.clap.specs.Words.{FailsBy, fault_of, has_subcommand, rows_of, found_of, subcommand_of, subcommand_rows_of};
 ghost use Rattle.command_words.specs.CommandLine.{command_line};
-ghost use Rattle.command_words.specs.Request.{AsksFor, IsBoxRequestOf, IsDeviceRequestOf, ReadsAlong, ReadsCommand, ReadsWords, command_of, ids_asked, ids_of};
+ghost use Rattle.command_words.specs.Request.{AsksFor, IsBoxRequestOf, IsDeviceRequestOf, ReadsAlong, ReadsCommand, ReadsWords, command_of, goals_asked, ids_asked};
 ghost use Rattle.command_words.specs.WordsFault.{IsOfReading};
 
-use crate::arguments::{given_flag, given_id, given_ids, given_nodes, given_word};
+use crate::arguments::{
+    given_flag, given_goals, given_id, given_ids, given_nodes, given_word,
+};
 use crate::command::{BoxCommand, Command, DeviceCommand};
 use crate::command_line::{
-    ATTRIBUTE, BAG_ID, BOX, CERTIFICATE, DEVICE, ID, IDS, KEEP, LAYERS, STYLES, TABLE, command_line,
+    ATTRIBUTE, BAG_ID, BOX, CERTIFICATE, DEVICE, GOALS, ID, IDS, KEEP, LAYERS, STYLES, TABLE,
+    command_line,
 };
 use crate::request::{BoxRequest, DeviceRequest, Request};
 use crate::words_fault::WordsFault;
@@ -144,17 +147,17 @@ fn box_request_of<'a>(
     command: BoxCommand,
     given: &ArgMatches<'a>,
 ) -> Result<BoxRequest<'a>, WordsFault<'a>>
-    ensures { ReadsAlong (ids_of (Command.OfBox command) (rows_of (found_of given.now)))
+    ensures { ReadsAlong (goals_asked (rows_of (found_of given.now)))
         (IsBoxRequestOf command (rows_of (found_of given.now))) result }
 {
     match command {
         BoxCommand::Make => Ok(BoxRequest::Make {
             max_nodes: given_nodes(given),
-            ids: given_ids(alloc, given, &IDS)?,
+            goals: given_goals(alloc, given, &GOALS)?,
         }),
         BoxCommand::Check => Ok(BoxRequest::Check {
             certificate_path: given_word(given, &CERTIFICATE),
-            ids: given_ids(alloc, given, &IDS)?,
+            goals: given_goals(alloc, given, &GOALS)?,
         }),
     }
 }

@@ -23,7 +23,7 @@ mod progress;
 mod status;
 mod stop;
 
-pub use command_words::{BoxRequest, DeviceRequest, Request, ResId, program_words, read_words};
+pub use command_words::{BoxRequest, DeviceRequest, Goal, Request, program_words, read_words};
 pub use ending::{end, written_out};
 pub use files::{CheckFiles, DeviceFiles, LayerFiles};
 pub use input::{Inputs, ProcessInputs, table_bytes};

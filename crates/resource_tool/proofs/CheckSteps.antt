@@ -2,13 +2,12 @@
 use Rattle.std.proofs.Common.{◌≡◌, ℕ, List, Option, Result, Ok, Err, ap, subst, ◌∙◌}
 use Rattle.std.specs.Io.KnownBytes.{Appends}
 use Rattle.contract_words.specs.Faults.{◌>>=◌}
-use Rattle.cert_maker.specs.res_value.declared.res_id.ResId.{ResId}
 use Rattle.cert_maker.specs.box_answers.NumberSet.{SetOf}
 use Rattle.cert_maker.specs.config_box.declared.box_fault.BoxFault.{BoxFault}
 use Rattle.cert_maker.specs.config_box.BoxJson.{box_in}
 use Rattle.table_commands.specs.overlay_map.Layer.{LayerOf}
 use Rattle.cert_maker.specs.cert_tree.declared.cert_fault.CertFault.{CertFault}
-use Rattle.cert_maker.specs.cert_tree.Certificate.{GoalOf}
+use Rattle.cert_maker.specs.cert_tree.Certificate.{GoalSeen, GoalOf}
 use Rattle.cert_maker.specs.cert_tree.CertJson.{cert_in}
 use Rattle.table_commands.specs.fault_text.declared.fault.ToolFault.{ToolFault}
 use Rattle.table_commands.specs.fault_text.ToolFault.{fault_of_box, fault_of_certificate}
@@ -43,10 +42,10 @@ pub inputs-read : (layers : List LayerBytes) (box_json cert_json : List ℕ) (in
 unfolding check_inputs
 inputs-read layers box_json cert_json inputs e = each-read (stack_in layers) (box_in box_json) (cert_in cert_json) inputs e
 
-pub headline-holds : {W : Type 0} (contents : W → Option (List ℕ)) (old new : W) (layers : List LayerBytes) (box_json cert_json : List ℕ) (ids : List ResId) (status : Status) (inputs : CheckInputs)
-    → check_inputs layers box_json cert_json ≡ Ok inputs → PrintsOneOf (IsCheckOutput ids) contents old new (Ok status) (Ok inputs)
-    → HeadlineHolds layers box_json cert_json ids (contents old) (contents new) status
-headline-holds contents old new layers box_json cert_json ids status inputs read (input, text, is, output, put) =
+pub headline-holds : {W : Type 0} (contents : W → Option (List ℕ)) (old new : W) (layers : List LayerBytes) (box_json cert_json : List ℕ) (asked : List GoalSeen) (status : Status) (inputs : CheckInputs)
+    → check_inputs layers box_json cert_json ≡ Ok inputs → PrintsOneOf (IsCheckOutput asked) contents old new (Ok status) (Ok inputs)
+    → HeadlineHolds layers box_json cert_json asked (contents old) (contents new) status
+headline-holds contents old new layers box_json cert_json asked status inputs read (input, text, is, output, put) =
     let means = inputs-read layers box_json cert_json input (read ∙ is) in
     record {
       stack = input.stack;

@@ -1,24 +1,24 @@
 -- What a verdict on a certificate promises, from the bytes of all inputs.
 use Rattle.std.specs.Prelude.{◌≡◌, ℕ, List, Option, Ok}
 use Rattle.std.specs.Io.KnownBytes.{Appends}
-use Rattle.cert_maker.specs.res_value.declared.res_id.ResId.{ResId}
 use Rattle.cert_maker.specs.box_answers.NumberSet.{SetOf}
 use Rattle.cert_maker.specs.config_box.BoxJson.{box_in}
 use Rattle.table_commands.specs.overlay_map.Layer.{LayerOf}
-use Rattle.cert_maker.specs.cert_tree.Certificate.{GoalOf}
+use Rattle.cert_maker.specs.cert_tree.Certificate.{GoalSeen, GoalOf}
 use Rattle.cert_maker.specs.cert_tree.CertJson.{cert_in}
 use Rattle.cert_maker.specs.cert_checker.declared.verdict.Verdict.{Verdict}
 use Rattle.cert_maker.specs.cert_checker.Headline.{Headline}
 use Rattle.table_commands.specs.command_base.declared.status.Status.{Status}
 use Rattle.table_commands.specs.command_base.StackBytes.{LayerBytes, stack_in}
-use Rattle.resource_tool.specs.CheckOutput.{goals_asked, status_of_verdict, check_text}
+use Rattle.resource_tool.specs.CheckOutput.{status_of_verdict, check_text}
 
 -- The bytes mean layers, a box and a certificate, and a verdict was printed, of which the headline holds: if the checker
 -- accepts a certificate for a stack of tables and overlays, a box and named goals, then for every configuration in the box
--- and every goal, the selection, overlay and reference rules end within twenty references at the value of the leaf that the
--- configuration reaches; if it rejects, the node it names is the first whose stated rule fails. (The goals are the ids that
--- are asked, in their order. A box is never empty: `ConfigBox::read` promises `IsBox` of what the bytes mean.)
-pub record HeadlineHolds (layers : List LayerBytes) (box_json cert_json : List ℕ) (ids : List ResId) (old new : Option (List ℕ)) (status : Status) : Type 0 where
+-- and every goal, the selection, overlay, bag, theme and reference rules end within twenty attribute steps and twenty
+-- references at the value of the leaf that the configuration reaches; if it rejects, the node it names is the first whose
+-- stated rule fails. (Of an id no bag, theme or attribute is asked. The goals are those that are asked, in their order. A
+-- box is never empty: `ConfigBox::read` promises `IsBox` of what the bytes mean.)
+pub record HeadlineHolds (layers : List LayerBytes) (box_json cert_json : List ℕ) (asked : List GoalSeen) (old new : Option (List ℕ)) (status : Status) : Type 0 where
   pub stack : List LayerOf
   pub sets : List SetOf
   pub trees : List GoalOf
@@ -28,4 +28,4 @@ pub record HeadlineHolds (layers : List LayerBytes) (box_json cert_json : List �
   pub means_certificate : cert_in cert_json ≡ Ok trees
   pub ends : status ≡ status_of_verdict verdict
   pub printed : Appends old new (check_text (record { stack = stack; sets = sets; trees = trees }) verdict)
-  pub holds : Headline stack sets (goals_asked ids) trees verdict
+  pub holds : Headline stack sets asked trees verdict

@@ -1,14 +1,11 @@
 -- What the command `check` prints.
-use Rattle.std.specs.Prelude.{◌≡◌, ℕ, ◌++◌, List, map, Result, Ok}
+use Rattle.std.specs.Prelude.{◌≡◌, ℕ, ◌++◌, List, Result, Ok}
 use Rattle.contract_words.specs.Faults.{◌>>=◌}
-use Rattle.cert_maker.specs.res_value.declared.res_id.ResId.{ResId}
 use Rattle.cert_maker.specs.box_answers.NumberSet.{SetOf}
 use Rattle.cert_maker.specs.config_box.BoxJson.{box_in}
 use Rattle.table_commands.specs.overlay_map.Layer.{LayerOf}
 use Rattle.table_commands.specs.overlay_map.SetAside.{set_aside_in_stack}
-use Rattle.cert_maker.specs.cert_tree.declared.goal.Goal.{Goal}
-use Rattle.cert_maker.specs.cert_tree.declared.goal.Goal.TheVariants.{Id}
-use Rattle.cert_maker.specs.cert_tree.Certificate.{GoalOf}
+use Rattle.cert_maker.specs.cert_tree.Certificate.{GoalSeen, GoalOf}
 use Rattle.cert_maker.specs.cert_tree.CertJson.{cert_in}
 use Rattle.cert_maker.specs.cert_checker.declared.verdict.Verdict.{Verdict}
 use Rattle.cert_maker.specs.cert_checker.declared.verdict.Verdict.TheVariants.{Accepted, Rejected}
@@ -41,10 +38,6 @@ check_inputs layers box_json cert_json = do
   trees ← map_err fault_of_certificate (cert_in cert_json)
   Ok (record { stack = stack; sets = sets; trees = trees })
 
--- what ids ask for: where each of them ends
-abbrev pub goals_asked : List ResId → List Goal
-goals_asked ids = map (λ id. Id id) ids
-
 -- ---- the output
 
 -- it is done where the certificate is accepted
@@ -58,9 +51,9 @@ check_text inputs verdict = verdict_text verdict inputs.trees ++ set_aside_line 
 
 -- A verdict is printed that is right: accepted where no rule fails at any node; else the first fault, and devices that show
 -- it. What it says of all devices of the box holds.
-pub record IsCheckOutput (ids : List ResId) (inputs : CheckInputs) (output : Output) : Type 0 where
+pub record IsCheckOutput (asked : List GoalSeen) (inputs : CheckInputs) (output : Output) : Type 0 where
   pub verdict : Verdict
-  pub right : IsVerdict inputs.stack inputs.sets (goals_asked ids) inputs.trees verdict
-  pub headline : Headline inputs.stack inputs.sets (goals_asked ids) inputs.trees verdict
+  pub right : IsVerdict inputs.stack inputs.sets asked inputs.trees verdict
+  pub headline : Headline inputs.stack inputs.sets asked inputs.trees verdict
   pub status : output.status ≡ status_of_verdict verdict
   pub text : output.text ≡ check_text inputs verdict

@@ -1,15 +1,15 @@
 -- What the command `make` prints.
 use Rattle.std.specs.Prelude.{◌≡◌, ℕ, ◌≤◌, List, [], ◌∷◌, ◌++◌, codes, Result, Ok}
 use Rattle.std.specs.Fmt.{decimal}
+use Rattle.std.specs.List.{All}
 use Rattle.serde_json.specs.Written.{compact_text}
 use Rattle.contract_words.specs.Faults.{◌>>=◌}
-use Rattle.cert_maker.specs.res_value.declared.res_id.ResId.{ResId}
 use Rattle.table_commands.specs.config_record.DeviceSeen.{device_numbers}
 use Rattle.cert_maker.specs.box_answers.NumberSet.{SetOf}
 use Rattle.cert_maker.specs.config_box.BoxJson.{box_in}
 use Rattle.table_commands.specs.overlay_map.Layer.{LayerOf}
 use Rattle.table_commands.specs.reference_resolver.declared.end.End.{End}
-use Rattle.cert_maker.specs.cert_tree.Certificate.{GoalOf, goals_of, most_nodes}
+use Rattle.cert_maker.specs.cert_tree.Certificate.{GoalSeen, GoalOf, GoalFits, goals_of, most_nodes}
 use Rattle.cert_maker.specs.cert_tree.CertJson.{cert_in}
 use Rattle.cert_maker.specs.cert_tree.WrittenJson.{cert_data}
 use Rattle.cert_maker.specs.cert_checker.FirstFault.{IsAccepted}
@@ -25,7 +25,6 @@ use Rattle.table_commands.specs.command_base.declared.status.Status.TheVariants.
 use Rattle.table_commands.specs.command_base.Output.{Output}
 use Rattle.table_commands.specs.command_base.StackBytes.{LayerBytes, stack_in}
 use Rattle.table_commands.specs.command_base.MapErr.{map_err}
-use Rattle.resource_tool.specs.CheckOutput.{goals_asked}
 
 -- ---- the inputs
 
@@ -69,17 +68,17 @@ made_text NodeLimit = codes "node limit" ++ 10 ∷ []
 abbrev pub made_output : Made → Output
 made_output made = record { status = status_of_made made; text = made_text made }
 
--- a text is read as a certificate that is accepted for the layers, the box and the ids
-pub record IsReadAccepted (ids : List ResId) (inputs : MakeInputs) (text : List ℕ) : Type 0 where
+-- a text is read as a certificate that is accepted for the layers, the box and the goals
+pub record IsReadAccepted (asked : List GoalSeen) (inputs : MakeInputs) (text : List ℕ) : Type 0 where
   pub trees : List GoalOf
   pub means : cert_in text ≡ Ok trees
-  pub accepted : IsAccepted inputs.stack inputs.sets (goals_asked ids) trees
+  pub accepted : IsAccepted inputs.stack inputs.sets asked trees
 
--- An answer is printed that the maker may give for the layers, the box, the ids and the limit of nodes. Where that is done,
--- with a limit that a certificate can have, what is printed is read as a certificate that is accepted.
-pub record IsMakeOutput (ids : List ResId) (most : ℕ) (inputs : MakeInputs) (output : Output) : Type 0 where
+-- An answer is printed that the maker may give for the layers, the box, the goals and the limit of nodes. Where that is done,
+-- with a limit and goals that a certificate can have, what is printed is read as a certificate that is accepted.
+pub record IsMakeOutput (asked : List GoalSeen) (most : ℕ) (inputs : MakeInputs) (output : Output) : Type 0 where
   pub made : Made
-  pub right : IsMade inputs.stack inputs.sets (goals_asked ids) most made
-  pub least : IsLeast inputs.stack inputs.sets (goals_asked ids) most made
+  pub right : IsMade inputs.stack inputs.sets asked most made
+  pub least : IsLeast inputs.stack inputs.sets asked most made
   pub printed : output ≡ made_output made
-  pub reads_back : output.status ≡ Done → most ≤ most_nodes → IsReadAccepted ids inputs output.text
+  pub reads_back : output.status ≡ Done → most ≤ most_nodes → All GoalFits asked → IsReadAccepted asked inputs output.text

@@ -3,34 +3,34 @@
 ghost use Rattle.std.specs.Prelude.{◌≡◌, map, Ok, IfOk};
 ghost use Rattle.contract_words.specs.Exact.{GivesOr};
 ghost use Rattle.contract_words.specs.Writes.{Writes};
+ghost use Rattle.cert_maker.specs.cert_tree.Certificate.{goal_seen};
 ghost use Rattle.table_commands.specs.fault_text.declared.fault.ToolFault.TheVariants.{OutOfMemory};
 ghost use Rattle.table_commands.specs.command_base.Output.{PrintsOneOf, IsOfInput};
 ghost use Rattle.table_commands.specs.command_base.StackBytesSeen.{layer_bytes};
 ghost use Rattle.resource_tool.specs.CheckOutput.{IsCheckOutput, check_inputs, check_text, status_of_verdict};
 ghost use Rattle.resource_tool.specs.CheckHeadline.{HeadlineHolds};
 
-use crate::goals::goals_asked;
-use cert_maker::{Cert, ConfigBox, ResId, Verdict, check};
+use cert_maker::{Cert, ConfigBox, Goal, Verdict, check};
 use resource_text::{set_aside_line, verdict_text};
 use std::alloc::Global;
 use std::io::{self, Write};
 use table_commands::{LayerParts, Stack, Status, ToolFault, open_stack};
 
-/// Prints whether a certificate is true of some ids for every device of a box, or the first of its nodes that
+/// Prints whether a certificate is true of some goals for every device of a box, or the first of its nodes that
 /// fails with the devices that show it; and a line with the number of rows of all layers that are set aside.
-/// The certificate has to have a tree for each of the ids, in their order. The status is Negative where it is
+/// The certificate has to have a tree for each of the goals, in their order. The status is Negative where it is
 /// rejected.
 pub fn check_bytes<W: Write + Drop>(
     alloc: Global,
     layers: &[LayerParts<&[u8]>],
     box_json: &[u8],
     cert: &[u8],
-    goals: &[ResId],
+    goals: &[Goal],
     out: &mut W,
 ) -> Result<Status, ToolFault>
-    ensures verdict { PrintsOneOf (IsCheckOutput goals.now) W.contents out.old out.new result
+    ensures verdict { PrintsOneOf (IsCheckOutput (map goal_seen goals.now)) W.contents out.old out.new result
         (check_inputs (map layer_bytes layers.now) box_json.now cert.now) }
-    ensures headline { IfOk result (HeadlineHolds (map layer_bytes layers.now) box_json.now cert.now goals.now
+    ensures headline { IfOk result (HeadlineHolds (map layer_bytes layers.now) box_json.now cert.now (map goal_seen goals.now)
         (W.contents out.old) (W.contents out.new)) }
 {
     let checked = read_checked(alloc, layers, box_json, cert)?;
@@ -70,17 +70,16 @@ fn read_checked<'a>(
 fn answer<W: Write + Drop>(
     alloc: Global,
     checked: &Checked<'_>,
-    goals: &[ResId],
+    goals: &[Goal],
     out: &mut W,
 ) -> Result<Status, ToolFault>
-    ensures { PrintsOneOf (IsCheckOutput goals.now) W.contents out.old out.new result (Ok (checked_of checked.now)) }
+    ensures { PrintsOneOf (IsCheckOutput (map goal_seen goals.now)) W.contents out.old out.new result (Ok (checked_of checked.now)) }
 {
-    let goals = goals_asked(alloc, goals)?;
     let verdict = check(
         alloc,
         &checked.stack,
         &checked.members,
-        &goals,
+        goals,
         &checked.certificate,
     )?;
     write_verdict(&verdict, checked, out)?;

@@ -5,17 +5,16 @@
 //! names the first fault of that input and has printed nothing.
 //!
 //! ```text
-//! make_bytes(alloc, &layers, &box_json, &ids, 100_000, &mut out)?; // {"goals":[{"id":"0x7f010000","nodes":[{"kind":16, ..
-//! check_bytes(alloc, &layers, &box_json, &certificate, &ids, &mut out)?; // accepted goals 1 nodes 3
+//! make_bytes(alloc, &layers, &box_json, &goals, 100_000, &mut out)?; // {"goals":[{"id":"0x7f010000","nodes":[{"kind":16, ..
+//! check_bytes(alloc, &layers, &box_json, &certificate, &goals, &mut out)?; // accepted goals 1 nodes 3
 //!                                                                        // set-aside 0
 //! ```
 #![tactic(auto)]
 
 mod check;
-mod goals;
 mod make;
 
-pub use cert_maker::{Progress, Unwatched};
+pub use cert_maker::{Goal, Progress, Unwatched};
 pub use check::check_bytes;
 pub use device_commands::{attr_bytes, bag_bytes, explain_bytes, query_bytes};
 pub use make::{make_bytes, make_bytes_watched};

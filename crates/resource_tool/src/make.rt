@@ -2,32 +2,33 @@
 
 ghost use Rattle.std.specs.Prelude.{◌≡◌, ◌∷◌, ◌++◌, [], map, Ok, OnOk};
 ghost use Rattle.contract_words.specs.Writes.{Writes};
+ghost use Rattle.cert_maker.specs.cert_tree.Certificate.{goal_seen};
 ghost use Rattle.table_commands.specs.config_record.DeviceSeen.{device_numbers};
 ghost use Rattle.table_commands.specs.command_base.Output.{Prints, PrintsOneOf};
 ghost use Rattle.table_commands.specs.command_base.StackBytesSeen.{layer_bytes};
 ghost use Rattle.resource_tool.specs.MakeOutput.{IsMakeOutput, make_inputs, counterexample_line, counterexample_text, status_of_made, made_output};
 ghost use Rattle.resource_tool.specs.LineReadsBack.{LineReadsBack};
 
-use crate::goals::goals_asked;
-use cert_maker::{ConfigBox, Made, Progress, ResId, Unwatched, make_watched};
+use cert_maker::{ConfigBox, Goal, Made, Progress, Unwatched, make_watched};
 use resource_text::device_with_end;
 use std::alloc::Global;
 use std::io::{self, Write};
 use table_commands::{Device, End, LayerParts, Stack, Status, ToolFault, open_stack};
 
-/// Prints a certificate that `check_bytes` accepts for the same layers, box and ids, in one line of JSON; then
-/// the status is Done. Or it prints the place of an id, from 0, with a device of the box for which that id ends
-/// at no value and no bag, and where it ends; or `node limit`, where the trees of all ids can have more than
-/// `max_nodes` nodes together. A certificate of more than 1,000,000 nodes is not read again.
+/// Prints a certificate that `check_bytes` accepts for the same layers, box and goals, in one line of JSON; then
+/// the status is Done. Or it prints the place of a goal, from 0, with a device of the box for which that goal ends
+/// at no value and no bag, and where it ends; or `node limit`, where the trees of all goals can have more than
+/// `max_nodes` nodes together. A certificate of more than 1,000,000 nodes, or of a goal with
+/// more than 64 styles, is not read again.
 pub fn make_bytes<W: Write + Drop>(
     alloc: Global,
     layers: &[LayerParts<&[u8]>],
     box_json: &[u8],
-    goals: &[ResId],
+    goals: &[Goal],
     max_nodes: u32,
     out: &mut W,
 ) -> Result<Status, ToolFault>
-    ensures { PrintsOneOf (IsMakeOutput goals.now max_nodes) W.contents out.old out.new result
+    ensures { PrintsOneOf (IsMakeOutput (map goal_seen goals.now) max_nodes) W.contents out.old out.new result
         (make_inputs (map layer_bytes layers.now) box_json.now) }
 {
     make_bytes_watched(
@@ -41,18 +42,18 @@ pub fn make_bytes<W: Write + Drop>(
     )
 }
 
-/// The same, where `progress` comes to know after each id how many have their tree.
+/// The same, where `progress` comes to know after each goal how many have their tree.
 #[tactic(auto, unfolding(crate::specs::MakeOutput::make_inputs))]
 pub fn make_bytes_watched<W: Write + Drop, P: Progress>(
     alloc: Global,
     layers: &[LayerParts<&[u8]>],
     box_json: &[u8],
-    goals: &[ResId],
+    goals: &[Goal],
     max_nodes: u32,
     progress: &mut P,
     out: &mut W,
 ) -> Result<Status, ToolFault>
-    ensures { PrintsOneOf (IsMakeOutput goals.now max_nodes) W.contents out.old out.new result
+    ensures { PrintsOneOf (IsMakeOutput (map goal_seen goals.now) max_nodes) W.contents out.old out.new result
         (make_inputs (map layer_bytes layers.now) box_json.now) }
 {
     let stack = open_stack(alloc, layers)?;
@@ -64,16 +65,15 @@ fn answer<W: Write + Drop, P: Progress>(
     alloc: Global,
     stack: &Stack<'_>,
     members: &ConfigBox,
-    goals: &[ResId],
+    goals: &[Goal],
     max_nodes: u32,
     progress: &mut P,
     out: &mut W,
 ) -> Result<Status, ToolFault>
-    ensures { PrintsOneOf (IsMakeOutput goals.now max_nodes) W.contents out.old out.new result
+    ensures { PrintsOneOf (IsMakeOutput (map goal_seen goals.now) max_nodes) W.contents out.old out.new result
         (Ok (record { stack = stack.now; sets = members.now })) }
 {
-    let goals = goals_asked(alloc, goals)?;
-    let made = make_watched(alloc, stack, members, &goals, max_nodes, progress)?;
+    let made = make_watched(alloc, stack, members, goals, max_nodes, progress)?;
     print_made(alloc, &made, out)
 }
 

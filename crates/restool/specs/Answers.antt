@@ -1,5 +1,5 @@
 -- What a request is answered.
-use Rattle.std.specs.Prelude.{◌≡◌, ◌≢◌, ◌⊎◌, ℕ, List, Option, Result, Ok, Err}
+use Rattle.std.specs.Prelude.{◌≡◌, ◌≢◌, ◌⊎◌, ℕ, List, map, Option, Result, Ok, Err}
 use Rattle.program_run.specs.fault_text.declared.fault.ToolFault.{ToolFault}
 use Rattle.program_run.specs.fault_text.declared.fault.ToolFault.TheVariants.{OutOfMemory}
 use Rattle.program_run.specs.command_base.declared.status.Status.{Status}
@@ -9,6 +9,7 @@ use Rattle.resource_tool.specs.device_commands.QueryOutput.{query_output}
 use Rattle.resource_tool.specs.device_commands.ExplainOutput.{explain_output}
 use Rattle.resource_tool.specs.device_commands.BagOutput.{bag_output}
 use Rattle.resource_tool.specs.device_commands.AttrOutput.{attr_output}
+use Rattle.resource_tool.specs.cert_tree.Certificate.{goal_seen}
 use Rattle.resource_tool.specs.MakeOutput.{IsMakeOutput, make_inputs}
 use Rattle.resource_tool.specs.CheckOutput as check
 use Rattle.program_run.specs.command_words.declared.request.Request.{Request}
@@ -43,12 +44,12 @@ AnswersOfDevice contents old new inputs (Attr attr styles force) result =
 
 -- what is asked of a box, from the layers and the box at these paths
 abbrev pub AnswersOfBox : {W : Type 0} → (W → Option (List ℕ)) → W → W → Places → List ℕ → List ℕ → BoxRequest → Result Status Stop → Type 0
-AnswersOfBox contents old new places layers box_path (Make max_nodes ids) =
-    CarriesOut (λ inputs result. PrintsOneOf (IsMakeOutput ids.items max_nodes) contents old new result
+AnswersOfBox contents old new places layers box_path (Make max_nodes goals) =
+    CarriesOut (λ inputs result. PrintsOneOf (IsMakeOutput (map goal_seen goals.items) max_nodes) contents old new result
     (make_inputs inputs.layers inputs.devices))
     (device_files places layers box_path)
-AnswersOfBox contents old new places layers box_path (Check certificate ids) =
-    CarriesOut (λ inputs result. PrintsOneOf (check.IsCheckOutput ids.items) contents old new result
+AnswersOfBox contents old new places layers box_path (Check certificate goals) =
+    CarriesOut (λ inputs result. PrintsOneOf (check.IsCheckOutput (map goal_seen goals.items)) contents old new result
     (check.check_inputs inputs.asked.layers inputs.asked.devices inputs.certificate))
     (check_files places layers box_path certificate.now)
 

@@ -1,8 +1,9 @@
 //! What a request is answered.
 
-ghost use Rattle.std.specs.Prelude.{◌≡◌, ◌≢◌, IfErr, IfSome};
+ghost use Rattle.std.specs.Prelude.{◌≡◌, ◌≢◌, map, IfErr, IfSome};
 ghost use Rattle.program_run.specs.fault_text.declared.fault.ToolFault.TheVariants.{Write};
 ghost use Rattle.program_run.specs.command_base.Output.{PrintsOneOf};
+ghost use Rattle.resource_tool.specs.cert_tree.Certificate.{goal_seen};
 ghost use Rattle.resource_tool.specs.MakeOutput.{IsMakeOutput, make_inputs};
 ghost use Rattle.resource_tool.specs.CheckOutput.{IsCheckOutput, check_inputs};
 ghost use Rattle.restool.specs.Answers.{Answers, AnswersOfBox, AnswersOfDevice};
@@ -10,7 +11,7 @@ ghost use Rattle.program_run.specs.FilesSeen.{devices_held, layers_held};
 ghost use Rattle.program_run.specs.Stop.{stop_of, tool};
 
 use program_run::{
-    BoxRequest, CheckFiles, DeviceFiles, DeviceRequest, Inputs, Request, ResId, Stop, table_bytes,
+    BoxRequest, CheckFiles, DeviceFiles, DeviceRequest, Goal, Inputs, Request, Stop, table_bytes,
 };
 use resource_tool::{
     Progress, Status, ToolFault, attr_bytes, bag_bytes, check_bytes, dump_bytes, explain_bytes,
@@ -91,16 +92,18 @@ fn answer_of_box<'a, I: Inputs, P: Progress, O: Write + Drop>(
     ensures unwritten { IfErr result (λ stop. stop_of stop ≢ tool Write → out.new ≡ out.old) }
 {
     match request {
-        BoxRequest::Make { max_nodes, ids } => {
+        BoxRequest::Make { max_nodes, goals } => {
             let files = DeviceFiles::read(alloc, inputs, layers_path, box_path)?;
-            Ok(make_certificate(alloc, &files, &ids, max_nodes, progress, out)?)
+            Ok(make_certificate(
+                alloc, &files, &goals, max_nodes, progress, out,
+            )?)
         }
         BoxRequest::Check {
             certificate_path,
-            ids,
+            goals,
         } => {
             let files = CheckFiles::read(alloc, inputs, layers_path, box_path, certificate_path)?;
-            Ok(check_certificate(alloc, &files, &ids, out)?)
+            Ok(check_certificate(alloc, &files, &goals, out)?)
         }
     }
 }
@@ -108,29 +111,29 @@ fn answer_of_box<'a, I: Inputs, P: Progress, O: Write + Drop>(
 fn make_certificate<O: Write + Drop, P: Progress>(
     alloc: Global,
     files: &DeviceFiles,
-    ids: &[ResId],
+    goals: &[Goal],
     max_nodes: u32,
     progress: &mut P,
     out: &mut O,
 ) -> Result<Status, ToolFault>
-    ensures { PrintsOneOf (IsMakeOutput ids.now max_nodes) O.contents out.old out.new result
+    ensures { PrintsOneOf (IsMakeOutput (map goal_seen goals.now) max_nodes) O.contents out.old out.new result
         (make_inputs (layers_held files.now.layers) files.now.devices.items) }
 {
     let layers = files.layers.layers(alloc)?;
     let box_json = &files.devices;
-    make_bytes_watched(alloc, &layers, box_json, ids, max_nodes, progress, out)
+    make_bytes_watched(alloc, &layers, box_json, goals, max_nodes, progress, out)
 }
 
 fn check_certificate<O: Write + Drop>(
     alloc: Global,
     files: &CheckFiles,
-    ids: &[ResId],
+    goals: &[Goal],
     out: &mut O,
 ) -> Result<Status, ToolFault>
-    ensures { PrintsOneOf (IsCheckOutput ids.now) O.contents out.old out.new result
+    ensures { PrintsOneOf (IsCheckOutput (map goal_seen goals.now)) O.contents out.old out.new result
         (check_inputs (layers_held files.now.asked.layers) files.now.asked.devices.items files.now.certificate.items) }
 {
     let layers = files.asked.layers.layers(alloc)?;
     let box_json = &files.asked.devices;
-    check_bytes(alloc, &layers, box_json, &files.certificate, ids, out)
+    check_bytes(alloc, &layers, box_json, &files.certificate, goals, out)
 }

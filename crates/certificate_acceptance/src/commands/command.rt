@@ -1,5 +1,6 @@
 //! The commands over a table of a few rows.
 
+use cert_tree::{Goal, GoalFault};
 use res_value::ResId;
 use resource_tool::{Status, ToolFault, check_bytes, make_bytes};
 use std::alloc::{AllocError, Global};
@@ -7,6 +8,18 @@ use test_layers::layer_of_lines;
 
 /// The resource of entry 0.
 pub(crate) const FIRST: ResId = ResId(0x7f01_0000);
+
+/// The same, as a goal is written.
+pub(crate) const FIRST_GOAL: &str = "0x7f010000";
+
+/// The goals that are written so.
+pub(crate) fn goals_of(alloc: Global, words: &[&str]) -> Result<Vec<Goal>, GoalFault> {
+    let mut goals = Vec::new(alloc);
+    for word in words {
+        goals.push(Goal::read(alloc, *word)?)?;
+    }
+    Ok(goals)
+}
 
 /// A certificate with one tree, of these nodes, for the resource of entry 0.
 fn certificate_of(alloc: Global, nodes: &str) -> Result<String, AllocError> {
@@ -40,7 +53,7 @@ pub(crate) fn is_printed_of(
         &[(table.as_slice(), None)],
         members.as_bytes(),
         certificate.as_bytes(),
-        &[FIRST],
+        &[Goal::Id(FIRST)],
         &mut out,
     );
     Some(ended == Ok(want.0) && out.as_slice() == want.1.as_bytes())
@@ -52,17 +65,23 @@ pub(crate) struct Order<'a> {
     /// The rows of the only table.
     pub(crate) rows: &'a str,
     pub(crate) members: &'a str,
-    pub(crate) goals: &'a [ResId],
+    pub(crate) goals: &'a [&'a str],
     pub(crate) max_nodes: u32,
 }
 
 /// How `make` ends; what it prints goes to a list of bytes.
-fn made(alloc: Global, table: &[u8], order: Order, out: &mut Vec<u8>) -> Result<Status, ToolFault> {
+fn made(
+    alloc: Global,
+    table: &[u8],
+    order: Order,
+    goals: &[Goal],
+    out: &mut Vec<u8>,
+) -> Result<Status, ToolFault> {
     make_bytes(
         alloc,
         &[(table, None)],
         order.members.as_bytes(),
-        order.goals,
+        goals,
         order.max_nodes,
         out,
     )
@@ -71,23 +90,25 @@ fn made(alloc: Global, table: &[u8], order: Order, out: &mut Vec<u8>) -> Result<
 /// Whether `make` ends so and prints this; None where there are no such rows.
 pub(crate) fn is_made_as(alloc: Global, order: Order, want: (Status, &str)) -> Option<bool> {
     let table = layer_of_lines(alloc, order.rows).ok()?;
+    let goals = goals_of(alloc, order.goals).ok()?;
     let mut out = Vec::new(alloc);
-    let ended = made(alloc, table.as_slice(), order, &mut out);
+    let ended = made(alloc, table.as_slice(), order, &goals, &mut out);
     Some(ended == Ok(want.0) && out.as_slice() == want.1.as_bytes())
 }
 
 /// Whether `make` prints a certificate, of which a check of the same prints this; None where there are no such rows.
 pub(crate) fn is_accepted_as(alloc: Global, order: Order, want: &str) -> Option<bool> {
     let table = layer_of_lines(alloc, order.rows).ok()?;
+    let goals = goals_of(alloc, order.goals).ok()?;
     let mut certificate = Vec::new(alloc);
-    let ended = made(alloc, table.as_slice(), order, &mut certificate);
+    let ended = made(alloc, table.as_slice(), order, &goals, &mut certificate);
     let mut out = Vec::new(alloc);
     let checked = check_bytes(
         alloc,
         &[(table.as_slice(), None)],
         order.members.as_bytes(),
         certificate.as_slice(),
-        order.goals,
+        &goals,
         &mut out,
     );
     let is_done = ended == Ok(Status::Done) && checked == Ok(Status::Done);

@@ -1,18 +1,17 @@
 //! What `make` prints: certificates that are accepted, devices that have no value, and that there are too many nodes.
 
-use crate::commands::command::{FIRST, Order, is_accepted_as, is_made_as};
-use res_value::ResId;
+use crate::commands::command::{FIRST_GOAL, Order, is_accepted_as, is_made_as};
 use resource_tool::Status;
 use std::alloc::Global;
 
 /// The resource of entry 1.
-const SECOND: ResId = ResId(0x7f01_0001);
+const SECOND_GOAL: &str = "0x7f010001";
 
 /// A value that is best up to density 197, and one at 198.
 const BY_DENSITY: Order<'static> = Order {
     rows: "0 [density=160] 1\n0 [density=320] 2",
     members: r#"{"density":{"from":120,"to":198}}"#,
-    goals: &[FIRST],
+    goals: &[FIRST_GOAL],
     max_nodes: 10,
 };
 
@@ -20,7 +19,7 @@ const BY_DENSITY: Order<'static> = Order {
 const BY_LOCALE: Order<'static> = Order {
     rows: "0 [locale=fr] 1\n0 [] 2",
     members: r#"{"density":[160],"locale":["fr","de"]}"#,
-    goals: &[FIRST],
+    goals: &[FIRST_GOAL],
     max_nodes: 10,
 };
 
@@ -28,7 +27,7 @@ const BY_LOCALE: Order<'static> = Order {
 const PLAIN: Order<'static> = Order {
     rows: "0 [] 1",
     members: r#"{"density":[160]}"#,
-    goals: &[FIRST],
+    goals: &[FIRST_GOAL],
     max_nodes: 10,
 };
 
@@ -45,7 +44,7 @@ const ACCEPTED: [(Order, &str); 8] = [
     (BY_DENSITY, "accepted goals 1 nodes 3\nset-aside 0\n"),
     (
         Order {
-            goals: &[FIRST, FIRST],
+            goals: &[FIRST_GOAL, FIRST_GOAL],
             max_nodes: 6,
             ..BY_DENSITY
         },
@@ -70,7 +69,7 @@ const ACCEPTED: [(Order, &str); 8] = [
         Order {
             rows: "0 [] bag 0x00000000\n1 [night=2] @0x7f010000\n1 [] 1",
             members: r#"{"density":{"from":1,"to":32767},"night":[1,2]}"#,
-            goals: &[SECOND, FIRST],
+            goals: &[SECOND_GOAL, FIRST_GOAL],
             max_nodes: 4,
         },
         "accepted goals 2 nodes 4\nset-aside 0\n",
@@ -130,7 +129,7 @@ const PRINTED: [(Order, Status, &str); 8] = [
     ),
     (
         Order {
-            goals: &[FIRST, SECOND],
+            goals: &[FIRST_GOAL, SECOND_GOAL],
             ..PLAIN
         },
         Status::Negative,
@@ -162,7 +161,7 @@ const PRINTED: [(Order, Status, &str); 8] = [
     ),
     (
         Order {
-            goals: &[FIRST, FIRST],
+            goals: &[FIRST_GOAL, FIRST_GOAL],
             max_nodes: 5,
             ..BY_DENSITY
         },

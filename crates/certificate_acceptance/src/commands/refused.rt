@@ -1,7 +1,7 @@
 //! Inputs that are refused, before anything is printed.
 
 use crate::commands::command::FIRST;
-use cert_tree::CertFault;
+use cert_tree::{CertFault, Goal};
 use config_box::BoxFault;
 use config_record::Coord;
 use resource_tool::{LayersFault, ToolFault, check_bytes, make_bytes};
@@ -27,7 +27,7 @@ fn is_refused(
         layers,
         members.as_bytes(),
         certificate.as_bytes(),
-        &[FIRST],
+        &[Goal::Id(FIRST)],
         &mut out,
     );
     found == Err(fault) && out.is_empty()
@@ -36,7 +36,7 @@ fn is_refused(
 // The same of `make`.
 fn is_not_made(alloc: Global, layers: &[Layer], members: &str, fault: ToolFault) -> bool {
     let mut out = Vec::new(alloc);
-    let found = make_bytes(alloc, layers, members.as_bytes(), &[FIRST], 10, &mut out);
+    let found = make_bytes(alloc, layers, members.as_bytes(), &[Goal::Id(FIRST)], 10, &mut out);
     found == Err(fault) && out.is_empty()
 }
 

@@ -1,6 +1,7 @@
 //! Who watches `make` comes to know of each goal.
 
 use crate::commands::command::FIRST;
+use cert_tree::Goal;
 use resource_tool::{Progress, Status, make_bytes_watched};
 use std::alloc::Global;
 use test_layers::layer_of_lines;
@@ -40,7 +41,7 @@ fn sees_each_goal(alloc: Global) -> Option<bool> {
         alloc,
         &[(table.as_slice(), None)],
         br#"{"density":[160]}"#,
-        &[FIRST; GOALS],
+        &[Goal::Id(FIRST), Goal::Id(FIRST), Goal::Id(FIRST)],
         3,
         &mut seen,
         &mut out,
