@@ -6,3 +6,5 @@ pub mod CourseSteps
 pub mod Courses
 pub mod AttributeEnds
 pub mod KeySteps
+pub mod EndLayers
+pub mod AttributeLayers

@@ -8,8 +8,7 @@ pub mod AttributeNumbers
 pub mod OneLine
 pub mod LeastTree
 pub mod OneMember
-pub mod Layers
-pub mod AttributeLayers
+pub mod GoalLayers
 pub mod Parts
 pub mod Steps
 pub mod Loop

@@ -25,7 +25,7 @@ use Rattle.cert_checker.proofs.LeafSteps.{as_claimed}
 use Rattle.cert_checker.proofs.NodeSteps.{halves}
 use Rattle.cert_maker.specs.Needed.{NoneBetween, IsNeededTest}
 use Rattle.cert_maker.specs.Growth.{Grows}
-use Rattle.cert_maker.proofs.Layers.{EndBelow}
+use Rattle.cert_checker.proofs.bags_themes.EndLayers.{EndBelow}
 
 -- ---- what is needed in the box at a node is needed at the node
 

@@ -12,7 +12,7 @@ use Rattle.cert_checker.specs.cert_tree.Certificate.{node_of}
 use Rattle.cert_checker.specs.FirstFault.{goal_trace}
 use Rattle.cert_checker.proofs.box_trace.OpenBoxes.{rest_of, reached_there}
 use Rattle.cert_maker.specs.Growth.{Grows}
-use Rattle.cert_maker.proofs.AttributeLayers.{goal-below}
+use Rattle.cert_maker.proofs.GoalLayers.{goal-below}
 use Rattle.cert_maker.proofs.Steps.{grows-leaf, map-push}
 use Rattle.cert_maker.proofs.growth.add_node.Goals as goal
 

@@ -1,37 +1,35 @@
--- The layer of a value at which a goal ends is one of the stack: also that of an attribute under styles.
+-- The layer of a value at which an attribute ends under styles is one of the stack.
 use Rattle.std.proofs.Common.{◌≡◌, ℕ, zero, suc, ◌<◌, ◌≤◌, ◌==◌, length, Bool, true, false, List, [], ◌∷◌, Option, Some, None, Result, Ok, Err, refl}
 use Rattle.std.specs.Prelude.{if◌then◌else◌, nat_lt, filter, map}
 use Rattle.std.specs.List.{All, last_or}
 use Rattle.std.specs.Result.{result_ok}
 use Rattle.std.proofs.lemmas.List.Elements.{All-nil, All-cons, All-head, All-tail, All-filter}
-use Rattle.cert_checker.specs.res_value.declared.res_id.ResId.{ResId}
-use Rattle.cert_checker.specs.res_value.declared.value.Value.{Value}
-use Rattle.cert_checker.specs.res_value.Kind.{attribute_kind}
-use Rattle.cert_checker.specs.res_value.Cell.{CellOf, PlainOf, BagOf}
-use Rattle.cert_checker.specs.overlay_map.Layer.{LayerOf}
-use Rattle.cert_checker.specs.overlay_map.Candidates.{CandOf}
-use Rattle.cert_checker.specs.reference_resolver.declared.end.End.TheVariants as ends
-use Rattle.cert_checker.specs.reference_resolver.Selection.{selected}
-use Rattle.cert_checker.specs.reference_resolver.Ends.{references_followed, is_reference}
-use Rattle.cert_checker.specs.reference_resolver.Trace.{Trace}
-use Rattle.cert_checker.specs.bags_themes.declared.bag_row.BagRow.{BagRow}
-use Rattle.cert_checker.specs.bags_themes.declared.bag_fault.BagFault.{BagFault}
-use Rattle.cert_checker.specs.bags_themes.declared.bag_fault.BagFault.TheVariants as faults
-use Rattle.cert_checker.specs.bags_themes.declared.slot.Slot.{Slot}
-use Rattle.cert_checker.specs.bags_themes.declared.slot.Slot.TheVariants.{Refers, Ends}
-use Rattle.cert_checker.specs.bags_themes.declared.slot.AttributeStep.{AttributeStep}
-use Rattle.cert_checker.specs.bags_themes.declared.slot.AttributeStep.TheVariants.{Follows, Reaches}
-use Rattle.cert_checker.specs.bags_themes.declared.theme_value.ThemeValue.{ThemeValue}
-use Rattle.cert_checker.specs.bags_themes.Merge.{merge}
-use Rattle.cert_checker.specs.bags_themes.Bag.{FoundBagOf, rows_in, bag_in_cell, bag_in, most_parents, parent_of, chain_of, merged, bag_of}
-use Rattle.cert_checker.specs.bags_themes.Theme.{AttributeValues, unset, is_undefined_value, values_for, values_after}
-use Rattle.cert_checker.specs.bags_themes.Attribute.{attributes_followed, references_after_slot, step_of, slot_of}
-use Rattle.cert_checker.specs.bags_themes.AttributeTrace.{slot_trace, style_end, style_by, styles_trace}
-use Rattle.cert_checker.specs.cert_tree.Certificate.{GoalSeen, IdGoal, AttrGoal}
-use Rattle.cert_checker.specs.FirstFault.{goal_trace}
+use Rattle.reference_resolver.specs.res_value.declared.res_id.ResId.{ResId}
+use Rattle.reference_resolver.specs.res_value.declared.value.Value.{Value}
+use Rattle.reference_resolver.specs.res_value.Kind.{attribute_kind}
+use Rattle.reference_resolver.specs.res_value.Cell.{CellOf, PlainOf, BagOf}
+use Rattle.reference_resolver.specs.overlay_map.Layer.{LayerOf}
+use Rattle.reference_resolver.specs.overlay_map.Candidates.{CandOf}
+use Rattle.reference_resolver.specs.declared.end.End.TheVariants as ends
+use Rattle.reference_resolver.specs.Selection.{selected}
+use Rattle.reference_resolver.specs.Ends.{is_reference}
+use Rattle.reference_resolver.specs.Trace.{Trace}
+use Rattle.bags_themes.specs.declared.bag_row.BagRow.{BagRow}
+use Rattle.bags_themes.specs.declared.bag_fault.BagFault.{BagFault}
+use Rattle.bags_themes.specs.declared.bag_fault.BagFault.TheVariants as faults
+use Rattle.bags_themes.specs.declared.slot.Slot.{Slot}
+use Rattle.bags_themes.specs.declared.slot.Slot.TheVariants.{Refers, Ends}
+use Rattle.bags_themes.specs.declared.slot.AttributeStep.{AttributeStep}
+use Rattle.bags_themes.specs.declared.slot.AttributeStep.TheVariants.{Follows, Reaches}
+use Rattle.bags_themes.specs.declared.theme_value.ThemeValue.{ThemeValue}
+use Rattle.bags_themes.specs.Merge.{merge}
+use Rattle.bags_themes.specs.Bag.{FoundBagOf, rows_in, bag_in_cell, bag_in, most_parents, parent_of, chain_of, merged, bag_of}
+use Rattle.bags_themes.specs.Theme.{AttributeValues, unset, is_undefined_value, values_for, values_after}
+use Rattle.bags_themes.specs.Attribute.{attributes_followed, references_after_slot, step_of, slot_of}
+use Rattle.bags_themes.specs.AttributeTrace.{slot_trace, style_end, style_by, styles_trace, attribute_trace}
 use Rattle.contract_words.specs.Faults.{◌>>=◌}
 use Rattle.contract_words.specs.Sequences.{with_front}
-use Rattle.cert_maker.proofs.Layers.{BestBelow, EndBelow, selected-below, end-below}
+use Rattle.bags_themes.proofs.EndLayers.{BestBelow, EndBelow, selected-below, end-below}
 
 -- ---- the rows of a bag
 
@@ -229,6 +227,5 @@ styles-below count stack attr values (style ∷ styles) d few all =
     by-rows count (λ rows. styles_trace stack attr (values_after true rows values) styles d) style (bag_of stack style.0 d) (bag-below count stack style.0 d few)
     (λ rows h. styles-below count stack attr (values_after true rows values) styles d few (after-below count rows values h all))
 
-pub goal-below : (count : ℕ) (stack : List LayerOf) (goal : GoalSeen) (d : List ℕ) → length stack ≤ count → EndBelow count (goal_trace stack goal d).end
-goal-below count stack (IdGoal id) d few = end-below count stack references_followed id.0 d few
-goal-below count stack (AttrGoal attr styles) d few = styles-below count stack attr.0 unset styles d few (λ a. tt)
+pub attribute-below : (count : ℕ) (stack : List LayerOf) (attr : ℕ) (styles : List ResId) (d : List ℕ) → length stack ≤ count → EndBelow count (attribute_trace stack attr styles d).end
+attribute-below count stack attr styles d few = styles-below count stack attr unset styles d few (λ a. tt)

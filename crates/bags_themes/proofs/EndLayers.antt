@@ -3,19 +3,19 @@ use Rattle.std.proofs.Common.{◌≡◌, ℕ, zero, suc, ◌+◌, ◌<◌, ◌�
 use Rattle.std.specs.Prelude.{if◌then◌else◌}
 use Rattle.std.specs.List.{All}
 use Rattle.std.proofs.lemmas.List.Elements.{All-nil, All-cons, All-head, All-tail, All-append}
-use Rattle.cert_checker.specs.res_value.declared.res_id.ResId.{ResId}
-use Rattle.cert_checker.specs.res_value.Cell.{CellOf, PlainOf, BagOf}
-use Rattle.cert_checker.specs.type_chunks.Row.{RowOf}
-use Rattle.cert_checker.specs.overlay_map.Layer.{LayerOf, rows_for}
-use Rattle.cert_checker.specs.overlay_map.Candidates.{CandOf, candidates_at, candidates_from, candidates_of}
-use Rattle.cert_checker.specs.reference_resolver.declared.end.End.{End}
-use Rattle.cert_checker.specs.reference_resolver.declared.end.End.TheVariants as ends
-use Rattle.cert_checker.specs.reference_resolver.declared.next.Next.{Next}
-use Rattle.cert_checker.specs.reference_resolver.declared.next.Next.TheVariants.{LookUp, EndsAt}
-use Rattle.cert_checker.specs.reference_resolver.declared.step.Step.{Step}
-use Rattle.cert_checker.specs.reference_resolver.declared.step.Step.TheVariants.{NoMatch, KeptOut, TookOver}
-use Rattle.cert_checker.specs.reference_resolver.Selection.{step_of, best_after, best_of, selected}
-use Rattle.cert_checker.specs.reference_resolver.Ends.{is_reference, next_of, end_of}
+use Rattle.reference_resolver.specs.res_value.declared.res_id.ResId.{ResId}
+use Rattle.reference_resolver.specs.res_value.Cell.{CellOf, PlainOf, BagOf}
+use Rattle.reference_resolver.specs.type_chunks.Row.{RowOf}
+use Rattle.reference_resolver.specs.overlay_map.Layer.{LayerOf, rows_for}
+use Rattle.reference_resolver.specs.overlay_map.Candidates.{CandOf, candidates_at, candidates_from, candidates_of}
+use Rattle.reference_resolver.specs.declared.end.End.{End}
+use Rattle.reference_resolver.specs.declared.end.End.TheVariants as ends
+use Rattle.reference_resolver.specs.declared.next.Next.{Next}
+use Rattle.reference_resolver.specs.declared.next.Next.TheVariants.{LookUp, EndsAt}
+use Rattle.reference_resolver.specs.declared.step.Step.{Step}
+use Rattle.reference_resolver.specs.declared.step.Step.TheVariants.{NoMatch, KeptOut, TookOver}
+use Rattle.reference_resolver.specs.Selection.{step_of, best_after, best_of, selected}
+use Rattle.reference_resolver.specs.Ends.{is_reference, next_of, end_of}
 
 -- the layer of a candidate, or of the value at an end, is one of so many
 abbrev IsBelow : ℕ → CandOf → Type 0
