@@ -122,22 +122,30 @@ fn reads_attributes_from_version_2_on(rt: HostRuntime) -> Result<(), Fail> {
     Ok(())
 }
 
+fn style_count(goal: &Goal) -> usize {
+    match goal {
+        Goal::Id(_) => 0,
+        Goal::Attr { styles, .. } => styles.len(),
+    }
+}
+
+/// How many styles a goal of an attribute under so many has; none where there is no such goal.
+fn count_under(alloc: Global, styles: usize) -> Result<Option<usize>, AllocError> {
+    let mut under = Vec::new(alloc);
+    for _ in 0..styles {
+        under.push(STYLE)?;
+    }
+    let goal = Goal::attr(ResId(0x0101_0001), under);
+    Ok(goal.as_ref().map(|goal| style_count(goal)))
+}
+
 #[test]
 fn makes_goals_of_64_styles_at_most(rt: HostRuntime) -> Result<(), Fail> {
     let alloc = rt.alloc();
-    let mut styles = Vec::new(alloc);
-    for _ in 0..64 {
-        styles.push(STYLE)?;
+    for count in [0, 1, 64] {
+        assert_eq!(rt; count_under(alloc, count)?, Some(count));
     }
-    let mut more = Vec::new(alloc);
-    for _ in 0..65 {
-        more.push(STYLE)?;
-    }
-    let goal = Goal::attr(ResId(0x0101_0001), styles);
-    assert!(rt; matches!(goal, Some(Goal::Attr { styles, .. }) if styles.len() == 64));
-    assert!(rt; Goal::attr(ResId(0x0101_0001), more).is_none());
-    let none = Goal::attr(ResId(0x0101_0001), Vec::new(alloc));
-    assert!(rt; matches!(none, Some(Goal::Attr { styles, .. }) if styles.is_empty()));
+    assert_eq!(rt; count_under(alloc, 65)?, None);
     Ok(())
 }
 
@@ -158,10 +166,16 @@ fn are_equal_where_attribute_and_styles_are(rt: HostRuntime) -> Result<(), Fail>
 fn reads_words(rt: HostRuntime) -> Result<(), Fail> {
     let alloc = rt.alloc();
     let attr = ResId(0x0101_0001);
-    assert_eq!(rt; Goal::read(alloc, "0x7F01000a")?, Goal::Id(ResId(0x7f01_000a)));
+    assert_eq!(rt;
+        Goal::read(alloc, "0x7F01000a")?,
+        Goal::Id(ResId(0x7f01_000a))
+    );
     let one = goal_of(attr, vec![in alloc; STYLE]?);
     assert_eq!(rt; Goal::read(alloc, "0x01010001@0x7f010000")?, one);
-    let two = goal_of(attr, vec![in alloc; ResId(0x7f01_0002), ResId(0x7f01_0001)]?);
+    let two = goal_of(
+        attr,
+        vec![in alloc; ResId(0x7f01_0002), ResId(0x7f01_0001)]?,
+    );
     assert_eq!(rt; Goal::read(alloc, "0x01010001@0x7f010002,0x7f010001")?, two);
     Ok(())
 }
@@ -184,7 +198,11 @@ fn refuses_words(rt: HostRuntime) {
         "@style/Theme",
     ];
     for word in wrong {
-        assert_eq!(rt; Goal::read(rt.alloc(), word).err(), Some(GoalFault::Malformed), "{word}");
+        assert_eq!(rt;
+            Goal::read(rt.alloc(), word).err(),
+            Some(GoalFault::Malformed),
+            "{word}"
+        );
     }
 }
 
@@ -194,8 +212,11 @@ fn reads_words_of_64_styles_at_most(rt: HostRuntime) -> Result<(), Fail> {
     let most = ",0x7f010000".repeat(alloc, 63)?;
     let word = format!(in alloc; "0x01010001@0x7f010000{most}")?;
     let goal = Goal::read(alloc, word.as_str())?;
-    assert!(rt; matches!(goal, Goal::Attr { styles, .. } if styles.len() == 64));
+    assert_eq!(rt; style_count(&goal), 64);
     let more = format!(in alloc; "{word},0x7f010000")?;
-    assert_eq!(rt; Goal::read(alloc, more.as_str()).err(), Some(GoalFault::Malformed));
+    assert_eq!(rt;
+        Goal::read(alloc, more.as_str()).err(),
+        Some(GoalFault::Malformed)
+    );
     Ok(())
 }
