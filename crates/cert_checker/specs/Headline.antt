@@ -12,7 +12,7 @@ use Rattle.cert_tree.specs.Certificate.{NodeOf, GoalSeen, IdGoal, AttrGoal, Goal
 use Rattle.cert_checker.specs.declared.verdict.Verdict.{Verdict}
 use Rattle.cert_checker.specs.declared.verdict.Verdict.TheVariants.{Accepted, Rejected}
 use Rattle.cert_checker.specs.Paths.{Reaches}
-use Rattle.cert_checker.specs.FirstFault.{IsFirstFault}
+use Rattle.cert_checker.specs.FirstFault.{goal_trace, IsFirstFault}
 
 -- For a goal and a device the rules end here: those of selection, overlays and references, within twenty references; for an
 -- attribute those of bags and themes too, where nothing is set before its styles, within twenty attribute steps.
@@ -48,3 +48,7 @@ IdsEndByReferences =
     → (g : ℕ) (id : ResId) → slice_get asked g ≡ Some (IdGoal id)
     → (tree : GoalOf) × (slice_get trees g ≡ Some tree) × (tree.goal ≡ IdGoal id)
     × ((d : List ℕ) → IsMember sets d → (claimed : End) × Reaches tree.nodes d claimed × ((end : End) → Reaches tree.nodes d end → IsTheEnd stack id.0 d references_followed end))
+
+-- The trace of a goal ends where the rules do.
+abbrev pub TracesEndByRules : Type 0
+TracesEndByRules = (stack : List LayerOf) (goal : GoalSeen) (d : List ℕ) → RulesEndAt stack goal d (goal_trace stack goal d).end

@@ -30,14 +30,7 @@ fn stands_at(goals: &[Goal], place: usize, goal: &Goal) -> bool
         (slice_get (map goal_seen goals.now) place ≢ Some (goal_seen goal.now)) }
 {
     match goals.get(place) {
-        Some(found) => is_same(found, goal),
+        Some(found) => found.asks_same(goal),
         None => false,
     }
-}
-
-// Whether two goals ask the same.
-fn is_same(a: &Goal, b: &Goal) -> bool
-    ensures { MatchBool result (goal_seen a.now ≡ goal_seen b.now) (goal_seen a.now ≢ goal_seen b.now) }
-{
-    a == b
 }

@@ -8,8 +8,8 @@ use json_input::JsonFault;
 use std::alloc::{AllocError, AllocFailed};
 use thiserror::Error;
 
-/// Why no certificate was read. A text is first read, then its version is looked at, then the shape of
-/// the whole; then goal by goal its shape, how many nodes there are with it, and its nodes. The first
+/// Why no certificate was read. A text is first read; then it has to be an object, then its version is
+/// looked at, then the shape of the whole; then goal by goal its shape, how many nodes there are with it, and its nodes. The first
 /// fault is named.
 #[derive(Clone, Copy, Debug, PartialEq, Eq, Error)]
 pub enum CertFault {
