@@ -158,10 +158,16 @@ fn are_equal_where_attribute_and_styles_are(rt: HostRuntime) -> Result<(), Fail>
 fn reads_words(rt: HostRuntime) -> Result<(), Fail> {
     let alloc = rt.alloc();
     let attr = ResId(0x0101_0001);
-    assert_eq!(rt; Goal::read(alloc, "0x7F01000a")?, Goal::Id(ResId(0x7f01_000a)));
+    assert_eq!(rt;
+        Goal::read(alloc, "0x7F01000a")?,
+        Goal::Id(ResId(0x7f01_000a))
+    );
     let one = goal_of(attr, vec![in alloc; STYLE]?);
     assert_eq!(rt; Goal::read(alloc, "0x01010001@0x7f010000")?, one);
-    let two = goal_of(attr, vec![in alloc; ResId(0x7f01_0002), ResId(0x7f01_0001)]?);
+    let two = goal_of(
+        attr,
+        vec![in alloc; ResId(0x7f01_0002), ResId(0x7f01_0001)]?,
+    );
     assert_eq!(rt; Goal::read(alloc, "0x01010001@0x7f010002,0x7f010001")?, two);
     Ok(())
 }
@@ -184,7 +190,11 @@ fn refuses_words(rt: HostRuntime) {
         "@style/Theme",
     ];
     for word in wrong {
-        assert_eq!(rt; Goal::read(rt.alloc(), word).err(), Some(GoalFault::Malformed), "{word}");
+        assert_eq!(rt;
+            Goal::read(rt.alloc(), word).err(),
+            Some(GoalFault::Malformed),
+            "{word}"
+        );
     }
 }
 
@@ -196,6 +206,9 @@ fn reads_words_of_64_styles_at_most(rt: HostRuntime) -> Result<(), Fail> {
     let goal = Goal::read(alloc, word.as_str())?;
     assert!(rt; matches!(goal, Goal::Attr { styles, .. } if styles.len() == 64));
     let more = format!(in alloc; "{word},0x7f010000")?;
-    assert_eq!(rt; Goal::read(alloc, more.as_str()).err(), Some(GoalFault::Malformed));
+    assert_eq!(rt;
+        Goal::read(alloc, more.as_str()).err(),
+        Some(GoalFault::Malformed)
+    );
     Ok(())
 }
