@@ -217,6 +217,8 @@ rm box
 rejected "an absent box comes before the certificate" 5 'file: box'
 line box-id.err 'command: bad id 0x7f01'
 check "a bad id comes before the files" 2 $none box-id.err check absent box certificate 0x7f010000 0x7f01
+line goal.err 'command: bad id 0x01010001@'
+check "an attribute without styles comes before the files" 2 $none goal.err check absent box certificate 0x7f010000 0x01010001@
 if command -v python3 >/dev/null; then
     ends "JSON Schemas" 0 "python3 '$here/tests/check_schemas.py' \"\$0\""
     ends "worked certificates" 0 "python3 '$here/tests/worked_certificates.py' \"\$0\""
@@ -249,6 +251,7 @@ head -c 4 whole >cut
 no_certificate "a table comes before the box" 3 'refused: layer 0 table: Chunk Truncated 0' cut-layers emptied 0x7f010000
 no_certificate "an absent box comes before all that is rejected" 5 'file: absent' cut-layers absent 0x7f010000
 no_certificate "a bad id comes before the files" 2 'command: bad id 0x7f01' absent absent 0x7f010000 0x7f01
+no_certificate "a malformed style comes before the files" 2 'command: bad id 0x01010001@0x7f010000,' absent absent 0x01010001@0x7f010000,
 no_certificate "a limit of 0 comes before a bad id" 2 "error: invalid value '0' for '--max-nodes <N>': 0 is not in 1..=1000000
 
 For more information, try '--help'." --max-nodes 0 layers box 0x7f01

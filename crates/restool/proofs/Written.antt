@@ -1,5 +1,5 @@
 -- What a command did with a writer that keeps bytes back, as what the writer behind it got.
-use Rattle.std.proofs.Common.{◌≡◌, ◌≢◌, ℕ, List, [], ◌++◌, Option, Some, None, Result, Ok, Err, refl, sym, ap, subst, ◌∙◌, inl, inr}
+use Rattle.std.proofs.Common.{◌≡◌, ◌≢◌, ℕ, List, [], ◌++◌, map, Option, Some, None, Result, Ok, Err, refl, sym, ap, subst, ◌∙◌, inl, inr}
 use Rattle.std.specs.Prelude.{IsOk, IfOk, IfErr, IfSome, OnOk}
 use Rattle.std.proofs.lemmas.List.{append-nil}
 use Rattle.std.specs.Io.Buffered.{writer_buffer, writer_contents, writer_inner}
@@ -15,6 +15,7 @@ use Rattle.resource_tool.specs.device_commands.QueryOutput.{query_output}
 use Rattle.resource_tool.specs.device_commands.ExplainOutput.{explain_output}
 use Rattle.resource_tool.specs.device_commands.BagOutput.{bag_output}
 use Rattle.resource_tool.specs.device_commands.AttrOutput.{attr_output}
+use Rattle.resource_tool.specs.cert_tree.Certificate.{goal_seen}
 use Rattle.resource_tool.specs.MakeOutput.{IsMakeOutput, make_inputs}
 use Rattle.resource_tool.specs.CheckOutput as check
 use Rattle.program_run.specs.command_words.declared.request.Request.{Request}
@@ -122,10 +123,10 @@ module _ {W V : Type 0} (c : W → Option (List ℕ)) (d : V → Option (List �
       carry _ (λ (inputs : DeviceInputs). bag_output inputs.layers inputs.devices id.0) (device_files places layers.now device.now) p
   answers-over from to carry carry_one places (OfDevice layers device (Attr attr styles force)) p =
       carry _ (λ (inputs : DeviceInputs). attr_output inputs.layers inputs.devices attr.0 styles.items force) (device_files places layers.now device.now) p
-  answers-over from to carry carry_one places (OfBox layers box_path (Make max_nodes ids)) p =
-      carry_one _ _ (IsMakeOutput ids.items max_nodes) (λ (inputs : DeviceInputs). make_inputs inputs.layers inputs.devices) (device_files places layers.now box_path.now) p
-  answers-over from to carry carry_one places (OfBox layers box_path (Check certificate ids)) p =
-      carry_one _ _ (check.IsCheckOutput ids.items) (λ (inputs : CheckInputs). check.check_inputs inputs.asked.layers inputs.asked.devices inputs.certificate)
+  answers-over from to carry carry_one places (OfBox layers box_path (Make max_nodes goals)) p =
+      carry_one _ _ (IsMakeOutput (map goal_seen goals.items) max_nodes) (λ (inputs : DeviceInputs). make_inputs inputs.layers inputs.devices) (device_files places layers.now box_path.now) p
+  answers-over from to carry carry_one places (OfBox layers box_path (Check certificate goals)) p =
+      carry_one _ _ (check.IsCheckOutput (map goal_seen goals.items)) (λ (inputs : CheckInputs). check.check_inputs inputs.asked.layers inputs.asked.devices inputs.certificate)
       (check_files places layers.now box_path.now certificate.now) p
 
   answers-done : (status : Status) → Passes → (places : Places) (request : Request)
