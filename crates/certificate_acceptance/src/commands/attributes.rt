@@ -179,7 +179,8 @@ fn makes_trees_of_attributes(rt: HostRuntime) -> Result<(), Fail> {
     let alloc = rt.alloc();
     match made(alloc, &DENSE)? {
         Made::Cert(found) => {
-            assert_eq!(rt; found.goals.as_slice()[0].nodes.len(), 3);
+            assert_eq!(rt; found.goals.len(), 1);
+            assert_eq!(rt; found.goals[0].nodes.len(), 3);
             assert!(rt; verdict(alloc, &DENSE, &found)? == Verdict::Accepted);
         }
         _ => assert!(rt; false),
