@@ -2,7 +2,7 @@
 
 use box_trace::{CommonTrace, OpenBox};
 use config_box::{ConfigBox, Coord};
-use reference_resolver::End;
+use reference_resolver::{End, Stack};
 use res_value::{ResId, Value, kind};
 use std::alloc::Global;
 use std::test::Fail;
@@ -34,14 +34,19 @@ impl Common {
         let table = layer_of_lines(alloc, lines)?;
         let stack = stack_of_base(alloc, &table).ok_or(LayerFault::Malformed)?;
         let members = ConfigBox::read(alloc, members.as_bytes())?;
-        let mut whole = OpenBox::whole_of_attribute(
-            alloc,
-            &stack,
-            goal.attr,
-            goal.styles,
-            members,
-        )?;
-        Ok(match whole.common_trace(alloc, &stack)? {
+        Common::over(alloc, &stack, goal.attr, goal.styles, members)
+    }
+
+    // The same over a stack.
+    fn over(
+        alloc: Global,
+        stack: &Stack<'_>,
+        attr: ResId,
+        styles: &[ResId],
+        members: ConfigBox,
+    ) -> Result<Common, Fail> {
+        let mut whole = OpenBox::whole_of_attribute(alloc, stack, attr, styles, members)?;
+        Ok(match whole.common_trace(alloc, stack)? {
             CommonTrace::One(end) => Common::One(end),
             CommonTrace::Mixed(parting) => Common::Mixed {
                 yes: parting.pair.yes.get(Coord::Density),

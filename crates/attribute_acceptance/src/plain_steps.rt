@@ -22,7 +22,7 @@ pub(crate) fn plain_steps(
     let mut steps = Vec::new(alloc);
     let mut theme = Theme::new(alloc);
     for style in styles {
-        for id in chain(stack, *style, device) {
+        for id in chain(&*stack, *style, &*device) {
             push_steps(stack, id, device, &mut steps)?;
         }
         match theme.apply(stack, *style, true, device) {

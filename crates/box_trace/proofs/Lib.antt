@@ -6,5 +6,6 @@ pub mod Rests
 pub mod Partings
 pub mod Walks
 pub mod OpenBoxes
+pub use Rattle.bags_themes.proofs as bags_themes
 pub use Rattle.reference_resolver.proofs as reference_resolver
 pub use Rattle.reference_resolver.proofs.config_record

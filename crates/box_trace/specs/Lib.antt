@@ -5,6 +5,7 @@ pub mod Parting
 pub mod CommonTrace
 pub mod CommonStep
 pub mod OpenBox
+pub use Rattle.bags_themes.specs as bags_themes
 pub use Rattle.reference_resolver.specs as reference_resolver
 pub use Rattle.reference_resolver.specs.config_match
 pub use Rattle.reference_resolver.specs.config_precedence

@@ -23,6 +23,7 @@ mod parting;
 mod step;
 mod walk;
 
+pub use bags_themes::{attribute_under, resolve};
 pub use common::CommonTrace;
 pub use live::Live;
 pub use open_box::OpenBox;

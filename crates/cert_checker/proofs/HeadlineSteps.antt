@@ -4,8 +4,8 @@ use Rattle.std.specs.Prelude.{slice_get}
 use Rattle.std.specs.Option.{option_map}
 use Rattle.std.specs.declared.alloc.AllocError.{AllocError}
 use Rattle.std.proofs.lemmas.Option.{slice_get-map}
-use Rattle.bags_themes.specs.Theme.{unset}
-use Rattle.bags_themes.proofs.AttributeEnds.{the_end_under}
+use Rattle.box_trace.specs.bags_themes.Theme.{unset}
+use Rattle.box_trace.proofs.bags_themes.AttributeEnds.{the_end_under}
 use Rattle.box_trace.specs.reference_resolver.declared.end.End.{End}
 use Rattle.box_trace.specs.reference_resolver.Ends.{references_followed}
 use Rattle.box_trace.proofs.reference_resolver.Chains.{is_the_end}

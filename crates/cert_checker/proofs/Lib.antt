@@ -7,7 +7,7 @@ pub mod NodeSteps
 pub mod TreeSteps
 pub mod GoalSteps
 pub mod HeadlineSteps
-pub use Rattle.bags_themes.proofs as bags_themes
+pub use Rattle.box_trace.proofs.bags_themes
 pub use Rattle.box_trace.proofs as box_trace
 pub use Rattle.box_trace.proofs.config_record
 pub use Rattle.box_trace.proofs.reference_resolver

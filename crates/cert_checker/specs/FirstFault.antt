@@ -1,7 +1,7 @@
 -- Is a certificate accepted, and which fault comes first where it is not? It has a tree for each goal; `asked` are the goals
 -- that it has to be for.
 use Rattle.std.specs.Prelude.{◌≡◌, ◌≢◌, ℕ, ◌<◌, List, map, Some, slice_get}
-use Rattle.bags_themes.specs.AttributeTrace.{attribute_trace}
+use Rattle.box_trace.specs.bags_themes.AttributeTrace.{attribute_trace}
 use Rattle.box_trace.specs.reference_resolver.Ends.{references_followed}
 use Rattle.box_trace.specs.reference_resolver.Trace.{Trace, trace_of}
 use Rattle.box_trace.specs.overlay_map.Layer.{LayerOf}

@@ -1,7 +1,7 @@
 -- What a verdict says of all devices.
 use Rattle.std.specs.Prelude.{◌≡◌, ℕ, List, Some, slice_get}
-use Rattle.bags_themes.specs.Theme.{unset}
-use Rattle.bags_themes.specs.AttributeEnd.{IsTheEndUnder}
+use Rattle.box_trace.specs.bags_themes.Theme.{unset}
+use Rattle.box_trace.specs.bags_themes.AttributeEnd.{IsTheEndUnder}
 use Rattle.box_trace.specs.reference_resolver.declared.end.End.{End}
 use Rattle.box_trace.specs.reference_resolver.Ends.{IsTheEnd, references_followed}
 use Rattle.box_trace.specs.overlay_map.Layer.{LayerOf}

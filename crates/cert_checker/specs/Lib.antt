@@ -6,7 +6,7 @@ pub mod Shown
 pub mod Verdict
 pub mod Headline
 pub mod OpenBoxes
-pub use Rattle.bags_themes.specs as bags_themes
+pub use Rattle.box_trace.specs.bags_themes
 pub use Rattle.box_trace.specs as box_trace
 pub use Rattle.box_trace.specs.config_match
 pub use Rattle.box_trace.specs.config_precedence

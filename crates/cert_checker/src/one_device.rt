@@ -5,8 +5,7 @@ ghost use Rattle.box_trace.specs.config_record.DeviceSeen.{device_numbers};
 ghost use Rattle.cert_tree.specs.Certificate.{goal_seen};
 ghost use Rattle.cert_checker.specs.Headline.{RulesEndAt};
 
-use bags_themes::{attribute_under, resolve};
-use box_trace::{Device, End, Stack};
+use box_trace::{Device, End, Stack, attribute_under, resolve};
 use cert_tree::{Goal, OutOfMemory};
 use std::alloc::Global;
 
