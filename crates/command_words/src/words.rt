@@ -7,9 +7,7 @@ ghost use Rattle.command_words.specs.CommandLine.{command_line};
 ghost use Rattle.command_words.specs.Request.{AsksFor, IsBoxRequestOf, IsDeviceRequestOf, ReadsAlong, ReadsCommand, ReadsWords, command_of, goals_asked, ids_asked};
 ghost use Rattle.command_words.specs.WordsFault.{IsOfReading};
 
-use crate::arguments::{
-    given_flag, given_goals, given_id, given_ids, given_nodes, given_word,
-};
+use crate::arguments::{given_flag, given_goals, given_id, given_ids, given_nodes, given_word};
 use crate::command::{BoxCommand, Command, DeviceCommand};
 use crate::command_line::{
     ATTRIBUTE, BAG_ID, BOX, CERTIFICATE, DEVICE, GOALS, ID, IDS, KEEP, LAYERS, STYLES, TABLE,

@@ -94,9 +94,7 @@ fn answer_of_box<'a, I: Inputs, P: Progress, O: Write + Drop>(
     match request {
         BoxRequest::Make { max_nodes, goals } => {
             let files = DeviceFiles::read(alloc, inputs, layers_path, box_path)?;
-            Ok(make_certificate(
-                alloc, &files, &goals, max_nodes, progress, out,
-            )?)
+            Ok(make_certificate(alloc, &files, &goals, max_nodes, progress, out)?)
         }
         BoxRequest::Check {
             certificate_path,

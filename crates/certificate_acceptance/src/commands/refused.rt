@@ -36,7 +36,14 @@ fn is_refused(
 // The same of `make`.
 fn is_not_made(alloc: Global, layers: &[Layer], members: &str, fault: ToolFault) -> bool {
     let mut out = Vec::new(alloc);
-    let found = make_bytes(alloc, layers, members.as_bytes(), &[Goal::Id(FIRST)], 10, &mut out);
+    let found = make_bytes(
+        alloc,
+        layers,
+        members.as_bytes(),
+        &[Goal::Id(FIRST)],
+        10,
+        &mut out,
+    );
     found == Err(fault) && out.is_empty()
 }
 
