@@ -28,13 +28,18 @@ fn lists_what_members_match(rt: HostRuntime) {
 }
 
 // Those that concern the part of a box that has the locale de.
-fn german_half<'a>(alloc: Global, stack: &Stack<'a>, members: &ConfigBox) -> Option<Live<'a>> {
-    let whole = Live::new(alloc, stack, FIRST, members).ok()?;
-    let german = Vec::from_slice(alloc, &[Locale::read("de").ok()?]).ok()?;
-    let is_german = Test::Among(Coord::Locale, Choice::Locales(german));
-    match members.split(alloc, &is_german).ok()? {
-        Split::Halves(german, _) => whole.half(alloc, &german).ok(),
-        Split::WrongKind | Split::EmptyHalf => None,
+fn german_half<'a>(
+    alloc: Global,
+    stack: &Stack<'a>,
+    members: &ConfigBox,
+) -> Result<Live<'a>, Fail> {
+    let whole = Live::new(alloc, stack, FIRST, members)?;
+    let languages = Vec::from_slice(alloc, &[Locale::read("de")?])?;
+    let is_german = Test::Among(Coord::Locale, Choice::Locales(languages));
+    let halves = members.split(alloc, &is_german)?;
+    match halves {
+        Split::Halves(german, _) => Ok(whole.half(alloc, &german)?),
+        Split::WrongKind | Split::EmptyHalf => Ok(whole),
     }
 }
 
@@ -45,7 +50,7 @@ fn is_listed_for_german(alloc: Global, want: &[(Locale, bool)]) -> Option<bool> 
     let stack = stack_of_base(alloc, &table)?;
     let members = br#"{"density":[160],"sdk":[19,21],"locale":["fr","de"]}"#;
     let members = ConfigBox::read(alloc, members).ok()?;
-    let half = german_half(alloc, &stack, &members)?;
+    let half = german_half(alloc, &stack, &members).ok()?;
     let list = half.list();
     let is_same = |pair: (&(Cand<'_>, bool), &(Locale, bool))| {
         pair.0.0.row.config.locale() == pair.1.0 && pair.0.1 == pair.1.1
