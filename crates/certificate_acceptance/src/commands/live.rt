@@ -4,7 +4,7 @@ use crate::commands::command::FIRST;
 use cert_checker::{Cand, Choice, ConfigBox, Coord, Live, Locale, Split, Stack, Test};
 use std::alloc::Global;
 use std::test::Fail;
-use test_layers::layer_of_lines;
+use test_layers::{LayerFault, layer_of_lines};
 use test_stacks::stack_of_base;
 
 // How many candidates concern the members of a box, and whether all of them are marked.
@@ -44,24 +44,24 @@ fn german_half<'a>(
 }
 
 // Whether the candidates for the German half have these locales, each with its mark.
-fn is_listed_for_german(alloc: Global, want: &[(Locale, bool)]) -> Option<bool> {
+fn is_listed_for_german(alloc: Global, want: &[(Locale, bool)]) -> Result<bool, Fail> {
     let rows = "0 [locale=fr] 1\n0 [locale=de] 2\n0 [locale=de,sdk=21] 3";
-    let table = layer_of_lines(alloc, rows).ok()?;
-    let stack = stack_of_base(alloc, &table)?;
+    let table = layer_of_lines(alloc, rows)?;
+    let stack = stack_of_base(alloc, &table).ok_or(LayerFault::Malformed)?;
     let members = br#"{"density":[160],"sdk":[19,21],"locale":["fr","de"]}"#;
-    let members = ConfigBox::read(alloc, members).ok()?;
-    let half = german_half(alloc, &stack, &members).ok()?;
+    let members = ConfigBox::read(alloc, members)?;
+    let half = german_half(alloc, &stack, &members)?;
     let list = half.list();
     let is_same = |pair: (&(Cand<'_>, bool), &(Locale, bool))| {
         pair.0.0.row.config.locale() == pair.1.0 && pair.0.1 == pair.1.1
     };
-    Some(list.len() == want.len() && list.iter().zip(want).all(is_same))
+    Ok(list.len() == want.len() && list.iter().zip(want).all(is_same))
 }
 
 #[test]
 fn leaves_out_what_no_member_of_a_half_matches(rt: HostRuntime) -> Result<(), Fail> {
     let german = Locale::read("de")?;
     let want = [(german, true), (german, false)];
-    assert!(rt; is_listed_for_german(rt.alloc(), &want) == Some(true));
+    assert!(rt; is_listed_for_german(rt.alloc(), &want)?);
     Ok(())
 }
