@@ -1,0 +1,22 @@
+//! Words that ask for resources, by their ids or by their names: one resource, a set of them, or the
+//! goal of a certificate. Nothing here knows which resources there are.
+//!
+//! For the crates above: a word is read exactly as `named_in`, `named_set_in` and `named_goal_in` define it.
+//!
+//! ```text
+//! Named::read("dimen/margin"); // Some(Named::Name { type_name: "dimen", entry_name: "margin" })
+//! NamedSet::read("dimen/*"); // Some(NamedSet::OfType { type_name: "dimen" })
+//! NamedGoal::read(alloc, "attr/colorAccent@style/Theme,0x7f030001")?; // NamedGoal::Attr { .. }
+//! ```
+#![tactic(auto)]
+
+mod cut;
+mod named;
+mod named_goal;
+mod named_set;
+
+pub use cert_tree::GoalFault;
+pub use named::Named;
+pub use named_goal::NamedGoal;
+pub use named_set::NamedSet;
+pub use res_value::ResId;
