@@ -13,7 +13,7 @@ use Rattle.answer_text.specs.EndText.{end_text}
 use Rattle.command_base.specs.fault_text.declared.fault.ToolFault.{ToolFault}
 use Rattle.command_base.specs.Output.{Output}
 use Rattle.command_base.specs.StackBytes.{LayerBytes}
-use Rattle.device_commands.specs.Opened.{opened_in}
+use Rattle.device_commands.specs.Opened.{OpenedOf, opened_in}
 use Rattle.device_commands.specs.EndStatus.{status_of_end}
 use Rattle.device_commands.specs.BagOutput.{no_bag}
 
@@ -26,13 +26,18 @@ abbrev pub end_output : ℕ → End → Output
 end_output attr end = record { status = status_of_end end; text = attribute_line attr end }
 
 -- where an attribute ends after styles, or why the first of them that is no bag, or has too many parents, is refused
-abbrev pub attr_answer : List LayerOf → ℕ → List ℕ → Result AttributeValues BagFault → Output
-attr_answer stack attr d (Ok values) = end_output attr (attribute_of stack values attr d)
-attr_answer stack attr d (Err fault) = no_bag fault
+abbrev pub end_or_reason : List LayerOf → ℕ → List ℕ → Result AttributeValues BagFault → Output
+end_or_reason stack attr d (Ok values) = end_output attr (attribute_of stack values attr d)
+end_or_reason stack attr d (Err fault) = no_bag fault
 
--- What `attr` prints of these layers, a device's text, an attribute and styles that are applied to nothing in
--- their order, with or without force.
+-- What `attr` prints of layers and a device that were opened: where the attribute ends after styles that are applied to
+-- nothing in their order, with or without force.
+abbrev pub attr_answer : OpenedOf → ℕ → List ResId → Bool → Output
+attr_answer asked attr styles force =
+    end_or_reason asked.stack attr asked.device (values_after_styles asked.stack force styles unset asked.device)
+
+-- What `attr` prints of these layers, a device's text, an attribute and styles, with or without force.
 unfoldable pub attr_output : List LayerBytes → List ℕ → ℕ → List ResId → Bool → Result Output ToolFault
 attr_output layers device_json attr styles force = do
   asked ← opened_in layers device_json
-  Ok (attr_answer asked.stack attr asked.device (values_after_styles asked.stack force styles unset asked.device))
+  Ok (attr_answer asked attr styles force)

@@ -13,7 +13,7 @@ use Rattle.command_base.specs.fault_text.declared.fault.ToolFault.{ToolFault}
 use Rattle.command_base.specs.declared.status.Status.TheVariants.{Done, Negative}
 use Rattle.command_base.specs.Output.{Output}
 use Rattle.command_base.specs.StackBytes.{LayerBytes}
-use Rattle.device_commands.specs.Opened.{opened_in}
+use Rattle.device_commands.specs.Opened.{OpenedOf, opened_in}
 
 -- `NAME layer L`
 unfoldable pub name_and_layer : ℕ → ℕ → List ℕ
@@ -38,12 +38,16 @@ abbrev pub no_bag : BagFault → Output
 no_bag fault = record { status = Negative; text = reason_of fault }
 
 -- a line for each row, or why there are none
-abbrev pub bag_answer : Result (List BagRow) BagFault → Output
-bag_answer (Ok rows) = record { status = Done; text = flat_map bag_row_line rows }
-bag_answer (Err fault) = no_bag fault
+abbrev pub rows_or_reason : Result (List BagRow) BagFault → Output
+rows_or_reason (Ok rows) = record { status = Done; text = flat_map bag_row_line rows }
+rows_or_reason (Err fault) = no_bag fault
+
+-- What `bag` prints of layers and a device that were opened.
+abbrev pub bag_answer : OpenedOf → ℕ → Output
+bag_answer asked id = rows_or_reason (bag_of asked.stack id asked.device)
 
 -- What `bag` prints of these layers, a device's text and this id.
 unfoldable pub bag_output : List LayerBytes → List ℕ → ℕ → Result Output ToolFault
 bag_output layers device_json id = do
   asked ← opened_in layers device_json
-  Ok (bag_answer (bag_of asked.stack id asked.device))
+  Ok (bag_answer asked id)

@@ -8,15 +8,19 @@ use Rattle.command_base.specs.fault_text.declared.fault.ToolFault.{ToolFault}
 use Rattle.command_base.specs.declared.status.Status.{Status}
 use Rattle.command_base.specs.Output.{Output}
 use Rattle.command_base.specs.StackBytes.{LayerBytes}
-use Rattle.device_commands.specs.Opened.{opened_in}
+use Rattle.device_commands.specs.Opened.{OpenedOf, opened_in}
 use Rattle.device_commands.specs.EndStatus.{status_of_end}
 
 -- it is done where the end is not absent and not too long
 abbrev pub explain_status : List LayerOf → List ℕ → ℕ → Status
 explain_status stack device id = status_of_end (end_of stack references_followed id device)
 
+-- What `explain` prints of layers and a device that were opened.
+abbrev pub explain_answer : OpenedOf → ℕ → Output
+explain_answer asked id = record { status = explain_status asked.stack asked.device id; text = explain_text asked.stack id asked.device }
+
 -- What `explain` prints of these layers, a device's text and this id.
 unfoldable pub explain_output : List LayerBytes → List ℕ → ℕ → Result Output ToolFault
 explain_output layers device_json id = do
   asked ← opened_in layers device_json
-  Ok (record { status = explain_status asked.stack asked.device id; text = explain_text asked.stack id asked.device })
+  Ok (explain_answer asked id)

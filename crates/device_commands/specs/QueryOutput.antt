@@ -13,7 +13,7 @@ use Rattle.command_base.specs.declared.status.Status.{Status}
 use Rattle.command_base.specs.declared.status.Status.TheVariants.{Done, Negative}
 use Rattle.command_base.specs.Output.{Output}
 use Rattle.command_base.specs.StackBytes.{LayerBytes}
-use Rattle.device_commands.specs.Opened.{opened_in}
+use Rattle.device_commands.specs.Opened.{OpenedOf, opened_in}
 use Rattle.device_commands.specs.EndStatus.{is_unresolved}
 
 -- where an id ends
@@ -36,8 +36,12 @@ line_of stack device id = query_line stack id.0 (end_for stack device id)
 unfoldable pub query_text : List LayerOf → List ℕ → List ResId → List ℕ
 query_text stack device ids = flat_map (line_of stack device) ids ++ set_aside_line (set_aside_in_stack stack)
 
+-- What `query` prints of layers and a device that were opened.
+abbrev pub query_answer : OpenedOf → List ResId → Output
+query_answer asked ids = record { status = query_status asked.stack asked.device ids; text = query_text asked.stack asked.device ids }
+
 -- What `query` prints of these layers, a device's text and these ids.
 unfoldable pub query_output : List LayerBytes → List ℕ → List ResId → Result Output ToolFault
 query_output layers device_json ids = do
   asked ← opened_in layers device_json
-  Ok (record { status = query_status asked.stack asked.device ids; text = query_text asked.stack asked.device ids })
+  Ok (query_answer asked ids)

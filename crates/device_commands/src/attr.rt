@@ -1,14 +1,15 @@
 //! The command `attr`.
 
-ghost use Rattle.std.specs.Prelude.{map};
+ghost use Rattle.std.specs.Prelude.{map, Ok};
 ghost use Rattle.contract_words.specs.Writes.{Writes};
 ghost use Rattle.command_base.specs.Output.{Prints};
 ghost use Rattle.command_base.specs.StackBytesSeen.{layer_bytes};
-ghost use Rattle.device_commands.specs.AttrOutput.{attribute_line, attr_output};
+ghost use Rattle.device_commands.specs.OpenedSeen.{opened_of};
+ghost use Rattle.device_commands.specs.AttrOutput.{attribute_line, attr_answer, attr_output};
 
 use crate::end_status::status_of_end;
 use crate::no_bag::print_no_bag;
-use crate::opened::{Opened, open};
+use crate::opened::Opened;
 use answer_text::{ResId, end_text, write_id};
 use bags_themes::{End, Theme};
 use command_base::{LayerParts, Status, ToolFault};
@@ -31,14 +32,30 @@ pub fn attr_bytes<W: Write + Drop>(
     ensures { Prints W.contents out.old out.new result
         (attr_output (map layer_bytes layers.now) device.now attr.0 styles.now force) }
 {
-    let Opened { stack, device } = open(alloc, layers, device)?;
-    match Theme::of_styles(alloc, &stack, styles, force, &device) {
-        Ok(theme) => {
-            let end = theme.attribute(&stack, attr, &device);
-            write_attribute(attr, end, out)?;
-            Ok(status_of_end(end))
+    let opened = Opened::read(alloc, layers, device)?;
+    opened.attr(alloc, attr, styles, force, out)
+}
+
+impl Opened<'_> {
+    /// What `attr_bytes` prints of the same layers and device.
+    pub fn attr<W: Write + Drop>(
+        &self,
+        alloc: Global,
+        attr: ResId,
+        styles: &[ResId],
+        force: bool,
+        out: &mut W,
+    ) -> Result<Status, ToolFault>
+        ensures { Prints W.contents out.old out.new result (Ok (attr_answer (opened_of self.now) attr.0 styles.now force)) }
+    {
+        match Theme::of_styles(alloc, &self.stack, styles, force, &self.device) {
+            Ok(theme) => {
+                let end = theme.attribute(&self.stack, attr, &self.device);
+                write_attribute(attr, end, out)?;
+                Ok(status_of_end(end))
+            }
+            Err(fault) => print_no_bag(fault, out),
         }
-        Err(fault) => print_no_bag(fault, out),
     }
 }
 

@@ -1,14 +1,15 @@
 //! The command `bag`.
 
-ghost use Rattle.std.specs.Prelude.{map};
+ghost use Rattle.std.specs.Prelude.{map, Ok};
 ghost use Rattle.std.specs.List.{flat_map};
 ghost use Rattle.contract_words.specs.Writes.{Writes};
 ghost use Rattle.command_base.specs.Output.{Prints};
 ghost use Rattle.command_base.specs.StackBytesSeen.{layer_bytes};
-ghost use Rattle.device_commands.specs.BagOutput.{name_and_layer, bag_row_line, bag_output};
+ghost use Rattle.device_commands.specs.OpenedSeen.{opened_of};
+ghost use Rattle.device_commands.specs.BagOutput.{name_and_layer, bag_row_line, bag_answer, bag_output};
 
 use crate::no_bag::print_no_bag;
-use crate::opened::{Opened, open};
+use crate::opened::Opened;
 use answer_text::{ResId, write_id, write_layer, write_value};
 use bags_themes::{BagRow, bag};
 use command_base::{LayerParts, Status, ToolFault};
@@ -27,13 +28,27 @@ pub fn bag_bytes<W: Write + Drop>(
 ) -> Result<Status, ToolFault>
     ensures { Prints W.contents out.old out.new result (bag_output (map layer_bytes layers.now) device.now id.0) }
 {
-    let Opened { stack, device } = open(alloc, layers, device)?;
-    match bag(alloc, &stack, id, &device) {
-        Ok(rows) => {
-            write_rows(rows.as_slice(), out)?;
-            Ok(Status::Done)
+    let opened = Opened::read(alloc, layers, device)?;
+    opened.bag(alloc, id, out)
+}
+
+impl Opened<'_> {
+    /// What `bag_bytes` prints of the same layers and device.
+    pub fn bag<W: Write + Drop>(
+        &self,
+        alloc: Global,
+        id: ResId,
+        out: &mut W,
+    ) -> Result<Status, ToolFault>
+        ensures { Prints W.contents out.old out.new result (Ok (bag_answer (opened_of self.now) id.0)) }
+    {
+        match bag(alloc, &self.stack, id, &self.device) {
+            Ok(rows) => {
+                write_rows(rows.as_slice(), out)?;
+                Ok(Status::Done)
+            }
+            Err(fault) => print_no_bag(fault, out),
         }
-        Err(fault) => print_no_bag(fault, out),
     }
 }
 

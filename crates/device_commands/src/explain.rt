@@ -1,16 +1,18 @@
 //! The command `explain`.
 
-ghost use Rattle.std.specs.Prelude.{map};
+ghost use Rattle.std.specs.Prelude.{◌≡◌, map, IfOk};
+ghost use Rattle.contract_words.specs.Writes.{Writes};
 ghost use Rattle.command_base.specs.Output.{Prints};
 ghost use Rattle.command_base.specs.StackBytesSeen.{layer_bytes};
-ghost use Rattle.device_commands.specs.ExplainOutput.{explain_output};
+ghost use Rattle.device_commands.specs.OpenedSeen.{opened_of};
+ghost use Rattle.device_commands.specs.ExplainOutput.{explain_answer, explain_output};
 
 use crate::end_status::status_of_end;
-use crate::opened::{Opened, open};
+use crate::opened::Opened;
 use answer_text::{ResId, explain};
 use command_base::{LayerParts, Status, ToolFault};
 use std::alloc::Global;
-use std::io::Write;
+use std::io::{self, Write};
 
 /// Prints how an id comes to its end for a device: a line for each id that is looked up and one for each of its
 /// candidates, with the rule that decided, and last the end. The status is Negative where the end is absent or
@@ -25,7 +27,17 @@ pub fn explain_bytes<W: Write + Drop>(
 ) -> Result<Status, ToolFault>
     ensures { Prints W.contents out.old out.new result (explain_output (map layer_bytes layers.now) device.now id.0) }
 {
-    let Opened { stack, device } = open(alloc, layers, device)?;
-    let end = explain(&stack, id, &device, out)?;
-    Ok(status_of_end(end))
+    let opened = Opened::read(alloc, layers, device)?;
+    Ok(opened.explain(id, out)?)
+}
+
+impl Opened<'_> {
+    /// What `explain_bytes` prints of the same layers and device.
+    pub fn explain<W: Write + Drop>(&self, id: ResId, out: &mut W) -> io::Result<Status>
+        ensures text { Writes W.contents out.old out.new result (explain_answer (opened_of self.now) id.0).text }
+        ensures status { IfOk result (λ status. status ≡ (explain_answer (opened_of self.now) id.0).status) }
+    {
+        let end = explain(&self.stack, id, &self.device, out)?;
+        Ok(status_of_end(end))
+    }
 }

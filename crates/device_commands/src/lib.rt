@@ -14,6 +14,9 @@
 //!                                                        // end value layer 1 decimal 5
 //! bag_bytes(alloc, &layers, &device, id, &mut out)?; // 0x01010000 layer 0 decimal 5
 //! attr_bytes(alloc, &layers, &device, attr, &styles, true, &mut out)?; // 0x01010000 value layer 0 decimal 5
+//!
+//! let opened = Opened::read(alloc, &layers, &device)?; // for several commands, or to look into the stack first
+//! opened.query(&ids, &mut out)?; // as `query_bytes`; so `explain`, `bag` and `attr`
 //! ```
 #![tactic(auto)]
 
@@ -28,4 +31,5 @@ mod query;
 pub use attr::attr_bytes;
 pub use bag::bag_bytes;
 pub use explain::explain_bytes;
+pub use opened::Opened;
 pub use query::query_bytes;

@@ -1,4 +1,4 @@
-//! What the commands begin with: layers and a device, opened from their bytes.
+//! What the commands are asked of: layers and a device, opened from their bytes.
 
 ghost use Rattle.std.specs.Prelude.{map};
 ghost use Rattle.contract_words.specs.Exact.{GivesOr};
@@ -11,26 +11,29 @@ use bags_themes::{Device, Stack};
 use command_base::{LayerParts, ToolFault, open_stack};
 use std::alloc::Global;
 
-/// The layers that a command is asked of, and the device.
+/// The layers that a command is asked of, and the device. The commands are its methods, so that one stack answers
+/// several of them.
 #[derive(Drop)]
-pub(crate) struct Opened<'a> {
-    pub(crate) stack: Stack<'a>,
-    pub(crate) device: Device,
+pub struct Opened<'a> {
+    pub stack: Stack<'a>,
+    pub device: Device,
 }
 
-ghost use Rattle.device_commands.specs.OpenedSeen.{opened_of};
+impl<'a> Opened<'a> {
+    ghost use Rattle.device_commands.specs.OpenedSeen.{opened_of};
 
-/// Opens the layers, and then reads the device.
-#[tactic(auto, unfolding(crate::specs::Opened::opened_in))]
-pub(crate) fn open<'a>(
-    alloc: Global,
-    layers: &[LayerParts<&'a [u8]>],
-    device: &[u8],
-) -> Result<Opened<'a>, ToolFault>
-    ensures value { GivesOr OutOfMemory opened_of result (opened_in (map layer_bytes layers.now) device.now) }
-    ensures of_input { IsOfInput result }
-{
-    let stack = open_stack(alloc, layers)?;
-    let device = Device::read(alloc, device)?;
-    Ok(Opened { stack, device })
+    /// Opens the layers, and then reads the device.
+    #[tactic(auto, unfolding(crate::specs::Opened::opened_in))]
+    pub fn read(
+        alloc: Global,
+        layers: &[LayerParts<&'a [u8]>],
+        device: &[u8],
+    ) -> Result<Opened<'a>, ToolFault>
+        ensures value { GivesOr OutOfMemory opened_of result (opened_in (map layer_bytes layers.now) device.now) }
+        ensures of_input { IsOfInput result }
+    {
+        let stack = open_stack(alloc, layers)?;
+        let device = Device::read(alloc, device)?;
+        Ok(Opened { stack, device })
+    }
 }

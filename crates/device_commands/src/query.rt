@@ -5,10 +5,11 @@ ghost use Rattle.contract_words.specs.Writes.{Writes};
 ghost use Rattle.bags_themes.specs.config_record.DeviceSeen.{device_numbers};
 ghost use Rattle.command_base.specs.Output.{Prints};
 ghost use Rattle.command_base.specs.StackBytesSeen.{layer_bytes};
-ghost use Rattle.device_commands.specs.QueryOutput.{query_status, query_text, query_output};
+ghost use Rattle.device_commands.specs.OpenedSeen.{opened_of};
+ghost use Rattle.device_commands.specs.QueryOutput.{query_status, query_text, query_answer, query_output};
 
 use crate::end_status::is_unresolved;
-use crate::opened::{Opened, open};
+use crate::opened::Opened;
 use answer_text::{ResId, query_line, set_aside_line};
 use bags_themes::{Device, Stack, resolve};
 use command_base::{LayerParts, Status, ToolFault};
@@ -27,8 +28,18 @@ pub fn query_bytes<W: Write + Drop>(
 ) -> Result<Status, ToolFault>
     ensures { Prints W.contents out.old out.new result (query_output (map layer_bytes layers.now) device.now ids.now) }
 {
-    let Opened { stack, device } = open(alloc, layers, device)?;
-    Ok(write_ends(&stack, &device, ids, out)?)
+    let opened = Opened::read(alloc, layers, device)?;
+    Ok(opened.query(ids, out)?)
+}
+
+impl Opened<'_> {
+    /// What `query_bytes` prints of the same layers and device.
+    pub fn query<W: Write + Drop>(&self, ids: &[ResId], out: &mut W) -> io::Result<Status>
+        ensures text { Writes W.contents out.old out.new result (query_answer (opened_of self.now) ids.now).text }
+        ensures status { IfOk result (λ status. status ≡ (query_answer (opened_of self.now) ids.now).status) }
+    {
+        write_ends(&self.stack, &self.device, ids, out)
+    }
 }
 
 // Writes a line for each id, and one with the number of rows that are set aside.

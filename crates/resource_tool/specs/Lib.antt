@@ -1,7 +1,7 @@
 pub mod CheckOutput
 pub mod CheckHeadline
-pub mod CheckedSeen
 pub mod MakeOutput
+pub mod OpenedSeen
 pub mod LineReadsBack
 pub use Rattle.cert_maker.specs.cert_tree
 pub use Rattle.device_commands.specs as device_commands

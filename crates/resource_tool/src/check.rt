@@ -9,6 +9,7 @@ ghost use Rattle.table_commands.specs.command_base.Output.{PrintsOneOf, IsOfInpu
 ghost use Rattle.table_commands.specs.command_base.StackBytesSeen.{layer_bytes};
 ghost use Rattle.resource_tool.specs.CheckOutput.{IsCheckOutput, check_inputs, check_text, status_of_verdict};
 ghost use Rattle.resource_tool.specs.CheckHeadline.{HeadlineHolds};
+ghost use Rattle.resource_tool.specs.OpenedSeen.{opened_cert};
 
 use cert_maker::{Cert, ConfigBox, Goal, Verdict, check};
 use resource_text::{set_aside_line, verdict_text};
@@ -33,66 +34,62 @@ pub fn check_bytes<W: Write + Drop>(
     ensures headline { IfOk result (HeadlineHolds (map layer_bytes layers.now) box_json.now cert.now (map goal_seen goals.now)
         (W.contents out.old) (W.contents out.new)) }
 {
-    let checked = read_checked(alloc, layers, box_json, cert)?;
-    Ok(answer(alloc, &checked, goals, out)?)
+    let opened = OpenedCert::read(alloc, layers, box_json, cert)?;
+    Ok(opened.check(alloc, goals, out)?)
 }
 
-/// What is checked.
+/// The layers, the box and the certificate that `check` is asked of.
 #[derive(Drop)]
-struct Checked<'a> {
-    stack: Stack<'a>,
-    members: ConfigBox,
-    certificate: Cert,
+pub struct OpenedCert<'a> {
+    pub stack: Stack<'a>,
+    pub members: ConfigBox,
+    pub certificate: Cert,
 }
 
-ghost use Rattle.resource_tool.specs.CheckedSeen.{checked_of};
+impl<'a> OpenedCert<'a> {
+    /// Opens the layers, and then reads the box and the certificate.
+    #[tactic(auto, unfolding(crate::specs::CheckOutput::check_inputs))]
+    pub fn read(
+        alloc: Global,
+        layers: &[LayerParts<&'a [u8]>],
+        box_json: &[u8],
+        cert: &[u8],
+    ) -> Result<OpenedCert<'a>, ToolFault>
+        ensures value { GivesOr OutOfMemory opened_cert result (check_inputs (map layer_bytes layers.now) box_json.now cert.now) }
+        ensures of_input { IsOfInput result }
+    {
+        let stack = open_stack(alloc, layers)?;
+        let members = ConfigBox::read(alloc, box_json)?;
+        let certificate = Cert::read(alloc, cert)?;
+        Ok(OpenedCert {
+            stack,
+            members,
+            certificate,
+        })
+    }
 
-#[tactic(auto, unfolding(crate::specs::CheckOutput::check_inputs))]
-fn read_checked<'a>(
-    alloc: Global,
-    layers: &[LayerParts<&'a [u8]>],
-    box_json: &[u8],
-    cert: &[u8],
-) -> Result<Checked<'a>, ToolFault>
-    ensures value { GivesOr OutOfMemory checked_of result (check_inputs (map layer_bytes layers.now) box_json.now cert.now) }
-    ensures of_input { IsOfInput result }
-{
-    let stack = open_stack(alloc, layers)?;
-    let members = ConfigBox::read(alloc, box_json)?;
-    let certificate = Cert::read(alloc, cert)?;
-    Ok(Checked {
-        stack,
-        members,
-        certificate,
-    })
-}
-
-fn answer<W: Write + Drop>(
-    alloc: Global,
-    checked: &Checked<'_>,
-    goals: &[Goal],
-    out: &mut W,
-) -> Result<Status, ToolFault>
-    ensures { PrintsOneOf (IsCheckOutput (map goal_seen goals.now)) W.contents out.old out.new result (Ok (checked_of checked.now)) }
-{
-    let verdict = check(
-        alloc,
-        &checked.stack,
-        &checked.members,
-        goals,
-        &checked.certificate,
-    )?;
-    write_verdict(&verdict, checked, out)?;
-    Ok(status_of_verdict(verdict))
+    /// What `check_bytes` prints of the same layers, box and certificate.
+    pub fn check<W: Write + Drop>(
+        &self,
+        alloc: Global,
+        goals: &[Goal],
+        out: &mut W,
+    ) -> Result<Status, ToolFault>
+        ensures { PrintsOneOf (IsCheckOutput (map goal_seen goals.now)) W.contents out.old out.new result (Ok (opened_cert self.now)) }
+    {
+        let verdict = check(alloc, &self.stack, &self.members, goals, &self.certificate)?;
+        write_verdict(&verdict, self, out)?;
+        Ok(status_of_verdict(verdict))
+    }
 }
 
 #[tactic(auto, unfolding(crate::specs::CheckOutput::check_text))]
 fn write_verdict<W: Write + Drop>(
     verdict: &Verdict,
-    checked: &Checked<'_>,
+    checked: &OpenedCert<'_>,
     out: &mut W,
 ) -> io::Result<()>
-    ensures { Writes W.contents out.old out.new result (check_text (checked_of checked.now) verdict.now) }
+    ensures { Writes W.contents out.old out.new result (check_text (opened_cert checked.now) verdict.now) }
 {
     verdict_text(verdict, &checked.certificate, out)?;
     set_aside_line(checked.stack.set_aside(), out)

@@ -8,6 +8,9 @@
 //! make_bytes(alloc, &layers, &box_json, &goals, 100_000, &mut out)?; // {"goals":[{"id":"0x7f010000","nodes":[{"kind":16, ..
 //! check_bytes(alloc, &layers, &box_json, &certificate, &goals, &mut out)?; // accepted goals 1 nodes 3
 //!                                                                        // set-aside 0
+//!
+//! let opened = OpenedBox::read(alloc, &layers, &box_json)?; // to look into the stack first
+//! opened.make(alloc, &goals, 100_000, &mut Unwatched, &mut out)?; // as `make_bytes`; so `check` of an `OpenedCert`
 //! ```
 #![tactic(auto)]
 
@@ -15,9 +18,9 @@ mod check;
 mod make;
 
 pub use cert_maker::{Goal, Progress, Unwatched};
-pub use check::check_bytes;
-pub use device_commands::{attr_bytes, bag_bytes, explain_bytes, query_bytes};
-pub use make::{make_bytes, make_bytes_watched};
+pub use check::{OpenedCert, check_bytes};
+pub use device_commands::{Opened, attr_bytes, bag_bytes, explain_bytes, query_bytes};
+pub use make::{OpenedBox, make_bytes, make_bytes_watched};
 pub use table_commands::{
     InputFault, LayerList, LayerParts, LayersFault, Status, ToolFault, dump_bytes, fault_text,
     read_input, rows_bytes,

@@ -1,13 +1,16 @@
 //! The command `make`.
 
 ghost use Rattle.std.specs.Prelude.{◌≡◌, ◌∷◌, ◌++◌, [], map, Ok, OnOk};
+ghost use Rattle.contract_words.specs.Exact.{GivesOr};
 ghost use Rattle.contract_words.specs.Writes.{Writes};
 ghost use Rattle.cert_maker.specs.cert_tree.Certificate.{goal_seen};
 ghost use Rattle.table_commands.specs.config_record.DeviceSeen.{device_numbers};
-ghost use Rattle.table_commands.specs.command_base.Output.{Prints, PrintsOneOf};
+ghost use Rattle.table_commands.specs.fault_text.declared.fault.ToolFault.TheVariants.{OutOfMemory};
+ghost use Rattle.table_commands.specs.command_base.Output.{IsOfInput, Prints, PrintsOneOf};
 ghost use Rattle.table_commands.specs.command_base.StackBytesSeen.{layer_bytes};
 ghost use Rattle.resource_tool.specs.MakeOutput.{IsMakeOutput, make_inputs, counterexample_line, counterexample_text, status_of_made, made_output};
 ghost use Rattle.resource_tool.specs.LineReadsBack.{LineReadsBack};
+ghost use Rattle.resource_tool.specs.OpenedSeen.{opened_box};
 
 use cert_maker::{ConfigBox, Goal, Made, Progress, Unwatched, make_watched};
 use resource_text::device_with_end;
@@ -43,7 +46,6 @@ pub fn make_bytes<W: Write + Drop>(
 }
 
 /// The same, where `progress` comes to know after each goal how many have their tree.
-#[tactic(auto, unfolding(crate::specs::MakeOutput::make_inputs))]
 pub fn make_bytes_watched<W: Write + Drop, P: Progress>(
     alloc: Global,
     layers: &[LayerParts<&[u8]>],
@@ -56,25 +58,54 @@ pub fn make_bytes_watched<W: Write + Drop, P: Progress>(
     ensures { PrintsOneOf (IsMakeOutput (map goal_seen goals.now) max_nodes) W.contents out.old out.new result
         (make_inputs (map layer_bytes layers.now) box_json.now) }
 {
-    let stack = open_stack(alloc, layers)?;
-    let members = ConfigBox::read(alloc, box_json)?;
-    answer(alloc, &stack, &members, goals, max_nodes, progress, out)
+    let opened = OpenedBox::read(alloc, layers, box_json)?;
+    opened.make(alloc, goals, max_nodes, progress, out)
 }
 
-fn answer<W: Write + Drop, P: Progress>(
-    alloc: Global,
-    stack: &Stack<'_>,
-    members: &ConfigBox,
-    goals: &[Goal],
-    max_nodes: u32,
-    progress: &mut P,
-    out: &mut W,
-) -> Result<Status, ToolFault>
-    ensures { PrintsOneOf (IsMakeOutput (map goal_seen goals.now) max_nodes) W.contents out.old out.new result
-        (Ok (record { stack = stack.now; sets = members.now })) }
-{
-    let made = make_watched(alloc, stack, members, goals, max_nodes, progress)?;
-    print_made(alloc, &made, out)
+/// The layers and the box that `make` is asked of.
+#[derive(Drop)]
+pub struct OpenedBox<'a> {
+    pub stack: Stack<'a>,
+    pub members: ConfigBox,
+}
+
+impl<'a> OpenedBox<'a> {
+    /// Opens the layers, and then reads the box.
+    #[tactic(auto, unfolding(crate::specs::MakeOutput::make_inputs))]
+    pub fn read(
+        alloc: Global,
+        layers: &[LayerParts<&'a [u8]>],
+        box_json: &[u8],
+    ) -> Result<OpenedBox<'a>, ToolFault>
+        ensures value { GivesOr OutOfMemory opened_box result (make_inputs (map layer_bytes layers.now) box_json.now) }
+        ensures of_input { IsOfInput result }
+    {
+        let stack = open_stack(alloc, layers)?;
+        let members = ConfigBox::read(alloc, box_json)?;
+        Ok(OpenedBox { stack, members })
+    }
+
+    /// What `make_bytes_watched` prints of the same layers and box.
+    pub fn make<W: Write + Drop, P: Progress>(
+        &self,
+        alloc: Global,
+        goals: &[Goal],
+        max_nodes: u32,
+        progress: &mut P,
+        out: &mut W,
+    ) -> Result<Status, ToolFault>
+        ensures { PrintsOneOf (IsMakeOutput (map goal_seen goals.now) max_nodes) W.contents out.old out.new result (Ok (opened_box self.now)) }
+    {
+        let made = make_watched(
+            alloc,
+            &self.stack,
+            &self.members,
+            goals,
+            max_nodes,
+            progress,
+        )?;
+        print_made(alloc, &made, out)
+    }
 }
 
 // What is printed of a certificate is read as the same.

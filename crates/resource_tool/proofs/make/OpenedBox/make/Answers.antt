@@ -1,5 +1,5 @@
 use Rattle.resource_tool.proofs.MakeSteps.{made-printed}
-use Rattle.resource_tool.proofs.make.answer.Goals as goal
+use Rattle.resource_tool.proofs.make.OpenedBox.make.Goals as goal
 
 pub returns : goal.returns
 returns g c =
