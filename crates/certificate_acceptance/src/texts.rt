@@ -3,4 +3,5 @@
 mod attributes;
 mod faults;
 mod many_nodes;
+mod named_words;
 mod written;
