@@ -1,6 +1,7 @@
 -- A survey has the notes that were noted in it.
 use Rattle.std.proofs.Common.{◌≡◌, ◌≢◌, ℕ, ◌+◌, ◌-◌, ◌^◌, ◌<◌, ◌≤◌, Bool, true, false, cond, List, [], ◌∷◌, length, refl, sym, ap, ◌∙◌, arith, get_or, set, get_or-set_same, get_or-set_other}
-use Rattle.std.specs.Prelude.{◌==◌, filter, min, replicate}
+use Rattle.std.specs.Prelude.{◌==◌, ◌||◌, filter, min, replicate}
+use Rattle.std.proofs.Math.Bool.{or-false, or_assoc}
 use Rattle.std.proofs.lemmas.Bool.{eqb-true, eq-eqb}
 use Rattle.std.proofs.lemmas.Bool.Decides.{nat_tests}
 use Rattle.std.proofs.lemmas.Grind.{get_or-set_at}
@@ -9,9 +10,9 @@ use Rattle.table_survey.specs.declared.finding.Finding.{Finding}
 use Rattle.table_survey.specs.declared.finding.Finding.TheVariants as findings
 use Rattle.table_survey.specs.declared.survey.Survey.{Survey}
 use Rattle.table_survey.specs.declared.survey.Tally.{Tally}
-use Rattle.table_survey.specs.Finding.{place_of}
+use Rattle.table_survey.specs.Finding.{place_of, differs}
 use Rattle.table_survey.specs.Survey.{Note, no_tally, and_one_at, tally_in, nothing_found, with_note, noted}
-use Rattle.table_survey.specs.Counted.{notes_with, tally_of, Counts}
+use Rattle.table_survey.specs.Counted.{notes_with, tally_of, some_differs, Counts}
 
 place_of-small : (finding : Finding) → place_of finding < 14
 unfolding place_of
@@ -60,7 +61,7 @@ noted-tally survey (note ∷ notes) finding whole =
     let i = place_of note.finding in
     let j = place_of finding in
     let below : i < length survey.tallies = omega (arith, place_of-small note.finding, whole) in
-    let more : Survey = record { tallies = set survey.tallies i (and_one_at (get_or survey.tallies i no_tally) note.place) } in
+    let more : Survey = record { tallies = set survey.tallies i (and_one_at (get_or survey.tallies i no_tally) note.place); differs = survey.differs || differs note.finding } in
     let still : length more.tallies ≡ 14 = length-set survey.tallies i (and_one_at (get_or survey.tallies i no_tally) note.place) ∙ whole in
     noted-tally more notes finding still
     ∙ ap (λ (t : Tally). tallied t (notes_with finding notes)) (step survey.tallies i j note.place (i == j) below refl)
@@ -87,9 +88,18 @@ tallied-none (note ∷ notes) =
 nothing-tally : (finding : Finding) → tally_in nothing_found finding ≡ no_tally
 nothing-tally finding = get_or-replicate 14 (place_of finding) no_tally no_tally (place_of-small finding)
 
+noted-differs : (survey : Survey) (notes : List Note) → (noted survey notes).differs ≡ (survey.differs || some_differs notes)
+unfolding noted with_note
+noted-differs survey [] = sym (or-false survey.differs)
+noted-differs survey (note ∷ notes) =
+    noted-differs (with_note survey note) notes ∙ or_assoc survey.differs (differs note.finding) (some_differs notes)
+
 -- A survey has the notes that were noted in it.
 pub noted-counts : (notes : List Note) → Counts (noted nothing_found notes) notes
-noted-counts notes = λ finding.
-    noted-tally nothing_found notes finding refl
-    ∙ ap (λ (t : Tally). tallied t (notes_with finding notes)) (nothing-tally finding)
-    ∙ tallied-none (notes_with finding notes)
+noted-counts notes = record {
+  tallies = λ finding.
+      noted-tally nothing_found notes finding refl
+      ∙ ap (λ (t : Tally). tallied t (notes_with finding notes)) (nothing-tally finding)
+      ∙ tallied-none (notes_with finding notes);
+  differs = noted-differs nothing_found notes;
+}

@@ -1,9 +1,9 @@
 -- What was found: notes, and how they are counted.
-use Rattle.std.specs.Prelude.{ℕ, ◌+◌, ◌-◌, ◌^◌, ◌==◌, Bool, List, [], ◌∷◌, min, slice_index_or, slice_set, replicate, if◌then◌else◌}
+use Rattle.std.specs.Prelude.{ℕ, ◌+◌, ◌-◌, ◌^◌, ◌==◌, Bool, false, ◌||◌, List, [], ◌∷◌, min, slice_index_or, slice_set, replicate, if◌then◌else◌}
 use Rattle.table_survey.specs.declared.finding.Finding.{Finding}
 use Rattle.table_survey.specs.declared.survey.Survey.{Survey}
 use Rattle.table_survey.specs.declared.survey.Tally.{Tally}
-use Rattle.table_survey.specs.Finding.{place_of}
+use Rattle.table_survey.specs.Finding.{place_of, differs}
 
 -- A finding, and where it is: a place in the file, or the id of a row.
 pub record Note : Type 0 where
@@ -31,11 +31,14 @@ abbrev pub tally_in : Survey → Finding → Tally
 tally_in survey finding = slice_index_or survey.tallies (place_of finding) no_tally
 
 abbrev pub nothing_found : Survey
-nothing_found = record { tallies = replicate 14 no_tally }
+nothing_found = record { tallies = replicate 14 no_tally; differs = false }
 
 -- with one note more
 unfoldable pub with_note : Survey → Note → Survey
-with_note survey note = record { tallies = slice_set survey.tallies (place_of note.finding) (and_one_at (tally_in survey note.finding) note.place) }
+with_note survey note = record {
+  tallies = slice_set survey.tallies (place_of note.finding) (and_one_at (tally_in survey note.finding) note.place);
+  differs = survey.differs || differs note.finding;
+}
 
 -- with these notes more, one after the other
 unfoldable pub noted : Survey → List Note → Survey

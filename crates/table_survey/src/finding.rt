@@ -1,7 +1,7 @@
 //! What can be found.
 
 ghost use Rattle.std.specs.Prelude.{◌≡◌, ◌<◌};
-ghost use Rattle.table_survey.specs.Finding.{place_of};
+ghost use Rattle.table_survey.specs.Finding.{place_of, name_of, differs, is_of_row};
 
 /// How many kinds of findings there are.
 pub const FINDING_COUNT: usize = 14;
@@ -65,5 +65,53 @@ impl Finding {
         ensures within { result < 14 }
     {
         self as usize
+    }
+
+    /// The name that is printed.
+    #[tactic(auto, unfolding(crate::specs::Finding::name_of))]
+    pub fn name(self) -> &'static str
+        ensures { result.now ≡ name_of self }
+    {
+        match self {
+            Finding::ShortOffsets => "16-bit-offsets",
+            Finding::TypeFlags => "type-flags",
+            Finding::Gender => "gender",
+            Finding::NewerQualifier => "newer-qualifier",
+            Finding::CompactEntry => "compact-entry",
+            Finding::EntryFlags => "entry-flags",
+            Finding::Library => "library",
+            Finding::Overlayable => "overlayable",
+            Finding::StagedAlias => "staged-alias",
+            Finding::UnknownChunk => "unknown-chunk",
+            Finding::DynamicReference => "dynamic-reference",
+            Finding::DynamicAttribute => "dynamic-attribute",
+            Finding::SetAside => "set-aside",
+            Finding::Locale => "locale",
+        }
+    }
+
+    /// Whether an answer can differ from a device's. Which resources may be overlaid is a matter of the id map.
+    #[tactic(auto, unfolding(crate::specs::Finding::differs))]
+    pub fn differs(self) -> bool
+        ensures { result ≡ differs self }
+    {
+        match self {
+            Finding::Overlayable => false,
+            _ => true,
+        }
+    }
+
+    /// Whether it is of a row, so that its place is an id.
+    #[tactic(auto, unfolding(crate::specs::Finding::is_of_row))]
+    pub fn is_of_row(self) -> bool
+        ensures { result ≡ is_of_row self }
+    {
+        match self {
+            Finding::DynamicReference
+            | Finding::DynamicAttribute
+            | Finding::SetAside
+            | Finding::Locale => true,
+            _ => false,
+        }
     }
 }

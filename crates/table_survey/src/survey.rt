@@ -31,17 +31,17 @@ impl Tally {
 #[derive(Debug, Drop)]
 pub struct Survey {
     tallies: [Tally; FINDING_COUNT],
+    differs: bool,
 }
 
 impl Survey {
-
-
     /// Nothing was found yet.
     pub fn none() -> Self
         ensures { result ≡ nothing_found }
     {
         Survey {
             tallies: [Tally::NONE; FINDING_COUNT],
+            differs: false,
         }
     }
 
@@ -59,14 +59,22 @@ impl Survey {
         self.tallies[finding.place()].first
     }
 
+    /// Whether something was found by which an answer can differ from a device's.
+    pub fn differs(&self) -> bool
+        ensures { result ≡ self.now.differs }
+    {
+        self.differs
+    }
+
     /// Notes a finding at a place, where it was found.
     #[tactic(auto, unfolding(crate::specs::Survey::noted, crate::specs::Survey::with_note))]
-    pub(crate) fn note_if(&mut self, found: bool, finding: Finding, place: usize)
+    pub fn note_if(&mut self, found: bool, finding: Finding, place: usize)
         ensures { self.new ≡ noted self.old (note_if found finding place) }
     {
         if found {
             let index = finding.place();
             self.tallies[index] = self.tallies[index].and_one_at(place);
+            self.differs |= finding.differs();
         }
     }
 }
