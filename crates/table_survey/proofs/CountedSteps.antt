@@ -1,0 +1,105 @@
+-- A survey has the notes that were noted in it.
+use Rattle.std.proofs.Common.{◌≡◌, ◌≢◌, ℕ, ◌+◌, ◌-◌, ◌^◌, ◌<◌, ◌≤◌, Bool, true, false, cond, List, [], ◌∷◌, length, refl, sym, ap, ◌∙◌, arith, get_or, set, get_or-set_same, get_or-set_other}
+use Rattle.std.specs.Prelude.{◌==◌, ◌||◌, filter, min, replicate}
+use Rattle.std.proofs.Math.Bool.{or-false, or_assoc}
+use Rattle.std.proofs.lemmas.Bool.{eqb-true, eq-eqb}
+use Rattle.std.proofs.lemmas.Bool.Decides.{nat_tests}
+use Rattle.std.proofs.lemmas.Grind.{get_or-set_at}
+use Rattle.std.proofs.lemmas.List.{get_or-replicate, length-set}
+use Rattle.table_survey.specs.declared.finding.Finding.{Finding}
+use Rattle.table_survey.specs.declared.finding.Finding.TheVariants as findings
+use Rattle.table_survey.specs.declared.survey.Survey.{Survey}
+use Rattle.table_survey.specs.declared.survey.Tally.{Tally}
+use Rattle.table_survey.specs.Finding.{place_of, differs}
+use Rattle.table_survey.specs.Survey.{Note, no_tally, and_one_at, tally_in, nothing_found, with_note, noted}
+use Rattle.table_survey.specs.Counted.{notes_with, tally_of, some_differs, Counts}
+
+place_of-small : (finding : Finding) → place_of finding < 14
+unfolding place_of
+place_of-small findings.ShortOffsets = omega arith
+place_of-small findings.TypeFlags = omega arith
+place_of-small findings.Gender = omega arith
+place_of-small findings.NewerQualifier = omega arith
+place_of-small findings.CompactEntry = omega arith
+place_of-small findings.EntryFlags = omega arith
+place_of-small findings.Library = omega arith
+place_of-small findings.Overlayable = omega arith
+place_of-small findings.StagedAlias = omega arith
+place_of-small findings.UnknownChunk = omega arith
+place_of-small findings.DynamicReference = omega arith
+place_of-small findings.DynamicAttribute = omega arith
+place_of-small findings.SetAside = omega arith
+place_of-small findings.Locale = omega arith
+
+-- a tally with the places of notes more
+abbrev tallied : Tally → List Note → Tally
+tallied tally [] = tally
+tallied tally (note ∷ notes) = tallied (and_one_at tally note.place) notes
+
+-- one note more counts for its finding alone
+step : (tallies : List Tally) (i j place : ℕ) (b : Bool) → i < length tallies → (i == j) ≡ b
+    → get_or (set tallies i (and_one_at (get_or tallies i no_tally) place)) j no_tally ≡ cond b (and_one_at (get_or tallies j no_tally) place) (get_or tallies j no_tally)
+step tallies i j place true below same =
+    let e : j ≡ i = sym (eqb-true i j same) in
+    get_or-set_at tallies i j (and_one_at (get_or tallies i no_tally) place) no_tally e below
+    ∙ ap (λ (k : ℕ). and_one_at (get_or tallies k no_tally) place) (sym e)
+step tallies i j place false below same =
+    let other : j ≢ i = λ e. absurd (let t : (i == j) ≡ true = eq-eqb i j (sym e) in cc) in
+    get_or-set_other tallies i j (and_one_at (get_or tallies i no_tally) place) no_tally other
+
+-- the notes of a finding, with one note more in front
+front : (tally : Tally) (note : Note) (notes : List Note) (b : Bool)
+    → tallied (cond b (and_one_at tally note.place) tally) notes ≡ tallied tally (cond b (note ∷ notes) notes)
+front tally note notes true = refl
+front tally note notes false = refl
+
+noted-tally : (survey : Survey) (notes : List Note) (finding : Finding) → length survey.tallies ≡ 14
+    → tally_in (noted survey notes) finding ≡ tallied (tally_in survey finding) (notes_with finding notes)
+unfolding noted with_note
+noted-tally survey [] finding whole = refl
+noted-tally survey (note ∷ notes) finding whole =
+    let i = place_of note.finding in
+    let j = place_of finding in
+    let below : i < length survey.tallies = omega (arith, place_of-small note.finding, whole) in
+    let more : Survey = record { tallies = set survey.tallies i (and_one_at (get_or survey.tallies i no_tally) note.place); differs = survey.differs || differs note.finding } in
+    let still : length more.tallies ≡ 14 = length-set survey.tallies i (and_one_at (get_or survey.tallies i no_tally) note.place) ∙ whole in
+    noted-tally more notes finding still
+    ∙ ap (λ (t : Tally). tallied t (notes_with finding notes)) (step survey.tallies i j note.place (i == j) below refl)
+    ∙ front (tally_in survey finding) note (notes_with finding notes) (i == j)
+
+-- places behind the first change the count alone
+counted : (notes : List Note) (count place : ℕ) → 0 < count → count ≤ 2 ^ 32 - 1
+    → tallied (record { count = count; first = place }) notes ≡ record { count = min (count + length notes) (2 ^ 32 - 1); first = place }
+counted [] count place some few =
+    let same : count ≡ min (count + length {A = Note} []) (2 ^ 32 - 1) = omega (arith, few) in
+    ap (λ (n : ℕ). record { count = n; first = place }) same
+counted (note ∷ notes) count place some few =
+    let kept : (count == 0) ≡ false = grind (arith, nat_tests) in
+    let n = min (count + 1) (2 ^ 32 - 1) in
+    let total : min (n + length notes) (2 ^ 32 - 1) ≡ min (count + length {A = Note} (note ∷ notes)) (2 ^ 32 - 1) = omega (arith, few) in
+    rw kept (counted notes n place (omega (arith, some)) (omega arith) ∙ ap (λ (m : ℕ). record { count = m; first = place }) total)
+
+tallied-none : (notes : List Note) → tallied no_tally notes ≡ tally_of notes
+tallied-none [] = refl
+tallied-none (note ∷ notes) =
+    let total : min (1 + length notes) (2 ^ 32 - 1) ≡ min (length (note ∷ notes)) (2 ^ 32 - 1) = omega arith in
+    counted notes 1 note.place (omega arith) (omega arith) ∙ ap (λ (n : ℕ). record { count = n; first = note.place }) total
+
+nothing-tally : (finding : Finding) → tally_in nothing_found finding ≡ no_tally
+nothing-tally finding = get_or-replicate 14 (place_of finding) no_tally no_tally (place_of-small finding)
+
+noted-differs : (survey : Survey) (notes : List Note) → (noted survey notes).differs ≡ (survey.differs || some_differs notes)
+unfolding noted with_note
+noted-differs survey [] = sym (or-false survey.differs)
+noted-differs survey (note ∷ notes) =
+    noted-differs (with_note survey note) notes ∙ or_assoc survey.differs (differs note.finding) (some_differs notes)
+
+-- A survey has the notes that were noted in it.
+pub noted-counts : (notes : List Note) → Counts (noted nothing_found notes) notes
+noted-counts notes = record {
+  tallies = λ finding.
+      noted-tally nothing_found notes finding refl
+      ∙ ap (λ (t : Tally). tallied t (notes_with finding notes)) (nothing-tally finding)
+      ∙ tallied-none (notes_with finding notes);
+  differs = noted-differs nothing_found notes;
+}

@@ -1,0 +1,2 @@
+pub mod SurveySteps
+pub mod CountedSteps

@@ -1,0 +1,7 @@
+pub mod Finding
+pub mod Survey
+pub mod Counted
+pub mod Types
+pub mod Entries
+pub mod Chunks
+pub use Rattle.chunk_walk.specs as chunk_walk
