@@ -1,0 +1,2 @@
+pub mod SoughtSteps
+pub mod PlacesSteps

@@ -1,0 +1,3 @@
+pub mod Names
+pub mod Sought
+pub mod Places

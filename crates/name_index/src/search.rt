@@ -1,0 +1,119 @@
+//! The search for names in tables.
+
+ghost use Rattle.std.specs.Prelude.{◌≡◌, map, IfOk};
+ghost use Rattle.std.specs.Option.{option_map};
+ghost use Rattle.type_chunks.specs.Row.{row_of};
+ghost use Rattle.resource_table.specs.Table.{rows_of};
+ghost use Rattle.name_index.specs.Names.{name_of, found_in_tables};
+ghost use Rattle.name_index.specs.Sought.{unfound, noted, noted_each, noted_in, entry_names, ArePlacesOf, IsNotedAt};
+
+use crate::name::Name;
+use crate::places::Places;
+use crate::sought::Sought;
+use resource_table::{ResId, Row, Table};
+use std::alloc::{AllocError, Global};
+use type_chunks::Text;
+
+/// The resource of each name: that of the first row which has it, in the first of the tables that has one. It walks
+/// once over the rows of each table, however many names there are, and takes memory in proportion to the names.
+///
+/// ```text
+/// let margin = Name { type_name: "dimen", entry_name: "margin" };
+/// let found = find_names(alloc, &[&table], &[margin])?; // [Some(ResId(0x7f030000))]
+/// ```
+pub fn find_names(
+    alloc: Global,
+    tables: &[&Table<'_>],
+    names: &[Name<'_>],
+) -> Result<Vec<Option<ResId>>, AllocError>
+    ensures { IfOk result (λ found. map (option_map (λ id. id.0)) found.items ≡ map (λ name. found_in_tables (map (λ table. table.now) tables.now) (name_of name)) names.now) }
+{
+    let places = places_of(alloc, names)?;
+    let mut sought = unfound(alloc, names)?;
+    look_in_each(tables, &places, &mut sought);
+    let found = found(alloc, &sought)?;
+    Ok(found)
+}
+
+// The names, before a table was looked at.
+fn unfound<'n>(alloc: Global, names: &[Name<'n>]) -> Result<Vec<Sought<'n>>, AllocError>
+    ensures { IfOk result (λ sought. sought.items ≡ map unfound names.now) }
+{
+    names
+        .iter()
+        .map(|name| Sought {
+            name: *name,
+            found: None,
+        })
+        .collect(alloc)
+}
+
+// What was found.
+fn found(alloc: Global, sought: &[Sought<'_>]) -> Result<Vec<Option<ResId>>, AllocError>
+    ensures { IfOk result (λ found. found.items ≡ map (λ one. one.found) sought.now) }
+{
+    sought.iter().map(|one| one.found).collect(alloc)
+}
+
+// The places of names, by their entries' names.
+fn places_of<'n>(alloc: Global, names: &[Name<'n>]) -> Result<Places<'n>, AllocError>
+    ensures { IfOk result (λ places. ArePlacesOf places (map (λ name. name.entry_name.now) names.now)) }
+{
+    let mut places = Places::new(alloc);
+    for (place, name) in names.iter().enumerate() {
+        places.push(alloc, name.entry_name.as_bytes(), place)?;
+    }
+    Ok(places)
+}
+
+// Looks for names in tables, one after the other.
+fn look_in_each(tables: &[&Table<'_>], places: &Places<'_>, sought: &mut [Sought<'_>])
+    requires { ArePlacesOf places.now (entry_names sought.old) }
+    ensures { sought.new ≡ map (noted_in (map (λ table. table.now) tables.now)) sought.old }
+{
+    for table in tables {
+        look_in(table, places, sought);
+    }
+}
+
+// Looks for names in a table.
+fn look_in(table: &Table<'_>, places: &Places<'_>, sought: &mut [Sought<'_>])
+    requires { ArePlacesOf places.now (entry_names sought.old) }
+    ensures { sought.new ≡ map (noted_each table.now (rows_of table.now)) sought.old }
+{
+    for row in table.all_rows() {
+        note_row(table, &row, places, sought);
+    }
+}
+
+// Notes a row for each name that it has.
+fn note_row(table: &Table<'_>, row: &Row<'_>, places: &Places<'_>, sought: &mut [Sought<'_>])
+    requires { ArePlacesOf places.now (entry_names sought.old) }
+    ensures { sought.new ≡ map (noted table.now (row_of row.now)) sought.old }
+{
+    match table.key_name(row) {
+        Ok(Text::Utf8(bytes)) => note_at(table, row, places.get(bytes), sought),
+        Ok(Text::Utf16(_)) => note_each(table, row, sought),
+        Err(_) => {}
+    }
+}
+
+// Notes a row for the names of these places that it has.
+fn note_at(table: &Table<'_>, row: &Row<'_>, places: &[usize], sought: &mut [Sought<'_>])
+    ensures { IsNotedAt table.now (row_of row.now) places.now sought.old sought.new }
+{
+    for place in places {
+        if *place < sought.len() {
+            sought[*place].note(table, row);
+        }
+    }
+}
+
+// Notes a row for each of all names that it has.
+fn note_each(table: &Table<'_>, row: &Row<'_>, sought: &mut [Sought<'_>])
+    ensures { sought.new ≡ map (noted table.now (row_of row.now)) sought.old }
+{
+    for one in sought.iter_mut() {
+        one.note(table, row);
+    }
+}
