@@ -128,3 +128,35 @@ fn says_why_it_does_not_split(rt: HostRuntime) -> Result<(), Fail> {
     }
     Ok(())
 }
+
+// A box with two numbers at each coordinate, and two locales.
+fn two_at_each(alloc: Global) -> Result<String, Fail> {
+    let mut text = String::from_str(alloc, "{\"locale\":[\"de\",\"fr\"]")?;
+    for at in Coord::ALL {
+        if at != Coord::Locale {
+            text.push_str(format!(in alloc; ",\"{at}\":[1,2]")?.as_str())?;
+        }
+    }
+    text.push_str("}")?;
+    Ok(text)
+}
+
+#[test]
+fn splits_at_each_coordinate(rt: HostRuntime) -> Result<(), Fail> {
+    let text = two_at_each(rt.alloc())?;
+    let b = ConfigBox::read(rt.alloc(), text.as_bytes())?;
+    for at in Coord::ALL {
+        let choice = match at {
+            Coord::Locale => locales(rt.alloc(), &["de"])?,
+            _ => numbers(rt.alloc(), &[1])?,
+        };
+        match b.split(rt.alloc(), &Test::Among(at, choice))? {
+            Split::Halves(first, second) => {
+                assert!(rt; first.corner() == b.corner(), "{at}");
+                assert!(rt; !first.contains(&second.corner()), "{at}");
+            }
+            Split::WrongKind | Split::EmptyHalf => assert!(rt; false, "{at}"),
+        }
+    }
+    Ok(())
+}

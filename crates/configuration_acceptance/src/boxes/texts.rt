@@ -113,6 +113,35 @@ fn counts_what_is_written(rt: HostRuntime) -> Result<(), Fail> {
     Ok(())
 }
 
+/// A box with this many locales, each of its own.
+fn with_locales(alloc: Global, count: u32) -> Result<String, Fail> {
+    let mut text = String::from_str(alloc, "{\"density\":[160],\"locale\":[\"\"")?;
+    for place in 1..count {
+        let (first, second) = (place / 26 % 26, place % 26);
+        let letters = [b'a' + first as u8, b'a' + second as u8];
+        text.push_str(",\"")?;
+        text.push_str(str::from_utf8(&letters)?)?;
+        text.push_str("\"")?;
+    }
+    text.push_str("]}")?;
+    Ok(text)
+}
+
+#[test]
+fn counts_locales(rt: HostRuntime) -> Result<(), Fail> {
+    for count in [128, 129, 512] {
+        let text = with_locales(rt.alloc(), count)?;
+        match ConfigBox::read(rt.alloc(), text.as_bytes())?.values(Coord::Locale) {
+            Values::Locales(locales) => assert_eq!(rt; locales.len(), count as usize),
+            Values::Range(_, _) | Values::Numbers(_) => assert!(rt; false),
+        }
+    }
+    let more = with_locales(rt.alloc(), 513)?;
+    let want = Some(BoxFault::TooMany(Coord::Locale));
+    assert_eq!(rt; fault(rt.alloc(), more.as_str()), want);
+    Ok(())
+}
+
 fn expect_numbers<R: Abort>(rt: &R, b: &ConfigBox, at: Coord, want: &[u32]) {
     match b.values(at) {
         Values::Numbers(numbers) => assert_eq!(rt; numbers, want, "{at}"),
