@@ -32,5 +32,7 @@ pub use end::{end_text, write_end_line};
 pub use explanation::explain;
 pub use line_parts::{write_id, write_layer, write_value};
 pub use query::{query_line, set_aside_line};
-pub use reference_resolver::{Device, End, ResId, Stack, Table};
+pub use reference_resolver::{
+    Cell, Device, End, MapRows, ResId, Row, Stack, Table, Value, kind, write_string,
+};
 pub use rows::rows_text;

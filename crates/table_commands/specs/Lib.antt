@@ -1,4 +1,12 @@
 pub mod TableOutput
+pub mod NameText
+pub mod FirstRows
+pub mod FirstRowsSeen
+pub mod MadeMap
+pub mod CarriedSeen
+pub mod PairSeen
+pub mod AstraySeen
+pub mod MapOutput
 pub use Rattle.answer_text.specs as answer_text
 pub use Rattle.answer_text.specs.config_record
 pub use Rattle.answer_text.specs.overlay_map

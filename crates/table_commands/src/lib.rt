@@ -1,18 +1,28 @@
-//! The commands that are asked for one table, over its bytes and a writer: `rows` and `dump`.
+//! The commands that are asked for tables alone, over their bytes and a writer: `rows` and `dump` for one, and `map`
+//! for a target and an overlay.
 //!
-//! For the crates above: a command prints the text that the table means and nothing else, or it names the first
-//! fault of the table and has printed nothing.
+//! For the crates above: a command prints the text that its tables mean and nothing else, or it names the first
+//! fault of these and has printed nothing.
 //!
 //! ```text
 //! rows_bytes(alloc, &table, &mut out)?; // row 0x7f010000 [] decimal 5
 //!                                       // rows 1 set-aside 0
 //! dump_bytes(alloc, &table, &mut out)?; // package 0x7f "app"
 //!                                       //   0x7f010000 "integer"/"five" flags 0x00000000 [] decimal 5
+//! map_bytes(alloc, &target, &overlay, &mut out, &mut errors)?; // [["0x7f010000","0x7f020000"]]
 //! ```
 #![tactic(auto)]
 
+mod astray;
+mod carried;
 mod dump;
+mod first_rows;
+mod map;
+mod map_text;
+mod name_text;
+mod pairs;
 mod rows;
+mod unmapped;
 
 pub use answer_text::{Device, End, Stack};
 pub use command_base::{
@@ -20,4 +30,5 @@ pub use command_base::{
     read_input,
 };
 pub use dump::dump_bytes;
+pub use map::map_bytes;
 pub use rows::rows_bytes;

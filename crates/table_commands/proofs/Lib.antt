@@ -1,0 +1,5 @@
+pub mod NameSteps
+pub mod LoopSteps
+pub mod FirstRowSteps
+pub mod CarriedSteps
+pub mod PairSteps

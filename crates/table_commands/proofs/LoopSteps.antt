@@ -1,0 +1,60 @@
+-- How a loop makes one list of another.
+use Rattle.std.proofs.Common.{◌≡◌, List, [], ◌∷◌, ◌++◌, map, Option, Some, None, refl, sym, ap, ◌∙◌, append_assoc}
+use Rattle.std.specs.List.{cons_option, filter_map, flat_map}
+use Rattle.std.proofs.lemmas.List.{append-nil, map-append}
+
+-- ---- where an item gives one or none
+
+-- what all items give is what was made and what those give that are left
+pub record GivesAllBut {A B : Type 0} (g : A → Option B) (made : List B) (all left : List A) : Type 0 where
+  pub others : made ++ filter_map g left ≡ filter_map g all
+
+pub GivesAllBut-none : {A B : Type 0} (g : A → Option B) (all : List A) → GivesAllBut g [] all all
+GivesAllBut-none g all = record { others = refl }
+
+pub GivesAllBut-push : {A B X : Type 0} (view : X → B) (g : A → Option B) (items new : List X) (all left others : List A) (x : A) (item : X)
+    → GivesAllBut g (map view items) all left → left ≡ x ∷ others → Some (view item) ≡ g x → new ≡ items ++ item ∷ [] → GivesAllBut g (map view new) all others
+GivesAllBut-push {A} {B} {X} view g items new all left others x item before split gives pushed = record {
+  others =
+      ap (λ (t : List X). map view t ++ filter_map g others) pushed
+      ∙ ap (λ (t : List B). t ++ filter_map g others) (map-append view items (item ∷ []))
+      ∙ append_assoc (map view items) (view item ∷ []) (filter_map g others)
+      ∙ ap (λ (o : Option B). map view items ++ cons_option o (filter_map g others)) gives
+      ∙ ap (λ (t : List A). map view items ++ filter_map g t) (sym split)
+      ∙ before.others;
+}
+
+pub GivesAllBut-skip : {A B : Type 0} (g : A → Option B) (made : List B) (all left others : List A) (x : A)
+    → GivesAllBut g made all left → left ≡ x ∷ others → None ≡ g x → GivesAllBut g made all others
+GivesAllBut-skip {A} {B} g made all left others x before split gives = record {
+  others =
+      ap (λ (o : Option B). made ++ cons_option o (filter_map g others)) gives
+      ∙ ap (λ (t : List A). made ++ filter_map g t) (sym split)
+      ∙ before.others;
+}
+
+pub GivesAllBut-end : {A B : Type 0} (g : A → Option B) (made : List B) (all left : List A) → GivesAllBut g made all left → left ≡ [] → made ≡ filter_map g all
+GivesAllBut-end {A} g made all left before nothing =
+    sym (append-nil made) ∙ ap (λ (t : List A). made ++ filter_map g t) (sym nothing) ∙ before.others
+
+-- ---- where an item gives a list
+
+pub record JoinsAllBut {A B : Type 0} (f : A → List B) (made : List B) (total : List B) (left : List A) : Type 0 where
+  pub others : made ++ flat_map f left ≡ total
+
+pub JoinsAllBut-none : {A B : Type 0} (f : A → List B) (made : List B) (all : List A) → JoinsAllBut f made (made ++ flat_map f all) all
+JoinsAllBut-none f made all = record { others = refl }
+
+pub JoinsAllBut-next : {A B : Type 0} (f : A → List B) (made more total : List B) (left others : List A) (x : A)
+    → JoinsAllBut f made total left → left ≡ x ∷ others → more ≡ made ++ f x → JoinsAllBut f more total others
+JoinsAllBut-next {A} {B} f made more total left others x before split joined = record {
+  others =
+      ap (λ (t : List B). t ++ flat_map f others) joined
+      ∙ append_assoc made (f x) (flat_map f others)
+      ∙ ap (λ (t : List A). made ++ flat_map f t) (sym split)
+      ∙ before.others;
+}
+
+pub JoinsAllBut-end : {A B : Type 0} (f : A → List B) (made total : List B) (left : List A) → JoinsAllBut f made total left → left ≡ [] → made ≡ total
+JoinsAllBut-end {A} f made total left before nothing =
+    sym (append-nil made) ∙ ap (λ (t : List A). made ++ flat_map f t) (sym nothing) ∙ before.others

@@ -1,0 +1,6 @@
+use Rattle.answer_text.specs.resource_table.Table.{rows_of}
+use Rattle.table_commands.proofs.FirstRowSteps.{FindsAllBut}
+use Rattle.table_commands.proofs.first_rows.first_rows.Given as goal
+
+abbrev pub invariant-loop-row : goal.invariant-loop-row
+invariant-loop-row l = FindsAllBut (rows_of l.table) l.row-iterator l.rows

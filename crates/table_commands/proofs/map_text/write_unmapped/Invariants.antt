@@ -1,0 +1,10 @@
+use Rattle.std.proofs.Common.{drop, map}
+use Rattle.contract_words.proofs.TextSteps.{PutsAllBut}
+use Rattle.answer_text.specs.type_chunks.Row.{row_of}
+use Rattle.table_commands.specs.MapOutput.{unmapped_line}
+use Rattle.table_commands.proofs.map_text.write_unmapped.Given as goal
+
+-- the lines of all rows were written but of those that are left
+abbrev pub invariant-loop-row : goal.invariant-loop-row
+invariant-loop-row g l =
+    PutsAllBut (unmapped_line l.overlay) (g.W.Write.contents l.fn.out) (g.W.Write.contents l.out) (map row_of l.rows) (map row_of (drop l.row-index l.rows))

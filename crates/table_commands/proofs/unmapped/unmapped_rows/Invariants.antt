@@ -1,0 +1,11 @@
+use Rattle.std.proofs.Common.{drop, map}
+use Rattle.answer_text.specs.overlay_map.IdMap.{pairs_of}
+use Rattle.answer_text.specs.type_chunks.Row.{row_of}
+use Rattle.table_commands.specs.MadeMap.{if_unmapped}
+use Rattle.table_commands.proofs.LoopSteps.{GivesAllBut}
+use Rattle.table_commands.proofs.unmapped.unmapped_rows.Given as goal
+
+-- all rows were looked at but those that are left
+abbrev pub invariant-loop-row : goal.invariant-loop-row
+invariant-loop-row l =
+    GivesAllBut (if_unmapped (pairs_of l.carried.pairs.now)) (map row_of l.left.items) (map row_of l.row-items) (map row_of (drop l.row-index l.row-items))

@@ -1,0 +1,63 @@
+//! The text of a name.
+
+ghost use Rattle.std.specs.Prelude.{◌≡◌, IfOk, string_bytes};
+ghost use Rattle.std.specs.Option.{option_map};
+ghost use Rattle.string_pool.specs.Text.{seen_text};
+ghost use Rattle.string_pool.specs.Units.{units_in};
+ghost use Rattle.table_commands.specs.NameText.{name_text, text_of_bytes, text_of_units};
+
+use std::alloc::{AllocError, Global};
+use std::str;
+use string_pool::{StringFault, Text, u16_within};
+
+// How many bytes a unit of UTF-16 has.
+const UNIT_SIZE: usize = 2;
+
+/// A name as UTF-8, where it can be read and is text.
+#[tactic(auto, unfolding(crate::specs::NameText::name_text))]
+pub(crate) fn name_text(
+    alloc: Global,
+    name: Result<Text<'_>, StringFault>,
+) -> Result<Option<String>, AllocError>
+    ensures { IfOk result (λ text. option_map string_bytes text ≡ name_text (seen_text name.entry)) }
+{
+    match name {
+        Ok(Text::Utf8(bytes)) => text_of_bytes(alloc, bytes),
+        Ok(Text::Utf16(bytes)) => text_of_units(alloc, bytes),
+        Err(_) => Ok(None),
+    }
+}
+
+fn text_of_bytes(alloc: Global, bytes: &[u8]) -> Result<Option<String>, AllocError>
+    ensures { IfOk result (λ text. option_map string_bytes text ≡ text_of_bytes bytes.now) }
+{
+    match str::from_utf8(bytes) {
+        Ok(text) => Ok(Some(String::from_str(alloc, text)?)),
+        Err(_) => Ok(None),
+    }
+}
+
+fn text_of_units(alloc: Global, bytes: &[u8]) -> Result<Option<String>, AllocError>
+    ensures { IfOk result (λ text. option_map string_bytes text ≡ text_of_units (units_in bytes.now)) }
+{
+    let units = units_in(alloc, bytes)?;
+    match String::from_utf16(alloc, &units)? {
+        Ok(text) => Ok(Some(text)),
+        Err(_) => Ok(None),
+    }
+}
+
+// The units that bytes are; a byte that is left over says nothing.
+#[tactic(auto, using(string_pool::proofs::UnitSteps::unit_steps))]
+fn units_in(alloc: Global, bytes: &[u8]) -> Result<Vec<u16>, AllocError>
+    ensures { IfOk result (λ units. units.items ≡ units_in bytes.now) }
+{
+    let mut units = Vec::new(alloc);
+    let mut left = bytes;
+    while left.len() >= UNIT_SIZE {
+        let (_, behind) = left.split_at(UNIT_SIZE);
+        units.push(u16_within(left, 0))?;
+        left = behind;
+    }
+    Ok(units)
+}
