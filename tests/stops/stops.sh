@@ -327,23 +327,13 @@ else
 fi
 
 # ---- memory, files and bytes that are refused
-# refused_by SCRIPT PROGRAM: counts what a script says that refuses the program this and that.
-refused_by() {
-    python3 "$here/tests/stops/$1" "$2" ./refuse.so >refusals
+if command -v cc >/dev/null && command -v python3 >/dev/null; then
+    cc -shared -fPIC -O2 -o refuse.so "$here/tests/stops/refuse.c" || exit 1
+    python3 "$here/tests/stops/refusals.py" "$program" ./refuse.so >refusals
     tail -n 1 refusals | grep -q ' failed$' || echo '0 passed, 1 failed' >>refusals
     sed '$d' refusals
     passed=$((passed + $(tail -n 1 refusals | sed -n 's/^\([0-9]*\) passed, .*/\1/p')))
     failed=$((failed + $(tail -n 1 refusals | sed -n 's/.* passed, \([0-9]*\) failed$/\1/p')))
-}
-
-if command -v cc >/dev/null && command -v python3 >/dev/null; then
-    cc -shared -fPIC -O2 -o refuse.so "$here/tests/stops/refuse.c" || exit 1
-    refused_by refusals.py "$program"
-    calls=$here/crates/worked_calls/out/worked_calls
-    if [ ! -x "$calls" ] || [ "$(find "$here/crates" -name out -prune -o -name '*.rt' -newer "$calls" -print)" ]; then
-        python3 "$here/tools/prove.py" worked_calls >/dev/null && touch "$calls"
-    fi
-    refused_by calls.py "$calls"
 else
     echo "not run, since cc or python3 is missing: refused memory, files and bytes"
 fi
