@@ -3,5 +3,4 @@
 mod attributes;
 mod faults;
 mod many_nodes;
-mod named_words;
 mod written;

@@ -6,7 +6,6 @@ mod dump;
 mod hostile;
 mod input;
 mod many_entries;
-mod names;
 mod rows;
 mod rows_by_id;
 mod shared_bags;
