@@ -347,4 +347,5 @@ def main():
         sys.stdout.writelines(dump_lines(types, given.utf16))
 
 
-main()
+if __name__ == "__main__":
+    main()

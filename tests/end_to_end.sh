@@ -103,6 +103,46 @@ else
     echo "not run, since python3 is missing: random tables with sparse types, hostile bytes of one"
 fi
 
+# ---- map
+porcelain=$here/examples/porcelain
+check "the map of an overlay" 0 "$porcelain/map.json" $none map "$teapot/resources.arsc" "$porcelain/resources.arsc"
+input=$teapot/resources.arsc
+check "the map for a target on standard input" 0 "$porcelain/map.json" $none map - "$porcelain/resources.arsc"
+input=$porcelain/resources.arsc
+check "the map of an overlay on standard input" 0 "$porcelain/map.json" $none map "$teapot/resources.arsc" -
+awk '$1 == "row" { print $2 }' "$tables/rich.rows.txt" | sort -u |
+    awk '{ printf "%s[\"%s\",\"%s\"]", (NR > 1 ? ",\n " : "["), $1, $1 } END { print "]" }' >own.map
+input=$tables/rich.arsc
+check "the map of a table to itself, on standard input" 0 own.map $none map - -
+input=/dev/null
+grep -o '\["0x[^]]*\]' "$tables/overlay-map.json" | sort |
+    awk '{ printf "%s%s", (NR > 1 ? ",\n " : "["), $0 } END { print "]" }' >rich.map
+printf '%s\n' 'unmapped 0x7f020003 "string"/"own_only"' \
+    'astray 0x7f020004 "string"/"settings" to 0x7f020003 "string"/"own_only"' >rich.lines
+check "a map that leaves something out" 1 rich.map rich.lines map "$tables/rich.arsc" "$tables/overlay.arsc"
+line empty.map '[]'
+cp "$here/crates/restool/stdin" whole
+check "the map of a table without rows" 0 empty.map $none map "$tables/rich.arsc" whole
+cut=cut.arsc
+head -c 1000 "$tables/rich.arsc" >$cut
+line target.err 'refused: layer 0 table: Chunk Oversize 0'
+check "a target that is cut comes before the overlay" 3 $none target.err map $cut $cut
+line overlay.err 'refused: layer 1 table: Chunk Oversize 0'
+check "an overlay that is cut" 3 $none overlay.err map "$tables/rich.arsc" $cut
+line nowhere.err 'file: nowhere'
+check "an absent overlay comes before a target that is cut" 5 $none nowhere.err map $cut nowhere
+check "an absent target comes before an absent overlay" 5 $none nowhere.err map nowhere elsewhere
+if [ -w /dev/full ]; then
+    ends "a map to a full output" 5 "\"\$0\" map '$teapot/resources.arsc' '$porcelain/resources.arsc' >/dev/full"
+    ends "lines of a map to a full stream" 5 "\"\$0\" map '$porcelain/resources.arsc' '$teapot/resources.arsc' 2>/dev/full"
+fi
+if command -v python3 >/dev/null; then
+    ends "random maps" 0 "python3 '$here/tests/check_map.py' \"\$0\" 400 4"
+    ends "random names" 0 "python3 '$here/tests/check_names.py' \"\$0\" 200 4"
+else
+    echo "not run, since python3 is missing: random maps"
+fi
+
 # ---- query, explain, bag and attr
 
 # answers LAYERS DEVICE: the ends of all ids of rich.arsc, of which some are absent, how each comes to its end, the
@@ -294,27 +334,24 @@ else
 fi
 
 # ---- README and the guide: what they show after a command is what it prints
-for page in README.md docs/GUIDE.md; do
+
+# shows PAGE FOLDER: the commands of this page of the folder, run there one after the other.
+shows() {
     rm -rf shown
     mkdir shown
-    awk '/^\$ / { name = "shown/" ++n; print substr($0, 3) >(name ".command"); printf "" >(name ".lines"); next }
-        /^```/ { name = "" } name { print >(name ".lines") }' "$here/$page"
+    awk '/^\$ / { name = sprintf("shown/%03d", ++n); print substr($0, 3) >(name ".command"); printf "" >(name ".lines"); next }
+        /^```/ { name = "" } name { print >(name ".lines") }' "$2/$1"
     for shown in shown/*.lines; do
         command=$(cat "${shown%.lines}.command")
         case $command in
         python3* | 'sh examples/release'*) command -v python3 >/dev/null || { echo "not run, since python3 is missing: $command"; continue; } ;;
         esac
-        (cd "$here" && sh -c "$command") >printed 2>&1
-        ends "$page's output of '$command'" 0 "awk -f '$here/tests/shown.awk' '$shown' printed >&2"
+        (cd "$2" && sh -c "$command") >printed 2>&1
+        ends "$1's output of '$command' in $2" 0 "awk -f '$here/tests/shown.awk' '$shown' printed >&2"
     done
-done
-
-# the guide's commands that make an id map
-awk '/^names\(\)/ { shown = 1 } /^```/ { shown = 0 } shown' "$here/docs/GUIDE.md" >map.sh
-ln -s "$here/examples" examples
-printf '#!/bin/sh\nexec "%s" "$@"\n' "$program" >restool
-chmod +x restool
-ends "the id map of the guide" 0 'sh ./map.sh && cmp map.json examples/porcelain/map.json'
+}
+shows README.md "$here"
+shows docs/GUIDE.md "$here"
 
 # The guide's search for newer features. Each of these bytes of the example gives it one: the flags of its first
 # type, its grammatical gender, the flags of its first entry.
@@ -328,6 +365,41 @@ if command -v python3 >/dev/null; then
 else
     echo "not run, since python3 is missing: a search for newer features"
 fi
+
+# ---- the package: unpacked into an empty folder, it needs neither the repository nor rt
+mkdir -p bare/tools bare/crates/restool/out bare/crates/restool/src
+cp "$here"/tools/*.sh bare/tools/
+line old.err 'package.sh: the program is missing or older than its sources: ./restool proves and builds it'
+ends "no package without a program" 0 '! sh bare/tools/package.sh 2>told && cmp told old.err'
+cp "$program" bare/crates/restool/out/
+touch -d '2 seconds' bare/crates/restool/src/main.rt
+ends "no package of an old program" 0 '! sh bare/tools/package.sh 2>told && cmp told old.err'
+
+ends "a package" 0 "sh '$here/tools/package.sh' first"
+ends "a package that others may not read" 0 "umask 077; sh '$here/tools/package.sh' second"
+package=$(basename first/*.tar.gz .tar.gz)
+ends "the same bytes twice" 0 "cmp first/$package.tar.gz second/$package.tar.gz"
+mkdir unpacked
+tar -xzf "first/$package.tar.gz" -C unpacked
+unpacked=$work/unpacked/$package
+ends "checksums of the package" 0 "cd '$unpacked' && sha256sum -c --quiet SHA256SUMS"
+ends "checksums of all its files" 0 "[ \$(find '$unpacked' -type f | wc -l) = \$((\$(wc -l <'$unpacked/SHA256SUMS') + 1)) ]"
+path=$PATH
+PATH=$(printf '%s\n' "$path" | tr : '\n' | while read -r it; do [ -x "$it/rt" ] || printf ':%s' "$it"; done)
+PATH=${PATH#:}
+ends "no toolchain" 0 '! command -v rt'
+shows README.md "$unpacked"
+fleet=$unpacked/examples/fleet
+if command -v make >/dev/null; then
+    shows README.md "$fleet"
+    touch "$fleet/families/phones.json"
+    printf '%s\n' 'cup/phones: accepted' 'kettle/phones: accepted' >steps
+    ends "steps after a family is changed" 0 "make -s -j2 -C '$fleet' check | sed 's/ goals.*//' | sort | cmp - steps"
+    ends "no steps where nothing is changed" 0 "[ -z \"\$(make -s -j2 -C '$fleet' check)\" ]"
+else
+    echo "not run, since make is missing: a fleet"
+fi
+PATH=$path
 
 # ---- the pages: their links, the files that they name, and the page that is made from the definitions
 if command -v python3 >/dev/null; then
@@ -392,8 +464,54 @@ check "a wrong list of layers comes before an absent device" 3 $none shape.err q
 line far '[{"table":"whole","map":"nowhere"}]'
 check "an absent id map comes before an absent device" 5 $none nowhere.err query far absent 0x7f010000
 
+# ---- names, asked in the folder of the examples
+cd "$here" || exit 1
+layers=examples/porcelain/layers.json
+phone=examples/porcelain/phone.json
+
+# same NAME IDS WORDS..: a query of these words prints what one of these ids does.
+same() {
+    name=$1
+    # shellcheck disable=SC2086 # the ids are words
+    "$program" query $layers $phone $2 >"$work/by-id"
+    status=$?
+    shift 2
+    check "$name" "$status" "$work/by-id" $none query $layers $phone "$@"
+}
+same "names in place of ids" "0x7f030000 0x7f050000" dimen/handle string/title
+printf '%s\n' '# sizes' '' 'dimen/handle' ' string/title ' >"$work/words"
+same "all of a type, and a file of words" "0x7f030000 0x7f030001 0x7f030002 0x7f030003 0x7f030000 0x7f050000" 'dimen/*' \
+    "@$work/words"
+ids=$("$program" rows examples/teapot/resources.arsc | sed -n 's/^row \(0x[0-9a-f]*\) .*/\1/p' | sort -u | tr '\n' ' ')
+same "all resources" "$ids" '*'
+
+# missing NAME WORDS..: these words end at the name, which is not there.
+missing() {
+    line missing.err "no resource $1"
+    shift
+    check "a name that is not there: $*" 1 $none "$work/missing.err" "$@"
+}
+missing dimen/hanlde query $layers $phone string/title dimen/hanlde string/nope
+missing 'nothing/*' query $layers $phone 'nothing/*'
+missing Dimen/handle explain $layers $phone Dimen/handle
+missing style/None attr $layers $phone 0x01010000 0x7f030000 style/None
+missing style/None make $layers examples/porcelain/phones.json dimen/handle 0x01010000@style/None
+missing attr/none check $layers examples/porcelain/phones.json examples/porcelain/certificate.json attr/none@style/None
+line word.err 'command: bad id @others'
+printf '%s\n' 'dimen/handle' '@others' >"$work/words"
+check "a file of words names no other" 2 $none "$work/word.err" query $layers $phone "@$work/words"
+printf 'dimen/handle\n\377\n' >"$work/words"
+line text.err 'command: a word is not UTF-8'
+check "a file of words that is no text" 2 $none "$work/text.err" query $layers $phone "@$work/words"
+line file.err 'file: absent'
+check "files come before the words in them" 5 $none "$work/file.err" query absent $phone "@$work/words"
+check "an absent file of words" 5 $none "$work/file.err" query $layers $phone @absent
+line word.err 'command: bad id @words'
+check "one resource is not in a file" 2 $none "$work/word.err" explain absent $phone @words
+cd "$work" || exit 1
+
 # ---- words
-for command in rows dump query explain bag attr make check; do
+for command in rows dump map query explain bag attr make check; do
     check "help of $command" 0 "$here/tests/helps/$command.txt" $none "$command" --help
 done
 check "help" 0 "$here/tests/helps/restool.txt" $none --help
@@ -417,6 +535,8 @@ check "the attribute is the first word that is no id" 2 $none attr.err attr laye
 line style.err 'command: bad id style'
 check "a style that is no id" 2 $none style.err attr layers device --keep 0x01010000 0x7f010000 style
 ends "dump of two tables" 2 '"$0" dump a b'
+ends "map of one table" 2 '"$0" map a'
+ends "map of three tables" 2 '"$0" map a b c'
 ends "too many words" 2 '"$0" rows a b'
 ends "a word that is not UTF-8" 2 '"$0" rows "$(printf "\377")"'
 

@@ -6,8 +6,10 @@
     planted_bugs.py --apply [CRATE | CRATE/BUG ..]
 
 Without a name it takes all. An edit has a line 'seen by: TESTS: NAME'. TESTS is tests/stops, for which the program is
-proved and built with the bug, or a crate of tests, which is built with it and not proved. NAME is the test that has to
-fail there. The last line is 'N seen or refused, M let through'; refused is a bug that the prover does not let through.
+proved and built with the bug; or a crate of tests, which is built with it and not proved; or tests/stops/calls.py, for
+whose rows of the call NAME the same is done of their programs; a row's last word may stand behind its name. NAME is the
+test that has to fail there. The last line is 'N seen or refused, M let through'; refused is a bug that the prover does
+not let through.
 
 With --control it takes the edits of must-fail/ and wrong-bodies/ that name a control, and plants that in place of the
 bug: the right body in the same form. The prover has to let it through, or the edit is refused for its form and shows
@@ -27,10 +29,16 @@ import tempfile
 from concurrent.futures import ThreadPoolExecutor
 from pathlib import Path
 
+sys.path.append(str(Path(__file__).resolve().parent / "stops"))
+from worked_calls import WITHOUT_MEMORY, rows
+
 HERE = Path(__file__).resolve().parent.parent
 RT = os.environ.get("RT", "rt").split()
 PROGRAM = "restool"
 PROGRAM_TESTS = "tests/stops"
+CALLS = "tests/stops/calls.py"
+RAN = "run=ended status=0"
+"""What rt says of a program that has run without a proof."""
 FOR_THE_PROVER = ("must-fail", "wrong-bodies")
 FOR_TESTS = ("seen-by-tests",)
 
@@ -111,6 +119,19 @@ def tried_on_crate(edit, copy):
     return seen(edit, failed, f"test {edit.test} ")
 
 
+def tried_on_calls(edit, copy):
+    """Runs the rows of a call, to which no memory is refused."""
+    named = [({row.words[0], f"{row.words[0]} {row.words[-1]}"}, row) for row in [*rows(), *WITHOUT_MEMORY]]
+    asked = [row for names, row in named if edit.test in names]
+    for row in asked:
+        ran = Run([*RT, "try", "--", *row.words], copy / "crates" / row.program)
+        if not any(line.startswith("run=ended") for line in ran.lines):
+            return f"NOT BUILT: {ran.lines[-1:]}"
+        if ran.lines[: len(row.answer)] != row.answer or not any(line.startswith(RAN) for line in ran.lines):
+            return f"seen by {edit.test}"
+    return f"NOT SEEN by the {len(asked)} rows of {edit.test}"
+
+
 def seen(edit, failed, wanted):
     if any(line.startswith(wanted) for line in failed):
         return f"seen by {edit.test}"
@@ -143,7 +164,8 @@ def tried(edit, base, work):
 def edit_tried(edit, copy):
     if not edit.tests:
         return tried_by_prover(edit, copy)
-    return tried_on_program(edit, copy) if edit.tests == PROGRAM_TESTS else tried_on_crate(edit, copy)
+    by_tests = {PROGRAM_TESTS: tried_on_program, CALLS: tried_on_calls}
+    return by_tests.get(edit.tests, tried_on_crate)(edit, copy)
 
 
 def paths_of(word, folders):

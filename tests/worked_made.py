@@ -32,6 +32,16 @@ def locales(*names):
     return {"density": [160], "locale": list(names)}
 
 
+def in_each(names, given):
+    """A row for each locale, all with the same conditions beside it."""
+    return [row({}, 1)] + [row({"locale": name, **given}, 2) for name in names]
+
+
+def met_or_not(names, given):
+    """Each condition is met by some devices and not by others."""
+    return locales(*names) | {name: [value - 1, value] for name, value in given.items()}
+
+
 def counter(device, end):
     return f"counter goal 0\ndevice {device}\nend {end}\n"
 
@@ -42,6 +52,9 @@ FRENCH = [row({"locale": "fr"}, 1)]
 FRENCH_AND_ANY = FRENCH + [row({}, 2)]
 ALIKE_AT_NIGHT = [row({}, 1), row({"night": 2}, 1)]
 NIGHTS = [{"density": [160], "night": [1, 2]}, {"density": [160], "night": {"from": 1, "to": 2}}]
+SHARED = {"smallestWidthDp": 600, "night": 2, "sdk": 30}
+TEN_SHARED = SHARED | {"mcc": 310, "layoutDirection": 2, "screenSize": 3, "long": 1, "orientation": 2, "touchscreen": 3, "keyboard": 2}
+LANGUAGES = [first + second for first in "abcd" for second in "abcdefghijklmnopqrstuvwxy"]
 ONE_LEAF = '{"goals":[{"id":"0x7f010000","nodes":[{"kind":16,"layer":0,"word":1}]}],"version":1}\n'
 
 CASES = [
@@ -72,6 +85,9 @@ CASES = [
     # A range of densities in three parts: that of 160 is better up to 197, and that of 320 up to 426.
     (MEDIUM_AND_HIGH + [row({"density": 640}, 3)], densities(120, 640), 5, 1, 5),
     (MEDIUM_AND_HIGH + [row({"density": 640}, 3)], densities(120, 640), 4, 1, NODE_LIMIT),
+    # What all rows ask is asked once: two nodes for each such condition, then twice as many as locales, less one.
+    (in_each(LANGUAGES, SHARED), met_or_not(LANGUAGES, SHARED), 205, 1, 205),
+    (in_each(LANGUAGES[:60], TEN_SHARED), met_or_not(LANGUAGES[:60], TEN_SHARED), 139, 1, 139),
 ]
 
 

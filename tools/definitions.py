@@ -1,5 +1,5 @@
 #!/usr/bin/env python3
-"""Writes docs/DEFINITIONS.md, the list of all definitions that contracts cite.
+"""Writes docs/DEFINITIONS.md, the list of the definitions on which public promises rest.
 
 usage: tools/definitions.py            writes the page
        tools/definitions.py --check    ends with status 1 where the page is not up to date
@@ -20,7 +20,7 @@ HEAD = """# Definitions
 
 Contracts cite these definitions. `tools/definitions.py` makes this page from the files in `specs/` and the contracts in `src/`; do not edit it. Crates and files stand in the order to read them. [ARCHITECTURE.md](ARCHITECTURE.md#contracts-and-definitions) says how the definitions are named.
 
-A definition in bold is named by a public contract; the others are what it is made of. **Carried by** lists public functions whose contracts name a definition of the file, or a type whose contracts do (of the type itself, or of its iterator). *Within* means that no public contract names it: these are the nearest that name a definition made of it. *Private contracts*: none but those of private functions name it, so no public promise rests on the file.
+A definition in bold is named by a public contract; the others are what it is made of. **Carried by** lists public functions whose contracts name a definition of the file, or a type whose contracts do (of the type itself, or of its iterator). *Within* means that no public contract names it: these are the nearest that name a definition made of it. Files that only private contracts name are left out: no public promise rests on them.
 """
 
 USE = re.compile(r"^\s*(?:ghost )?(?:unfoldable )?(pub )?use Rattle\.(\w+)\.specs\.(\w+)(?:\.\{([^}]*)\}| as (\w+))?;?\s*$", re.M)
@@ -224,8 +224,13 @@ class Reader:
         nearest = next((found for found in in_crate + carried if found), [])
         if nearest:
             return "within " + shown(nearest, specs.crate, self.crates)
-        is_private = any(home in self.private for level in levels for home in level)
-        return "private contracts" if is_private else ""
+        return ""
+
+    def is_private(self, specs):
+        """Whether private contracts name a file, and no public one does, nor one of what is made of it."""
+        levels = self.levels_above([(specs.crate, specs.name, name) for name in specs.names])
+        above = [home for level in levels for home in level]
+        return any(it in self.private for it in above) and not any(it in self.public for it in above)
 
     def levels_above(self, own):
         """These definitions, those that are made of them, and so on; each once."""
@@ -305,7 +310,7 @@ def page():
     reader = Reader()
     lines = [HEAD]
     for crate in reader.crates:
-        files = [specs for specs in reader.specs.values() if specs.crate == crate and specs.names]
+        files = [it for it in reader.specs.values() if it.crate == crate and it.names and not reader.is_private(it)]
         if not files:
             continue
         lines += [f"## {crate}", "", "| file | says | definitions | carried by |", "|---|---|---|---|"]

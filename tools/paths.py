@@ -11,8 +11,8 @@ import os
 import sys
 
 LIST = os.path.join(os.path.dirname(os.path.dirname(os.path.realpath(__file__))), "crates.txt")
-MOST = 1500
-MOST_OF = {"restool": 800}
+MOST = 1600
+MOST_OF = {"restool": 1000}
 
 
 def counted(lines):

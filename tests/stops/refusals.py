@@ -107,7 +107,7 @@ def faults_of_writes(refuser, run):
     status = 5 if run.ended.out else run.ended.status
     for name, place, ended, writes in refuser.each_with_calls(run, "write"):
         is_begun = run.ended.out.startswith(ended.out) and run.ended.err.startswith(ended.err)
-        is_whole = run.ended.err != b"" and ended.err == run.ended.err
+        is_whole = (ended.out, ended.err) == (run.ended.out, run.ended.err)
         if ended.status != status or is_whole or not is_begun:
             yield f"{name}: {ended}"
         if writes != place:

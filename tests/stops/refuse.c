@@ -2,6 +2,7 @@
  *   REFUSED   grow: memory; open: a file (EACCES, at full-open ENOMEM); read, write: bytes (EIO, at block-read EAGAIN);
  *             or it hinders bytes: interrupt-read, interrupt-write (EINTR), short-read, short-write (one is moved)
  *   FROM, TO  the first and the last call that is refused; the first of all is 1
+ *   MARKED    where it is given, only calls count that come between the line `call` on standard error and the next write there
  *   COUNT     the file that gets how many calls there were, in decimal digits */
 #define _GNU_SOURCE
 #include <errno.h>
@@ -17,15 +18,17 @@ void *__libc_realloc(void *old, size_t size);
 
 static const char *refused = "";
 static long calls, from, to;
+static int is_marked, is_called;
 
 __attribute__((constructor)) static void begin(void) {
     from = atol(getenv("FROM"));
     to = atol(getenv("TO"));
     refused = getenv("REFUSED");
+    is_marked = getenv("MARKED") != NULL;
 }
 
 static int refuses(const char *kind, int error) {
-    if (strcmp(refused, kind) != 0 || ++calls < from || calls > to) return 0;
+    if ((is_marked && !is_called) || strcmp(refused, kind) != 0 || ++calls < from || calls > to) return 0;
     errno = error;
     return 1;
 }
@@ -43,7 +46,12 @@ ssize_t read(int file, void *bytes, size_t size) {
     return syscall(SYS_read, file, bytes, size && refuses("short-read", 0) ? 1 : size);
 }
 
+static int is_mark(const char *mark, const void *bytes, size_t size) {
+    return size == strlen(mark) && memcmp(bytes, mark, size) == 0;
+}
+
 ssize_t write(int file, const void *bytes, size_t size) {
+    if (file == STDERR_FILENO) is_called = is_mark("call\n", bytes, size);
     if (refuses("write", EIO) || refuses("interrupt-write", EINTR)) return -1;
     return syscall(SYS_write, file, bytes, size && refuses("short-write", 0) ? 1 : size);
 }

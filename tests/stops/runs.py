@@ -28,13 +28,19 @@ def text_of(*path):
         return text.read()
 
 
+def bytes_of(path):
+    with open(os.path.join(HERE, path), "rb") as file:
+        return file.read()
+
+
 def lines(*texts):
     return "".join(f"{text}\n" for text in texts)
 
 
 PORCELAIN = "examples/porcelain/resources.arsc"
 LAYERS, PHONE = "examples/porcelain/layers.json", "examples/porcelain/phone.json"
-LAYER_FILES = [LAYERS, "examples/teapot/resources.arsc", PORCELAIN, "examples/porcelain/map.json"]
+TEAPOT = "examples/teapot/resources.arsc"
+LAYER_FILES = [LAYERS, TEAPOT, PORCELAIN, "examples/porcelain/map.json"]
 OF_PHONE = [*LAYER_FILES, PHONE]
 PHONES = "examples/porcelain/phones.json"
 CERTIFICATE, WRONG = "examples/porcelain/certificate.json", "examples/porcelain/wrong.json"
@@ -64,6 +70,8 @@ DUMP = lines(
     '  0x7f050000 "string"/"title" flags 0x00000004 [] string 0 "Porcelain teapot"',
     '  0x7f050000 "string"/"title" flags 0x00000004 [locale=de] string 1 "Porzellankanne"',
 )
+MADE_MAP = text_of("examples", "porcelain", "map.json")
+WITHOUT_HANDLE = MADE_MAP.replace(' ["0x7f030000","0x7f040000"],\n', "")
 EXPLAINED = lines(
     "lookup 0x7f050002",
     "candidate 0 layer 0 [] first",
@@ -146,13 +154,14 @@ def stopped_runs():
 
 def made_runs(folder):
     """Runs on files that are made here."""
-    with open(os.path.join(HERE, "crates", "restool", "stdin"), "rb") as table:
-        whole = table.read()
+    whole, target, overlay = (bytes_of(path) for path in ("crates/restool/stdin", TEAPOT, PORCELAIN))
     files = {
         "long": whole + bytes(LONG - len(whole)),
         "layers": b'[{"table":"long"},{"table":"long","map":"empty"}]',
         "empty": b"",
         "device": b'{"density":160}',
+        "target": target,
+        "misspelled": overlay.replace(b"handle", b"handel"),
     }
     for name, content in files.items():
         with open(os.path.join(folder, name), "wb") as file:
@@ -160,6 +169,9 @@ def made_runs(folder):
     yield Run("long file", ["rows", "long"], ["long"], out="rows 0 set-aside 0\n", folder=folder)
     read = ["layers", "long", "long", "empty", "device"]
     line = "refused: layer 1 map: Syntax\n"
+    words = ["map", "target", "misspelled"]
+    unmapped = 'unmapped 0x7f040000 "dimen"/"handel"\n'
+    yield Run("lines of map", words, words[1:], 1, WITHOUT_HANDLE, unmapped, folder)
     yield Run("refused", ["query", "layers", "device", "0x7f010000"], read, 3, err=line, folder=folder)
 
 
@@ -168,6 +180,7 @@ def runs(folder):
     yield Run("rows", ["rows", PORCELAIN], [PORCELAIN], out=ROWS)
     yield Run("no words", [], [STANDARD_INPUT], out=ROWS, given=os.path.join(HERE, PORCELAIN))
     yield Run("dump", ["dump", PORCELAIN], [PORCELAIN], out=DUMP)
+    yield Run("map", ["map", TEAPOT, PORCELAIN], [TEAPOT, PORCELAIN], out=MADE_MAP)
     yield from device_runs()
     yield from box_runs()
     yield Run("help", ["query", "--help"], out=text_of("tests", "helps", "query.txt"))

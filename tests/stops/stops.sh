@@ -307,33 +307,51 @@ unwritten "a closed stream" '&-'
 # ---- work of more than a second
 # An id in which each pair of a locale and an mnc has a trace of its own, so many of each and so many times that a terminal
 # shows a line of the work; more on a fast machine. Behind them an id without a value. With standard error in a file nothing
-# is written there.
+# is written there, however long the work: the last is as much as the limit of 1,000,000 nodes lets one run do.
 if command -v python3 >/dev/null; then
     line pairs-layers '[{"table":"table.arsc"}]'
+    # works COUNT GOALS: writes the table and its box, and makes $make the words of this work.
+    works() {
+        goals=$2
+        python3 "$here/bench/make_list.py" "$1" table.arsc pairs locale mnc
+        make="make --max-nodes 1000000 pairs-layers pairs $(yes 0x7f010000 | head -n "$2" | tr '\n' ' ')"
+    }
     for work_of in "60 30" "60 130" "200 12"; do
-        goals=${work_of#* }
-        python3 "$here/bench/make_list.py" "${work_of% *}" table.arsc pairs locale mnc
-        many=$(awk -v goals="$goals" 'BEGIN { while (goals-- > 0) print "0x7f010000" }')
-        make="make --max-nodes 1000000 pairs-layers pairs $(echo $many)"
+        works $work_of
         python3 "$here/tests/on_terminal.py" "$program" $make 0x7f010001 >terminal
         grep -q "^[0-9]* of $((goals + 1)) goals done" terminal && break
     done
     shell "a line of the work on a terminal" 0 '' "grep -q '^[0-9]* of $((goals + 1)) goals done' terminal"
     erased=$(printf '\033\\[K')
     shell "a line that is taken away before a counterexample" 0 '' "tail -n 1 terminal | grep -qx '$erased'"
+    works 200 12
     shell "no line of the work in a file" 0 '' "\"\$0\" $make >made"
 else
     echo "not run, since python3 is missing: work of more than a second"
 fi
 
 # ---- memory, files and bytes that are refused
-if command -v cc >/dev/null && command -v python3 >/dev/null; then
-    cc -shared -fPIC -O2 -o refuse.so "$here/tests/stops/refuse.c" || exit 1
-    python3 "$here/tests/stops/refusals.py" "$program" ./refuse.so >refusals
+# refused_by SCRIPT WORD..: counts what a script says that refuses memory and more.
+refused_by() {
+    script=$1
+    shift
+    python3 "$here/tests/stops/$script" "$@" >refusals
     tail -n 1 refusals | grep -q ' failed$' || echo '0 passed, 1 failed' >>refusals
     sed '$d' refusals
     passed=$((passed + $(tail -n 1 refusals | sed -n 's/^\([0-9]*\) passed, .*/\1/p')))
     failed=$((failed + $(tail -n 1 refusals | sed -n 's/.* passed, \([0-9]*\) failed$/\1/p')))
+}
+
+if command -v cc >/dev/null && command -v python3 >/dev/null; then
+    cc -shared -fPIC -O2 -o refuse.so "$here/tests/stops/refuse.c" || exit 1
+    refused_by refusals.py "$program" ./refuse.so
+    for calls in $(python3 "$here/tests/stops/calls.py" --programs); do
+        built=$here/crates/$calls/out/$calls
+        if [ ! -x "$built" ] || [ "$(find "$here/crates" -name out -prune -o -name '*.rt' -newer "$built" -print)" ]; then
+            python3 "$here/tools/prove.py" "$calls" >/dev/null && touch "$built"
+        fi
+    done
+    refused_by calls.py ./refuse.so
 else
     echo "not run, since cc or python3 is missing: refused memory, files and bytes"
 fi

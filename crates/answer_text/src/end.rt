@@ -20,7 +20,7 @@ pub fn end_text<W: Write + Drop>(end: End, out: &mut W) -> io::Result<()>
 
 /// Writes an end. Where strings are given, a string value is followed by its string among them.
 #[tactic(auto, unfolding(crate::specs::EndText::end_with_string))]
-pub(crate) fn write_end_with_string<W: Write + Drop>(
+pub fn write_end_with_string<W: Write + Drop>(
     strings: Option<Pool<'_>>,
     end: End,
     out: &mut W,

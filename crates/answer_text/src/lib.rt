@@ -28,11 +28,11 @@ mod query;
 mod rows;
 
 pub use dump::dump_text;
-pub use end::{end_text, write_end_line};
+pub use end::{end_text, write_end_line, write_end_with_string};
 pub use explanation::explain;
 pub use line_parts::{write_id, write_layer, write_value};
-pub use query::{query_line, set_aside_line};
+pub use query::{query_line, set_aside_line, strings_of_layer};
 pub use reference_resolver::{
-    Cell, Device, End, MapRows, ResId, Row, Stack, Table, Value, kind, write_string,
+    Cell, Device, End, MapRows, Pool, ResId, Row, Stack, Table, Value, kind, write_string,
 };
 pub use rows::rows_text;

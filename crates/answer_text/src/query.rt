@@ -47,7 +47,8 @@ fn strings_of_end<'a>(stack: &Stack<'a>, end: End) -> Option<Pool<'a>>
     }
 }
 
-fn strings_of_layer<'a>(stack: &Stack<'a>, layer: usize) -> Option<Pool<'a>>
+/// The strings of a layer of the stack: those of its own table. There are none where the layer is not there.
+pub fn strings_of_layer<'a>(stack: &Stack<'a>, layer: usize) -> Option<Pool<'a>>
     ensures { option_map pool_of result ≡ strings_of_layer stack.now layer }
 {
     match stack.layer_table(layer) {

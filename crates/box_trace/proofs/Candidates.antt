@@ -83,5 +83,5 @@ pub live_part : (items : List (Cand × Bool)) (live : List LiveOf) (k : ℕ) →
 live_part items live k all =
     ap (map live_of) (take_all (length items - k) (drop k items) (omega (arith, length-drop k items))) ∙ sym (drop-map live_of k items) ∙ ap (drop k) all
 
-pub marked_part : (members : List ℕ → Type 0) (items : List (Cand × Bool)) (live : List LiveOf) (k : ℕ) → map live_of items ≡ live → MarkedMatchAll members live → MarkedMatchAll members (map live_of (take (length items - k) (drop k items)))
-marked_part members items live k all marked = subst (MarkedMatchAll members) (sym (live_part items live k all)) (All-drop (λ l. IsTrue l.marked → AllAnswer members (does_match l.candidate) true) k live marked)
+pub marked_part : (members : List ℕ → Type 0) (live : List LiveOf) (k : ℕ) (part : List LiveOf) → part ≡ drop k live → MarkedMatchAll members live → MarkedMatchAll members part
+marked_part members live k part e marked = subst (MarkedMatchAll members) (sym e) (All-drop (λ l. IsTrue l.marked → AllAnswer members (does_match l.candidate) true) k live marked)

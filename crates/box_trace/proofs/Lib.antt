@@ -5,6 +5,8 @@ pub mod Candidates
 pub mod Rests
 pub mod Partings
 pub mod Walks
+pub mod Told
+pub mod BoxValues
 pub mod OpenBoxes
 pub use Rattle.bags_themes.proofs as bags_themes
 pub use Rattle.reference_resolver.proofs as reference_resolver

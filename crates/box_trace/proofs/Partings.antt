@@ -51,7 +51,7 @@ next_same : (x y : Step) (xs ys : List Step) → x ∷ xs ≡ y ∷ ys → x ≡
 next_same x y xs ys e = cc
 
 -- the rest begins with what the candidate does
-step_same : (after : Option CandOf → List ℕ → Trace) (best : Option CandOf) (candidate : CandOf) (ahead : List CandOf) (d e : List ℕ)
+pub step_same : (after : Option CandOf → List ℕ → Trace) (best : Option CandOf) (candidate : CandOf) (ahead : List CandOf) (d e : List ℕ)
     → rest_at after best (candidate ∷ ahead) d ≡ rest_at after best (candidate ∷ ahead) e → step_of best candidate d ≡ step_of best candidate e
 step_same after best candidate ahead d e same = next_same (step_of best candidate d) (step_of best candidate e) _ _ (ap (λ (t : Trace). t.steps) same)
 
@@ -68,7 +68,9 @@ tells_first members trace after best candidate ahead parting come is_best is d e
 pub parts_here : (sets : List SetOf) (trace : List ℕ → Trace) (after : Option CandOf → List ℕ → Trace) (best : Option CandOf) (candidate : CandOf) (ahead : List CandOf) (parting : Parting)
     → HaveCome (IsMember sets) trace (rest_at after best (candidate ∷ ahead)) → PartsAt sets best candidate parting → IsParting parting sets trace
 parts_here sets trace after best candidate ahead parting come parts = record {
-  trace_tells = tells_first (IsMember sets) trace after best candidate ahead parting come parts.best_before parts.asked_of;
-  separates = parts.separates;
+  told = record {
+    separates = parts.separates;
+    trace_tells = tells_first (IsMember sets) trace after best candidate ahead parting come parts.best_before parts.asked_of;
+  };
   divides = divides_first (IsMember sets) trace after best candidate ahead (device_numbers parting.pair.yes) (device_numbers parting.pair.no) come parts.divides;
 }

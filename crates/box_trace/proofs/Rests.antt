@@ -22,7 +22,7 @@ use Rattle.box_trace.proofs.AtCandidate.{does_nothing}
 -- ---- traces with steps before them
 
 -- behind the same steps only the same trace is the same
-behind_same : (steps : List Step) (t u : Trace) → behind steps t ≡ behind steps u → t ≡ u
+pub behind_same : (steps : List Step) (t u : Trace) → behind steps t ≡ behind steps u → t ≡ u
 behind_same steps t u e =
     let both : steps ++ t.steps ≡ steps ++ u.steps = ap (λ (v : Trace). v.steps) e in
     let end : t.end ≡ u.end = ap (λ (v : Trace). v.end) e in
@@ -54,7 +54,7 @@ rest_same members trace rest d e come md me same =
 
 -- ---- along candidates
 
-one_step : (after : Option CandOf → List ℕ → Trace) (best : Option CandOf) (candidate : CandOf) (ahead : List CandOf) (step : Step) (d : List ℕ) → step_of best candidate d ≡ step
+pub one_step : (after : Option CandOf → List ℕ → Trace) (best : Option CandOf) (candidate : CandOf) (ahead : List CandOf) (step : Step) (d : List ℕ) → step_of best candidate d ≡ step
     → rest_at after best (candidate ∷ ahead) d ≡ behind (step ∷ []) (rest_at after (best_after step best candidate) ahead d)
 one_step after best candidate ahead step d does =
     ap (λ (z : Step). behind (z ∷ scan_candidates step_of (best_after z best candidate) ahead d) (after (best_of (best_after z best candidate) ahead d) d)) does

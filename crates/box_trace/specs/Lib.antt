@@ -4,6 +4,7 @@ pub mod Walk
 pub mod Parting
 pub mod CommonTrace
 pub mod CommonStep
+pub mod OpenCondition
 pub mod OpenBox
 pub use Rattle.bags_themes.specs as bags_themes
 pub use Rattle.reference_resolver.specs as reference_resolver

@@ -27,8 +27,12 @@ answer_of parting d = says_yes parting.asked (step_of (option_map cand_of partin
 abbrev pub TraceTells : (List ℕ → Type 0) → (List ℕ → Trace) → (List ℕ → Bool) → Type 0
 TraceTells members trace answer = (d e : List ℕ) → members d → members e → trace d ≡ trace e → answer d ≡ answer e
 
--- Two members side by side answer differently, and no members part before. A member's trace tells its answer.
-pub record IsParting (parting : Parting) (sets : List SetOf) (trace : List ℕ → Trace) : Type 0 where
+-- Two members side by side answer differently, and a member's trace tells its answer.
+pub record IsToldApart (parting : Parting) (sets : List SetOf) (trace : List ℕ → Trace) : Type 0 where
   pub separates : Separates sets (answer_of parting) (device_numbers parting.pair.yes) (device_numbers parting.pair.no) parting.pair.coord
-  pub divides : Divides (IsMember sets) (λ d. (trace d).steps) (device_numbers parting.pair.yes) (device_numbers parting.pair.no)
   pub trace_tells : TraceTells (IsMember sets) trace (answer_of parting)
+
+-- no members part before
+pub record IsParting (parting : Parting) (sets : List SetOf) (trace : List ℕ → Trace) : Type 0 where
+  pub told : IsToldApart parting sets trace
+  pub divides : Divides (IsMember sets) (λ d. (trace d).steps) (device_numbers parting.pair.yes) (device_numbers parting.pair.no)

@@ -1,6 +1,7 @@
 -- What lies ahead of a walk along the candidates of one look-up after the other.
 use Rattle.std.specs.Prelude.{◌≡◌, ℕ, List, drop, Option}
 use Rattle.std.specs.Option.{option_map}
+use Rattle.std.specs.List.{All}
 use Rattle.bags_themes.specs.AttributeTrace.{behind}
 use Rattle.bags_themes.specs.Course.{after_course}
 use Rattle.reference_resolver.specs.overlay_map.Layer.{LayerOf}
@@ -9,7 +10,8 @@ use Rattle.reference_resolver.specs.declared.step.Step.{Step}
 use Rattle.reference_resolver.specs.Selection.{step_of, scan_candidates, best_of}
 use Rattle.reference_resolver.specs.Trace.{Trace}
 use Rattle.box_trace.specs.declared.walk.Walk.{Walk}
-use Rattle.box_trace.specs.Live.{LiveOf, candidates_in, LeavesOut}
+use Rattle.box_trace.specs.Live.{LiveOf, candidates_in, does_match, LeavesOut}
+use Rattle.box_trace.specs.Parting.{TraceTells}
 
 -- The trace from here on, in a look-up: these candidates are ahead, this is the best of those before them, and this
 -- lies behind the look-up, by what is selected.
@@ -38,3 +40,7 @@ pub record HaveWalked (stack : List LayerOf) (members : List ℕ → Type 0) (tr
   pub ahead : List CandOf
   pub come : HaveCome members trace (rest_at (after_walk stack walk) (best_at walk) ahead)
   pub left_out : LeavesOut members ahead (candidates_in (live_ahead walk))
+
+-- of each candidate ahead of a walk a member's trace tells whether it matches
+abbrev pub TellsMatches : (List ℕ → Type 0) → (List ℕ → Trace) → Walk → Type 0
+TellsMatches members trace walk = All (λ live. TraceTells members trace (does_match live.candidate)) (live_ahead walk)

@@ -5,7 +5,8 @@
 //!
 //! For the crates above: `OpenBox::common_trace` gives the end of the one trace that all members have, or where they
 //! part: the first question that members answer differently, and two of them side by side with different traces. A part
-//! of the box goes on from there. `Live` has the candidates that matter to a box.
+//! of the box goes on from there. `OpenBox::weightiest_parting` tells another question, about a candidate ahead, for
+//! small trees. `Live` has the candidates that matter to a box.
 //!
 //! ```text
 //! let mut phones = OpenBox::whole(alloc, &stack, id, phones)?;
@@ -19,9 +20,11 @@
 mod common;
 mod live;
 mod open_box;
+mod open_condition;
 mod parting;
 mod step;
 mod walk;
+mod weight;
 
 pub use bags_themes::{attribute_under, resolve};
 pub use common::CommonTrace;

@@ -3,6 +3,7 @@
 ghost use Rattle.std.specs.Prelude.{ℕ, List};
 
 use crate::common::CommonTrace;
+use crate::parting::Parting;
 use crate::walk::Walk;
 use bags_themes::{Course, CourseStep};
 use config_box::{ConfigBox, Coord, OutOfMemory, Values};
@@ -32,6 +33,7 @@ impl<'a, 's> OpenBox<'a, 's> {
     ghost use Rattle.bags_themes.specs.Course.{trace_from};
     ghost use Rattle.box_trace.specs.OpenBox.{IsReached};
     ghost use Rattle.box_trace.specs.CommonTrace.{IsCommonTrace};
+    ghost use Rattle.box_trace.specs.Parting.{IsToldApart};
 
     /// A whole box, where nothing of an id is asked yet, and at most twenty references are followed.
     pub fn whole(
@@ -108,6 +110,20 @@ impl<'a, 's> OpenBox<'a, 's> {
             self.is_stale = false;
         }
         self.walk.go_on(alloc, stack, &self.members)
+    }
+
+    /// A question at which the members part, where `first` is the one that `common_trace` told: of the conditions of
+    /// candidates ahead one that most of these wait for. For whoever looks for a small tree; no promise depends on which it is.
+    pub fn weightiest_parting(
+        &mut self,
+        alloc: Global,
+        first: Parting<'a>,
+    ) -> Result<Parting<'a>, OutOfMemory>
+        ensures members { self.new.members ≡ self.old.members }
+        ensures reached { (stack : List LayerOf) (trace : List ℕ → Trace) → IsReached stack trace self.old → IsReached stack trace self.new }
+        ensures told { IfOk result (λ parting. (stack : List LayerOf) (trace : List ℕ → Trace) → IsReached stack trace self.old → IsToldApart first.entry self.old.members trace → IsToldApart parting self.old.members trace) }
+    {
+        self.walk.weightiest_parting(alloc, first, &self.members)
     }
 }
 

@@ -1,10 +1,16 @@
 //! Where the members of a box part.
 
-ghost use Rattle.std.specs.Prelude.{◌≡◌};
+ghost use Rattle.std.specs.Prelude.{◌≡◌, ℕ, List, IsTrue, IfSome};
 ghost use Rattle.reference_resolver.specs.config_record.DeviceSeen.{device_numbers};
+ghost use Rattle.reference_resolver.specs.overlay_map.Candidates.{cand_of};
+ghost use Rattle.config_box.specs.box_answers.Members.{set_at};
+ghost use Rattle.config_box.specs.box_answers.Sameness.{AreNeighbours, Separates};
+ghost use Rattle.box_trace.specs.Live.{does_match};
 ghost use Rattle.box_trace.specs.Parting.{answer_of};
+ghost use Rattle.box_trace.specs.OpenCondition.{DifferAt};
 
-use config_box::MemberPair;
+use crate::open_condition::open_condition;
+use config_box::{ConfigBox, Coord, MemberPair, Sameness, Values};
 use reference_resolver::{Cand, Device, Step};
 
 /// What is asked of a candidate.
@@ -16,12 +22,12 @@ pub enum Asked {
     TakesOver,
 }
 
-/// Where the members of a box part: the first question that they do not all answer alike.
+/// Where the members of a box part: a question that they do not all answer alike.
 #[derive(Clone, Copy, Debug)]
 pub struct Parting<'a> {
     /// Two members side by side. The first answers yes, the second no.
     pub pair: MemberPair,
-    /// The candidate that is asked about, and the best before it.
+    /// The candidate that is asked about, and the best before it, which matters to the second question alone.
     pub candidate: Cand<'a>,
     pub best: Option<Cand<'a>>,
     pub asked: Asked,
@@ -42,5 +48,59 @@ impl<'a> Parting<'a> {
             (Step::KeptOut, asked) => asked == Asked::Matches,
             (Step::TookOver, _) => true,
         }
+    }
+}
+
+/// Where the condition of a candidate at a coordinate parts members.
+pub(crate) fn parting_at<'a>(
+    members: &ConfigBox,
+    candidate: &Cand<'a>,
+    at: Coord,
+) -> Option<Parting<'a>>
+    ensures separates { IfSome result (λ parting. Separates members.now (answer_of parting) (device_numbers parting.pair.yes) (device_numbers parting.pair.no) parting.pair.coord) }
+    ensures asks { IfSome result (λ parting. (d : List ℕ) → answer_of parting d ≡ does_match (cand_of candidate.now) d) }
+{
+    let Sameness::Mixed(matching, _, _) = members.match_all(&candidate.row.config) else {
+        return None;
+    };
+    let pair = open_condition(members, candidate, &matching, at)?.pair;
+    let parting = Parting {
+        pair,
+        candidate: *candidate,
+        best: None,
+        asked: Asked::Matches,
+    };
+    if parts(&parting, members) {
+        Some(parting)
+    } else {
+        None
+    }
+}
+
+/// Whether the two of a parting, which differ in its coordinate alone, are members side by side and answer differently.
+fn parts(parting: &Parting<'_>, members: &ConfigBox) -> bool
+    requires { DifferAt parting.now.pair.coord parting.now.pair }
+    ensures { IsTrue result → Separates members.now (answer_of parting.now) (device_numbers parting.now.pair.yes) (device_numbers parting.now.pair.no) parting.now.pair.coord }
+{
+    let MemberPair { yes, no, coord } = parting.pair;
+    members.contains(&yes)
+        && members.contains(&no)
+        && parting.answer(&yes)
+        && !parting.answer(&no)
+        && are_side_by_side(
+            members,
+            coord,
+            yes.compared_number(coord),
+            no.compared_number(coord),
+        )
+}
+
+/// Whether there is no number of a range between two.
+fn are_side_by_side(members: &ConfigBox, at: Coord, first: u32, second: u32) -> bool
+    ensures { IsTrue result → AreNeighbours (set_at members.now at) first second }
+{
+    match members.values(at) {
+        Values::Range(_, _) => first.max(second) - first.min(second) == 1,
+        Values::Numbers(_) | Values::Locales(_) => true,
     }
 }

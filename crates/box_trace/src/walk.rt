@@ -4,8 +4,9 @@ ghost use Rattle.std.specs.Prelude.{◌≤◌, length};
 
 use crate::common::{CommonStep, CommonTrace};
 use crate::live::Live;
-use crate::parting::Parting;
+use crate::parting::{Parting, parting_at};
 use crate::step::best_after;
+use crate::weight::{Waiting, are_of_one_coordinate, open_conditions, weightiest};
 use bags_themes::{Course, CourseStep};
 use config_box::{ConfigBox, OutOfMemory};
 use reference_resolver::{Cand, ResId, Stack};
@@ -25,20 +26,22 @@ pub(crate) struct Walk<'a, 's> {
     passed: usize,
     /// The best of those.
     best: Option<Cand<'a>>,
+    /// Whether what is open of the candidates ahead is known to be conditions of one coordinate alone. No promise depends on it.
+    is_along_one: bool,
     ghost within: { passed ≤ length live.value },
 }
 
 impl<'a, 's> Walk<'a, 's> {
-    ghost use Rattle.std.specs.Prelude.{◌≡◌, ℕ, List, IfOk, IfSome, IfNone, [], length};
+    ghost use Rattle.std.specs.Prelude.{◌≡◌, ℕ, List, IfOk, IfSome, IfNone, [], length, map};
     ghost use Rattle.config_box.specs.box_answers.NumberSet.{SetOf};
     ghost use Rattle.config_box.specs.box_answers.Members.{IsMember};
     ghost use Rattle.reference_resolver.specs.overlay_map.Layer.{LayerOf};
     ghost use Rattle.reference_resolver.specs.Trace.{Trace};
     ghost use Rattle.bags_themes.specs.Course.{trace_from};
     ghost use Rattle.bags_themes.specs.declared.course.CourseStep.TheVariants.{LookUp};
-    ghost use Rattle.box_trace.specs.Live.{MarkedMatchAll};
-    ghost use Rattle.box_trace.specs.Walk.{live_ahead, HaveWalked};
-    ghost use Rattle.box_trace.specs.Parting.{IsParting};
+    ghost use Rattle.box_trace.specs.Live.{live_of, MarkedMatchAll};
+    ghost use Rattle.box_trace.specs.Walk.{live_ahead, HaveWalked, TellsMatches};
+    ghost use Rattle.box_trace.specs.Parting.{IsToldApart, IsParting};
     ghost use Rattle.box_trace.specs.CommonTrace.{IsCommonTrace};
 
     /// Before what comes first.
@@ -61,6 +64,7 @@ impl<'a, 's> Walk<'a, 's> {
                     live: Rc::new(alloc, none)?,
                     passed: 0,
                     best: None,
+                    is_along_one: false,
                 })
             }
         }
@@ -85,6 +89,7 @@ impl<'a, 's> Walk<'a, 's> {
             live: Rc::new(alloc, live)?,
             passed: 0,
             best: None,
+            is_along_one: false,
         })
     }
 
@@ -99,6 +104,7 @@ impl<'a, 's> Walk<'a, 's> {
             live: self.live.clone()?,
             passed: self.passed,
             best: self.best,
+            is_along_one: self.is_along_one,
         })
     }
 
@@ -112,14 +118,23 @@ impl<'a, 's> Walk<'a, 's> {
         ensures walked { IfOk result (λ walk. (stack : List LayerOf) (trace : List ℕ → Trace) → HaveWalked stack (IsMember members.now) trace self.now → HaveWalked stack (IsMember members.now) trace walk) }
         ensures marked { IfOk result (λ walk. MarkedMatchAll (IsMember members.now) walk.live.value) }
     {
-        let live = Live::of(alloc, &self.live.as_ref().list()[self.passed..], members)?;
+        let live = Live::of(alloc, self.ahead(), members)?;
         Ok(Walk {
             id: self.id,
             course: self.course.shared()?,
             live: Rc::new(alloc, live)?,
             passed: 0,
             best: self.best,
+            is_along_one: self.is_along_one,
         })
+    }
+
+    /// The candidates of the id that lie ahead.
+    pub(crate) fn ahead(&self) -> &[(Cand<'a>, bool)]
+        ensures ahead { map live_of result.now ≡ live_ahead self.now }
+        ensures told { (stack : List LayerOf) (sets : List SetOf) (trace : List ℕ → Trace) → HaveWalked stack (IsMember sets) trace self.now → TellsMatches (IsMember sets) trace self.now }
+    {
+        &self.live.as_ref().list()[self.passed..]
     }
 
     /// Goes on as far as all members go by the same steps: to the end of the one trace that they have, or to the first
@@ -146,6 +161,35 @@ impl<'a, 's> Walk<'a, 's> {
                 }
             }
         }
+    }
+
+    /// A question at which the members part, where `first` is the first: a condition of a candidate ahead, the weightiest
+    /// of those that are open. Along one coordinate alone they are taken as they come.
+    pub(crate) fn weightiest_parting(
+        &mut self,
+        alloc: Global,
+        first: Parting<'a>,
+        members: &ConfigBox,
+    ) -> Result<Parting<'a>, OutOfMemory>
+        ensures live { self.new.live.value ≡ self.old.live.value }
+        ensures walked { (stack : List LayerOf) (trace : List ℕ → Trace) → HaveWalked stack (IsMember members.now) trace self.old → HaveWalked stack (IsMember members.now) trace self.new }
+        ensures told { IfOk result (λ parting. (stack : List LayerOf) (trace : List ℕ → Trace) → HaveWalked stack (IsMember members.now) trace self.old → IsToldApart first.entry members.now trace → IsToldApart parting members.now trace) }
+    {
+        if self.is_along_one {
+            return Ok(first);
+        }
+        let waiting = open_conditions(alloc, self.ahead(), members)?;
+        self.is_along_one = are_of_one_coordinate(&waiting);
+        Ok(self.parting_of(&waiting, members).unwrap_or(first))
+    }
+
+    /// Where the weightiest of some conditions of the candidates ahead parts the members.
+    fn parting_of(&self, waiting: &[Waiting], members: &ConfigBox) -> Option<Parting<'a>>
+        ensures { IfSome result (λ parting. (stack : List LayerOf) (trace : List ℕ → Trace) → HaveWalked stack (IsMember members.now) trace self.now → IsToldApart parting members.now trace) }
+    {
+        let condition = weightiest(waiting)?;
+        let live = self.ahead().get(condition.place)?;
+        parting_at(members, &live.0, condition.coord)
     }
 
     /// Passes the candidates of the id that do the same at all members, up to where these part.

@@ -1,5 +1,5 @@
 -- The trace of a goal asks a device for its numbers alone.
-use Rattle.std.proofs.Common.{◌≡◌, ℕ, zero, suc, true, List, [], ◌∷◌, Option, Result, Ok, Err, refl, ◌∙◌, ap}
+use Rattle.std.proofs.Common.{◌≡◌, ℕ, zero, suc, true, List, [], ◌∷◌, Result, Ok, Err, refl, ◌∙◌, ap}
 use Rattle.std.proofs.Math.Path.{fun_ext}
 use Rattle.std.specs.List.{flat_map}
 use Rattle.cert_checker.specs.res_value.declared.res_id.ResId.{ResId}

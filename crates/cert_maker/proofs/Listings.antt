@@ -3,7 +3,7 @@ use Rattle.std.proofs.Common.{◌≡◌, ◌≢◌, ℕ, inl, inr, arith, ◌≤
 use Rattle.std.specs.Prelude.{◌==◌, ◌&&◌, Contains}
 use Rattle.std.specs.List.{All, list_any}
 use Rattle.std.proofs.lemmas.Bool.{cases_Bool, eq-eqb, eqb-true}
-use Rattle.std.proofs.lemmas.List.{get_or-map, length-map}
+use Rattle.std.proofs.lemmas.List.{length-map}
 use Rattle.std.proofs.lemmas.List.Folds.{list_any_at}
 use Rattle.std.proofs.lemmas.List.Sums.{length-filter, count_by-le-length}
 use Rattle.std.proofs.lemmas.Map.Views.{any-filter_same}
@@ -23,6 +23,7 @@ use Rattle.cert_checker.specs.box_answers.Members.{set_at, IsMember, IsOfKind, I
 use Rattle.cert_checker.specs.config_box.Tests.{is_listed, is_range, has_wrong_kind}
 use Rattle.cert_checker.specs.config_box.Tests as seen
 use Rattle.cert_checker.specs.cert_tree.Certificate.{ChoiceFits}
+use Rattle.cert_checker.proofs.box_trace.BoxValues.{can-have-locales}
 use Rattle.cert_maker.specs.Needed.{AgreeBut, IsNeededTest}
 use Rattle.cert_checker.proofs.config_box.Filters.{map-filter}
 use Rattle.cert_maker.specs.Listed.{answer_with, answer_in}
@@ -84,10 +85,7 @@ lists-locales answer sets x c locales kept kind e is n in_set =
 pub can-locales : (sets : List SetOf) (c : coord.Coord) (locales : List Locale) → IsBox sets → LocalesOf (locale_numbers locales) ≡ set_at sets c
     → All (λ locale. IsGiven (locale_of_number (locale_number locale))) locales
 can-locales sets c locales b e k locale q =
-    let n = locale_number (get_or locales k locale) in
-    let count = length-map locales locale_number in
-    let can = (b.each c).can n (subst (λ (s : SetOf). IsIn s n) e (k, omega (arith, count, q), get_or-map locale_number locales k locale n q)) in
-    subst (λ (k : coord.Coord). CanHave k n) (at-locale sets c (locale_numbers locales) (b.each c).kind (sym e)) can
+    subst (λ (at : coord.Coord). CanHave at (locale_number (get_or locales k locale))) (at-locale sets c (locale_numbers locales) (b.each c).kind (sym e)) (can-have-locales sets c locales b e k locale q)
 
 pub of-some-text : (locale : Locale) → TwoBytes locale.language → TwoBytes locale.region → IsGiven (locale_of_number (locale_number locale)) → IsOfSomeText locale
 of-some-text locale language region is =

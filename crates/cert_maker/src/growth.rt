@@ -45,7 +45,8 @@ pub(crate) fn add_node<'a, 's>(
             }
             None => Ok(Some((part.members.corner(), end))),
         },
-        CommonTrace::Mixed(parting) => {
+        CommonTrace::Mixed(first) => {
+            let parting = part.weightiest_parting(alloc, first)?;
             let test = parting_test(alloc, &part.members, &parting)?;
             add_test(alloc, &part, test, nodes, open_boxes)?;
             Ok(None)

@@ -1,4 +1,4 @@
-pub mod IdSteps
+pub mod WordSteps
 pub mod Rows
 pub mod CommandLineFacts
 pub mod NamedCommand

@@ -61,6 +61,7 @@ abbrev pub commands : List Shape
 commands =
     command (codes "rows") (one_word (codes "TABLE") ∷ [])
     ∷ command (codes "dump") (one_word (codes "TABLE") ∷ [])
+    ∷ command (codes "map") (one_word (codes "TARGET") ∷ one_word (codes "OVERLAY") ∷ [])
     ∷ command (codes "query") (layers ∷ device ∷ ids ∷ [])
     ∷ command (codes "explain") (layers ∷ device ∷ one_word (codes "ID") ∷ [])
     ∷ command (codes "bag") (layers ∷ device ∷ one_word (codes "ID") ∷ [])

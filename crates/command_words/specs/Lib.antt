@@ -1,6 +1,7 @@
 pub mod WordsFault
 pub mod CommandLine
 pub mod ArgumentsSeen
-pub mod Ids
-pub mod Goals
+pub mod ResourceWords
+pub mod GoalWords
 pub mod Request
+pub use Rattle.name_words.specs as name_words

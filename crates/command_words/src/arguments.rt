@@ -2,17 +2,17 @@
 
 ghost use Rattle.std.specs.Prelude.{◌≡◌, ◌≢◌, map, codes, Some, MatchBool, option_map};
 ghost use Rattle.clap.specs.Words.{all_of, found_of, one_of, rows_of};
-ghost use Rattle.command_words.specs.Goals.{ReadsGoals, goals_spelled};
-ghost use Rattle.command_words.specs.Ids.{ReadsId, ReadsIds, id_in, ids_in};
+ghost use Rattle.json_input.specs.Each.{each};
+ghost use Rattle.command_words.specs.GoalWords.{goal_word};
+ghost use Rattle.command_words.specs.ResourceWords.{ReadsNamed, ReadsWords, named_word, set_word};
 ghost use Rattle.command_words.specs.Request.{IsNodeLimit, word_at, words_at};
 
 use crate::command_line::{Argument, MAX_NODES, MOST_NODES, NODES_IF_LEFT_OUT};
-use crate::goals::read_goals;
-use crate::ids::{read_id, read_ids};
+use crate::goal_words::goal_words;
+use crate::resource_words::{named_word, set_words};
 use crate::words_fault::WordsFault;
-use cert_tree::Goal;
 use clap::ArgMatches;
-use res_value::ResId;
+use name_words::Named;
 use std::alloc::Global;
 
 /// The word of an argument that takes one, which is required.
@@ -23,43 +23,43 @@ pub(crate) fn given_word<'a>(given: &ArgMatches<'a>, argument: &Argument) -> &'a
     given.get_str(argument.name).unwrap_or("")
 }
 
-/// The id that the word of an argument spells.
-pub(crate) fn given_id<'a>(
+/// The resource that the word of an argument asks for.
+pub(crate) fn given_named<'a>(
     given: &ArgMatches<'a>,
     argument: &Argument,
-) -> Result<ResId, WordsFault<'a>>
-    ensures { ReadsId result (id_in (word_at argument.now.name.now (rows_of (found_of given.now)))) }
+) -> Result<Named<'a>, WordsFault<'a>>
+    ensures { ReadsNamed result (named_word (word_at argument.now.name.now (rows_of (found_of given.now)))) }
 {
-    read_id(given_word(given, argument))
+    named_word(given_word(given, argument))
 }
 
-/// The ids that the words of an argument spell, in their order.
+/// The words of an argument, each of which asks for some resources, in their order.
 #[tactic(auto, using(crate::proofs::Rows::rows))]
-pub(crate) fn given_ids<'a>(
+pub(crate) fn given_sets<'a>(
     alloc: Global,
     given: &ArgMatches<'a>,
     argument: &Argument,
-) -> Result<Vec<ResId>, WordsFault<'a>>
-    ensures { ReadsIds result (ids_in (words_at argument.now.name.now (rows_of (found_of given.now)))) }
+) -> Result<Vec<&'a str>, WordsFault<'a>>
+    ensures { ReadsWords result (each set_word (words_at argument.now.name.now (rows_of (found_of given.now)))) }
 {
     match given.get_strs(argument.name) {
-        Some(words) => read_ids(alloc, words),
-        None => read_ids(alloc, &[]),
+        Some(words) => set_words(alloc, words),
+        None => set_words(alloc, &[]),
     }
 }
 
-/// The goals that the words of an argument spell, in their order.
+/// The words of an argument, each of which asks for some goals, in their order.
 #[tactic(auto, using(crate::proofs::Rows::rows))]
 pub(crate) fn given_goals<'a>(
     alloc: Global,
     given: &ArgMatches<'a>,
     argument: &Argument,
-) -> Result<Vec<Goal>, WordsFault<'a>>
-    ensures { ReadsGoals result (goals_spelled (words_at argument.now.name.now (rows_of (found_of given.now)))) }
+) -> Result<Vec<&'a str>, WordsFault<'a>>
+    ensures { ReadsWords result (each goal_word (words_at argument.now.name.now (rows_of (found_of given.now)))) }
 {
     match given.get_strs(argument.name) {
-        Some(words) => read_goals(alloc, words),
-        None => read_goals(alloc, &[]),
+        Some(words) => goal_words(alloc, words),
+        None => goal_words(alloc, &[]),
     }
 }
 

@@ -1,12 +1,13 @@
 //! The commands, by their names.
 
-use crate::command_line::{ATTR, BAG, CHECK, DUMP, EXPLAIN, MAKE, QUERY, ROWS};
+use crate::command_line::{ATTR, BAG, CHECK, DUMP, EXPLAIN, MAKE, MAP, QUERY, ROWS};
 
 /// What a name on the command line stands for.
 #[derive(Clone, Copy)]
 pub(crate) enum Command {
     Rows,
     Dump,
+    Map,
     OfDevice(DeviceCommand),
     OfBox(BoxCommand),
 }
@@ -39,6 +40,7 @@ impl Command {
         match name {
             ROWS => Command::Rows,
             DUMP => Command::Dump,
+            MAP => Command::Map,
             QUERY => Command::OfDevice(DeviceCommand::Query),
             EXPLAIN => Command::OfDevice(DeviceCommand::Explain),
             BAG => Command::OfDevice(DeviceCommand::Bag),

@@ -21,8 +21,9 @@ With no arguments, restool prints the rows of the table on standard input.
 Exit status:
   0  done
   1  something you asked for does not exist, or has too many references or parents,
-     or a certificate is rejected or cannot be made
-  2  bad command line, or an argument that is not a resource id
+     or a certificate is rejected or cannot be made, or an id map leaves out ids or
+     references of its overlay
+  2  bad command line, or an argument that is neither a resource id nor a name
   3  an input was refused
   4  out of memory
   5  a file could not be read, the output could not be written, or an input is
@@ -31,6 +32,8 @@ Exit status:
 pub(crate) const ROWS: &str = "rows";
 
 pub(crate) const DUMP: &str = "dump";
+
+pub(crate) const MAP: &str = "map";
 
 pub(crate) const QUERY: &str = "query";
 
@@ -61,6 +64,11 @@ const USAGES: &[Usage] = &[
         name: DUMP,
         about: "Prints the packages of a table, and its rows with their names and strings",
         arguments: &[TABLE],
+    },
+    Usage {
+        name: MAP,
+        about: "Prints the id map of an overlay, made from the names of its resources",
+        arguments: &[TARGET, OVERLAY],
     },
     Usage {
         name: QUERY,
@@ -125,6 +133,18 @@ pub(crate) const TABLE: Argument = Argument {
     help: "Path of the resources.arsc, or - for standard input",
 };
 
+pub(crate) const TARGET: Argument = Argument {
+    name: "TARGET",
+    takes: Takes::OneWord,
+    help: "Path of the resources.arsc that is overlaid, or - for standard input",
+};
+
+pub(crate) const OVERLAY: Argument = Argument {
+    name: "OVERLAY",
+    takes: Takes::OneWord,
+    help: "Path of the overlay's resources.arsc, or - for standard input",
+};
+
 pub(crate) const LAYERS: Argument = Argument {
     name: "LAYERS",
     takes: Takes::OneWord,
@@ -152,38 +172,41 @@ pub(crate) const CERTIFICATE: Argument = Argument {
 pub(crate) const ID: Argument = Argument {
     name: "ID",
     takes: Takes::OneWord,
-    help: "Resource id, such as 0x7f010000",
+    help: "Resource, by its id or its name, such as 0x7f010000 or dimen/margin",
 };
 
 pub(crate) const IDS: Argument = Argument {
     name: "ID",
     takes: Takes::Words,
-    help: "Resource id, such as 0x7f010000",
+    help: "Resource, by its id or its name, such as 0x7f010000 or dimen/margin; dimen/* for all \
+           of a type, * for all, @FILE for those in a file, one a line",
 };
 
 pub(crate) const GOALS: Argument = Argument {
     name: "GOAL",
     takes: Takes::Words,
-    help: "Resource id, such as 0x7f010000, or an attribute under styles, such as \
-           0x01010000@0x7f020000,0x7f020001",
+    help: "Resource, by its id or its name, such as 0x7f010000 or dimen/margin; an attribute under \
+           styles, such as attr/color@style/Theme,style/Dark; dimen/* for all of a type, * for all, \
+           @FILE for those in a file, one a line",
 };
 
 pub(crate) const BAG_ID: Argument = Argument {
     name: "ID",
     takes: Takes::OneWord,
-    help: "Resource id of the bag, such as 0x7f010000",
+    help: "Bag, by its id or its name, such as 0x7f010000 or style/Theme",
 };
 
 pub(crate) const ATTRIBUTE: Argument = Argument {
     name: "ATTR",
     takes: Takes::OneWord,
-    help: "Resource id of the attribute, such as 0x01010000",
+    help: "Attribute, by its id or its name, such as 0x01010000 or attr/color",
 };
 
 pub(crate) const STYLES: Argument = Argument {
     name: "STYLE",
     takes: Takes::Words,
-    help: "Resource id of a style, such as 0x7f010000",
+    help: "Style, by its id or its name, such as 0x7f010000 or style/Theme; @FILE for those in a \
+           file, one a line",
 };
 
 pub(crate) const KEEP: Argument = Argument {

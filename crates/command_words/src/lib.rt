@@ -4,12 +4,12 @@
 //! ask for, a `Request`. Both are of a table, of a device or of a box.
 //!
 //! For the program above: `read_words` gives the request, or why there is none. What clap says of the words comes
-//! first, and then the first word that is no id, or for a box no goal.
+//! first, and then the first word that asks for no resource, or for a box for no goal.
 //!
 //! ```text
 //! let words = program_words(&rt)?;     // restool query layers.json device.json 0x7f010000
 //! match read_words(alloc, &words)? {
-//!     Request::OfDevice { layers_path, device_path, request } => .., // DeviceRequest::Query { ids }
+//!     Request::OfDevice { layers_path, device_path, request } => .., // DeviceRequest::Query { words }
 //!     ..
 //! }
 //! ```
@@ -18,13 +18,13 @@
 mod arguments;
 mod command;
 mod command_line;
-mod goals;
-mod ids;
+mod goal_words;
 mod request;
+mod resource_words;
 mod words;
 mod words_fault;
 
-pub use cert_tree::Goal;
+pub use name_words::{GoalFault, Named, NamedGoal, NamedSet, file_path, words_in_text};
 pub use request::{BoxRequest, DeviceRequest, Request};
 pub use words::{STANDARD_INPUT, program_words, read_words};
 pub use words_fault::WordsFault;

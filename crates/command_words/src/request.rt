@@ -1,7 +1,6 @@
 //! What words ask for.
 
-use cert_tree::Goal;
-use res_value::ResId;
+use name_words::Named;
 
 /// What words ask for.
 #[derive(Drop)]
@@ -14,11 +13,16 @@ pub enum Request<'a> {
     Dump {
         table_path: &'a str,
     },
+    /// The id map of an overlay for the table that it is over.
+    Map {
+        target_path: &'a str,
+        overlay_path: &'a str,
+    },
     /// What layers give a device.
     OfDevice {
         layers_path: &'a str,
         device_path: &'a str,
-        request: DeviceRequest,
+        request: DeviceRequest<'a>,
     },
     /// What layers give all devices of a box.
     OfBox {
@@ -28,40 +32,41 @@ pub enum Request<'a> {
     },
 }
 
-/// What is asked of a device.
+/// What is asked of a device. Where several resources may stand, words are kept as they are: each asks for some, or
+/// names a file of such words.
 #[derive(Drop)]
-pub enum DeviceRequest {
-    /// What it has for each of some ids.
+pub enum DeviceRequest<'a> {
+    /// What it has for each of some resources.
     Query {
-        ids: Vec<ResId>,
+        words: Vec<&'a str>,
     },
-    /// How it comes by what it has for an id.
+    /// How it comes by what it has for a resource.
     Explain {
-        id: ResId,
+        resource: Named<'a>,
     },
     /// The rows of a bag.
     Bag {
-        id: ResId,
+        resource: Named<'a>,
     },
     /// Where an attribute ends after styles that are applied with or without force.
     Attr {
-        attr: ResId,
-        styles: Vec<ResId>,
+        attr: Named<'a>,
+        styles: Vec<&'a str>,
         force: bool,
     },
 }
 
-/// What is asked of all devices of a box.
+/// What is asked of all devices of a box. The words of goals are kept as they are, like those of resources.
 #[derive(Drop)]
 pub enum BoxRequest<'a> {
     /// A certificate for some goals, of at most so many nodes.
     Make {
         max_nodes: u32,
-        goals: Vec<Goal>,
+        goals: Vec<&'a str>,
     },
     /// Whether a certificate is true of some goals.
     Check {
         certificate_path: &'a str,
-        goals: Vec<Goal>,
+        goals: Vec<&'a str>,
     },
 }

@@ -4,14 +4,14 @@ ghost use Rattle.std.specs.Prelude.{◌≡◌, ◌≢◌, true, map, is_some, If
 ghost use Rattle.std.specs.IoError.{error_kind};
 ghost use Rattle.clap.specs.Words.{FailsBy, fault_of, has_subcommand, rows_of, found_of, subcommand_of, subcommand_rows_of};
 ghost use Rattle.command_words.specs.CommandLine.{command_line};
-ghost use Rattle.command_words.specs.Request.{AsksFor, IsBoxRequestOf, IsDeviceRequestOf, ReadsAlong, ReadsCommand, ReadsWords, command_of, goals_asked, ids_asked};
+ghost use Rattle.command_words.specs.Request.{AsksFor, IsBoxRequestOf, IsDeviceRequestOf, ReadsAlong, ReadsCommand, ReadsCommandLine, command_of, goals_asked, words_asked};
 ghost use Rattle.command_words.specs.WordsFault.{IsOfReading};
 
-use crate::arguments::{given_flag, given_goals, given_id, given_ids, given_nodes, given_word};
+use crate::arguments::{given_flag, given_goals, given_named, given_nodes, given_sets, given_word};
 use crate::command::{BoxCommand, Command, DeviceCommand};
 use crate::command_line::{
-    ATTRIBUTE, BAG_ID, BOX, CERTIFICATE, DEVICE, GOALS, ID, IDS, KEEP, LAYERS, STYLES, TABLE,
-    command_line,
+    ATTRIBUTE, BAG_ID, BOX, CERTIFICATE, DEVICE, GOALS, ID, IDS, KEEP, LAYERS, OVERLAY, STYLES,
+    TABLE, TARGET, command_line,
 };
 use crate::request::{BoxRequest, DeviceRequest, Request};
 use crate::words_fault::WordsFault;
@@ -59,7 +59,7 @@ pub fn read_words<'a>(alloc: Global, words: &'a [String]) -> Result<Request<'a>,
 }
 
 fn read_command<'a>(alloc: Global, words: &'a [String]) -> Result<Request<'a>, WordsFault<'a>>
-    ensures { ReadsWords (map string_bytes words.entry.now) result }
+    ensures { ReadsCommandLine (map string_bytes words.entry.now) result }
 {
     let matches = matches_of(alloc, words)?;
     match matches.subcommand() {
@@ -94,6 +94,10 @@ fn request_of<'a>(
         Command::Dump => Ok(Request::Dump {
             table_path: given_word(given, &TABLE),
         }),
+        Command::Map => Ok(Request::Map {
+            target_path: given_word(given, &TARGET),
+            overlay_path: given_word(given, &OVERLAY),
+        }),
         Command::OfDevice(command) => {
             let request = device_request_of(alloc, command, given)?;
             Ok(Request::OfDevice {
@@ -113,28 +117,28 @@ fn request_of<'a>(
     }
 }
 
-#[tactic(auto, unfolding(json_input::specs::Each::each))]
+#[tactic(auto, unfolding(crate::specs::Request::words_asked))]
 fn device_request_of<'a>(
     alloc: Global,
     command: DeviceCommand,
     given: &ArgMatches<'a>,
-) -> Result<DeviceRequest, WordsFault<'a>>
-    ensures { ReadsAlong (ids_asked command (rows_of (found_of given.now)))
+) -> Result<DeviceRequest<'a>, WordsFault<'a>>
+    ensures { ReadsAlong (words_asked command (rows_of (found_of given.now)))
         (IsDeviceRequestOf command (rows_of (found_of given.now))) result }
 {
     match command {
         DeviceCommand::Query => Ok(DeviceRequest::Query {
-            ids: given_ids(alloc, given, &IDS)?,
+            words: given_sets(alloc, given, &IDS)?,
         }),
         DeviceCommand::Explain => Ok(DeviceRequest::Explain {
-            id: given_id(given, &ID)?,
+            resource: given_named(given, &ID)?,
         }),
         DeviceCommand::Bag => Ok(DeviceRequest::Bag {
-            id: given_id(given, &BAG_ID)?,
+            resource: given_named(given, &BAG_ID)?,
         }),
         DeviceCommand::Attr => Ok(DeviceRequest::Attr {
-            attr: given_id(given, &ATTRIBUTE)?,
-            styles: given_ids(alloc, given, &STYLES)?,
+            attr: given_named(given, &ATTRIBUTE)?,
+            styles: given_sets(alloc, given, &STYLES)?,
             force: !given_flag(given, &KEEP),
         }),
     }

@@ -15,7 +15,7 @@ pub enum WordsFault<'a> {
     CommandLine(clap::Error),
     /// A word is not UTF-8.
     NotText,
-    /// This word is no id, or no goal where goals are asked.
+    /// This word asks for no resource, or for no goal where goals are asked.
     BadId(&'a str),
     OutOfMemory,
 }

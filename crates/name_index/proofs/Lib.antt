@@ -1,2 +1,3 @@
 pub mod SoughtSteps
 pub mod PlacesSteps
+pub mod IdSteps

@@ -1,5 +1,5 @@
 -- Places of names, one after the other.
-use Rattle.std.proofs.Common.{◌≡◌, ℕ, ◌+◌, ◌<◌, Bool, true, false, List, [], ◌∷◌, ◌++◌, ◌-◌, ◌≢◌, length, take, map, get_or, refl, sym, ap, subst, ◌∙◌, cond, arith, length-append, length-take-le, ⊎_elim}
+use Rattle.std.proofs.Common.{◌≡◌, ℕ, ◌+◌, ◌<◌, Bool, true, false, List, [], ◌∷◌, ◌++◌, ◌-◌, length, take, map, get_or, refl, sym, ap, subst, ◌∙◌, cond, arith, length-append, length-take-le, ⊎_elim}
 use Rattle.std.proofs.lemmas.Bool.{cases_lt}
 use Rattle.std.proofs.lemmas.List.{get_or_append_left, get_or-append_right, length-map, map_more}
 use Rattle.std.proofs.lemmas.List.Elements.{Contains-push, Contains-append_left}

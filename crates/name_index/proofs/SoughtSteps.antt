@@ -1,5 +1,5 @@
 -- What is known of names after some rows.
-use Rattle.std.proofs.Common.{◌≡◌, ℕ, ◌<◌, ◌≤◌, ◌⊎◌, inl, inr, Bool, true, false, Option, Some, None, Result, Ok, Err, List, [], ◌∷◌, ◌++◌, map, find, length, take, set, get_or, refl, sym, ap, subst, ◌∙◌, cond, arith, ⊎_elim}
+use Rattle.std.proofs.Common.{◌≡◌, ℕ, ◌<◌, ◌≤◌, inl, inr, Bool, true, false, Option, Some, None, Result, Ok, Err, List, [], ◌∷◌, ◌++◌, map, find, length, set, get_or, refl, sym, ap, subst, ◌∙◌, cond, arith, ⊎_elim}
 use Rattle.std.proofs.lemmas.Bool.{cases_Bool, cases_eq, and_parts, and_right}
 use Rattle.std.proofs.lemmas.Grind.{get_or-set_at}
 use Rattle.std.proofs.lemmas.List.{ext_get_or, get_or-map, get_or-set_other, get_or_default, length-map, length-set, nil_from_length}

@@ -1,3 +1,4 @@
 pub mod Names
 pub mod Sought
 pub mod Places
+pub mod IdsOfType

@@ -9,10 +9,12 @@
 //! ```
 #![tactic(auto)]
 
+mod ids;
 mod name;
 mod places;
 mod search;
 mod sought;
 
+pub use ids::ids_of_type;
 pub use name::Name;
 pub use search::find_names;

@@ -28,6 +28,9 @@ pub fn find_names(
 ) -> Result<Vec<Option<ResId>>, AllocError>
     ensures { IfOk result (λ found. map (option_map (λ id. id.0)) found.items ≡ map (λ name. found_in_tables (map (λ table. table.now) tables.now) (name_of name)) names.now) }
 {
+    if names.is_empty() {
+        return Ok(Vec::new(alloc));
+    }
     let places = places_of(alloc, names)?;
     let mut sought = unfound(alloc, names)?;
     look_in_each(tables, &places, &mut sought);

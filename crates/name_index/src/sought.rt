@@ -36,8 +36,8 @@ fn is_named(table: &Table<'_>, row: &Row<'_>, name: Name<'_>) -> bool
     is_text(table.type_name(row), name.type_name) && is_text(table.key_name(row), name.entry_name)
 }
 
-// Whether a name can be read and is this text.
-fn is_text(name: Result<Text<'_>, StringFault>, text: &str) -> bool
+/// Whether a name can be read and is this text.
+pub(crate) fn is_text(name: Result<Text<'_>, StringFault>, text: &str) -> bool
     ensures { result ≡ is_name (seen_text name.entry) text.now }
 {
     match name {

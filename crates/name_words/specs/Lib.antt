@@ -1,3 +1,4 @@
 pub mod Named
 pub mod NamedSet
 pub mod NamedGoal
+pub mod WordFile

@@ -2,3 +2,4 @@ pub mod PairSteps
 pub mod CheckSteps
 pub mod FewRows
 pub mod SetAsideSteps
+pub mod BaseSteps

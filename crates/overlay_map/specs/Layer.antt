@@ -1,5 +1,5 @@
 -- Layers of a stack, the later over the earlier.
-use Rattle.std.specs.Prelude.{ℕ, ◌<◌, ◌^◌, List, [], length, Option, Some, None}
+use Rattle.std.specs.Prelude.{ℕ, ◌<◌, ◌^◌, Bool, List, [], filter, length, map, Option, Some, None, is_none}
 use Rattle.row_index.specs.type_chunks.Row.{RowOf, with_id}
 use Rattle.row_index.specs.resource_table.Table.{TableOf, rows_of}
 use Rattle.overlay_map.specs.IdMap.{MapOf, look_of}
@@ -13,6 +13,13 @@ pub record LayerOf : Type 0 where
 -- a stack has no more layers than these
 abbrev pub most_layers : ℕ
 most_layers = 64
+
+abbrev pub is_base : LayerOf → Bool
+is_base layer = is_none layer.map
+
+-- the tables of the base layers, the lowest first
+abbrev pub base_tables : List LayerOf → List TableOf
+base_tables layers = map (λ layer. layer.table) (filter is_base layers)
 
 abbrev id_by : Option MapOf → ℕ → Option ℕ
 id_by None id = Some id

@@ -1,6 +1,7 @@
 pub mod IdMap
 pub mod Layer
 pub mod Candidates
+pub mod BaseRow
 pub mod Pushing
 pub mod SetAside
 pub use Rattle.row_index.specs.config_record

@@ -2,9 +2,11 @@
 
 ghost use Rattle.std.specs.Prelude.{◌≡◌, ◌<◌, ◌^◌, is_some};
 ghost use Rattle.std.specs.Option.{option_map};
+ghost use Rattle.overlay_map.specs.BaseRow.{base_row_of, base_row_in};
 ghost use Rattle.overlay_map.specs.Layer.{own_id, rows_for};
 ghost use Rattle.overlay_map.specs.SetAside.{set_aside_in_layer};
 
+use crate::base_row::BaseRow;
 use crate::id_map::IdMap;
 use row_index::{IndexedRows, IndexedTable, ResId};
 use std::marker::Model;
@@ -40,6 +42,20 @@ impl<'a> Layer<'a> {
             return IndexedRows::none();
         };
         self.table.rows(own_id)
+    }
+
+    /// The first row of an id in its table, where it is a base.
+    pub fn base_row(&self, id: ResId) -> Option<BaseRow<'_, 'a>>
+        ensures { option_map base_row_of result ≡ base_row_in self.now id.0 }
+    {
+        if self.map.is_some() {
+            return None;
+        }
+        let table = self.table.table();
+        match self.table.rows(id).next() {
+            Some(row) => Some(BaseRow { table, row }),
+            None => None,
+        }
     }
 
     // The id under which its table has them; none where there is no such id.

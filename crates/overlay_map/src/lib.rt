@@ -19,6 +19,7 @@
 //! ```
 #![tactic(auto)]
 
+mod base_row;
 mod candidate;
 mod candidates;
 mod checked_pairs;
@@ -29,6 +30,7 @@ mod pairs;
 mod stack;
 mod stack_fault;
 
+pub use base_row::BaseRow;
 pub use candidate::Cand;
 pub use candidates::Cands;
 pub use id_map::IdMap;

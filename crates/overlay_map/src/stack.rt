@@ -1,19 +1,21 @@
 //! Stacks.
 
-ghost use Rattle.std.specs.Prelude.{◌≡◌, ◌≤◌, ◌<◌, ◌^◌, [], ◌∷◌, ◌++◌, All, length, slice_get, vec_len, vec_capacity, nat_eq, OnOk, IfOk, IfErr};
+ghost use Rattle.std.specs.Prelude.{◌≡◌, ◌≤◌, ◌<◌, ◌^◌, [], ◌∷◌, ◌++◌, All, length, map, slice_get, vec_len, vec_capacity, nat_eq, OnOk, IfOk, IfErr};
 ghost use Rattle.row_index.specs.resource_table.Table.{rows_of};
 ghost use Rattle.std.specs.Option.{option_map};
-ghost use Rattle.overlay_map.specs.Layer.{most_layers, HasFewRows};
+ghost use Rattle.overlay_map.specs.Layer.{most_layers, base_tables, HasFewRows};
 ghost use Rattle.overlay_map.specs.Pushing.{RefusesLayer, PushesLayer, base_of, overlay_of};
 ghost use Rattle.overlay_map.specs.SetAside.{set_aside_in_stack};
 ghost use Rattle.overlay_map.specs.Candidates.{candidates_of};
+ghost use Rattle.overlay_map.specs.BaseRow.{base_row_of, first_base_row};
 
+use crate::base_row::BaseRow;
 use crate::candidates::Cands;
 use crate::id_map::IdMap;
 use crate::layer::Layer;
 use crate::stack_fault::StackFault;
 use row_index::{IndexedTable, ResId, Table};
-use std::alloc::Global;
+use std::alloc::{AllocError, Global};
 use std::marker::Model;
 
 /// The most layers that a stack can have.
@@ -99,6 +101,31 @@ impl<'a> Stack<'a> {
             Some(layer) => Some(layer.table.table()),
             None => None,
         }
+    }
+
+    /// The tables of the base layers, the lowest first.
+    pub fn base_tables(&self, alloc: Global) -> Result<Vec<&Table<'a>>, AllocError>
+        ensures { IfOk result (λ tables. map (λ table. table.now) tables.items ≡ base_tables self.now) }
+    {
+        let mut tables = Vec::new(alloc);
+        for layer in &self.layers {
+            if layer.map.is_none() {
+                tables.push(layer.table.table())?;
+            }
+        }
+        Ok(tables)
+    }
+
+    /// The first row of an id in the first base layer that has one. Its names are those of the id.
+    pub fn base_row(&self, id: ResId) -> Option<BaseRow<'_, 'a>>
+        ensures { option_map base_row_of result ≡ first_base_row self.now id.0 }
+    {
+        for layer in &self.layers {
+            if let Some(row) = layer.base_row(id) {
+                return Some(row);
+            }
+        }
+        None
     }
 
     /// How many rows of all layers are set aside: their locale has a script or a variant, and they match

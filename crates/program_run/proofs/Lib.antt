@@ -1,1 +1,3 @@
 pub mod LayersLeft
+pub mod SamePath
+pub mod AskedSteps

@@ -3,13 +3,20 @@ use Rattle.std.specs.Prelude.{ℕ, List, map, Option, Vec}
 use Rattle.std.specs.Option.{option_map}
 use Rattle.std.specs.declared.alloc.Global.{Global}
 use Rattle.command_base.specs.StackBytes.{LayerBytes}
+use Rattle.program_run.specs.declared.files.MapFiles.{MapFiles}
 use Rattle.program_run.specs.declared.files.LayerFiles.{LayerFiles}
 use Rattle.program_run.specs.declared.files.DeviceFiles.{DeviceFiles}
+use Rattle.program_run.specs.declared.files.AskedFiles.{AskedFiles}
 use Rattle.program_run.specs.declared.files.CheckFiles.{CheckFiles}
-use Rattle.program_run.specs.Inputs.{DeviceInputs, CheckInputs}
+use Rattle.program_run.specs.AskedFiles.{AskedInputs, CheckInputs}
+use Rattle.program_run.specs.AskedWords.{strings_held}
+use Rattle.program_run.specs.Inputs.{MapInputs, DeviceInputs}
 
 abbrev pub bytes_of : Vec ℕ Global → List ℕ
 bytes_of bytes = bytes.items
+
+abbrev pub map_held : MapFiles → MapInputs
+map_held files = record { target = files.target.items; overlay = files.overlay.items }
 
 -- the bytes of a layer
 abbrev pub layer_held : (Vec ℕ Global × Option (Vec ℕ Global)) → LayerBytes
@@ -25,5 +32,8 @@ layers_held files = all_held files.files
 abbrev pub devices_held : DeviceFiles → DeviceInputs
 devices_held files = record { layers = layers_held files.layers; devices = files.devices.items }
 
+abbrev pub asked_held : AskedFiles → AskedInputs
+asked_held asked = record { layers = layers_held asked.files.layers; devices = asked.files.devices.items; words = strings_held asked.words }
+
 abbrev pub check_held : CheckFiles → CheckInputs
-check_held files = record { asked = devices_held files.asked; certificate = files.certificate.items }
+check_held files = record { asked = asked_held files.asked; certificate = files.certificate.items }

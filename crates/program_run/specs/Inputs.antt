@@ -61,6 +61,17 @@ layers_of places path = do
 
 -- ---- the files of a request
 
+pub record MapInputs : Type 0 where
+  pub target : List ℕ
+  pub overlay : List ℕ
+
+-- a table, and then that of an overlay
+unfoldable pub map_files : Places → List ℕ → List ℕ → Result MapInputs StopOf
+map_files places target_path overlay_path = do
+  target ← table_of places target_path
+  overlay ← table_of places overlay_path
+  Ok (record { target = target; overlay = overlay })
+
 -- layers, and the bytes of a device or of a box of devices
 pub record DeviceInputs : Type 0 where
   pub layers : List LayerBytes
@@ -72,14 +83,3 @@ device_files places layers_path devices_path = do
   layers ← layers_of places layers_path
   devices ← file_of places devices_path
   Ok (record { layers = layers; devices = devices })
-
-pub record CheckInputs : Type 0 where
-  pub asked : DeviceInputs
-  pub certificate : List ℕ
-
--- layers, then a box and then a certificate
-unfoldable pub check_files : Places → List ℕ → List ℕ → List ℕ → Result CheckInputs StopOf
-check_files places layers_path box_path certificate_path = do
-  asked ← device_files places layers_path box_path
-  certificate ← file_of places certificate_path
-  Ok (record { asked = asked; certificate = certificate })

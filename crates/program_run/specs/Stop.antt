@@ -8,10 +8,12 @@ use Rattle.command_base.specs.fault_text.declared.fault.ToolFault.TheVariants as
 use Rattle.command_base.specs.fault_text.FaultText.{fault_line}
 use Rattle.command_words.specs.declared.words_fault.WordsFault.{WordsFault}
 use Rattle.command_words.specs.declared.words_fault.WordsFault.TheVariants.{CommandLine, NotText, BadId, OutOfMemory}
+use Rattle.named_resources.specs.declared.fault.NameFault.{NameFault}
+use Rattle.named_resources.specs.declared.fault.NameFault.TheVariants as names
 use Rattle.program_run.specs.declared.stop.Stop.{Stop}
 use Rattle.program_run.specs.declared.stop.Stop.TheVariants as stops
 use Rattle.program_run.specs.declared.status.ExitStatus.{ExitStatus}
-use Rattle.program_run.specs.declared.status.ExitStatus.TheVariants.{Done, BadCommandLine, Failed}
+use Rattle.program_run.specs.declared.status.ExitStatus.TheVariants.{Done, Negative, BadCommandLine, Failed}
 use Rattle.program_run.specs.ExitStatus.{after_fault}
 
 -- why the program stops, without the memory that holds it
@@ -22,6 +24,8 @@ pub data StopOf : Type 0 where
   bad_id : List ℕ → StopOf
   -- the file at this path was not read
   file : List ℕ → StopOf
+  -- no layer has a resource of this name
+  no_resource : List ℕ → StopOf
   tool : ToolFault → StopOf
 
 abbrev pub stop_of_words : WordsFault → StopOf
@@ -32,9 +36,16 @@ stop_of_words OutOfMemory = tool faults.OutOfMemory
 
 abbrev pub stop_of : Stop → StopOf
 stop_of (stops.Words fault) = stop_of_words fault
+stop_of (stops.WordOfFile word) = bad_id (string_bytes word)
 stop_of (stops.File path) = file path.now
 stop_of (stops.LayerFile path) = file (string_bytes path)
+stop_of (stops.NoResource name) = no_resource (string_bytes name)
 stop_of (stops.Tool fault) = tool fault
+
+-- where a name stands for no resource
+abbrev pub stop_of_name : NameFault → Stop
+stop_of_name (names.NoResource name) = stops.NoResource name
+stop_of_name names.OutOfMemory = stops.Tool faults.OutOfMemory
 
 -- a call gave what is meant, seen by view, or stops as is meant, or memory ran out
 abbrev pub GivesOrStops : {X Y : Type 0} → (X → Y) → Result X Stop → Result Y StopOf → Type 0
@@ -62,6 +73,7 @@ stop_line (command_line kind) = None
 stop_line not_text = Some (codes "command: a word is not UTF-8" ++ 10 ∷ [])
 stop_line (bad_id word) = Some (codes "command: bad id " ++ word ++ 10 ∷ [])
 stop_line (file path) = Some (codes "file: " ++ path ++ 10 ∷ [])
+stop_line (no_resource name) = Some (codes "no resource " ++ name ++ 10 ∷ [])
 stop_line (tool fault) = Some (fault_line fault)
 
 -- how the program ends where it stops; was_written says whether the stream took what was said
@@ -71,4 +83,5 @@ status_of_stop was_written (command_line kind) =
 status_of_stop was_written not_text = BadCommandLine
 status_of_stop was_written (bad_id word) = BadCommandLine
 status_of_stop was_written (file path) = Failed
+status_of_stop was_written (no_resource name) = Negative
 status_of_stop was_written (tool fault) = after_fault fault

@@ -5,13 +5,43 @@ ghost use Rattle.json_input.specs.Each.{each};
 ghost use Rattle.command_base.specs.LayerListSeen.{paths_of, all_paths_of};
 ghost use Rattle.command_base.specs.StackBytesSeen.{layer_bytes};
 ghost use Rattle.program_run.specs.Stop.{GivesOrStops};
-ghost use Rattle.program_run.specs.Inputs.{layer_of, layers_of, device_files, check_files};
-ghost use Rattle.program_run.specs.FilesSeen.{layer_held, all_held, layers_held, devices_held, check_held};
+ghost use Rattle.program_run.specs.Inputs.{map_files, layer_of, layers_of, device_files};
+ghost use Rattle.program_run.specs.FilesSeen.{map_held, layer_held, all_held, layers_held, devices_held, asked_held, check_held};
+ghost use Rattle.program_run.specs.AskedFiles.{asked_files, check_files};
 
-use crate::input::{Inputs, file_bytes, layer_file_bytes};
+use crate::asked::asked_words;
+use crate::input::{Inputs, file_bytes, layer_file_bytes, table_bytes};
 use crate::stop::Stop;
 use command_base::{LayerList, LayerParts};
 use std::alloc::{AllocError, Global};
+
+/// The bytes of a table, and of an overlay's.
+#[derive(Drop)]
+pub struct MapFiles {
+    pub target: Vec<u8>,
+    pub overlay: Vec<u8>,
+}
+
+impl MapFiles {
+    /// Reads a table and then that of an overlay; what both words name is read once.
+    #[tactic(auto, unfolding(crate::specs::Inputs::map_files))]
+    pub fn read<'a, I: Inputs>(
+        inputs: &I,
+        target_path: &'a str,
+        overlay_path: &'a str,
+    ) -> Result<MapFiles, Stop<'a>>
+        ensures { IfSome (I.places inputs.now) (λ places. GivesOrStops map_held result
+            (map_files places target_path.entry.now overlay_path.entry.now)) }
+    {
+        let target = table_bytes(inputs, target_path)?;
+        if overlay_path == target_path {
+            let overlay = target.clone()?;
+            return Ok(MapFiles { target, overlay });
+        }
+        let overlay = table_bytes(inputs, overlay_path)?;
+        Ok(MapFiles { target, overlay })
+    }
+}
 
 /// The bytes of the files of layers: each table with its id map, if it is an overlay.
 #[derive(Drop)]
@@ -105,28 +135,57 @@ impl DeviceFiles {
     }
 }
 
-/// The bytes of layers, of a box and of a certificate.
+/// The bytes of layers, and of a device or a box of devices, and the words of the argument that takes several.
+#[derive(Drop)]
+pub struct AskedFiles {
+    pub files: DeviceFiles,
+    pub words: Vec<String>,
+}
+
+impl AskedFiles {
+    /// Reads a list of layers with the files that it names, then the device or the box, and then the files of words.
+    #[tactic(auto, unfolding(crate::specs::AskedFiles::asked_files))]
+    pub fn read<'a, I: Inputs>(
+        alloc: Global,
+        inputs: &I,
+        layers_path: &'a str,
+        devices_path: &'a str,
+        words: &[&'a str],
+    ) -> Result<AskedFiles, Stop<'a>>
+        ensures { IfSome (I.places inputs.now) (λ places. GivesOrStops asked_held result
+            (asked_files places layers_path.entry.now devices_path.entry.now (map (λ word. word.now) words.now))) }
+    {
+        let files = DeviceFiles::read(alloc, inputs, layers_path, devices_path)?;
+        let words = asked_words(alloc, inputs, words)?;
+        Ok(AskedFiles { files, words })
+    }
+}
+
+/// The same of a box, and the bytes of a certificate.
 #[derive(Drop)]
 pub struct CheckFiles {
-    pub asked: DeviceFiles,
+    pub asked: AskedFiles,
     pub certificate: Vec<u8>,
 }
 
 impl CheckFiles {
-    /// Reads a list of layers with the files that it names, then a box and then a certificate.
-    #[tactic(auto, unfolding(crate::specs::Inputs::check_files))]
+    /// Reads a list of layers with the files that it names, then a box, a certificate, and the files of words.
+    #[tactic(auto, unfolding(crate::specs::AskedFiles::check_files))]
     pub fn read<'a, I: Inputs>(
         alloc: Global,
         inputs: &I,
         layers_path: &'a str,
         box_path: &'a str,
         certificate_path: &'a str,
+        words: &[&'a str],
     ) -> Result<CheckFiles, Stop<'a>>
         ensures { IfSome (I.places inputs.now) (λ places. GivesOrStops check_held result
-            (check_files places layers_path.entry.now box_path.entry.now certificate_path.entry.now)) }
+            (check_files places layers_path.entry.now box_path.entry.now certificate_path.entry.now (map (λ word. word.now) words.now))) }
     {
-        let asked = DeviceFiles::read(alloc, inputs, layers_path, box_path)?;
+        let files = DeviceFiles::read(alloc, inputs, layers_path, box_path)?;
         let certificate = file_bytes(inputs, certificate_path)?;
+        let words = asked_words(alloc, inputs, words)?;
+        let asked = AskedFiles { files, words };
         Ok(CheckFiles { asked, certificate })
     }
 }

@@ -9,12 +9,15 @@
 //! let inputs = ProcessInputs { rt: &rt }; // files, and the standard input
 //! let files = DeviceFiles::read(alloc, &inputs, "layers.json", "device.json")?; // all of them, or Stop::File(path)
 //! let layers = files.layers.layers(alloc)?; // lent, as the commands take them
+//! let words = asked_words(alloc, &inputs, &["@ids.txt", "dimen/*"])?; // with the words of ids.txt
+//! let sets = asked_sets(alloc, &words)?; // what each of them asks for
 //!
 //! let status = end(outcome, &mut out, &mut errors); // file: layers.json
 //! ExitCode::from(status.number()) // 5
 //! ```
 #![tactic(auto)]
 
+mod asked;
 mod ending;
 mod files;
 mod input;
@@ -23,11 +26,15 @@ mod progress;
 mod status;
 mod stop;
 
-pub use command_words::{BoxRequest, DeviceRequest, Goal, Request, program_words, read_words};
+pub use asked::{asked_goals, asked_sets, asked_words};
+pub use command_words::{
+    BoxRequest, DeviceRequest, Named, NamedGoal, NamedSet, Request, program_words, read_words,
+};
 pub use ending::{end, written_out};
-pub use files::{CheckFiles, DeviceFiles, LayerFiles};
+pub use files::{AskedFiles, CheckFiles, DeviceFiles, LayerFiles, MapFiles};
 pub use input::{Inputs, ProcessInputs, table_bytes};
+pub use named_resources::{ResId, goals_named, id_named, ids_named};
 pub use place::Place;
-pub use progress::ProgressLine;
+pub use progress::{ProgressLine, Watch};
 pub use status::ExitStatus;
 pub use stop::{Reported, Stop};

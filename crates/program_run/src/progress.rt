@@ -13,6 +13,14 @@ const BEFORE_THE_FIRST: u64 = 1_000;
 /// A line stands for at least so many milliseconds before it is rewritten.
 const BETWEEN_TWO: u64 = 250;
 
+/// Whether long work says on the errors how far it is, and by which clock.
+#[derive(Clone, Copy)]
+pub struct Watch<'a, C> {
+    pub clock: &'a C,
+    /// They go to a terminal. Nowhere else is anything shown.
+    pub is_terminal: bool,
+}
+
 /// A line on a terminal that says how many goals are done, and is rewritten in place. A failure of the
 /// stream or the clock is passed over.
 #[derive(Drop)]

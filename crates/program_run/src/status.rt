@@ -8,9 +8,9 @@ pub enum ExitStatus {
     /// All was done, or help or the version was printed that was asked for.
     Done = 0,
     /// Something that was asked for does not exist, or has too many references or parents; or a certificate
-    /// is rejected, or cannot be made.
+    /// is rejected, or cannot be made; or an id map leaves out ids or references of its overlay.
     Negative = 1,
-    /// A bad command line, or an argument that is not a resource id.
+    /// A bad command line, or an argument that is neither a resource id nor a name.
     BadCommandLine = 2,
     /// An input was refused.
     Refused = 3,

@@ -1,6 +1,6 @@
 //! What keeps the program from doing what it was asked for.
 
-ghost use Rattle.std.specs.Prelude.{◌≡◌, ◌++◌, ◌∷◌, [], true, false, OnOk, IfSome};
+ghost use Rattle.std.specs.Prelude.{◌≡◌, ◌++◌, ◌∷◌, [], true, false, codes, OnOk, IfSome};
 ghost use Rattle.std.specs.Io.KnownBytes.{Appends};
 ghost use Rattle.contract_words.specs.Writes.{Writes};
 ghost use Rattle.clap.specs.Values.{kind_of};
@@ -12,6 +12,7 @@ use crate::status::ExitStatus;
 use clap::error::ErrorKind;
 use command_base::{LayersFault, ToolFault, fault_text};
 use command_words::WordsFault;
+use named_resources::NameFault;
 use std::alloc::{AllocError, AllocFailed};
 use std::io::{self, Write};
 
@@ -20,10 +21,14 @@ use std::io::{self, Write};
 pub enum Stop<'a> {
     /// The words ask for nothing that can be done.
     Words(WordsFault<'a>),
+    /// This word of a file asks for no resource, or for no goal where goals are asked.
+    WordOfFile(String),
     /// The file at this path was not read.
     File(&'a str),
     /// The file of a layer was not read, whose path a list of layers names.
     LayerFile(String),
+    /// No layer has a resource of this name.
+    NoResource(String),
     /// The command failed.
     Tool(ToolFault),
 }
@@ -63,8 +68,10 @@ impl Stop<'_> {
     {
         match self {
             Stop::Words(fault) => write_fault_of_words(fault, out, errors),
+            Stop::WordOfFile(word) => write_bad_id(word.as_str(), errors),
             Stop::File(path) => write_line("file: ", path, errors),
             Stop::LayerFile(path) => write_line("file: ", path.as_str(), errors),
+            Stop::NoResource(name) => write_no_resource(name.as_str(), errors),
             Stop::Tool(fault) => fault_text(fault, errors),
         }
     }
@@ -75,7 +82,9 @@ impl Stop<'_> {
     {
         match self {
             Stop::Words(fault) => status_after_words(fault, was_written),
+            Stop::WordOfFile(_) => ExitStatus::BadCommandLine,
             Stop::File(_) | Stop::LayerFile(_) => ExitStatus::Failed,
+            Stop::NoResource(_) => ExitStatus::Negative,
             Stop::Tool(fault) => ExitStatus::after_fault(fault),
         }
     }
@@ -95,7 +104,7 @@ fn write_fault_of_words<O: Write + Drop, E: Write + Drop>(
         WordsFault::CommandLine(error) if is_asked_for(error) => write!(out, "{error}"),
         WordsFault::CommandLine(error) => write!(errors, "{error}"),
         WordsFault::NotText => errors.write_all(b"command: a word is not UTF-8\n"),
-        WordsFault::BadId(word) => write_line("command: bad id ", word, errors),
+        WordsFault::BadId(word) => write_bad_id(word, errors),
         WordsFault::OutOfMemory => fault_text(&ToolFault::OutOfMemory, errors),
     }
 }
@@ -128,6 +137,18 @@ fn is_asked_for(error: &clap::Error) -> bool
     )
 }
 
+fn write_bad_id<E: Write + Drop>(word: &str, errors: &mut E) -> io::Result<()>
+    ensures { Writes E.contents errors.old errors.new result (codes "command: bad id " ++ word.now ++ 10 ∷ []) }
+{
+    write_line("command: bad id ", word, errors)
+}
+
+fn write_no_resource<E: Write + Drop>(name: &str, errors: &mut E) -> io::Result<()>
+    ensures { Writes E.contents errors.old errors.new result (codes "no resource " ++ name.now ++ 10 ∷ []) }
+{
+    write_line("no resource ", name, errors)
+}
+
 fn write_line<E: Write + Drop>(before: &str, text: &str, errors: &mut E) -> io::Result<()>
     ensures { Writes E.contents errors.old errors.new result (before.now ++ text.now ++ 10 ∷ []) }
 {
@@ -149,6 +170,19 @@ impl From<ToolFault> for Stop<'_> {
 
     fn from(fault: ToolFault) -> Self {
         Stop::Tool(fault)
+    }
+}
+
+impl From<NameFault> for Stop<'_> {
+    ghost use Rattle.program_run.specs.Stop.{stop_of_name};
+
+    ghost from_gives = { λ fault e. e ≡ stop_of_name fault };
+
+    fn from(fault: NameFault) -> Self {
+        match fault {
+            NameFault::NoResource(name) => Stop::NoResource(name),
+            NameFault::OutOfMemory => Stop::Tool(ToolFault::OutOfMemory),
+        }
     }
 }
 

@@ -23,5 +23,5 @@ pub use device_commands::{Opened, attr_bytes, bag_bytes, explain_bytes, query_by
 pub use make::{OpenedBox, make_bytes, make_bytes_watched};
 pub use table_commands::{
     InputFault, LayerList, LayerParts, LayersFault, Status, ToolFault, dump_bytes, fault_text,
-    read_input, rows_bytes,
+    map_bytes, read_input, rows_bytes,
 };

@@ -1,2 +1,4 @@
+pub mod Asked
+pub mod AskedSeen
 pub mod Answers
 pub mod Run

@@ -4,6 +4,7 @@ use Rattle.program_run.specs.fault_text.declared.fault.ToolFault.TheVariants.{Wr
 use Rattle.program_run.specs.command_base.declared.status.Status.{Status}
 use Rattle.program_run.specs.command_words.declared.words_fault.WordsFault.{WordsFault}
 use Rattle.program_run.specs.command_words.declared.request.Request.{Request}
+use Rattle.program_run.specs.command_words.declared.request.Request.TheVariants.{Map}
 use Rattle.program_run.specs.command_words.Request.{AsksFor}
 use Rattle.program_run.specs.declared.stop.Stop.{Stop}
 use Rattle.program_run.specs.declared.stop.Stop.TheVariants.{Words}
@@ -13,19 +14,26 @@ use Rattle.program_run.specs.Inputs.{Places}
 use Rattle.program_run.specs.Ending.{Streams, EndsAs}
 use Rattle.restool.specs.Answers.{Answers}
 
--- The work: words ask for nothing that can be done, or for a request, which is answered where it is known what the places
--- have. The output was old and is new.
-abbrev pub Works : {W : Type 0} → (W → Option (List ℕ)) → Option Places → List (List ℕ) → W → W → Result Status Stop → Type 0
-Works contents known words old new outcome =
-    ((fault : WordsFault) × AsksFor words (Err fault) × (outcome ≡ Err (Words fault)))
-    ⊎ ((request : Request) × AsksFor words (Ok request) × IfSome known (λ places. Answers contents old new places request outcome))
+-- What errors show of work on a request, which were before and are after: a terminal shows how far it is. For `map` they have
+-- the lines of the answer, and where there is none nothing, unless a write failed.
+abbrev pub Shows : {V : Type 0} → Bool → V → V → Request → Result Status Stop → Type 0
+Shows is_terminal before after (Map target overlay) outcome = IfErr outcome (λ stop. stop_of stop ≢ tool Write → after ≡ before)
+Shows is_terminal before after _ outcome = is_terminal ≡ false → after ≡ before
 
--- A run of the program: the work, and then the end. Where there is no answer, the work wrote nothing, unless a write
--- failed. While it works only a terminal shows how far it is.
+-- The work: words ask for nothing that can be done, or for a request, which is answered where it is known what the places
+-- have.
+abbrev pub Works : {W V : Type 0} → (W → Option (List ℕ)) → (V → Option (List ℕ)) → Option Places → List (List ℕ) → Bool → Streams W V → Streams W V → Result Status Stop → Type 0
+Works contents says known words is_terminal before after outcome =
+    ((fault : WordsFault) × AsksFor words (Err fault) × (outcome ≡ Err (Words fault)) × (after.errors ≡ before.errors))
+    ⊎ ((request : Request) × AsksFor words (Ok request)
+    × IfSome known (λ places. Answers contents says before.out after.out before.errors after.errors places request outcome)
+    × Shows is_terminal before.errors after.errors request outcome)
+
+-- A run of the program: the work, and then the end. Where there is no answer, the work wrote nothing to the output, unless a
+-- write failed.
 abbrev pub Runs : {W V : Type 0} → (W → Option (List ℕ)) → (V → Option (List ℕ)) → Option Places → List (List ℕ) → Bool → Streams W V → Streams W V → ExitStatus → Type 0
 Runs {W} {V} contents says known words is_terminal before after ended =
     (worked : Streams W V) × (outcome : Result Status Stop)
-    × Works contents known words before.out worked.out outcome
+    × Works contents says known words is_terminal before worked outcome
     × IfErr outcome (λ stop. stop_of stop ≢ tool Write → worked.out ≡ before.out)
-    × (is_terminal ≡ false → worked.errors ≡ before.errors)
     × EndsAs says worked after outcome ended

@@ -1,15 +1,15 @@
 //! From words to the exit status.
 
-ghost use Rattle.std.specs.Prelude.{◌≡◌, ◌≢◌, [], false, map, IfErr, IfSome, string_bytes};
+ghost use Rattle.std.specs.Prelude.{◌≡◌, ◌≢◌, [], map, IfErr, IfSome, string_bytes};
 ghost use Rattle.std.specs.Io.Buffered.{writer_buffer, writer_inner};
 ghost use Rattle.program_run.specs.fault_text.declared.fault.ToolFault.TheVariants.{Write};
 ghost use Rattle.restool.specs.Answers.{Answers};
-ghost use Rattle.restool.specs.Run.{Runs};
+ghost use Rattle.restool.specs.Run.{Runs, Shows};
 ghost use Rattle.program_run.specs.Stop.{stop_of, tool};
 
 use crate::answer::answer;
-use program_run::{ExitStatus, Inputs, ProgressLine, Request, Stop, end, read_words, written_out};
-use resource_tool::{Status, Unwatched};
+use program_run::{ExitStatus, Inputs, Request, Stop, Watch, end, read_words, written_out};
+use resource_tool::Status;
 use std::alloc::Global;
 use std::io::{BufWriter, Write};
 use std::time::Clock;
@@ -22,32 +22,22 @@ pub struct Ended<O> {
     pub out: O,
 }
 
-/// Does what the words ask for; the first word is the program's name. Where errors go to a terminal, long
-/// work says there how far it is.
+/// Does what the words ask for; the first word is the program's name.
 pub fn run_words<I: Inputs, C: Clock, O: Write + Drop, E: Write + Drop>(
     alloc: Global,
     inputs: &I,
-    clock: &C,
+    watch: Watch<'_, C>,
     words: &[String],
     out: BufWriter<O>,
     errors: &mut E,
-    is_terminal: bool,
 ) -> Ended<O>
     requires { writer_buffer out ≡ [] }
-    ensures { Runs O.contents E.contents (I.places inputs.now) (map string_bytes words.now) is_terminal
+    ensures { Runs O.contents E.contents (I.places inputs.now) (map string_bytes words.now) watch.entry.is_terminal
         (record { out = writer_inner out; errors = errors.old }) (record { out = result.out; errors = errors.new }) result.status }
 {
     match read_words(alloc, words) {
         Ok(request) => {
-            let (outcome, mut out) = carry_out(
-                alloc,
-                inputs,
-                clock,
-                request,
-                out,
-                errors,
-                is_terminal,
-            );
+            let (outcome, mut out) = carry_out(alloc, inputs, watch, request, out, errors);
             let status = end(outcome, &mut out, errors);
             Ended { status, out }
         }
@@ -60,44 +50,20 @@ pub fn run_words<I: Inputs, C: Clock, O: Write + Drop, E: Write + Drop>(
 }
 
 // Answers a request, and writes what was kept back of the output.
-fn carry_out<'a, I: Inputs, C: Clock, O: Write + Drop, E: Write>(
+fn carry_out<'a, I: Inputs, C: Clock, O: Write + Drop, E: Write + Drop>(
     alloc: Global,
     inputs: &I,
-    clock: &C,
+    watch: Watch<'_, C>,
     request: Request<'a>,
     mut out: BufWriter<O>,
     errors: &mut E,
-    is_terminal: bool,
 ) -> (Result<Status, Stop<'a>>, O)
     requires { writer_buffer out ≡ [] }
-    ensures answers { IfSome (I.places inputs.now) (λ places. Answers O.contents (writer_inner out) result.1 places
-        request.entry result.0) }
+    ensures answers { IfSome (I.places inputs.now) (λ places. Answers O.contents E.contents (writer_inner out) result.1
+        errors.old errors.new places request.entry result.0) }
     ensures unwritten { IfErr result.0 (λ stop. stop_of stop ≢ tool Write → result.1 ≡ writer_inner out) }
-    ensures quiet { is_terminal ≡ false → errors.new ≡ errors.old }
+    ensures shows { Shows watch.entry.is_terminal errors.old errors.new request.entry result.0 }
 {
-    let answered = answer_watched(alloc, inputs, clock, request, &mut out, errors, is_terminal);
+    let answered = answer(alloc, inputs, watch, request, &mut out, errors);
     written_out(answered, out)
-}
-
-// Answers a request. Where errors go to a terminal, long work says there how far it is.
-fn answer_watched<'a, I: Inputs, C: Clock, O: Write + Drop, E: Write>(
-    alloc: Global,
-    inputs: &I,
-    clock: &C,
-    request: Request<'a>,
-    out: &mut O,
-    errors: &mut E,
-    is_terminal: bool,
-) -> Result<Status, Stop<'a>>
-    ensures answers { IfSome (I.places inputs.now) (λ places. Answers O.contents out.old out.new places request.entry result) }
-    ensures unwritten { IfErr result (λ stop. stop_of stop ≢ tool Write → out.new ≡ out.old) }
-    ensures quiet { is_terminal ≡ false → errors.new ≡ errors.old }
-{
-    if !is_terminal {
-        return answer(alloc, inputs, request, &mut Unwatched, out);
-    }
-    let mut line = ProgressLine::new(errors, clock);
-    let answered = answer(alloc, inputs, request, &mut line, out);
-    line.clear();
-    answered
 }

@@ -1,7 +1,7 @@
 //! What chunks, configurations and entries have. The pieces are those of AOSP's structs.
 
 use std::alloc::{AllocError, Global};
-use table_survey::{Finding, Survey};
+use table_survey::{Finding, Site, Survey};
 use test_layers::{put, table_a, table_with};
 
 // A piece that is put into a table from a place on, and what is found then, once, and where.
@@ -18,7 +18,7 @@ fn has_alone(survey: &Survey, finding: Finding, place: usize) -> bool {
     for other in Finding::ALL {
         let count = u32::from(other == finding);
         let first = if other == finding { place } else { 0 };
-        if survey.count(other) != count || survey.first(other) != first {
+        if survey.count(other) != count || survey.first(other) != Site::Chunk(first) {
             return false;
         }
     }
@@ -27,7 +27,7 @@ fn has_alone(survey: &Survey, finding: Finding, place: usize) -> bool {
 
 fn has_nothing(survey: &Survey) -> bool {
     for finding in Finding::ALL {
-        if survey.count(finding) != 0 || survey.first(finding) != 0 {
+        if survey.count(finding) != 0 || survey.first(finding) != Site::Chunk(0) {
             return false;
         }
     }
@@ -107,7 +107,7 @@ fn all_are_counted(rt: HostRuntime) -> Result<(), AllocError> {
     put(&mut table, 40 + 53, b"a");
     let survey = survey_of(&table);
     assert_eq!(rt; survey.count(Finding::NewerQualifier), 2);
-    assert_eq!(rt; survey.first(Finding::NewerQualifier), 20);
+    assert_eq!(rt; survey.first(Finding::NewerQualifier), Site::Chunk(20));
     Ok(())
 }
 

@@ -4,3 +4,5 @@
 
 #[cfg(test)]
 mod chunks;
+#[cfg(test)]
+mod printed;

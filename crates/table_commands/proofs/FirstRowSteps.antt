@@ -1,14 +1,14 @@
 -- How the first row of each id is found.
-use Rattle.std.proofs.Common.{◌≡◌, ℕ, ◌==◌, Bool, true, false, cond, List, [], ◌∷◌, map, Option, Some, None, unwrap_or, refl, sym, ap, ◌∙◌}
-use Rattle.std.specs.BTreeMap.{BTreeMap, insert_entry, get, keys}
+use Rattle.std.proofs.Common.{◌≡◌, ℕ, ◌==◌, Bool, true, false, cond, List, [], ◌∷◌, map, Option, Some, None, refl, sym, ap, ◌∙◌}
+use Rattle.std.specs.BTreeMap.{BTreeMap, insert_entry, keys}
 use Rattle.std.specs.BTreeSet.{insert_key}
 use Rattle.std.specs.List.{fold}
 use Rattle.std.specs.Map.{keys_of}
-use Rattle.std.specs.Option.{option_map, option_or}
+use Rattle.std.specs.Option.{option_or}
 use Rattle.std.specs.Ordering.{match_ordering, nat_cmp}
 use Rattle.std.specs.declared.cmp.Ordering.{Ordering}
 use Rattle.std.specs.declared.cmp.Ordering.TheVariants.{Less, Equal, Greater}
-use Rattle.answer_text.specs.type_chunks.Row.{RowOf, row_of}
+use Rattle.answer_text.specs.type_chunks.Row.{RowOf}
 use Rattle.answer_text.specs.type_chunks.declared.row.Row.{Row}
 use Rattle.table_commands.specs.FirstRows.{rising, first_row}
 use Rattle.table_commands.specs.FirstRowsSeen.{row_at, row_for}

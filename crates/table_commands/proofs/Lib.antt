@@ -3,3 +3,7 @@ pub mod LoopSteps
 pub mod FirstRowSteps
 pub mod CarriedSteps
 pub mod PairSteps
+pub mod MapJson
+pub mod RisingSteps
+pub mod MapReadSteps
+pub mod NamedSteps

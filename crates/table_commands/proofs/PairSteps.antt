@@ -1,5 +1,5 @@
 -- How a loop writes one pair after the other.
-use Rattle.std.proofs.Common.{◌≡◌, ℕ, ◌+◌, ◌<◌, List, Option, ap, length, drop, get_or}
+use Rattle.std.proofs.Common.{ℕ, ◌+◌, ◌<◌, List, Option, ap, length, drop, get_or}
 use Rattle.std.specs.Io.KnownBytes.{Appends}
 use Rattle.std.proofs.lemmas.List.{drop_more}
 use Rattle.contract_words.proofs.TextSteps.{PutsAllBut, PutsAllBut-next}

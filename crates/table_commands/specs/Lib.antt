@@ -5,6 +5,7 @@ pub mod FirstRowsSeen
 pub mod MadeMap
 pub mod CarriedSeen
 pub mod PairSeen
+pub mod NamedTarget
 pub mod AstraySeen
 pub mod MapOutput
 pub use Rattle.answer_text.specs as answer_text

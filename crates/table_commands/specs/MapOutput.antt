@@ -4,7 +4,7 @@ use Rattle.std.specs.Io.KnownBytes.{Appends}
 use Rattle.std.specs.List.{flat_map}
 use Rattle.contract_words.specs.Faults.{◌>>=◌}
 use Rattle.answer_text.specs.DumpText.{names_text}
-use Rattle.answer_text.specs.overlay_map.IdMap.{MapOf}
+use Rattle.answer_text.specs.overlay_map.IdMap.{MapOf, map_in}
 use Rattle.answer_text.specs.res_value.ResId.{id_text}
 use Rattle.answer_text.specs.resource_table.Table.{TableOf}
 use Rattle.answer_text.specs.type_chunks.Row.{RowOf}
@@ -30,6 +30,10 @@ next_pair_text pair = codes "," ++ 10 ∷ codes " " ++ pair_text pair
 unfoldable pub map_text : MapOf → List ℕ
 map_text [] = codes "[]" ++ 10 ∷ []
 map_text (first ∷ others) = codes "[" ++ pair_text first ++ flat_map next_pair_text others ++ codes "]" ++ 10 ∷ []
+
+-- the map that is read of this text is the one that it was written for
+abbrev pub ReadsBack : MapOf → Type 0
+ReadsBack made = map_in (map_text made) ≡ Ok made
 
 -- ---- what is left out, and what goes astray
 

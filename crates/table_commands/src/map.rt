@@ -1,6 +1,6 @@
 //! The command `map`.
 
-ghost use Rattle.std.specs.Prelude.{◌≡◌, map, Ok};
+ghost use Rattle.std.specs.Prelude.{◌≡◌, map, Ok, OnOk};
 ghost use Rattle.contract_words.specs.Exact.{GivesOr};
 ghost use Rattle.answer_text.specs.type_chunks.Row.{row_of};
 ghost use Rattle.command_base.specs.Output.{IsOfInput};
@@ -8,7 +8,7 @@ ghost use Rattle.command_base.specs.StackBytes.{table_of_layer};
 ghost use Rattle.command_base.specs.fault_text.declared.fault.ToolFault.TheVariants.{OutOfMemory};
 ghost use Rattle.table_commands.specs.AstraySeen.{astray_of};
 ghost use Rattle.table_commands.specs.MadeMap.{made_map};
-ghost use Rattle.table_commands.specs.MapOutput.{PrintsBoth, map_output, output_of_map, status_of_map};
+ghost use Rattle.table_commands.specs.MapOutput.{PrintsBoth, ReadsBack, map_output, output_of_map, status_of_map};
 
 use crate::astray::{Astray, astray_references};
 use crate::carried::Carried;
@@ -57,7 +57,8 @@ fn print_map<W: Write + Drop, E: Write + Drop>(
     out: &mut W,
     errors: &mut E,
 ) -> Result<Status, ToolFault>
-    ensures { PrintsBoth W.contents E.contents out.old out.new errors.old errors.new result (Ok (output_of_map overlay.now (made_map target.now overlay.now))) }
+    ensures prints { PrintsBoth W.contents E.contents out.old out.new errors.old errors.new result (Ok (output_of_map overlay.now (made_map target.now overlay.now))) }
+    ensures reads_back { OnOk result (ReadsBack (made_map target.now overlay.now)) }
 {
     let pairs = made_pairs(alloc, target, overlay)?;
     let first = FirstRows::new(alloc, overlay)?;

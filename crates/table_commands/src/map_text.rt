@@ -1,14 +1,14 @@
 //! What is printed of an id map.
 
-ghost use Rattle.std.specs.Prelude.{map};
-ghost use Rattle.std.specs.List.{flat_map};
+ghost use Rattle.std.specs.Prelude.{map, OnOk};
+ghost use Rattle.std.specs.List.{All, flat_map};
 ghost use Rattle.contract_words.specs.Writes.{Writes};
 ghost use Rattle.answer_text.specs.DumpText.{names_text};
 ghost use Rattle.answer_text.specs.overlay_map.IdMap.{pairs_of};
 ghost use Rattle.answer_text.specs.type_chunks.Row.{row_of};
 ghost use Rattle.table_commands.specs.AstraySeen.{astray_of};
 ghost use Rattle.table_commands.specs.MapOutput.{pair_text, next_pair_text, map_text, named_text, unmapped_line, astray_line, left_lines};
-ghost use Rattle.table_commands.specs.PairSeen.{pair_seen};
+ghost use Rattle.table_commands.specs.PairSeen.{IdsReadBack, pair_seen};
 
 use crate::astray::Astray;
 use answer_text::{ResId, Row, Table, write_id, write_string};
@@ -17,7 +17,8 @@ use std::io::{self, Write};
 /// Writes a map as a JSON list, with a line for each pair.
 #[tactic(auto, unfolding(crate::specs::MapOutput::map_text))]
 pub(crate) fn write_map<W: Write + Drop>(pairs: &[(ResId, ResId)], out: &mut W) -> io::Result<()>
-    ensures { Writes W.contents out.old out.new result (map_text (pairs_of pairs.now)) }
+    ensures text { Writes W.contents out.old out.new result (map_text (pairs_of pairs.now)) }
+    ensures reads_back { OnOk result (All IdsReadBack pairs.now) }
 {
     let Some((first, others)) = pairs.split_first() else {
         return out.write_all(b"[]\n");
@@ -30,7 +31,8 @@ pub(crate) fn write_map<W: Write + Drop>(pairs: &[(ResId, ResId)], out: &mut W) 
 
 #[tactic(auto, using(contract_words::proofs::TextSteps::puts_slice))]
 fn write_others<W: Write + Drop>(pairs: &[(ResId, ResId)], out: &mut W) -> io::Result<()>
-    ensures { Writes W.contents out.old out.new result (flat_map next_pair_text (pairs_of pairs.now)) }
+    ensures text { Writes W.contents out.old out.new result (flat_map next_pair_text (pairs_of pairs.now)) }
+    ensures reads_back { OnOk result (All IdsReadBack pairs.now) }
 {
     for pair in pairs {
         write_next_pair(*pair, out)?;
@@ -40,7 +42,8 @@ fn write_others<W: Write + Drop>(pairs: &[(ResId, ResId)], out: &mut W) -> io::R
 
 #[tactic(auto, unfolding(crate::specs::MapOutput::next_pair_text))]
 fn write_next_pair<W: Write + Drop>(pair: (ResId, ResId), out: &mut W) -> io::Result<()>
-    ensures { Writes W.contents out.old out.new result (next_pair_text (pair_seen pair)) }
+    ensures text { Writes W.contents out.old out.new result (next_pair_text (pair_seen pair)) }
+    ensures reads_back { OnOk result (IdsReadBack pair) }
 {
     out.write_all(b",\n ")?;
     write_pair(pair, out)
@@ -48,7 +51,8 @@ fn write_next_pair<W: Write + Drop>(pair: (ResId, ResId), out: &mut W) -> io::Re
 
 #[tactic(auto, unfolding(crate::specs::MapOutput::pair_text))]
 fn write_pair<W: Write + Drop>(pair: (ResId, ResId), out: &mut W) -> io::Result<()>
-    ensures { Writes W.contents out.old out.new result (pair_text (pair_seen pair)) }
+    ensures text { Writes W.contents out.old out.new result (pair_text (pair_seen pair)) }
+    ensures reads_back { OnOk result (IdsReadBack pair) }
 {
     let (target, own) = pair;
     out.write_all(b"[\"")?;

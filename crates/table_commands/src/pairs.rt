@@ -1,16 +1,21 @@
 //! The pairs of an id map, made from names.
 
-ghost use Rattle.std.specs.Prelude.{◌≡◌, IfOk};
-ghost use Rattle.std.specs.Option.{option_map};
+ghost use Rattle.std.specs.Prelude.{◌≡◌, ◌++◌, length, map, IfOk, OnOk};
+ghost use Rattle.std.specs.List.{flat_map};
 ghost use Rattle.answer_text.specs.overlay_map.IdMap.{pairs_of};
-ghost use Rattle.table_commands.specs.PairSeen.{pair_seen};
+ghost use Rattle.answer_text.specs.resource_table.Table.{rows_of};
 ghost use Rattle.answer_text.specs.type_chunks.Row.{row_of};
-ghost use Rattle.table_commands.specs.MadeMap.{own_of, pair_of, pairs_in, made_map};
+ghost use Rattle.name_index.specs.Names.{name_of};
+ghost use Rattle.table_commands.specs.FirstRows.{first_rows};
+ghost use Rattle.table_commands.specs.MadeMap.{pairs_in, made_map};
+ghost use Rattle.table_commands.specs.NamedTarget.{named_in, named_seen, own_seen, pairs_with};
 
 use crate::first_rows::FirstRows;
 use crate::name_text::name_text;
 use answer_text::{ResId, Row, Table};
+use name_index::{Name, find_names};
 use std::alloc::{AllocError, Global};
+use std::slice;
 
 /// The pairs of the id map of an overlay, in the order of the targets.
 #[tactic(auto, unfolding(crate::specs::MadeMap::made_map))]
@@ -27,7 +32,7 @@ pub(crate) fn made_pairs(
     }
 }
 
-// The pairs of all ids of a package of the target.
+// The pairs of all ids of a package of the target. One walk over the overlay finds all names.
 fn pairs_in(
     alloc: Global,
     target: &Table<'_>,
@@ -36,52 +41,95 @@ fn pairs_in(
 ) -> Result<Vec<(ResId, ResId)>, AllocError>
     ensures { IfOk result (λ pairs. pairs_of pairs.items ≡ pairs_in target.now overlay.now package_id) }
 {
+    let targets = named_targets(alloc, target, package_id)?;
+    let names = names_of(alloc, &targets)?;
+    let found = find_names(alloc, slice::from_ref(&overlay), &names)?;
+    found_pairs(alloc, &targets, &found)
+}
+
+/// An id of the target, with the names of its first row.
+#[derive(Debug, Drop)]
+struct NamedTarget {
+    id: ResId,
+    type_name: String,
+    entry_name: String,
+}
+
+// The ids of a package of the target, in their order. Those whose names are no text are left out.
+fn named_targets(
+    alloc: Global,
+    target: &Table<'_>,
+    package_id: u8,
+) -> Result<Vec<NamedTarget>, AllocError>
+    ensures { IfOk result (λ targets. map named_seen targets.items ≡ flat_map (named_in target.now package_id) (first_rows (rows_of target.now))) }
+{
     let first = FirstRows::new(alloc, target)?;
     let rows = first.in_order(alloc)?;
-    let mut pairs = Vec::new(alloc);
+    let mut targets = Vec::new(alloc);
     for row in &rows {
-        if let Some(pair) = pair_of(alloc, target, overlay, package_id, row)? {
-            pairs.push(pair)?;
+        push_named(alloc, target, package_id, row, &mut targets)?;
+    }
+    Ok(targets)
+}
+
+// Pushes the id of a row, if that is of this package and its names are text.
+#[tactic(auto, unfolding(crate::specs::NamedTarget::named_in))]
+fn push_named(
+    alloc: Global,
+    target: &Table<'_>,
+    package_id: u8,
+    row: &Row<'_>,
+    targets: &mut Vec<NamedTarget>,
+) -> Result<(), AllocError>
+    ensures { OnOk result (map named_seen targets.new.items ≡ map named_seen targets.old.items ++ named_in target.now package_id (row_of row.now)) }
+{
+    if row.id.package() != package_id {
+        return Ok(());
+    }
+    let Some(type_name) = name_text(alloc, target.type_name(row))? else {
+        return Ok(());
+    };
+    let Some(entry_name) = name_text(alloc, target.key_name(row))? else {
+        return Ok(());
+    };
+    let id = row.id;
+    targets.push(NamedTarget {
+        id,
+        type_name,
+        entry_name,
+    })?;
+    Ok(())
+}
+
+// The names, lent.
+fn names_of(alloc: Global, targets: &[NamedTarget]) -> Result<Vec<Name<'_>>, AllocError>
+    ensures { IfOk result (λ names. map name_of names.items ≡ map (λ named. (named_seen named).name) targets.now) }
+{
+    let mut names = Vec::with_capacity(alloc, targets.len())?;
+    for named in targets {
+        names.push(Name {
+            type_name: &named.type_name,
+            entry_name: &named.entry_name,
+        })?;
+    }
+    Ok(names)
+}
+
+// The pairs of the targets for which an id of the overlay was found.
+#[tactic(auto, using(crate::proofs::NamedSteps::found_steps))]
+fn found_pairs(
+    alloc: Global,
+    targets: &[NamedTarget],
+    found: &[Option<ResId>],
+) -> Result<Vec<(ResId, ResId)>, AllocError>
+    requires { length found.now ≡ length targets.now }
+    ensures { IfOk result (λ pairs. pairs_of pairs.items ≡ pairs_with (map named_seen targets.now) (map own_seen found.now)) }
+{
+    let mut pairs = Vec::new(alloc);
+    for (place, named) in targets.iter().enumerate() {
+        if let Some(own) = found[place] {
+            pairs.push((named.id, own))?;
         }
     }
     Ok(pairs)
-}
-
-// The pair of a row's id, if that is of this package and the overlay has such an id.
-#[tactic(auto, unfolding(crate::specs::MadeMap::pair_of))]
-fn pair_of(
-    alloc: Global,
-    target: &Table<'_>,
-    overlay: &Table<'_>,
-    package_id: u8,
-    row: &Row<'_>,
-) -> Result<Option<(ResId, ResId)>, AllocError>
-    ensures { IfOk result (λ pair. option_map pair_seen pair ≡ pair_of target.now overlay.now package_id (row_of row.now)) }
-{
-    if row.id.package() != package_id {
-        return Ok(None);
-    }
-    match own_of(alloc, target, overlay, row)? {
-        Some(own) => Ok(Some((row.id, own))),
-        None => Ok(None),
-    }
-}
-
-// The overlay's id that has the names of a row of the target.
-#[tactic(auto, unfolding(crate::specs::MadeMap::own_of))]
-fn own_of(
-    alloc: Global,
-    target: &Table<'_>,
-    overlay: &Table<'_>,
-    row: &Row<'_>,
-) -> Result<Option<ResId>, AllocError>
-    ensures { IfOk result (λ own. option_map (λ id. id.0) own ≡ own_of target.now overlay.now (row_of row.now)) }
-{
-    let Some(type_name) = name_text(alloc, target.type_name(row))? else {
-        return Ok(None);
-    };
-    let Some(key_name) = name_text(alloc, target.key_name(row))? else {
-        return Ok(None);
-    };
-    Ok(overlay.find(&type_name, &key_name))
 }

@@ -1,6 +1,6 @@
 -- A survey has the notes that were noted in it.
-use Rattle.std.proofs.Common.{◌≡◌, ◌≢◌, ℕ, ◌+◌, ◌-◌, ◌^◌, ◌<◌, ◌≤◌, Bool, true, false, cond, List, [], ◌∷◌, length, refl, sym, ap, ◌∙◌, arith, get_or, set, get_or-set_same, get_or-set_other}
-use Rattle.std.specs.Prelude.{◌==◌, ◌||◌, filter, min, replicate}
+use Rattle.std.proofs.Common.{◌≡◌, ◌≢◌, ℕ, ◌+◌, ◌-◌, ◌^◌, ◌<◌, ◌≤◌, Bool, true, false, cond, List, [], ◌∷◌, length, refl, sym, ap, ◌∙◌, arith, get_or, set, get_or-set_other}
+use Rattle.std.specs.Prelude.{◌==◌, ◌||◌, min}
 use Rattle.std.proofs.Math.Bool.{or-false, or_assoc}
 use Rattle.std.proofs.lemmas.Bool.{eqb-true, eq-eqb}
 use Rattle.std.proofs.lemmas.Bool.Decides.{nat_tests}
@@ -8,13 +8,14 @@ use Rattle.std.proofs.lemmas.Grind.{get_or-set_at}
 use Rattle.std.proofs.lemmas.List.{get_or-replicate, length-set}
 use Rattle.table_survey.specs.declared.finding.Finding.{Finding}
 use Rattle.table_survey.specs.declared.finding.Finding.TheVariants as findings
+use Rattle.table_survey.specs.declared.site.Site.{Site}
 use Rattle.table_survey.specs.declared.survey.Survey.{Survey}
 use Rattle.table_survey.specs.declared.survey.Tally.{Tally}
 use Rattle.table_survey.specs.Finding.{place_of, differs}
 use Rattle.table_survey.specs.Survey.{Note, no_tally, and_one_at, tally_in, nothing_found, with_note, noted}
 use Rattle.table_survey.specs.Counted.{notes_with, tally_of, some_differs, Counts}
 
-place_of-small : (finding : Finding) → place_of finding < 14
+place_of-small : (finding : Finding) → place_of finding < 15
 unfolding place_of
 place_of-small findings.ShortOffsets = omega arith
 place_of-small findings.TypeFlags = omega arith
@@ -30,30 +31,31 @@ place_of-small findings.DynamicReference = omega arith
 place_of-small findings.DynamicAttribute = omega arith
 place_of-small findings.SetAside = omega arith
 place_of-small findings.Locale = omega arith
+place_of-small findings.BoxLocale = omega arith
 
--- a tally with the places of notes more
+-- a tally with the sites of notes more
 abbrev tallied : Tally → List Note → Tally
 tallied tally [] = tally
-tallied tally (note ∷ notes) = tallied (and_one_at tally note.place) notes
+tallied tally (note ∷ notes) = tallied (and_one_at tally note.site) notes
 
 -- one note more counts for its finding alone
-step : (tallies : List Tally) (i j place : ℕ) (b : Bool) → i < length tallies → (i == j) ≡ b
-    → get_or (set tallies i (and_one_at (get_or tallies i no_tally) place)) j no_tally ≡ cond b (and_one_at (get_or tallies j no_tally) place) (get_or tallies j no_tally)
-step tallies i j place true below same =
+step : (tallies : List Tally) (i j : ℕ) (site : Site) (b : Bool) → i < length tallies → (i == j) ≡ b
+    → get_or (set tallies i (and_one_at (get_or tallies i no_tally) site)) j no_tally ≡ cond b (and_one_at (get_or tallies j no_tally) site) (get_or tallies j no_tally)
+step tallies i j site true below same =
     let e : j ≡ i = sym (eqb-true i j same) in
-    get_or-set_at tallies i j (and_one_at (get_or tallies i no_tally) place) no_tally e below
-    ∙ ap (λ (k : ℕ). and_one_at (get_or tallies k no_tally) place) (sym e)
-step tallies i j place false below same =
+    get_or-set_at tallies i j (and_one_at (get_or tallies i no_tally) site) no_tally e below
+    ∙ ap (λ (k : ℕ). and_one_at (get_or tallies k no_tally) site) (sym e)
+step tallies i j site false below same =
     let other : j ≢ i = λ e. absurd (let t : (i == j) ≡ true = eq-eqb i j (sym e) in cc) in
-    get_or-set_other tallies i j (and_one_at (get_or tallies i no_tally) place) no_tally other
+    get_or-set_other tallies i j (and_one_at (get_or tallies i no_tally) site) no_tally other
 
 -- the notes of a finding, with one note more in front
 front : (tally : Tally) (note : Note) (notes : List Note) (b : Bool)
-    → tallied (cond b (and_one_at tally note.place) tally) notes ≡ tallied tally (cond b (note ∷ notes) notes)
+    → tallied (cond b (and_one_at tally note.site) tally) notes ≡ tallied tally (cond b (note ∷ notes) notes)
 front tally note notes true = refl
 front tally note notes false = refl
 
-noted-tally : (survey : Survey) (notes : List Note) (finding : Finding) → length survey.tallies ≡ 14
+noted-tally : (survey : Survey) (notes : List Note) (finding : Finding) → length survey.tallies ≡ 15
     → tally_in (noted survey notes) finding ≡ tallied (tally_in survey finding) (notes_with finding notes)
 unfolding noted with_note
 noted-tally survey [] finding whole = refl
@@ -61,34 +63,34 @@ noted-tally survey (note ∷ notes) finding whole =
     let i = place_of note.finding in
     let j = place_of finding in
     let below : i < length survey.tallies = omega (arith, place_of-small note.finding, whole) in
-    let more : Survey = record { tallies = set survey.tallies i (and_one_at (get_or survey.tallies i no_tally) note.place); differs = survey.differs || differs note.finding } in
-    let still : length more.tallies ≡ 14 = length-set survey.tallies i (and_one_at (get_or survey.tallies i no_tally) note.place) ∙ whole in
+    let more : Survey = record { tallies = set survey.tallies i (and_one_at (get_or survey.tallies i no_tally) note.site); differs = survey.differs || differs note.finding } in
+    let still : length more.tallies ≡ 15 = length-set survey.tallies i (and_one_at (get_or survey.tallies i no_tally) note.site) ∙ whole in
     noted-tally more notes finding still
-    ∙ ap (λ (t : Tally). tallied t (notes_with finding notes)) (step survey.tallies i j note.place (i == j) below refl)
+    ∙ ap (λ (t : Tally). tallied t (notes_with finding notes)) (step survey.tallies i j note.site (i == j) below refl)
     ∙ front (tally_in survey finding) note (notes_with finding notes) (i == j)
 
--- places behind the first change the count alone
-counted : (notes : List Note) (count place : ℕ) → 0 < count → count ≤ 2 ^ 32 - 1
-    → tallied (record { count = count; first = place }) notes ≡ record { count = min (count + length notes) (2 ^ 32 - 1); first = place }
-counted [] count place some few =
+-- sites behind the first change the count alone
+counted : (notes : List Note) (count : ℕ) (site : Site) → 0 < count → count ≤ 2 ^ 32 - 1
+    → tallied (record { count = count; first = site }) notes ≡ record { count = min (count + length notes) (2 ^ 32 - 1); first = site }
+counted [] count site some few =
     let same : count ≡ min (count + length {A = Note} []) (2 ^ 32 - 1) = omega (arith, few) in
-    ap (λ (n : ℕ). record { count = n; first = place }) same
-counted (note ∷ notes) count place some few =
+    ap (λ (n : ℕ). record { count = n; first = site }) same
+counted (note ∷ notes) count site some few =
     let kept : (count == 0) ≡ false = grind (arith, nat_tests) in
     let n = min (count + 1) (2 ^ 32 - 1) in
     let total : min (n + length notes) (2 ^ 32 - 1) ≡ min (count + length {A = Note} (note ∷ notes)) (2 ^ 32 - 1) = omega (arith, few) in
-    rw kept (counted notes n place (omega (arith, some)) (omega arith) ∙ ap (λ (m : ℕ). record { count = m; first = place }) total)
+    rw kept (counted notes n site (omega (arith, some)) (omega arith) ∙ ap (λ (m : ℕ). record { count = m; first = site }) total)
 
 tallied-none : (notes : List Note) → tallied no_tally notes ≡ tally_of notes
 tallied-none [] = refl
 tallied-none (note ∷ notes) =
     let total : min (1 + length notes) (2 ^ 32 - 1) ≡ min (length (note ∷ notes)) (2 ^ 32 - 1) = omega arith in
-    counted notes 1 note.place (omega arith) (omega arith) ∙ ap (λ (n : ℕ). record { count = n; first = note.place }) total
+    counted notes 1 note.site (omega arith) (omega arith) ∙ ap (λ (n : ℕ). record { count = n; first = note.site }) total
 
 nothing-tally : (finding : Finding) → tally_in nothing_found finding ≡ no_tally
-nothing-tally finding = get_or-replicate 14 (place_of finding) no_tally no_tally (place_of-small finding)
+nothing-tally finding = get_or-replicate 15 (place_of finding) no_tally no_tally (place_of-small finding)
 
-noted-differs : (survey : Survey) (notes : List Note) → (noted survey notes).differs ≡ (survey.differs || some_differs notes)
+pub noted-differs : (survey : Survey) (notes : List Note) → (noted survey notes).differs ≡ (survey.differs || some_differs notes)
 unfolding noted with_note
 noted-differs survey [] = sym (or-false survey.differs)
 noted-differs survey (note ∷ notes) =

@@ -1,2 +1,3 @@
 pub mod SurveySteps
 pub mod CountedSteps
+pub mod DiffersSteps

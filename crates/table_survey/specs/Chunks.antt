@@ -1,5 +1,5 @@
 -- What the chunks of a table and of its packages have that a device may read otherwise.
-use Rattle.std.specs.Prelude.{ℕ, ◌==◌, ◌||◌, Bool, List, [], Result, Ok, Err, if◌then◌else◌}
+use Rattle.std.specs.Prelude.{ℕ, ◌==◌, ◌||◌, List, [], Result, Ok, Err, if◌then◌else◌}
 use Rattle.std.specs.List.{flat_map}
 use Rattle.chunk_walk.specs.Chunk.{ChunkOf, chunk_in}
 use Rattle.chunk_walk.specs.Chunks.{children_of}
@@ -14,8 +14,8 @@ notes_of_package_child (Err fault) = []
 notes_of_package_child (Ok chunk) =
     if chunk.kind == 0x0201 then notes_of_type chunk
     else if chunk.kind == 0x0001 || chunk.kind == 0x0202 then []
-    else if chunk.kind == 0x0203 then note_of Library chunk.place
     else if chunk.kind == 0x0204 then note_of Overlayable chunk.place
+    else if chunk.kind == 0x0203 then note_of Library chunk.place
     else if chunk.kind == 0x0206 then note_of StagedAlias chunk.place
     else note_of UnknownChunk chunk.place
 

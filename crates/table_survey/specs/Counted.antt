@@ -1,5 +1,5 @@
 -- What a survey has, told of the notes themselves.
-use Rattle.std.specs.Prelude.{◌≡◌, ℕ, ◌-◌, ◌^◌, ◌==◌, Bool, List, [], ◌∷◌, filter, length, min}
+use Rattle.std.specs.Prelude.{◌≡◌, ◌-◌, ◌^◌, ◌==◌, Bool, List, [], ◌∷◌, filter, length, min}
 use Rattle.std.specs.List.{list_any}
 use Rattle.table_survey.specs.declared.finding.Finding.{Finding}
 use Rattle.table_survey.specs.declared.survey.Survey.{Survey}
@@ -11,10 +11,10 @@ use Rattle.table_survey.specs.Survey.{Note, no_tally, tally_in}
 abbrev pub notes_with : Finding → List Note → List Note
 notes_with finding notes = filter (λ note. place_of note.finding == place_of finding) notes
 
--- how many notes these are, and the place of the first; 4294967295 are as many and more
+-- how many notes these are, and where the first is; 4294967295 are as many and more
 abbrev pub tally_of : List Note → Tally
 tally_of [] = no_tally
-tally_of (note ∷ notes) = record { count = min (length (note ∷ notes)) (2 ^ 32 - 1); first = note.place }
+tally_of (note ∷ notes) = record { count = min (length (note ∷ notes)) (2 ^ 32 - 1); first = note.site }
 
 -- an answer can differ from a device's by one of these notes
 abbrev pub some_differs : List Note → Bool

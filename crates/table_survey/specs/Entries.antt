@@ -1,12 +1,12 @@
 -- What entries have that a device may read otherwise (AOSP: ResTable_entry). They are found as newer devices
 -- find them, by offsets of 16 bits too.
-use Rattle.std.specs.Prelude.{ℕ, ◌+◌, ◌*◌, ◌-◌, ◌/◌, ◌%◌, ◌==◌, Bool, ◌&&◌, not, List, [], ◌++◌, slice_index, Option, Some, None, if◌then◌else◌}
+use Rattle.std.specs.Prelude.{ℕ, ◌+◌, ◌*◌, ◌/◌, ◌%◌, ◌==◌, Bool, ◌&&◌, not, List, [], ◌++◌, slice_index, Option, Some, None, if◌then◌else◌}
 use Rattle.std.specs.List.{range_with_len, flat_map}
 use Rattle.std.specs.Option.{option_and_then, option_map, unwrap_or}
 use Rattle.chunk_walk.specs.Number.{number_at}
 use Rattle.chunk_walk.specs.Chunk.{ChunkOf}
 use Rattle.table_survey.specs.declared.finding.Finding.TheVariants.{CompactEntry, EntryFlags}
-use Rattle.table_survey.specs.Survey.{Note, note_if}
+use Rattle.table_survey.specs.Survey.{Note, note_at_if}
 
 -- the flags of a type, at 9
 abbrev pub type_flags : ChunkOf → ℕ
@@ -49,7 +49,7 @@ has_other_flags flags = not (is_compact flags) && not (flags / 16 == 0)
 
 abbrev pub notes_of_entry_flags : ℕ → Option ℕ → List Note
 notes_of_entry_flags place None = []
-notes_of_entry_flags place (Some flags) = note_if (is_compact flags) CompactEntry place ++ note_if (has_other_flags flags) EntryFlags place
+notes_of_entry_flags place (Some flags) = note_at_if (is_compact flags) CompactEntry place ++ note_at_if (has_other_flags flags) EntryFlags place
 
 -- what the entry at a position has, at the place of its type
 unfoldable pub notes_of_entry : ChunkOf → ℕ → List Note

@@ -1,7 +1,7 @@
 -- What can be found, in its order.
 use Rattle.std.specs.Prelude.{ℕ, Bool, true, false, List, [], ◌∷◌, codes}
 use Rattle.table_survey.specs.declared.finding.Finding.{Finding}
-use Rattle.table_survey.specs.declared.finding.Finding.TheVariants.{ShortOffsets, TypeFlags, Gender, NewerQualifier, CompactEntry, EntryFlags, Library, Overlayable, StagedAlias, UnknownChunk, DynamicReference, DynamicAttribute, SetAside, Locale}
+use Rattle.table_survey.specs.declared.finding.Finding.TheVariants.{ShortOffsets, TypeFlags, Gender, NewerQualifier, CompactEntry, EntryFlags, Library, Overlayable, StagedAlias, UnknownChunk, DynamicReference, DynamicAttribute, SetAside, Locale, BoxLocale}
 
 -- the place of each
 unfoldable pub place_of : Finding → ℕ
@@ -19,12 +19,13 @@ place_of DynamicReference = 10
 place_of DynamicAttribute = 11
 place_of SetAside = 12
 place_of Locale = 13
+place_of BoxLocale = 14
 
 -- all of them, in this order
 unfoldable pub all_findings : List Finding
 all_findings =
     ShortOffsets ∷ TypeFlags ∷ Gender ∷ NewerQualifier ∷ CompactEntry ∷ EntryFlags ∷ Library ∷ Overlayable
-    ∷ StagedAlias ∷ UnknownChunk ∷ DynamicReference ∷ DynamicAttribute ∷ SetAside ∷ Locale
+    ∷ StagedAlias ∷ UnknownChunk ∷ DynamicReference ∷ DynamicAttribute ∷ SetAside ∷ Locale ∷ BoxLocale
     ∷ []
 
 -- the name that is printed
@@ -43,16 +44,12 @@ name_of DynamicReference = codes "dynamic-reference"
 name_of DynamicAttribute = codes "dynamic-attribute"
 name_of SetAside = codes "set-aside"
 name_of Locale = codes "locale"
+name_of BoxLocale = codes "box-locale"
 
--- An answer can differ from a device's by each but one: which resources may be overlaid is a matter of the id map.
+-- An answer can differ from a device's by each but three: which resources may be overlaid is a matter of the id map, and
+-- whether a locale of some device makes a difference is not known without a box.
 unfoldable pub differs : Finding → Bool
 differs Overlayable = false
+differs SetAside = false
+differs Locale = false
 differs finding = true
-
--- what is found in rows, and has an id for its place
-unfoldable pub is_of_row : Finding → Bool
-is_of_row DynamicReference = true
-is_of_row DynamicAttribute = true
-is_of_row SetAside = true
-is_of_row Locale = true
-is_of_row finding = false

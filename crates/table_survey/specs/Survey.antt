@@ -1,42 +1,48 @@
 -- What was found: notes, and how they are counted.
 use Rattle.std.specs.Prelude.{ℕ, ◌+◌, ◌-◌, ◌^◌, ◌==◌, Bool, false, ◌||◌, List, [], ◌∷◌, min, slice_index_or, slice_set, replicate, if◌then◌else◌}
 use Rattle.table_survey.specs.declared.finding.Finding.{Finding}
+use Rattle.table_survey.specs.declared.site.Site.{Site}
+use Rattle.table_survey.specs.declared.site.Site.TheVariants.{Chunk}
 use Rattle.table_survey.specs.declared.survey.Survey.{Survey}
 use Rattle.table_survey.specs.declared.survey.Tally.{Tally}
 use Rattle.table_survey.specs.Finding.{place_of, differs}
 
--- A finding, and where it is: a place in the file, or the id of a row.
+-- A finding, and where it is.
 pub record Note : Type 0 where
   pub finding : Finding
-  pub place : ℕ
+  pub site : Site
 
 -- a note, where something was found
-abbrev pub note_if : Bool → Finding → ℕ → List Note
-note_if found finding place = if found then record { finding = finding; place = place } ∷ [] else []
+abbrev pub note_if : Bool → Finding → Site → List Note
+note_if found finding site = if found then record { finding = finding; site = site } ∷ [] else []
 
--- a note, whatever was found before
+-- a note of a chunk at a place, where something was found
+abbrev pub note_at_if : Bool → Finding → ℕ → List Note
+note_at_if found finding place = note_if found finding (Chunk place)
+
+-- a note of a chunk at a place, whatever was found before
 abbrev pub note_of : Finding → ℕ → List Note
-note_of finding place = record { finding = finding; place = place } ∷ []
+note_of finding place = record { finding = finding; site = Chunk place } ∷ []
 
 -- none of something
 abbrev pub no_tally : Tally
-no_tally = record { count = 0; first = 0 }
+no_tally = record { count = 0; first = Chunk 0 }
 
 -- one more of something; 4294967295 are as many and more
-abbrev pub and_one_at : Tally → ℕ → Tally
-and_one_at tally place = record { count = min (tally.count + 1) (2 ^ 32 - 1); first = if tally.count == 0 then place else tally.first }
+abbrev pub and_one_at : Tally → Site → Tally
+and_one_at tally site = record { count = min (tally.count + 1) (2 ^ 32 - 1); first = if tally.count == 0 then site else tally.first }
 
 -- what was found of a kind
 abbrev pub tally_in : Survey → Finding → Tally
 tally_in survey finding = slice_index_or survey.tallies (place_of finding) no_tally
 
 abbrev pub nothing_found : Survey
-nothing_found = record { tallies = replicate 14 no_tally; differs = false }
+nothing_found = record { tallies = replicate 15 no_tally; differs = false }
 
 -- with one note more
 unfoldable pub with_note : Survey → Note → Survey
 with_note survey note = record {
-  tallies = slice_set survey.tallies (place_of note.finding) (and_one_at (tally_in survey note.finding) note.place);
+  tallies = slice_set survey.tallies (place_of note.finding) (and_one_at (tally_in survey note.finding) note.site);
   differs = survey.differs || differs note.finding;
 }
 

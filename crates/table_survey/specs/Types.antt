@@ -1,10 +1,10 @@
 -- What types have that a device may read otherwise (AOSP: ResTable_type): flags, and configurations.
-use Rattle.std.specs.Prelude.{ℕ, ◌/◌, ◌%◌, ◌==◌, Bool, not, List, [], ◌++◌, take, drop, slice_index, Option, Some, None}
+use Rattle.std.specs.Prelude.{ℕ, ◌/◌, ◌==◌, Bool, not, List, [], ◌++◌, take, drop, slice_index, Option, Some, None}
 use Rattle.std.specs.List.{list_all}
 use Rattle.chunk_walk.specs.Number.{number_at}
 use Rattle.chunk_walk.specs.Chunk.{ChunkOf}
 use Rattle.table_survey.specs.declared.finding.Finding.TheVariants.{ShortOffsets, TypeFlags, Gender, NewerQualifier}
-use Rattle.table_survey.specs.Survey.{Note, note_if}
+use Rattle.table_survey.specs.Survey.{Note, note_at_if}
 use Rattle.table_survey.specs.Entries.{type_flags, has_short_offsets, notes_of_entries}
 
 -- flags behind the two that say where entries stand
@@ -12,7 +12,7 @@ abbrev pub has_other_flags : ChunkOf → Bool
 has_other_flags chunk = not (type_flags chunk / 4 == 0)
 
 unfoldable pub notes_of_flags : ChunkOf → List Note
-notes_of_flags chunk = note_if (has_short_offsets chunk) ShortOffsets chunk.place ++ note_if (has_other_flags chunk) TypeFlags chunk.place
+notes_of_flags chunk = note_at_if (has_short_offsets chunk) ShortOffsets chunk.place ++ note_at_if (has_other_flags chunk) TypeFlags chunk.place
 
 -- as many bytes of a configuration as its size says
 abbrev pub config_sized : ChunkOf → Option ℕ → List ℕ
@@ -35,7 +35,7 @@ abbrev pub has_newer : List ℕ → Bool
 has_newer config = not (is_zero (drop 53 config))
 
 unfoldable pub notes_of_config : ChunkOf → List Note
-notes_of_config chunk = note_if (has_gender (config_of chunk)) Gender chunk.place ++ note_if (has_newer (config_of chunk)) NewerQualifier chunk.place
+notes_of_config chunk = note_at_if (has_gender (config_of chunk)) Gender chunk.place ++ note_at_if (has_newer (config_of chunk)) NewerQualifier chunk.place
 
 -- what a type has
 unfoldable pub notes_of_type : ChunkOf → List Note

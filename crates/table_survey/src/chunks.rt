@@ -1,19 +1,29 @@
 //! The chunks of a table and of its packages.
 
-ghost use Rattle.std.specs.Prelude.{◌≡◌};
+ghost use Rattle.std.specs.Prelude.{◌≡◌, ◌||◌};
 ghost use Rattle.chunk_walk.specs.Chunk.{chunk_of, seen};
 ghost use Rattle.table_survey.specs.Survey.{noted};
 ghost use Rattle.table_survey.specs.Chunks.{notes_of_chunks, notes_of_table, notes_of_child, notes_of_package, notes_of_package_child};
+ghost use Rattle.table_survey.specs.Differs.{table_differs};
 
 use crate::finding::Finding;
 use crate::layout::{LEAST_TABLE_HEADER, kind};
+use crate::site::Site;
 use crate::survey::Survey;
 use chunk_walk::{Chunk, ChunkFault, chunk_at};
 
 impl Survey {
     /// Adds what the chunks of a table have.
-    #[tactic(auto, using(crate::proofs::SurveySteps::noted_steps), unfolding(crate::specs::Chunks::notes_of_chunks))]
+    #[tactic(auto, using(crate::proofs::DiffersSteps::differs_steps))]
     pub fn add_chunks(&mut self, bytes: &[u8])
+        ensures notes { self.new ≡ noted self.old (notes_of_chunks bytes.now) }
+        ensures differs { self.new.differs ≡ (self.old.differs || table_differs bytes.now) }
+    {
+        self.add_table(bytes);
+    }
+
+    #[tactic(auto, using(crate::proofs::SurveySteps::noted_steps), unfolding(crate::specs::Chunks::notes_of_chunks))]
+    fn add_table(&mut self, bytes: &[u8])
         ensures { self.new ≡ noted self.old (notes_of_chunks bytes.now) }
     {
         if let Ok(table) = chunk_at(bytes, 0, LEAST_TABLE_HEADER) {
@@ -39,7 +49,7 @@ impl Survey {
         match child.kind {
             kind::PACKAGE => self.add_package(&child),
             kind::POOL => {}
-            _ => self.note_if(true, Finding::UnknownChunk, child.place),
+            _ => self.note_if(true, Finding::UnknownChunk, Site::Chunk(child.place)),
         }
     }
 
@@ -61,10 +71,14 @@ impl Survey {
         match child.kind {
             kind::TYPE => self.add_type(&child),
             kind::POOL | kind::TYPE_SPEC => {}
-            kind::LIBRARY => self.note_if(true, Finding::Library, child.place),
-            kind::OVERLAYABLE => self.note_if(true, Finding::Overlayable, child.place),
-            kind::STAGED_ALIAS => self.note_if(true, Finding::StagedAlias, child.place),
-            _ => self.note_if(true, Finding::UnknownChunk, child.place),
+            kind::OVERLAYABLE => self.note_if(true, Finding::Overlayable, Site::Chunk(child.place)),
+            kind::LIBRARY => self.note_if(true, Finding::Library, Site::Chunk(child.place)),
+            kind::STAGED_ALIAS => self.note_if(
+                true,
+                Finding::StagedAlias,
+                Site::Chunk(child.place),
+            ),
+            _ => self.note_if(true, Finding::UnknownChunk, Site::Chunk(child.place)),
         }
     }
 }

@@ -7,6 +7,7 @@ ghost use Rattle.table_survey.specs.Entries.{offset_at, entry_flags, notes_of_en
 
 use crate::finding::Finding;
 use crate::layout::{entry, type_header};
+use crate::site::Site;
 use crate::survey::Survey;
 use crate::types::{has_short_offsets, is_sparse};
 use chunk_walk::{Chunk, u16_at, u32_at};
@@ -83,7 +84,15 @@ impl Survey {
         let Some(flags) = entry_flags(chunk, position) else {
             return;
         };
-        self.note_if(is_compact(flags), Finding::CompactEntry, chunk.place);
-        self.note_if(has_other_flags(flags), Finding::EntryFlags, chunk.place);
+        self.note_if(
+            is_compact(flags),
+            Finding::CompactEntry,
+            Site::Chunk(chunk.place),
+        );
+        self.note_if(
+            has_other_flags(flags),
+            Finding::EntryFlags,
+            Site::Chunk(chunk.place),
+        );
     }
 }

@@ -1,10 +1,10 @@
 //! What can be found.
 
 ghost use Rattle.std.specs.Prelude.{◌≡◌, ◌<◌};
-ghost use Rattle.table_survey.specs.Finding.{place_of, name_of, differs, is_of_row};
+ghost use Rattle.table_survey.specs.Finding.{place_of, name_of, differs};
 
 /// How many kinds of findings there are.
-pub const FINDING_COUNT: usize = 14;
+pub const FINDING_COUNT: usize = 15;
 
 /// What a table can have that is read otherwise than a device may read it.
 #[derive(Clone, Copy, Debug, PartialEq, Eq)]
@@ -35,8 +35,10 @@ pub enum Finding {
     DynamicAttribute,
     /// A row that is set aside, for its script or its variant.
     SetAside,
-    /// A row with a region, or in a language of two names.
+    /// A row that AOSP matches with other locales.
     Locale,
+    /// The same, where such a locale is one of the box.
+    BoxLocale,
 }
 
 impl Finding {
@@ -56,13 +58,14 @@ impl Finding {
         Finding::DynamicAttribute,
         Finding::SetAside,
         Finding::Locale,
+        Finding::BoxLocale,
     ];
 
     /// The place in `ALL`.
     #[tactic(auto, unfolding(crate::specs::Finding::place_of))]
     pub fn place(self) -> usize
         ensures value { result ≡ place_of self }
-        ensures within { result < 14 }
+        ensures within { result < 15 }
     {
         self as usize
     }
@@ -87,31 +90,19 @@ impl Finding {
             Finding::DynamicAttribute => "dynamic-attribute",
             Finding::SetAside => "set-aside",
             Finding::Locale => "locale",
+            Finding::BoxLocale => "box-locale",
         }
     }
 
-    /// Whether an answer can differ from a device's. Which resources may be overlaid is a matter of the id map.
+    /// Whether an answer can differ from a device's. Which resources may be overlaid is a matter of the id map; whether
+    /// a locale of some device makes a difference is not known without a box.
     #[tactic(auto, unfolding(crate::specs::Finding::differs))]
     pub fn differs(self) -> bool
         ensures { result ≡ differs self }
     {
         match self {
-            Finding::Overlayable => false,
+            Finding::Overlayable | Finding::SetAside | Finding::Locale => false,
             _ => true,
-        }
-    }
-
-    /// Whether it is of a row, so that its place is an id.
-    #[tactic(auto, unfolding(crate::specs::Finding::is_of_row))]
-    pub fn is_of_row(self) -> bool
-        ensures { result ≡ is_of_row self }
-    {
-        match self {
-            Finding::DynamicReference
-            | Finding::DynamicAttribute
-            | Finding::SetAside
-            | Finding::Locale => true,
-            _ => false,
         }
     }
 }

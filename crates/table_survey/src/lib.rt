@@ -7,7 +7,7 @@
 //! let mut survey = Survey::none();
 //! survey.add_chunks(&bytes);
 //! if survey.count(Finding::CompactEntry) > 0 {
-//!     println!(rt; "compact entries at {}", survey.first(Finding::CompactEntry))?;
+//!     println!(rt; "compact entries: {}", survey.count(Finding::CompactEntry))?;
 //! }
 //! ```
 #![tactic(auto)]
@@ -16,8 +16,10 @@ mod chunks;
 mod entries;
 mod finding;
 mod layout;
+mod site;
 mod survey;
 mod types;
 
 pub use finding::{FINDING_COUNT, Finding};
+pub use site::Site;
 pub use survey::Survey;

@@ -4,22 +4,26 @@ ghost use Rattle.std.specs.Prelude.{◌≡◌};
 ghost use Rattle.table_survey.specs.Survey.{nothing_found, tally_in, and_one_at, noted, note_if};
 
 use crate::finding::{FINDING_COUNT, Finding};
+use crate::site::Site;
 
 /// How many of something there are, and where the first is.
 #[derive(Clone, Copy, Debug, PartialEq, Eq)]
 pub(crate) struct Tally {
     pub count: u32,
-    pub first: usize,
+    pub first: Site,
 }
 
 impl Tally {
-    const NONE: Tally = Tally { count: 0, first: 0 };
+    const NONE: Tally = Tally {
+        count: 0,
+        first: Site::Chunk(0),
+    };
 
-    // With one more of it at a place. More than 4294967295 are not counted.
-    fn and_one_at(self, place: usize) -> Tally
-        ensures { result ≡ and_one_at self place }
+    // With one more of it. More than 4294967295 are not counted.
+    fn and_one_at(self, site: Site) -> Tally
+        ensures { result ≡ and_one_at self site }
     {
-        let first = if self.count == 0 { place } else { self.first };
+        let first = if self.count == 0 { site } else { self.first };
         Tally {
             count: self.count.saturating_add(1),
             first,
@@ -52,8 +56,8 @@ impl Survey {
         self.tallies[finding.place()].count
     }
 
-    /// Where the first is; 0 where there is none.
-    pub fn first(&self, finding: Finding) -> usize
+    /// Where the first is; at a chunk at 0 where there is none.
+    pub fn first(&self, finding: Finding) -> Site
         ensures { result ≡ (tally_in self.now finding).first }
     {
         self.tallies[finding.place()].first
@@ -66,14 +70,14 @@ impl Survey {
         self.differs
     }
 
-    /// Notes a finding at a place, where it was found.
+    /// Notes a finding, where it was found.
     #[tactic(auto, unfolding(crate::specs::Survey::noted, crate::specs::Survey::with_note))]
-    pub fn note_if(&mut self, found: bool, finding: Finding, place: usize)
-        ensures { self.new ≡ noted self.old (note_if found finding place) }
+    pub fn note_if(&mut self, found: bool, finding: Finding, site: Site)
+        ensures { self.new ≡ noted self.old (note_if found finding site) }
     {
         if found {
             let index = finding.place();
-            self.tallies[index] = self.tallies[index].and_one_at(place);
+            self.tallies[index] = self.tallies[index].and_one_at(site);
             self.differs |= finding.differs();
         }
     }

@@ -8,6 +8,7 @@ ghost use Rattle.table_survey.specs.Types.{config_of, notes_of_flags, notes_of_c
 
 use crate::finding::Finding;
 use crate::layout::{config, type_header};
+use crate::site::Site;
 use crate::survey::Survey;
 use chunk_walk::{Chunk, u32_at};
 
@@ -91,8 +92,16 @@ impl Survey {
     fn add_flags(&mut self, chunk: &Chunk<'_>)
         ensures { self.new ≡ noted self.old (notes_of_flags (chunk_of chunk.now)) }
     {
-        self.note_if(has_short_offsets(chunk), Finding::ShortOffsets, chunk.place);
-        self.note_if(has_other_flags(chunk), Finding::TypeFlags, chunk.place);
+        self.note_if(
+            has_short_offsets(chunk),
+            Finding::ShortOffsets,
+            Site::Chunk(chunk.place),
+        );
+        self.note_if(
+            has_other_flags(chunk),
+            Finding::TypeFlags,
+            Site::Chunk(chunk.place),
+        );
     }
 
     #[tactic(auto, using(crate::proofs::SurveySteps::noted_steps), unfolding(crate::specs::Types::notes_of_config))]
@@ -100,7 +109,15 @@ impl Survey {
         ensures { self.new ≡ noted self.old (notes_of_config (chunk_of chunk.now)) }
     {
         let config = config_of(chunk);
-        self.note_if(has_gender(config), Finding::Gender, chunk.place);
-        self.note_if(has_newer(config), Finding::NewerQualifier, chunk.place);
+        self.note_if(
+            has_gender(config),
+            Finding::Gender,
+            Site::Chunk(chunk.place),
+        );
+        self.note_if(
+            has_newer(config),
+            Finding::NewerQualifier,
+            Site::Chunk(chunk.place),
+        );
     }
 }

@@ -31,8 +31,20 @@ const PLAIN: Order<'static> = Order {
     max_nodes: 10,
 };
 
+/// Two languages have a value by night, on Android 11.
+const BY_SHARED_CONDITIONS: Order<'static> = Order {
+    rows: "0 [] 1\n0 [locale=de,night=2,sdk=30] 2\n0 [locale=fr,night=2,sdk=30] 3",
+    members: r#"{"density":[160],"locale":["de","fr","it"],"night":[1,2],"sdk":{"from":26,"to":30}}"#,
+    goals: &[FIRST_GOAL],
+    max_nodes: 9,
+};
+
 /// What is asked, and what a check prints of the certificate that is made.
-const ACCEPTED: [(Order, &str); 8] = [
+const ACCEPTED: [(Order, &str); 9] = [
+    (
+        BY_SHARED_CONDITIONS,
+        "accepted goals 1 nodes 9\nset-aside 0\n",
+    ),
     (BY_LOCALE, "accepted goals 1 nodes 3\nset-aside 0\n"),
     (
         Order {

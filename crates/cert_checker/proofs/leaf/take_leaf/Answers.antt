@@ -17,7 +17,7 @@ returns-in-Mixed c = λ trace reached.
     let part = c.args.part.members in
     let common = subst (λ (k : CommonTrace). IsCommonTrace k part trace) c.in-Mixed.is (c.in_ok-parting.ensures.common trace reached) in
     let pair = c.in-Mixed.parting.pair in
-    two_traces trace c.args.claimed part (answer_of c.in-Mixed.parting) pair.yes pair.no pair.coord common.separates common.divides common.trace_tells
+    two_traces trace c.args.claimed part (answer_of c.in-Mixed.parting) pair.yes pair.no pair.coord common.told.separates common.divides common.told.trace_tells
 
 pub returns-in-One : goal.returns-in-One
 returns-in-One c = λ trace reached.

@@ -1,4 +1,4 @@
-use Rattle.std.proofs.Common.{ℕ, List, map, arith, sym, ap, subst}
+use Rattle.std.proofs.Common.{ℕ, List, map, arith, ◌∙◌, ap, subst}
 use Rattle.cert_checker.specs.config_record.DeviceSeen.{device_numbers}
 use Rattle.cert_checker.specs.overlay_map.Layer.{most_layers}
 use Rattle.cert_checker.specs.reference_resolver.Trace.{Trace}
@@ -6,11 +6,10 @@ use Rattle.cert_checker.specs.box_answers.NumberSet.{SetOf}
 use Rattle.cert_checker.specs.box_answers.Members.{IsCorner}
 use Rattle.cert_checker.specs.box_trace.declared.common.CommonTrace.{CommonTrace}
 use Rattle.cert_checker.specs.box_trace.CommonTrace.{IsCommonTrace}
-use Rattle.cert_checker.specs.box_trace.Parting.{IsParting}
 use Rattle.cert_checker.specs.box_trace.OpenBox.{boxes_of}
 use Rattle.cert_checker.specs.cert_tree.Certificate.{node_of}
 use Rattle.cert_checker.specs.FirstFault.{goal_trace}
-use Rattle.cert_checker.proofs.box_trace.OpenBoxes.{rest_of, reached_there}
+use Rattle.cert_checker.proofs.box_trace.OpenBoxes.{rest_of, reached_there, told_in_place}
 use Rattle.cert_maker.specs.Growth.{Grows}
 use Rattle.cert_maker.proofs.GoalLayers.{goal-below}
 use Rattle.cert_maker.proofs.Steps.{grows-leaf, map-push}
@@ -44,25 +43,32 @@ returns-in-One-clause-counterexample c = λ trace reached.
 
 pub parting_test-requires : goal.parting_test-requires
 parting_test-requires c =
-    let part = c.args.part.members in
-    let rest : List ℕ → Trace = rest_of c.args.stack.now c.args.part.walk in
-    let parted = subst (λ (k : CommonTrace). IsCommonTrace k part rest) c.in-Mixed.is (c.in_ok-end.ensures.common rest (reached_there c.args.stack.now c.args.part)) in
-    (subst (λ (sets : List SetOf). IsParting c.in-Mixed.parting sets rest) (sym c.in_ok-end.ensures.members) parted).separates
+    let stack = c.args.stack.now in
+    let rest : List ℕ → Trace = rest_of stack c.args.part.walk in
+    let reached = reached_there stack c.args.part in
+    (told_in_place rest _ c.in-Mixed.first _ c.args.part.members _ _ c.in-Mixed.is c.in_ok-end.ensures.members c.in_ok-parting-in-Mixed.ensures.members (c.in_ok-end.ensures.common rest reached)
+    (c.in_ok-parting-in-Mixed.ensures.told stack rest (c.in_ok-end.ensures.reached rest reached))).separates
 
 pub add_test-requires-clause-asked : goal.add_test-requires-clause-asked
 add_test-requires-clause-asked c =
-    let part = c.args.part.members in
-    let rest : List ℕ → Trace = rest_of c.args.stack.now c.args.part.walk in
-    let parted = subst (λ (k : CommonTrace). IsCommonTrace k part rest) c.in-Mixed.is (c.in_ok-end.ensures.common rest (reached_there c.args.stack.now c.args.part)) in
-    (c.in_ok-test-in-Mixed.ensures.needed rest (subst (λ (sets : List SetOf). IsParting c.in-Mixed.parting sets rest) (sym c.in_ok-end.ensures.members) parted).trace_tells).passes
+    let stack = c.args.stack.now in
+    let rest : List ℕ → Trace = rest_of stack c.args.part.walk in
+    let reached = reached_there stack c.args.part in
+    let told =
+    told_in_place rest _ c.in-Mixed.first _ c.args.part.members _ _ c.in-Mixed.is c.in_ok-end.ensures.members c.in_ok-parting-in-Mixed.ensures.members (c.in_ok-end.ensures.common rest reached)
+    (c.in_ok-parting-in-Mixed.ensures.told stack rest (c.in_ok-end.ensures.reached rest reached)) in
+    (c.in_ok-test-in-Mixed.ensures.needed rest told.trace_tells).passes
 
 pub returns-clause-grows : goal.returns-clause-grows
 returns-clause-grows c = λ goal reached all.
-    let trace : List ℕ → Trace = goal_trace c.args.stack.now goal in
-    let part = c.args.part.members in
-    let parted = subst (λ (k : CommonTrace). IsCommonTrace k part trace) c.in-Mixed.is (c.in_ok-end.ensures.common trace reached) in
-    let tells = (subst (λ (sets : List SetOf). IsParting c.in-Mixed.parting sets trace) (sym c.in_ok-end.ensures.members) parted).trace_tells in
-    let grows = c.in_ok-add_test-in-Mixed.ensures.grows trace (c.in_ok-test-in-Mixed.ensures.needed trace tells) in (
-      subst (λ (sets : List SetOf). Grows trace sets (map node_of c.args.nodes.now.items) (map node_of c.add_test.new.nodes.items) (boxes_of c.args.open_boxes.now) (boxes_of c.add_test.new.open_boxes)) c.in_ok-end.ensures.members grows,
-      c.in_ok-add_test-in-Mixed.ensures.reached c.args.stack.now trace (c.in_ok-end.ensures.reached trace reached) all,
+    let stack = c.args.stack.now in
+    let trace : List ℕ → Trace = goal_trace stack goal in
+    let further = c.in_ok-end.ensures.reached trace reached in
+    let told =
+    told_in_place trace _ c.in-Mixed.first _ c.args.part.members _ _ c.in-Mixed.is c.in_ok-end.ensures.members c.in_ok-parting-in-Mixed.ensures.members (c.in_ok-end.ensures.common trace reached)
+    (c.in_ok-parting-in-Mixed.ensures.told stack trace further) in
+    let grows = c.in_ok-add_test-in-Mixed.ensures.grows trace (c.in_ok-test-in-Mixed.ensures.needed trace told.trace_tells) in (
+      subst (λ (sets : List SetOf). Grows trace sets (map node_of c.args.nodes.now.items) (map node_of c.add_test.new.nodes.items) (boxes_of c.args.open_boxes.now) (boxes_of c.add_test.new.open_boxes))
+          (c.in_ok-parting-in-Mixed.ensures.members ∙ c.in_ok-end.ensures.members) grows,
+      c.in_ok-add_test-in-Mixed.ensures.reached stack trace (c.in_ok-parting-in-Mixed.ensures.reached stack trace further) all,
     )

@@ -1,4 +1,4 @@
-use Rattle.std.proofs.Common.{◌≡◌, ℕ, ◌+◌, ◌<◌, arith, suc, add-one, List, ◌∷◌, length, map, drop, drop-cons, get_or, refl, sym, ◌∙◌, ap, subst}
+use Rattle.std.proofs.Common.{◌≡◌, ℕ, ◌+◌, ◌<◌, arith, suc, add-one, List, ◌∷◌, length, map, drop, drop-cons, get_or, sym, ◌∙◌, ap, subst}
 use Rattle.std.proofs.lemmas.List.{drop_all, length-map}
 use Rattle.cert_checker.specs.overlay_map.Layer.{LayerOf}
 use Rattle.cert_checker.specs.box_answers.NumberSet.{SetOf}

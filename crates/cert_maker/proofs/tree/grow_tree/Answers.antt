@@ -1,9 +1,7 @@
 use Rattle.std.proofs.Common.{ℕ, List, length, map, Some, arith, ◌∙◌, ap, subst}
-use Rattle.std.specs.List.{All}
 use Rattle.std.proofs.lemmas.List.{length-map}
 use Rattle.std.proofs.lemmas.List.Elements.{All-nil, All-same, All-push, All-pop}
 use Rattle.cert_checker.specs.config_record.DeviceSeen.{device_numbers}
-use Rattle.cert_checker.specs.overlay_map.Layer.{LayerOf}
 use Rattle.cert_checker.specs.reference_resolver.Trace.{Trace}
 use Rattle.cert_checker.specs.box_answers.Members.{IsBox}
 use Rattle.cert_checker.specs.cert_tree.Certificate.{node_of, goal_seen}

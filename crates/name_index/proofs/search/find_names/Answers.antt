@@ -1,10 +1,9 @@
 use Rattle.std.proofs.Common.{◌≡◌, ℕ, List, map, Option, subst, sym, ap, ◌∙◌, arith}
 use Rattle.std.proofs.lemmas.Grind.{common_steps}
 use Rattle.std.specs.Option.{option_map}
-use Rattle.resource_table.specs.declared.table.Table.{Table}
 use Rattle.type_chunks.specs.res_value.declared.res_id.ResId.{ResId}
 use Rattle.name_index.specs.declared.sought.Sought.{Sought}
-use Rattle.name_index.specs.Sought.{entry_names, noted_in, unfound, ArePlacesOf}
+use Rattle.name_index.specs.Sought.{entry_names, noted_in, ArePlacesOf}
 use Rattle.name_index.proofs.SoughtSteps.{entry_names-unfound, found-all-mapped}
 use Rattle.name_index.proofs.search.find_names.Goals as goal
 

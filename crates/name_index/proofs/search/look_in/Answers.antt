@@ -1,4 +1,4 @@
-use Rattle.std.proofs.Common.{◌≡◌, ℕ, List, ◌∷◌, map, subst, sym, ap, ◌∙◌}
+use Rattle.std.proofs.Common.{ℕ, List, map, subst, sym, ap, ◌∙◌}
 use Rattle.type_chunks.specs.Row.{RowOf, row_of}
 use Rattle.name_index.specs.declared.sought.Sought.{Sought}
 use Rattle.name_index.specs.Sought.{noted_each, entry_names, ArePlacesOf}

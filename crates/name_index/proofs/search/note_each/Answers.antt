@@ -1,4 +1,4 @@
-use Rattle.std.proofs.Common.{◌≡◌, arith, set, ap, ◌∙◌, length, ◌<◌}
+use Rattle.std.proofs.Common.{arith, set, ap, ◌∙◌, length, ◌<◌}
 use Rattle.std.proofs.lemmas.List.{get_or_default}
 use Rattle.std.proofs.lemmas.List.Edits.{map_over_more}
 use Rattle.type_chunks.specs.Row.{row_of}

@@ -1,4 +1,4 @@
-use Rattle.std.proofs.Common.{List, ℕ, ◌≡◌, sym, ◌∙◌, ap, subst, Ok}
+use Rattle.std.proofs.Common.{List, ℕ, sym, ◌∙◌, ap, subst, Ok}
 use Rattle.type_chunks.specs.Row.{row_of}
 use Rattle.type_chunks.specs.string_pool.Text.{text_of}
 use Rattle.type_chunks.specs.string_pool.declared.text.Text.{Text}

@@ -8,9 +8,8 @@ returns-in-Ok g c =
     let carried = c.carry_out-outcome.ensures in (
       record { out = c.carry_out-outcome.result.1; errors = c.carry_out-outcome.new.errors },
       c.carry_out-outcome.result.0,
-      inr (c.in-Ok.request, rw (← c.in-Ok.is) c.read_words.ensures, carried.answers),
+      inr (c.in-Ok.request, rw (← c.in-Ok.is) c.read_words.ensures, carried.answers, carried.shows),
       carried.unwritten,
-      carried.quiet,
       c.end-status.ensures,
     )
 
@@ -18,8 +17,7 @@ pub returns-in-Err : goal.returns-in-Err
 returns-in-Err g c = (
   record { out = writer_inner c.args.out; errors = c.args.errors.now },
   Err (Words c.in-Err.fault),
-  inl (c.in-Err.fault, rw (← c.in-Err.is) c.read_words.ensures, refl),
+  inl (c.in-Err.fault, rw (← c.in-Err.is) c.read_words.ensures, refl, refl),
   λ told. refl,
-  λ quiet. refl,
   rw (← c.into_parts-out.ensures.inner) c.end-status-in-Err.ensures,
 )

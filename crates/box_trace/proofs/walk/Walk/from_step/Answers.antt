@@ -1,4 +1,4 @@
-use Rattle.std.proofs.Common.{List, [], sym, ◌∙◌, ap, subst}
+use Rattle.std.proofs.Common.{List, [], sym, ap, subst}
 use Rattle.config_box.specs.box_answers.Members.{IsMember}
 use Rattle.bags_themes.specs.Course.{trace_from, after_course}
 use Rattle.bags_themes.specs.declared.course.CourseStep.{CourseStep}

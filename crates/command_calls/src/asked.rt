@@ -1,0 +1,127 @@
+//! What a command is asked of.
+
+use marked_calls::{Writer, table_of, word};
+use res_value::ResId;
+use resource_tool::{
+    Goal, LayerParts, Opened, OpenedBox, OpenedCert, Status, ToolFault, Unwatched, attr_bytes,
+    bag_bytes, check_bytes, dump_bytes, explain_bytes, make_bytes, map_bytes, query_bytes,
+    rows_bytes,
+};
+use show_command::{show_bytes, show_dot_bytes};
+use std::alloc::Global;
+use std::io::sink;
+use std::test::Fail;
+use survey_commands::survey_bytes;
+
+/// How many nodes are made at most.
+const MOST_NODES: u32 = 10;
+
+/// The resource of entry 0.
+const FIRST: ResId = ResId(0x7f01_0000);
+
+/// The styles that the bags of entries 0 and 1 are.
+const STYLES: [ResId; 2] = [FIRST, ResId(0x7f01_0001)];
+
+const ATTR: ResId = ResId(0x0101_0001);
+
+/// A command, its table, what it is asked of this (a device, a box or an overlay), a goal and a certificate.
+#[derive(Drop)]
+pub struct Asked<'w> {
+    name: &'w str,
+    table: Vec<u8>,
+    of: Vec<u8>,
+    goals: Vec<Goal>,
+    certificate: &'w [u8],
+}
+
+impl<'w> Asked<'w> {
+    /// What these words ask.
+    pub fn read(alloc: Global, words: &'w [String]) -> Result<Asked<'w>, Fail> {
+        let name = word(words, 0);
+        let table = table_of(alloc, word(words, 1))?;
+        let of = of_word(alloc, name, word(words, 2))?;
+        let goals = vec![in alloc; Goal::read(alloc, word(words, 3))?]?;
+        Ok(Asked {
+            name,
+            table,
+            of,
+            goals,
+            certificate: word(words, 4).as_bytes(),
+        })
+    }
+
+    /// Gives the command.
+    pub fn answer(&self, alloc: Global, out: &mut Writer) -> Result<Status, ToolFault> {
+        match self.name {
+            "rows_bytes" => rows_bytes(alloc, &self.table, out),
+            "dump_bytes" => dump_bytes(alloc, &self.table, out),
+            "map_bytes" => map_bytes(alloc, &self.table, &self.of, out, &mut sink()),
+            "errors of map_bytes" => map_bytes(alloc, &self.table, &self.of, &mut sink(), out),
+            _ => self.answer_of_layers(alloc, &[(self.table.as_slice(), None)], out),
+        }
+    }
+
+    fn answer_of_layers(
+        &self,
+        alloc: Global,
+        layers: &[LayerParts<&[u8]>],
+        out: &mut Writer,
+    ) -> Result<Status, ToolFault> {
+        let of = self.of.as_slice();
+        match self.name {
+            "query_bytes" => query_bytes(alloc, layers, of, &[FIRST], out),
+            "explain_bytes" => explain_bytes(alloc, layers, of, FIRST, out),
+            "bag_bytes" => bag_bytes(alloc, layers, of, FIRST, out),
+            "attr_bytes" => attr_bytes(alloc, layers, of, ATTR, &STYLES, false, out),
+            "check_bytes" => check_bytes(alloc, layers, of, self.certificate, &self.goals, out),
+            "make_bytes" => make_bytes(alloc, layers, of, &self.goals, MOST_NODES, out),
+            _ => self.answer_of_opened(alloc, layers, out),
+        }
+    }
+
+    fn answer_of_opened(
+        &self,
+        alloc: Global,
+        layers: &[LayerParts<&[u8]>],
+        out: &mut Writer,
+    ) -> Result<Status, ToolFault> {
+        let of = self.of.as_slice();
+        match self.name {
+            "survey_bytes" => survey_bytes(alloc, layers, Some(of), out),
+            "Opened::query" => {
+                let opened = Opened::read(alloc, layers, of)?;
+                Ok(opened.query(&[FIRST], out)?)
+            }
+            "OpenedBox::make" => {
+                let opened = OpenedBox::read(alloc, layers, of)?;
+                opened.make(alloc, &self.goals, MOST_NODES, &mut Unwatched, out)
+            }
+            "OpenedCert::check" => {
+                let opened = OpenedCert::read(alloc, layers, of, self.certificate)?;
+                opened.check(alloc, &self.goals, out)
+            }
+            _ => self.answer_of_trees(alloc, layers, out),
+        }
+    }
+
+    fn answer_of_trees(
+        &self,
+        alloc: Global,
+        layers: &[LayerParts<&[u8]>],
+        out: &mut Writer,
+    ) -> Result<Status, ToolFault> {
+        match self.name {
+            "show_bytes" => show_bytes(alloc, layers, self.certificate, out),
+            "show_dot_bytes" => show_dot_bytes(alloc, layers, self.certificate, 0, out),
+            _ => Ok(Status::Done),
+        }
+    }
+}
+
+// The overlay that a word says, or the word's own bytes.
+fn of_word(alloc: Global, name: &str, word: &str) -> Result<Vec<u8>, Fail> {
+    match name {
+        "map_bytes" | "errors of map_bytes" => Ok(table_of(alloc, word)?),
+        _ => Ok(Vec::from_slice(alloc, word.as_bytes())?),
+    }
+}

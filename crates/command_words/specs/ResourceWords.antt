@@ -1,0 +1,44 @@
+-- Words that ask for resources.
+use Rattle.std.specs.Prelude.{ℕ, ◌≡◌, ◌||◌, List, map, ok_or, is_some, Result, Ok, Err, Vec, if◌then◌else◌}
+use Rattle.std.specs.Borrow.{Bor}
+use Rattle.std.specs.declared.alloc.Global.{Global}
+use Rattle.name_words.specs.declared.named.Named.{Named}
+use Rattle.name_words.specs.Named.{NamedOf, named_of, named_in}
+use Rattle.name_words.specs.NamedSet.{named_set_in}
+use Rattle.name_words.specs.WordFile.{file_path_in}
+use Rattle.command_words.specs.declared.words_fault.WordsFault.{WordsFault}
+use Rattle.command_words.specs.declared.words_fault.WordsFault.TheVariants.{BadId, OutOfMemory}
+
+-- where one resource stands: the one that a word asks for, or the word, if it asks for none
+abbrev pub named_word : List ℕ → Result NamedOf (List ℕ)
+named_word word = ok_or (named_in word) word
+
+-- where several may stand: a word that asks for some, or that names a file of such words; or the word, if it does neither
+abbrev pub set_word : List ℕ → Result (List ℕ) (List ℕ)
+set_word word = if is_some (file_path_in word) || is_some (named_set_in word) then Ok word else Err word
+
+-- ---- how they are read
+
+-- words that are lent
+abbrev pub texts_of : Vec (Bor (List ℕ)) Global → List (List ℕ)
+texts_of words = map (λ word. word.now) words.items
+
+-- a call gave the resource that is meant, or named the word that asks for none
+abbrev pub ReadsNamed : Result Named WordsFault → Result NamedOf (List ℕ) → Type 0
+ReadsNamed (Ok named) meant = meant ≡ Ok (named_of named)
+ReadsNamed (Err (BadId word)) meant = meant ≡ Err word.now
+ReadsNamed (Err fault) meant = ⊥
+
+-- a call gave the word that is meant, or named it; or memory ran out
+abbrev pub ReadsWord : Result (Bor (List ℕ)) WordsFault → Result (List ℕ) (List ℕ) → Type 0
+ReadsWord (Ok word) meant = meant ≡ Ok word.now
+ReadsWord (Err (BadId word)) meant = meant ≡ Err word.now
+ReadsWord (Err OutOfMemory) meant = Unit {0}
+ReadsWord (Err fault) meant = ⊥
+
+-- the same of several, of which the first that asks for none is named
+abbrev pub ReadsWords : Result (Vec (Bor (List ℕ)) Global) WordsFault → Result (List (List ℕ)) (List ℕ) → Type 0
+ReadsWords (Ok words) meant = meant ≡ Ok (texts_of words)
+ReadsWords (Err (BadId word)) meant = meant ≡ Err word.now
+ReadsWords (Err OutOfMemory) meant = Unit {0}
+ReadsWords (Err fault) meant = ⊥

@@ -1,0 +1,14 @@
+//! Names, as tests over the public calls: which words ask for resources and goals, which resources have a name in
+//! tables, and which ids words ask for over a stack. Nothing stands on this crate.
+#![tactic(auto)]
+
+#[cfg(test)]
+mod goals;
+#[cfg(test)]
+mod ids;
+#[cfg(test)]
+mod named_stack;
+#[cfg(test)]
+mod tables;
+#[cfg(test)]
+mod words;

@@ -1,0 +1,97 @@
+//! Words that ask for resources by id or by name.
+
+use name_words::{GoalFault, Named, NamedGoal, NamedSet};
+use res_value::ResId;
+use std::test::Fail;
+
+const MARGIN: Named<'static> = Named::Name {
+    type_name: "dimen",
+    entry_name: "margin",
+};
+
+const THEME: Named<'static> = Named::Name {
+    type_name: "style",
+    entry_name: "Theme",
+};
+
+#[test]
+fn reads_one_resource(rt: HostRuntime) {
+    let by_id = Some(Named::Id(ResId(0x7f01_0000)));
+    assert_eq!(rt; Named::read("0x7f010000"), by_id);
+    assert_eq!(rt; Named::read("dimen/margin"), Some(MARGIN));
+    let behind_the_first_slash = Some(Named::Name {
+        type_name: "dimen",
+        entry_name: "a/b",
+    });
+    assert_eq!(rt; Named::read("dimen/a/b"), behind_the_first_slash);
+}
+
+#[test]
+fn reads_several_resources(rt: HostRuntime) {
+    let of_type = NamedSet::OfType { type_name: "dimen" };
+    assert_eq!(rt; NamedSet::read("*"), Some(NamedSet::All));
+    assert_eq!(rt; NamedSet::read("dimen/*"), Some(of_type));
+    assert_eq!(rt; NamedSet::read("dimen/margin"), Some(NamedSet::One(MARGIN)));
+}
+
+#[test]
+fn refuses_what_is_no_name(rt: HostRuntime) {
+    let wrong = [
+        "",
+        "margin",
+        "dimen/",
+        "/margin",
+        "*/*",
+        "dimen/m*",
+        "a,b/c",
+        "@style/Theme",
+        "0x7f01",
+    ];
+    for word in wrong {
+        assert_eq!(rt; Named::read(word), None, "{word}");
+        assert_eq!(rt; NamedSet::read(word), None, "{word}");
+    }
+    assert_eq!(rt; Named::read("dimen/*"), None);
+    assert_eq!(rt; Named::read("*"), None);
+}
+
+#[test]
+fn reads_goals(rt: HostRuntime) -> Result<(), Fail> {
+    let alloc = rt.alloc();
+    assert_eq!(rt;
+        NamedGoal::read(alloc, "*")?,
+        NamedGoal::Resources(NamedSet::All)
+    );
+    let attr = Named::Name {
+        type_name: "attr",
+        entry_name: "colorAccent",
+    };
+    let by_id = Named::Id(ResId(0x7f03_0001));
+    let styles = vec![in alloc; THEME, by_id]?;
+    assert_eq!(rt;
+        NamedGoal::read(alloc, "attr/colorAccent@style/Theme,0x7f030001")?,
+        NamedGoal::Attr { attr, styles }
+    );
+    Ok(())
+}
+
+#[test]
+fn refuses_goals(rt: HostRuntime) {
+    let wrong = [
+        "",
+        "margin",
+        "attr/a@",
+        "@style/Theme",
+        "attr/*@style/Theme",
+        "attr/a@style/*",
+        "attr/a@style/Theme,",
+        "attr/a@style/Theme@style/Other",
+    ];
+    for word in wrong {
+        assert_eq!(rt;
+            NamedGoal::read(rt.alloc(), word).err(),
+            Some(GoalFault::Malformed),
+            "{word}"
+        );
+    }
+}

@@ -1,0 +1,35 @@
+//! A program of tests: which ids and goals a word stands for over the stack of a table.
+//!
+//! ```text
+//! named_calls ids_named B 's/*' // [ResId(2130771968)]
+//! ```
+#![tactic(auto)]
+
+mod named;
+
+use marked_calls::{table_of, word, words};
+use named_resources::Stack;
+use std::test::Fail;
+use test_layers::LayerFault;
+use test_stacks::stack_of_base;
+
+fn main(rt: HostRuntime) -> Result<(), Fail> {
+    let words = words(&rt)?;
+    call(&rt, &words)
+}
+
+// Makes the call that the first word names, of a table and a word.
+fn call(rt: &HostRuntime, words: &[String]) -> Result<(), Fail> {
+    let bytes = table_of(rt.alloc(), word(words, 1))?;
+    let stack = stack_of_base(rt.alloc(), &bytes).ok_or(LayerFault::Malformed)?;
+    call_of(rt, word(words, 0), &stack, word(words, 2))
+}
+
+fn call_of(rt: &HostRuntime, name: &str, stack: &Stack<'_>, asked: &str) -> Result<(), Fail> {
+    match name {
+        "id_named" => named::id(rt, stack, asked),
+        "ids_named" => named::ids(rt, stack, asked),
+        "goals_named" => named::goals(rt, stack, asked),
+        _ => Ok(()),
+    }
+}

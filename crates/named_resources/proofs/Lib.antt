@@ -1,0 +1,3 @@
+pub mod AskedSteps
+pub mod TellsSteps
+pub mod WordSteps

@@ -1,0 +1,5 @@
+pub mod NameFault
+pub mod NamedIds
+pub mod NamedGoals
+pub mod AskedNames
+pub mod Finder

@@ -1,0 +1,64 @@
+//! Why names stand for no resource.
+
+ghost use Rattle.std.specs.Prelude.{◌≡◌};
+ghost use Rattle.named_resources.specs.declared.fault.NameFault.TheVariants.{OutOfMemory};
+
+use std::alloc::{AllocError, AllocFailed, Global};
+
+/// Stands for all entries of a type, and for all resources.
+const ALL: &str = "*";
+
+/// Why names stand for no resource.
+#[derive(Debug, PartialEq, Eq, Drop)]
+pub enum NameFault {
+    /// The first that is not there: its text, as `dimen/margin`, `dimen/*` or `*`.
+    NoResource(String),
+    OutOfMemory,
+}
+
+impl NameFault {
+    ghost use Rattle.std.specs.Prelude.{◌≡◌, ◌≢◌};
+    ghost use Rattle.std.specs.Option.{option_map};
+    ghost use Rattle.named_resources.specs.NameFault.{missing};
+    ghost use Rattle.named_resources.specs.NamedIds.{name_text, type_text};
+    ghost use Rattle.named_resources.specs.declared.fault.NameFault.TheVariants.{OutOfMemory};
+
+    /// No row has this name.
+    pub(crate) fn no_name(alloc: Global, type_name: &str, entry_name: &str) -> NameFault
+        ensures { result ≢ OutOfMemory → missing result ≡ name_text type_name.now entry_name.now }
+    {
+        match format!(in alloc; "{type_name}/{entry_name}") {
+            Ok(text) => NameFault::NoResource(text),
+            Err(_) => NameFault::OutOfMemory,
+        }
+    }
+
+    /// No row is of a type with this name, or there is no row.
+    pub(crate) fn no_row(alloc: Global, type_name: Option<&str>) -> NameFault
+        ensures { result ≢ OutOfMemory → missing result ≡ type_text (option_map (λ name. name.now) type_name.entry) }
+    {
+        if let Some(type_name) = type_name {
+            return NameFault::no_name(alloc, type_name, ALL);
+        }
+        match String::from_str(alloc, ALL) {
+            Ok(text) => NameFault::NoResource(text),
+            Err(_) => NameFault::OutOfMemory,
+        }
+    }
+}
+
+impl From<AllocError> for NameFault {
+    ghost from_gives = { λ _ e. e ≡ OutOfMemory };
+
+    fn from(_error: AllocError) -> NameFault {
+        NameFault::OutOfMemory
+    }
+}
+
+impl<T: Drop> From<AllocFailed<T>> for NameFault {
+    ghost from_gives = { λ _ e. e ≡ OutOfMemory };
+
+    fn from(_error: AllocFailed<T>) -> NameFault {
+        NameFault::OutOfMemory
+    }
+}

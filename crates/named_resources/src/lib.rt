@@ -1,0 +1,23 @@
+//! Which ids the words of a command ask for, over a stack of layers.
+//!
+//! For the crates above: `id_named`, `ids_named` and `goals_named` give exactly the ids and goals that the definitions of
+//! like name do, or the text of the first that is not there.
+//!
+//! ```text
+//! let words = [NamedSet::One(margin), NamedSet::OfType { type_name: "color" }];
+//! let ids = ids_named(alloc, &stack, &words)?; // that of `dimen/margin`, and those of all colors
+//! ```
+#![tactic(auto)]
+
+mod asked;
+mod fault;
+mod finder;
+mod goals;
+mod ids;
+
+pub use cert_tree::Goal;
+pub use fault::NameFault;
+pub use goals::goals_named;
+pub use ids::{id_named, ids_named};
+pub use name_words::{Named, NamedGoal, NamedSet, ResId};
+pub use overlay_map::Stack;

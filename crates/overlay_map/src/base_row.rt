@@ -1,0 +1,10 @@
+//! The row that gives an id its name.
+
+use row_index::{Row, Table};
+
+/// A row of a base layer, with the table that it is of.
+#[derive(Clone, Copy, Debug)]
+pub struct BaseRow<'t, 'a> {
+    pub table: &'t Table<'a>,
+    pub row: Row<'a>,
+}

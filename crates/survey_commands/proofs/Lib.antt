@@ -1,0 +1,4 @@
+pub mod AnySteps
+pub mod LayerLaws
+pub mod QualifierSteps
+pub mod QualifierLaws

@@ -1,0 +1,11 @@
+use Rattle.std.proofs.Common.{ℕ, List, subst}
+use Rattle.std.specs.Io.KnownBytes.{Appends}
+use Rattle.table_survey.specs.Finding.{all_findings}
+use Rattle.survey_commands.specs.SurveyText.{notes_text}
+use Rattle.survey_commands.specs.SurveyOutput.{layer_lines}
+use Rattle.survey_commands.proofs.LayerLaws.{lines-of_notes}
+use Rattle.survey_commands.proofs.layers.write_layer.Goals as goal
+
+pub returns-clause-text : goal.returns-clause-text
+unfolding layer_lines notes_text
+returns-clause-text g c = rw (lines-of_notes c.args.place _ _ all_findings c.layer_survey-survey.ensures.notes) at c.in_ok-write_survey.ensures

@@ -1,0 +1,10 @@
+pub mod Locales
+pub mod RowNotes
+pub mod LayerNotes
+pub mod Qualifiers
+pub mod BoxGaps
+pub mod SurveyText
+pub mod SurveyOutput
+pub mod OpenedSeen
+pub mod Counting
+pub mod Unfolded

@@ -1,0 +1,59 @@
+-- Locales that AOSP compares otherwise. A locale is the number of its four bytes, the two of its language first.
+use Rattle.std.specs.Prelude.{ℕ, ◌+◌, ◌*◌, ◌/◌, ◌%◌, ◌==◌, ◌&&◌, ◌||◌, not, Bool, List, [], ◌∷◌, map, codes, slice_index, unwrap_or, if◌then◌else◌}
+use Rattle.std.specs.List.{list_any}
+use Rattle.config_box.specs.config_record.Locale.{language_of, no_part}
+
+abbrev pub language_in : ℕ → ℕ
+language_in locale = locale / 65536
+
+abbrev pub region_in : ℕ → ℕ
+region_in locale = locale % 65536
+
+-- the number of two bytes
+abbrev pub part_number : List ℕ → ℕ
+part_number bytes = 256 * slice_index bytes 0 + slice_index bytes 1
+
+-- the language of a text, as a number
+abbrev pub language_number : List ℕ → ℕ
+language_number text = part_number (unwrap_or (language_of text) no_part)
+
+-- To AOSP tl and fil are one language (AOSP: langsAreEquivalent).
+abbrev pub filipino_languages : List ℕ
+filipino_languages = map language_number (codes "tl" ∷ codes "fil" ∷ [])
+
+-- The languages that some regions write in another script (CLDR: likelySubtags; AOSP: LIKELY_SCRIPTS).
+abbrev pub languages_of_scripts : List ℕ
+languages_of_scripts =
+    map language_number
+    (codes "az" ∷ codes "ha" ∷ codes "kk" ∷ codes "ku" ∷ codes "ky" ∷ codes "man" ∷ codes "mn" ∷ codes "ms" ∷ codes "pa"
+    ∷ codes "rif" ∷ codes "sd" ∷ codes "sr" ∷ codes "tg" ∷ codes "ug" ∷ codes "unr" ∷ codes "uz" ∷ codes "yue" ∷ codes "zh"
+    ∷ [])
+
+abbrev pub is_one_of : List ℕ → ℕ → Bool
+is_one_of languages language = list_any (λ other. other == language) languages
+
+unfoldable pub is_filipino : ℕ → Bool
+is_filipino language = is_one_of filipino_languages language
+
+unfoldable pub has_scripts : ℕ → Bool
+has_scripts language = is_one_of languages_of_scripts language
+
+-- AOSP matches two locales of different regions where their scripts are the same, and a language alone not with a region
+-- that writes it in another script.
+abbrev pub regions_differ : ℕ → ℕ → Bool
+regions_differ row device =
+    if region_in row == 0 then not (region_in device == 0) && has_scripts (language_in row)
+    else not (region_in row == region_in device)
+
+-- A row with this locale, and one with a script or a variant beside it, may be matched by AOSP at a device with the other
+-- locale and not here, or here and not by AOSP.
+unfoldable pub differs_at : ℕ → Bool → ℕ → Bool
+differs_at row set_aside device =
+    if language_in row == 0 then set_aside
+    else if language_in row == language_in device then set_aside || regions_differ row device
+    else is_filipino (language_in row) && is_filipino (language_in device)
+
+-- there is such a device
+unfoldable pub differs_somewhere : ℕ → Bool → Bool
+differs_somewhere row set_aside =
+    set_aside || not (language_in row == 0) && (not (region_in row == 0) || (is_filipino (language_in row) || has_scripts (language_in row)))

@@ -1,0 +1,54 @@
+//! Calls over tables.
+
+use marked_calls::{begin, end, table_of, tell};
+use name_index::{Name, find_names};
+use resource_table::{Row, Table};
+use std::io;
+use std::test::Fail;
+
+pub fn opened(rt: &HostRuntime, word: &str) -> Result<(), Fail> {
+    let bytes = table_of(rt.alloc(), word)?;
+    begin(rt);
+    let found = Table::open(rt.alloc(), &bytes);
+    end(rt);
+    match found {
+        Ok(table) => tell_rows(rt, &table)?,
+        Err(fault) => tell(rt, fault)?,
+    }
+    Ok(())
+}
+
+fn tell_rows(rt: &HostRuntime, table: &Table<'_>) -> io::Result<()> {
+    for row in table.all_rows() {
+        tell_row(rt, &row)?;
+    }
+    Ok(())
+}
+
+fn tell_row(rt: &HostRuntime, row: &Row<'_>) -> io::Result<()> {
+    println!(rt; "{:?} {:?}", row.id, row.cell)
+}
+
+/// Looks for a name and for another in a table.
+pub fn names(rt: &HostRuntime, word: &str, entry_name: &str) -> Result<(), Fail> {
+    let bytes = table_of(rt.alloc(), word)?;
+    let table = Table::open(rt.alloc(), &bytes)?;
+    let asked = [
+        Name {
+            type_name: "s",
+            entry_name,
+        },
+        Name {
+            type_name: entry_name,
+            entry_name: "s",
+        },
+    ];
+    begin(rt);
+    let found = find_names(rt.alloc(), &[&table], &asked);
+    end(rt);
+    match found {
+        Ok(found) => tell(rt, found)?,
+        Err(fault) => tell(rt, fault)?,
+    }
+    Ok(())
+}

@@ -1,0 +1,162 @@
+#!/usr/bin/env python3
+"""Holds what `survey` prints of random layers, with a box and without one, against a plain reading:
+
+    check_survey.py PROGRAM CASES [FIRST]
+
+PROGRAM is restool. In each case some bytes of the tables are changed: flags of types and entries, kinds of chunks and
+values, bytes of configurations. A table that restool refuses then is left out; what `examples/newer_format.py` finds in
+one that it reads is found by `survey` too. The cases are numbered from FIRST on, which is 0 if it is not given. The
+last line counts the surveys and those with a warning."""
+import json
+import os
+import random
+import struct
+import subprocess
+import sys
+import tempfile
+
+from case_files import id_text
+from check_sparse import Twins
+from plain_survey import survey_of
+from random_cases import Case
+
+NEWER = os.path.join(os.path.dirname(os.path.abspath(__file__)), "..", "examples", "newer_format.py")
+LOCALES = ("de", "de-DE", "en", "en-US", "en-GB", "fil", "fil-PH", "tl", "zh", "zh-TW", "sr", "sr-ME", "es-419", "es-MX", "yue", "yue-CN")
+
+
+def chunks_in(table, start, end):
+    """The places of all chunks between two places, and of those within them, with their kinds."""
+    while start + 8 <= end:
+        kind, header, size = struct.unpack_from("<HHI", table, start)
+        yield start, kind
+        if kind in (0x0002, 0x0200):
+            yield from chunks_in(table, start + header, start + size)
+        start += size
+
+
+def locale_bytes(text):
+    """The four bytes of a locale, as AOSP packs them."""
+    def packed(part, base):
+        if len(part) < 3:
+            return part.encode().ljust(2, b"\0")
+        a, b, c = (ord(letter) - ord(base) for letter in part)
+        return bytes([128 | c << 2 | b >> 3, (b & 7) << 5 | a])
+
+    language, _, region = text.partition("-")
+    return packed(language, "a") + packed(region, "0")
+
+
+def changed(chance, table):
+    """The table with a few of its bytes changed, as a newer tool might write them."""
+    table = bytearray(table)
+    chunks = list(chunks_in(table, 0, len(table)))
+    types = [place for place, kind in chunks if kind == 0x0201]
+    for place in types:
+        if chance.random() < 0.5:
+            table[place + 28 : place + 32] = locale_bytes(chance.choice(LOCALES + ("",)))
+        if chance.random() < 0.1:
+            table[place + 56 : place + 60] = b"Latn"
+    for _ in range(chance.choice((0, 0, 1, 1, 2, 3))):
+        draw = chance.random()
+        place = chance.choice(types) if types else 0
+        if draw < 0.2 and types:
+            table[place + 9] |= chance.choice((2, 4, 0x80))
+        elif draw < 0.3 and types:
+            table[place + 39] = chance.choice((1, 2, 3))
+        elif draw < 0.6 and types:
+            size = struct.unpack_from("<I", table, place + 4)[0]
+            at = place + chance.randrange(min(72, size), size) if size > 72 else place + 9
+            table[at] = chance.choice((0, 1, 7, 8, 9, 0x10, 0x18))
+        elif draw < 0.8:
+            at, kind = chance.choice(chunks)
+            if kind in (0x0001, 0x0202):
+                struct.pack_into("<H", table, at, chance.choice((0x0203, 0x0204, 0x0205, 0x0206, 0x0001)))
+        elif types:
+            table[place + 20 + chance.randrange(28, 52)] = chance.choice((0, 1, 2))
+    return bytes(table)
+
+
+class Run:
+    def __init__(self, program, folder, chance):
+        self.program, self.folder, self.chance = program, folder, chance
+        case = Case(chance)
+        self.box = case.box.json()
+        if chance.random() < 0.7:
+            self.box["locale"] = chance.sample(LOCALES, chance.randint(1, 3))
+        self.tables, layers = [], []
+        for place, own_of in enumerate(case.maps):
+            twins = Twins(chance, case)
+            table = changed(chance, chance.choice((twins.dense, twins.sparse)))
+            self.write(f"table{place}", table)
+            if self.run("rows", f"table{place}")[1] != 0:
+                continue
+            self.tables.append(table)
+            layers.append({"table": f"table{place}"})
+            if own_of is not None:
+                layers[-1]["map"] = f"map{place}"
+                self.write(f"map{place}", json.dumps([[id_text(a), id_text(b)] for a, b in own_of.items()]).encode())
+        self.write("layers", json.dumps(layers).encode())
+        self.write("box", json.dumps(self.box).encode())
+
+    def write(self, name, some):
+        with open(os.path.join(self.folder, name), "wb") as file:
+            file.write(some)
+
+    def run(self, *words):
+        done = subprocess.run([self.program, *words], cwd=self.folder, capture_output=True, text=True)
+        return done.stdout + done.stderr, done.returncode
+
+    def newer_found(self):
+        """How often the script for newer tables finds something, in all tables."""
+        found = {}
+        for place in range(len(self.tables)):
+            self.write("one", self.tables[place])
+            done = subprocess.run([sys.executable, NEWER, "one"], cwd=self.folder, capture_output=True, text=True)
+            for line in done.stdout.splitlines():
+                name, _, count = line.rpartition(": ")
+                found[name] = found.get(name, 0) + int(count)
+        return found
+
+
+FOUND_AS = {
+    "types with 16-bit offsets": "16-bit-offsets",
+    "compact entries": "compact-entry",
+    "types with a grammatical gender": "gender",
+    "types with other newer qualifiers": "newer-qualifier",
+}
+
+
+def count_in(printed, name):
+    return sum(int(line.split()[4]) for line in printed.splitlines() if line.split()[3:4] == [name])
+
+
+def check(program, number):
+    chance = random.Random(number)
+    warned = 0
+    with tempfile.TemporaryDirectory() as folder:
+        run = Run(program, folder, chance)
+        for words, box in ((("layers",), None), (("layers", "box"), run.box)):
+            lines, status = survey_of(run.tables, box)
+            want = "".join(line + "\n" for line in lines), status
+            got = run.run("survey", *words)
+            if got != want:
+                sys.exit(f"case {number}, {words}: printed\n{got}\nand not\n{want}")
+            warned += status
+        printed = run.run("survey", "layers")[0]
+        for name, count in run.newer_found().items():
+            if count_in(printed, FOUND_AS[name]) != count:
+                sys.exit(f"case {number}: {count} {name}, and printed\n{printed}")
+    return warned
+
+
+def main():
+    if len(sys.argv) not in (3, 4):
+        sys.exit(__doc__)
+    program, cases = os.path.abspath(sys.argv[1]), int(sys.argv[2])
+    first = int(sys.argv[3]) if len(sys.argv) == 4 else 0
+    warned = sum(check(program, number) for number in range(first, first + cases))
+    print(f"{2 * cases} surveys, {warned} with a warning")
+
+
+if __name__ == "__main__":
+    main()

@@ -1,0 +1,62 @@
+"""The id map of an overlay, by a plain reading of its rules. For check_map.py."""
+from collections import namedtuple
+
+from plain_bags import Bag
+from plain_certificates import id_text
+
+REFERENCE, ATTRIBUTE = 1, 2
+
+Row = namedtuple("Row", "id names shown cell")
+"""A row of a table: its id, the names of its type and entry, how these are printed, and what it holds. A name that cannot be
+read, or is no text, is None."""
+
+
+def first_rows(rows):
+    """The first row of each id, by the ids in their order."""
+    first = {}
+    for row in rows:
+        first.setdefault(row.id, row)
+    return dict(sorted(first.items()))
+
+
+def made_map(target, overlay):
+    """For each id of the target, but those of other packages than its first row's, the overlay's id of the same names."""
+    own_of = {}
+    for row in overlay:
+        own_of.setdefault(row.names, row.id)
+    found = {}
+    for row in first_rows(target).values():
+        is_of_package = row.id >> 24 == target[0].id >> 24
+        if is_of_package and None not in row.names and row.names in own_of:
+            found[row.id] = own_of[row.names]
+    return found
+
+
+def ids_named(cell):
+    """The ids that a value or a bag names, in their order."""
+    if isinstance(cell, Bag):
+        return [cell.parent] + [name for row, value in cell.rows for name in [row, *ids_named(value)]]
+    kind, word = cell
+    return [word] if kind in (REFERENCE, ATTRIBUTE) else []
+
+
+def lines_of(overlay, own_of):
+    """What is said of a map: the ids that stand for no target, and the references to an id that does not stand for itself."""
+    first, carried = first_rows(overlay), set(own_of.values())
+    for row in first.values():
+        if row.id not in carried:
+            yield f"unmapped {named(row)}"
+    for row in overlay:
+        for name in ids_named(row.cell) if row.id in carried else []:
+            if name in first and own_of.get(name) != name:
+                yield f"astray {named(row)} to {named(first[name])}"
+
+
+def named(row):
+    return f"{id_text(row.id)} {row.shown}"
+
+
+def map_text(own_of):
+    """The map as it is printed."""
+    pairs = [f'["{id_text(target)}","{id_text(own)}"]' for target, own in own_of.items()]
+    return "[" + ",\n ".join(pairs) + "]\n"

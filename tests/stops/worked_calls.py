@@ -1,0 +1,422 @@
+"""Calls of the library, each on worked rows with its answer there. For calls.py."""
+from collections import namedtuple
+
+Row = namedtuple("Row", "program words answer unchanged")
+"""A program of crates/, the words that it is given, the call's name first, the lines that it prints, and those that it
+prints of what the call is to change where it is refused."""
+
+ID = "0x7f010000"
+FIRST, SECOND, NINTH = (f"ResId({0x7F010000 + place})" for place in (0, 1, 9))
+GERMAN = 0x64650000
+"""The number of the locale de."""
+A, B, C, D = (f"ResId({0x01010001 + place})" for place in range(4))
+ONE, TWO, SEVEN = (f"Value {{ kind: 16, word: {word} }}" for word in (1, 2, 7))
+EMPTY = "Value { kind: 0, word: 1 }"
+
+
+def row(program, words, answer, unchanged=()):
+    return Row(program, words.split("\0") if isinstance(words, str) else list(words), answer.split("\n"), list(unchanged))
+
+
+def value(meant, layer=0):
+    return f"Value {{ layer: {layer}, value: {meant} }}"
+
+
+def absent(id):
+    return f"Absent {{ id: {id} }}"
+
+
+def device(density, locale=0):
+    """A device as `Debug` shows it: its numbers, the locale at place 2 and the density at place 15."""
+    numbers = [0, 0, locale, *[0] * 12, density, *[0] * 9]
+    return f"Device {{ numbers: {numbers} }}"
+
+
+def certificate(*nodes, goal=f'"id":"{ID}"', version=1):
+    return f'{{"version":{version},"goals":[{{{goal},"nodes":[{",".join(nodes)}]}}]}}'
+
+
+def leaf(word, layer=0):
+    return f'{{"layer":{layer},"kind":16,"word":{word}}}'
+
+
+def written(goal, *nodes, version=1):
+    return f'{{"goals":[{{{goal.replace("NODES", ",".join(nodes))}}}],"version":{version}}}'
+
+
+WRITTEN_ID = f'"id":"{ID}","nodes":[NODES]'
+WRITTEN_STYLED = f'"attr":"0x01010001","nodes":[NODES],"styles":["{ID}"]'
+
+
+def written_leaf(word):
+    return f'{{"kind":16,"layer":0,"word":{word}}}'
+
+
+AT_MOST_197 = '{"coord":"density","atMost":197}'
+STYLED = f"0x01010001@{ID}"
+STYLED_GOAL = f'"attr":"0x01010001","styles":["{ID}"]'
+MEDIUM = '{"density":160}'
+MEDIUM_BOX = '{"density":[160]}'
+DENSITIES = "0 [density=160] 1\n0 [density=320] 2"
+TO_197, TO_198 = ('{"density":{"from":120,"to":%d}}' % last for last in (197, 198))
+LOCALES = "0 [locale=fr] 1\n0 [locale=de] 2"
+BOTH_LOCALES = '{"density":[160],"locale":["fr","de"]}'
+BAGS = """\
+1 [] bag 0x00000000 0x01010001=9 0x01010002=2
+0 [] bag 0x7f010001 0x01010001=1 0x01010003=3"""
+STYLES = """\
+0 [] bag 0x00000000 0x01010001=1 0x01010002=empty
+1 [] bag 0x00000000 0x01010001=2 0x01010002=2 0x01010003=?0x01010001"""
+STYLED_DENSITIES = """\
+0 [] bag 0x00000000 0x01010001=1
+0 [density=320] bag 0x00000000 0x01010001=2"""
+
+
+def reading_rows():
+    """Texts, and bytes."""
+
+    def read(name, text, answer):
+        return row("reading_calls", [name, text], answer)
+
+    yield read("Device::read", '{"density":480,"locale":"es-419"}', "locale=es-419 density=480")
+    yield read("Device::read", '{"density":32768}', "Density")
+    yield read("Device::read", '{"density":160,"mcc":65536}', "FieldRange(Mcc)")
+    yield read("Device::read", '{"densty":160}', "Shape")
+    yield read("IdMap::read", f'[["{ID}","0x7f010001"]]', f"Some({SECOND})")
+    yield read("IdMap::read", f'[["{ID}","{ID}"],["{ID}","0x7f010001"]]', f"Repeated({FIRST})")
+    yield read("IdMap::read", f'[["{ID}","{ID}"],["0x01010000","0x7f010001"]]', "OtherPackage(ResId(16842752))")
+    yield read("IdMap::read", '[["0x7f01"]]', "Shape")
+    yield read("ConfigBox::read", '{"density":{"from":120,"to":640}}', "Range(120, 640)")
+    yield read("ConfigBox::read", '{"density":[480,160,160]}', "Numbers([160, 480])")
+    yield read("ConfigBox::read", '{"density":[]}', "Empty(Density)")
+    yield read("ConfigBox::read", '{"locale":["fr"]}', "Density")
+    yield read("ConfigBox::read", '{"density":[160],"locale":["-FR"]}', "RegionAlone")
+    yield read("ConfigBox::read", '{"density":[160],"night":[4]}', "FieldRange(Night)")
+    many = ",".join(map(str, range(1, 514)))
+    yield read("ConfigBox::read", f'{{"density":[{many}]}}', "TooMany(Density)")
+    yield read("split", '{"density":{"from":120,"to":640}}', "Range(120, 197)\nRange(198, 640)")
+    one_leaf = written(WRITTEN_STYLED, written_leaf(1), version=2)
+    yield read("Cert::read", certificate(leaf(1), goal=STYLED_GOAL, version=2), one_leaf)
+    yield read("Cert::read", certificate(leaf(1), version=3), "Version")
+    yield read("Cert::read", certificate('{"bag":5}'), "Shape(0, 0)")
+    yield read("Cert::write", certificate(leaf(1)), written(WRITTEN_ID, written_leaf(1)))
+    yield read("Goal::read", STYLED, f"Attr {{ attr: {A}, styles: [{FIRST}] }}")
+    yield read("Goal::read", "0x01010001@", "Malformed")
+    named = f"Attr {{ attr: Id({A}), styles: [Id({FIRST})] }}"
+    yield read("NamedGoal::read", STYLED, named)
+    yield read("NamedGoal::read", "0x01010001@", "Malformed")
+    yield read("words_in_text", "# sizes\n\n  dimen/* \ns/k", '["dimen/*", "s/k"]')
+    yield read("LayerList::read", '[{"table":"a"},{"table":"b","map":"m"}]', '[("a", None), ("b", Some("m"))]')
+    yield read("LayerList::read", "{}", "Shape")
+    yield read("read_input", "aaa", "true\nNone")
+    yield read("read_input of many bytes", "", "true")
+
+
+def table_rows():
+    """Tables, and the layers of a stack."""
+    five = "Plain(Value { kind: 16, word: 5 })"
+    yield row("table_calls", ["Table::open", "A"], f"{FIRST} {five}")
+    yield row("table_calls", ["find_names", "B", "k"], f"[Some({FIRST}), None]")
+    base, overlay = "0 [locale=fr] 1", "0 [locale=fr] 2"
+    of_base = f"layer 0 Plain({ONE})"
+    yield row("table_calls", ["push_base", base], f"1 layers\n{of_base}", ["0 layers"])
+    both = f"2 layers\n{of_base}\nlayer 1 Plain({TWO})"
+    yield row("table_calls", ["push_overlay", base, overlay], both, ["1 layers", of_base])
+
+
+def named_rows():
+    """Words for the resources of a stack."""
+    for name, word, answer in (
+        ("id_named", "s/k", FIRST),
+        ("id_named", "s/x", 'NoResource("s/x")'),
+        ("ids_named", "s/k", f"[{FIRST}]"),
+        ("ids_named", "s/*", f"[{FIRST}]"),
+        ("ids_named", "*", f"[{FIRST}]"),
+        ("ids_named", "k/*", 'NoResource("k/*")'),
+        ("goals_named", "s/*", f"[Id({FIRST})]"),
+        ("goals_named", "0x01010001@s/k", f"[Attr {{ attr: {A}, styles: [{FIRST}] }}]"),
+    ):
+        yield row("named_calls", [name, "B", word], answer)
+
+
+def stack_rows():
+    """Bags and themes."""
+    merged = zip((A, B, C), (1, 2, 3))
+    of_bag = "\n".join(f"{name} layer 0 Value {{ kind: 16, word: {word} }}" for name, word in merged)
+    yield row("stack_calls", ["bag", BAGS], of_bag)
+    unset = [absent(C), absent(D)]
+    before = [value(ONE), value(EMPTY), *unset]
+    after = [value(ONE), value(EMPTY), value(ONE), unset[1]]
+    forced = [value(TWO), value(TWO), value(TWO), unset[1]]
+    yield row("stack_calls", ["apply", STYLES], "\n".join(after), before)
+    yield row("stack_calls", ["apply with force", STYLES], "\n".join(forced), before)
+    yield row("stack_calls", ["Theme::of_styles", STYLES], "\n".join(after))
+
+
+def goal_rows():
+    """Goals of both kinds."""
+
+    def ask(name, table, members, answer, goal=ID, nodes=""):
+        return row("goal_calls", [name, table, members, goal, nodes], answer)
+
+    yield ask("Live::new", LOCALES, BOTH_LOCALES, f"(Plain({ONE}), false)\n(Plain({TWO}), false)")
+    yield ask("half", LOCALES, BOTH_LOCALES, f"(Plain({TWO}), true)")
+    yield ask("goal_end", STYLED_DENSITIES, MEDIUM_BOX, value(ONE), STYLED)
+    two_styles = "0 [] bag 0x00000000 0x01010001=1\n1 [] bag 0x00000000 0x01010001=7"
+    yield ask("goal_end", two_styles, MEDIUM_BOX, value(SEVEN), f"{STYLED},0x7f010001")
+    yield ask("goal_end", two_styles, MEDIUM_BOX, absent(B), f"0x01010002@{ID}")
+    yield from check_rows(ask)
+    yield from make_rows(ask)
+
+
+def check_rows(ask):
+    yield ask("check", DENSITIES, TO_197, "Accepted", nodes=certificate(leaf(1)))
+    yield ask("check", DENSITIES, TO_198, "Accepted", nodes=certificate(AT_MOST_197, leaf(1), leaf(2)))
+    mixed = f"Rejected {{ goal: 0, node: 0, rule: MixedTrace, shown: Two({device(198)}, {device(197)}) }}"
+    yield ask("check", DENSITIES, TO_198, mixed, nodes=certificate(leaf(1)))
+    two_leaves = certificate(AT_MOST_197, leaf(1), leaf(2), goal=STYLED_GOAL, version=2)
+    yield ask("check", STYLED_DENSITIES, TO_198, "Accepted", STYLED, two_leaves)
+    one_leaf = certificate(leaf(1), goal=STYLED_GOAL, version=2)
+    yield ask("check", STYLED_DENSITIES, TO_198, mixed, STYLED, one_leaf)
+    ninth = '"attr":"0x01010001","styles":["0x7f010009"]'
+    valueless = f"Rejected {{ goal: 0, node: 0, rule: NoValue, shown: One({device(120)}, {absent(NINTH)}) }}"
+    of_ninth = certificate(leaf(1), goal=ninth, version=2)
+    yield ask("check", STYLED_DENSITIES, TO_198, valueless, "0x01010001@0x7f010009", of_ninth)
+
+
+def make_rows(ask):
+    yield ask("make", "0 [] 1", MEDIUM_BOX, written(WRITTEN_ID, written_leaf(1)))
+    at_most = '{"atMost":197,"coord":"density"}'
+    yield ask("make", DENSITIES, TO_198, written(WRITTEN_ID, at_most, written_leaf(1), written_leaf(2)))
+    german = f"Counter {{ goal: 0, device: {device(160, GERMAN)}, ending: {absent(FIRST)} }}"
+    yield ask("make", "0 [locale=fr] 1", BOTH_LOCALES, german)
+    of_styled = written(WRITTEN_STYLED, at_most, written_leaf(1), written_leaf(2), version=2)
+    yield ask("make", STYLED_DENSITIES, TO_198, of_styled, STYLED)
+    unset = f"Counter {{ goal: 0, device: {device(160)}, ending: {absent(B)} }}"
+    yield ask("make", STYLED_DENSITIES, MEDIUM_BOX, unset, f"0x01010002@{ID}")
+    yield from rows_of_many_nodes(ask)
+
+
+def rows_of_many_nodes(ask):
+    """A hundred levels, each with a row of its own, the last first, so that all no halves are open at once. And thirty
+    pairs: the maker asks the mcc first, and its tree has 61 nodes; where the mnc is asked first, and each time the mcc
+    behind it, there is one of 119, all of whose tests are needed. The limit is about the maker's tree."""
+    levels = "\n".join(f"0 [sdk={level}] {level}" for level in range(100, 0, -1))
+    members = '{"density":[160],"sdk":{"from":1,"to":100}}'
+    tests = [f'{{"atMost":{level},"coord":"sdk"}}' for level in range(99, 0, -1)]
+    leaves = [written_leaf(level) for level in range(1, 101)]
+    yield ask("make", levels, members, written(WRITTEN_ID, *tests, *leaves), nodes="199")
+    yield ask("make", levels, members, "NodeLimit", nodes="198")
+    pairs = "\n".join(["0 [] 99", *(f"0 [mcc=1,mnc={mnc}] {mnc}" for mnc in range(1, 31))])
+    members = f'{{"density":[160],"mcc":[1,2],"mnc":[{",".join(map(str, range(1, 31)))}]}}'
+    tests = [node for mnc in range(1, 30) for node in (f'{{"coord":"mnc","in":[{mnc}]}}', written_leaf(mnc))]
+    tree = ['{"coord":"mcc","in":[1]}', *tests, written_leaf(30), written_leaf(99)]
+    yield ask("make", pairs, members, written(WRITTEN_ID, *tree), nodes="61")
+    yield ask("make", pairs, members, "NodeLimit", nodes="60")
+
+
+def command_rows():
+    """Commands over bytes and a writer. After a fault the number of writes is told."""
+
+    def ask(name, table, answer, of="", goal=ID, nodes=""):
+        return row("command_calls", [name, table, of, goal, nodes], answer)
+
+    two = f"row {ID} [density=160] decimal 2\nrow {ID} [] decimal 1\nrows 2 set-aside 0\nDone"
+    yield ask("rows_bytes", "0 [density=160] 2\n0 [] 1", two)
+    dumped = f'package 0x7f ""\n  {ID} !NoSuch/!NoSuch flags 0x00000000 [] decimal 5\nDone'
+    yield ask("dump_bytes", "A", dumped)
+    yield ask("map_bytes", "B", f'[["{ID}","{ID}"]]\nDone', "B")
+    yield ask("errors of map_bytes", "A", f'unmapped {ID} "s"/"k"\nNegative', "B")
+    yield ask("survey_bytes", DENSITIES, "qualifier density rows 2 from 160 to 320\nDone", TO_197)
+    lacking = "qualifier night rows 1 from 2 to 2\nwarning box lacks night\nNegative"
+    yield ask("survey_bytes", "0 [night=2] 1", lacking, MEDIUM_BOX)
+    medium = f"{ID} value layer 0 decimal 2\nset-aside 0\nDone"
+    for name in ("query_bytes", "Opened::query"):
+        yield ask(name, "0 [] 1\n0 [density=160] 2", medium, MEDIUM)
+    explained = [
+        f"lookup {ID}",
+        "candidate 0 layer 0 [density=160] first",
+        "candidate 1 layer 0 [density=320] took over P15",
+        "end value layer 0 decimal 2",
+        "Done",
+    ]
+    yield ask("explain_bytes", DENSITIES, "\n".join(explained), '{"density":198}')
+    merged = [f"0x0101000{name} layer 0 decimal {name}" for name in (1, 2, 3)]
+    yield ask("bag_bytes", BAGS, "\n".join([*merged, "Done"]), MEDIUM)
+    yield ask("attr_bytes", STYLES, "0x01010001 value layer 0 decimal 1\nDone", MEDIUM)
+    yield from check_commands(ask)
+    yield from make_commands(ask)
+    yield from show_commands(ask)
+
+
+def check_commands(ask):
+    accepted = "accepted goals 1 nodes 1\nset-aside 0\nDone"
+    for name in ("check_bytes", "OpenedCert::check"):
+        yield ask(name, DENSITIES, accepted, TO_197, nodes=certificate(leaf(1)))
+    rejected = [
+        "rejected goal 0 node 0 N6 MixedTrace",
+        "first density=198",
+        "second density=197",
+        "set-aside 0",
+        "Negative",
+    ]
+    yield ask("check_bytes", DENSITIES, "\n".join(rejected), TO_198, nodes=certificate(leaf(1)))
+    yield ask("check_bytes", DENSITIES, "(Box(Density), 0)", "{}", nodes=certificate(leaf(1)))
+    yield ask("check_bytes", DENSITIES, "(Certificate(Syntax), 0)", TO_197, nodes="{")
+    two_leaves = certificate(AT_MOST_197, leaf(1), leaf(2), goal=STYLED_GOAL, version=2)
+    styled = accepted.replace("nodes 1", "nodes 3")
+    yield ask("check_bytes", STYLED_DENSITIES, styled, TO_198, STYLED, two_leaves)
+
+
+def make_commands(ask):
+    one = written(WRITTEN_ID, written_leaf(1))
+    for name in ("make_bytes", "OpenedBox::make"):
+        yield ask(name, "0 [] 1", f"{one}\nDone", MEDIUM_BOX)
+    german = ["counter goal 0", "device locale=de density=160", f"end absent {ID}", "Negative"]
+    yield ask("make_bytes", "0 [locale=fr] 1", "\n".join(german), BOTH_LOCALES)
+    unset = ["counter goal 0", "device density=160", "end absent 0x01010002", "Negative"]
+    yield ask("make_bytes", STYLED_DENSITIES, "\n".join(unset), MEDIUM_BOX, f"0x01010002@{ID}")
+    yield ask("make_bytes", "0 [] 1", "(Box(Density), 0)", "{}")
+
+
+def show_commands(ask):
+    halves = certificate(AT_MOST_197, leaf(1), leaf(2))
+    lines = [
+        f"goal 0 {ID} !NoSuch/!NoSuch nodes 3",
+        "0\tif density at most 197",
+        "1\t  value layer 0 decimal 1",
+        "2\telse value layer 0 decimal 2",
+        "goals 1",
+        "Done",
+    ]
+    yield ask("show_bytes", DENSITIES, "\n".join(lines), nodes=halves)
+    yield ask("show_bytes", DENSITIES, "(Certificate(Syntax), 0)", nodes="{")
+    picture = [
+        "digraph {",
+        f'  label="goal 0 {ID} !NoSuch/!NoSuch";',
+        "  node [shape=box];",
+        '  n0 [label="density at most 197"];',
+        '  n1 [label="value layer 0 decimal 1"];',
+        "  n0 -> n1 [label=yes];",
+        '  n2 [label="value layer 0 decimal 2"];',
+        "  n0 -> n2 [label=no];",
+        "}",
+        "Done",
+    ]
+    yield ask("show_dot_bytes", DENSITIES, "\n".join(picture), nodes=halves)
+    yield ask("show_dot_bytes", DENSITIES, "no goal 0\nNegative", nodes='{"version":1,"goals":[]}')
+
+
+def rows():
+    """All that take memory."""
+    for some in (reading_rows, table_rows, named_rows, stack_rows, goal_rows, command_rows):
+        yield from some()
+
+
+def without_memory(program, name, answer, *words):
+    return row(program, [name, *words], answer)
+
+
+WITHOUT_MEMORY = [
+    without_memory("reading_calls", "look", f"Some({SECOND})", f'[["{ID}","0x7f010001"]]'),
+    without_memory("table_calls", "Table::open", "Chunk(Oversize(0))", "cut"),
+    without_memory("command_calls", "rows_bytes", "rows 0 set-aside 0\nDone", "no rows", "", ID),
+    without_memory("command_calls", "rows_bytes", "(Table(Chunk(Oversize(0))), 0)", "cut", "", ID),
+    without_memory(
+        "command_calls",
+        "check_bytes",
+        "(LayerTable(0, Chunk(Oversize(0))), 0)",
+        *("cut", TO_197, ID, certificate(leaf(1))),
+    ),
+    without_memory("table_calls", "chunk_walk", "(2, 12)\ntrue\n(Some(2), Some(488))"),
+    without_memory(
+        "table_calls",
+        "string_pool",
+        '(1, true, 0)\n"Hi"\n(true, Some(NoSuch))\nSpan { name: 0, first: 1, last: 2 }',
+    ),
+    without_memory(
+        "table_calls",
+        "res_value",
+        f"(Some({FIRST}), None)\ndimension 13/2^0 dp\n({A}, Value {{ kind: 16, word: 5 }})",
+    ),
+    without_memory("table_calls", "resource_table", f'(1, 0)\ntrue\n"s""k"\n(Some({FIRST}), None)'),
+    without_memory("stack_calls", "overlay_map", "(1, 0)\ntrue\ntrue\ntrue", DENSITIES),
+    without_memory(
+        "stack_calls",
+        "reference_resolver",
+        f"true\n{value(SEVEN)}\nTooLong {{ id: {SECOND} }}",
+        "0 [] @0x7f010001\n1 [] 7",
+    ),
+    without_memory(
+        "stack_calls",
+        "bags_themes",
+        f"{FIRST}\n{value(ONE)}\nEnds({value(ONE)})\nEnds({absent(A)})",
+        STYLES,
+    ),
+    without_memory(
+        "stack_calls",
+        "config_record",
+        "Some(FieldRange(LayoutDirection))\n(198, Locale { language: [102, 114], region: [0, 0] })\nlocale=fr density=198",
+        "",
+        "locale=fr,density=198",
+    ),
+    without_memory(
+        "stack_calls",
+        "config_precedence",
+        "(320, Locale { language: [102, 114], region: [0, 0] }, false)\n[locale=fr,density=320]\n(true, None)\n"
+        "(true, Some(3))\nfalse",
+        "",
+        "locale=fr,density=198",
+    ),
+    without_memory(
+        "goal_calls",
+        "config_box",
+        f"Range(120, 198)\n(120, true)\nAlways\nMixed({device(197)}, {device(198)}, Density)",
+        "",
+        TO_198,
+        ID,
+    ),
+    without_memory(
+        "command_calls",
+        "answer_text",
+        f"row {ID} [density=160] decimal 1\nrow {ID} [density=320] decimal 2\nrows 2 set-aside 0\n"
+        f'package 0x7f ""\n  {ID} !NoSuch/!NoSuch flags 0x00000000 [density=160] decimal 1\n'
+        f"  {ID} !NoSuch/!NoSuch flags 0x00000000 [density=320] decimal 2\n"
+        f"lookup {ID}\ncandidate 0 layer 0 [density=160] first\n"
+        "candidate 1 layer 0 [density=320] took over P15\nend value layer 0 decimal 2\n"
+        "value layer 0 decimal 2\nout of memory",
+        DENSITIES,
+    ),
+    without_memory(
+        "command_calls",
+        "resource_text",
+        "accepted goals 0 nodes 0\nrejected goal 0 node 0 N6 MixedTrace\nfirst density=198\nsecond density=198",
+    ),
+    without_memory("goal_calls", "Goal::attr", f"Some(Attr {{ attr: {A}, styles: [{FIRST}] }})", "", MEDIUM_BOX, ID),
+]
+"""Calls that take no memory: of a table without rows, where the table is refused at once, and those of a crate together."""
+
+REACHED = {
+    "Table::open": "BagChecks::new BagChecks::make_ready types_of_children",
+    "Device::read": "read_value",
+    "find_names": "Places::new Places::push",
+    "push_base": "IndexedTable::new",
+    "map_bytes": "Carried::new FirstRows::new FirstRows::in_order",
+    "query_bytes": "open_stack",
+    "Opened::query": "Opened::read Opened::attr Opened::bag",
+    "bag": "FoundBag::select FoundBag::of",
+    "goal_end": "attribute_under CourseStep::end",
+    "check": """goal_box OpenBox::whole OpenBox::whole_of_attribute OpenBox::narrowed OpenBox::common_trace
+        OpenBoxes::new OpenBoxes::push Course::of_attribute Course::shared Course::after""",
+    "make": "make_watched make_bytes_watched ConfigBox::shared OpenBox::weightiest_parting",
+    "ids_named": "Finder::new Finder::id Finder::ids ids_of_type Stack::base_tables",
+    "goals_named": "Finder::each_id",
+    "OpenedBox::make": "OpenedBox::read",
+    "OpenedCert::check": "OpenedCert::read",
+    "show_bytes": """OpenedTrees::read OpenedTrees::show NumberedGoal::of OpenPaths::at_start
+        OpenPaths::push_answers""",
+    "show_dot_bytes": "OpenedTrees::show_dot",
+    "overlay_map": "Stack::new",
+    "bags_themes": "Theme::new",
+}
+"""Public calls that a call makes in turn, and calls of crates whose own take no memory."""
