@@ -4,9 +4,7 @@
 usage: tools/definitions.py            writes the page
        tools/definitions.py --check    ends with status 1 where the page is not up to date
 
-What a file says is its first comment, in crates/NAME/specs/. Carried by means: a contract of this public
-function names a definition of the file. Where none does, the nearest are named whose contracts name a definition
-that is made of it.
+Of a file it names the definitions that contracts of public functions name, and these functions.
 """
 import os
 import re
@@ -14,13 +12,13 @@ import sys
 
 ROOT = os.path.dirname(os.path.dirname(os.path.realpath(__file__)))
 PAGE = f"{ROOT}/docs/DEFINITIONS.md"
-# A row names so many functions that carry a file, and counts the others.
-MOST_SHOWN = 6
+# A line names so many functions, and counts the others.
+MOST_SHOWN = 3
 HEAD = """# Definitions
 
-Contracts cite these definitions. `tools/definitions.py` makes this page from the files in `specs/` and the contracts in `src/`; do not edit it. Crates and files stand in the order to read them. [ARCHITECTURE.md](ARCHITECTURE.md#contracts-and-definitions) says how the definitions are named.
+Contracts of public functions cite these definitions. `tools/definitions.py` makes this page from `specs/` and `src/`; do not edit it. Crates and files stand in the order to read them, and each file begins with what it says. [ARCHITECTURE.md](ARCHITECTURE.md#contracts-and-definitions) says how definitions are named.
 
-A definition in bold is named by a public contract; the others are what it is made of. **Carried by** lists public functions whose contracts name a definition of the file, or a type whose contracts do (of the type itself, or of its iterator). *Within* means that no public contract names it: these are the nearest that name a definition made of it. Files that only private contracts name are left out: no public promise rests on them.
+Behind a file stand those of its definitions that are cited, and functions that cite one, or types whose own contracts do. A file with nothing behind it has what others are made of. Files that only private contracts need are left out: no public promise rests on them.
 """
 
 USE = re.compile(r"^\s*(?:ghost )?(?:unfoldable )?(pub )?use Rattle\.(\w+)\.specs\.(\w+)(?:\.\{([^}]*)\}| as (\w+))?;?\s*$", re.M)
@@ -65,7 +63,6 @@ class Specs:
 
     def __init__(self, crate, name, text):
         self.crate, self.name = crate, name
-        self.says = head_of(text.splitlines())
         self.names = []  # those that are public, in the order of the file
         self.owners = {}  # the definition of each name, of constructors too
         self.bodies = {}
@@ -92,16 +89,6 @@ def blocks_of(text):
         if blocks and not line.lstrip().startswith("--"):
             blocks[-1][1].append(line)
     return blocks
-
-
-def head_of(lines):
-    """The comment that a file begins with, as one line."""
-    said = []
-    for line in lines:
-        if not line.startswith("--"):
-            break
-        said.append(line[2:].strip())
-    return " ".join(said)
 
 
 def uses_in(text):
@@ -207,24 +194,11 @@ class Reader:
             if carrier not in carriers:
                 carriers.append(carrier)
 
-    def shown_name(self, specs, name):
-        """The name of a definition; in bold where a public contract names it."""
-        words = f"`{' '.join(parts_of(name))}`"
-        return f"**{words}**" if (specs.crate, specs.name, name) in self.public else words
-
-    def carriers(self, specs):
-        """The functions that carry a file, and how: as words of a row."""
-        own = [(specs.crate, specs.name, name) for name in specs.names]
-        levels = self.levels_above(own)
-        carried = [[it for home in level for it in self.public.get(home, [])] for level in levels]
-        if carried[0]:
-            return shown(carried[0], specs.crate, self.crates)
-        # The nearest of the crate itself, or else of another one.
-        in_crate = [[it for it in found if it[0] == specs.crate] for found in carried]
-        nearest = next((found for found in in_crate + carried if found), [])
-        if nearest:
-            return "within " + shown(nearest, specs.crate, self.crates)
-        return ""
+    def cited(self, specs):
+        """The definitions of a file that public contracts name, and the functions that do."""
+        homes = [(specs.crate, specs.name, name) for name in specs.names]
+        names = [name for *_, name in homes if (specs.crate, specs.name, name) in self.public]
+        return names, [it for home in homes for it in self.public.get(home, [])]
 
     def is_private(self, specs):
         """Whether private contracts name a file, and no public one does, nor one of what is made of it."""
@@ -244,16 +218,12 @@ class Reader:
         return levels
 
 
-def shown(found, crate, order):
+def functions(found, crate, order):
     """Functions as words, those of the crate first and then those of the nearest crates above."""
     ranked = sorted(found, key=lambda it: (it[0] != crate, order.index(it[0])))
-    named = []
-    for _, name in ranked:
-        if name not in named:
-            named.append(name)
-    words = ", ".join(f"`{name}`" for name in named[:MOST_SHOWN])
+    named = list(dict.fromkeys(f"`{name}`" for _, name in ranked))
     more = len(named) - MOST_SHOWN
-    return words + (f" and {more} more" if more > 0 else "")
+    return ", ".join(named[:MOST_SHOWN]) + (f" and {more} more" if more > 0 else "")
 
 
 def modules(folder):
@@ -302,8 +272,14 @@ def clause_at(lines, at):
     return "\n".join(clause)
 
 
-def cell(text):
-    return text.replace("|", "\\|")
+def line(reader, specs):
+    """What the page says of a file."""
+    link = f"- [{specs.name}](../crates/{specs.crate}/specs/{specs.name}.antt)"
+    names, found = reader.cited(specs)
+    if not names:
+        return link
+    cited = ", ".join(f"`{' '.join(parts_of(name))}`" for name in names)
+    return f"{link} {cited}: {functions(found, specs.crate, reader.crates)}"
 
 
 def page():
@@ -311,14 +287,8 @@ def page():
     lines = [HEAD]
     for crate in reader.crates:
         files = [it for it in reader.specs.values() if it.crate == crate and it.names and not reader.is_private(it)]
-        if not files:
-            continue
-        lines += [f"## {crate}", "", "| file | says | definitions | carried by |", "|---|---|---|---|"]
-        for specs in files:
-            names = ", ".join(reader.shown_name(specs, name) for name in specs.names)
-            link = f"[{specs.name}](../crates/{crate}/specs/{specs.name}.antt)"
-            lines.append(f"| {link} | {cell(specs.says)} | {cell(names)} | {reader.carriers(specs)} |")
-        lines.append("")
+        if files:
+            lines += [f"## {crate}", "", *(line(reader, it) for it in files), ""]
     return "\n".join(lines).rstrip("\n") + "\n"
 
 
