@@ -1,0 +1,2 @@
+pub mod TraceSteps
+pub mod ContentEquality

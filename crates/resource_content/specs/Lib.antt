@@ -1,0 +1,5 @@
+pub mod Content
+pub mod ContentSeen
+pub mod ValueContent
+pub mod ContentAt
+pub mod ContentTrace

@@ -1,0 +1,8 @@
+//! Laws of contents: calls that do nothing, each for its contract.
+
+ghost use Rattle.resource_content.specs.ContentTrace.{TraceTellsContent};
+
+/// Devices at which the look-ups of an id have one trace load the same content.
+pub fn trace_tells_content()
+    ensures { TraceTellsContent }
+{}
