@@ -1,2 +1,3 @@
 pub mod TraceSteps
 pub mod ContentEquality
+pub mod NameOrder

@@ -9,14 +9,15 @@ use Rattle.bags_themes.specs.declared.bag_fault.BagFault.{BagFault}
 use Rattle.bags_themes.specs.Bag.{bag_of}
 use Rattle.resource_content.specs.Content.{RowContentOf, ContentOf, ValueOf, BagOf, AbsentOf, TooManyReferencesOf, TooManyParentsOf}
 use Rattle.resource_content.specs.ValueContent.{id_content, value_content}
+use Rattle.resource_content.specs.ByName.{by_name}
 
 -- a row of a bag: its attribute or key by its name, and what its value says
 abbrev pub row_content : List LayerOf → BagRow → RowContentOf
 row_content stack row = record { name = id_content stack row.name.0; value = value_content stack row.layer row.value }
 
--- The rows of a bag, as they are merged. Of an id that selects a bag nothing else can be wrong.
+-- The rows of a bag, by their names. Of an id that selects a bag nothing else can be wrong.
 abbrev pub bag_content : List LayerOf → Result (List BagRow) BagFault → ContentOf
-bag_content stack (Ok rows) = BagOf (map (row_content stack) rows)
+bag_content stack (Ok rows) = BagOf (by_name (map (row_content stack) rows))
 bag_content stack (Err fault) = TooManyParentsOf
 
 -- what stands at an end
