@@ -231,8 +231,8 @@ def command_rows():
     lacking = "qualifier night rows 1 from 2 to 2\nwarning box lacks night\nNegative"
     yield ask("survey_bytes", "0 [night=2] 1", lacking, MEDIUM_BOX)
     medium = f"{ID} value layer 0 decimal 2\nset-aside 0\nDone"
-    for name in ("query_bytes", "Opened::query"):
-        yield ask(name, "0 [] 1\n0 [density=160] 2", medium, MEDIUM)
+    yield ask("query_bytes", "0 [] 1\n0 [density=160] 2", medium, MEDIUM)
+    yield ask("Opened::query", "B", f'{ID} "s"/"k" value layer 0 decimal 5\nset-aside 0\nDone', MEDIUM)
     explained = [
         f"lookup {ID}",
         "candidate 0 layer 0 [density=160] first",
@@ -242,8 +242,10 @@ def command_rows():
     ]
     yield ask("explain_bytes", DENSITIES, "\n".join(explained), '{"density":198}')
     merged = [f"0x0101000{name} layer 0 decimal {name}" for name in (1, 2, 3)]
-    yield ask("bag_bytes", BAGS, "\n".join([*merged, "Done"]), MEDIUM)
-    yield ask("attr_bytes", STYLES, "0x01010001 value layer 0 decimal 1\nDone", MEDIUM)
+    for name in ("bag_bytes", "Opened::bag"):
+        yield ask(name, BAGS, "\n".join([*merged, "Done"]), MEDIUM)
+    for name in ("attr_bytes", "Opened::attr"):
+        yield ask(name, STYLES, "0x01010001 value layer 0 decimal 1\nDone", MEDIUM)
     yield from check_commands(ask)
     yield from make_commands(ask)
     yield from show_commands(ask)
@@ -382,7 +384,7 @@ WITHOUT_MEMORY = [
         f"row {ID} [density=160] decimal 1\nrow {ID} [density=320] decimal 2\nrows 2 set-aside 0\n"
         f'package 0x7f ""\n  {ID} !NoSuch/!NoSuch flags 0x00000000 [density=160] decimal 1\n'
         f"  {ID} !NoSuch/!NoSuch flags 0x00000000 [density=320] decimal 2\n"
-        f"lookup {ID}\ncandidate 0 layer 0 [density=160] first\n"
+        f"lookup {ID} !NoSuch/!NoSuch\ncandidate 0 layer 0 [density=160] first\n"
         "candidate 1 layer 0 [density=320] took over P15\nend value layer 0 decimal 2\n"
         "value layer 0 decimal 2\nout of memory",
         DENSITIES,
@@ -403,7 +405,7 @@ REACHED = {
     "push_base": "IndexedTable::new",
     "map_bytes": "Carried::new FirstRows::new FirstRows::in_order",
     "query_bytes": "open_stack",
-    "Opened::query": "Opened::read Opened::attr Opened::bag",
+    "Opened::query": "Opened::read",
     "bag": "FoundBag::select FoundBag::of",
     "goal_end": "attribute_under CourseStep::end",
     "check": """goal_box OpenBox::whole OpenBox::whole_of_attribute OpenBox::narrowed OpenBox::common_trace

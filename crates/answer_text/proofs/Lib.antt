@@ -1,1 +1,2 @@
 pub mod TypeNameSteps
+pub mod ItemSteps

@@ -1,12 +1,14 @@
 -- Ends of references as text.
-use Rattle.std.specs.Prelude.{ℕ, List, [], ◌∷◌, ◌++◌, codes, Option, None}
+use Rattle.std.specs.Prelude.{ℕ, Bool, List, [], ◌∷◌, ◌++◌, codes, Option, None}
 use Rattle.reference_resolver.specs.string_pool.Pool.{PoolOf}
 use Rattle.reference_resolver.specs.res_value.declared.value.Value.{Value}
+use Rattle.reference_resolver.specs.overlay_map.Layer.{LayerOf}
 use Rattle.reference_resolver.specs.declared.end.End.{End}
 use Rattle.reference_resolver.specs.declared.end.End.TheVariants as of_end
 use Rattle.line_parts.specs.NamedText.{named_id}
 use Rattle.line_parts.specs.LayerText.{layer_text}
 use Rattle.answer_text.specs.CellText.{value_with_string}
+use Rattle.answer_text.specs.NameText.{name_beside}
 
 -- `value layer L VALUE`
 unfoldable pub value_end_text : Option PoolOf → ℕ → Value → List ℕ
@@ -23,6 +25,21 @@ end_with_string strings (of_end.TooLong id) = named_id (codes "too long") id.0
 abbrev pub end_text : End → List ℕ
 end_text end = end_with_string None end
 
+-- behind an end the name of the id that it has, where names are asked for
+unfoldable pub end_name : List LayerOf → End → Bool → List ℕ
+end_name stack (of_end.Value layer value) names = []
+end_name stack (of_end.Bag id) names = name_beside stack id.0 names
+end_name stack (of_end.Absent id) names = name_beside stack id.0 names
+end_name stack (of_end.TooLong id) names = name_beside stack id.0 names
+
+-- an end, and that name
+unfoldable pub end_with_name : List LayerOf → Option PoolOf → End → Bool → List ℕ
+end_with_name stack strings end names = end_with_string strings end ++ end_name stack end names
+
 -- the line `end END`
 unfoldable pub end_line : End → List ℕ
 end_line end = codes "end " ++ end_text end ++ 10 ∷ []
+
+-- the same, with that name
+unfoldable pub named_end_line : List LayerOf → End → Bool → List ℕ
+named_end_line stack end names = codes "end " ++ end_with_name stack None end names ++ 10 ∷ []

@@ -1,5 +1,6 @@
--- How an id comes to its end, as text: the candidates of each look-up, what each does there, and the end.
-use Rattle.std.specs.Prelude.{ℕ, List, [], ◌∷◌, ◌++◌, codes, Option, Some, None}
+-- How an id comes to its end, as text: the candidates of each look-up, what each does there, and the end. Where names are
+-- asked for, the id of each look-up and that of the end are followed by their names.
+use Rattle.std.specs.Prelude.{ℕ, Bool, List, [], ◌∷◌, ◌++◌, codes, Option, Some, None}
 use Rattle.std.specs.List.{flat_map, enumerate_from}
 use Rattle.std.specs.Fmt.{decimal}
 use Rattle.reference_resolver.specs.config_record.Qualifiers.{record_text}
@@ -10,7 +11,8 @@ use Rattle.reference_resolver.specs.Ends.{references_followed, end_of}
 use Rattle.reference_resolver.specs.Trace.{look_ups_of, TracedCandidateOf, traced, scan_look_up}
 use Rattle.line_parts.specs.NamedText.{named_id, named_coord, named_number}
 use Rattle.line_parts.specs.LayerText.{layer_text}
-use Rattle.answer_text.specs.EndText.{end_line}
+use Rattle.answer_text.specs.EndText.{named_end_line}
+use Rattle.answer_text.specs.NameText.{name_beside}
 
 -- ---- a candidate
 
@@ -43,20 +45,20 @@ candidate_line numbered =
 -- ---- a look-up
 
 -- the line `lookup ID`
-unfoldable pub look_up_line : ℕ → List ℕ
-look_up_line id = named_id (codes "lookup") id ++ 10 ∷ []
+unfoldable pub look_up_line : List LayerOf → Bool → ℕ → List ℕ
+look_up_line stack names id = named_id (codes "lookup") id ++ name_beside stack id names ++ 10 ∷ []
 
 -- the lines of candidates, which are counted from 0
 unfoldable pub candidate_lines : List TracedCandidateOf → List ℕ
 candidate_lines candidates = flat_map candidate_line (enumerate_from 0 candidates)
 
-unfoldable pub look_up_text : List LayerOf → List ℕ → ℕ → List ℕ
-look_up_text stack d id = look_up_line id ++ candidate_lines (scan_look_up traced stack d id)
+unfoldable pub look_up_text : List LayerOf → List ℕ → Bool → ℕ → List ℕ
+look_up_text stack d names id = look_up_line stack names id ++ candidate_lines (scan_look_up traced stack d id)
 
 -- ---- all look-ups
 
 -- the lines of each look-up, also of one without candidates, and that of the end
-unfoldable pub explain_text : List LayerOf → ℕ → List ℕ → List ℕ
-explain_text stack id d =
-    flat_map (look_up_text stack d) (look_ups_of stack references_followed id d)
-    ++ end_line (end_of stack references_followed id d)
+unfoldable pub explain_text : List LayerOf → ℕ → List ℕ → Bool → List ℕ
+explain_text stack id d names =
+    flat_map (look_up_text stack d names) (look_ups_of stack references_followed id d)
+    ++ named_end_line stack (end_of stack references_followed id d) names

@@ -1,6 +1,8 @@
 pub mod CellText
 pub mod RowsText
 pub mod DumpText
+pub mod NameText
+pub mod GoalText
 pub mod EndText
 pub mod QueryText
 pub mod ExplainText

@@ -3,11 +3,12 @@
 ghost use Rattle.std.specs.Option.{option_map};
 ghost use Rattle.contract_words.specs.Writes.{Writes};
 ghost use Rattle.reference_resolver.specs.string_pool.Pool.{pool_of};
-ghost use Rattle.answer_text.specs.EndText.{value_end_text, end_with_string, end_text, end_line};
+ghost use Rattle.answer_text.specs.EndText.{value_end_text, end_with_string, end_text, end_name, end_with_name, end_line, named_end_line};
 
 use crate::cell::write_value_with_string;
+use crate::name::write_name_beside;
 use line_parts::{write_layer, write_named_id};
-use reference_resolver::{End, Pool, Value};
+use reference_resolver::{End, Pool, Stack, Value};
 use std::io::{self, Write};
 
 /// Writes an end: a value with the place of its layer, counted from 0; the id that selected a bag, or
@@ -50,6 +51,39 @@ fn write_value_end<W: Write + Drop>(
     write_value_with_string(strings, value, out)
 }
 
+/// Writes an end, and behind the id that it has its name, where names are asked for. Where strings are given, a string
+/// value is followed by its string among them.
+#[tactic(auto, unfolding(crate::specs::EndText::end_with_name))]
+pub fn write_end_with_name<W: Write + Drop>(
+    stack: &Stack<'_>,
+    strings: Option<Pool<'_>>,
+    end: End,
+    names: bool,
+    out: &mut W,
+) -> io::Result<()>
+    ensures { Writes W.contents out.old out.new result (end_with_name stack.now (option_map pool_of strings.entry) end names) }
+{
+    write_end_with_string(strings, end, out)?;
+    write_end_name(stack, end, names, out)
+}
+
+#[tactic(auto, unfolding(crate::specs::EndText::end_name))]
+fn write_end_name<W: Write + Drop>(
+    stack: &Stack<'_>,
+    end: End,
+    names: bool,
+    out: &mut W,
+) -> io::Result<()>
+    ensures { Writes W.contents out.old out.new result (end_name stack.now end names) }
+{
+    match end {
+        End::Value { .. } => Ok(()),
+        End::Bag { id } | End::Absent { id } | End::TooLong { id } => {
+            write_name_beside(stack, id, names, out)
+        }
+    }
+}
+
 /// Writes the line of an end.
 #[tactic(auto, unfolding(crate::specs::EndText::end_line))]
 pub fn write_end_line<W: Write + Drop>(end: End, out: &mut W) -> io::Result<()>
@@ -57,5 +91,20 @@ pub fn write_end_line<W: Write + Drop>(end: End, out: &mut W) -> io::Result<()>
 {
     out.write_all(b"end ")?;
     end_text(end, out)?;
+    out.write_all(b"\n")
+}
+
+/// Writes the line of an end, with the name of the id that it has, where names are asked for.
+#[tactic(auto, unfolding(crate::specs::EndText::named_end_line))]
+pub(crate) fn write_named_end_line<W: Write + Drop>(
+    stack: &Stack<'_>,
+    end: End,
+    names: bool,
+    out: &mut W,
+) -> io::Result<()>
+    ensures { Writes W.contents out.old out.new result (named_end_line stack.now end names) }
+{
+    out.write_all(b"end ")?;
+    write_end_with_name(stack, None, end, names, out)?;
     out.write_all(b"\n")
 }

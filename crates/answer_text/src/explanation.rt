@@ -12,26 +12,29 @@ ghost use Rattle.reference_resolver.specs.Trace.{look_ups_of, traced, scan_look_
 ghost use Rattle.answer_text.specs.ExplainText.{place_text, traced_text, candidate_line, look_up_line, candidate_lines, look_up_text, explain_text};
 
 use crate::decision::write_decision;
-use crate::end::write_end_line;
+use crate::end::write_named_end_line;
+use crate::name::write_name_beside;
 use line_parts::{write_layer, write_named_id, write_named_number};
 use reference_resolver::{Cand, Decision, Device, End, Next, REFERENCES_FOLLOWED, ResId, Stack};
 use std::io::{self, Write};
 
 /// Writes how an id comes to its end at a device: a line for each id that is looked up, behind it one for
-/// each of its candidates with what it does and why, and last the end, which is also given.
+/// each of its candidates with what it does and why, and last the end, which is also given. Where names are asked
+/// for, they stand behind the ids that are looked up, and behind that of the end.
 #[tactic(auto, using(reference_resolver::proofs::Traces::is_traced), unfolding(crate::specs::ExplainText::explain_text))]
 pub fn explain<W: Write + Drop>(
     stack: &Stack<'_>,
     id: ResId,
     device: &Device,
+    names: bool,
     out: &mut W,
 ) -> io::Result<End>
-    ensures text { Writes W.contents out.old out.new result (explain_text stack.now id.0 (device_numbers device.now)) }
+    ensures text { Writes W.contents out.old out.new result (explain_text stack.now id.0 (device_numbers device.now) names) }
     ensures end { IfOk result (λ end. end ≡ end_of stack.now references_followed id.0 (device_numbers device.now)) }
     ensures trace { IsTraced stack.now references_followed id.0 (device_numbers device.now) }
 {
-    let end = write_look_ups(stack, id, REFERENCES_FOLLOWED, device, out)?;
-    write_end_line(end, out)?;
+    let end = write_look_ups(stack, id, REFERENCES_FOLLOWED, device, names, out)?;
+    write_named_end_line(stack, end, names, out)?;
     Ok(end)
 }
 
@@ -41,17 +44,18 @@ fn write_look_ups<W: Write + Drop>(
     id: ResId,
     most: u8,
     device: &Device,
+    names: bool,
     out: &mut W,
 ) -> io::Result<End>
     ensures text { Writes W.contents out.old out.new result (flat_map
-        (look_up_text stack.now (device_numbers device.now))
+        (look_up_text stack.now (device_numbers device.now) names)
         (look_ups_of stack.now most id.0 (device_numbers device.now))) }
     ensures end { IfOk result (λ end. end ≡ end_of stack.now most id.0 (device_numbers device.now)) }
 {
     let mut id = id;
     let mut left = most;
     'chain: loop {
-        let picked = write_look_up(stack, id, device, out)?;
+        let picked = write_look_up(stack, id, device, names, out)?;
         match Next::of(id, &picked).cut_off(left) {
             Next::EndsAt(end) => return Ok(end),
             Next::LookUp(target) => id = target,
@@ -66,12 +70,13 @@ fn write_look_up<'a, W: Write + Drop>(
     stack: &Stack<'a>,
     id: ResId,
     device: &Device,
+    names: bool,
     out: &mut W,
 ) -> io::Result<Option<Cand<'a>>>
-    ensures text { Writes W.contents out.old out.new result (look_up_text stack.now (device_numbers device.now) id.0) }
+    ensures text { Writes W.contents out.old out.new result (look_up_text stack.now (device_numbers device.now) names id.0) }
     ensures picked { IfOk result (λ picked. option_map cand_of picked ≡ selected stack.now id.0 (device_numbers device.now)) }
 {
-    write_look_up_line(id, out)?;
+    write_look_up_line(stack, id, names, out)?;
     write_candidates(stack, id, device, out)
 }
 
@@ -138,9 +143,15 @@ fn write_place<W: Write + Drop>(place: u128, layer: usize, out: &mut W) -> io::R
 }
 
 #[tactic(auto, unfolding(crate::specs::ExplainText::look_up_line))]
-fn write_look_up_line<W: Write + Drop>(id: ResId, out: &mut W) -> io::Result<()>
-    ensures { Writes W.contents out.old out.new result (look_up_line id.0) }
+fn write_look_up_line<W: Write + Drop>(
+    stack: &Stack<'_>,
+    id: ResId,
+    names: bool,
+    out: &mut W,
+) -> io::Result<()>
+    ensures { Writes W.contents out.old out.new result (look_up_line stack.now names id.0) }
 {
     write_named_id("lookup", id, out)?;
+    write_name_beside(stack, id, names, out)?;
     out.write_all(b"\n")
 }

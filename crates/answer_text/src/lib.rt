@@ -9,10 +9,11 @@
 //! dump_text(&table, &mut out)?; // package 0x7f "app"
 //!                               //   0x7f010000 "integer"/"five" flags 0x00000000 [] decimal 5
 //! end_text(end, &mut out)?; // value layer 0 decimal 5
-//! explain(&stack, id, &device, &mut out)?; // lookup 0x7f010000
-//!                                          // candidate 0 layer 0 [] first
-//!                                          // candidate 1 layer 0 [sdk=21] took over P22
-//!                                          // end value layer 0 decimal 5
+//! explain(&stack, id, &device, false, &mut out)?; // lookup 0x7f010000
+//!                                                 // candidate 0 layer 0 [] first
+//!                                                 // candidate 1 layer 0 [sdk=21] took over P22
+//!                                                 // end value layer 0 decimal 5
+//! write_goal_words(&stack, attr, &styles, true, &mut out)?; // 0x7f010000@0x7f020000 "attr"/"size" "style"/"App"
 //! ```
 #![tactic(auto)]
 
@@ -21,16 +22,20 @@ mod decision;
 mod dump;
 mod end;
 mod explanation;
+mod goal;
 mod last_record;
 mod last_type_name;
 mod line;
+mod name;
 mod query;
 mod rows;
 
 pub use dump::dump_text;
-pub use end::{end_text, write_end_line, write_end_with_string};
+pub use end::{end_text, write_end_line, write_end_with_name, write_end_with_string};
 pub use explanation::explain;
+pub use goal::write_goal_words;
 pub use line_parts::{write_id, write_layer, write_value};
+pub use name::{write_its_name, write_name_beside};
 pub use query::{query_line, set_aside_line, strings_of_layer};
 pub use reference_resolver::{
     Cell, Device, End, MapRows, Pool, ResId, Row, Stack, Table, Value, kind, write_string,

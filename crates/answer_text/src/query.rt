@@ -6,26 +6,29 @@ ghost use Rattle.contract_words.specs.Writes.{Writes};
 ghost use Rattle.reference_resolver.specs.string_pool.Pool.{pool_of};
 ghost use Rattle.answer_text.specs.QueryText.{strings_of_layer, strings_of_end, query_line, set_aside_line};
 
-use crate::end::write_end_with_string;
+use crate::end::write_end_with_name;
+use crate::name::write_name_beside;
 use line_parts::write_id;
 use reference_resolver::{End, Pool, ResId, Stack};
 use std::io::{self, Write};
 
 /// Writes the line of an id with its end. A string value is followed by its string, which is one of the
-/// table of its layer.
+/// table of its layer. Where names are asked for, each id is followed by its name.
 #[tactic(auto, unfolding(crate::specs::QueryText::query_line))]
 pub fn query_line<W: Write + Drop>(
     stack: &Stack<'_>,
     id: ResId,
     end: End,
+    names: bool,
     out: &mut W,
 ) -> io::Result<()>
-    ensures { Writes W.contents out.old out.new result (query_line stack.now id.0 end) }
+    ensures { Writes W.contents out.old out.new result (query_line stack.now id.0 end names) }
 {
     let strings = strings_of_end(stack, end);
     write_id(id, out)?;
+    write_name_beside(stack, id, names, out)?;
     out.write_all(b" ")?;
-    write_end_with_string(strings, end, out)?;
+    write_end_with_name(stack, strings, end, names, out)?;
     out.write_all(b"\n")
 }
 

@@ -90,7 +90,15 @@ impl<'w> Asked<'w> {
             "survey_bytes" => survey_bytes(alloc, layers, Some(of), out),
             "Opened::query" => {
                 let opened = Opened::read(alloc, layers, of)?;
-                Ok(opened.query(&[FIRST], out)?)
+                Ok(opened.query(&[FIRST], true, out)?)
+            }
+            "Opened::bag" => {
+                let opened = Opened::read(alloc, layers, of)?;
+                opened.bag(alloc, FIRST, true, out)
+            }
+            "Opened::attr" => {
+                let opened = Opened::read(alloc, layers, of)?;
+                opened.attr(alloc, ATTR, &STYLES, false, true, out)
             }
             "OpenedBox::make" => {
                 let opened = OpenedBox::read(alloc, layers, of)?;

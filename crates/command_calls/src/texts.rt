@@ -24,7 +24,7 @@ pub fn answers(rt: &HostRuntime, word: &str) -> Result<(), Fail> {
         rows_text(table, &mut out)?;
         dump_text(table, &mut out)?;
     }
-    explain(&stack, FIRST, &device, &mut out)?;
+    explain(&stack, FIRST, &device, true, &mut out)?;
     end_text(resolve(&stack, FIRST, &device), &mut out)?;
     tell_text(rt, b"")?;
     fault_text(&ToolFault::OutOfMemory, &mut out)?;

@@ -12,15 +12,15 @@ use Rattle.command_base.specs.declared.status.Status.{Status}
 use Rattle.command_base.specs.declared.status.Status.TheVariants.{Done, Negative}
 use Rattle.device_commands.specs.EndStatus.{is_unresolved}
 use Rattle.device_commands.specs.QueryOutput.{end_for, is_unresolved_for, line_of}
-use Rattle.device_commands.proofs.LineSteps.{line-next}
+use Rattle.answer_text.proofs.ItemSteps.{item-next}
 
 -- ---- lines
 
-pub end-line-next : (stack : List LayerOf) (device : List ℕ) (old mid new : Option (List ℕ)) (ids : List ResId) (i : ℕ) (d : ResId) (end : End)
-    → PutsAllBut (line_of stack device) old mid ids (drop i ids) → i < length ids → end ≡ end_for stack device (get_or ids i d)
-    → Appends mid new (query_line stack (get_or ids i d).0 end) → PutsAllBut (line_of stack device) old new ids (drop (i + 1) ids)
-end-line-next stack device old mid new ids i d end before on is put =
-    line-next (line_of stack device) old mid new ids i d before on (subst (λ (e : End). Appends mid new (query_line stack (get_or ids i d).0 e)) is put)
+pub end-line-next : (stack : List LayerOf) (device : List ℕ) (names : Bool) (old mid new : Option (List ℕ)) (ids : List ResId) (i : ℕ) (d : ResId) (end : End)
+    → PutsAllBut (line_of stack device names) old mid ids (drop i ids) → i < length ids → end ≡ end_for stack device (get_or ids i d)
+    → Appends mid new (query_line stack (get_or ids i d).0 end names) → PutsAllBut (line_of stack device names) old new ids (drop (i + 1) ids)
+end-line-next stack device names old mid new ids i d end before on is put =
+    item-next (line_of stack device names) old mid new ids i d before on (subst (λ (e : End). Appends mid new (query_line stack (get_or ids i d).0 e names)) is put)
 
 -- ---- status
 

@@ -1,5 +1,5 @@
 -- What the command `attr` prints.
-use Rattle.std.specs.Prelude.{ℕ, Bool, List, [], ◌∷◌, ◌++◌, codes, Result, Ok, Err}
+use Rattle.std.specs.Prelude.{ℕ, Bool, false, List, [], ◌∷◌, ◌++◌, codes, None, Result, Ok, Err}
 use Rattle.contract_words.specs.Faults.{◌>>=◌}
 use Rattle.answer_text.specs.res_value.declared.res_id.ResId.{ResId}
 use Rattle.answer_text.specs.res_value.ResId.{id_text}
@@ -9,7 +9,8 @@ use Rattle.bags_themes.specs.declared.bag_fault.BagFault.{BagFault}
 use Rattle.bags_themes.specs.Theme.{AttributeValues, unset}
 use Rattle.bags_themes.specs.Styles.{values_after_styles}
 use Rattle.bags_themes.specs.Attribute.{attribute_of}
-use Rattle.answer_text.specs.EndText.{end_text}
+use Rattle.answer_text.specs.EndText.{end_with_name}
+use Rattle.answer_text.specs.NameText.{name_beside}
 use Rattle.command_base.specs.fault_text.declared.fault.ToolFault.{ToolFault}
 use Rattle.command_base.specs.Output.{Output}
 use Rattle.command_base.specs.StackBytes.{LayerBytes}
@@ -17,27 +18,27 @@ use Rattle.device_commands.specs.Opened.{OpenedOf, opened_in}
 use Rattle.device_commands.specs.EndStatus.{status_of_end}
 use Rattle.device_commands.specs.BagOutput.{no_bag}
 
--- the line `ID END`
-unfoldable pub attribute_line : ℕ → End → List ℕ
-attribute_line attr end = id_text attr ++ codes " " ++ end_text end ++ 10 ∷ []
+-- the line `ID END`; each id is followed by its name, where names are asked for
+unfoldable pub attribute_line : List LayerOf → ℕ → End → Bool → List ℕ
+attribute_line stack attr end names = id_text attr ++ name_beside stack attr names ++ codes " " ++ end_with_name stack None end names ++ 10 ∷ []
 
 -- it is done where the end is not absent and not too long
-abbrev pub end_output : ℕ → End → Output
-end_output attr end = record { status = status_of_end end; text = attribute_line attr end }
+abbrev pub end_output : List LayerOf → ℕ → End → Bool → Output
+end_output stack attr end names = record { status = status_of_end end; text = attribute_line stack attr end names }
 
 -- where an attribute ends after styles, or why the first of them that is no bag, or has too many parents, is refused
-abbrev pub end_or_reason : List LayerOf → ℕ → List ℕ → Result AttributeValues BagFault → Output
-end_or_reason stack attr d (Ok values) = end_output attr (attribute_of stack values attr d)
-end_or_reason stack attr d (Err fault) = no_bag fault
+abbrev pub end_or_reason : List LayerOf → ℕ → List ℕ → Bool → Result AttributeValues BagFault → Output
+end_or_reason stack attr d names (Ok values) = end_output stack attr (attribute_of stack values attr d) names
+end_or_reason stack attr d names (Err fault) = no_bag fault
 
 -- What `attr` prints of layers and a device that were opened: where the attribute ends after styles that are applied to
--- nothing in their order, with or without force.
-abbrev pub attr_answer : OpenedOf → ℕ → List ResId → Bool → Output
-attr_answer asked attr styles force =
-    end_or_reason asked.stack attr asked.device (values_after_styles asked.stack force styles unset asked.device)
+-- nothing in their order, with or without force. Where names are asked for, they stand beside the ids.
+abbrev pub attr_answer : OpenedOf → ℕ → List ResId → Bool → Bool → Output
+attr_answer asked attr styles force names =
+    end_or_reason asked.stack attr asked.device names (values_after_styles asked.stack force styles unset asked.device)
 
--- What `attr` prints of these layers, a device's text, an attribute and styles, with or without force.
+-- What `attr` prints of these layers, a device's text, an attribute and styles, with or without force, without names.
 unfoldable pub attr_output : List LayerBytes → List ℕ → ℕ → List ResId → Bool → Result Output ToolFault
 attr_output layers device_json attr styles force = do
   asked ← opened_in layers device_json
-  Ok (attr_answer asked attr styles force)
+  Ok (attr_answer asked attr styles force false)

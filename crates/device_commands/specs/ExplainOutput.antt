@@ -1,5 +1,5 @@
 -- What the command `explain` prints.
-use Rattle.std.specs.Prelude.{ℕ, List, Result, Ok}
+use Rattle.std.specs.Prelude.{ℕ, Bool, false, List, Result, Ok}
 use Rattle.contract_words.specs.Faults.{◌>>=◌}
 use Rattle.bags_themes.specs.overlay_map.Layer.{LayerOf}
 use Rattle.bags_themes.specs.reference_resolver.Ends.{references_followed, end_of}
@@ -15,12 +15,12 @@ use Rattle.device_commands.specs.EndStatus.{status_of_end}
 abbrev pub explain_status : List LayerOf → List ℕ → ℕ → Status
 explain_status stack device id = status_of_end (end_of stack references_followed id device)
 
--- What `explain` prints of layers and a device that were opened.
-abbrev pub explain_answer : OpenedOf → ℕ → Output
-explain_answer asked id = record { status = explain_status asked.stack asked.device id; text = explain_text asked.stack id asked.device }
+-- What `explain` prints of layers and a device that were opened. Where names are asked for, they stand beside the ids.
+abbrev pub explain_answer : OpenedOf → ℕ → Bool → Output
+explain_answer asked id names = record { status = explain_status asked.stack asked.device id; text = explain_text asked.stack id asked.device names }
 
--- What `explain` prints of these layers, a device's text and this id.
+-- What `explain` prints of these layers, a device's text and this id, without names.
 unfoldable pub explain_output : List LayerBytes → List ℕ → ℕ → Result Output ToolFault
 explain_output layers device_json id = do
   asked ← opened_in layers device_json
-  Ok (explain_answer asked id)
+  Ok (explain_answer asked id false)

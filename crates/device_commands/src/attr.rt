@@ -10,7 +10,7 @@ ghost use Rattle.device_commands.specs.AttrOutput.{attribute_line, attr_answer, 
 use crate::end_status::status_of_end;
 use crate::no_bag::print_no_bag;
 use crate::opened::Opened;
-use answer_text::{ResId, end_text, write_id};
+use answer_text::{ResId, Stack, write_end_with_name, write_id, write_name_beside};
 use bags_themes::{End, Theme};
 use command_base::{LayerParts, Status, ToolFault};
 use std::alloc::Global;
@@ -33,25 +33,27 @@ pub fn attr_bytes<W: Write + Drop>(
         (attr_output (map layer_bytes layers.now) device.now attr.0 styles.now force) }
 {
     let opened = Opened::read(alloc, layers, device)?;
-    opened.attr(alloc, attr, styles, force, out)
+    opened.attr(alloc, attr, styles, force, false, out)
 }
 
 impl Opened<'_> {
-    /// What `attr_bytes` prints of the same layers and device.
+    /// What `attr_bytes` prints of the same layers and device. Where names are asked for, that of each id stands
+    /// beside it.
     pub fn attr<W: Write + Drop>(
         &self,
         alloc: Global,
         attr: ResId,
         styles: &[ResId],
         force: bool,
+        names: bool,
         out: &mut W,
     ) -> Result<Status, ToolFault>
-        ensures { Prints W.contents out.old out.new result (Ok (attr_answer (opened_of self.now) attr.0 styles.now force)) }
+        ensures { Prints W.contents out.old out.new result (Ok (attr_answer (opened_of self.now) attr.0 styles.now force names)) }
     {
         match Theme::of_styles(alloc, &self.stack, styles, force, &self.device) {
             Ok(theme) => {
                 let end = theme.attribute(&self.stack, attr, &self.device);
-                write_attribute(attr, end, out)?;
+                write_attribute(&self.stack, attr, end, names, out)?;
                 Ok(status_of_end(end))
             }
             Err(fault) => print_no_bag(fault, out),
@@ -60,11 +62,18 @@ impl Opened<'_> {
 }
 
 #[tactic(auto, unfolding(crate::specs::AttrOutput::attribute_line))]
-fn write_attribute<W: Write + Drop>(attr: ResId, end: End, out: &mut W) -> io::Result<()>
-    ensures { Writes W.contents out.old out.new result (attribute_line attr.0 end) }
+fn write_attribute<W: Write + Drop>(
+    stack: &Stack<'_>,
+    attr: ResId,
+    end: End,
+    names: bool,
+    out: &mut W,
+) -> io::Result<()>
+    ensures { Writes W.contents out.old out.new result (attribute_line stack.now attr.0 end names) }
 {
     write_id(attr, out)?;
+    write_name_beside(stack, attr, names, out)?;
     out.write_all(b" ")?;
-    end_text(end, out)?;
+    write_end_with_name(stack, None, end, names, out)?;
     out.write_all(b"\n")
 }

@@ -6,11 +6,11 @@ ghost use Rattle.contract_words.specs.Writes.{Writes};
 ghost use Rattle.command_base.specs.Output.{Prints};
 ghost use Rattle.command_base.specs.StackBytesSeen.{layer_bytes};
 ghost use Rattle.device_commands.specs.OpenedSeen.{opened_of};
-ghost use Rattle.device_commands.specs.BagOutput.{name_and_layer, bag_row_line, bag_answer, bag_output};
+ghost use Rattle.device_commands.specs.BagOutput.{id_and_layer, bag_row_line, bag_answer, bag_output};
 
 use crate::no_bag::print_no_bag;
 use crate::opened::Opened;
-use answer_text::{ResId, write_id, write_layer, write_value};
+use answer_text::{ResId, Stack, write_id, write_layer, write_name_beside, write_value};
 use bags_themes::{BagRow, bag};
 use command_base::{LayerParts, Status, ToolFault};
 use std::alloc::Global;
@@ -29,22 +29,23 @@ pub fn bag_bytes<W: Write + Drop>(
     ensures { Prints W.contents out.old out.new result (bag_output (map layer_bytes layers.now) device.now id.0) }
 {
     let opened = Opened::read(alloc, layers, device)?;
-    opened.bag(alloc, id, out)
+    opened.bag(alloc, id, false, out)
 }
 
 impl Opened<'_> {
-    /// What `bag_bytes` prints of the same layers and device.
+    /// What `bag_bytes` prints of the same layers and device. Where names are asked for, that of each id stands beside it.
     pub fn bag<W: Write + Drop>(
         &self,
         alloc: Global,
         id: ResId,
+        names: bool,
         out: &mut W,
     ) -> Result<Status, ToolFault>
-        ensures { Prints W.contents out.old out.new result (Ok (bag_answer (opened_of self.now) id.0)) }
+        ensures { Prints W.contents out.old out.new result (Ok (bag_answer (opened_of self.now) id.0 names)) }
     {
         match bag(alloc, &self.stack, id, &self.device) {
             Ok(rows) => {
-                write_rows(rows.as_slice(), out)?;
+                write_rows(&self.stack, names, rows.as_slice(), out)?;
                 Ok(Status::Done)
             }
             Err(fault) => print_no_bag(fault, out),
@@ -52,31 +53,48 @@ impl Opened<'_> {
     }
 }
 
-#[tactic(auto, using(crate::proofs::LineSteps::line_steps))]
-fn write_rows<W: Write + Drop>(rows: &[BagRow], out: &mut W) -> io::Result<()>
-    ensures { Writes W.contents out.old out.new result (flat_map bag_row_line rows.now) }
+#[tactic(auto, using(answer_text::proofs::ItemSteps::item_steps))]
+fn write_rows<W: Write + Drop>(
+    stack: &Stack<'_>,
+    names: bool,
+    rows: &[BagRow],
+    out: &mut W,
+) -> io::Result<()>
+    ensures { Writes W.contents out.old out.new result (flat_map (bag_row_line stack.now names) rows.now) }
 {
     for row in rows {
-        write_row(*row, out)?;
+        write_row(stack, names, *row, out)?;
     }
     Ok(())
 }
 
 #[tactic(auto, unfolding(crate::specs::BagOutput::bag_row_line))]
-fn write_row<W: Write + Drop>(row: BagRow, out: &mut W) -> io::Result<()>
-    ensures { Writes W.contents out.old out.new result (bag_row_line row) }
+fn write_row<W: Write + Drop>(
+    stack: &Stack<'_>,
+    names: bool,
+    row: BagRow,
+    out: &mut W,
+) -> io::Result<()>
+    ensures { Writes W.contents out.old out.new result (bag_row_line stack.now names row) }
 {
-    write_name_and_layer(row.name, row.layer, out)?;
+    write_id_and_layer(stack, names, row.name, row.layer, out)?;
     out.write_all(b" ")?;
     write_value(row.value, out)?;
     out.write_all(b"\n")
 }
 
-#[tactic(auto, unfolding(crate::specs::BagOutput::name_and_layer))]
-fn write_name_and_layer<W: Write + Drop>(name: ResId, layer: usize, out: &mut W) -> io::Result<()>
-    ensures { Writes W.contents out.old out.new result (name_and_layer name.0 layer) }
+#[tactic(auto, unfolding(crate::specs::BagOutput::id_and_layer))]
+fn write_id_and_layer<W: Write + Drop>(
+    stack: &Stack<'_>,
+    names: bool,
+    id: ResId,
+    layer: usize,
+    out: &mut W,
+) -> io::Result<()>
+    ensures { Writes W.contents out.old out.new result (id_and_layer stack.now names id.0 layer) }
 {
-    write_id(name, out)?;
+    write_id(id, out)?;
+    write_name_beside(stack, id, names, out)?;
     out.write_all(b" ")?;
     write_layer(layer, out)
 }

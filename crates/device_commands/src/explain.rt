@@ -28,16 +28,22 @@ pub fn explain_bytes<W: Write + Drop>(
     ensures { Prints W.contents out.old out.new result (explain_output (map layer_bytes layers.now) device.now id.0) }
 {
     let opened = Opened::read(alloc, layers, device)?;
-    Ok(opened.explain(id, out)?)
+    Ok(opened.explain(id, false, out)?)
 }
 
 impl Opened<'_> {
-    /// What `explain_bytes` prints of the same layers and device.
-    pub fn explain<W: Write + Drop>(&self, id: ResId, out: &mut W) -> io::Result<Status>
-        ensures text { Writes W.contents out.old out.new result (explain_answer (opened_of self.now) id.0).text }
-        ensures status { IfOk result (λ status. status ≡ (explain_answer (opened_of self.now) id.0).status) }
+    /// What `explain_bytes` prints of the same layers and device. Where names are asked for, that of each id stands
+    /// beside it.
+    pub fn explain<W: Write + Drop>(
+        &self,
+        id: ResId,
+        names: bool,
+        out: &mut W,
+    ) -> io::Result<Status>
+        ensures text { Writes W.contents out.old out.new result (explain_answer (opened_of self.now) id.0 names).text }
+        ensures status { IfOk result (λ status. status ≡ (explain_answer (opened_of self.now) id.0 names).status) }
     {
-        let end = explain(&self.stack, id, &self.device, out)?;
+        let end = explain(&self.stack, id, &self.device, names, out)?;
         Ok(status_of_end(end))
     }
 }

@@ -29,16 +29,22 @@ pub fn query_bytes<W: Write + Drop>(
     ensures { Prints W.contents out.old out.new result (query_output (map layer_bytes layers.now) device.now ids.now) }
 {
     let opened = Opened::read(alloc, layers, device)?;
-    Ok(opened.query(ids, out)?)
+    Ok(opened.query(ids, false, out)?)
 }
 
 impl Opened<'_> {
-    /// What `query_bytes` prints of the same layers and device.
-    pub fn query<W: Write + Drop>(&self, ids: &[ResId], out: &mut W) -> io::Result<Status>
-        ensures text { Writes W.contents out.old out.new result (query_answer (opened_of self.now) ids.now).text }
-        ensures status { IfOk result (λ status. status ≡ (query_answer (opened_of self.now) ids.now).status) }
+    /// What `query_bytes` prints of the same layers and device. Where names are asked for, that of each id stands
+    /// beside it.
+    pub fn query<W: Write + Drop>(
+        &self,
+        ids: &[ResId],
+        names: bool,
+        out: &mut W,
+    ) -> io::Result<Status>
+        ensures text { Writes W.contents out.old out.new result (query_answer (opened_of self.now) ids.now names).text }
+        ensures status { IfOk result (λ status. status ≡ (query_answer (opened_of self.now) ids.now names).status) }
     {
-        write_ends(&self.stack, &self.device, ids, out)
+        write_ends(&self.stack, &self.device, ids, names, out)
     }
 }
 
@@ -48,15 +54,16 @@ fn write_ends<W: Write + Drop>(
     stack: &Stack<'_>,
     device: &Device,
     ids: &[ResId],
+    names: bool,
     out: &mut W,
 ) -> io::Result<Status>
-    ensures text { Writes W.contents out.old out.new result (query_text stack.now (device_numbers device.now) ids.now) }
+    ensures text { Writes W.contents out.old out.new result (query_text stack.now (device_numbers device.now) ids.now names) }
     ensures status { IfOk result (λ status. status ≡ query_status stack.now (device_numbers device.now) ids.now) }
 {
     let mut status = Status::Done;
     for id in ids {
         let end = resolve(stack, *id, device);
-        query_line(stack, *id, end, out)?;
+        query_line(stack, *id, end, names, out)?;
         if is_unresolved(end) {
             status = Status::Negative;
         }

@@ -1,5 +1,5 @@
 -- What a command did with a writer that keeps bytes back, as what the writer behind it got.
-use Rattle.std.proofs.Common.{◌≡◌, ◌≢◌, ℕ, Bool, List, [], ◌++◌, map, Option, Some, None, Result, Ok, Err, refl, sym, ap, subst, ◌∙◌, inl, inr}
+use Rattle.std.proofs.Common.{◌≡◌, ◌≢◌, ℕ, Bool, false, List, [], ◌++◌, map, Option, Some, None, Result, Ok, Err, refl, sym, ap, subst, ◌∙◌, inl, inr}
 use Rattle.std.specs.Prelude.{IsOk, IfOk, IfErr, IfSome, OnOk}
 use Rattle.std.proofs.lemmas.List.{append-nil}
 use Rattle.std.specs.Io.Buffered.{writer_buffer, writer_contents, writer_inner}
@@ -144,13 +144,13 @@ module _ {W V E : Type 0} (c : W → Option (List ℕ)) (d : V → Option (List 
   answers-over from to carry carry_one carry_both places (Map target overlay) p =
       carry_both _ (λ (inputs : MapInputs). map_output inputs.target inputs.overlay) (map_files places target.now overlay.now) p
   answers-over from to carry carry_one carry_both places (OfDevice layers device (Query words)) p =
-      carry _ (λ (asked : AskedIds). Ok (query_answer asked.opened asked.ids)) _ p
+      carry _ (λ (asked : AskedIds). Ok (query_answer asked.opened asked.ids false)) _ p
   answers-over from to carry carry_one carry_both places (OfDevice layers device (Explain resource)) p =
-      carry _ (λ (asked : AskedId). Ok (explain_answer asked.opened asked.id.0)) _ p
+      carry _ (λ (asked : AskedId). Ok (explain_answer asked.opened asked.id.0 false)) _ p
   answers-over from to carry carry_one carry_both places (OfDevice layers device (Bag resource)) p =
-      carry _ (λ (asked : AskedId). Ok (bag_answer asked.opened asked.id.0)) _ p
+      carry _ (λ (asked : AskedId). Ok (bag_answer asked.opened asked.id.0 false)) _ p
   answers-over from to carry carry_one carry_both places (OfDevice layers device (Attr attr styles force)) p =
-      carry _ (λ (asked : AskedAttr). Ok (attr_answer asked.opened asked.attr.0 asked.styles force)) _ p
+      carry _ (λ (asked : AskedAttr). Ok (attr_answer asked.opened asked.attr.0 asked.styles force false)) _ p
   answers-over from to carry carry_one carry_both places (OfBox layers box_path (Make max_nodes goals)) p =
       carry_one _ _ (λ (asked : AskedMake). IsMakeOutput asked.goals max_nodes) (λ (asked : AskedMake). Ok asked.inputs) _ p
   answers-over from to carry carry_one carry_both places (OfBox layers box_path (Check certificate goals)) p =

@@ -1,5 +1,5 @@
 -- What a request is answered.
-use Rattle.std.specs.Prelude.{◌≡◌, ◌≢◌, ◌⊎◌, ℕ, Bool, List, Option, Result, Ok, Err}
+use Rattle.std.specs.Prelude.{◌≡◌, ◌≢◌, ◌⊎◌, ℕ, Bool, false, List, Option, Result, Ok, Err}
 use Rattle.program_run.specs.fault_text.declared.fault.ToolFault.{ToolFault}
 use Rattle.program_run.specs.fault_text.declared.fault.ToolFault.TheVariants.{OutOfMemory}
 use Rattle.program_run.specs.command_base.declared.status.Status.{Status}
@@ -40,22 +40,22 @@ CarriesOut {X} Command meant (Err stop) =
 
 abbrev pub Queries : {W : Type 0} → (W → Option (List ℕ)) → W → W → Result AskedInputs StopOf → Result Status Stop → Type 0
 Queries contents old new read result =
-    CarriesOut (λ asked done. Prints contents old new done (Ok (query_answer asked.opened asked.ids)))
+    CarriesOut (λ asked done. Prints contents old new done (Ok (query_answer asked.opened asked.ids false)))
     (read >>= λ inputs. ids_asked inputs.layers inputs.devices inputs.words) result
 
 abbrev pub Explains : {W : Type 0} → (W → Option (List ℕ)) → W → W → NamedOf → Result DeviceInputs StopOf → Result Status Stop → Type 0
 Explains contents old new resource read result =
-    CarriesOut (λ asked done. Prints contents old new done (Ok (explain_answer asked.opened asked.id.0)))
+    CarriesOut (λ asked done. Prints contents old new done (Ok (explain_answer asked.opened asked.id.0 false)))
     (read >>= λ inputs. id_asked inputs.layers inputs.devices resource) result
 
 abbrev pub PrintsBag : {W : Type 0} → (W → Option (List ℕ)) → W → W → NamedOf → Result DeviceInputs StopOf → Result Status Stop → Type 0
 PrintsBag contents old new resource read result =
-    CarriesOut (λ asked done. Prints contents old new done (Ok (bag_answer asked.opened asked.id.0)))
+    CarriesOut (λ asked done. Prints contents old new done (Ok (bag_answer asked.opened asked.id.0 false)))
     (read >>= λ inputs. id_asked inputs.layers inputs.devices resource) result
 
 abbrev pub PrintsAttr : {W : Type 0} → (W → Option (List ℕ)) → W → W → NamedOf → Bool → Result AskedInputs StopOf → Result Status Stop → Type 0
 PrintsAttr contents old new attr force read result =
-    CarriesOut (λ asked done. Prints contents old new done (Ok (attr_answer asked.opened asked.attr.0 asked.styles force)))
+    CarriesOut (λ asked done. Prints contents old new done (Ok (attr_answer asked.opened asked.attr.0 asked.styles force false)))
     (read >>= λ inputs. attr_asked inputs.layers inputs.devices attr inputs.words) result
 
 -- ---- the same of a box

@@ -48,15 +48,15 @@ impl<'a> AskedId<'a> {
     }
 
     pub fn explain<W: Write + Drop>(&self, out: &mut W) -> Result<Status, ToolFault>
-        ensures { Prints W.contents out.old out.new result (Ok (explain_answer (id_seen self.now).opened (id_seen self.now).id.0)) }
+        ensures { Prints W.contents out.old out.new result (Ok (explain_answer (id_seen self.now).opened (id_seen self.now).id.0 false)) }
     {
-        Ok(self.opened.explain(self.id, out)?)
+        Ok(self.opened.explain(self.id, false, out)?)
     }
 
     pub fn bag<W: Write + Drop>(&self, alloc: Global, out: &mut W) -> Result<Status, ToolFault>
-        ensures { Prints W.contents out.old out.new result (Ok (bag_answer (id_seen self.now).opened (id_seen self.now).id.0)) }
+        ensures { Prints W.contents out.old out.new result (Ok (bag_answer (id_seen self.now).opened (id_seen self.now).id.0 false)) }
     {
-        self.opened.bag(alloc, self.id, out)
+        self.opened.bag(alloc, self.id, false, out)
     }
 }
 
@@ -84,9 +84,9 @@ impl<'a> AskedIds<'a> {
     }
 
     pub fn query<W: Write + Drop>(&self, out: &mut W) -> Result<Status, ToolFault>
-        ensures { Prints W.contents out.old out.new result (Ok (query_answer (ids_seen self.now).opened (ids_seen self.now).ids)) }
+        ensures { Prints W.contents out.old out.new result (Ok (query_answer (ids_seen self.now).opened (ids_seen self.now).ids false)) }
     {
-        Ok(self.opened.query(&self.ids, out)?)
+        Ok(self.opened.query(&self.ids, false, out)?)
     }
 }
 
@@ -127,9 +127,10 @@ impl<'a> AskedAttr<'a> {
         out: &mut W,
     ) -> Result<Status, ToolFault>
         ensures { Prints W.contents out.old out.new result
-            (Ok (attr_answer (attr_seen self.now).opened (attr_seen self.now).attr.0 (attr_seen self.now).styles force)) }
+            (Ok (attr_answer (attr_seen self.now).opened (attr_seen self.now).attr.0 (attr_seen self.now).styles force false)) }
     {
-        self.opened.attr(alloc, self.attr, &self.styles, force, out)
+        self.opened
+            .attr(alloc, self.attr, &self.styles, force, false, out)
     }
 }
 

@@ -10,12 +10,9 @@ use Rattle.answer_text.specs.res_value.declared.res_id.ResId.{ResId}
 use Rattle.answer_text.specs.res_value.declared.value.Value.{Value}
 use Rattle.answer_text.specs.res_value.ResId.{id_text}
 use Rattle.answer_text.specs.overlay_map.Layer.{LayerOf}
-use Rattle.answer_text.specs.overlay_map.BaseRow.{BaseRowOf, first_base_row}
-use Rattle.answer_text.specs.resource_table.Table.{TableOf}
-use Rattle.answer_text.specs.type_chunks.Row.{RowOf}
 use Rattle.answer_text.specs.reference_resolver.string_pool.Pool.{PoolOf}
 use Rattle.answer_text.specs.reference_resolver.declared.end.End.TheVariants as of_end
-use Rattle.answer_text.specs.DumpText.{names_text}
+use Rattle.answer_text.specs.NameText.{its_name}
 use Rattle.answer_text.specs.EndText.{end_text, end_with_string}
 use Rattle.answer_text.specs.QueryText.{strings_of_layer}
 use Rattle.cert_tree.specs.config_box.Tests.{ChoiceOf, NumbersOf, LocalesOf, TestOf, AtMostOf, AmongOf}
@@ -43,21 +40,6 @@ choice_text (LocalesOf locales) = flat_map locale_item locales
 unfoldable pub test_text : TestOf → List ℕ
 test_text (AtMostOf c most) = name_of c ++ codes " at most " ++ decimal most
 test_text (AmongOf c choice) = name_of c ++ codes " one of" ++ choice_text choice
-
--- ---- ids
-
--- ` TYPE/KEY`, as `dump` has the names of a row
-unfoldable pub row_name : TableOf → RowOf → List ℕ
-row_name table row = codes " " ++ names_text table row
-
--- those of a row, where there is one
-unfoldable pub name_text : Option BaseRowOf → List ℕ
-name_text None = []
-name_text (Some found) = row_name found.table found.row
-
--- behind an id the names of the first row that it has in a base layer
-abbrev pub its_name : List LayerOf → ℕ → List ℕ
-its_name stack id = name_text (first_base_row stack id)
 
 -- ---- nodes
 

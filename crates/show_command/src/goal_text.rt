@@ -5,8 +5,7 @@ ghost use Rattle.contract_words.specs.Writes.{Writes};
 ghost use Rattle.cert_tree.specs.Certificate.{goal_seen};
 ghost use Rattle.show_command.specs.TreeText.{style_text, asked_text, goal_words, goal_line};
 
-use crate::name_text::write_its_name;
-use answer_text::{ResId, Stack, write_id};
+use answer_text::{ResId, Stack, write_id, write_its_name};
 use cert_tree::Goal;
 use std::io::{self, Write};
 

@@ -16,7 +16,6 @@
 mod dot_text;
 mod goal_text;
 mod line_text;
-mod name_text;
 mod node_text;
 mod numbered_goal;
 mod numbered_goals;

@@ -6,10 +6,10 @@ ghost use Rattle.answer_text.specs.reference_resolver.string_pool.Pool.{pool_of}
 ghost use Rattle.cert_tree.specs.Certificate.{node_of};
 ghost use Rattle.show_command.specs.TreeText.{no_layer, value_text, bag_text, label_text, if_text, node_text};
 
-use crate::name_text::write_its_name;
 use crate::test_text::write_test;
 use answer_text::{
     End, Pool, ResId, Stack, Value, end_text, strings_of_layer, write_end_with_string,
+    write_its_name,
 };
 use cert_tree::Node;
 use std::io::{self, Write};

@@ -11,6 +11,6 @@ loop-id-preserved g c =
       | else-is_unresolved w ↦ grind arith
     ] in
     record {
-      texts = end-line-next _ _ _ _ _ _ _ _ _ c.loop-id.invariant.texts (omega arith) c.resolve-end.ensures.value c.in_ok-query_line.ensures;
+      texts = end-line-next _ _ _ _ _ _ _ _ _ _ c.loop-id.invariant.texts (omega arith) c.resolve-end.ensures.value c.in_ok-query_line.ensures;
       status = status-next _ _ _ _ _ _ _ _ _ c.loop-id.invariant.status (omega arith) c.resolve-end.ensures.value c.is_unresolved.ensures after;
     }
