@@ -11,10 +11,10 @@ SHORT_OFFSETS = 0x02
 COMPACT = 0x0008
 
 # Where a type has its flags, the number of its entries, where they start, and its configuration. That begins with
-# its size; Android 8.1 uses its first 53 bytes, but not the grammatical gender.
+# its size; restool reads its first 50 bytes, but not the grammatical gender.
 FLAGS, COUNT, START, CONFIG = 9, 12, 16, 20
 GENDER = 19
-USED = 53
+USED = 50
 
 
 def number(form, bytes_, at):

@@ -4,9 +4,10 @@
     check_survey.py PROGRAM CASES [FIRST]
 
 PROGRAM is restool. In each case some bytes of the tables are changed: flags of types and entries, kinds of chunks and
-values, bytes of configurations. A table that restool refuses then is left out; what `examples/newer_format.py` finds in
-one that it reads is found by `survey` too. The cases are numbered from FIRST on, which is 0 if it is not given. The
-last line counts the surveys and those with a warning."""
+values, bytes of configurations. Some tables are written as newer tools do, with 16-bit offsets and compact entries. A table
+that restool refuses is surveyed alone. What `examples/newer_format.py` finds is found by `survey` too. The cases are
+numbered from FIRST on, which is 0 if it is not given. The last line counts the surveys, those with a warning and those of
+tables that are refused."""
 import json
 import os
 import random
@@ -16,8 +17,9 @@ import sys
 import tempfile
 
 from case_files import id_text
-from check_sparse import Twins
-from plain_survey import survey_of
+from check_sparse import Twins, table_bytes
+from made_layers import chunk, record_bytes, type_spec
+from plain_survey import NO_ENTRY, SHORT, survey_of, survey_of_refused
 from random_cases import Case
 
 NEWER = os.path.join(os.path.dirname(os.path.abspath(__file__)), "..", "examples", "newer_format.py")
@@ -76,6 +78,23 @@ def changed(chance, table):
     return bytes(table)
 
 
+def newer_type(chance, case, type_id):
+    """A type whose entries are compact, mostly at offsets of 16 bits, with its type spec."""
+    is_short, offsets, entries = chance.random() < 0.8, [], b""
+    for _ in range(chance.randint(1, 8)):
+        is_there = chance.random() < 0.8
+        offsets.append((len(entries) // (4 if is_short else 1)) if is_there else 0xFFFF if is_short else NO_ENTRY)
+        entries += struct.pack("<HHI", 0, 8 | 0x10 << 8, chance.randrange(9)) if is_there else b""
+    listed = struct.pack(f"<{len(offsets)}{'H' if is_short else 'I'}", *offsets)
+    listed += b"\xff" * (-len(listed) % 4)
+    header = struct.pack("<BBHII", type_id, SHORT * is_short, 0, len(offsets), 72 + len(listed)) + record_bytes(case.record())
+    return type_spec(type_id, len(offsets)) + chunk(0x0201, header, listed + entries)
+
+
+def newer_table(chance, case):
+    return table_bytes(b"".join(newer_type(chance, case, type_id) for type_id in range(1, chance.randint(2, 4))))
+
+
 class Run:
     def __init__(self, program, folder, chance):
         self.program, self.folder, self.chance = program, folder, chance
@@ -83,12 +102,15 @@ class Run:
         self.box = case.box.json()
         if chance.random() < 0.7:
             self.box["locale"] = chance.sample(LOCALES, chance.randint(1, 3))
-        self.tables, layers = [], []
+        self.tables, self.refused, layers = [], [], []
         for place, own_of in enumerate(case.maps):
             twins = Twins(chance, case)
-            table = changed(chance, chance.choice((twins.dense, twins.sparse)))
+            table = newer_table(chance, case) if chance.random() < 0.2 else chance.choice((twins.dense, twins.sparse))
+            table = changed(chance, table)
             self.write(f"table{place}", table)
-            if self.run("rows", f"table{place}")[1] != 0:
+            printed, status = self.run("rows", f"table{place}")
+            if status != 0:
+                self.refused.append((table, printed.strip().replace("refused: ", "refused: layer 0 ")))
                 continue
             self.tables.append(table)
             layers.append({"table": f"table{place}"})
@@ -106,11 +128,11 @@ class Run:
         done = subprocess.run([self.program, *words], cwd=self.folder, capture_output=True, text=True)
         return done.stdout + done.stderr, done.returncode
 
-    def newer_found(self):
-        """How often the script for newer tables finds something, in all tables."""
+    def newer_found(self, tables):
+        """How often the script for newer tables finds something, in all of these tables."""
         found = {}
-        for place in range(len(self.tables)):
-            self.write("one", self.tables[place])
+        for table in tables:
+            self.write("one", table)
             done = subprocess.run([sys.executable, NEWER, "one"], cwd=self.folder, capture_output=True, text=True)
             for line in done.stdout.splitlines():
                 name, _, count = line.rpartition(": ")
@@ -130,6 +152,25 @@ def count_in(printed, name):
     return sum(int(line.split()[4]) for line in printed.splitlines() if line.split()[3:4] == [name])
 
 
+def check_newer(run, number, tables, printed):
+    """Stops where not all is printed that the script for newer tables finds in some tables."""
+    for name, count in run.newer_found(tables).items():
+        if count_in(printed, FOUND_AS[name]) != count:
+            sys.exit(f"case {number}: {count} {name}, and printed\n{printed}")
+
+
+def check_refused(run, number):
+    """The same of each table that is refused, surveyed alone."""
+    run.write("alone", b'[{"table":"table"}]')
+    for table, message in run.refused:
+        run.write("table", table)
+        lines, status = survey_of_refused(table, message)
+        got, want = run.run("survey", "alone"), ("".join(line + "\n" for line in lines), status)
+        if got != want:
+            sys.exit(f"case {number}, refused: printed\n{got}\nand not\n{want}")
+        check_newer(run, number, [table], got[0])
+
+
 def check(program, number):
     chance = random.Random(number)
     warned = 0
@@ -142,11 +183,9 @@ def check(program, number):
             if got != want:
                 sys.exit(f"case {number}, {words}: printed\n{got}\nand not\n{want}")
             warned += status
-        printed = run.run("survey", "layers")[0]
-        for name, count in run.newer_found().items():
-            if count_in(printed, FOUND_AS[name]) != count:
-                sys.exit(f"case {number}: {count} {name}, and printed\n{printed}")
-    return warned
+        check_newer(run, number, run.tables, run.run("survey", "layers")[0])
+        check_refused(run, number)
+    return warned, len(run.refused)
 
 
 def main():
@@ -154,8 +193,9 @@ def main():
         sys.exit(__doc__)
     program, cases = os.path.abspath(sys.argv[1]), int(sys.argv[2])
     first = int(sys.argv[3]) if len(sys.argv) == 4 else 0
-    warned = sum(check(program, number) for number in range(first, first + cases))
-    print(f"{2 * cases} surveys, {warned} with a warning")
+    counted = [check(program, number) for number in range(first, first + cases)]
+    warned, refused = (sum(each[place] for each in counted) for place in (0, 1))
+    print(f"{2 * cases} surveys, {warned} with a warning; {refused} of tables that are refused")
 
 
 if __name__ == "__main__":

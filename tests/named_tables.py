@@ -63,6 +63,14 @@ class Names:
         return text if is_text else None, shown(text, self.is_utf16)
 
 
+def package_chunk(package_id, offset, types, keys, children):
+    """A package with these pools of names. Without an offset of its types it has the shorter header."""
+    size = HEADER if offset is None else HEADER + 4
+    header = struct.pack("<I256x4I", package_id, size, 0, size + len(types.bytes), 0)
+    header += b"" if offset is None else struct.pack("<I", offset)
+    return chunk(0x0200, header, types.bytes + keys.bytes + children)
+
+
 class Table:
     """A table, its rows in the order of its bytes."""
 
@@ -75,15 +83,13 @@ class Table:
     def package(self, chance):
         package_id, offset = chance.choice(PACKAGES), chance.choice((None, None, 0, 0, 1))
         types, keys = Names(chance, TYPE_NAMES), Names(chance, ENTRY_NAMES)
-        children = types.bytes + keys.bytes
+        children = b""
         for type_id in chance.sample(range(1, TYPES + 1), chance.choice((1, TYPES, TYPES))):
             children += type_spec(type_id, ENTRIES)
             for _ in range(chance.choice((1, 1, 2))):
                 named = types.get(type_id - 1 - (offset or 0))
                 children += self.type_chunk(chance, package_id << 24 | type_id << 16, named, keys)
-        size = HEADER if offset is None else HEADER + 4
-        header = struct.pack("<I256x4I", package_id, size, 0, size + len(types.bytes), 0)
-        return chunk(0x0200, header if offset is None else header + struct.pack("<I", offset), children)
+        return package_chunk(package_id, offset, types, keys, children)
 
     def type_chunk(self, chance, first_id, type_name, keys):
         entries = {}

@@ -342,6 +342,15 @@ class Layers:
 
 # ---- texts
 
+UNITS = {5: ("dimension", ("px", "dp", "sp", "pt", "in", "mm")), 6: ("fraction", ("%", "%p"))}
+
+
+def complex_text(name, units, word):
+    """A number of 24 bits with a sign, how many bits of it stand behind its point, and a unit."""
+    number = (word >> 8) - ((word >> 31) << 24)
+    unit = units[word & 15] if word & 15 < len(units) else f"unit {word & 15}"
+    return f"{name} {number}/2^{(0, 7, 15, 23)[word >> 4 & 3]} {unit}"
+
 
 def value_text(kind, word):
     if kind == 0:
@@ -350,11 +359,13 @@ def value_text(kind, word):
         return f"{'@' if kind == 1 else '?'}0x{word:08x}"
     if kind == 3:
         return f"string {word}"
+    if kind in UNITS:
+        return complex_text(*UNITS[kind], word)
     if kind == 0x10:
         return f"decimal {word - (1 << 32) if word >> 31 else word}"
     if kind == 0x12:
         return "true" if word else "false"
-    named = {4: "float 0x", 7: "dynamic 0x", 0x11: "hex 0x", 0x1C: "argb8 #", 0x1D: "rgb8 #"}
+    named = {4: "float 0x", 7: "dynamic 0x", 0x11: "hex 0x", 0x1C: "argb8 #", 0x1D: "rgb8 #", 0x1E: "argb4 #", 0x1F: "rgb4 #"}
     return f"{named.get(kind, f'kind 0x{kind:02x} 0x')}{word:08x}"
 
 

@@ -1,6 +1,6 @@
 """A plain reading of what a survey of layers finds. For check_survey.py.
 
-A table is read from its bytes, without checks, since only tables that open are surveyed."""
+A table is read from its bytes, without checks. Of one that is refused only the chunks are looked at."""
 import struct
 
 from plain_rules import COORDS
@@ -65,7 +65,7 @@ class Config:
         self.language, self.region = part(bytes_[8:10], "a"), part(bytes_[10:12], "0")
         self.locale = locale_text(self.language, self.region, bytes_[8:12])
         self.set_aside = any(bytes_[36:48])
-        self.gender, self.newer = bytes_[19] != 0, any(chunk.header[20 : 20 + size][53:])
+        self.gender, self.newer = bytes_[19] != 0, any(chunk.header[20 : 20 + size][50:])
         layout, mode, layout2, color, hidden = bytes_[28], bytes_[29], bytes_[48], bytes_[49], bytes_[18]
         self.numbers = {
             "mcc": u16(4),
@@ -135,10 +135,10 @@ def kinds_of(chunk, at):
 
 
 class Table:
-    """The notes of a table, each a name and where it is, and the configurations of its rows."""
+    """The notes of a table, each a name and where it is, and the configurations of its rows, which it has where it opens."""
 
-    def __init__(self, bytes_, locales):
-        self.notes, self.configs, self.locales = [], [], locales
+    def __init__(self, bytes_, locales, opens=True):
+        self.notes, self.configs, self.locales, self.opens = [], [], locales, opens
         self.row_notes = []
         for child in Chunk(bytes_, 0).children(bytes_):
             if child.kind == PACKAGE:
@@ -169,7 +169,7 @@ class Table:
                 self.notes.append(("compact-entry", chunk.place))
             elif entry_flags is not None and entry_flags >> 4:
                 self.notes.append(("entry-flags", chunk.place))
-            index, offset = offset_of(chunk, position, False)
+            index, offset = offset_of(chunk, position, False) if self.opens else (None, None)
             if offset is not None and index < min(counts[type_id], 65536):
                 self.read_row(package_id << 24 | type_id << 16 | index, config, kinds_of(chunk, start + offset))
 
@@ -214,3 +214,11 @@ def survey_of(tables, box):
                 lacking.append(f"warning box lacks {name}")
     lines += lacking
     return lines, int(any(line.startswith("warning") for line in lines))
+
+
+def survey_of_refused(table, message):
+    """The same of a table that is refused with this message: where nothing of its chunks is a warning, the message alone."""
+    lines = list(Table(table, [], opens=False).lines(0))
+    if any(line.startswith("warning") for line in lines):
+        return [*lines, message], 1
+    return [message], 3

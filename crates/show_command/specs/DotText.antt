@@ -11,9 +11,13 @@ use Rattle.show_command.specs.TreeText.{label_text, goal_words}
 
 -- ---- labels
 
--- between quotation marks a `\` stands before each `"` and each `\`
+-- Between quotation marks a `\` stands before each `"` and each `\`. A `&` could begin a name of a character, as `&lt;`, and
+-- is written by its own.
 unfoldable pub escaped : ℕ → List ℕ
-escaped byte = if byte == 34 || byte == 92 then 92 ∷ byte ∷ [] else byte ∷ []
+escaped byte =
+    if byte == 34 || byte == 92 then 92 ∷ byte ∷ []
+    else if byte == 38 then codes "&amp;"
+    else byte ∷ []
 
 unfoldable pub quoted : List ℕ → List ℕ
 quoted text = 34 ∷ [] ++ flat_map escaped text ++ 34 ∷ []

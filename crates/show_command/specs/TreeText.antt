@@ -32,9 +32,10 @@ number_item number = codes " " ++ decimal number
 unfoldable pub locale_item : Locale → List ℕ
 locale_item locale = codes " " ++ (if locale_number locale == 0 then codes "none" else locale_text locale)
 
+-- what is listed, or ` nothing`
 unfoldable pub choice_text : ChoiceOf → List ℕ
-choice_text (NumbersOf numbers) = flat_map number_item numbers
-choice_text (LocalesOf locales) = flat_map locale_item locales
+choice_text (NumbersOf numbers) = if length numbers == 0 then codes " nothing" else flat_map number_item numbers
+choice_text (LocalesOf locales) = if length locales == 0 then codes " nothing" else flat_map locale_item locales
 
 -- `COORD at most NUMBER`, or `COORD one of` and what is listed
 unfoldable pub test_text : TestOf → List ℕ

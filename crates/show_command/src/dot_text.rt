@@ -188,6 +188,8 @@ fn write_escaped<W: Write + Drop>(byte: u8, out: &mut W) -> io::Result<()>
 {
     if byte == b'"' || byte == b'\\' {
         out.write_all(&[b'\\', byte])
+    } else if byte == b'&' {
+        out.write_all(b"&amp;")
     } else {
         out.write_all(&[byte])
     }

@@ -32,7 +32,9 @@ fn write_choice<W: Write + Drop>(choice: &Choice, out: &mut W) -> io::Result<()>
     ensures { Writes W.contents out.old out.new result (choice_text (choice_of choice.now)) }
 {
     match choice {
+        Choice::Numbers(numbers) if numbers.is_empty() => out.write_all(b" nothing"),
         Choice::Numbers(numbers) => write_numbers(numbers.as_slice(), out),
+        Choice::Locales(locales) if locales.is_empty() => out.write_all(b" nothing"),
         Choice::Locales(locales) => write_locales(locales.as_slice(), out),
     }
 }

@@ -100,11 +100,11 @@ fn all_are_counted(rt: HostRuntime) -> Result<(), AllocError> {
         put(&mut table, at, piece);
     }
     assert!(rt; has_nothing(&survey_of(&table)));
-    put(&mut table, 40 + 52, &[1]);
+    put(&mut table, 40 + 49, &[1]);
     assert!(rt; has_nothing(&survey_of(&table)));
     put(&mut table, 116 + 55, b"l");
     assert!(rt; has_alone(&survey_of(&table), Finding::NewerQualifier, 96));
-    put(&mut table, 40 + 53, b"a");
+    put(&mut table, 40 + 50, b"a");
     let survey = survey_of(&table);
     assert_eq!(rt; survey.count(Finding::NewerQualifier), 2);
     assert_eq!(rt; survey.first(Finding::NewerQualifier), Site::Chunk(20));

@@ -1,8 +1,8 @@
 //! What is printed of worked layers, with a box and without.
 
 use std::alloc::Global;
-use survey_commands::{Status, survey_bytes};
-use test_layers::{LayerFault, layer_of_lines};
+use survey_commands::{Status, ToolFault, survey_bytes};
+use test_layers::{LayerFault, layer_of_lines, put, table_with};
 
 /// The id map of an overlay that stands for nothing.
 const NO_IDS: &[u8] = b"[]";
@@ -99,5 +99,24 @@ const CASES: [Case; 7] = [
 #[test]
 fn worked_layers_are_printed(rt: HostRuntime) -> Result<(), LayerFault> {
     assert_eq!(rt; first_other(rt.alloc(), &CASES)?, None);
+    Ok(())
+}
+
+// Whether the first layer is refused, and nothing printed.
+fn is_refused(alloc: Global, layers: &[Layer]) -> bool {
+    let mut out = Vec::new(alloc);
+    let ended = survey_bytes(alloc, layers, None, &mut out);
+    matches!(ended, Err(ToolFault::LayerTable(0, _))) && out.is_empty()
+}
+
+#[test]
+fn a_refused_table_is_surveyed_by_its_chunks(rt: HostRuntime) -> Result<(), LayerFault> {
+    // Table A with a value of nine bytes.
+    let mut table = table_with(rt.alloc(), 408, &[9])?;
+    assert!(rt; is_refused(rt.alloc(), &[(table.as_slice(), None)]));
+    put(&mut table, 357, &[2]);
+    let text = "warning layer 0 16-bit-offsets 1 first 348\nrefused: layer 0 table: Value 408\n";
+    let want = (Status::Negative, text);
+    assert!(rt; is_printed(rt.alloc(), &[(table.as_slice(), None)], None, want));
     Ok(())
 }

@@ -4,6 +4,8 @@ pub mod LayerNotes
 pub mod Qualifiers
 pub mod BoxGaps
 pub mod SurveyText
+pub mod LayersText
+pub mod Refused
 pub mod SurveyOutput
 pub mod OpenedSeen
 pub mod Counting

@@ -1,5 +1,5 @@
 -- What the command `survey` prints.
-use Rattle.std.specs.Prelude.{ℕ, ◌||◌, Bool, List, ◌++◌, Option, Some, None, Result, Ok, if◌then◌else◌}
+use Rattle.std.specs.Prelude.{ℕ, ◌||◌, Bool, List, ◌++◌, Option, Some, None, Result, Ok, Err, if◌then◌else◌}
 use Rattle.std.specs.List.{flat_map, list_any, enumerate_from}
 use Rattle.contract_words.specs.Faults.{◌>>=◌}
 use Rattle.config_box.specs.config_record.declared.coord.Coord as coord
@@ -8,16 +8,19 @@ use Rattle.config_box.specs.box_answers.NumberSet.{SetOf}
 use Rattle.config_box.specs.BoxJson.{box_in}
 use Rattle.overlay_map.specs.Layer.{LayerOf}
 use Rattle.command_base.specs.fault_text.declared.fault.ToolFault.{ToolFault}
+use Rattle.command_base.specs.fault_text.declared.fault.ToolFault.TheVariants.{LayerTable}
 use Rattle.command_base.specs.fault_text.ToolFault.{fault_of_box}
 use Rattle.command_base.specs.declared.status.Status.{Status}
 use Rattle.command_base.specs.declared.status.Status.TheVariants.{Done, Negative}
 use Rattle.command_base.specs.Output.{Output}
 use Rattle.command_base.specs.StackBytes.{LayerBytes, stack_in}
 use Rattle.command_base.specs.MapErr.{map_err}
-use Rattle.survey_commands.specs.LayerNotes.{notes_of_layer, layer_differs}
+use Rattle.survey_commands.specs.LayerNotes.{layer_differs}
 use Rattle.survey_commands.specs.Qualifiers.{rows_in_stack, numbers_at, spread_of}
 use Rattle.survey_commands.specs.BoxGaps.{locales_of_box, lacks}
-use Rattle.survey_commands.specs.SurveyText.{notes_text, qualifier_line, lacking_line}
+use Rattle.survey_commands.specs.SurveyText.{qualifier_line, lacking_line}
+use Rattle.survey_commands.specs.LayersText.{layers_text}
+use Rattle.survey_commands.specs.Refused.{refused_output}
 
 -- ---- the inputs
 
@@ -38,14 +41,6 @@ survey_inputs layers box_json = do
   Ok (record { stack = stack; sets = sets })
 
 -- ---- the text
-
--- what is found in the layer of these bytes at a place
-unfoldable pub layer_lines : List LayerOf → List ℕ → (ℕ × LayerBytes) → List ℕ
-layer_lines stack locales numbered = notes_text numbered.0 (notes_of_layer stack locales numbered)
-
--- what is found in each layer
-unfoldable pub layers_text : List LayerOf → List ℕ → List LayerBytes → List ℕ
-layers_text stack locales layers = flat_map (layer_lines stack locales) (enumerate_from 0 layers)
 
 -- the qualifiers of all rows, in the order of the coordinates
 unfoldable pub qualifiers_text : List LayerOf → List ℕ
@@ -77,8 +72,12 @@ survey_answer layers inputs = let locales = locales_of_box inputs.sets in record
   text = layers_text inputs.stack locales layers ++ (qualifiers_text inputs.stack ++ lacking_text inputs);
 }
 
+-- what is printed of what layers and a box mean
+abbrev pub surveyed : List LayerBytes → Result SurveyInputs ToolFault → Result Output ToolFault
+surveyed layers (Ok inputs) = Ok (survey_answer layers inputs)
+surveyed layers (Err (LayerTable place fault)) = refused_output layers (LayerTable place fault)
+surveyed layers (Err fault) = Err fault
+
 -- What `survey` prints of these layers and a box's text.
 unfoldable pub survey_output : List LayerBytes → Option (List ℕ) → Result Output ToolFault
-survey_output layers box_json = do
-  inputs ← survey_inputs layers box_json
-  Ok (survey_answer layers inputs)
+survey_output layers box_json = surveyed layers (survey_inputs layers box_json)

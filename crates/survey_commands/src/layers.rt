@@ -9,7 +9,8 @@ ghost use Rattle.table_survey.specs.Survey.{noted};
 ghost use Rattle.table_survey.specs.Counted.{Counts};
 ghost use Rattle.survey_commands.specs.RowNotes.{notes_of_row};
 ghost use Rattle.survey_commands.specs.LayerNotes.{rows_at, notes_of_layer, layer_differs};
-ghost use Rattle.survey_commands.specs.SurveyOutput.{layer_lines, layers_text, layers_differ};
+ghost use Rattle.survey_commands.specs.SurveyOutput.{layers_differ};
+ghost use Rattle.survey_commands.specs.LayersText.{layer_lines, layers_text};
 
 use crate::rows::note_rows;
 use crate::text::write_survey;
@@ -21,7 +22,7 @@ use table_survey::Survey;
 
 /// Writes what is found in each layer, where these are the locales of the box, and says whether an answer can differ
 /// by it from a device's.
-#[tactic(auto, using(crate::proofs::AnySteps::finds), unfolding(crate::specs::SurveyOutput::layers_text, crate::specs::SurveyOutput::layers_differ))]
+#[tactic(auto, using(crate::proofs::AnySteps::finds), unfolding(crate::specs::LayersText::layers_text, crate::specs::SurveyOutput::layers_differ))]
 pub(crate) fn write_layers<W: Write + Drop>(
     stack: &Stack<'_>,
     locales: &[Locale],
@@ -38,7 +39,7 @@ pub(crate) fn write_layers<W: Write + Drop>(
     Ok(differs)
 }
 
-#[tactic(auto, unfolding(crate::specs::SurveyOutput::layer_lines))]
+#[tactic(auto, unfolding(crate::specs::LayersText::layer_lines))]
 fn write_layer<W: Write + Drop>(
     stack: &Stack<'_>,
     locales: &[Locale],

@@ -3,7 +3,8 @@
 //!
 //! For the crates above: a survey prints the text that its inputs mean and nothing else, or it names the first fault
 //! of these and has printed nothing. Its status is Done exactly where no chunk, type, record, entry or row of the
-//! tables makes an answer differ (`layer_differs`), and the box lacks no qualifier that rows have (`lacks`).
+//! tables makes an answer differ (`layer_differs`), and the box lacks no qualifier that rows have (`lacks`). A table
+//! that is refused is surveyed too, by its chunks alone, if by those of some layer an answer could differ.
 //!
 //! ```text
 //! survey_bytes(alloc, &layers, Some(&box_json), &mut out)?; // warning layer 0 compact-entry 12 first 348
@@ -17,6 +18,7 @@ mod layers;
 mod locales;
 mod opened;
 mod qualifiers;
+mod refused;
 mod rows;
 mod survey;
 mod text;

@@ -18,6 +18,7 @@ ghost use Rattle.survey_commands.specs.SurveyOutput.{qualifiers_text, lacking_te
 use crate::layers::write_layers;
 use crate::opened::Opened;
 use crate::qualifiers::Qualifiers;
+use crate::refused::survey_refused;
 use crate::text::{write_lacking, write_qualifier};
 use command_base::{LayerParts, Status, ToolFault};
 use config_box::Coord;
@@ -26,7 +27,8 @@ use std::alloc::Global;
 use std::io::{self, Write};
 
 /// Prints what of some layers is read otherwise than a device would read it, the qualifiers that their rows have, and
-/// those that the box lacks. The status is Negative where an answer can differ by it from a device's.
+/// those that the box lacks. The status is Negative where an answer can differ by it from a device's. Where a table is
+/// refused, this is told of the chunks of all tables, if by them an answer could differ.
 #[tactic(auto, unfolding(crate::specs::SurveyOutput::survey_output))]
 pub fn survey_bytes<W: Write + Drop>(
     alloc: Global,
@@ -37,8 +39,13 @@ pub fn survey_bytes<W: Write + Drop>(
     ensures { Prints W.contents out.old out.new result
         (survey_output (map layer_bytes layers.now) (option_map (λ json. json.now) box_json.entry)) }
 {
-    let opened = Opened::read(alloc, layers, box_json)?;
-    Ok(write_answer(layers, &opened, out)?)
+    match Opened::read(alloc, layers, box_json) {
+        Ok(opened) => Ok(write_answer(layers, &opened, out)?),
+        Err(ToolFault::LayerTable(place, fault)) => {
+            survey_refused(alloc, layers, place, fault, out)
+        }
+        Err(fault) => Err(fault),
+    }
 }
 
 #[tactic(auto, unfolding(crate::specs::SurveyOutput::survey_answer))]

@@ -30,9 +30,9 @@ has_gender config = not (slice_index config 19 == 0)
 abbrev pub is_zero : List ℕ → Bool
 is_zero bytes = list_all (λ byte. byte == 0) bytes
 
--- Android 8.1 knows the first 53 bytes
+-- The fields that are read stand in the first 50 bytes.
 abbrev pub has_newer : List ℕ → Bool
-has_newer config = not (is_zero (drop 53 config))
+has_newer config = not (is_zero (drop 50 config))
 
 unfoldable pub notes_of_config : ChunkOf → List Note
 notes_of_config chunk = note_at_if (has_gender (config_of chunk)) Gender chunk.place ++ note_at_if (has_newer (config_of chunk)) NewerQualifier chunk.place

@@ -15,7 +15,7 @@ pub enum Finding {
     TypeFlags,
     /// A type whose configuration has a grammatical gender.
     Gender,
-    /// A type whose configuration has a newer qualifier, such as a numbering system.
+    /// A type whose configuration says something behind the fields that are read, such as a numbering system.
     NewerQualifier,
     /// A compact entry.
     CompactEntry,

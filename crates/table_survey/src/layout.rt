@@ -35,8 +35,9 @@ pub(crate) mod type_header {
 pub(crate) mod config {
     pub const GENDER: usize = 19;
 
-    /// Android 8.1 knows the fields before this place.
-    pub const KNOWN: usize = 53;
+    /// The fields that are read stand before this place. Behind it Android 8.1 keeps whether it has computed a script
+    /// (AOSP: `localeScriptWasComputed`), and later versions more.
+    pub const KNOWN: usize = 50;
 }
 
 /// An entry (AOSP: `ResTable_entry`).

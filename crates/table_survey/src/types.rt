@@ -60,7 +60,7 @@ fn has_gender(config: &[u8]) -> bool
     config.get(config::GENDER).copied().unwrap_or(0) != 0
 }
 
-// Whether a byte behind the fields that are known says something.
+// Whether a byte behind the fields that are read says something.
 fn has_newer(config: &[u8]) -> bool
     ensures { result ≡ has_newer config.now }
 {

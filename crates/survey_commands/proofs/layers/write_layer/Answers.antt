@@ -2,7 +2,7 @@ use Rattle.std.proofs.Common.{ℕ, List, subst}
 use Rattle.std.specs.Io.KnownBytes.{Appends}
 use Rattle.table_survey.specs.Finding.{all_findings}
 use Rattle.survey_commands.specs.SurveyText.{notes_text}
-use Rattle.survey_commands.specs.SurveyOutput.{layer_lines}
+use Rattle.survey_commands.specs.LayersText.{layer_lines}
 use Rattle.survey_commands.proofs.LayerLaws.{lines-of_notes}
 use Rattle.survey_commands.proofs.layers.write_layer.Goals as goal
 

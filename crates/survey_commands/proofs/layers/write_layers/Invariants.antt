@@ -3,7 +3,7 @@ use Rattle.std.proofs.Common.{map}
 use Rattle.contract_words.proofs.TextSteps.{PutsAllBut}
 use Rattle.config_box.specs.box_answers.NumberSet.{locale_numbers}
 use Rattle.survey_commands.specs.LayerNotes.{layer_differs}
-use Rattle.survey_commands.specs.SurveyOutput.{layer_lines}
+use Rattle.survey_commands.specs.LayersText.{layer_lines}
 use Rattle.survey_commands.proofs.AnySteps.{FindsAllBut, layers_from}
 use Rattle.survey_commands.proofs.layers.write_layers.Given as goal
 

@@ -1,0 +1,122 @@
+"""A plain reading of what `show` prints of layers and a certificate. For check_show.py.
+
+A layer has `is_base`; `names`, those of the first row of each id as they are printed; and `strings`, of which `get` gives
+how the string of an index is printed. A node of a certificate is what its JSON says of it."""
+from typing import NamedTuple, Optional
+
+from plain_bags import Attribute
+from plain_certificates import id_text
+from plain_rules import end_text
+
+MOST_DEPTH = 32
+STRING = 3
+
+
+class Line(NamedTuple):
+    """A line of a tree: the number of its node, None where the list ends early; the test before it and the answer that
+    leads to it, None at the first; how many answers yes lead to it; and whether some path does."""
+
+    number: Optional[int]
+    test: Optional[int] = None
+    answer: Optional[str] = None
+    depth: int = 0
+    is_reached: bool = True
+
+
+def tree_lines(nodes):
+    """A node, and behind a test the tree behind its answer yes, and then that behind its answer no."""
+    lines, numbers = [], iter(range(len(nodes)))
+
+    def read(test, answer, depth):
+        number = next(numbers, None)
+        lines.append(Line(number, test, answer, depth))
+        if number is not None and "coord" in nodes[number]:
+            read(number, "yes", depth + 1)
+            read(number, "no", depth)
+
+    read(None, None, 0)
+    return lines + [Line(number, is_reached=False) for number in numbers]
+
+
+def test_text(test):
+    if "atMost" in test:
+        return f"{test['coord']} at most {test['atMost']}"
+    listed = ["none" if value == "" else str(value) for value in test["in"]] or ["nothing"]
+    return " ".join([test["coord"], "one of", *listed])
+
+
+def front_text(line):
+    """What stands before a node: blanks for its answers yes, and what it is behind."""
+    if line.depth < MOST_DEPTH:
+        return "  " * line.depth + ("else " if line.answer == "no" else "")
+    return "  " * MOST_DEPTH + f"{'then' if line.answer == 'yes' else 'else'} of {line.test}: "
+
+
+def quoted(text):
+    for symbol, written in (("\\", "\\\\"), ('"', '\\"'), ("&", "&amp;")):
+        text = text.replace(symbol, written)
+    return f'"{text}"'
+
+
+def dot_name(line):
+    if line.number is not None:
+        return f"n{line.number}"
+    return "n0" if line.test is None else f"n{line.test}{line.answer}"
+
+
+class Shown:
+    """What is shown over layers."""
+
+    def __init__(self, layers):
+        self.layers = layers
+
+    def named(self, name):
+        """An id, and the names of the first row that it has in a base."""
+        found = [layer.names[name] for layer in self.layers if layer.is_base and name in layer.names]
+        return " ".join([id_text(name), *found[:1]])
+
+    def leaf(self, leaf):
+        if "bag" in leaf:
+            return f"bag {self.named(int(leaf['bag'], 16))}"
+        text = end_text(("value", leaf["layer"], leaf["kind"], leaf["word"]))
+        if leaf["layer"] >= len(self.layers):
+            return f"{text} (no such layer)"
+        return f"{text} {self.layers[leaf['layer']].strings.get(leaf['word'])[1]}" if leaf["kind"] == STRING else text
+
+    def label(self, node):
+        return test_text(node) if "coord" in node else self.leaf(node)
+
+    def goal(self, goal):
+        if isinstance(goal, Attribute):
+            return " ".join([self.named(goal.attr), "under", *map(self.named, goal.styles)])
+        return self.named(goal)
+
+    def line(self, nodes, line):
+        if line.number is None:
+            return f"\t{front_text(line)}ends early"
+        node = nodes[line.number]
+        front = front_text(line) if line.is_reached else "not reached: "
+        return f"{line.number}\t{front}{'if ' if 'coord' in node else ''}{self.label(node)}"
+
+    def certificate(self, goals):
+        """The lines of `show`."""
+        for number, (goal, nodes) in enumerate(goals):
+            yield f"goal {number} {self.goal(goal)} nodes {len(nodes)}"
+            yield from (self.line(nodes, line) for line in tree_lines(nodes))
+        yield f"goals {len(goals)}"
+
+    # ---- pictures
+
+    def dot_label(self, nodes, line):
+        if line.number is None:
+            return "ends early"
+        return ("" if line.is_reached else "not reached: ") + self.label(nodes[line.number])
+
+    def picture(self, number, goal, nodes):
+        """The lines of `show --dot`."""
+        yield from ("digraph {", f"  label={quoted(f'goal {number} {self.goal(goal)}')};", "  node [shape=box];")
+        for line in tree_lines(nodes):
+            yield f"  {dot_name(line)} [label={quoted(self.dot_label(nodes, line))}];"
+            if line.test is not None:
+                yield f"  n{line.test} -> {dot_name(line)} [label={line.answer}];"
+        yield "}"
