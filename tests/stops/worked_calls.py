@@ -194,7 +194,18 @@ def make_rows(ask):
     yield ask("make", STYLED_DENSITIES, TO_198, of_styled, STYLED)
     unset = f"Counter {{ goal: 0, device: {device(160)}, ending: {absent(B)} }}"
     yield ask("make", STYLED_DENSITIES, MEDIUM_BOX, unset, f"0x01010002@{ID}")
+    yield from omit_rows(ask)
     yield from rows_of_many_nodes(ask)
+
+
+def omit_rows(ask):
+    yield ask("make_omitting", "0 [] 1", MEDIUM_BOX, written(WRITTEN_ID, written_leaf(1)) + "\n[]")
+    none = '{"goals":[],"version":1}'
+    german = f"[Omitted {{ goal: 0, device: {device(160, GERMAN)}, ending: {absent(FIRST)} }}]"
+    yield ask("make_omitting", "0 [locale=fr] 1", BOTH_LOCALES, f"{none}\n{german}")
+    unset = f"[Omitted {{ goal: 0, device: {device(160)}, ending: {absent(B)} }}]"
+    yield ask("make_omitting", STYLED_DENSITIES, MEDIUM_BOX, f"{none}\n{unset}", f"0x01010002@{ID}")
+    yield ask("make_omitting", DENSITIES, TO_198, "NodeLimit", nodes="2")
 
 
 def rows_of_many_nodes(ask):

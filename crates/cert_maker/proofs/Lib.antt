@@ -15,5 +15,7 @@ pub mod Loop
 pub mod Cut
 pub mod GoalSteps
 pub mod Least
+pub mod Without
+pub mod JudgedSteps
 pub mod Listings
 pub use Rattle.cert_checker.proofs.cert_tree

@@ -24,13 +24,16 @@ pub record IsCounterexample (stack : List LayerOf) (sets : List SetOf) (goal : G
   pub ends : RulesEndAt stack goal d end
   pub no_value : is_value end ≡ false
 
+-- one of the goals that are asked, counted from 0, has this member and end
+abbrev pub HasNoValue : List LayerOf → List SetOf → List GoalSeen → ℕ → List ℕ → End → Type 0
+HasNoValue stack sets asked g d end = (goal : GoalSeen) × (slice_get asked g ≡ Some goal) × IsCounterexample stack sets goal d end
+
 -- a certificate that is accepted, of needed tests and within the limit; or a device for which one of the goals ends at no
 -- value; or there are trees of needed tests for the goals that have together more nodes than the limit
 abbrev pub IsMade : List LayerOf → List SetOf → List GoalSeen → ℕ → Made → Type 0
 IsMade stack sets asked most (Cert certificate) =
     IsAccepted stack sets asked (goals_of certificate) × AreNeeded stack sets (goals_of certificate) × (node_count (goals_of certificate) ≤ most)
-IsMade stack sets asked most (Counter g device end) =
-    (goal : GoalSeen) × (slice_get asked g ≡ Some goal) × IsCounterexample stack sets goal (device_numbers device) end
+IsMade stack sets asked most (Counter g device end) = HasNoValue stack sets asked g (device_numbers device) end
 IsMade stack sets asked most NodeLimit =
     (trees : List GoalOf) × (goals_in trees ≡ asked) × AreNeeded stack sets trees × (most < node_count trees)
 

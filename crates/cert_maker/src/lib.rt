@@ -7,6 +7,9 @@
 //! has several values, no certificate with fewer nodes is accepted: `least_tree` has the law. `make_watched` does the
 //! same as `make`, and says after each goal how far it is.
 //!
+//! `make_omitting` leaves out each goal that ends so at some device, and gives it with that device; what it answers for
+//! the other goals is what `make` promises for them.
+//!
 //! ```text
 //! match make(alloc, &stack, &phones, &asked, 1_000_000)? {
 //!     Made::Cert(certificate) => .., // certificate.write(alloc)?
@@ -20,6 +23,8 @@ mod growth;
 mod laws;
 mod made;
 mod making;
+mod omitted;
+mod omitting;
 mod parting;
 mod tree;
 mod trees;
@@ -28,3 +33,5 @@ pub use cert_checker::{Cert, ConfigBox, Goal, Progress, ResId, Unwatched, Verdic
 pub use laws::{least_tree, trace_equality};
 pub use made::Made;
 pub use making::{make, make_watched};
+pub use omitted::{Omitted, Omitting};
+pub use omitting::make_omitting;

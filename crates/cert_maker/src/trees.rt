@@ -49,8 +49,8 @@ impl Trees {
     }
 }
 
-// The same goal, with styles of its own.
-fn copied(goal: &Goal) -> Result<Goal, OutOfMemory>
+/// The same goal, with styles of its own.
+pub(crate) fn copied(goal: &Goal) -> Result<Goal, OutOfMemory>
     ensures { IfOk result (λ copied. goal_seen copied ≡ goal_seen goal.now) }
 {
     goal.clone()

@@ -46,6 +46,7 @@ fn call_of(rt: &HostRuntime, words: &[String], asked: Asked<'_, '_>) -> Result<(
         "half" => live::candidates_of_half(rt, asked.stack, asked.members),
         "check" => trees::checked(rt, asked, word(words, 4)),
         "make" => trees::made(rt, asked, word(words, 4)),
+        "make_omitting" => trees::made_omitting(rt, asked, word(words, 4)),
         "config_box" => without_memory::members(rt, asked.members),
         "Goal::attr" => without_memory::attr(rt),
         _ => Ok(()),

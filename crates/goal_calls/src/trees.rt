@@ -1,7 +1,7 @@
 //! Certificates that are checked and made.
 
 use cert_checker::{Cert, Stack};
-use cert_maker::{ConfigBox, Goal, Made, check, make};
+use cert_maker::{ConfigBox, Goal, Made, Omitting, Unwatched, check, make, make_omitting};
 use marked_calls::{begin, end, tell, tell_text};
 use std::test::Fail;
 
@@ -42,6 +42,34 @@ pub fn made(rt: &HostRuntime, asked: Asked<'_, '_>, most: &str) -> Result<(), Fa
     match found {
         Ok(Made::Cert(certificate)) => tell_written(rt, &certificate),
         Ok(other) => Ok(tell(rt, other)?),
+        Err(fault) => Ok(tell(rt, fault)?),
+    }
+}
+
+/// The same, where a goal without a value is left out.
+pub fn made_omitting(rt: &HostRuntime, asked: Asked<'_, '_>, most: &str) -> Result<(), Fail> {
+    let most = most.parse::<u32>().unwrap_or(MOST_NODES);
+    begin(rt);
+    let found = make_omitting(
+        rt.alloc(),
+        asked.stack,
+        asked.members,
+        asked.goals,
+        most,
+        &mut Unwatched,
+    );
+    end(rt);
+    match found {
+        Ok(
+            Omitting::Cert {
+                certificate,
+                omitted,
+            },
+        ) => {
+            tell_written(rt, &certificate)?;
+            Ok(tell(rt, omitted)?)
+        }
+        Ok(Omitting::NodeLimit) => Ok(tell(rt, Omitting::NodeLimit)?),
         Err(fault) => Ok(tell(rt, fault)?),
     }
 }

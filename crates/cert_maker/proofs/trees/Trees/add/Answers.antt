@@ -1,12 +1,12 @@
-use Rattle.std.proofs.Common.{◌≡◌, ℕ, ◌+◌, ◌-◌, arith, List, [], ◌∷◌, ◌++◌, length, map, Some, sym, ◌∙◌, ap, subst}
+use Rattle.std.proofs.Common.{◌≡◌, ℕ, ◌+◌, ◌-◌, arith, List, length, map, Some, sym, subst}
 use Rattle.std.specs.Prelude.{slice_get}
-use Rattle.std.proofs.lemmas.List.{length-map, map-append}
+use Rattle.std.proofs.lemmas.List.{length-map}
 use Rattle.cert_checker.specs.config_record.DeviceSeen.{device_numbers}
 use Rattle.cert_checker.specs.cert_tree.Certificate.{GoalSeen, GoalOf, goal_seen, goal_of, node_of}
 use Rattle.cert_maker.specs.Growth.{IsGrown}
 use Rattle.cert_maker.specs.Made.{IsCounterexample}
 use Rattle.cert_maker.specs.Trees.{AreDone}
-use Rattle.cert_maker.proofs.GoalSteps.{one-more, too-large, no-value}
+use Rattle.cert_maker.proofs.GoalSteps.{pushed, one-more, too-large, no-value}
 use Rattle.cert_maker.proofs.trees.Trees.add.Goals as goal
 
 pub returns-in_ok-push-in-Tree : goal.returns-in_ok-push-in-Tree
@@ -17,9 +17,7 @@ returns-in_ok-push-in-Tree c = λ asked left most h.
     let tree : GoalOf = record { goal = goal_seen c.args.goal.now; nodes = map node_of c.in-Tree.nodes.items } in
     let count : length tree.nodes ≡ c.len.result = (let same = length-map c.in-Tree.nodes.items node_of in let len = c.len.ensures in let is = c.in-Tree.nodes.ok.0 in omega (arith, same, len, is)) in
     let more = one-more c.args.stack.now c.args.members.now asked left most spare (map goal_of before) tree h (record { passes = grown.0; needed = grown.1; fits = grown.3 }) (omega (arith, count, c.len.ensures, grown.2)) in
-    let trees : map goal_of c.push.new.self.items ≡ map goal_of before ++ tree ∷ [] =
-    ap (map goal_of) c.in_ok-push-in-Tree.ensures.items ∙ map-append goal_of before (record { goal = c.in_ok-goal-in-Tree.goal; nodes = c.in-Tree.nodes } ∷ [])
-    ∙ ap (λ (g : GoalSeen). map goal_of before ++ (record { goal = g; nodes = map node_of c.in-Tree.nodes.items }) ∷ []) c.in_ok-goal-in-Tree.ensures in
+    let trees = pushed before c.push.new.self.items _ (goal_seen c.args.goal.now) c.in_ok-push-in-Tree.ensures.items c.in_ok-goal-in-Tree.ensures in
     subst (λ (n : ℕ). AreDone c.args.stack.now c.args.members.now asked left most (map goal_of c.push.new.self.items) (spare + 1 - n)) count
     (subst (λ (ts : List GoalOf). AreDone c.args.stack.now c.args.members.now asked left most ts (spare + 1 - length tree.nodes)) (sym trees) more)
 
