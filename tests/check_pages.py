@@ -1,6 +1,6 @@
 #!/usr/bin/env python3
 """Checks the links of all pages (*.md), and the pages that code and scripts name: the file is there, and where a
-heading is named (#..), the page has it. Of the tables in docs/ARCHITECTURE.md that say where a rule or a message is,
+heading is named (#..), the page has it. Of the table in docs/ARCHITECTURE.md that says where a rule is,
 each file that a row names is in a crate that the row names. Prints what is broken; the status is 1 then."""
 import os
 import re
@@ -79,11 +79,11 @@ def broken():
 
 
 def rows_of_places(page):
-    """The rows of the tables that say where a rule or a message is."""
+    """The rows of the table that says where a rule is."""
     is_told = False
     for line in lines_of(page):
         if line.startswith("## "):
-            is_told = line.startswith("## Where each")
+            is_told = line == "## Where each rule is"
         if is_told and line.startswith("|"):
             yield line
 
