@@ -1,3 +1,4 @@
 pub mod SoughtSteps
 pub mod PlacesSteps
 pub mod IdSteps
+pub mod PassedSteps

@@ -2,3 +2,4 @@ pub mod Names
 pub mod Sought
 pub mod Places
 pub mod IdsOfType
+pub mod Passed

@@ -11,6 +11,7 @@
 
 mod ids;
 mod name;
+mod passed;
 mod places;
 mod search;
 mod sought;

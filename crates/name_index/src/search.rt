@@ -1,13 +1,15 @@
 //! The search for names in tables.
 
-ghost use Rattle.std.specs.Prelude.{◌≡◌, map, IfOk};
+ghost use Rattle.std.specs.Prelude.{◌≡◌, map, IfOk, OnOk};
 ghost use Rattle.std.specs.Option.{option_map};
 ghost use Rattle.type_chunks.specs.Row.{row_of};
 ghost use Rattle.resource_table.specs.Table.{rows_of};
 ghost use Rattle.name_index.specs.Names.{name_of, found_in_tables};
+ghost use Rattle.name_index.specs.Passed.{AreNoted};
 ghost use Rattle.name_index.specs.Sought.{unfound, noted, noted_each, noted_in, entry_names, ArePlacesOf, IsNotedAt};
 
 use crate::name::Name;
+use crate::passed::Passed;
 use crate::places::Places;
 use crate::sought::Sought;
 use resource_table::{ResId, Row, Table};
@@ -33,7 +35,7 @@ pub fn find_names(
     }
     let places = places_of(alloc, names)?;
     let mut sought = unfound(alloc, names)?;
-    look_in_each(tables, &places, &mut sought);
+    look_in_each(alloc, tables, &places, &mut sought)?;
     let found = found(alloc, &sought)?;
     Ok(found)
 }
@@ -70,23 +72,59 @@ fn places_of<'n>(alloc: Global, names: &[Name<'n>]) -> Result<Places<'n>, AllocE
 }
 
 // Looks for names in tables, one after the other.
-fn look_in_each(tables: &[&Table<'_>], places: &Places<'_>, sought: &mut [Sought<'_>])
+fn look_in_each(
+    alloc: Global,
+    tables: &[&Table<'_>],
+    places: &Places<'_>,
+    sought: &mut [Sought<'_>],
+) -> Result<(), AllocError>
     requires { ArePlacesOf places.now (entry_names sought.old) }
-    ensures { sought.new ≡ map (noted_in (map (λ table. table.now) tables.now)) sought.old }
+    ensures { OnOk result (sought.new ≡ map (noted_in (map (λ table. table.now) tables.now)) sought.old) }
 {
     for table in tables {
-        look_in(table, places, sought);
+        look_in(alloc, table, places, sought)?;
     }
+    Ok(())
 }
 
 // Looks for names in a table.
-fn look_in(table: &Table<'_>, places: &Places<'_>, sought: &mut [Sought<'_>])
+fn look_in(
+    alloc: Global,
+    table: &Table<'_>,
+    places: &Places<'_>,
+    sought: &mut [Sought<'_>],
+) -> Result<(), AllocError>
     requires { ArePlacesOf places.now (entry_names sought.old) }
-    ensures { sought.new ≡ map (noted_each table.now (rows_of table.now)) sought.old }
+    ensures { OnOk result (sought.new ≡ map (noted_each table.now (rows_of table.now)) sought.old) }
 {
+    let mut passed = Passed::new(alloc);
     for row in table.all_rows() {
-        note_row(table, &row, places, sought);
+        pass_row(table, &row, places, &mut passed, sought)?;
     }
+    Ok(())
+}
+
+// Notes a row for each name that it has. Where a row of the same names was noted before, there is nothing to note.
+fn pass_row(
+    table: &Table<'_>,
+    row: &Row<'_>,
+    places: &Places<'_>,
+    passed: &mut Passed,
+    sought: &mut [Sought<'_>],
+) -> Result<(), AllocError>
+    requires places { ArePlacesOf places.now (entry_names sought.old) }
+    requires passed { AreNoted table.now passed.old sought.old }
+    ensures noted { OnOk result (sought.new ≡ map (noted table.now (row_of row.now)) sought.old) }
+    ensures passed { OnOk result (AreNoted table.now passed.new sought.new) }
+{
+    if passed.has(row) {
+        return Ok(());
+    }
+    note_row(table, row, places, sought);
+    if table.key_name(row).is_ok() {
+        passed.put(row)?;
+    }
+    Ok(())
 }
 
 // Notes a row for each name that it has.

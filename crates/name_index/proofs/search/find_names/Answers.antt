@@ -16,5 +16,5 @@ pub returns : goal.returns
 returns c =
     let tables = map (λ table. table.now) c.args.tables.now in
     let whole : c.deref.result.now ≡ c.look_in_each.new.sought = grind (arith, common_steps, c.deref.ensures.value, c.look_in_each.auto.sought, c.deref_mut.ensures.value, c.deref_mut.ensures.len, c.in_ok-sought.sought.ok) in
-    let sought = whole ∙ c.look_in_each.ensures ∙ ap (λ (s : List Sought). map (noted_in tables) s) (c.deref_mut.ensures.value ∙ c.in_ok-sought.ensures) in
+    let sought = whole ∙ c.in_ok-look_in_each.ensures ∙ ap (λ (s : List Sought). map (noted_in tables) s) (c.deref_mut.ensures.value ∙ c.in_ok-sought.ensures) in
     ap (λ (found : List (Option ResId)). map (option_map (λ id. id.0)) found) c.in_ok-found.ensures ∙ found-all-mapped tables c.args.names.now _ sought

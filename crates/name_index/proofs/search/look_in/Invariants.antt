@@ -1,5 +1,6 @@
 use Rattle.std.proofs.Common.{◌≡◌, map}
 use Rattle.resource_table.specs.Table.{rows_of}
+use Rattle.name_index.specs.Passed.{AreNoted}
 use Rattle.name_index.specs.Sought.{noted_each, entry_names, ArePlacesOf}
 use Rattle.name_index.proofs.search.look_in.Given as goal
 
@@ -9,5 +10,6 @@ invariant-loop-row l = record {
   can : (goal.iterator-loop-row).can_next l.row-iterator;
   ends : (goal.iterator-loop-row).is_finite l.row-iterator;
   places : ArePlacesOf l.places (entry_names l.sought);
+  passed : AreNoted l.table l.passed l.sought;
   noted : map (noted_each l.table l.row-iterator) l.sought ≡ map (noted_each l.table (rows_of l.table)) l.fn.sought;
 }

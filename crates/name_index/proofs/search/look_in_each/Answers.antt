@@ -16,9 +16,9 @@ loop-table-preserved c =
     let behind = map (λ table. table.now) (drop (count + 1) tables) in
     let here = drop_more tables count table c.loop-table-test.true ∙ ap (λ first. first ∷ drop (count + 1) tables) (sym c.table-item.is) in
     record {
-      places = subst (λ (names : List (List ℕ)). ArePlacesOf c.args.places.now names) (sym (ap (λ (s : List Sought). entry_names s) c.look_in.ensures ∙ entry_names-noted_each table.now (rows_of table.now) sought)) so_far.places;
+      places = subst (λ (names : List (List ℕ)). ArePlacesOf c.args.places.now names) (sym (ap (λ (s : List Sought). entry_names s) c.in_ok-look_in.ensures ∙ entry_names-noted_each table.now (rows_of table.now) sought)) so_far.places;
       noted =
-          ap (λ (s : List Sought). map (noted_in behind) s) c.look_in.ensures ∙ map-noted_in-next table.now behind sought
+          ap (λ (s : List Sought). map (noted_in behind) s) c.in_ok-look_in.ensures ∙ map-noted_in-next table.now behind sought
           ∙ ap (λ left. map (noted_in (map (λ table. table.now) left)) sought) (sym here) ∙ so_far.noted;
     }
 

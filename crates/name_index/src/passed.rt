@@ -1,0 +1,78 @@
+//! Which names of a package rows were noted for.
+
+ghost use Rattle.std.specs.Prelude.{◌≡◌, ℕ, ◌==◌, true, [], OnOk, if◌then◌else◌};
+ghost use Rattle.std.specs.Prelude.{slice_index_or, ◌⊎◌};
+ghost use Rattle.type_chunks.specs.Row.{RowOf, row_of};
+ghost use Rattle.name_index.specs.Passed.{was_passed, last_type, HaveSameNames};
+
+use resource_table::Row;
+use std::alloc::{AllocError, Global};
+
+/// The entries' names of a package, each with the type of the row that was noted last. The rows of a type that have one name
+/// of an entry have the same names, and there is one for each configuration, so one of them is enough.
+#[derive(Debug, Drop)]
+pub(crate) struct Passed {
+    package_index: usize,
+    /// By the key of an entry's name; 0 where no row was noted.
+    types: Vec<u8>,
+}
+
+impl Passed {
+    /// No row was noted.
+    pub fn new(alloc: Global) -> Passed
+        ensures { (row : RowOf) → was_passed result row ≡ true → ⊥ }
+    {
+        Passed {
+            package_index: 0,
+            types: Vec::new(alloc),
+        }
+    }
+
+    /// Whether a row of the same names was noted.
+    pub fn has(&self, row: &Row<'_>) -> bool
+        ensures { result ≡ was_passed self.now (row_of row.now) }
+    {
+        let type_id = row.id.type_id();
+        type_id != 0 && row.package == self.package_index && self.last_type(row.key) == type_id
+    }
+
+    /// Puts a row among those that were noted. It has a name of an entry, so its key is small.
+    pub fn put(&mut self, row: &Row<'_>) -> Result<(), AllocError>
+        ensures { OnOk result ((other : RowOf) → was_passed self.new other ≡ true → HaveSameNames (row_of row.now) other ⊎ (was_passed self.old other ≡ true)) }
+    {
+        self.enter(row.package);
+        self.set_last_type(row.key, row.id.type_id())
+    }
+
+    fn last_type(&self, key: u32) -> u8
+        ensures { result ≡ last_type self.now key }
+    {
+        match self.types.get(key as usize) {
+            Some(type_id) => *type_id,
+            None => 0,
+        }
+    }
+
+    // Forgets another package.
+    fn enter(&mut self, index: usize)
+        ensures here { self.new.package_index ≡ index }
+        ensures kept { (key : ℕ) → last_type self.new key ≡ (if self.old.package_index == index then last_type self.old key else 0) }
+    {
+        if self.package_index != index {
+            self.types.clear();
+            self.package_index = index;
+        }
+    }
+
+    fn set_last_type(&mut self, key: u32, type_id: u8) -> Result<(), AllocError>
+        ensures here { self.new.package_index ≡ self.old.package_index }
+        ensures last { OnOk result ((other : ℕ) → last_type self.new other ≡ (if key == other then type_id else last_type self.old other)) }
+    {
+        let index = key as usize;
+        if self.types.len() <= index {
+            self.types.resize(index + 1, 0)?;
+        }
+        self.types[index] = type_id;
+        Ok(())
+    }
+}
