@@ -1,7 +1,7 @@
 #!/usr/bin/env python3
 """Holds what `survey` prints of random layers, with a box and without one, against a plain reading:
 
-    check_survey.py PROGRAM CASES [FIRST]
+    check_survey.py PROGRAM CASES [JOBS [FIRST]]
 
 PROGRAM is restool. In each case some bytes of the tables are changed: flags of types and entries, kinds of chunks and
 values, bytes of configurations. Some tables are written as newer tools do, with 16-bit offsets and compact entries. A table
@@ -15,6 +15,7 @@ import struct
 import subprocess
 import sys
 import tempfile
+from concurrent.futures import ProcessPoolExecutor
 
 from case_files import id_text
 from check_sparse import Twins, table_bytes
@@ -189,12 +190,12 @@ def check(program, number):
 
 
 def main():
-    if len(sys.argv) not in (3, 4):
-        sys.exit(__doc__)
     program, cases = os.path.abspath(sys.argv[1]), int(sys.argv[2])
-    first = int(sys.argv[3]) if len(sys.argv) == 4 else 0
-    counted = [check(program, number) for number in range(first, first + cases)]
-    warned, refused = (sum(each[place] for each in counted) for place in (0, 1))
+    jobs, first = (int(word) for word in (sys.argv[3:] + ["1", "0"][len(sys.argv) - 3 :])[:2])
+    warned = refused = 0
+    with ProcessPoolExecutor(jobs) as pool:
+        for in_case, refused_tables in pool.map(check, [program] * cases, range(first, first + cases), chunksize=8):
+            warned, refused = warned + in_case, refused + refused_tables
     print(f"{2 * cases} surveys, {warned} with a warning; {refused} of tables that are refused")
 
 
