@@ -274,6 +274,8 @@ def check_commands(ask):
         "Negative",
     ]
     yield ask("check_bytes", DENSITIES, "\n".join(rejected), TO_198, nodes=certificate(leaf(1)))
+    told = f'goal 0 {ID} "s"/"k"\nNegative'
+    yield ask("errors of OpenedCert::check", "B", told, MEDIUM_BOX, nodes=certificate(leaf(1)))
     yield ask("check_bytes", DENSITIES, "(Box(Density), 0)", "{}", nodes=certificate(leaf(1)))
     yield ask("check_bytes", DENSITIES, "(Certificate(Syntax), 0)", TO_197, nodes="{")
     two_leaves = certificate(AT_MOST_197, leaf(1), leaf(2), goal=STYLED_GOAL, version=2)
@@ -289,6 +291,8 @@ def make_commands(ask):
     yield ask("make_bytes", "0 [locale=fr] 1", "\n".join(german), BOTH_LOCALES)
     unset = ["counter goal 0", "device density=160", "end absent 0x01010002", "Negative"]
     yield ask("make_bytes", STYLED_DENSITIES, "\n".join(unset), MEDIUM_BOX, f"0x01010002@{ID}")
+    told = f'goal 0 0x01010002@{ID} "s"/"k"\nNegative'
+    yield ask("errors of OpenedBox::make", "B", told, MEDIUM_BOX, f"0x01010002@{ID}")
     yield ask("make_bytes", "0 [] 1", "(Box(Density), 0)", "{}")
 
 
@@ -397,7 +401,7 @@ WITHOUT_MEMORY = [
         f"  {ID} !NoSuch/!NoSuch flags 0x00000000 [density=320] decimal 2\n"
         f"lookup {ID} !NoSuch/!NoSuch\ncandidate 0 layer 0 [density=160] first\n"
         "candidate 1 layer 0 [density=320] took over P15\nend value layer 0 decimal 2\n"
-        "value layer 0 decimal 2\nout of memory",
+        f"value layer 0 decimal 2\n{ID}@{ID} !NoSuch/!NoSuch !NoSuch/!NoSuch\nout of memory",
         DENSITIES,
     ),
     without_memory(
@@ -424,7 +428,7 @@ REACHED = {
     "make": "make_watched make_bytes_watched ConfigBox::shared OpenBox::weightiest_parting",
     "ids_named": "Finder::new Finder::id Finder::ids ids_of_type Stack::base_tables",
     "goals_named": "Finder::each_id",
-    "OpenedBox::make": "OpenedBox::read",
+    "OpenedBox::make": "OpenedBox::read OpenedBox::make_telling",
     "OpenedCert::check": "OpenedCert::read",
     "show_bytes": """OpenedTrees::read OpenedTrees::show NumberedGoal::of OpenPaths::at_start
         OpenPaths::push_answers""",

@@ -12,4 +12,5 @@ mod many_tests;
 mod nested_texts;
 mod refused;
 mod rejected;
+mod told;
 mod watched;

@@ -9,7 +9,7 @@ use resource_tool::{
 };
 use show_command::{show_bytes, show_dot_bytes};
 use std::alloc::Global;
-use std::io::sink;
+use std::io::{Write, sink};
 use std::test::Fail;
 use survey_commands::survey_bytes;
 
@@ -100,16 +100,44 @@ impl<'w> Asked<'w> {
                 let opened = Opened::read(alloc, layers, of)?;
                 opened.attr(alloc, ATTR, &STYLES, false, true, out)
             }
-            "OpenedBox::make" => {
-                let opened = OpenedBox::read(alloc, layers, of)?;
-                opened.make(alloc, &self.goals, MOST_NODES, &mut Unwatched, out)
-            }
-            "OpenedCert::check" => {
-                let opened = OpenedCert::read(alloc, layers, of, self.certificate)?;
-                opened.check(alloc, &self.goals, out)
-            }
+            "OpenedBox::make" => self.make(alloc, layers, out, &mut sink()),
+            "errors of OpenedBox::make" => self.make(alloc, layers, &mut sink(), out),
+            "OpenedCert::check" => self.check(alloc, layers, out, &mut sink()),
+            "errors of OpenedCert::check" => self.check(alloc, layers, &mut sink(), out),
             _ => self.answer_of_trees(alloc, layers, out),
         }
+    }
+
+    // Makes a certificate, and says with names which goal has no value.
+    fn make<W: Write + Drop, E: Write + Drop>(
+        &self,
+        alloc: Global,
+        layers: &[LayerParts<&[u8]>],
+        out: &mut W,
+        errors: &mut E,
+    ) -> Result<Status, ToolFault> {
+        let opened = OpenedBox::read(alloc, layers, &self.of)?;
+        opened.make(
+            alloc,
+            &self.goals,
+            MOST_NODES,
+            true,
+            &mut Unwatched,
+            out,
+            errors,
+        )
+    }
+
+    // Checks a certificate, and says with names at which goal it is rejected.
+    fn check<W: Write + Drop, E: Write + Drop>(
+        &self,
+        alloc: Global,
+        layers: &[LayerParts<&[u8]>],
+        out: &mut W,
+        errors: &mut E,
+    ) -> Result<Status, ToolFault> {
+        let opened = OpenedCert::read(alloc, layers, &self.of, self.certificate)?;
+        opened.check(alloc, &self.goals, true, out, errors)
     }
 
     fn answer_of_trees(

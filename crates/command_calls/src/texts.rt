@@ -4,7 +4,7 @@ use cert_checker::{Cert, Rule, Shown, Verdict};
 use marked_calls::{begin, end, table_of, tell_text};
 use reference_resolver::resolve;
 use res_value::ResId;
-use resource_text::{dump_text, end_text, explain, rows_text, verdict_text};
+use resource_text::{dump_text, end_text, explain, rows_text, verdict_text, write_goal_words};
 use resource_tool::{ToolFault, fault_text};
 use std::test::Fail;
 use test_layers::{LayerFault, device_of};
@@ -26,6 +26,8 @@ pub fn answers(rt: &HostRuntime, word: &str) -> Result<(), Fail> {
     }
     explain(&stack, FIRST, &device, true, &mut out)?;
     end_text(resolve(&stack, FIRST, &device), &mut out)?;
+    tell_text(rt, b"")?;
+    write_goal_words(&stack, FIRST, &[FIRST], true, &mut out)?;
     tell_text(rt, b"")?;
     fault_text(&ToolFault::OutOfMemory, &mut out)?;
     end(rt);

@@ -13,5 +13,5 @@
 
 mod verdict;
 
-pub use answer_text::{dump_text, end_text, explain, rows_text, set_aside_line};
+pub use answer_text::{dump_text, end_text, explain, rows_text, set_aside_line, write_goal_words};
 pub use verdict::{device_with_end, verdict_text};

@@ -1,6 +1,7 @@
 -- What was made is printed, and a certificate reads back.
-use Rattle.std.proofs.Common.{◌≡◌, ℕ, ◌≤◌, List, Option, Result, Ok, Err, OnOk, arith, ap, subst, sym, refl, ◌∙◌}
+use Rattle.std.proofs.Common.{◌≡◌, ℕ, ◌≤◌, Bool, List, Option, Result, Ok, Err, arith, ap, subst, sym, refl, ◌∙◌}
 use Rattle.std.specs.List.{All}
+use Rattle.std.specs.Io.KnownBytes.{Appends}
 use Rattle.std.proofs.lemmas.List.{get_or-map, length-map}
 use Rattle.cert_maker.specs.cert_tree.Certificate.{GoalSeen, GoalOf, GoalFits, goals_of, most_nodes}
 use Rattle.cert_maker.specs.declared.made.Made.{Made}
@@ -9,11 +10,12 @@ use Rattle.cert_maker.specs.Made.{IsMade, CanBeWritten}
 use Rattle.cert_maker.specs.cert_checker.FirstFault.{goals_in}
 use Rattle.cert_maker.specs.Least.{IsLeast}
 use Rattle.table_commands.specs.fault_text.declared.fault.ToolFault.{ToolFault}
-use Rattle.table_commands.specs.fault_text.declared.fault.ToolFault.TheVariants as faults
 use Rattle.table_commands.specs.command_base.declared.status.Status.{Status}
 use Rattle.table_commands.specs.command_base.declared.status.Status.TheVariants.{Done, Negative}
 use Rattle.table_commands.specs.command_base.Output.{Output, Prints, PrintsOneOf}
-use Rattle.resource_tool.specs.MakeOutput.{MakeInputs, IsReadAccepted, IsMakeOutput, made_output, made_text}
+use Rattle.resource_tool.specs.Answered.{PrintsBothOneOf}
+use Rattle.resource_tool.specs.GoalTold.{goal_told}
+use Rattle.resource_tool.specs.MakeOutput.{MakeInputs, IsReadAccepted, IsMakeOutput, IsMakeOutputAbout, IsMakeAnswer, goal_of_made, made_output, made_text}
 use Rattle.resource_tool.specs.LineReadsBack.{LineReadsBack}
 
 abbrev output_or : Output → Result Output ToolFault → Output
@@ -43,29 +45,50 @@ reads-back asked most inputs (Cert certificate) again right fits done few styles
 reads-back asked most inputs (Counter g device end) again right fits done few styles = absurd (not_done done)
 reads-back asked most inputs NodeLimit again right fits done few styles = absurd (not_done done)
 
-pub made-printed : {W : Type 0} (contents : W → Option (List ℕ)) (old new : W) (asked : List GoalSeen) (most : ℕ) (inputs : MakeInputs) (result : Result Status ToolFault) (made : Made)
-    → Prints contents old new result (Ok (made_output made)) → OnOk result (LineReadsBack made) → IsMade inputs.stack inputs.sets asked most made
-    → IsLeast inputs.stack inputs.sets asked most made → CanBeWritten made → PrintsOneOf (IsMakeOutput asked most) contents old new result (Ok inputs)
-made-printed contents old new asked most inputs (Ok status) made (text, is, put) again right least fits =
+-- the answer that was printed is allowed, and about this goal
+pub printed-about : {W : Type 0} (contents : W → Option (List ℕ)) (old new : W) (asked : List GoalSeen) (most : ℕ) (inputs : MakeInputs) (status : Status) (made : Made) (about : Option ℕ)
+    → Prints contents old new (Ok status) (Ok (made_output made)) → LineReadsBack made → IsMade inputs.stack inputs.sets asked most made
+    → IsLeast inputs.stack inputs.sets asked most made → CanBeWritten made → about ≡ goal_of_made made
+    → PrintsOneOf (IsMakeOutputAbout asked most about) contents old new (Ok status) (Ok inputs)
+printed-about contents old new asked most inputs status made about (text, is, put) again right least fits of =
     let same : record { status = status; text = text } ≡ made_output made = same-output (record { status = status; text = text }) (made_output made) _ is refl in (
       inputs,
       text,
       refl,
       record {
-        made = made;
-        right = right;
-        least = least;
-        printed = same;
-        reads_back = subst (λ (o : Output). o.status ≡ Done → most ≤ most_nodes → All GoalFits asked → IsReadAccepted asked inputs o.text) (sym same) (reads-back asked most inputs made again right fits);
+        printed = record {
+          made = made;
+          right = right;
+          least = least;
+          printed = same;
+          reads_back = subst (λ (o : Output). o.status ≡ Done → most ≤ most_nodes → All GoalFits asked → IsReadAccepted asked inputs o.text) (sym same) (reads-back asked most inputs made again right fits);
+        };
+        goal = of;
       },
       put,
     )
-made-printed contents old new asked most inputs (Err faults.OutOfMemory) made printed again right least fits = printed
-made-printed contents old new asked most inputs (Err faults.Write) made printed again right least fits = printed
-made-printed contents old new asked most inputs (Err (faults.Table fault)) made printed again right least fits = absurd (let e = printed.0 in cc)
-made-printed contents old new asked most inputs (Err (faults.Layers fault)) made printed again right least fits = absurd (let e = printed.0 in cc)
-made-printed contents old new asked most inputs (Err (faults.LayerTable layer fault)) made printed again right least fits = absurd (let e = printed.0 in cc)
-made-printed contents old new asked most inputs (Err (faults.LayerMap layer fault)) made printed again right least fits = absurd (let e = printed.0 in cc)
-made-printed contents old new asked most inputs (Err (faults.Device fault)) made printed again right least fits = absurd (let e = printed.0 in cc)
-made-printed contents old new asked most inputs (Err (faults.Box fault)) made printed again right least fits = absurd (let e = printed.0 in cc)
-made-printed contents old new asked most inputs (Err (faults.Certificate fault)) made printed again right least fits = absurd (let e = printed.0 in cc)
+
+-- the same without the goal
+pub without-goal : {W : Type 0} (contents : W → Option (List ℕ)) (old new : W) (asked : List GoalSeen) (most : ℕ) (inputs : MakeInputs) (status : Status) (about : Option ℕ)
+    → PrintsOneOf (IsMakeOutputAbout asked most about) contents old new (Ok status) (Ok inputs) → PrintsOneOf (IsMakeOutput asked most) contents old new (Ok status) (Ok inputs)
+without-goal contents old new asked most inputs status about (input, text, is, allowed, put) = (input, text, is, allowed.printed, put)
+
+-- what is said beside an answer
+pub told-beside : {W V : Type 0} (contents : W → Option (List ℕ)) (says : V → Option (List ℕ)) (old new : W) (before after : V) (asked : List GoalSeen) (most : ℕ) (names : Bool) (inputs : MakeInputs) (status : Status) (about : Option ℕ)
+    → PrintsOneOf (IsMakeOutputAbout asked most about) contents old new (Ok status) (Ok inputs) → Appends (says before) (says after) (goal_told inputs.stack asked names about)
+    → PrintsBothOneOf (IsMakeAnswer asked most names) contents says old new before after (Ok status) (Ok inputs)
+told-beside contents says old new before after asked most names inputs status about (input, text, is, allowed, put) told =
+    let same : inputs ≡ input = cc in (
+      input,
+      text,
+      goal_told inputs.stack asked names about,
+      is,
+      record {
+        printed = allowed.printed;
+        told =
+            ap (λ (i : MakeInputs). goal_told i.stack asked names about) same
+            ∙ ap (λ (g : Option ℕ). goal_told input.stack asked names g) allowed.goal;
+      },
+      put,
+      told,
+    )

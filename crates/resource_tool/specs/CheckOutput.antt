@@ -1,5 +1,5 @@
 -- What the command `check` prints.
-use Rattle.std.specs.Prelude.{◌≡◌, ℕ, ◌++◌, List, Result, Ok}
+use Rattle.std.specs.Prelude.{◌≡◌, ℕ, ◌++◌, Bool, List, Option, Some, None, Result, Ok}
 use Rattle.contract_words.specs.Faults.{◌>>=◌}
 use Rattle.cert_maker.specs.box_answers.NumberSet.{SetOf}
 use Rattle.cert_maker.specs.config_box.BoxJson.{box_in}
@@ -20,6 +20,7 @@ use Rattle.table_commands.specs.command_base.declared.status.Status.TheVariants.
 use Rattle.table_commands.specs.command_base.Output.{Output}
 use Rattle.table_commands.specs.command_base.StackBytes.{LayerBytes, stack_in}
 use Rattle.table_commands.specs.command_base.MapErr.{map_err}
+use Rattle.resource_tool.specs.GoalTold.{goal_told}
 
 -- ---- the inputs
 
@@ -57,3 +58,15 @@ pub record IsCheckOutput (asked : List GoalSeen) (inputs : CheckInputs) (output 
   pub headline : Headline inputs.stack inputs.sets asked inputs.trees verdict
   pub status : output.status ≡ status_of_verdict verdict
   pub text : output.text ≡ check_text inputs verdict
+
+-- ---- the goal that it is about
+
+-- that at which the certificate is rejected
+abbrev pub goal_of_verdict : Verdict → Option ℕ
+goal_of_verdict Accepted = None
+goal_of_verdict (Rejected goal node rule shown) = Some goal
+
+-- a verdict that is right is printed, and these lines are said of its goal
+pub record IsCheckAnswer (asked : List GoalSeen) (names : Bool) (inputs : CheckInputs) (output : Output) (lines : List ℕ) : Type 0 where
+  pub printed : IsCheckOutput asked inputs output
+  pub told : lines ≡ goal_told inputs.stack asked names (goal_of_verdict printed.verdict)

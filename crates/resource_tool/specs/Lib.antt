@@ -1,3 +1,5 @@
+pub mod GoalTold
+pub mod Answered
 pub mod CheckOutput
 pub mod CheckHeadline
 pub mod MakeOutput

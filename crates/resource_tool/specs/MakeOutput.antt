@@ -1,5 +1,5 @@
 -- What the command `make` prints.
-use Rattle.std.specs.Prelude.{◌≡◌, ℕ, ◌≤◌, List, [], ◌∷◌, ◌++◌, codes, Result, Ok}
+use Rattle.std.specs.Prelude.{◌≡◌, ℕ, ◌≤◌, Bool, List, [], ◌∷◌, ◌++◌, codes, Option, Some, None, Result, Ok}
 use Rattle.std.specs.Fmt.{decimal}
 use Rattle.std.specs.List.{All}
 use Rattle.serde_json.specs.Written.{compact_text}
@@ -25,6 +25,7 @@ use Rattle.table_commands.specs.command_base.declared.status.Status.TheVariants.
 use Rattle.table_commands.specs.command_base.Output.{Output}
 use Rattle.table_commands.specs.command_base.StackBytes.{LayerBytes, stack_in}
 use Rattle.table_commands.specs.command_base.MapErr.{map_err}
+use Rattle.resource_tool.specs.GoalTold.{goal_told}
 
 -- ---- the inputs
 
@@ -82,3 +83,21 @@ pub record IsMakeOutput (asked : List GoalSeen) (most : ℕ) (inputs : MakeInput
   pub least : IsLeast inputs.stack inputs.sets asked most made
   pub printed : output ≡ made_output made
   pub reads_back : output.status ≡ Done → most ≤ most_nodes → All GoalFits asked → IsReadAccepted asked inputs output.text
+
+-- ---- the goal that it is about
+
+-- that of a counterexample
+abbrev pub goal_of_made : Made → Option ℕ
+goal_of_made (Cert certificate) = None
+goal_of_made (Counter goal device end) = Some goal
+goal_of_made NodeLimit = None
+
+-- an answer that may be printed, and this is the goal that it is about
+pub record IsMakeOutputAbout (asked : List GoalSeen) (most : ℕ) (about : Option ℕ) (inputs : MakeInputs) (output : Output) : Type 0 where
+  pub printed : IsMakeOutput asked most inputs output
+  pub goal : about ≡ goal_of_made printed.made
+
+-- an answer that may be printed, and these lines are said of its goal
+pub record IsMakeAnswer (asked : List GoalSeen) (most : ℕ) (names : Bool) (inputs : MakeInputs) (output : Output) (lines : List ℕ) : Type 0 where
+  pub printed : IsMakeOutput asked most inputs output
+  pub told : lines ≡ goal_told inputs.stack asked names (goal_of_made printed.made)

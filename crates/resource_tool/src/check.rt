@@ -1,20 +1,22 @@
 //! The command `check`.
 
-ghost use Rattle.std.specs.Prelude.{◌≡◌, map, Ok, IfOk};
+ghost use Rattle.std.specs.Prelude.{◌≡◌, false, map, Ok, IfOk};
 ghost use Rattle.contract_words.specs.Exact.{GivesOr};
 ghost use Rattle.contract_words.specs.Writes.{Writes};
 ghost use Rattle.cert_maker.specs.cert_tree.Certificate.{goal_seen};
 ghost use Rattle.table_commands.specs.fault_text.declared.fault.ToolFault.TheVariants.{OutOfMemory};
 ghost use Rattle.table_commands.specs.command_base.Output.{PrintsOneOf, IsOfInput};
+ghost use Rattle.resource_tool.specs.Answered.{PrintsBothOneOf};
 ghost use Rattle.table_commands.specs.command_base.StackBytesSeen.{layer_bytes};
-ghost use Rattle.resource_tool.specs.CheckOutput.{IsCheckOutput, check_inputs, check_text, status_of_verdict};
+ghost use Rattle.resource_tool.specs.CheckOutput.{IsCheckOutput, IsCheckAnswer, check_inputs, check_text, status_of_verdict, goal_of_verdict};
 ghost use Rattle.resource_tool.specs.CheckHeadline.{HeadlineHolds};
 ghost use Rattle.resource_tool.specs.OpenedSeen.{opened_cert};
 
+use crate::goal_told::write_goal_told;
 use cert_maker::{Cert, ConfigBox, Goal, Verdict, check};
 use resource_text::{set_aside_line, verdict_text};
 use std::alloc::Global;
-use std::io::{self, Write};
+use std::io::{self, Write, sink};
 use table_commands::{LayerParts, Stack, Status, ToolFault, open_stack};
 
 /// Prints whether a certificate is true of some goals for every device of a box, or the first of its nodes that
@@ -35,7 +37,7 @@ pub fn check_bytes<W: Write + Drop>(
         (W.contents out.old) (W.contents out.new)) }
 {
     let opened = OpenedCert::read(alloc, layers, box_json, cert)?;
-    Ok(opened.check(alloc, goals, out)?)
+    Ok(opened.check(alloc, goals, false, out, &mut sink())?)
 }
 
 /// The layers, the box and the certificate that `check` is asked of.
@@ -68,17 +70,26 @@ impl<'a> OpenedCert<'a> {
         })
     }
 
-    /// What `check_bytes` prints of the same layers, box and certificate.
-    pub fn check<W: Write + Drop>(
+    /// What `check_bytes` prints of the same layers, box and certificate. Where names are asked for, and the
+    /// certificate is rejected at a goal of the list, a line with that goal and its names goes to `errors`, after all
+    /// else was written.
+    pub fn check<W: Write + Drop, E: Write + Drop>(
         &self,
         alloc: Global,
         goals: &[Goal],
+        names: bool,
         out: &mut W,
+        errors: &mut E,
     ) -> Result<Status, ToolFault>
-        ensures { PrintsOneOf (IsCheckOutput (map goal_seen goals.now)) W.contents out.old out.new result (Ok (opened_cert self.now)) }
+        ensures both { PrintsBothOneOf (IsCheckAnswer (map goal_seen goals.now) names) W.contents E.contents
+            out.old out.new errors.old errors.new result (Ok (opened_cert self.now)) }
+        ensures prints { PrintsOneOf (IsCheckOutput (map goal_seen goals.now)) W.contents out.old out.new result (Ok (opened_cert self.now)) }
+        ensures quiet { names ≡ false → errors.new ≡ errors.old }
     {
         let verdict = check(alloc, &self.stack, &self.members, goals, &self.certificate)?;
         write_verdict(&verdict, self, out)?;
+        let about = goal_of_verdict(&verdict);
+        write_goal_told(&self.stack, goals, names, about, errors)?;
         Ok(status_of_verdict(verdict))
     }
 }
@@ -101,5 +112,14 @@ fn status_of_verdict(verdict: Verdict) -> Status
     match verdict {
         Verdict::Accepted => Status::Done,
         Verdict::Rejected { .. } => Status::Negative,
+    }
+}
+
+fn goal_of_verdict(verdict: &Verdict) -> Option<usize>
+    ensures { result ≡ goal_of_verdict verdict.now }
+{
+    match verdict {
+        Verdict::Accepted => None,
+        Verdict::Rejected { goal, .. } => Some(*goal),
     }
 }

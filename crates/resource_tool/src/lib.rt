@@ -10,16 +10,21 @@
 //!                                                                        // set-aside 0
 //!
 //! let opened = OpenedBox::read(alloc, &layers, &box_json)?; // to look into the stack first
-//! opened.make(alloc, &goals, 100_000, &mut Unwatched, &mut out)?; // as `make_bytes`; so `check` of an `OpenedCert`
+//! opened.make(alloc, &goals, 100_000, true, &mut Unwatched, &mut out, &mut errors)?; // as `make_bytes`, and to `errors`
+//!                                                                                    // goal 0 0x7f010000 "s"/"k"
 //! ```
 #![tactic(auto)]
 
+mod answered;
 mod check;
+mod goal_told;
 mod make;
 
+pub use answered::Answered;
 pub use cert_maker::{Goal, Progress, Unwatched};
 pub use check::{OpenedCert, check_bytes};
 pub use device_commands::{Opened, attr_bytes, bag_bytes, explain_bytes, query_bytes};
+pub use goal_told::write_goal_told;
 pub use make::{OpenedBox, make_bytes, make_bytes_watched};
 pub use table_commands::{
     InputFault, LayerList, LayerParts, LayersFault, Status, ToolFault, dump_bytes, fault_text,

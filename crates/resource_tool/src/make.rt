@@ -1,21 +1,24 @@
 //! The command `make`.
 
-ghost use Rattle.std.specs.Prelude.{◌≡◌, ◌∷◌, ◌++◌, [], map, Ok, OnOk};
+ghost use Rattle.std.specs.Prelude.{◌≡◌, ◌∷◌, ◌++◌, [], false, map, Ok, OnOk};
 ghost use Rattle.contract_words.specs.Exact.{GivesOr};
 ghost use Rattle.contract_words.specs.Writes.{Writes};
 ghost use Rattle.cert_maker.specs.cert_tree.Certificate.{goal_seen};
 ghost use Rattle.table_commands.specs.config_record.DeviceSeen.{device_numbers};
 ghost use Rattle.table_commands.specs.fault_text.declared.fault.ToolFault.TheVariants.{OutOfMemory};
 ghost use Rattle.table_commands.specs.command_base.Output.{IsOfInput, Prints, PrintsOneOf};
+ghost use Rattle.resource_tool.specs.Answered.{PrintsBothOneOf, status_in, goal_in};
 ghost use Rattle.table_commands.specs.command_base.StackBytesSeen.{layer_bytes};
-ghost use Rattle.resource_tool.specs.MakeOutput.{IsMakeOutput, make_inputs, counterexample_line, counterexample_text, status_of_made, made_output};
+ghost use Rattle.resource_tool.specs.MakeOutput.{IsMakeOutput, IsMakeOutputAbout, IsMakeAnswer, make_inputs, counterexample_line, counterexample_text, status_of_made, goal_of_made, made_output};
 ghost use Rattle.resource_tool.specs.LineReadsBack.{LineReadsBack};
 ghost use Rattle.resource_tool.specs.OpenedSeen.{opened_box};
 
+use crate::answered::Answered;
+use crate::goal_told::write_goal_told;
 use cert_maker::{ConfigBox, Goal, Made, Progress, Unwatched, make_watched};
 use resource_text::device_with_end;
 use std::alloc::Global;
-use std::io::{self, Write};
+use std::io::{self, Write, sink};
 use table_commands::{Device, End, LayerParts, Stack, Status, ToolFault, open_stack};
 
 /// Prints a certificate that `check_bytes` accepts for the same layers, box and goals, in one line of JSON; then
@@ -59,7 +62,7 @@ pub fn make_bytes_watched<W: Write + Drop, P: Progress>(
         (make_inputs (map layer_bytes layers.now) box_json.now) }
 {
     let opened = OpenedBox::read(alloc, layers, box_json)?;
-    opened.make(alloc, goals, max_nodes, progress, out)
+    opened.make(alloc, goals, max_nodes, false, progress, out, &mut sink())
 }
 
 /// The layers and the box that `make` is asked of.
@@ -85,16 +88,41 @@ impl<'a> OpenedBox<'a> {
         Ok(OpenedBox { stack, members })
     }
 
-    /// What `make_bytes_watched` prints of the same layers and box.
-    pub fn make<W: Write + Drop, P: Progress>(
+    /// What `make_bytes_watched` prints of the same layers and box. Where names are asked for, and a device without a
+    /// value is printed, a line with the goal and its names goes to `errors`, after all else was written.
+    pub fn make<W: Write + Drop, E: Write + Drop, P: Progress>(
+        &self,
+        alloc: Global,
+        goals: &[Goal],
+        max_nodes: u32,
+        names: bool,
+        progress: &mut P,
+        out: &mut W,
+        errors: &mut E,
+    ) -> Result<Status, ToolFault>
+        ensures both { PrintsBothOneOf (IsMakeAnswer (map goal_seen goals.now) max_nodes names) W.contents E.contents
+            out.old out.new errors.old errors.new result (Ok (opened_box self.now)) }
+        ensures prints { PrintsOneOf (IsMakeOutput (map goal_seen goals.now) max_nodes) W.contents out.old out.new result (Ok (opened_box self.now)) }
+        ensures quiet { names ≡ false → errors.new ≡ errors.old }
+    {
+        let answered = self.make_telling(alloc, goals, max_nodes, progress, out)?;
+        write_goal_told(&self.stack, goals, names, answered.about, errors)?;
+        Ok(answered.status)
+    }
+
+    /// The same but for that line: `write_goal_told` writes it, of the goal that the answer is about.
+    pub fn make_telling<W: Write + Drop, P: Progress>(
         &self,
         alloc: Global,
         goals: &[Goal],
         max_nodes: u32,
         progress: &mut P,
         out: &mut W,
-    ) -> Result<Status, ToolFault>
-        ensures { PrintsOneOf (IsMakeOutput (map goal_seen goals.now) max_nodes) W.contents out.old out.new result (Ok (opened_box self.now)) }
+    ) -> Result<Answered, ToolFault>
+        ensures about { PrintsOneOf (IsMakeOutputAbout (map goal_seen goals.now) max_nodes (goal_in result)) W.contents out.old out.new
+            (status_in result) (Ok (opened_box self.now)) }
+        ensures prints { PrintsOneOf (IsMakeOutput (map goal_seen goals.now) max_nodes) W.contents out.old out.new
+            (status_in result) (Ok (opened_box self.now)) }
     {
         let made = make_watched(
             alloc,
@@ -104,7 +132,9 @@ impl<'a> OpenedBox<'a> {
             max_nodes,
             progress,
         )?;
-        print_made(alloc, &made, out)
+        let status = print_made(alloc, &made, out)?;
+        let about = goal_of_made(&made);
+        Ok(Answered { status, about })
     }
 }
 
@@ -136,6 +166,16 @@ fn status_of_made(made: &Made) -> Status
         Made::Cert(_) => Status::Done,
         Made::Counter { .. } => Status::Negative,
         Made::NodeLimit => Status::Negative,
+    }
+}
+
+fn goal_of_made(made: &Made) -> Option<usize>
+    ensures { result ≡ goal_of_made made.now }
+{
+    match made {
+        Made::Counter { goal, .. } => Some(*goal),
+        Made::Cert(_) => None,
+        Made::NodeLimit => None,
     }
 }
 

@@ -22,7 +22,7 @@ use resource_tool::{
     Goal, LayerParts, Opened, OpenedBox, OpenedCert, Status, ToolFault, Unwatched,
 };
 use std::alloc::Global;
-use std::io::Write;
+use std::io::{Write, sink};
 use std::time::Clock;
 
 /// A resource, of a device.
@@ -172,12 +172,14 @@ impl<'a> AskedMake<'a> {
     {
         let opened = &self.opened;
         if !watch.is_terminal {
-            return opened.make(alloc, &self.goals, max_nodes, &mut Unwatched, out);
+            let answered =
+                opened.make_telling(alloc, &self.goals, max_nodes, &mut Unwatched, out)?;
+            return Ok(answered.status);
         }
         let mut line = ProgressLine::new(errors, watch.clock);
-        let made = opened.make(alloc, &self.goals, max_nodes, &mut line, out);
+        let answered = opened.make_telling(alloc, &self.goals, max_nodes, &mut line, out);
         line.clear();
-        made
+        Ok(answered?.status)
     }
 }
 
@@ -209,6 +211,7 @@ impl<'a> AskedCheck<'a> {
         ensures { PrintsOneOf (IsCheckOutput (check_seen self.now).goals) W.contents out.old out.new result
             (Ok (check_seen self.now).inputs) }
     {
-        self.opened.check(alloc, &self.goals, out)
+        self.opened
+            .check(alloc, &self.goals, false, out, &mut sink())
     }
 }

@@ -5,6 +5,7 @@ mod id_maps;
 mod layer_list;
 mod layers;
 mod lent;
+mod names;
 mod query;
 mod selection;
 mod sparse;

@@ -22,7 +22,7 @@ pub(crate) fn goals_of(alloc: Global, words: &[&str]) -> Result<Vec<Goal>, GoalF
 }
 
 /// A certificate with one tree, of these nodes, for the resource of entry 0.
-fn certificate_of(alloc: Global, nodes: &str) -> Result<String, AllocError> {
+pub(crate) fn certificate_of(alloc: Global, nodes: &str) -> Result<String, AllocError> {
     format!(in alloc; "{{\"version\":1,\"goals\":[{{\"id\":\"0x7f010000\",\"nodes\":{nodes}}}]}}")
 }
 

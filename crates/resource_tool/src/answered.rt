@@ -1,0 +1,11 @@
+//! How `check` and `make` are answered.
+
+use table_commands::Status;
+
+/// How a command was answered, and which of its goals the answer is about.
+#[derive(Clone, Copy, Debug, PartialEq, Eq)]
+pub struct Answered {
+    pub status: Status,
+    /// The place of the goal from 0: that at which a certificate is rejected, or the one that has no value on a device.
+    pub about: Option<usize>,
+}

@@ -1,0 +1,73 @@
+//! The goal that an answer is about, written.
+
+ghost use Rattle.std.specs.Prelude.{◌≡◌, false, map};
+ghost use Rattle.contract_words.specs.Writes.{Writes};
+ghost use Rattle.cert_maker.specs.cert_tree.Certificate.{goal_seen};
+ghost use Rattle.resource_tool.specs.GoalTold.{named_words, goal_line, line_about, goal_told};
+
+use cert_maker::Goal;
+use resource_text::write_goal_words;
+use std::io::{self, Write};
+use table_commands::Stack;
+
+/// Where names are asked for, writes the goal that an answer is about, by its place in the list, with the names of its
+/// ids. Nothing is written where the answer is about none, or the list has no such place.
+#[tactic(auto, unfolding(crate::specs::GoalTold::goal_told))]
+pub fn write_goal_told<W: Write + Drop>(
+    stack: &Stack<'_>,
+    goals: &[Goal],
+    names: bool,
+    about: Option<usize>,
+    out: &mut W,
+) -> io::Result<()>
+    ensures text { Writes W.contents out.old out.new result (goal_told stack.now (map goal_seen goals.now) names about) }
+    ensures quiet { names ≡ false → out.new ≡ out.old }
+{
+    if names {
+        write_line_about(stack, goals, about, out)
+    } else {
+        Ok(())
+    }
+}
+
+#[tactic(auto, unfolding(crate::specs::GoalTold::line_about, crate::specs::GoalTold::line_of))]
+fn write_line_about<W: Write + Drop>(
+    stack: &Stack<'_>,
+    goals: &[Goal],
+    about: Option<usize>,
+    out: &mut W,
+) -> io::Result<()>
+    ensures { Writes W.contents out.old out.new result (line_about stack.now (map goal_seen goals.now) about) }
+{
+    let Some(place) = about else {
+        return Ok(());
+    };
+    match goals.get(place) {
+        Some(goal) => write_goal_line(stack, place, goal, out),
+        None => Ok(()),
+    }
+}
+
+#[tactic(auto, unfolding(crate::specs::GoalTold::goal_line))]
+fn write_goal_line<W: Write + Drop>(
+    stack: &Stack<'_>,
+    place: usize,
+    goal: &Goal,
+    out: &mut W,
+) -> io::Result<()>
+    ensures { Writes W.contents out.old out.new result (goal_line stack.now place (goal_seen goal.now)) }
+{
+    write!(out, "goal {place} ")?;
+    write_named_words(stack, goal, out)?;
+    out.write_all(b"\n")
+}
+
+#[tactic(auto, unfolding(crate::specs::GoalTold::named_words))]
+fn write_named_words<W: Write + Drop>(stack: &Stack<'_>, goal: &Goal, out: &mut W) -> io::Result<()>
+    ensures { Writes W.contents out.old out.new result (named_words stack.now (goal_seen goal.now)) }
+{
+    match goal {
+        Goal::Id(id) => write_goal_words(stack, *id, &[], true, out),
+        Goal::Attr { attr, styles } => write_goal_words(stack, *attr, styles, true, out),
+    }
+}
