@@ -61,6 +61,8 @@ DENSITIES = "0 [density=160] 1\n0 [density=320] 2"
 TO_197, TO_198 = ('{"density":{"from":120,"to":%d}}' % last for last in (197, 198))
 LOCALES = "0 [locale=fr] 1\n0 [locale=de] 2"
 BOTH_LOCALES = '{"density":[160],"locale":["fr","de"]}'
+MANY = 30
+"""So many rows that sorting them takes memory."""
 BAGS = """\
 1 [] bag 0x00000000 0x01010001=9 0x01010002=2
 0 [] bag 0x7f010001 0x01010001=1 0x01010003=3"""
@@ -144,6 +146,11 @@ def stack_rows():
     merged = zip((A, B, C), (1, 2, 3))
     of_bag = "\n".join(f"{name} layer 0 Value {{ kind: 16, word: {word} }}" for name, word in merged)
     yield row("stack_calls", ["bag", BAGS], of_bag)
+    yield row("stack_calls", ["content_at", "0 [] string"], "!NoSuch")
+    numbers = [(f"{0x01010001 + place:#010x}", place) for place in range(MANY)]
+    many = " ".join(f"{name}={number}" for name, number in reversed(numbers))
+    said = "\n".join(f"{name}\ndecimal {number}" for name, number in numbers)
+    yield row("stack_calls", ["content_at", f"0 [] bag 0x00000000 {many}"], said)
     unset = [absent(C), absent(D)]
     before = [value(ONE), value(EMPTY), *unset]
     after = [value(ONE), value(EMPTY), value(ONE), unset[1]]

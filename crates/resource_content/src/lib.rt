@@ -16,6 +16,7 @@ mod device_content;
 mod laws;
 mod value_content;
 
+pub use answer_text::ResId;
 pub use bags_themes::{Device, Stack};
 pub use content::{Content, RowContent};
 pub use device_content::content_at;

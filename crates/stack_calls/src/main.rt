@@ -6,6 +6,7 @@
 #![tactic(auto)]
 
 mod bags;
+mod contents;
 mod themes;
 mod without_memory;
 
@@ -32,6 +33,7 @@ fn call(rt: &HostRuntime, words: &[String]) -> Result<(), Fail> {
 fn call_of(rt: &HostRuntime, name: &str, stack: &Stack<'_>, device: &Device) -> Result<(), Fail> {
     match name {
         "bag" => bags::rows(rt, stack, device),
+        "content_at" => contents::content(rt, stack, device),
         "apply" => themes::applied(rt, stack, device, false),
         "apply with force" => themes::applied(rt, stack, device, true),
         "Theme::of_styles" => themes::of_styles(rt, stack, device),
