@@ -2,3 +2,4 @@ pub mod SoughtSteps
 pub mod PlacesSteps
 pub mod IdSteps
 pub mod PassedSteps
+pub mod NameSteps

@@ -3,3 +3,4 @@ pub mod Sought
 pub mod Places
 pub mod IdsOfType
 pub mod Passed
+pub mod NameText

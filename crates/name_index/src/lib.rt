@@ -15,7 +15,9 @@ mod passed;
 mod places;
 mod search;
 mod sought;
+mod text;
 
 pub use ids::ids_of_type;
 pub use name::Name;
 pub use search::find_names;
+pub use text::name_text;

@@ -1,4 +1,3 @@
-pub mod NameSteps
 pub mod LoopSteps
 pub mod FirstRowSteps
 pub mod CarriedSteps

@@ -13,10 +13,10 @@ use Rattle.answer_text.specs.resource_table.Table.{TableOf, rows_of}
 use Rattle.answer_text.specs.type_chunks.Row.{RowOf}
 use Rattle.name_index.specs.Names.{NameOf, found_in_tables, name_of}
 use Rattle.name_index.specs.declared.name.Name.{Name}
+use Rattle.name_index.specs.NameText.{name_text}
 use Rattle.table_commands.specs.declared.pairs.NamedTarget.{NamedTarget}
 use Rattle.table_commands.specs.FirstRows.{first_rows}
 use Rattle.table_commands.specs.MadeMap.{found_by, own_of, package_of_row, pair_of, pairs_in}
-use Rattle.table_commands.specs.NameText.{name_text}
 use Rattle.table_commands.specs.NamedTarget.{NamedOf, named_by, named_in, named_seen, own_found, own_seen, pair_with, pairs_with}
 use Rattle.table_commands.specs.PairSeen.{pair_seen}
 use Rattle.table_commands.proofs.LoopSteps.{GivesAllBut, GivesAllBut-none, GivesAllBut-push, GivesAllBut-skip, GivesAllBut-end}

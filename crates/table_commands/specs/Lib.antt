@@ -1,5 +1,4 @@
 pub mod TableOutput
-pub mod NameText
 pub mod FirstRows
 pub mod FirstRowsSeen
 pub mod MadeMap

@@ -11,8 +11,8 @@ use Rattle.answer_text.specs.res_value.declared.value.Value.{Value}
 use Rattle.answer_text.specs.resource_table.Names.{type_name_in, key_name_in, found_in}
 use Rattle.answer_text.specs.resource_table.Table.{TableOf, rows_of}
 use Rattle.answer_text.specs.type_chunks.Row.{RowOf}
+use Rattle.name_index.specs.NameText.{name_text}
 use Rattle.table_commands.specs.FirstRows.{first_row, first_rows}
-use Rattle.table_commands.specs.NameText.{name_text}
 
 -- ---- the map
 

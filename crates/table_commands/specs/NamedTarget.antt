@@ -1,5 +1,6 @@
 -- How contracts see the ids of a target with their names. (Cited by contracts of this crate alone.)
-use Rattle.std.specs.Prelude.{ℕ, ◌==◌, List, [], ◌∷◌, Option, Some, None, string_bytes, if◌then◌else◌}
+use Rattle.std.specs.Prelude.{ℕ, ◌==◌, List, [], ◌∷◌, Option, Some, None, if◌then◌else◌}
+use Rattle.std.specs.Cow.{cow_str_bytes}
 use Rattle.std.specs.List.{filter_map, zip}
 use Rattle.std.specs.Option.{option_map}
 use Rattle.answer_text.specs.overlay_map.IdMap.{MapOf}
@@ -10,7 +11,7 @@ use Rattle.answer_text.specs.type_chunks.Row.{RowOf}
 use Rattle.name_index.specs.Names.{NameOf}
 use Rattle.table_commands.specs.declared.pairs.NamedTarget.{NamedTarget}
 use Rattle.table_commands.specs.MadeMap.{package_of_row}
-use Rattle.table_commands.specs.NameText.{name_text}
+use Rattle.name_index.specs.NameText.{name_text}
 
 -- an id with its names
 pub record NamedOf : Type 0 where
@@ -18,7 +19,7 @@ pub record NamedOf : Type 0 where
   pub name : NameOf
 
 abbrev pub named_seen : NamedTarget → NamedOf
-named_seen named = record { id = named.id.0; name = record { type_name = string_bytes named.type_name; entry_name = string_bytes named.entry_name } }
+named_seen named = record { id = named.id.0; name = record { type_name = cow_str_bytes named.type_name; entry_name = cow_str_bytes named.entry_name } }
 
 -- where both names are text
 abbrev pub named_by : ℕ → Option (List ℕ) → Option (List ℕ) → List NamedOf

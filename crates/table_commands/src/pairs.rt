@@ -11,10 +11,10 @@ ghost use Rattle.table_commands.specs.MadeMap.{pairs_in, made_map};
 ghost use Rattle.table_commands.specs.NamedTarget.{named_in, named_seen, own_seen, pairs_with};
 
 use crate::first_rows::FirstRows;
-use crate::name_text::name_text;
 use answer_text::{ResId, Row, Table};
-use name_index::{Name, find_names};
+use name_index::{Name, find_names, name_text};
 use std::alloc::{AllocError, Global};
+use std::borrow::CowStr;
 use std::slice;
 
 /// The pairs of the id map of an overlay, in the order of the targets.
@@ -49,18 +49,18 @@ fn pairs_in(
 
 /// An id of the target, with the names of its first row.
 #[derive(Debug, Drop)]
-struct NamedTarget {
+struct NamedTarget<'a> {
     id: ResId,
-    type_name: String,
-    entry_name: String,
+    type_name: CowStr<'a, Global>,
+    entry_name: CowStr<'a, Global>,
 }
 
 // The ids of a package of the target, in their order. Those whose names are no text are left out.
-fn named_targets(
+fn named_targets<'a>(
     alloc: Global,
-    target: &Table<'_>,
+    target: &Table<'a>,
     package_id: u8,
-) -> Result<Vec<NamedTarget>, AllocError>
+) -> Result<Vec<NamedTarget<'a>>, AllocError>
     ensures { IfOk result (λ targets. map named_seen targets.items ≡ flat_map (named_in target.now package_id) (first_rows (rows_of target.now))) }
 {
     let first = FirstRows::new(alloc, target)?;
@@ -74,12 +74,12 @@ fn named_targets(
 
 // Pushes the id of a row, if that is of this package and its names are text.
 #[tactic(auto, unfolding(crate::specs::NamedTarget::named_in))]
-fn push_named(
+fn push_named<'a>(
     alloc: Global,
-    target: &Table<'_>,
+    target: &Table<'a>,
     package_id: u8,
     row: &Row<'_>,
-    targets: &mut Vec<NamedTarget>,
+    targets: &mut Vec<NamedTarget<'a>>,
 ) -> Result<(), AllocError>
     ensures { OnOk result (map named_seen targets.new.items ≡ map named_seen targets.old.items ++ named_in target.now package_id (row_of row.now)) }
 {
@@ -102,14 +102,14 @@ fn push_named(
 }
 
 // The names, lent.
-fn names_of(alloc: Global, targets: &[NamedTarget]) -> Result<Vec<Name<'_>>, AllocError>
+fn names_of<'n>(alloc: Global, targets: &'n [NamedTarget<'_>]) -> Result<Vec<Name<'n>>, AllocError>
     ensures { IfOk result (λ names. map name_of names.items ≡ map (λ named. (named_seen named).name) targets.now) }
 {
     let mut names = Vec::with_capacity(alloc, targets.len())?;
     for named in targets {
         names.push(Name {
-            type_name: &named.type_name,
-            entry_name: &named.entry_name,
+            type_name: named.type_name.as_str(),
+            entry_name: named.entry_name.as_str(),
         })?;
     }
     Ok(names)
@@ -119,7 +119,7 @@ fn names_of(alloc: Global, targets: &[NamedTarget]) -> Result<Vec<Name<'_>>, All
 #[tactic(auto, using(crate::proofs::NamedSteps::found_steps))]
 fn found_pairs(
     alloc: Global,
-    targets: &[NamedTarget],
+    targets: &[NamedTarget<'_>],
     found: &[Option<ResId>],
 ) -> Result<Vec<(ResId, ResId)>, AllocError>
     requires { length found.now ≡ length targets.now }

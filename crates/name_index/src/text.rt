@@ -1,39 +1,48 @@
 //! The text of a name.
 
 ghost use Rattle.std.specs.Prelude.{◌≡◌, IfOk, string_bytes};
+ghost use Rattle.std.specs.Cow.{cow_str_bytes};
 ghost use Rattle.std.specs.Option.{option_map};
 ghost use Rattle.string_pool.specs.Text.{seen_text};
 ghost use Rattle.string_pool.specs.Units.{units_in};
-ghost use Rattle.table_commands.specs.NameText.{name_text, text_of_bytes, text_of_units};
+ghost use Rattle.name_index.specs.NameText.{name_text, text_of_bytes, text_of_units};
 
 use std::alloc::{AllocError, Global};
+use std::borrow::CowStr;
 use std::str;
 use string_pool::{StringFault, Text, u16_within};
 
 // How many bytes a unit of UTF-16 has.
 const UNIT_SIZE: usize = 2;
 
-/// A name as UTF-8, where it can be read and is text.
+/// A name as UTF-8, where it can be read and is text. What is UTF-8 in the table is lent, and not copied.
+///
+/// ```text
+/// let entry_name = name_text(alloc, table.key_name(&row))?; // Some("margin")
+/// ```
 #[tactic(auto, unfolding(crate::specs::NameText::name_text))]
-pub(crate) fn name_text(
+pub fn name_text<'a>(
     alloc: Global,
-    name: Result<Text<'_>, StringFault>,
-) -> Result<Option<String>, AllocError>
-    ensures { IfOk result (λ text. option_map string_bytes text ≡ name_text (seen_text name.entry)) }
+    name: Result<Text<'a>, StringFault>,
+) -> Result<Option<CowStr<'a, Global>>, AllocError>
+    ensures { IfOk result (λ text. option_map cow_str_bytes text ≡ name_text (seen_text name.entry)) }
 {
     match name {
-        Ok(Text::Utf8(bytes)) => text_of_bytes(alloc, bytes),
-        Ok(Text::Utf16(bytes)) => text_of_units(alloc, bytes),
+        Ok(Text::Utf8(bytes)) => Ok(text_of_bytes(bytes)),
+        Ok(Text::Utf16(bytes)) => match text_of_units(alloc, bytes)? {
+            Some(text) => Ok(Some(CowStr::Owned(text))),
+            None => Ok(None),
+        },
         Err(_) => Ok(None),
     }
 }
 
-fn text_of_bytes(alloc: Global, bytes: &[u8]) -> Result<Option<String>, AllocError>
-    ensures { IfOk result (λ text. option_map string_bytes text ≡ text_of_bytes bytes.now) }
+fn text_of_bytes<'a>(bytes: &'a [u8]) -> Option<CowStr<'a, Global>>
+    ensures { option_map cow_str_bytes result ≡ text_of_bytes bytes.now }
 {
     match str::from_utf8(bytes) {
-        Ok(text) => Ok(Some(String::from_str(alloc, text)?)),
-        Err(_) => Ok(None),
+        Ok(text) => Some(CowStr::Borrowed(text)),
+        Err(_) => None,
     }
 }
 

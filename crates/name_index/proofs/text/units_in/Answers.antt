@@ -1,7 +1,7 @@
 use Rattle.std.proofs.Common.{arith}
 use Rattle.string_pool.proofs.UnitSteps.{units_in-end, units_in-next}
-use Rattle.table_commands.proofs.NameSteps.{units-next, units-end}
-use Rattle.table_commands.proofs.name_text.units_in.Goals as goal
+use Rattle.name_index.proofs.NameSteps.{units-next, units-end}
+use Rattle.name_index.proofs.text.units_in.Goals as goal
 
 pub loop-left-preserved : goal.loop-left-preserved
 loop-left-preserved c =

@@ -1,6 +1,6 @@
 use Rattle.std.proofs.Common.{◌≡◌, ◌++◌, length}
 use Rattle.string_pool.specs.Units.{units_in}
-use Rattle.table_commands.proofs.name_text.units_in.Given as goal
+use Rattle.name_index.proofs.text.units_in.Given as goal
 
 -- the units so far, and those that are left, are all
 abbrev pub invariant-loop-left : goal.invariant-loop-left

@@ -4,7 +4,7 @@ use Rattle.std.specs.Str.{IsUtf8, is_utf8}
 use Rattle.std.proofs.lemmas.List.{append-nil}
 use Rattle.std.proofs.lemmas.Str.{IsUtf8-from_is_utf8, is_utf8-from_IsUtf8}
 use Rattle.string_pool.specs.Units.{units_in}
-use Rattle.table_commands.specs.NameText.{text_of_bytes}
+use Rattle.name_index.specs.NameText.{text_of_bytes}
 
 pub is_text : (bytes text : List ℕ) → IsUtf8 bytes → text ≡ bytes → Some text ≡ text_of_bytes bytes
 is_text bytes text spelled same =

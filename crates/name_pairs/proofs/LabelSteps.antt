@@ -1,0 +1,38 @@
+-- The order of labels.
+use Rattle.std.proofs.Common.{◌≡◌, ℕ, List, refl, sym, ◌∙◌, arith}
+use Rattle.std.proofs.lemmas.Cmp.{nat_cmp_total, nat_list_cmp_total, on_total, then_total}
+use Rattle.std.specs.Cmp.{IsTotalOrder}
+use Rattle.std.specs.Ordering.{ordering_reverse}
+use Rattle.std.specs.declared.cmp.Ordering.TheVariants.{Less, Equal, Greater}
+use Rattle.name_index.specs.Names.{NameOf}
+use Rattle.name_pairs.specs.Label.{LabelOf, ByName, ById, label_cmp}
+
+names_total : IsTotalOrder (λ a b. label_cmp (ByName a) (ByName b))
+names_total = then_total (on_total (λ (name : NameOf). name.type_name) nat_list_cmp_total) (on_total (λ (name : NameOf). name.entry_name) nat_list_cmp_total)
+
+antisymm : (a b : LabelOf) → label_cmp a b ≡ ordering_reverse (label_cmp b a)
+antisymm (ByName a) (ByName b) = names_total.antisymm a b
+antisymm (ByName a) (ById b) = refl
+antisymm (ById a) (ByName b) = refl
+antisymm (ById a) (ById b) = nat_cmp_total.antisymm a.0 b.0
+
+trans : (a b c : LabelOf) → label_cmp a b ≡ Less → label_cmp b c ≡ Less → label_cmp a c ≡ Less
+trans (ByName a) (ByName b) (ByName c) d e = names_total.trans a b c d e
+trans (ByName a) (ByName b) (ById c) d e = refl
+trans (ByName a) (ById b) (ByName c) d e = absurd cc
+trans (ByName a) (ById b) (ById c) d e = refl
+trans (ById a) (ByName b) (ByName c) d e = absurd cc
+trans (ById a) (ByName b) (ById c) d e = absurd cc
+trans (ById a) (ById b) (ByName c) d e = absurd cc
+trans (ById a) (ById b) (ById c) d e = nat_cmp_total.trans a.0 b.0 c.0 d e
+
+congr : (a b c : LabelOf) → label_cmp a b ≡ Equal → label_cmp a c ≡ label_cmp b c
+congr (ByName a) (ByName b) (ByName c) e = names_total.congr a b c e
+congr (ByName a) (ByName b) (ById c) e = refl
+congr (ByName a) (ById b) c e = absurd cc
+congr (ById a) (ByName b) c e = absurd cc
+congr (ById a) (ById b) (ByName c) e = refl
+congr (ById a) (ById b) (ById c) e = nat_cmp_total.congr a.0 b.0 c.0 e
+
+pub label_cmp_total : IsTotalOrder label_cmp
+label_cmp_total = record { antisymm = antisymm; trans = trans; congr = congr }

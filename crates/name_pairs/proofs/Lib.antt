@@ -1,0 +1,4 @@
+pub mod LabelSteps
+pub mod NotesSteps
+pub mod NotedSteps
+pub mod NamelessSteps

@@ -1,0 +1,5 @@
+pub mod Label
+pub mod StackLabels
+pub mod Pairs
+pub mod Noted
+pub use Rattle.overlay_map.specs as overlay_map

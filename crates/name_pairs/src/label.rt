@@ -1,0 +1,16 @@
+//! What a resource is called.
+
+use overlay_map::ResId;
+use std::alloc::Global;
+use std::borrow::CowStr;
+
+/// What a resource is called: by its name, or by its id where no name stands for that. Names are lent by the table where
+/// they stand in it as UTF-8. Labels are in order: names first, by type and then by entry.
+#[derive(Debug, PartialEq, Eq, PartialOrd, Ord, Drop)]
+pub enum Label<'a> {
+    Name {
+        type_name: CowStr<'a, Global>,
+        entry_name: CowStr<'a, Global>,
+    },
+    Id(ResId),
+}
