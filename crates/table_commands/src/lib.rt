@@ -19,7 +19,6 @@ mod dump;
 mod first_rows;
 mod map;
 mod map_text;
-mod name_text;
 mod pairs;
 mod rows;
 mod unmapped;
