@@ -1,24 +1,25 @@
 -- What is known of names after some rows.
-use Rattle.std.proofs.Common.{◌≡◌, ℕ, ◌<◌, ◌≤◌, inl, inr, Bool, true, false, Option, Some, None, Result, Ok, Err, List, [], ◌∷◌, ◌++◌, map, find, length, set, get_or, refl, sym, ap, subst, ◌∙◌, cond, arith, ⊎_elim}
-use Rattle.std.proofs.lemmas.Bool.{cases_Bool, cases_eq, and_parts, and_right}
+use Rattle.std.proofs.Common.{◌≡◌, ℕ, ◌<◌, ◌≤◌, inl, inr, Bool, true, false, Option, Some, None, List, [], ◌∷◌, ◌++◌, map, find, length, set, get_or, refl, sym, ap, subst, ◌∙◌, cond, arith, ⊎_elim}
+use Rattle.std.proofs.lemmas.Bool.{cases_Bool, cases_eq, and_parts}
 use Rattle.std.proofs.lemmas.Grind.{get_or-set_at}
 use Rattle.std.proofs.lemmas.List.{ext_get_or, get_or-map, get_or-set_other, get_or_default, length-map, length-set, nil_from_length}
-use Rattle.std.proofs.lemmas.Slice.Eq.{bytes_eq-Decides}
 use Rattle.std.proofs.lemmas.List.Elements.{Contains-push_cases}
 use Rattle.std.specs.List.{Contains}
 use Rattle.std.specs.Option.{option_map, option_or}
+use Rattle.std.specs.Str.{IsUtf8, is_utf8}
+use Rattle.std.proofs.lemmas.Str.{IsUtf8-from_is_utf8}
 use Rattle.resource_table.specs.Names.{key_name_in, type_name_in, is_name}
 use Rattle.resource_table.specs.Table.{TableOf, rows_of}
 use Rattle.type_chunks.specs.res_value.declared.res_id.ResId.{ResId}
-use Rattle.type_chunks.specs.string_pool.Text.{TextOf, is_text_of}
-use Rattle.type_chunks.specs.string_pool.declared.fault.StringFault.{StringFault}
 use Rattle.type_chunks.specs.Row.{RowOf}
 use Rattle.name_index.specs.declared.places.Places.{Places}
 use Rattle.name_index.specs.declared.name.Name.{Name}
 use Rattle.name_index.specs.declared.sought.Sought.{Sought}
+use Rattle.name_index.specs.NameText.{name_text}
 use Rattle.name_index.specs.Names.{name_of, found_in_tables}
 use Rattle.name_index.specs.Places.{places_at}
 use Rattle.name_index.specs.Sought.{has_name, first_of, noted, id_of_row, noted_each, noted_in, unfound, entry_names, ArePlacesOf, IsNotedAt}
+use Rattle.name_index.proofs.Utf16Steps.{text-is}
 
 first_of-again : (found : Option ResId) (has : Bool) (number : ℕ) → first_of (first_of found has number) has number ≡ first_of found has number
 first_of-again (Some id) has number = refl
@@ -72,46 +73,63 @@ pub entry_names-noted : (table : TableOf) (row : RowOf) (sought : List Sought) �
 entry_names-noted table row [] = refl
 entry_names-noted table row (one ∷ others) = ap (λ (names : List (List ℕ)). one.name.entry_name.now ∷ names) (entry_names-noted table row others)
 
-has_name-unread : (table : TableOf) (row : RowOf) (fault : StringFault) (one : Sought) → key_name_in table row ≡ Err fault → has_name table one row ≡ false
-has_name-unread table row fault one unread =
-    and_right (is_name (type_name_in table row) one.name.type_name.now) (is_name (key_name_in table row) one.name.entry_name.now)
-    (ap (λ (read : Result TextOf StringFault). is_name read one.name.entry_name.now) unread)
+-- ---- the places of a row's name
 
--- a row whose entry's name cannot be read
-pub map-noted-unread : (table : TableOf) (row : RowOf) (fault : StringFault) (sought : List Sought) → key_name_in table row ≡ Err fault → map (noted table row) sought ≡ sought
-map-noted-unread table row fault [] unread = refl
-map-noted-unread table row fault (one ∷ others) unread =
-    ap (λ (o : Sought). o ∷ map (noted table row) others) (noted-other table row one (has_name-unread table row fault one unread))
-    ∙ ap (λ (os : List Sought). one ∷ os) (map-noted-unread table row fault others unread)
+entry_name-has : (table : TableOf) (row : RowOf) (one : Sought) → IsUtf8 one.name.entry_name.now → has_name table one row ≡ true → name_text (key_name_in table row) ≡ Some one.name.entry_name.now
+entry_name-has table row one spelled has =
+    text-is (key_name_in table row) one.name.entry_name.now spelled
+    (and_parts (is_name (type_name_in table row) one.name.type_name.now) (is_name (key_name_in table row) one.name.entry_name.now) has).1
 
--- the entry's name of a row that has a name, in UTF-8
-entry_name-has : (table : TableOf) (row : RowOf) (bytes : List ℕ) (one : Sought) → key_name_in table row ≡ Ok (record { utf8 = true; bytes = bytes })
-    → has_name table one row ≡ true → bytes ≡ one.name.entry_name.now
-unfolding is_text_of
-entry_name-has table row bytes one read has =
-    let named : is_name (key_name_in table row) one.name.entry_name.now ≡ true =
-    (and_parts (is_name (type_name_in table row) one.name.type_name.now) (is_name (key_name_in table row) one.name.entry_name.now) has).1 in
-    (bytes_eq-Decides bytes one.name.entry_name.now).0 (sym (ap (λ (found : Result TextOf StringFault). is_name found one.name.entry_name.now) read) ∙ named)
+some_same : (x y : List ℕ) → Some x ≡ Some y → x ≡ y
+some_same x y same = cc
 
--- a row that was noted wherever its entry's name is that of a place
-pub noted-everywhere : (table : TableOf) (row : RowOf) (places : Places) (bytes : List ℕ) (old new : List Sought)
-    → key_name_in table row ≡ Ok (record { utf8 = true; bytes = bytes }) → ArePlacesOf places (entry_names old)
-    → IsNotedAt table row (places_at places bytes) old new → new ≡ map (noted table row) old
-noted-everywhere table row places bytes [] new read all at = nil_from_length new at.same_length
-noted-everywhere table row places bytes (first ∷ others) new read all at =
+none_not_some : (x : List ℕ) → None ≡ Some x → ⊥
+none_not_some x same = cc
+
+-- the places have each name that the row has
+abbrev HaveNamed : TableOf → RowOf → List ℕ → List Sought → Type 0
+HaveNamed table row places sought = (place : ℕ) (d : Sought) → place < length sought → has_name table (get_or sought place d) row ≡ true → Contains places place
+
+-- the entry's name of a row that has the name of a place
+named-text : (table : TableOf) (row : RowOf) (places : Places) (sought : List Sought) (place : ℕ) (d : Sought) → ArePlacesOf places (entry_names sought) → place < length sought
+    → has_name table (get_or sought place d) row ≡ true → name_text (key_name_in table row) ≡ Some (get_or (entry_names sought) place [])
+named-text table row places sought place d all within has =
+    let entry_name : Sought → List ℕ = λ one. one.name.entry_name.now in
+    let name = get_or-map entry_name sought place d [] within in
+    let spelled = (all place (omega (arith, within, length-map sought entry_name))).0 in
+    entry_name-has table row (get_or sought place d) (IsUtf8-from_is_utf8 _ (ap (λ (t : List ℕ). is_utf8 t) (sym name) ∙ spelled)) has ∙ ap (λ (t : List ℕ). Some t) (sym name)
+
+named-places : (table : TableOf) (row : RowOf) (places : Places) (bytes : List ℕ) (sought : List Sought) → name_text (key_name_in table row) ≡ Some bytes
+    → ArePlacesOf places (entry_names sought) → HaveNamed table row (places_at places bytes) sought
+named-places table row places bytes sought read all = λ place d within has.
+    subst (λ (text : List ℕ). Contains (places_at places text) place)
+    (sym (some_same _ _ (sym read ∙ named-text table row places sought place d all within has)))
+    (all place (omega (arith, within, length-map sought (λ (one : Sought). one.name.entry_name.now)))).1
+
+named-nowhere : (table : TableOf) (row : RowOf) (places : Places) (sought : List Sought) → name_text (key_name_in table row) ≡ None
+    → ArePlacesOf places (entry_names sought) → HaveNamed table row [] sought
+named-nowhere table row places sought read all = λ place d within has.
+    absurd (none_not_some _ (sym read ∙ named-text table row places sought place d all within has))
+
+-- a row that was noted at such places
+noted-everywhere : (table : TableOf) (row : RowOf) (places : List ℕ) (old new : List Sought) → HaveNamed table row places old → IsNotedAt table row places old new
+    → new ≡ map (noted table row) old
+noted-everywhere table row places [] new named at = nil_from_length new at.same_length
+noted-everywhere table row places (first ∷ others) new named at =
     let old = first ∷ others in
     ext_get_or first new (map (noted table row) old) (at.same_length ∙ sym (length-map old (noted table row))) (λ place within.
     let inside : place < length old = omega (arith, within, at.same_length) in
     let here : Sought = get_or old place first in
     let due = sym (get_or-map (noted table row) old place first first inside) in
-    let name = get_or-map (λ (one : Sought). one.name.entry_name.now) old place first [] inside in
-    let inside_names : place < length (entry_names old) = omega (arith, inside, length-map old (λ (one : Sought). one.name.entry_name.now)) in
     ⊎_elim
-    (λ has.
-    let spelled = name ∙ sym (entry_name-has table row bytes here read has) in
-    at.there place first inside (subst (λ (text : List ℕ). Contains (places_at places text) place) spelled (all place inside_names)) ∙ due)
+    (λ has. at.there place first inside (named place first inside has) ∙ due)
     (λ other. ⊎_elim (λ same. same ∙ sym (noted-other table row here other) ∙ due) (λ noted_here. noted_here ∙ due) (at.elsewhere place first inside))
     (cases_Bool (has_name table here row)))
+
+pub is_noted : (table : TableOf) (row : RowOf) (places : Places) (bytes at : List ℕ) (old new : List Sought) → name_text (key_name_in table row) ≡ Some bytes
+    → ArePlacesOf places (entry_names old) → at ≡ places_at places bytes → IsNotedAt table row at old new → new ≡ map (noted table row) old
+is_noted table row places bytes at old new read all found noted_at =
+    noted-everywhere table row at old new (subst (λ (ps : List ℕ). HaveNamed table row ps old) (sym found) (named-places table row places bytes old read all)) noted_at
 
 pub IsNotedAt-none : (table : TableOf) (row : RowOf) (old : List Sought) → IsNotedAt table row [] old old
 IsNotedAt-none table row old = record {
@@ -119,6 +137,11 @@ IsNotedAt-none table row old = record {
   there = λ place d within among. absurd (omega (arith, among.1));
   elsewhere = λ place d within. inl refl;
 }
+
+-- a row whose name is no text
+pub is_noted-nowhere : (table : TableOf) (row : RowOf) (places : Places) (sought : List Sought) → name_text (key_name_in table row) ≡ None → ArePlacesOf places (entry_names sought)
+    → sought ≡ map (noted table row) sought
+is_noted-nowhere table row places sought read all = noted-everywhere table row [] sought sought (named-nowhere table row places sought read all) (IsNotedAt-none table row sought)
 
 -- one place more
 pub IsNotedAt-next : (table : TableOf) (row : RowOf) (places : List ℕ) (place : ℕ) (old now : List Sought) (put e : Sought)

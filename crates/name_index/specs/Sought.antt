@@ -2,6 +2,7 @@
 use Rattle.std.specs.Prelude.{◌≡◌, ℕ, ◌<◌, Bool, true, false, ◌⊎◌, List, [], ◌∷◌, map, find, length, slice_index_or, Option, Some, None}
 use Rattle.std.specs.List.{Contains}
 use Rattle.std.specs.Option.{option_map, option_or}
+use Rattle.std.specs.Str.{is_utf8}
 use Rattle.resource_table.specs.Names.{has_names}
 use Rattle.resource_table.specs.Table.{TableOf, rows_of}
 use Rattle.type_chunks.specs.res_value.declared.res_id.ResId.{ResId}
@@ -44,9 +45,10 @@ unfound name = record { name = name; found = None }
 abbrev pub entry_names : List Sought → List (List ℕ)
 entry_names sought = map (λ one. one.name.entry_name.now) sought
 
--- of each of these entries' names, its place is among those of the name
+-- each of these entries' names is text, and its place is among those of the name
 abbrev pub ArePlacesOf : Places → List (List ℕ) → Type 0
-ArePlacesOf places names = (place : ℕ) → place < length names → Contains (places_at places (slice_index_or names place [])) place
+ArePlacesOf places names = (place : ℕ) → place < length names
+    → (is_utf8 (slice_index_or names place []) ≡ true) × Contains (places_at places (slice_index_or names place [])) place
 
 -- at these places a row was noted, and elsewhere it may have been
 pub record IsNotedAt (table : TableOf) (row : RowOf) (places : List ℕ) (old new : List Sought) : Type 0 where

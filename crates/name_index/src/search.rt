@@ -12,12 +12,13 @@ use crate::name::Name;
 use crate::passed::Passed;
 use crate::places::Places;
 use crate::sought::Sought;
+use crate::text::name_text;
 use resource_table::{ResId, Row, Table};
 use std::alloc::{AllocError, Global};
-use type_chunks::Text;
 
 /// The resource of each name: that of the first row which has it, in the first of the tables that has one. It walks
-/// once over the rows of each table, however many names there are, and takes memory in proportion to the names.
+/// once over the rows of each table, however many names there are, and takes memory in proportion to the names and a byte
+/// for each name of an entry in a package.
 ///
 /// ```text
 /// let margin = Name { type_name: "dimen", entry_name: "margin" };
@@ -99,13 +100,14 @@ fn look_in(
 {
     let mut passed = Passed::new(alloc);
     for row in table.all_rows() {
-        pass_row(table, &row, places, &mut passed, sought)?;
+        pass_row(alloc, table, &row, places, &mut passed, sought)?;
     }
     Ok(())
 }
 
 // Notes a row for each name that it has. Where a row of the same names was noted before, there is nothing to note.
 fn pass_row(
+    alloc: Global,
     table: &Table<'_>,
     row: &Row<'_>,
     places: &Places<'_>,
@@ -120,23 +122,13 @@ fn pass_row(
     if passed.has(row) {
         return Ok(());
     }
-    note_row(table, row, places, sought);
-    if table.key_name(row).is_ok() {
-        passed.put(row)?;
-    }
+    let Some(entry_name) = name_text(alloc, table.key_name(row))? else {
+        return Ok(());
+    };
+    let at = places.get(entry_name.as_str().as_bytes());
+    note_at(table, row, at, sought);
+    passed.put(row)?;
     Ok(())
-}
-
-// Notes a row for each name that it has.
-fn note_row(table: &Table<'_>, row: &Row<'_>, places: &Places<'_>, sought: &mut [Sought<'_>])
-    requires { ArePlacesOf places.now (entry_names sought.old) }
-    ensures { sought.new ≡ map (noted table.now (row_of row.now)) sought.old }
-{
-    match table.key_name(row) {
-        Ok(Text::Utf8(bytes)) => note_at(table, row, places.get(bytes), sought),
-        Ok(Text::Utf16(_)) => note_each(table, row, sought),
-        Err(_) => {}
-    }
 }
 
 // Notes a row for the names of these places that it has.
@@ -147,14 +139,5 @@ fn note_at(table: &Table<'_>, row: &Row<'_>, places: &[usize], sought: &mut [Sou
         if *place < sought.len() {
             sought[*place].note(table, row);
         }
-    }
-}
-
-// Notes a row for each of all names that it has.
-fn note_each(table: &Table<'_>, row: &Row<'_>, sought: &mut [Sought<'_>])
-    ensures { sought.new ≡ map (noted table.now (row_of row.now)) sought.old }
-{
-    for one in sought.iter_mut() {
-        one.note(table, row);
     }
 }
