@@ -119,6 +119,10 @@ def table_rows():
     five = "Plain(Value { kind: 16, word: 5 })"
     yield row("table_calls", ["Table::open", "A"], f"{FIRST} {five}")
     yield row("table_calls", ["find_names", "B", "k"], f"[Some({FIRST}), None]")
+    by_name = 'Name { type_name: "s", entry_name: "k" }'
+    by_id = f"Id({FIRST}) Removed {{ old: {FIRST} }}"
+    yield row("table_calls", ["name_pairs", "A", "B"], f"{by_name} Added {{ new: {FIRST} }}\n{by_id}")
+    yield row("table_calls", ["name_pairs", "B", "B"], f"{by_name} Both {{ old: {FIRST}, new: {FIRST} }}")
     base, overlay = "0 [locale=fr] 1", "0 [locale=fr] 2"
     of_base = f"layer 0 Plain({ONE})"
     yield row("table_calls", ["push_base", base], f"1 layers\n{of_base}", ["0 layers"])
@@ -424,6 +428,7 @@ REACHED = {
     "Table::open": "BagChecks::new BagChecks::make_ready types_of_children",
     "Device::read": "read_value",
     "find_names": "Places::new Places::push",
+    "name_pairs": "name_text Noted::new Noted::note Noted::ids_on Noted::into_pairs",
     "push_base": "IndexedTable::new",
     "map_bytes": "Carried::new FirstRows::new FirstRows::in_order",
     "query_bytes": "open_stack",

@@ -1,5 +1,5 @@
 //! Names, as tests over the public calls: which words ask for resources and goals, which resources have a name in
-//! tables, and which ids words ask for over a stack. Nothing stands on this crate.
+//! tables, which ids words ask for over a stack, and which names two stacks have. Nothing stands on this crate.
 #![tactic(auto)]
 
 #[cfg(test)]
@@ -8,6 +8,8 @@ mod goals;
 mod ids;
 #[cfg(test)]
 mod named_stack;
+#[cfg(test)]
+mod pairs;
 #[cfg(test)]
 mod tables;
 #[cfg(test)]

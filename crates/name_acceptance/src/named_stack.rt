@@ -12,8 +12,8 @@ const TYPE_NAME: usize = 362;
 
 const ENTRY_NAME: usize = 398;
 
-// A table whose one resource has the type s and this entry.
-fn table_of(alloc: Global, package: u8, entry: u8) -> Result<Vec<u8>, AllocError> {
+/// A table whose one resource has the type s and this entry.
+pub(crate) fn table_of(alloc: Global, package: u8, entry: u8) -> Result<Vec<u8>, AllocError> {
     let mut bytes = table_b(alloc)?;
     put(&mut bytes, PACKAGE, &[package]);
     put(&mut bytes, TYPE_NAME, b"s");

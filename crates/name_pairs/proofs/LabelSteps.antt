@@ -1,8 +1,9 @@
 -- The order of labels.
-use Rattle.std.proofs.Common.{◌≡◌, ℕ, List, refl, sym, ◌∙◌, arith}
+use Rattle.std.proofs.Common.{◌≡◌, true, refl}
 use Rattle.std.proofs.lemmas.Cmp.{nat_cmp_total, nat_list_cmp_total, on_total, then_total}
 use Rattle.std.specs.Cmp.{IsTotalOrder}
-use Rattle.std.specs.Ordering.{ordering_reverse}
+use Rattle.std.specs.Ordering.{is_eq, ordering_reverse}
+use Rattle.std.specs.declared.cmp.Ordering.{Ordering}
 use Rattle.std.specs.declared.cmp.Ordering.TheVariants.{Less, Equal, Greater}
 use Rattle.name_index.specs.Names.{NameOf}
 use Rattle.name_pairs.specs.Label.{LabelOf, ByName, ById, label_cmp}
@@ -36,3 +37,8 @@ congr (ById a) (ById b) (ById c) e = nat_cmp_total.congr a.0 b.0 c.0 e
 
 pub label_cmp_total : IsTotalOrder label_cmp
 label_cmp_total = record { antisymm = antisymm; trans = trans; congr = congr }
+
+pub equal_from_is_eq : (r : Ordering) → is_eq r ≡ true → r ≡ Equal
+equal_from_is_eq Less e = absurd cc
+equal_from_is_eq Equal e = refl
+equal_from_is_eq Greater e = absurd cc

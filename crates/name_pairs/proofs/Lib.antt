@@ -2,3 +2,4 @@ pub mod LabelSteps
 pub mod NotesSteps
 pub mod NotedSteps
 pub mod NamelessSteps
+pub mod Laws

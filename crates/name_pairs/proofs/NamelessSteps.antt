@@ -19,7 +19,7 @@ use Rattle.name_pairs.specs.declared.pair.Sides.TheVariants.{Removed, Added, Bot
 use Rattle.name_pairs.specs.Label.{LabelOf, label_cmp, is_same}
 use Rattle.name_pairs.specs.StackLabels.{Labelled, by_id, first_with, is_id, labels_of, stands_for, named_rows, names_in, nameless, labelled}
 use Rattle.name_pairs.specs.Noted.{Notes, HasNone, labels_in, sides_at, id_on, with_found}
-use Rattle.name_pairs.proofs.LabelSteps.{label_cmp_total}
+use Rattle.name_pairs.proofs.LabelSteps.{equal_from_is_eq, label_cmp_total}
 use Rattle.name_pairs.proofs.NotesSteps.{Notes-append}
 
 -- an id that is not among others
@@ -63,7 +63,7 @@ any_inserted f agrees (x ∷ labels) k = by (label_cmp k x) refl (any_inserted f
     by Equal e behind = twice (f k) (f x) (list_any f labels) (agrees k x e)
     by Greater e behind = ap (λ (b : Bool). f x || b) behind ∙ turned (f x) (f k) (list_any f labels)
 
-any_folded : (f : LabelOf → Bool) → ((a b : LabelOf) → label_cmp a b ≡ Equal → f a ≡ f b) → (labels ks : List LabelOf)
+pub any_folded : (f : LabelOf → Bool) → ((a b : LabelOf) → label_cmp a b ≡ Equal → f a ≡ f b) → (labels ks : List LabelOf)
     → list_any f (fold (insert_key label_cmp) labels ks) ≡ (list_any f ks || list_any f labels)
 any_folded f agrees labels [] = refl
 any_folded f agrees labels (k ∷ ks) =
@@ -75,24 +75,19 @@ any_folded f agrees labels (k ∷ ks) =
     turned false true d = refl
     turned false false d = refl
 
-any-labels : (f : LabelOf → Bool) (all : List Labelled) → list_any f (labels_of all) ≡ list_any (λ one. f one.label) all
+pub any-labels : (f : LabelOf → Bool) (all : List Labelled) → list_any f (labels_of all) ≡ list_any (λ one. f one.label) all
 any-labels f [] = refl
 any-labels f (one ∷ all) = ap (λ (b : Bool). f one.label || b) (any-labels f all)
 
 -- ---- which ids the names stand for
 
-first-agrees : (all : List Labelled) (a b : LabelOf) → label_cmp a b ≡ Equal → first_with all a ≡ first_with all b
+pub first-agrees : (all : List Labelled) (a b : LabelOf) → label_cmp a b ≡ Equal → first_with all a ≡ first_with all b
 first-agrees all a b same =
     ap (λ (test : Labelled → Bool). option_map (λ (one : Labelled). one.id) (find test all))
     (fun_ext (λ (one : Labelled). ap is_eq (label_cmp_total.congr a b one.label same)))
 
-equal_from_is_eq : (r : Ordering) → is_eq r ≡ true → r ≡ Equal
-equal_from_is_eq Less e = absurd cc
-equal_from_is_eq Equal e = refl
-equal_from_is_eq Greater e = absurd cc
-
 -- what holds of a label that is found holds of one that is there
-any_from_found : (f : LabelOf → Bool) → ((a b : LabelOf) → label_cmp a b ≡ Equal → f a ≡ f b) → (label : LabelOf) (all : List Labelled) (id : ResId)
+pub any_from_found : (f : LabelOf → Bool) → ((a b : LabelOf) → label_cmp a b ≡ Equal → f a ≡ f b) → (label : LabelOf) (all : List Labelled) (id : ResId)
     → first_with all label ≡ Some id → f label ≡ true → list_any (λ one. f one.label) all ≡ true
 any_from_found f agrees label [] id found holds = absurd cc
 any_from_found f agrees label (one ∷ all) id found holds = by (is_same label one.label) refl found (λ later. any_from_found f agrees label all id later holds)

@@ -26,7 +26,7 @@ use Rattle.name_pairs.specs.Label.{LabelOf, ByName, ById, label_of, label_cmp, i
 use Rattle.name_pairs.specs.StackLabels.{Labelled, called, first_with, is_id}
 use Rattle.name_pairs.specs.Pairs.{PairOf}
 use Rattle.name_pairs.specs.Noted.{Notes, labels_in, sides_at, id_on, with_id, with_found}
-use Rattle.name_pairs.proofs.LabelSteps.{label_cmp_total}
+use Rattle.name_pairs.proofs.LabelSteps.{equal_from_is_eq, label_cmp_total}
 
 -- the order that the code's labels have
 abbrev order : Label → Label → Ordering
@@ -61,11 +61,6 @@ found_as m key = ap (λ (test : Label → Bool). lookup test m.entries) (fun_ext
 
 found_at : (m : BTreeMap Label Sides) (label : LabelOf) → get order m (at_label label) ≡ get_by (λ other. label_cmp label (label_of other)) m
 found_at m label = found_as m (at_label label) ∙ ap (λ (l : LabelOf). get_by (λ other. label_cmp l (label_of other)) m) (label_of-at label)
-
-equal_from_is_eq : (r : Ordering) → is_eq r ≡ true → r ≡ Equal
-equal_from_is_eq Less e = absurd cc
-equal_from_is_eq Equal e = refl
-equal_from_is_eq Greater e = absurd cc
 
 -- the same is at the same labels
 same_found : (noted : Noted) (a b : LabelOf) → is_same a b ≡ true → sides_at noted a ≡ sides_at noted b

@@ -15,7 +15,7 @@ use Rattle.name_pairs.specs.Label.{LabelOf, label_cmp, is_same}
 use Rattle.name_pairs.specs.StackLabels.{Labelled, first_with, labels_of}
 use Rattle.name_pairs.specs.Noted.{Notes, labels_in, sides_at, with_id, with_found}
 
-first-append : (a b : List Labelled) (label : LabelOf) → first_with (a ++ b) label ≡ option_or (first_with a label) (first_with b label)
+pub first-append : (a b : List Labelled) (label : LabelOf) → first_with (a ++ b) label ≡ option_or (first_with a label) (first_with b label)
 first-append [] b label = refl
 first-append (one ∷ a) b label = by (is_same label one.label) (first-append a b label)
   where

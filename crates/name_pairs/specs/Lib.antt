@@ -1,5 +1,6 @@
 pub mod Label
 pub mod StackLabels
 pub mod Pairs
+pub mod Laws
 pub mod Noted
 pub use Rattle.overlay_map.specs as overlay_map

@@ -7,6 +7,7 @@
 #![tactic(auto)]
 
 mod layers;
+mod pairs;
 mod tables;
 mod without_memory;
 
@@ -24,6 +25,7 @@ fn call(rt: &HostRuntime, words: &[String]) -> Result<(), Fail> {
     match word(words, 0) {
         "Table::open" => tables::opened(rt, given),
         "find_names" => tables::names(rt, given, word(words, 2)),
+        "name_pairs" => pairs::told(rt, given, word(words, 2)),
         "push_base" => layers::base(rt, given),
         "push_overlay" => layers::overlay(rt, given, word(words, 2)),
         "chunk_walk" => without_memory::chunks(rt),
