@@ -352,6 +352,8 @@ if command -v cc >/dev/null && command -v python3 >/dev/null; then
         fi
     done
     refused_by calls.py ./refuse.so
+    pairs="python3 '$here/tests/check_pairs.py' '$here/crates/table_calls/out/table_calls' 400 4"
+    shell "pairs of random stacks" 0 '' "$pairs >pairs || { cat pairs >&2; exit 1; }"
 else
     echo "not run, since cc or python3 is missing: refused memory, files and bytes"
 fi

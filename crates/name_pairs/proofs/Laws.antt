@@ -155,17 +155,6 @@ none_left_out old new label found =
     ap is_some (λ k. sides_of (sym (first-agrees old label other equal) k) (sym (first-agrees new label other equal) k)) ∙ found)
     (rising (labels_of old ++ labels_of new)) risen
 
-pub side_by_side : (old new : List LayerOf) → AreSideBySide old new (name_pairs old new)
-unfolding name_pairs
-side_by_side old new = record {
-  rising =
-      subst (λ (labels : List LabelOf). IsStrictlySortedBy label_cmp labels) (sym (labels-paired (labelled old) (labelled new) (rising (labels_of (labelled old) ++ labels_of (labelled new)))))
-      (IsStrictlySortedBy-filter label_cmp (λ label. is_some (sides_in (labelled old) (labelled new) label)) (rising (labels_of (labelled old) ++ labels_of (labelled new)))
-      (sorted-folded [] (labels_of (labelled old) ++ labels_of (labelled new)) nothing_sorted));
-  right = all-right (labelled old) (labelled new) (rising (labels_of (labelled old) ++ labels_of (labelled new)));
-  whole = none_left_out (labelled old) (labelled new);
-}
-
 -- ---- no resource is lost
 
 -- a label of which one of these is the first
@@ -223,7 +212,7 @@ first-by_id (x ∷ ids) id found = by (x.0 == id.0) refl found (first-by_id ids 
         ap (λ (b : Bool). option_map id_of_one (cond b (Some (by_id x)) others)) (is_eq-nat_cmp id.0 x.0 ∙ e) ∙ ap one (same_id id x e)
     by false e found later = ap (λ (b : Bool). option_map id_of_one (cond b (Some (by_id x)) others)) (is_eq-nat_cmp id.0 x.0 ∙ e) ∙ later found
 
-pub each_has_label : (layers : List LayerOf) → EachHasLabel layers
+each_has_label : (layers : List LayerOf) → EachHasLabel layers
 unfolding labelled
 each_has_label layers id found = by (stands_for names id) refl
   where
@@ -245,3 +234,18 @@ each_has_label layers id found = by (stands_for names id) refl
           (any_kept (λ other. other.0 == id.0) (λ other. not (stands_for names other))
           (λ other same. ap (λ (o : ResId). not (stands_for names o)) (same_id id other same) ∙ ap not e) (ids_of_type None (base_tables layers)) found),
     )
+
+-- ---- all together
+
+pub side_by_side : (old new : List LayerOf) → AreSideBySide old new (name_pairs old new)
+unfolding name_pairs
+side_by_side old new = record {
+  rising =
+      subst (λ (labels : List LabelOf). IsStrictlySortedBy label_cmp labels) (sym (labels-paired (labelled old) (labelled new) (rising (labels_of (labelled old) ++ labels_of (labelled new)))))
+      (IsStrictlySortedBy-filter label_cmp (λ label. is_some (sides_in (labelled old) (labelled new) label)) (rising (labels_of (labelled old) ++ labels_of (labelled new)))
+      (sorted-folded [] (labels_of (labelled old) ++ labels_of (labelled new)) nothing_sorted));
+  right = all-right (labelled old) (labelled new) (rising (labels_of (labelled old) ++ labels_of (labelled new)));
+  whole = none_left_out (labelled old) (labelled new);
+  old_ids = each_has_label old;
+  new_ids = each_has_label new;
+}

@@ -1,10 +1,12 @@
 -- How labels are noted, one after the other.
 use Rattle.std.proofs.Common.{◌≡◌, ℕ, ◌+◌, ◌<◌, ◌≤◌, Bool, true, false, cond, List, [], ◌∷◌, ◌++◌, map, length, drop, get_or, Option, Some, None, refl, sym, ap, subst, ◌∙◌, append_assoc}
+use Rattle.std.proofs.Math.Path.{fun_ext}
 use Rattle.std.proofs.lemmas.List.{append-nil, drop_all, drop_more, map-append}
 use Rattle.std.proofs.lemmas.List.Sums.{fold-append}
 use Rattle.std.specs.BTreeSet.{insert_key}
-use Rattle.std.specs.List.{find, flat_map, fold}
+use Rattle.std.specs.List.{filter_map, find, flat_map, fold}
 use Rattle.std.specs.Option.{option_map, option_or}
+use Rattle.overlay_map.specs.Layer.{LayerOf}
 use Rattle.overlay_map.specs.res_value.declared.res_id.ResId.{ResId}
 use Rattle.name_pairs.specs.declared.noted.Noted.{Noted}
 use Rattle.name_pairs.specs.declared.pair.Side.{Side}
@@ -12,7 +14,8 @@ use Rattle.name_pairs.specs.declared.pair.Side.TheVariants.{Old, New}
 use Rattle.name_pairs.specs.declared.pair.Sides.{Sides}
 use Rattle.name_pairs.specs.declared.pair.Sides.TheVariants.{Removed, Added, Both}
 use Rattle.name_pairs.specs.Label.{LabelOf, label_cmp, is_same}
-use Rattle.name_pairs.specs.StackLabels.{Labelled, first_with, labels_of}
+use Rattle.name_pairs.specs.StackLabels.{Labelled, first_with, labelled, labels_of}
+use Rattle.name_pairs.specs.Pairs.{PairOf, sides_of, paired, rising, name_pairs}
 use Rattle.name_pairs.specs.Noted.{Notes, labels_in, sides_at, with_id, with_found}
 
 pub first-append : (a b : List Labelled) (label : LabelOf) → first_with (a ++ b) label ≡ option_or (first_with a label) (first_with b label)
@@ -101,3 +104,30 @@ pub NotesAllBut-end_at : {X A : Type 0} (view : X → A) (side : Side) (f : A �
     → NotesAllBut side f old now all (map view (drop i xs)) → length xs ≤ i → Notes side (flat_map f all) old now
 NotesAllBut-end_at {X} {A} view side f old now all xs i before past =
     NotesAllBut-end side f old now all (map view (drop i xs)) before (ap (λ (t : List X). map view t) (drop_all i xs past))
+
+-- ---- the labels of two stacks
+
+with_both : (old new : Option ResId) → with_found New new (with_found Old old None) ≡ sides_of old new
+with_both None None = refl
+with_both None (Some new) = refl
+with_both (Some old) None = refl
+with_both (Some old) (Some new) = refl
+
+pub name_pairs-noted : (old new : List LayerOf) (none mid all : Noted) → labels_in none ≡ [] → ((label : LabelOf) → sides_at none label ≡ None)
+    → Notes Old (labelled old) none mid → Notes New (labelled new) mid all
+    → filter_map (λ label. option_map (λ sides. record { label = label; sides = sides }) (sides_at all label)) (labels_in all) ≡ name_pairs old new
+unfolding name_pairs
+name_pairs-noted old new none mid all empty nothing first second =
+    let insert : List LabelOf → LabelOf → List LabelOf = insert_key label_cmp in
+    let pair_at : (LabelOf → Option Sides) → LabelOf → Option PairOf = λ at label. option_map (λ sides. record { label = label; sides = sides }) (at label) in
+    let olds = labels_of (labelled old) in
+    let news = labels_of (labelled new) in
+    let labels : labels_in all ≡ rising (olds ++ news) =
+    second.labels ∙ ap (λ (ls : List LabelOf). fold insert ls news) (first.labels ∙ ap (λ (ls : List LabelOf). fold insert ls olds) empty) ∙ sym (fold-append insert [] olds news) in
+    let sides : (label : LabelOf) → sides_at all label ≡ sides_of (first_with (labelled old) label) (first_with (labelled new) label) =
+    λ label.
+    second.sides label
+    ∙ ap (λ (s : Option Sides). with_found New (first_with (labelled new) label) s) (first.sides label ∙ ap (λ (s : Option Sides). with_found Old (first_with (labelled old) label) s) (nothing label))
+    ∙ with_both (first_with (labelled old) label) (first_with (labelled new) label) in
+    ap (λ (at : LabelOf → Option Sides). filter_map (pair_at at) (labels_in all)) (fun_ext sides)
+    ∙ ap (λ (ls : List LabelOf). filter_map (paired (labelled old) (labelled new)) ls) labels

@@ -13,6 +13,11 @@ use Rattle.name_pairs.specs.Pairs.{PairOf, sides_of}
 abbrev pub id_of : List LayerOf → LabelOf → Option ResId
 id_of layers label = first_with (labelled layers) label
 
+-- each id of the rows of a stack's base layers has a label
+abbrev pub EachHasLabel : List LayerOf → Type 0
+EachHasLabel layers =
+    (id : ResId) → list_any (λ other. other.0 == id.0) (ids_of_type None (base_tables layers)) ≡ true → (label : LabelOf) × (id_of layers label ≡ Some id)
+
 -- some pairs are the labels of two stacks, side by side
 pub record AreSideBySide (old new : List LayerOf) (pairs : List PairOf) : Type 0 where
   -- each label once, in rising order
@@ -21,8 +26,6 @@ pub record AreSideBySide (old new : List LayerOf) (pairs : List PairOf) : Type 0
   pub right : All (λ pair. sides_of (id_of old pair.label) (id_of new pair.label) ≡ Some pair.sides) pairs
   -- and a label that stands for something is not left out
   pub whole : (label : LabelOf) → IsSome (sides_of (id_of old label) (id_of new label)) → list_any (λ pair. is_same label pair.label) pairs ≡ true
-
--- each id of the rows of a stack's base layers has a label, so that no resource is lost
-abbrev pub EachHasLabel : List LayerOf → Type 0
-EachHasLabel layers =
-    (id : ResId) → list_any (λ other. other.0 == id.0) (ids_of_type None (base_tables layers)) ≡ true → (label : LabelOf) × (id_of layers label ≡ Some id)
+  -- and no resource is lost
+  pub old_ids : EachHasLabel old
+  pub new_ids : EachHasLabel new

@@ -2,7 +2,7 @@
 
 ghost use Rattle.std.specs.Prelude.{◌≡◌, map, IfOk};
 ghost use Rattle.name_pairs.specs.Pairs.{pair_of, name_pairs};
-ghost use Rattle.name_pairs.specs.Laws.{AreSideBySide, EachHasLabel};
+ghost use Rattle.name_pairs.specs.Laws.{AreSideBySide};
 
 use crate::label::Label;
 use crate::noted::Noted;
@@ -67,15 +67,13 @@ impl Sides {
 /// ```text
 /// let pairs = name_pairs(alloc, &old, &new)?;
 /// ```
-#[tactic(auto, using(crate::proofs::Laws::side_by_side, crate::proofs::Laws::each_has_label), unfolding(crate::specs::Pairs::name_pairs))]
 pub fn name_pairs<'a>(
     alloc: Global,
     old: &Stack<'a>,
     new: &Stack<'a>,
 ) -> Result<Vec<NamePair<'a>>, AllocError>
     ensures pairs { IfOk result (λ pairs. map pair_of pairs.items ≡ name_pairs old.now new.now) }
-    ensures side_by_side { AreSideBySide old.now new.now (name_pairs old.now new.now) }
-    ensures nothing_lost { EachHasLabel old.now × EachHasLabel new.now }
+    ensures side_by_side { IfOk result (λ pairs. AreSideBySide old.now new.now (map pair_of pairs.items)) }
 {
     let mut noted = Noted::new(alloc);
     note_stack(alloc, old, Side::Old, &mut noted)?;
