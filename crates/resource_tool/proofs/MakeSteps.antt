@@ -3,11 +3,11 @@ use Rattle.std.proofs.Common.{◌≡◌, ℕ, ◌≤◌, Bool, List, Option, Res
 use Rattle.std.specs.List.{All}
 use Rattle.std.specs.Io.KnownBytes.{Appends}
 use Rattle.std.proofs.lemmas.List.{get_or-map, length-map}
-use Rattle.cert_maker.specs.cert_tree.Certificate.{GoalSeen, GoalOf, GoalFits, goals_of, most_nodes}
+use Rattle.cert_maker.specs.cert_tree.Certificate.{GoalSeen, GoalOf, GoalFits, NodeFits, goals_of, most_nodes, node_count}
 use Rattle.cert_maker.specs.declared.made.Made.{Made}
 use Rattle.cert_maker.specs.declared.made.Made.TheVariants.{Cert, Counter, NodeLimit}
 use Rattle.cert_maker.specs.Made.{IsMade, CanBeWritten}
-use Rattle.cert_maker.specs.cert_checker.FirstFault.{goals_in}
+use Rattle.cert_maker.specs.cert_checker.FirstFault.{goals_in, IsAccepted}
 use Rattle.cert_maker.specs.Least.{IsLeast}
 use Rattle.table_commands.specs.fault_text.declared.fault.ToolFault.{ToolFault}
 use Rattle.table_commands.specs.command_base.declared.status.Status.{Status}
@@ -15,8 +15,8 @@ use Rattle.table_commands.specs.command_base.declared.status.Status.TheVariants.
 use Rattle.table_commands.specs.command_base.Output.{Output, Prints, PrintsOneOf}
 use Rattle.resource_tool.specs.Answered.{PrintsBothOneOf}
 use Rattle.resource_tool.specs.GoalTold.{goal_told}
-use Rattle.resource_tool.specs.MakeOutput.{MakeInputs, IsReadAccepted, IsMakeOutput, IsMakeOutputAbout, IsMakeAnswer, goal_of_made, made_output, made_text}
-use Rattle.resource_tool.specs.LineReadsBack.{LineReadsBack}
+use Rattle.resource_tool.specs.MakeOutput.{MakeInputs, IsReadAccepted, IsMakeOutput, IsMakeOutputAbout, IsMakeAnswer, certificate_line, goal_of_made, made_output, made_text}
+use Rattle.resource_tool.specs.LineReadsBack.{LineReadsBack, TreesReadBack}
 
 abbrev output_or : Output → Result Output ToolFault → Output
 output_or other (Ok output) = output
@@ -30,18 +30,24 @@ All-goals : (trees : List GoalOf) (asked : List GoalSeen) → goals_in trees ≡
 All-goals trees asked for fit = λ k d on.
     subst GoalFits (get_or-map (λ (g : GoalOf). g.goal) trees k d d.goal on) (subst (All GoalFits) (sym for) fit k d.goal (simp length-map on))
 
-not_done : Negative ≡ Done → ⊥
+pub not_done : Negative ≡ Done → ⊥
 not_done e = absurd cc
+
+-- the line of trees that are accepted, and have few enough nodes
+pub line-read : (asked : List GoalSeen) (most : ℕ) (inputs : MakeInputs) (trees : List GoalOf) → TreesReadBack trees → IsAccepted inputs.stack inputs.sets asked trees → node_count trees ≤ most
+    → All (λ (tree : GoalOf). All NodeFits tree.nodes) trees → most ≤ most_nodes → All GoalFits asked → IsReadAccepted asked inputs (certificate_line trees)
+unfolding TreesReadBack
+line-read asked most inputs trees again accepted within fits few styles =
+    record {
+      trees = trees;
+      means = again (record { few = omega (arith, few, within); styles = All-goals trees asked accepted.goals styles; nodes = fits });
+      accepted = accepted;
+    }
 
 reads-back : (asked : List GoalSeen) (most : ℕ) (inputs : MakeInputs) (made : Made) → LineReadsBack made → IsMade inputs.stack inputs.sets asked most made → CanBeWritten made
     → (made_output made).status ≡ Done → most ≤ most_nodes → All GoalFits asked → IsReadAccepted asked inputs (made_output made).text
 unfolding made_text
-reads-back asked most inputs (Cert certificate) again right fits done few styles =
-    record {
-      trees = goals_of certificate;
-      means = again (record { few = omega (arith, few, right.2); styles = All-goals (goals_of certificate) asked right.0.goals styles; nodes = fits });
-      accepted = right.0;
-    }
+reads-back asked most inputs (Cert certificate) again right fits done few styles = line-read asked most inputs (goals_of certificate) again right.0 right.2 fits few styles
 reads-back asked most inputs (Counter g device end) again right fits done few styles = absurd (not_done done)
 reads-back asked most inputs NodeLimit again right fits done few styles = absurd (not_done done)
 

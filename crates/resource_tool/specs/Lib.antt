@@ -3,6 +3,7 @@ pub mod Answered
 pub mod CheckOutput
 pub mod CheckHeadline
 pub mod MakeOutput
+pub mod OmitOutput
 pub mod OpenedSeen
 pub mod LineReadsBack
 pub use Rattle.cert_maker.specs.cert_tree

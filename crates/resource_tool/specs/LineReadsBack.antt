@@ -1,13 +1,30 @@
 -- The line of a certificate, read again. (Cited by contracts of this crate alone.)
-use Rattle.std.specs.Prelude.{◌≡◌, Ok}
-use Rattle.cert_maker.specs.cert_tree.Certificate.{CertFits, goals_of}
+use Rattle.std.specs.Prelude.{◌≡◌, List, Result, Ok, Err}
+use Rattle.cert_maker.specs.cert_tree.Certificate.{GoalOf, CertFits, goals_of}
 use Rattle.cert_maker.specs.cert_tree.CertJson.{cert_in}
 use Rattle.cert_maker.specs.declared.made.Made.{Made}
 use Rattle.cert_maker.specs.declared.made.Made.TheVariants.{Cert, Counter, NodeLimit}
+use Rattle.cert_maker.specs.declared.omitted.Omitting.{Omitting}
+use Rattle.cert_maker.specs.declared.omitted.Omitting.TheVariants as omitting
+use Rattle.table_commands.specs.command_base.declared.status.Status.{Status}
+use Rattle.table_commands.specs.fault_text.declared.fault.ToolFault.{ToolFault}
+use Rattle.table_commands.specs.fault_text.declared.fault.ToolFault.TheVariants.{OutOfMemory}
 use Rattle.resource_tool.specs.MakeOutput.{certificate_line}
 
--- what is printed of a certificate within the limits is read as the same
+-- what is printed of trees within the limits is read as the same
+unfoldable pub TreesReadBack : List GoalOf → Type 0
+TreesReadBack trees = CertFits trees → cert_in (certificate_line trees) ≡ Ok trees
+
 abbrev pub LineReadsBack : Made → Type 0
-LineReadsBack (Cert certificate) = CertFits (goals_of certificate) → cert_in (certificate_line (goals_of certificate)) ≡ Ok (goals_of certificate)
+LineReadsBack (Cert certificate) = TreesReadBack (goals_of certificate)
 LineReadsBack (Counter goal device end) = Unit {0}
 LineReadsBack NodeLimit = Unit {0}
+
+abbrev pub OmittingReadsBack : Omitting → Type 0
+OmittingReadsBack (omitting.Cert certificate omitted) = TreesReadBack (goals_of certificate)
+OmittingReadsBack omitting.NodeLimit = Unit {0}
+
+-- nothing is said where memory ran out
+abbrev pub UnlessMemory : Result Status ToolFault → Type 0 → Type 0
+UnlessMemory (Err OutOfMemory) fact = Unit {0}
+UnlessMemory result fact = fact

@@ -12,6 +12,9 @@
 //! let opened = OpenedBox::read(alloc, &layers, &box_json)?; // to look into the stack first
 //! opened.make(alloc, &goals, 100_000, true, &mut Unwatched, &mut out, &mut errors)?; // as `make_bytes`, and to `errors`
 //!                                                                                    // goal 0 0x7f010000 "s"/"k"
+//!
+//! let omitting = opened.make_omitting(alloc, &goals, 100_000, &mut Unwatched)?; // goals without a value are left out
+//! opened.print_omitting(alloc, &goals, &omitting, &mut out, &mut errors)?; // to `errors` omitted goal 1 0x7f010001 ..
 //! ```
 #![tactic(auto)]
 
@@ -19,13 +22,15 @@ mod answered;
 mod check;
 mod goal_told;
 mod make;
+mod omit;
 
 pub use answered::Answered;
-pub use cert_maker::{Goal, Progress, Unwatched};
+pub use cert_maker::{Goal, Omitted, Omitting, Progress, Unwatched};
 pub use check::{OpenedCert, check_bytes};
 pub use device_commands::{Opened, attr_bytes, bag_bytes, explain_bytes, query_bytes};
 pub use goal_told::write_goal_told;
 pub use make::{OpenedBox, make_bytes, make_bytes_watched};
+pub use omit::make_omitting_bytes;
 pub use table_commands::{
     InputFault, LayerList, LayerParts, LayersFault, Status, ToolFault, dump_bytes, fault_text,
     map_bytes, read_input, rows_bytes,

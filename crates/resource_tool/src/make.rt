@@ -1,23 +1,25 @@
 //! The command `make`.
 
-ghost use Rattle.std.specs.Prelude.{◌≡◌, ◌∷◌, ◌++◌, [], false, map, Ok, OnOk};
+ghost use Rattle.std.specs.Prelude.{◌≡◌, ◌∷◌, ◌++◌, [], false, map, Ok, OnOk, IfOk};
 ghost use Rattle.contract_words.specs.Exact.{GivesOr};
 ghost use Rattle.contract_words.specs.Writes.{Writes};
-ghost use Rattle.cert_maker.specs.cert_tree.Certificate.{goal_seen};
+ghost use Rattle.serde_json.specs.Written.{compact_text};
+ghost use Rattle.cert_maker.specs.cert_tree.Certificate.{goal_seen, goals_of};
+ghost use Rattle.cert_maker.specs.cert_tree.WrittenJson.{cert_data};
 ghost use Rattle.table_commands.specs.config_record.DeviceSeen.{device_numbers};
 ghost use Rattle.table_commands.specs.fault_text.declared.fault.ToolFault.TheVariants.{OutOfMemory};
 ghost use Rattle.table_commands.specs.command_base.Output.{IsOfInput, Prints, PrintsOneOf};
 ghost use Rattle.resource_tool.specs.Answered.{PrintsBothOneOf, status_in, goal_in};
 ghost use Rattle.table_commands.specs.command_base.StackBytesSeen.{layer_bytes};
 ghost use Rattle.resource_tool.specs.MakeOutput.{IsMakeOutput, IsMakeOutputAbout, IsMakeAnswer, make_inputs, counterexample_line, counterexample_text, status_of_made, goal_of_made, made_output};
-ghost use Rattle.resource_tool.specs.LineReadsBack.{LineReadsBack};
+ghost use Rattle.resource_tool.specs.LineReadsBack.{LineReadsBack, TreesReadBack};
 ghost use Rattle.resource_tool.specs.OpenedSeen.{opened_box};
 
 use crate::answered::Answered;
 use crate::goal_told::write_goal_told;
-use cert_maker::{ConfigBox, Goal, Made, Progress, Unwatched, make_watched};
+use cert_maker::{Cert, ConfigBox, Goal, Made, Progress, Unwatched, make_watched};
 use resource_text::device_with_end;
-use std::alloc::Global;
+use std::alloc::{AllocError, Global};
 use std::io::{self, Write, sink};
 use table_commands::{Device, End, LayerParts, Stack, Status, ToolFault, open_stack};
 
@@ -146,7 +148,7 @@ fn print_made<W: Write + Drop>(alloc: Global, made: &Made, out: &mut W) -> Resul
 {
     match made {
         Made::Cert(certificate) => {
-            let text = certificate.write(alloc)?;
+            let text = certificate_text(alloc, certificate)?;
             write_line(text.as_slice(), out)?;
         }
         Made::Counter {
@@ -157,6 +159,15 @@ fn print_made<W: Write + Drop>(alloc: Global, made: &Made, out: &mut W) -> Resul
         Made::NodeLimit => out.write_all(b"node limit\n")?,
     }
     Ok(status_of_made(made))
+}
+
+/// The text of a certificate, without the end of its line.
+pub(crate) fn certificate_text(alloc: Global, certificate: &Cert) -> Result<Vec<u8>, AllocError>
+    ensures text { IfOk result (λ text. text.items ≡ compact_text (cert_data (goals_of certificate.now))) }
+    ensures reads_back { IfOk result (λ _. TreesReadBack (goals_of certificate.now)) }
+{
+    let text = certificate.write(alloc)?;
+    Ok(text)
 }
 
 fn status_of_made(made: &Made) -> Status
@@ -179,7 +190,7 @@ fn goal_of_made(made: &Made) -> Option<usize>
     }
 }
 
-fn write_line<W: Write + Drop>(text: &[u8], out: &mut W) -> io::Result<()>
+pub(crate) fn write_line<W: Write + Drop>(text: &[u8], out: &mut W) -> io::Result<()>
     ensures { Writes W.contents out.old out.new result (text.now ++ 10 ∷ []) }
 {
     out.write_all(text)?;

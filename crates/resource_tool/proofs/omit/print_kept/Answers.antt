@@ -1,0 +1,32 @@
+use Rattle.std.proofs.Common.{◌≡◌, arith, List, [], ◌∷◌, length, map, Result, Ok, ap, subst, sym, refl, ◌∙◌}
+use Rattle.std.proofs.KnownBytes.{Appends-nil}
+use Rattle.std.proofs.lemmas.Bool.{eqb-true}
+use Rattle.std.specs.Io.KnownBytes.{Appends}
+use Rattle.cert_maker.specs.cert_tree.declared.cert.CertGoal.{CertGoal}
+use Rattle.cert_maker.specs.cert_tree.Certificate.{goal_of, goal_seen}
+use Rattle.cert_maker.specs.declared.omitted.Omitted.{Omitted}
+use Rattle.cert_maker.specs.declared.omitted.Omitting.{Omitting}
+use Rattle.table_commands.specs.command_base.declared.status.Status.TheVariants.{Negative}
+use Rattle.table_commands.specs.command_base.Output.{Output}
+use Rattle.table_commands.specs.fault_text.declared.fault.ToolFault.{ToolFault}
+use Rattle.table_commands.specs.MapOutput.{MapOutput}
+use Rattle.resource_tool.specs.OmitOutput.{kept_output, lines_of, omit_output}
+use Rattle.resource_tool.proofs.omit.print_kept.Goals as goal
+
+none-kept : (trees : List CertGoal) → length trees ≡ 0 → kept_output (map goal_of trees) ≡ record { status = Negative; text = [] }
+none-kept [] e = refl
+none-kept (tree ∷ trees) e = absurd (omega (arith, e))
+
+pub returns-then-is_empty-clause-output : goal.returns-then-is_empty-clause-output
+returns-then-is_empty-clause-output g c =
+    let trees = c.in-Cert.certificate.goals in
+    let zero = eqb-true _ _ (sym c.is_empty.ensures ∙ c.if-is_empty.true) in
+    let count : length trees.items ≡ 0 = (let len = trees.ok.0 in omega (arith, zero, len)) in
+    let stack = c.args.stack.now in
+    let asked = map goal_seen c.args.goals.now in
+    let lines = lines_of stack asked c.in-Cert.omitted.items in
+    let told : Appends (g.E.Write.contents c.args.errors.now) (g.E.Write.contents c.write_omitted.new.errors) lines =
+    subst (λ (os : List Omitted). Appends (g.E.Write.contents c.args.errors.now) (g.E.Write.contents c.write_omitted.new.errors) (lines_of stack asked os)) c.deref.ensures.value c.in_ok-write_omitted-in-Cert.ensures in
+    let done : MapOutput → Result MapOutput ToolFault = λ m. Ok m in
+    let meant = ap (λ (o : Omitting). done (omit_output stack asked o)) c.in-Cert.is ∙ ap (λ (o : Output). done (record { output = o; lines = lines })) (none-kept trees.items count) in
+    ([], lines, meant, Appends-nil _, told)

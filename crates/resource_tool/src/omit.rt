@@ -1,0 +1,148 @@
+//! The command `make` where goals are left out.
+
+ghost use Rattle.std.specs.Prelude.{ℕ, map, Ok, IfOk};
+ghost use Rattle.contract_words.specs.Writes.{Writes};
+ghost use Rattle.cert_maker.specs.Omitting.{IsOmitting};
+ghost use Rattle.cert_maker.specs.cert_tree.Certificate.{goal_seen};
+ghost use Rattle.table_commands.specs.MapOutput.{PrintsBoth};
+ghost use Rattle.table_commands.specs.command_base.StackBytesSeen.{layer_bytes};
+ghost use Rattle.resource_tool.specs.Answered.{PrintsBothOneOf};
+ghost use Rattle.resource_tool.specs.MakeOutput.{make_inputs};
+ghost use Rattle.resource_tool.specs.OmitOutput.{IsOmitOutput, LinesFirst, ToldFirst, omitted_text, lines_of, omit_output};
+ghost use Rattle.resource_tool.specs.LineReadsBack.{OmittingReadsBack, UnlessMemory};
+ghost use Rattle.resource_tool.specs.OpenedSeen.{opened_box};
+
+use crate::goal_told::write_goal_told;
+use crate::make::{OpenedBox, certificate_text, write_line};
+use cert_maker::{Goal, Omitted, Omitting, Progress, Unwatched, make_omitting};
+use resource_text::device_with_end;
+use std::alloc::{AllocError, Global};
+use std::io::{self, Write};
+use table_commands::{LayerParts, Stack, Status, ToolFault};
+
+/// Prints a certificate of the goals that end at a value or a bag on all devices of the box, as `make_bytes` does; then
+/// the status is Done. Each other goal is told to `errors`, in three lines: `omitted goal G WORDS`, with its place from
+/// 0, and a device on which it ends otherwise, and where, as `make_bytes` prints them. Where no goal is left nothing is
+/// printed to `out`. Or it prints `node limit` there, where the trees of the goals that are kept can have more than
+/// `max_nodes` nodes together. The lines are written before the certificate.
+pub fn make_omitting_bytes<W: Write + Drop, E: Write + Drop>(
+    alloc: Global,
+    layers: &[LayerParts<&[u8]>],
+    box_json: &[u8],
+    goals: &[Goal],
+    max_nodes: u32,
+    out: &mut W,
+    errors: &mut E,
+) -> Result<Status, ToolFault>
+    ensures prints { PrintsBothOneOf (IsOmitOutput (map goal_seen goals.now) max_nodes) W.contents E.contents out.old out.new errors.old errors.new result
+        (make_inputs (map layer_bytes layers.now) box_json.now) }
+    ensures lines_first { LinesFirst (IsOmitOutput (map goal_seen goals.now) max_nodes) E.contents out.old out.new errors.old errors.new
+        (make_inputs (map layer_bytes layers.now) box_json.now) }
+{
+    let opened = OpenedBox::read(alloc, layers, box_json)?;
+    let omitting = opened.make_omitting(alloc, goals, max_nodes, &mut Unwatched)?;
+    opened.print_omitting(alloc, goals, &omitting, out, errors)
+}
+
+impl OpenedBox<'_> {
+    /// A certificate of the goals that are kept, and what is left out, for `print_omitting`. `progress` comes to know
+    /// after each goal how many are done.
+    pub fn make_omitting<P: Progress>(
+        &self,
+        alloc: Global,
+        goals: &[Goal],
+        max_nodes: u32,
+        progress: &mut P,
+    ) -> Result<Omitting, AllocError>
+        ensures { IfOk result (IsOmitting self.now.stack self.now.members (map goal_seen goals.now) max_nodes) }
+    {
+        make_omitting(
+            alloc,
+            &self.stack,
+            &self.members,
+            goals,
+            max_nodes,
+            progress,
+        )
+    }
+
+    /// Prints what was made of some goals, as `make_omitting_bytes` does.
+    pub fn print_omitting<W: Write + Drop, E: Write + Drop>(
+        &self,
+        alloc: Global,
+        goals: &[Goal],
+        omitting: &Omitting,
+        out: &mut W,
+        errors: &mut E,
+    ) -> Result<Status, ToolFault>
+        ensures prints { (most : ℕ) → IsOmitting self.now.stack self.now.members (map goal_seen goals.now) most omitting.now
+            → PrintsBothOneOf (IsOmitOutput (map goal_seen goals.now) most) W.contents E.contents out.old out.new errors.old errors.new result (Ok (opened_box self.now)) }
+        ensures lines_first { (most : ℕ) → IsOmitting self.now.stack self.now.members (map goal_seen goals.now) most omitting.now
+            → LinesFirst (IsOmitOutput (map goal_seen goals.now) most) E.contents out.old out.new errors.old errors.new (Ok (opened_box self.now)) }
+    {
+        print_kept(alloc, &self.stack, goals, omitting, out, errors)
+    }
+}
+
+// What is printed of a certificate is read as the same.
+#[tactic(auto, unfolding(crate::specs::MakeOutput::made_text, crate::specs::MakeOutput::certificate_line))]
+fn print_kept<W: Write + Drop, E: Write + Drop>(
+    alloc: Global,
+    stack: &Stack<'_>,
+    goals: &[Goal],
+    omitting: &Omitting,
+    out: &mut W,
+    errors: &mut E,
+) -> Result<Status, ToolFault>
+    ensures output { PrintsBoth W.contents E.contents out.old out.new errors.old errors.new result (Ok (omit_output stack.now (map goal_seen goals.now) omitting.now)) }
+    ensures told { ToldFirst E.contents out.old out.new errors.old errors.new (omit_output stack.now (map goal_seen goals.now) omitting.now).lines }
+    ensures reads_back { UnlessMemory result (OmittingReadsBack omitting.now) }
+{
+    match omitting {
+        Omitting::Cert {
+            certificate,
+            omitted,
+        } => {
+            let text = certificate_text(alloc, certificate)?;
+            write_omitted(stack, goals, omitted, errors)?;
+            if certificate.goals.is_empty() {
+                return Ok(Status::Negative);
+            }
+            write_line(text.as_slice(), out)?;
+            Ok(Status::Done)
+        }
+        Omitting::NodeLimit => {
+            out.write_all(b"node limit\n")?;
+            Ok(Status::Negative)
+        }
+    }
+}
+
+#[tactic(auto, using(contract_words::proofs::TextSteps::puts))]
+fn write_omitted<E: Write + Drop>(
+    stack: &Stack<'_>,
+    goals: &[Goal],
+    omitted: &[Omitted],
+    errors: &mut E,
+) -> io::Result<()>
+    ensures { Writes E.contents errors.old errors.new result (lines_of stack.now (map goal_seen goals.now) omitted.now) }
+{
+    for left_out in omitted {
+        write_left_out(stack, goals, left_out, errors)?;
+    }
+    Ok(())
+}
+
+#[tactic(auto, unfolding(crate::specs::OmitOutput::omitted_text))]
+fn write_left_out<E: Write + Drop>(
+    stack: &Stack<'_>,
+    goals: &[Goal],
+    left_out: &Omitted,
+    errors: &mut E,
+) -> io::Result<()>
+    ensures { Writes E.contents errors.old errors.new result (omitted_text stack.now (map goal_seen goals.now) left_out.now) }
+{
+    errors.write_all(b"omitted ")?;
+    write_goal_told(stack, goals, true, Some(left_out.goal), errors)?;
+    device_with_end(&left_out.device, left_out.ending, errors)
+}
