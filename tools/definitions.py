@@ -12,13 +12,13 @@ import sys
 
 ROOT = os.path.dirname(os.path.dirname(os.path.realpath(__file__)))
 PAGE = f"{ROOT}/docs/DEFINITIONS.md"
-# A line names so many functions, and counts the others.
+# A line names at most so many functions.
 MOST_SHOWN = 3
 HEAD = """# Definitions
 
 Contracts of public functions cite these definitions. `tools/definitions.py` makes this page from `specs/` and `src/`; do not edit it. Crates and files stand in the order to read them, and each file begins with what it says. [ARCHITECTURE.md](ARCHITECTURE.md#contracts-and-definitions) says how definitions are named.
 
-Behind a file stand those of its definitions that are cited, and functions that cite one, or types whose own contracts do. A file with nothing behind it has what others are made of. Files that only private contracts need are left out: no public promise rests on them.
+Behind a file stand those of its definitions that are cited, and up to three functions that cite one, or types whose own contracts do. A file with nothing behind it has what others are made of. Files that only private contracts need are left out: no public promise rests on them.
 """
 
 USE = re.compile(r"^\s*(?:ghost )?(?:unfoldable )?(pub )?use Rattle\.(\w+)\.specs\.(\w+)(?:\.\{([^}]*)\}| as (\w+))?;?\s*$", re.M)
@@ -222,8 +222,7 @@ def functions(found, crate, order):
     """Functions as words, those of the crate first and then those of the nearest crates above."""
     ranked = sorted(found, key=lambda it: (it[0] != crate, order.index(it[0])))
     named = list(dict.fromkeys(f"`{name}`" for _, name in ranked))
-    more = len(named) - MOST_SHOWN
-    return ", ".join(named[:MOST_SHOWN]) + (f" and {more} more" if more > 0 else "")
+    return ", ".join(named[:MOST_SHOWN])
 
 
 def modules(folder):
