@@ -4,8 +4,7 @@ use crate::named_stack::table_of;
 use name_pairs::{Label, NamePair, Sides, name_pairs};
 use overlay_map::Stack;
 use res_value::ResId;
-use std::alloc::Global;
-use std::borrow::CowStr;
+use std::alloc::{AllocError, Global};
 use std::test::Fail;
 use test_layers::table_a;
 use test_stacks::{SAME, push_base, push_overlay};
@@ -17,37 +16,109 @@ const SYSTEM: ResId = ResId(0x0101_0000);
 
 const LIBRARY: ResId = ResId(0x0201_0000);
 
-// What `s/ENTRY` stands for.
-fn named(entry_name: &str, sides: Sides) -> NamePair<'_> {
-    let label = Label::Name {
-        type_name: CowStr::Borrowed("s"),
-        entry_name: CowStr::Borrowed(entry_name),
-    };
-    NamePair { label, sides }
+/// Stands for one id in both stacks.
+const SAME_ID: Sides = Sides::Both { old: APP, new: APP };
+
+/// A layer of one resource.
+#[derive(Clone, Copy)]
+enum Layer {
+    /// s/k of the app.
+    App,
+    /// s/o of the app.
+    Other,
+    /// s/o, over the app.
+    Overlay,
+    /// s/m of the system.
+    System,
+    /// s/k of a library.
+    Library,
+    /// A resource of the app whose names cannot be read.
+    Unnamed,
 }
 
-// An id for which no name stands.
-fn nameless(id: ResId, sides: Sides) -> NamePair<'static> {
-    NamePair {
-        label: Label::Id(id),
-        sides,
+#[derive(Drop)]
+struct Tables {
+    app: Vec<u8>,
+    other: Vec<u8>,
+    system: Vec<u8>,
+    library: Vec<u8>,
+    unnamed: Vec<u8>,
+}
+
+impl Tables {
+    fn new(alloc: Global) -> Result<Tables, AllocError> {
+        Ok(Tables {
+            app: table_of(alloc, 0x7f, b'k')?,
+            other: table_of(alloc, 0x7f, b'o')?,
+            system: table_of(alloc, 0x01, b'm')?,
+            library: table_of(alloc, 0x02, b'k')?,
+            unnamed: table_a(alloc)?,
+        })
+    }
+
+    fn bytes(&self, layer: Layer) -> &[u8] {
+        match layer {
+            Layer::App => &self.app,
+            Layer::Other | Layer::Overlay => &self.other,
+            Layer::System => &self.system,
+            Layer::Library => &self.library,
+            Layer::Unnamed => &self.unnamed,
+        }
     }
 }
 
-fn stack_of<'a>(alloc: Global, bases: &[&'a [u8]]) -> Result<Stack<'a>, Fail> {
+fn stack_of<'a>(alloc: Global, tables: &'a Tables, layers: &[Layer]) -> Option<Stack<'a>> {
     let mut stack = Stack::new(alloc);
-    for bytes in bases {
-        push_base(alloc, &mut stack, *bytes).ok_or("refused")?;
+    for layer in layers {
+        match *layer {
+            Layer::Overlay => push_overlay(alloc, &mut stack, tables.bytes(*layer), SAME)?,
+            base => push_base(alloc, &mut stack, tables.bytes(base))?,
+        }
     }
-    Ok(stack)
+    Some(stack)
+}
+
+/// What a pair has to be.
+struct Want {
+    /// Of the type s; empty where no name stands for the id.
+    entry_name: &'static str,
+    sides: Sides,
+}
+
+fn is_on(id: ResId, sides: Sides) -> bool {
+    match sides {
+        Sides::Removed { old } => id == old,
+        Sides::Added { new } => id == new,
+        Sides::Both { old, new } => id == old && id == new,
+    }
+}
+
+fn is_wanted(pair: &NamePair<'_>, want: &Want) -> bool {
+    let is_called = match &pair.label {
+        Label::Name {
+            type_name,
+            entry_name,
+        } => type_name.as_str() == "s" && entry_name.as_str() == want.entry_name,
+        Label::Id(id) => want.entry_name.is_empty() && is_on(*id, want.sides),
+    };
+    is_called && pair.sides == want.sides
 }
 
 // Whether these are the pairs of two stacks.
-fn are_pairs(alloc: Global, old: &Stack, new: &Stack, want: &[NamePair<'_>]) -> Result<bool, Fail> {
+fn are_pairs(
+    alloc: Global,
+    tables: &Tables,
+    old: &[Layer],
+    new: &[Layer],
+    want: &[Want],
+) -> Result<bool, Fail> {
+    let old = stack_of(alloc, tables, old).ok_or("refused")?;
+    let new = stack_of(alloc, tables, new).ok_or("refused")?;
     let mut left = want.iter();
-    for pair in &name_pairs(alloc, old, new)? {
-        if left.next() != Some(pair) {
-            return Ok(false);
+    for pair in &name_pairs(alloc, &old, &new)? {
+        match left.next() {
+            Some(want) if is_wanted(pair, want) => {}
+            _ => return Ok(false),
         }
     }
     Ok(left.next().is_none())
@@ -55,67 +126,76 @@ fn are_pairs(alloc: Global, old: &Stack, new: &Stack, want: &[NamePair<'_>]) -> 
 
 #[test]
 fn tells_names_by_the_stacks_that_have_them(rt: HostRuntime) -> Result<(), Fail> {
-    let alloc = rt.alloc();
-    let (app, system) = (table_of(alloc, 0x7f, b'k')?, table_of(alloc, 0x01, b'm')?);
-    let (library, other) = (table_of(alloc, 0x02, b'k')?, table_of(alloc, 0x7f, b'o')?);
-    let old = stack_of(alloc, &[&system, &app])?;
-    let new = stack_of(alloc, &[&other, &library])?;
-    let moved = Sides::Both {
-        old: APP,
-        new: LIBRARY,
-    };
+    let tables = Tables::new(rt.alloc())?;
+    let old = [Layer::System, Layer::App];
+    let new = [Layer::Other, Layer::Library];
     let want = [
-        named("k", moved),
-        named("m", Sides::Removed { old: SYSTEM }),
-        named("o", Sides::Added { new: APP }),
+        Want {
+            entry_name: "k",
+            sides: Sides::Both {
+                old: APP,
+                new: LIBRARY,
+            },
+        },
+        Want {
+            entry_name: "m",
+            sides: Sides::Removed { old: SYSTEM },
+        },
+        Want {
+            entry_name: "o",
+            sides: Sides::Added { new: APP },
+        },
     ];
-    assert!(rt; are_pairs(alloc, &old, &new, &want)?);
-    assert!(rt; are_pairs(alloc, &Stack::new(alloc), &Stack::new(alloc), &[])?);
+    assert!(rt; are_pairs(rt.alloc(), &tables, &old, &new, &want)?);
+    assert!(rt; are_pairs(rt.alloc(), &tables, &[], &[], &[])?);
     Ok(())
 }
 
 #[test]
-fn takes_the_first_id_of_a_name_and_tells_the_second_by_itself(
-    rt: HostRuntime,
-) -> Result<(), Fail> {
-    let alloc = rt.alloc();
-    let (app, library) = (table_of(alloc, 0x7f, b'k')?, table_of(alloc, 0x02, b'k')?);
-    let both = stack_of(alloc, &[&app, &library])?;
-    let one = stack_of(alloc, &[&app, &app])?;
-    let same = Sides::Both { old: APP, new: APP };
+fn takes_the_first_id_of_a_name(rt: HostRuntime) -> Result<(), Fail> {
+    let tables = Tables::new(rt.alloc())?;
+    let both = [Layer::App, Layer::Library];
+    let twice = [Layer::App, Layer::App];
     let want = [
-        named("k", same),
-        nameless(LIBRARY, Sides::Removed { old: LIBRARY }),
+        Want {
+            entry_name: "k",
+            sides: SAME_ID,
+        },
+        Want {
+            entry_name: "",
+            sides: Sides::Removed { old: LIBRARY },
+        },
     ];
-    assert!(rt; are_pairs(alloc, &both, &one, &want)?);
-    assert!(rt; are_pairs(alloc, &one, &one, &[named("k", same)])?);
+    assert!(rt; are_pairs(rt.alloc(), &tables, &both, &twice, &want)?);
+    assert!(rt; are_pairs(rt.alloc(), &tables, &twice, &twice, &want[..1])?);
     Ok(())
 }
 
 #[test]
 fn tells_what_has_no_name_by_its_id(rt: HostRuntime) -> Result<(), Fail> {
-    let alloc = rt.alloc();
-    let (unnamed, app) = (table_a(alloc)?, table_of(alloc, 0x7f, b'k')?);
-    let old = stack_of(alloc, &[&unnamed])?;
-    let new = stack_of(alloc, &[&app])?;
-    let same = Sides::Both { old: APP, new: APP };
+    let tables = Tables::new(rt.alloc())?;
     let want = [
-        named("k", Sides::Added { new: APP }),
-        nameless(APP, Sides::Removed { old: APP }),
+        Want {
+            entry_name: "k",
+            sides: Sides::Added { new: APP },
+        },
+        Want {
+            entry_name: "",
+            sides: Sides::Removed { old: APP },
+        },
     ];
-    assert!(rt; are_pairs(alloc, &old, &new, &want)?);
-    assert!(rt; are_pairs(alloc, &old, &old, &[nameless(APP, same)])?);
+    assert!(rt; are_pairs(rt.alloc(), &tables, &[Layer::Unnamed], &[Layer::App], &want)?);
     Ok(())
 }
 
 #[test]
 fn takes_no_names_from_overlays(rt: HostRuntime) -> Result<(), Fail> {
-    let alloc = rt.alloc();
-    let (app, overlay) = (table_of(alloc, 0x7f, b'k')?, table_of(alloc, 0x7f, b'o')?);
-    let old = stack_of(alloc, &[&app])?;
-    let mut new = stack_of(alloc, &[&app])?;
-    push_overlay(alloc, &mut new, &overlay, SAME).ok_or("refused")?;
-    let same = Sides::Both { old: APP, new: APP };
-    assert!(rt; are_pairs(alloc, &old, &new, &[named("k", same)])?);
+    let tables = Tables::new(rt.alloc())?;
+    let new = [Layer::App, Layer::Overlay];
+    let want = [Want {
+        entry_name: "k",
+        sides: SAME_ID,
+    }];
+    assert!(rt; are_pairs(rt.alloc(), &tables, &[Layer::App], &new, &want)?);
     Ok(())
 }

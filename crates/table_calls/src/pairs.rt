@@ -23,15 +23,21 @@ const OVERLAY: char = '+';
 struct Bytes {
     table: Vec<u8>,
     is_overlay: bool,
+    is_new: bool,
 }
 
 /// The pairs of two stacks. A stack is its layers with commas between them: a table of `table_of`, or `#` and its bytes;
 /// an overlay has a `+` before it.
 pub fn told(rt: &HostRuntime, old: &str, new: &str) -> Result<(), Fail> {
-    let old = layers_of(rt.alloc(), old)?;
-    let new = layers_of(rt.alloc(), new)?;
-    let old = stack_of(rt.alloc(), &old).ok_or(LayerFault::Malformed)?;
-    let new = stack_of(rt.alloc(), &new).ok_or(LayerFault::Malformed)?;
+    let mut layers = Vec::new(rt.alloc());
+    push_layers(rt.alloc(), old, false, &mut layers)?;
+    push_layers(rt.alloc(), new, true, &mut layers)?;
+    told_of(rt, &layers)
+}
+
+fn told_of(rt: &HostRuntime, layers: &[Bytes]) -> Result<(), Fail> {
+    let old = stack_of(rt.alloc(), layers, false).ok_or(LayerFault::Malformed)?;
+    let new = stack_of(rt.alloc(), layers, true).ok_or(LayerFault::Malformed)?;
     begin(rt);
     let found = name_pairs(rt.alloc(), &old, &new);
     end(rt);
@@ -49,29 +55,40 @@ fn tell_each(rt: &HostRuntime, pairs: &[NamePair<'_>]) -> io::Result<()> {
     Ok(())
 }
 
-fn layers_of(alloc: Global, word: &str) -> Result<Vec<Bytes>, Fail> {
-    let mut layers = Vec::new(alloc);
+fn push_layers(
+    alloc: Global,
+    word: &str,
+    is_new: bool,
+    layers: &mut Vec<Bytes>,
+) -> Result<(), Fail> {
     for part in word.split(COMMA) {
-        layers.push(layer_of(alloc, part)?)?;
+        let (is_overlay, part) = match part.strip_prefix(OVERLAY) {
+            Some(part) => (true, part),
+            None => (false, part),
+        };
+        let table = bytes_of(alloc, part)?;
+        layers.push(Bytes {
+            table,
+            is_overlay,
+            is_new,
+        })?;
     }
-    Ok(layers)
+    Ok(())
 }
 
-fn layer_of(alloc: Global, word: &str) -> Result<Bytes, Fail> {
-    let (is_overlay, word) = match word.strip_prefix(OVERLAY) {
-        Some(word) => (true, word),
-        None => (false, word),
-    };
-    let table = match word.strip_prefix(BYTES) {
-        Some(digits) => hex::decode(alloc, digits.as_bytes())?,
-        None => table_of(alloc, word)?,
-    };
-    Ok(Bytes { table, is_overlay })
+fn bytes_of(alloc: Global, word: &str) -> Result<Vec<u8>, Fail> {
+    match word.strip_prefix(BYTES) {
+        Some(digits) => Ok(hex::decode(alloc, digits.as_bytes())?),
+        None => Ok(table_of(alloc, word)?),
+    }
 }
 
-fn stack_of(alloc: Global, layers: &[Bytes]) -> Option<Stack<'_>> {
+fn stack_of(alloc: Global, layers: &[Bytes], is_new: bool) -> Option<Stack<'_>> {
     let mut stack = Stack::new(alloc);
     for layer in layers {
+        if layer.is_new != is_new {
+            continue;
+        }
         if layer.is_overlay {
             push_overlay(alloc, &mut stack, &layer.table, SAME)?;
         } else {
