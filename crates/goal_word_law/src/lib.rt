@@ -1,0 +1,15 @@
+//! The law of the words of goals: a call that does nothing, for its contract.
+//!
+//! ```text
+//! write_goal_words(&stack, id, &styles, false, &mut word)?; // of answer_text
+//! Goal::read(alloc, word)?; // of cert_tree: the goal of that id, or of that attribute under those styles
+//! ```
+#![tactic(auto)]
+
+ghost use Rattle.goal_word_law.specs.GoalWordReadsBack.{IdWordReadsBack, AttrWordReadsBack};
+
+/// The word that is written of a goal is read as that goal, where it has at most 64 styles.
+pub fn goal_words_read_back()
+    ensures id { IdWordReadsBack }
+    ensures attr { AttrWordReadsBack }
+{}
