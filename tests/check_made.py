@@ -100,11 +100,10 @@ def faults_of_certificate(files, case, text):
 # ---- a device without a value
 
 
-def faults_of_shown(files, case, lines):
-    """The faults of the lines that show a device without a value."""
-    asked = case.asked[int(lines[0].removeprefix("counter goal "))]
-    device = device_of(lines[1].removeprefix("device "))
-    end = lines[2].removeprefix("end ")
+def faults_of_shown(files, case, asked, lines):
+    """The faults of the two lines that show a device without a value for a goal."""
+    device = device_of(lines[0].removeprefix("device "))
+    end = lines[1].removeprefix("end ")
     faults = [] if device in case.members else ["a device that is not in the box"]
     faults += [] if end.startswith(("absent ", "too long ")) else ["an end that is a value or a bag"]
     told = files.end(asked, device)
@@ -123,7 +122,8 @@ def may_pass(case, limit):
 
 
 def faults_of_counter(files, case, text):
-    faults = faults_of_shown(files, case, text.splitlines())
+    counter, *lines = text.splitlines()
+    faults = faults_of_shown(files, case, case.asked[int(counter.removeprefix("counter goal "))], lines)
     limit = case.chance.randint(1, 12)
     told = make(files, case, "--max-nodes", str(limit))
     if told == NODE_LIMIT and not may_pass(case, limit):
@@ -134,11 +134,16 @@ def faults_of_counter(files, case, text):
 # ---- cases
 
 
-def check_case(program, number):
-    chance = random.Random(number)
-    case = Case(chance, has_styles=number % 2 == 1)
+def case_of(number):
+    """The case of a number. In two of five at most one qualifier varies."""
+    case = Case(random.Random(number), has_styles=number % 2 == 1)
     if number % 5 < 2:
         case.narrow()
+    return case
+
+
+def check_case(program, number):
+    case = case_of(number)
     with tempfile.TemporaryDirectory() as folder:
         files = Files(program, folder, case)
         text, status = make(files, case)
@@ -151,7 +156,8 @@ def check_case(program, number):
     return [f"case {number}: {fault}" for fault in faults], told
 
 
-def main():
+def check_cases(check_case):
+    """Checks the cases that the words of the command line ask for, and counts what was made."""
     program, cases = os.path.abspath(sys.argv[1]), int(sys.argv[2])
     jobs, first = (int(word) for word in (sys.argv[3:] + ["1", "0"][len(sys.argv) - 3 :])[:2])
     told = Counter()
@@ -167,4 +173,5 @@ def main():
     sys.exit(wrong > 0)
 
 
-main()
+if __name__ == "__main__":
+    check_cases(check_case)
