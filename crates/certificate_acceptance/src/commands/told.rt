@@ -46,9 +46,10 @@ fn told_by_make(alloc: Global, names: bool) -> Result<Vec<u8>, Fail> {
 #[test]
 fn tells_goals_with_their_names(rt: HostRuntime) -> Result<(), Fail> {
     let checked = told_by_check(rt.alloc(), true)?;
-    assert!(rt; checked.as_slice() == b"goal 0 0x7f010000 \"s\"/\"k\"\n");
+    assert!(rt; checked.as_slice() == b"goal 0 0x7f010000 \"s\"/\"k\"\n".as_slice());
     let made = told_by_make(rt.alloc(), true)?;
-    assert!(rt; made.as_slice() == b"goal 1 0x01010001@0x7f010009,0x7f010000 \"s\"/\"k\"\n");
+    let of_made = b"goal 1 0x01010001@0x7f010009,0x7f010000 \"s\"/\"k\"\n";
+    assert!(rt; made.as_slice() == of_made.as_slice());
     Ok(())
 }
 
