@@ -79,6 +79,7 @@ fn stack_of<'a>(alloc: Global, tables: &'a Tables, layers: &[Layer]) -> Option<S
 }
 
 /// What a pair has to be.
+#[derive(Clone, Copy)]
 struct Want {
     /// Of the type s; empty where no name stands for the id.
     entry_name: &'static str,
