@@ -305,6 +305,19 @@ def make_commands(ask):
     told = f'goal 0 0x01010002@{ID} "s"/"k"\nNegative'
     yield ask("errors of OpenedBox::make", "B", told, MEDIUM_BOX, f"0x01010002@{ID}")
     yield ask("make_bytes", "0 [] 1", "(Box(Density), 0)", "{}")
+    yield from omit_commands(ask, one)
+
+
+def omit_commands(ask, one):
+    for name in ("make_omitting_bytes", "OpenedBox::print_omitting"):
+        yield ask(name, "0 [] 1", f"{one}\nDone", MEDIUM_BOX)
+        yield ask(name, "0 [locale=fr] 1", "Negative", BOTH_LOCALES)
+    name = "!NoSuch/!NoSuch"
+    german = [f"omitted goal 0 {ID} {name}", "device locale=de density=160", f"end absent {ID}", "Negative"]
+    yield ask("errors of make_omitting_bytes", "0 [locale=fr] 1", "\n".join(german), BOTH_LOCALES)
+    unset = [f"omitted goal 0 0x01010002@{ID} {name}", "device density=160", "end absent 0x01010002", "Negative"]
+    yield ask("errors of make_omitting_bytes", STYLED_DENSITIES, "\n".join(unset), MEDIUM_BOX, f"0x01010002@{ID}")
+    yield ask("make_omitting_bytes", "0 [] 1", "(Box(Density), 0)", "{}")
 
 
 def show_commands(ask):
@@ -441,6 +454,7 @@ REACHED = {
     "ids_named": "Finder::new Finder::id Finder::ids ids_of_type Stack::base_tables",
     "goals_named": "Finder::each_id",
     "OpenedBox::make": "OpenedBox::read OpenedBox::make_telling",
+    "OpenedBox::print_omitting": "OpenedBox::make_omitting",
     "OpenedCert::check": "OpenedCert::read",
     "show_bytes": """OpenedTrees::read OpenedTrees::show NumberedGoal::of OpenPaths::at_start
         OpenPaths::push_answers""",

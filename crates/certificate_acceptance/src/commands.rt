@@ -10,6 +10,7 @@ mod made;
 mod maker;
 mod many_tests;
 mod nested_texts;
+mod omitted;
 mod refused;
 mod rejected;
 mod told;

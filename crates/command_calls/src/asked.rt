@@ -4,8 +4,8 @@ use marked_calls::{Writer, table_of, word};
 use res_value::ResId;
 use resource_tool::{
     Goal, LayerParts, Opened, OpenedBox, OpenedCert, Status, ToolFault, Unwatched, attr_bytes,
-    bag_bytes, check_bytes, dump_bytes, explain_bytes, make_bytes, map_bytes, query_bytes,
-    rows_bytes,
+    bag_bytes, check_bytes, dump_bytes, explain_bytes, make_bytes, make_omitting_bytes, map_bytes,
+    query_bytes, rows_bytes,
 };
 use show_command::{show_bytes, show_dot_bytes};
 use std::alloc::Global;
@@ -149,6 +149,30 @@ impl<'w> Asked<'w> {
         match self.name {
             "show_bytes" => show_bytes(alloc, layers, self.certificate, out),
             "show_dot_bytes" => show_dot_bytes(alloc, layers, self.certificate, 0, out),
+            _ => self.answer_of_kept(alloc, layers, out),
+        }
+    }
+
+    fn answer_of_kept(
+        &self,
+        alloc: Global,
+        layers: &[LayerParts<&[u8]>],
+        out: &mut Writer,
+    ) -> Result<Status, ToolFault> {
+        let of = self.of.as_slice();
+        let goals = self.goals.as_slice();
+        match self.name {
+            "make_omitting_bytes" => {
+                make_omitting_bytes(alloc, layers, of, goals, MOST_NODES, out, &mut sink())
+            }
+            "errors of make_omitting_bytes" => {
+                make_omitting_bytes(alloc, layers, of, goals, MOST_NODES, &mut sink(), out)
+            }
+            "OpenedBox::print_omitting" => {
+                let opened = OpenedBox::read(alloc, layers, of)?;
+                let made = opened.make_omitting(alloc, goals, MOST_NODES, &mut Unwatched)?;
+                opened.print_omitting(alloc, goals, &made, out, &mut sink())
+            }
             _ => Ok(Status::Done),
         }
     }
