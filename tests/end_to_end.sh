@@ -267,6 +267,36 @@ else
     echo "not run, since python3 is missing: JSON Schemas, worked and random certificates"
 fi
 
+# ---- survey
+line layers '[{"table":"whole"}]'
+line box '{"density":[160]}'
+check "a survey of a table without rows" 0 $none $none survey layers
+check "a survey with a box" 0 $none $none survey layers box
+line nowhere.err 'file: nowhere'
+line nowhere-layers '[{"table":"nowhere"}]'
+line cut-layers '[{"table":"cut"}]'
+check "an absent table comes before an absent box" 5 $none nowhere.err survey nowhere-layers absent
+line absent.err 'file: absent'
+check "an absent box comes before a table that is cut" 5 $none absent.err survey cut-layers absent
+line wrong-box '{"density":[160],"night":[]}'
+line wrong-box.err 'refused: box: Empty night'
+check "a survey with a wrong box" 3 $none wrong-box.err survey layers wrong-box
+if command -v python3 >/dev/null; then
+    ends "random surveys" 0 "python3 '$here/tests/check_survey.py' \"\$0\" 400 4"
+else
+    echo "not run, since python3 is missing: random surveys"
+fi
+
+# ---- show
+line none.json '{"goals":[],"version":1}'
+line none.out 'goals 0'
+check "a certificate without goals" 0 none.out $none show layers none.json
+line no-goal.out 'no goal 0'
+check "a picture of a goal that is not there" 1 no-goal.out $none show --dot 0 layers none.json
+check "an absent certificate" 5 $none absent.err show layers absent
+line wrong.json '{"goals":[],"version":2}'
+ends "a wrong certificate" 3 '"$0" show layers wrong.json'
+
 # ---- make
 line layers '[{"table":"whole"}]'
 line box '{"density":{"from":120,"to":640}}'
@@ -286,7 +316,6 @@ no_certificate() {
 }
 line emptied '{"density":[160],"night":[]}'
 no_certificate "a wrong box" 3 'refused: box: Empty night' layers emptied 0x7f010000
-line cut-layers '[{"table":"cut"}]'
 head -c 4 whole >cut
 no_certificate "a table comes before the box" 3 'refused: layer 0 table: Chunk Truncated 0' cut-layers emptied 0x7f010000
 no_certificate "an absent box comes before all that is rejected" 5 'file: absent' cut-layers absent 0x7f010000
@@ -299,6 +328,14 @@ ends "a limit that is too large" 2 '"$0" make --max-nodes 1000001 layers box 0x7
 ends "a limit that is no number" 2 '"$0" make --max-nodes many layers box 0x7f010000'
 ends "a limit without a number" 2 '"$0" make layers box 0x7f010000 --max-nodes'
 ends "make without an id" 2 '"$0" make layers box'
+ends "names asked for twice" 2 '"$0" make --names --names layers box 0x7f010000'
+ends "names of a table" 2 '"$0" rows --names table'
+ends "goals left out of a check" 2 '"$0" check --omit layers box certificate 0x7f010000'
+if command -v python3 >/dev/null; then
+    ends "random certificates that leave goals out" 0 "python3 '$here/tests/check_omitted.py' \"\$0\" 400 4"
+else
+    echo "not run, since python3 is missing: random certificates that leave goals out"
+fi
 ends "make to a closed output" 5 '"$0" make layers box 0x7f010000 >&-'
 
 # The step of a build that the guide shows. Each of these folders has other names.
@@ -353,13 +390,15 @@ shows() {
 shows README.md "$here"
 shows docs/GUIDE.md "$here"
 
-# The guide's search for newer features. Each of these bytes of the example gives it one: the flags of its first
-# type, its grammatical gender, the flags of its first entry.
+# The guide's search for newer features. Each of these bytes of the example gives it one: the flags of its first type, its
+# grammatical gender, the flags of its first entry.
 if command -v python3 >/dev/null; then
     for byte in '853 \002' '883 \001' '946 \010'; do
         cp "$teapot/resources.arsc" newer
         printf "${byte#* }" | dd of=newer bs=1 seek="${byte% *}" conv=notrunc 2>/dev/null
         ends "newer features are found at ${byte% *}" 1 "python3 '$here/examples/newer_format.py' newer"
+        line newer-layers '[{"table":"newer"}]'
+        ends "a survey warns of them at ${byte% *}" 1 '"$0" survey newer-layers'
     done
     ends "what is no table has no newer features" 2 "python3 '$here/examples/newer_format.py' '$here/examples/porcelain/map.json'"
 else
@@ -511,7 +550,7 @@ check "one resource is not in a file" 2 $none "$work/word.err" explain absent $p
 cd "$work" || exit 1
 
 # ---- words
-for command in rows dump map query explain bag attr make check; do
+for command in rows dump map survey show query explain bag attr make check; do
     check "help of $command" 0 "$here/tests/helps/$command.txt" $none "$command" --help
 done
 check "help" 0 "$here/tests/helps/restool.txt" $none --help
@@ -537,6 +576,14 @@ check "a style that is no id" 2 $none style.err attr layers device --keep 0x0101
 ends "dump of two tables" 2 '"$0" dump a b'
 ends "map of one table" 2 '"$0" map a'
 ends "map of three tables" 2 '"$0" map a b c'
+ends "survey without layers" 2 '"$0" survey'
+ends "survey with two boxes" 2 '"$0" survey layers box box'
+ends "show without a certificate" 2 '"$0" show layers'
+ends "show of two certificates" 2 '"$0" show layers certificate certificate'
+ends "a picture of no goal" 2 '"$0" show layers certificate --dot'
+ends "a picture of a goal that is no number" 2 '"$0" show --dot first layers certificate'
+ends "a picture of a goal below 0" 2 '"$0" show --dot=-1 layers certificate'
+ends "a picture of a goal above all" 2 '"$0" show --dot 4294967296 layers certificate'
 ends "too many words" 2 '"$0" rows a b'
 ends "a word that is not UTF-8" 2 '"$0" rows "$(printf "\377")"'
 

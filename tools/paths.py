@@ -12,7 +12,7 @@ import sys
 
 LIST = os.path.join(os.path.dirname(os.path.dirname(os.path.realpath(__file__))), "crates.txt")
 MOST = 1600
-MOST_OF = {"restool": 1000}
+MOST_OF = {"restool": 1400}
 
 
 def counted(lines):

@@ -108,6 +108,27 @@ COUNTER = lines(
     "device locale=de-AT smallestWidthDp=320 screenSize=2 orientation=1 night=1 density=120 sdk=21",
     "end absent 0x7f050009",
 )
+SURVEYED = lines(
+    "note layer 0 set-aside 1 first 0x7f050001",
+    "note layer 0 locale 2 first 0x7f050001",
+    "qualifier locale rows 5 from de to sr",
+    "qualifier smallestWidthDp rows 1 from 600 to 600",
+    "qualifier orientation rows 1 from 2 to 2",
+    "qualifier night rows 1 from 2 to 2",
+    "qualifier density rows 1 from 320 to 320",
+    "qualifier sdk rows 4 from 4 to 26",
+)
+SHOWN = lines(
+    'goal 0 0x7f050000 "string"/"title" nodes 3',
+    "0\tif locale one of de-AT de-CH de-DE",
+    '1\t  value layer 1 string 1 "Porzellankanne"',
+    '2\telse value layer 1 string 0 "Porcelain teapot"',
+    'goal 1 0x7f030000 "dimen"/"handle" nodes 3',
+    "0\tif density at most 197",
+    "1\t  value layer 1 dimension 16/2^0 dp",
+    "2\telse value layer 0 dimension 13/2^0 dp",
+    "goals 2",
+)
 TABLELESS = lines(
     "error: the following required arguments were not provided:",
     "  <TABLE>",
@@ -123,6 +144,8 @@ def device_runs():
     """Runs of the commands that ask about a device."""
     query = ["query", LAYERS, PHONE]
     yield Run("query", [*query, "0x7f050000"], OF_PHONE, out=lines(TITLE, "set-aside 1"))
+    named = TITLE.replace(" ", ' "string"/"title" ', 1)
+    yield Run("query --names", ["query", "--names", *query[1:], "0x7f050000"], OF_PHONE, out=lines(named, "set-aside 1"))
     absent = "0x7f050009"
     yield Run("absent", [*query, absent], OF_PHONE, 1, lines(f"{absent} absent {absent}", "set-aside 1"))
     yield Run("explain", ["explain", LAYERS, PHONE, "0x7f050002"], OF_PHONE, out=EXPLAINED)
@@ -134,14 +157,29 @@ def device_runs():
     yield Run("attr --keep", ["attr", "--keep", *FRENCH, *styles], OF_FRENCH, out=f"{value}ff0277bd\n", folder=TABLES)
 
 
+def layers_runs():
+    """Runs of the commands that ask about layers alone."""
+    yield Run("survey", ["survey", LAYERS, PHONES], [*LAYER_FILES, PHONES], out=SURVEYED)
+    yield Run("survey without a box", ["survey", LAYERS], LAYER_FILES, out=SURVEYED)
+    yield Run("show", ["show", LAYERS, CERTIFICATE], [*LAYER_FILES, CERTIFICATE], out=SHOWN)
+    yield Run("no goal", ["show", "--dot", "2", LAYERS, CERTIFICATE], [*LAYER_FILES, CERTIFICATE], 1, "no goal 2\n")
+
+
 def box_runs():
     """Runs of the commands that ask about all devices of a box."""
     of_box = [*LAYER_FILES, PHONES]
     accepted = lines("accepted goals 2 nodes 6", "set-aside 1")
     yield Run("check", ["check", LAYERS, PHONES, CERTIFICATE, *GOALS], [*of_box, CERTIFICATE], out=accepted)
     yield Run("rejected", ["check", LAYERS, PHONES, WRONG, *GOALS], [*of_box, WRONG], 1, REJECTED)
+    goal = 'goal 1 0x7f030000 "dimen"/"handle"\n'
+    yield Run("check --names", ["check", "--names", LAYERS, PHONES, WRONG, *GOALS], [*of_box, WRONG], 1, REJECTED, goal)
     yield Run("make", ["make", LAYERS, PHONES, *GOALS], of_box, out=MADE)
     yield Run("counter", ["make", LAYERS, PHONES, "0x7f050009"], of_box, 1, COUNTER)
+    omitted = COUNTER.replace("counter goal 0", "omitted goal 0 0x7f050009")
+    omit = ["make", "--omit", LAYERS, PHONES, "0x7f050009"]
+    yield Run("make --omit", [*omit, *GOALS], of_box, out=MADE, err=omitted)
+    yield Run("no goal is left", omit, of_box, 1, err=omitted)
+    yield Run("make --names", ["make", "--names", *omit[2:]], of_box, 1, COUNTER, "goal 0 0x7f050009\n")
     yield Run("node limit", ["make", "--max-nodes", "1", LAYERS, PHONES, GOALS[0]], of_box, 1, "node limit\n")
 
 
@@ -181,6 +219,7 @@ def runs(folder):
     yield Run("no words", [], [STANDARD_INPUT], out=ROWS, given=os.path.join(HERE, PORCELAIN))
     yield Run("dump", ["dump", PORCELAIN], [PORCELAIN], out=DUMP)
     yield Run("map", ["map", TEAPOT, PORCELAIN], [TEAPOT, PORCELAIN], out=MADE_MAP)
+    yield from layers_runs()
     yield from device_runs()
     yield from box_runs()
     yield Run("help", ["query", "--help"], out=text_of("tests", "helps", "query.txt"))

@@ -12,6 +12,10 @@ use Rattle.clap.specs.declared.builder.value_parser.ValueParser.TheVariants as p
 abbrev pub one_word : List ℕ → Rule
 one_word name = record (new_rule name) { action = Some Set; required = true }
 
+-- one word, which may be left out
+abbrev pub maybe_one_word : List ℕ → Rule
+maybe_one_word name = record (new_rule name) { action = Some Set }
+
 -- one word or more
 abbrev pub several_words : List ℕ → Rule
 several_words name = record (new_rule name) {
@@ -40,6 +44,19 @@ nodes name = record (new_rule name) {
   parser = Some (parsers.Signed (pos 1) (pos most_nodes));
 }
 
+-- the greatest number of a goal that the words can name
+
+abbrev pub greatest_goal : ℕ
+greatest_goal = 4294967295
+
+-- such a number after `--NAME`, which may be left out
+abbrev pub goal_number : List ℕ → Rule
+goal_number name = record (new_rule name) {
+  long = Some name;
+  value_names = 1;
+  parser = Some (parsers.Signed (pos 0) (pos greatest_goal));
+}
+
 -- ---- commands
 
 abbrev pub command : List ℕ → List Rule → Shape
@@ -57,18 +74,25 @@ ids = several_words (codes "ID")
 abbrev pub goals : Rule
 goals = several_words (codes "GOAL")
 
+-- the names of ids are asked for
+abbrev pub names : Rule
+names = flag (codes "names")
+
 abbrev pub commands : List Shape
 commands =
     command (codes "rows") (one_word (codes "TABLE") ∷ [])
     ∷ command (codes "dump") (one_word (codes "TABLE") ∷ [])
     ∷ command (codes "map") (one_word (codes "TARGET") ∷ one_word (codes "OVERLAY") ∷ [])
-    ∷ command (codes "query") (layers ∷ device ∷ ids ∷ [])
-    ∷ command (codes "explain") (layers ∷ device ∷ one_word (codes "ID") ∷ [])
-    ∷ command (codes "bag") (layers ∷ device ∷ one_word (codes "ID") ∷ [])
+    ∷ command (codes "survey") (layers ∷ maybe_one_word (codes "BOX") ∷ [])
+    ∷ command (codes "show") (goal_number (codes "dot") ∷ layers ∷ one_word (codes "CERT") ∷ [])
+    ∷ command (codes "query") (names ∷ layers ∷ device ∷ ids ∷ [])
+    ∷ command (codes "explain") (names ∷ layers ∷ device ∷ one_word (codes "ID") ∷ [])
+    ∷ command (codes "bag") (names ∷ layers ∷ device ∷ one_word (codes "ID") ∷ [])
     ∷ command (codes "attr")
-    (flag (codes "keep") ∷ layers ∷ device ∷ one_word (codes "ATTR") ∷ several_words (codes "STYLE") ∷ [])
-    ∷ command (codes "make") (nodes (codes "max-nodes") ∷ layers ∷ one_word (codes "BOX") ∷ goals ∷ [])
-    ∷ command (codes "check") (layers ∷ one_word (codes "BOX") ∷ one_word (codes "CERT") ∷ goals ∷ [])
+    (flag (codes "keep") ∷ names ∷ layers ∷ device ∷ one_word (codes "ATTR") ∷ several_words (codes "STYLE") ∷ [])
+    ∷ command (codes "make")
+    (nodes (codes "max-nodes") ∷ flag (codes "omit") ∷ names ∷ layers ∷ one_word (codes "BOX") ∷ goals ∷ [])
+    ∷ command (codes "check") (names ∷ layers ∷ one_word (codes "BOX") ∷ one_word (codes "CERT") ∷ goals ∷ [])
     ∷ []
 
 -- the program, which has a version, and has to be given a command

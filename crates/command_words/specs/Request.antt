@@ -1,5 +1,5 @@
 -- What the words of a command line ask for.
-use Rattle.std.specs.Prelude.{◌≡◌, ◌≢◌, ◌≤◌, ℕ, Bool, true, false, List, [], ◌∷◌, map, codes, Option, Some, None, unwrap_or, Result, Ok, Err, IsOkAnd, IsSomeAnd, if◌then◌else◌}
+use Rattle.std.specs.Prelude.{◌≡◌, ◌≢◌, ◌≤◌, ℕ, Bool, true, false, not, List, [], ◌∷◌, map, codes, Option, Some, None, option_map, unwrap_or, Result, Ok, Err, IsOkAnd, IsSomeAnd, if◌then◌else◌}
 use Rattle.std.specs.Str.{bytes_eq}
 use Rattle.std.specs.Str.Parse.{IsNumeral, digits_value, without_leading_plus}
 use Rattle.clap.specs.Kinds.{IsAmong}
@@ -14,17 +14,21 @@ use Rattle.command_words.specs.declared.words_fault.WordsFault.{WordsFault}
 use Rattle.command_words.specs.declared.words_fault.WordsFault.TheVariants as faults
 use Rattle.command_words.specs.declared.request.Request.{Request}
 use Rattle.command_words.specs.declared.request.Request.TheVariants as requests
+use Rattle.command_words.specs.declared.request.LayersRequest.{LayersRequest}
+use Rattle.command_words.specs.declared.request.LayersRequest.TheVariants as of_layers
 use Rattle.command_words.specs.declared.request.DeviceRequest.{DeviceRequest}
 use Rattle.command_words.specs.declared.request.DeviceRequest.TheVariants as of_device
 use Rattle.command_words.specs.declared.request.BoxRequest.{BoxRequest}
 use Rattle.command_words.specs.declared.request.BoxRequest.TheVariants as of_box
 use Rattle.command_words.specs.declared.command.Command.{Command}
-use Rattle.command_words.specs.declared.command.Command.TheVariants.{Rows, Dump, Map, OfDevice, OfBox}
+use Rattle.command_words.specs.declared.command.Command.TheVariants.{Rows, Dump, Map, OfLayers, OfDevice, OfBox}
+use Rattle.command_words.specs.declared.command.LayersCommand.{LayersCommand}
+use Rattle.command_words.specs.declared.command.LayersCommand.TheVariants.{Survey, Show}
 use Rattle.command_words.specs.declared.command.DeviceCommand.{DeviceCommand}
 use Rattle.command_words.specs.declared.command.DeviceCommand.TheVariants.{Query, Explain, Bag, Attr}
 use Rattle.command_words.specs.declared.command.BoxCommand.{BoxCommand}
 use Rattle.command_words.specs.declared.command.BoxCommand.TheVariants.{Make, Check}
-use Rattle.command_words.specs.CommandLine.{command_line, most_nodes, nodes_if_left_out}
+use Rattle.command_words.specs.CommandLine.{command_line, most_nodes, nodes_if_left_out, greatest_goal}
 use Rattle.command_words.specs.ResourceWords.{named_word, set_word, texts_of}
 use Rattle.command_words.specs.GoalWords.{goal_word}
 
@@ -45,6 +49,11 @@ word_at name rows = unwrap_or (first_of name rows) []
 abbrev pub words_at : List ℕ → List Row → List (List ℕ)
 words_at name rows = unwrap_or (all_of name rows) []
 
+-- whether a flag is given
+abbrev pub IsGiven : List ℕ → List Row → Bool → Type 0
+IsGiven name rows true = one_of name rows ≡ Some (codes "true")
+IsGiven name rows false = one_of name rows ≢ Some (codes "true")
+
 -- The number of nodes that a word spells, or the number for a word that is left out. Nothing is said of a word that
 -- spells no number of nodes that may be asked for: such a word is a fault of the command line, and no request is made.
 abbrev pub IsNodeLimit : Option (List ℕ) → ℕ → Type 0
@@ -52,6 +61,13 @@ IsNodeLimit None limit = limit ≡ nodes_if_left_out
 IsNodeLimit (Some word) limit =
     let digits = without_leading_plus word in
     IsNumeral 10 digits → 1 ≤ digits_value 10 digits → digits_value 10 digits ≤ most_nodes → limit ≡ digits_value 10 digits
+
+-- the number of a goal that a word spells, or none for a word that is left out; what spells no such number is a fault as above
+abbrev pub IsGoalNumber : Option (List ℕ) → Option ℕ → Type 0
+IsGoalNumber None goal = goal ≡ None
+IsGoalNumber (Some word) goal =
+    let digits = without_leading_plus word in
+    IsNumeral 10 digits → digits_value 10 digits ≤ greatest_goal → goal ≡ Some (digits_value 10 digits)
 
 -- ---- what a command asks for
 
@@ -61,6 +77,8 @@ command_of name =
     if bytes_eq name (codes "rows") then Some Rows
     else if bytes_eq name (codes "dump") then Some Dump
     else if bytes_eq name (codes "map") then Some Map
+    else if bytes_eq name (codes "survey") then Some (OfLayers Survey)
+    else if bytes_eq name (codes "show") then Some (OfLayers Show)
     else if bytes_eq name (codes "query") then Some (OfDevice Query)
     else if bytes_eq name (codes "explain") then Some (OfDevice Explain)
     else if bytes_eq name (codes "bag") then Some (OfDevice Bag)
@@ -102,23 +120,19 @@ ReadsAlong meant IsRight (Err (faults.BadId word)) = meant ≡ Err word.now
 ReadsAlong meant IsRight (Err faults.OutOfMemory) = Unit {0}
 ReadsAlong meant IsRight (Err fault) = ⊥
 
--- styles are applied with force, unless `--keep` is given
-abbrev pub IsForced : List Row → Bool → Type 0
-IsForced rows true = one_of (codes "keep") rows ≢ Some (codes "true")
-IsForced rows false = one_of (codes "keep") rows ≡ Some (codes "true")
-
 -- what a command asks of a device whose words ask for this
 abbrev pub IsDeviceRequestOf : DeviceCommand → List Row → Asked → DeviceRequest → Type 0
 IsDeviceRequestOf Query rows asked (of_device.Query words) = asked ≡ record { one = None; words = texts_of words }
 IsDeviceRequestOf Explain rows asked (of_device.Explain resource) = asked ≡ record { one = Some (named_of resource); words = [] }
 IsDeviceRequestOf Bag rows asked (of_device.Bag resource) = asked ≡ record { one = Some (named_of resource); words = [] }
 IsDeviceRequestOf Attr rows asked (of_device.Attr attr styles force) =
-    (asked ≡ record { one = Some (named_of attr); words = texts_of styles }) × IsForced rows force
+    (asked ≡ record { one = Some (named_of attr); words = texts_of styles }) × IsGiven (codes "keep") rows (not force)
 IsDeviceRequestOf _ rows asked _ = ⊥
 
 -- what a command asks of a box whose words are these goals
 abbrev pub IsBoxRequestOf : BoxCommand → List Row → List (List ℕ) → BoxRequest → Type 0
-IsBoxRequestOf Make rows asked (of_box.Make max_nodes goals) = (asked ≡ texts_of goals) × IsNodeLimit (one_of (codes "max-nodes") rows) max_nodes
+IsBoxRequestOf Make rows asked (of_box.Make max_nodes omit goals) =
+    (asked ≡ texts_of goals) × IsNodeLimit (one_of (codes "max-nodes") rows) max_nodes × IsGiven (codes "omit") rows omit
 IsBoxRequestOf Check rows asked (of_box.Check certificate_path goals) =
     (asked ≡ texts_of goals) × (certificate_path.now ≡ word_at (codes "CERT") rows)
 IsBoxRequestOf _ rows asked _ = ⊥
@@ -131,20 +145,36 @@ IsTableRequestOf Map rows (requests.Map target_path overlay_path) =
     (target_path.now ≡ word_at (codes "TARGET") rows) × (overlay_path.now ≡ word_at (codes "OVERLAY") rows)
 IsTableRequestOf _ rows _ = ⊥
 
+-- what a command asks of layers alone
+abbrev pub IsLayersRequestOf : LayersCommand → List Row → LayersRequest → Type 0
+IsLayersRequestOf Survey rows (of_layers.Survey box_path) = option_map (λ path. path.now) box_path ≡ first_of (codes "BOX") rows
+IsLayersRequestOf Show rows (of_layers.Show certificate_path pictured) =
+    (certificate_path.now ≡ word_at (codes "CERT") rows) × IsGoalNumber (one_of (codes "dot") rows) pictured
+IsLayersRequestOf _ rows _ = ⊥
+
+-- what a command for layers alone asks for
+abbrev pub IsRequestForLayers : LayersCommand → List Row → Request → Type 0
+IsRequestForLayers command rows (requests.OfLayers layers_path request) =
+    (layers_path.now ≡ word_at (codes "LAYERS") rows) × IsLayersRequestOf command rows request
+IsRequestForLayers command rows _ = ⊥
+
 -- what a command for a device asks for whose words ask for this
 abbrev pub IsRequestForDevice : DeviceCommand → List Row → Asked → Request → Type 0
-IsRequestForDevice command rows asked (requests.OfDevice layers_path device_path request) =
-    (layers_path.now ≡ word_at (codes "LAYERS") rows) × (device_path.now ≡ word_at (codes "DEVICE") rows) × IsDeviceRequestOf command rows asked request
+IsRequestForDevice command rows asked (requests.OfDevice layers_path device_path names request) =
+    (layers_path.now ≡ word_at (codes "LAYERS") rows) × (device_path.now ≡ word_at (codes "DEVICE") rows)
+    × IsGiven (codes "names") rows names × IsDeviceRequestOf command rows asked request
 IsRequestForDevice command rows asked _ = ⊥
 
 -- what a command for a box asks for whose words are these goals
 abbrev pub IsRequestForBox : BoxCommand → List Row → List (List ℕ) → Request → Type 0
-IsRequestForBox command rows asked (requests.OfBox layers_path box_path request) =
-    (layers_path.now ≡ word_at (codes "LAYERS") rows) × (box_path.now ≡ word_at (codes "BOX") rows) × IsBoxRequestOf command rows asked request
+IsRequestForBox command rows asked (requests.OfBox layers_path box_path names request) =
+    (layers_path.now ≡ word_at (codes "LAYERS") rows) × (box_path.now ≡ word_at (codes "BOX") rows)
+    × IsGiven (codes "names") rows names × IsBoxRequestOf command rows asked request
 IsRequestForBox command rows asked _ = ⊥
 
 -- a command was read, whose arguments have these rows
 abbrev pub ReadsCommand : Command → List Row → Result Request WordsFault → Type 0
+ReadsCommand (OfLayers command) rows result = IsOkAnd result (IsRequestForLayers command rows)
 ReadsCommand (OfDevice command) rows result = ReadsAlong (words_asked command rows) (IsRequestForDevice command rows) result
 ReadsCommand (OfBox command) rows result = ReadsAlong (goals_asked rows) (IsRequestForBox command rows) result
 ReadsCommand command rows result = IsOkAnd result (IsTableRequestOf command rows)

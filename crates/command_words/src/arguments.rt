@@ -1,13 +1,13 @@
 //! What the arguments of a command have.
 
-ghost use Rattle.std.specs.Prelude.{◌≡◌, ◌≢◌, map, codes, Some, MatchBool, option_map};
-ghost use Rattle.clap.specs.Words.{all_of, found_of, one_of, rows_of};
+ghost use Rattle.std.specs.Prelude.{◌≡◌, map, codes, option_map};
+ghost use Rattle.clap.specs.Words.{all_of, first_of, found_of, one_of, rows_of};
 ghost use Rattle.json_input.specs.Each.{each};
 ghost use Rattle.command_words.specs.GoalWords.{goal_word};
 ghost use Rattle.command_words.specs.ResourceWords.{ReadsNamed, ReadsWords, named_word, set_word};
-ghost use Rattle.command_words.specs.Request.{IsNodeLimit, word_at, words_at};
+ghost use Rattle.command_words.specs.Request.{IsGiven, IsGoalNumber, IsNodeLimit, word_at, words_at};
 
-use crate::command_line::{Argument, MAX_NODES, MOST_NODES, NODES_IF_LEFT_OUT};
+use crate::command_line::{Argument, DOT, MAX_NODES, MOST_NODES, NODES_IF_LEFT_OUT};
 use crate::goal_words::goal_words;
 use crate::resource_words::{named_word, set_words};
 use crate::words_fault::WordsFault;
@@ -21,6 +21,14 @@ pub(crate) fn given_word<'a>(given: &ArgMatches<'a>, argument: &Argument) -> &'a
     ensures { result.now ≡ word_at argument.now.name.now (rows_of (found_of given.now)) }
 {
     given.get_str(argument.name).unwrap_or("")
+}
+
+/// The word of an argument that may be left out.
+#[tactic(auto, using(crate::proofs::Rows::rows))]
+pub(crate) fn given_maybe_word<'a>(given: &ArgMatches<'a>, argument: &Argument) -> Option<&'a str>
+    ensures { option_map (λ word. word.now) result ≡ first_of argument.now.name.now (rows_of (found_of given.now)) }
+{
+    given.get_str(argument.name)
 }
 
 /// The resource that the word of an argument asks for.
@@ -66,8 +74,7 @@ pub(crate) fn given_goals<'a>(
 /// Whether a flag is given.
 #[tactic(auto, using(crate::proofs::Rows::rows))]
 pub(crate) fn given_flag(given: &ArgMatches<'_>, argument: &Argument) -> bool
-    ensures { MatchBool result (one_of argument.now.name.now (rows_of (found_of given.now)) ≡ Some (codes "true"))
-        (one_of argument.now.name.now (rows_of (found_of given.now)) ≢ Some (codes "true")) }
+    ensures { IsGiven argument.now.name.now (rows_of (found_of given.now)) result }
 {
     given.get_one(argument.name).unwrap_or(false)
 }
@@ -81,4 +88,12 @@ pub(crate) fn given_nodes(given: &ArgMatches<'_>) -> u32
         Some(nodes) if 1 <= nodes && nodes <= MOST_NODES => nodes,
         _ => NODES_IF_LEFT_OUT,
     }
+}
+
+/// The number of a goal, from 0.
+#[tactic(auto, using(crate::proofs::Rows::rows))]
+pub(crate) fn given_goal_number(given: &ArgMatches<'_>) -> Option<u32>
+    ensures { IsGoalNumber (one_of (codes "dot") (rows_of (found_of given.now))) result }
+{
+    given.get_one::<u32>(DOT.name)
 }

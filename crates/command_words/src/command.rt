@@ -1,6 +1,6 @@
 //! The commands, by their names.
 
-use crate::command_line::{ATTR, BAG, CHECK, DUMP, EXPLAIN, MAKE, MAP, QUERY, ROWS};
+use crate::command_line::{ATTR, BAG, CHECK, DUMP, EXPLAIN, MAKE, MAP, QUERY, ROWS, SHOW, SURVEY};
 
 /// What a name on the command line stands for.
 #[derive(Clone, Copy)]
@@ -8,8 +8,16 @@ pub(crate) enum Command {
     Rows,
     Dump,
     Map,
+    OfLayers(LayersCommand),
     OfDevice(DeviceCommand),
     OfBox(BoxCommand),
+}
+
+/// A command for layers alone.
+#[derive(Clone, Copy)]
+pub(crate) enum LayersCommand {
+    Survey,
+    Show,
 }
 
 /// A command for a device.
@@ -41,6 +49,8 @@ impl Command {
             ROWS => Command::Rows,
             DUMP => Command::Dump,
             MAP => Command::Map,
+            SURVEY => Command::OfLayers(LayersCommand::Survey),
+            SHOW => Command::OfLayers(LayersCommand::Show),
             QUERY => Command::OfDevice(DeviceCommand::Query),
             EXPLAIN => Command::OfDevice(DeviceCommand::Explain),
             BAG => Command::OfDevice(DeviceCommand::Bag),

@@ -22,7 +22,7 @@ Exit status:
   0  done
   1  something you asked for does not exist, or has too many references or parents,
      or a certificate is rejected or cannot be made, or an id map leaves out ids or
-     references of its overlay
+     references of its overlay, or a survey finds what a device may read otherwise
   2  bad command line, or an argument that is neither a resource id nor a name
   3  an input was refused
   4  out of memory
@@ -34,6 +34,10 @@ pub(crate) const ROWS: &str = "rows";
 pub(crate) const DUMP: &str = "dump";
 
 pub(crate) const MAP: &str = "map";
+
+pub(crate) const SURVEY: &str = "survey";
+
+pub(crate) const SHOW: &str = "show";
 
 pub(crate) const QUERY: &str = "query";
 
@@ -71,34 +75,44 @@ const USAGES: &[Usage] = &[
         arguments: &[TARGET, OVERLAY],
     },
     Usage {
+        name: SURVEY,
+        about: "Prints what of tables a device may read otherwise, their qualifiers, and those that a box lacks",
+        arguments: &[LAYERS, MAYBE_BOX],
+    },
+    Usage {
+        name: SHOW,
+        about: "Prints a certificate for people, or the tree of one goal as a picture",
+        arguments: &[DOT, LAYERS, CERTIFICATE],
+    },
+    Usage {
         name: QUERY,
         about: "Prints the value that a device loads for each id",
-        arguments: &[LAYERS, DEVICE, IDS],
+        arguments: &[NAMES, LAYERS, DEVICE, IDS],
     },
     Usage {
         name: EXPLAIN,
         about: "Prints each candidate for an id, and the rule by which it won or lost",
-        arguments: &[LAYERS, DEVICE, ID],
+        arguments: &[NAMES, LAYERS, DEVICE, ID],
     },
     Usage {
         name: BAG,
         about: "Prints the rows of a style, an array or plurals, with those that it inherits",
-        arguments: &[LAYERS, DEVICE, BAG_ID],
+        arguments: &[NAMES, LAYERS, DEVICE, BAG_ID],
     },
     Usage {
         name: ATTR,
         about: "Prints an attribute's value in the theme that those styles build",
-        arguments: &[KEEP, LAYERS, DEVICE, ATTRIBUTE, STYLES],
+        arguments: &[KEEP, NAMES, LAYERS, DEVICE, ATTRIBUTE, STYLES],
     },
     Usage {
         name: MAKE,
         about: "Prints a certificate for every device of a box, a device without a value, or node limit",
-        arguments: &[MAX_NODES, LAYERS, BOX, GOALS],
+        arguments: &[MAX_NODES, OMIT, GOAL_NAMES, LAYERS, BOX, GOALS],
     },
     Usage {
         name: CHECK,
         about: "Checks whether a certificate is true for every device of a box",
-        arguments: &[LAYERS, BOX, CERTIFICATE, GOALS],
+        arguments: &[GOAL_NAMES, LAYERS, BOX, CERTIFICATE, GOALS],
     },
 ];
 
@@ -114,11 +128,15 @@ pub(crate) struct Argument {
 #[derive(Clone, Copy)]
 enum Takes {
     OneWord,
+    /// One word, or none.
+    MaybeOneWord,
     Words,
     /// Nothing: it is a flag.
     Nothing,
     /// A number of nodes, after the argument's name.
     Nodes,
+    /// The number of a goal, after the argument's name.
+    GoalNumber,
 }
 
 /// How many nodes may be asked for at most.
@@ -160,7 +178,14 @@ pub(crate) const DEVICE: Argument = Argument {
 pub(crate) const BOX: Argument = Argument {
     name: "BOX",
     takes: Takes::OneWord,
-    help: "Path of the JSON object with the devices' qualifiers, each a list or a range",
+    help: "Path of the JSON object with the devices' qualifiers, each a list or a range; \
+           `restool survey LAYERS BOX` tells which it lacks",
+};
+
+pub(crate) const MAYBE_BOX: Argument = Argument {
+    name: "BOX",
+    takes: Takes::MaybeOneWord,
+    help: "Path of the JSON object with the devices' qualifiers, to see which it lacks",
 };
 
 pub(crate) const CERTIFICATE: Argument = Argument {
@@ -215,10 +240,35 @@ pub(crate) const KEEP: Argument = Argument {
     help: "Keep what an earlier style has set, as applyStyle(style, false) does",
 };
 
+pub(crate) const NAMES: Argument = Argument {
+    name: "names",
+    takes: Takes::Nothing,
+    help: "Print the name beside each id",
+};
+
+/// The same of goals. It has the same name, so that it is read as `NAMES` is.
+const GOAL_NAMES: Argument = Argument {
+    name: "names",
+    takes: Takes::Nothing,
+    help: "Print on standard error which goal is meant, with its names",
+};
+
+pub(crate) const OMIT: Argument = Argument {
+    name: "omit",
+    takes: Takes::Nothing,
+    help: "Leave out goals that have no value on some device, and print them on standard error",
+};
+
 pub(crate) const MAX_NODES: Argument = Argument {
     name: "max-nodes",
     takes: Takes::Nodes,
     help: "Node limit of all trees together, 1 to 1000000 [default: 100000]",
+};
+
+pub(crate) const DOT: Argument = Argument {
+    name: "dot",
+    takes: Takes::GoalNumber,
+    help: "Print the tree of this goal, counted from 0, in the language DOT of Graphviz",
 };
 
 /// The command line, for a parse.
@@ -300,11 +350,18 @@ fn built_argument<'a>(alloc: Global, argument: &Argument) -> Arg<'a>
     let arg = Arg::new(alloc, argument.name).help(argument.help);
     match argument.takes {
         Takes::OneWord => arg.required(true).action(ArgAction::Set),
+        Takes::MaybeOneWord => arg.action(ArgAction::Set),
         Takes::Words => arg.required(true).num_args(1..).action(ArgAction::Append),
         Takes::Nothing => arg.long(argument.name).action(ArgAction::SetTrue),
         Takes::Nodes => {
             let number = value_parser!(u32).range(1..=i64::from(MOST_NODES));
             arg.long(argument.name).value_name("N").value_parser(number)
+        }
+        Takes::GoalNumber => {
+            let number = value_parser!(u32).range(0..=i64::from(u32::MAX));
+            arg.long(argument.name)
+                .value_name("GOAL")
+                .value_parser(number)
         }
     }
 }

@@ -1,7 +1,8 @@
 //! The words of a command line: which commands there are, what each of them takes, and what words ask for.
 //!
 //! A command is what a name such as `query` stands for, a `Command`. A request is a command with what its words
-//! ask for, a `Request`. Both are of a table, of a device or of a box.
+//! ask for, a `Request`. Both are of a table, of layers, of a
+//! device or of a box.
 //!
 //! For the program above: `read_words` gives the request, or why there is none. What clap says of the words comes
 //! first, and then the first word that asks for no resource, or for a box for no goal.
@@ -25,6 +26,6 @@ mod words;
 mod words_fault;
 
 pub use name_words::{GoalFault, Named, NamedGoal, NamedSet, file_path, words_in_text};
-pub use request::{BoxRequest, DeviceRequest, Request};
+pub use request::{BoxRequest, DeviceRequest, LayersRequest, Request};
 pub use words::{STANDARD_INPUT, program_words, read_words};
 pub use words_fault::WordsFault;

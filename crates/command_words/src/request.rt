@@ -18,17 +18,40 @@ pub enum Request<'a> {
         target_path: &'a str,
         overlay_path: &'a str,
     },
+    /// What layers say by themselves.
+    OfLayers {
+        layers_path: &'a str,
+        request: LayersRequest<'a>,
+    },
     /// What layers give a device.
     OfDevice {
         layers_path: &'a str,
         device_path: &'a str,
+        /// Whether ids are printed with their names.
+        names: bool,
         request: DeviceRequest<'a>,
     },
     /// What layers give all devices of a box.
     OfBox {
         layers_path: &'a str,
         box_path: &'a str,
+        /// Whether goals are told with their names.
+        names: bool,
         request: BoxRequest<'a>,
+    },
+}
+
+/// What is asked of layers alone.
+#[derive(Drop)]
+pub enum LayersRequest<'a> {
+    /// What of them a device may read otherwise, their qualifiers, and those that a box lacks.
+    Survey {
+        box_path: Option<&'a str>,
+    },
+    /// A certificate for people; or the tree of one goal as a picture, by its number from 0.
+    Show {
+        certificate_path: &'a str,
+        pictured: Option<u32>,
     },
 }
 
@@ -62,6 +85,8 @@ pub enum BoxRequest<'a> {
     /// A certificate for some goals, of at most so many nodes.
     Make {
         max_nodes: u32,
+        /// Whether goals that have no value on some device are left out.
+        omit: bool,
         goals: Vec<&'a str>,
     },
     /// Whether a certificate is true of some goals.

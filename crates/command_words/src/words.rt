@@ -4,16 +4,19 @@ ghost use Rattle.std.specs.Prelude.{◌≡◌, ◌≢◌, true, map, is_some, If
 ghost use Rattle.std.specs.IoError.{error_kind};
 ghost use Rattle.clap.specs.Words.{FailsBy, fault_of, has_subcommand, rows_of, found_of, subcommand_of, subcommand_rows_of};
 ghost use Rattle.command_words.specs.CommandLine.{command_line};
-ghost use Rattle.command_words.specs.Request.{AsksFor, IsBoxRequestOf, IsDeviceRequestOf, ReadsAlong, ReadsCommand, ReadsCommandLine, command_of, goals_asked, words_asked};
+ghost use Rattle.command_words.specs.Request.{AsksFor, IsBoxRequestOf, IsDeviceRequestOf, IsLayersRequestOf, ReadsAlong, ReadsCommand, ReadsCommandLine, command_of, goals_asked, words_asked};
 ghost use Rattle.command_words.specs.WordsFault.{IsOfReading};
 
-use crate::arguments::{given_flag, given_goals, given_named, given_nodes, given_sets, given_word};
-use crate::command::{BoxCommand, Command, DeviceCommand};
-use crate::command_line::{
-    ATTRIBUTE, BAG_ID, BOX, CERTIFICATE, DEVICE, GOALS, ID, IDS, KEEP, LAYERS, OVERLAY, STYLES,
-    TABLE, TARGET, command_line,
+use crate::arguments::{
+    given_flag, given_goal_number, given_goals, given_maybe_word, given_named, given_nodes,
+    given_sets, given_word,
 };
-use crate::request::{BoxRequest, DeviceRequest, Request};
+use crate::command::{BoxCommand, Command, DeviceCommand, LayersCommand};
+use crate::command_line::{
+    ATTRIBUTE, BAG_ID, BOX, CERTIFICATE, DEVICE, GOALS, ID, IDS, KEEP, LAYERS, MAYBE_BOX, NAMES,
+    OMIT, OVERLAY, STYLES, TABLE, TARGET, command_line,
+};
+use crate::request::{BoxRequest, DeviceRequest, LayersRequest, Request};
 use crate::words_fault::WordsFault;
 use clap::ArgMatches;
 use std::alloc::Global;
@@ -98,11 +101,16 @@ fn request_of<'a>(
             target_path: given_word(given, &TARGET),
             overlay_path: given_word(given, &OVERLAY),
         }),
+        Command::OfLayers(command) => Ok(Request::OfLayers {
+            layers_path: given_word(given, &LAYERS),
+            request: layers_request_of(command, given),
+        }),
         Command::OfDevice(command) => {
             let request = device_request_of(alloc, command, given)?;
             Ok(Request::OfDevice {
                 layers_path: given_word(given, &LAYERS),
                 device_path: given_word(given, &DEVICE),
+                names: given_flag(given, &NAMES),
                 request,
             })
         }
@@ -111,9 +119,24 @@ fn request_of<'a>(
             Ok(Request::OfBox {
                 layers_path: given_word(given, &LAYERS),
                 box_path: given_word(given, &BOX),
+                names: given_flag(given, &NAMES),
                 request,
             })
         }
+    }
+}
+
+fn layers_request_of<'a>(command: LayersCommand, given: &ArgMatches<'a>) -> LayersRequest<'a>
+    ensures { IsLayersRequestOf command (rows_of (found_of given.now)) result }
+{
+    match command {
+        LayersCommand::Survey => LayersRequest::Survey {
+            box_path: given_maybe_word(given, &MAYBE_BOX),
+        },
+        LayersCommand::Show => LayersRequest::Show {
+            certificate_path: given_word(given, &CERTIFICATE),
+            pictured: given_goal_number(given),
+        },
     }
 }
 
@@ -155,6 +178,7 @@ fn box_request_of<'a>(
     match command {
         BoxCommand::Make => Ok(BoxRequest::Make {
             max_nodes: given_nodes(given),
+            omit: given_flag(given, &OMIT),
             goals: given_goals(alloc, given, &GOALS)?,
         }),
         BoxCommand::Check => Ok(BoxRequest::Check {

@@ -5,12 +5,14 @@ use Rattle.std.specs.declared.alloc.Global.{Global}
 use Rattle.command_base.specs.StackBytes.{LayerBytes}
 use Rattle.program_run.specs.declared.files.MapFiles.{MapFiles}
 use Rattle.program_run.specs.declared.files.LayerFiles.{LayerFiles}
+use Rattle.program_run.specs.declared.files.SurveyFiles.{SurveyFiles}
+use Rattle.program_run.specs.declared.files.ShowFiles.{ShowFiles}
 use Rattle.program_run.specs.declared.files.DeviceFiles.{DeviceFiles}
 use Rattle.program_run.specs.declared.files.AskedFiles.{AskedFiles}
 use Rattle.program_run.specs.declared.files.CheckFiles.{CheckFiles}
 use Rattle.program_run.specs.AskedFiles.{AskedInputs, CheckInputs}
 use Rattle.program_run.specs.AskedWords.{strings_held}
-use Rattle.program_run.specs.Inputs.{MapInputs, DeviceInputs}
+use Rattle.program_run.specs.Inputs.{MapInputs, SurveyInputs, ShowInputs, DeviceInputs}
 
 abbrev pub bytes_of : Vec ℕ Global → List ℕ
 bytes_of bytes = bytes.items
@@ -28,6 +30,12 @@ all_held layers = map layer_held layers.items
 
 abbrev pub layers_held : LayerFiles → List LayerBytes
 layers_held files = all_held files.files
+
+abbrev pub survey_held : SurveyFiles → SurveyInputs
+survey_held files = record { layers = layers_held files.layers; box_json = option_map bytes_of files.box_json }
+
+abbrev pub show_held : ShowFiles → ShowInputs
+show_held files = record { layers = layers_held files.layers; certificate = files.certificate.items }
 
 abbrev pub devices_held : DeviceFiles → DeviceInputs
 devices_held files = record { layers = layers_held files.layers; devices = files.devices.items }

@@ -40,16 +40,16 @@ table_of places path = or_stop (stop_at (file path)) (places (table_place path))
 abbrev pub file_of : Places → List ℕ → Result (List ℕ) StopOf
 file_of places path = or_stop (stop_at (file path)) (places (at_path path))
 
--- the id map of a layer, where it has one
-abbrev pub map_of : Places → Option (List ℕ) → Result (Option (List ℕ)) StopOf
-map_of places None = Ok None
-map_of places (Some path) = file_of places path >>= λ map. Ok (Some map)
+-- a file, where its path is given
+abbrev pub maybe_file_of : Places → Option (List ℕ) → Result (Option (List ℕ)) StopOf
+maybe_file_of places None = Ok None
+maybe_file_of places (Some path) = file_of places path >>= λ bytes. Ok (Some bytes)
 
 -- a layer: its table and then its id map
 unfoldable pub layer_of : Places → LayerPaths → Result LayerBytes StopOf
 layer_of places paths = do
   table ← file_of places paths.table
-  map ← map_of places paths.map
+  map ← maybe_file_of places paths.map
   Ok (record { table = table; map = map })
 
 -- the layers that a list names: first the list, and then the files of each layer in turn
@@ -71,6 +71,30 @@ map_files places target_path overlay_path = do
   target ← table_of places target_path
   overlay ← table_of places overlay_path
   Ok (record { target = target; overlay = overlay })
+
+-- layers, and the bytes of a box, if one is named
+pub record SurveyInputs : Type 0 where
+  pub layers : List LayerBytes
+  pub box_json : Option (List ℕ)
+
+-- layers and then the box
+unfoldable pub survey_files : Places → List ℕ → Option (List ℕ) → Result SurveyInputs StopOf
+survey_files places layers_path box_path = do
+  layers ← layers_of places layers_path
+  box_json ← maybe_file_of places box_path
+  Ok (record { layers = layers; box_json = box_json })
+
+-- layers, and the bytes of a certificate
+pub record ShowInputs : Type 0 where
+  pub layers : List LayerBytes
+  pub certificate : List ℕ
+
+-- layers and then the certificate
+unfoldable pub show_files : Places → List ℕ → List ℕ → Result ShowInputs StopOf
+show_files places layers_path certificate_path = do
+  layers ← layers_of places layers_path
+  certificate ← file_of places certificate_path
+  Ok (record { layers = layers; certificate = certificate })
 
 -- layers, and the bytes of a device or of a box of devices
 pub record DeviceInputs : Type 0 where

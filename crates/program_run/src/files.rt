@@ -1,12 +1,12 @@
 //! The files of a request, in the order in which they are read.
 
-ghost use Rattle.std.specs.Prelude.{◌≡◌, map, IfOk, IfSome};
+ghost use Rattle.std.specs.Prelude.{◌≡◌, map, option_map, IfOk, IfSome};
 ghost use Rattle.json_input.specs.Each.{each};
 ghost use Rattle.command_base.specs.LayerListSeen.{paths_of, all_paths_of};
 ghost use Rattle.command_base.specs.StackBytesSeen.{layer_bytes};
 ghost use Rattle.program_run.specs.Stop.{GivesOrStops};
-ghost use Rattle.program_run.specs.Inputs.{map_files, layer_of, layers_of, device_files};
-ghost use Rattle.program_run.specs.FilesSeen.{map_held, layer_held, all_held, layers_held, devices_held, asked_held, check_held};
+ghost use Rattle.program_run.specs.Inputs.{map_files, layer_of, layers_of, survey_files, show_files, device_files};
+ghost use Rattle.program_run.specs.FilesSeen.{map_held, layer_held, all_held, layers_held, survey_held, show_held, devices_held, asked_held, check_held};
 ghost use Rattle.program_run.specs.AskedFiles.{asked_files, check_files};
 
 use crate::asked::asked_words;
@@ -107,6 +107,67 @@ fn read_layer<I: Inputs>(
             Ok((table, Some(map)))
         }
         None => Ok((table, None)),
+    }
+}
+
+/// The bytes of layers, and of a box of devices, if one is named.
+#[derive(Drop)]
+pub struct SurveyFiles {
+    pub layers: LayerFiles,
+    pub box_json: Option<Vec<u8>>,
+}
+
+impl SurveyFiles {
+    /// Reads a list of layers with the files that it names, and then the box.
+    #[tactic(auto, unfolding(crate::specs::Inputs::survey_files))]
+    pub fn read<'a, I: Inputs>(
+        alloc: Global,
+        inputs: &I,
+        layers_path: &'a str,
+        box_path: Option<&'a str>,
+    ) -> Result<SurveyFiles, Stop<'a>>
+        ensures { IfSome (I.places inputs.now) (λ places. GivesOrStops survey_held result
+            (survey_files places layers_path.entry.now (option_map (λ path. path.now) box_path.entry))) }
+    {
+        let layers = LayerFiles::read(alloc, inputs, layers_path)?;
+        match box_path {
+            Some(path) => {
+                let box_json = Some(file_bytes(inputs, path)?);
+                Ok(SurveyFiles { layers, box_json })
+            }
+            None => Ok(SurveyFiles {
+                layers,
+                box_json: None,
+            }),
+        }
+    }
+}
+
+/// The bytes of layers, and of a certificate.
+#[derive(Drop)]
+pub struct ShowFiles {
+    pub layers: LayerFiles,
+    pub certificate: Vec<u8>,
+}
+
+impl ShowFiles {
+    /// Reads a list of layers with the files that it names, and then the certificate.
+    #[tactic(auto, unfolding(crate::specs::Inputs::show_files))]
+    pub fn read<'a, I: Inputs>(
+        alloc: Global,
+        inputs: &I,
+        layers_path: &'a str,
+        certificate_path: &'a str,
+    ) -> Result<ShowFiles, Stop<'a>>
+        ensures { IfSome (I.places inputs.now) (λ places. GivesOrStops show_held result
+            (show_files places layers_path.entry.now certificate_path.entry.now)) }
+    {
+        let layers = LayerFiles::read(alloc, inputs, layers_path)?;
+        let certificate = file_bytes(inputs, certificate_path)?;
+        Ok(ShowFiles {
+            layers,
+            certificate,
+        })
     }
 }
 

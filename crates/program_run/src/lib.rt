@@ -28,10 +28,13 @@ mod stop;
 
 pub use asked::{asked_goals, asked_sets, asked_words};
 pub use command_words::{
-    BoxRequest, DeviceRequest, Named, NamedGoal, NamedSet, Request, program_words, read_words,
+    BoxRequest, DeviceRequest, LayersRequest, Named, NamedGoal, NamedSet, Request, program_words,
+    read_words,
 };
 pub use ending::{end, written_out};
-pub use files::{AskedFiles, CheckFiles, DeviceFiles, LayerFiles, MapFiles};
+pub use files::{
+    AskedFiles, CheckFiles, DeviceFiles, LayerFiles, MapFiles, ShowFiles, SurveyFiles,
+};
 pub use input::{Inputs, ProcessInputs, table_bytes};
 pub use named_resources::{ResId, goals_named, id_named, ids_named};
 pub use place::Place;

@@ -1,3 +1,4 @@
 pub mod NodeLimits
 pub mod CarriedOut
 pub mod Written
+pub mod Told

@@ -1,22 +1,24 @@
 //! What a request is answered.
 
-ghost use Rattle.std.specs.Prelude.{◌≡◌, ◌≢◌, false, Ok, IfErr, IfSome};
+ghost use Rattle.std.specs.Prelude.{◌≡◌, ◌≢◌, false, Ok, IfErr, IfSome, option_map};
 ghost use Rattle.program_run.specs.fault_text.declared.fault.ToolFault.TheVariants.{Write};
 ghost use Rattle.program_run.specs.command_words.name_words.Named.{named_of};
-ghost use Rattle.program_run.specs.FilesSeen.{asked_held, check_held, devices_held};
+ghost use Rattle.program_run.specs.FilesSeen.{asked_held, check_held, devices_held, show_held, survey_held};
 ghost use Rattle.program_run.specs.Stop.{stop_of, tool};
-ghost use Rattle.restool.specs.Answers.{Answers, AnswersOfBox, AnswersOfDevice, Queries, Explains, PrintsBag, PrintsAttr, Makes, Checks};
-ghost use Rattle.restool.specs.Run.{Shows};
+ghost use Rattle.restool.specs.Answers.{Answers, AnswersOfBox, AnswersOfDevice, AnswersOfLayers, Surveys, ShowsTrees, Queries, Explains, PrintsBag, PrintsAttr, Makes, MakesOmitting, Checks};
+ghost use Rattle.restool.specs.Run.{Shows, says_beside};
 
 use crate::asked::{AskedAttr, AskedCheck, AskedId, AskedIds, AskedMake};
 use program_run::{
-    AskedFiles, BoxRequest, CheckFiles, DeviceFiles, DeviceRequest, Inputs, MapFiles, Named,
-    Request, Stop, Watch, table_bytes,
+    AskedFiles, BoxRequest, CheckFiles, DeviceFiles, DeviceRequest, Inputs, LayersRequest,
+    MapFiles, Named, Request, ShowFiles, Stop, SurveyFiles, Watch, table_bytes,
 };
 use resource_tool::{Status, dump_bytes, map_bytes, rows_bytes};
+use show_command::{show_bytes, show_dot_bytes};
 use std::alloc::Global;
 use std::io::Write;
 use std::time::Clock;
+use survey_commands::survey_bytes;
 
 /// Reads what a request names, and answers it. Where it is not answered, nothing is written, unless a write fails.
 pub fn answer<'a, I: Inputs, C: Clock, O: Write + Drop, E: Write + Drop>(
@@ -27,7 +29,7 @@ pub fn answer<'a, I: Inputs, C: Clock, O: Write + Drop, E: Write + Drop>(
     out: &mut O,
     errors: &mut E,
 ) -> Result<Status, Stop<'a>>
-    ensures answers { IfSome (I.places inputs.now) (λ places. Answers O.contents E.contents out.old out.new
+    ensures answers { IfSome (I.places inputs.now) (λ places. Answers watch.entry.is_terminal O.contents E.contents out.old out.new
         errors.old errors.new places request.entry result) }
     ensures unwritten { IfErr result (λ stop. stop_of stop ≢ tool Write → out.new ≡ out.old) }
     ensures shows { Shows watch.entry.is_terminal errors.old errors.new request.entry result }
@@ -48,27 +50,27 @@ pub fn answer<'a, I: Inputs, C: Clock, O: Write + Drop, E: Write + Drop>(
             let files = MapFiles::read(inputs, target_path, overlay_path)?;
             Ok(map_bytes(alloc, &files.target, &files.overlay, out, errors)?)
         }
+        Request::OfLayers {
+            layers_path,
+            request,
+        } => answer_of_layers(alloc, inputs, layers_path, request, out),
         Request::OfDevice {
             layers_path,
             device_path,
+            names,
             request,
         } => {
-            let paths = Paths {
-                layers: layers_path,
-                devices: device_path,
-            };
-            answer_of_device(alloc, inputs, paths, request, out)
+            let paths = Paths::new(layers_path, device_path);
+            answer_of_device(alloc, inputs, paths, names, request, out)
         }
         Request::OfBox {
             layers_path,
             box_path,
+            names,
             request,
         } => {
-            let paths = Paths {
-                layers: layers_path,
-                devices: box_path,
-            };
-            answer_of_box(alloc, inputs, watch, paths, request, out, errors)
+            let paths = Paths::new(layers_path, box_path);
+            answer_of_box(alloc, inputs, watch, paths, names, request, out, errors)
         }
     }
 }
@@ -80,29 +82,94 @@ struct Paths<'a> {
     devices: &'a str,
 }
 
+impl<'a> Paths<'a> {
+    fn new(layers: &'a str, devices: &'a str) -> Paths<'a>
+        ensures layers { result.layers.now ≡ layers.entry.now }
+        ensures devices { result.devices.now ≡ devices.entry.now }
+    {
+        Paths { layers, devices }
+    }
+}
+
+fn answer_of_layers<'a, I: Inputs, O: Write + Drop>(
+    alloc: Global,
+    inputs: &I,
+    layers_path: &'a str,
+    request: LayersRequest<'a>,
+    out: &mut O,
+) -> Result<Status, Stop<'a>>
+    ensures answers { IfSome (I.places inputs.now) (λ places. AnswersOfLayers O.contents out.old out.new places
+        layers_path.entry.now request.entry result) }
+    ensures unwritten { IfErr result (λ stop. stop_of stop ≢ tool Write → out.new ≡ out.old) }
+{
+    match request {
+        LayersRequest::Survey { box_path } => {
+            let files = SurveyFiles::read(alloc, inputs, layers_path, box_path)?;
+            survey(alloc, &files, out)
+        }
+        LayersRequest::Show {
+            certificate_path,
+            pictured,
+        } => {
+            let files = ShowFiles::read(alloc, inputs, layers_path, certificate_path)?;
+            show(alloc, &files, pictured, out)
+        }
+    }
+}
+
+fn survey<O: Write + Drop>(
+    alloc: Global,
+    files: &SurveyFiles,
+    out: &mut O,
+) -> Result<Status, Stop<'static>>
+    ensures answers { Surveys O.contents out.old out.new (Ok (survey_held files.now)) result }
+    ensures unwritten { IfErr result (λ stop. stop_of stop ≢ tool Write → out.new ≡ out.old) }
+{
+    let layers = files.layers.layers(alloc)?;
+    Ok(survey_bytes(alloc, &layers, files.box_json.as_deref(), out)?)
+}
+
+fn show<O: Write + Drop>(
+    alloc: Global,
+    files: &ShowFiles,
+    pictured: Option<u32>,
+    out: &mut O,
+) -> Result<Status, Stop<'static>>
+    ensures answers { ShowsTrees O.contents out.old out.new pictured (Ok (show_held files.now)) result }
+    ensures unwritten { IfErr result (λ stop. stop_of stop ≢ tool Write → out.new ≡ out.old) }
+{
+    let layers = files.layers.layers(alloc)?;
+    let certificate = &files.certificate;
+    match pictured {
+        None => Ok(show_bytes(alloc, &layers, certificate, out)?),
+        Some(goal) => Ok(show_dot_bytes(alloc, &layers, certificate, goal as usize, out)?),
+    }
+}
+
 fn answer_of_device<'a, I: Inputs, O: Write + Drop>(
     alloc: Global,
     inputs: &I,
     paths: Paths<'a>,
+    names: bool,
     request: DeviceRequest<'a>,
     out: &mut O,
 ) -> Result<Status, Stop<'a>>
     ensures answers { IfSome (I.places inputs.now) (λ places. AnswersOfDevice O.contents out.old out.new places
-        paths.entry.layers.now paths.entry.devices.now request.entry result) }
+        paths.entry.layers.now paths.entry.devices.now names request.entry result) }
     ensures unwritten { IfErr result (λ stop. stop_of stop ≢ tool Write → out.new ≡ out.old) }
 {
     match request {
         DeviceRequest::Query { words } => {
             let files = AskedFiles::read(alloc, inputs, paths.layers, paths.devices, &words)?;
-            query(alloc, &files, out)
+            query(alloc, &files, names, out)
         }
         DeviceRequest::Explain { resource } => {
             let files = DeviceFiles::read(alloc, inputs, paths.layers, paths.devices)?;
-            explain(alloc, &files, resource, out)
+            explain(alloc, &files, names, resource, out)
         }
         DeviceRequest::Bag { resource } => {
             let files = DeviceFiles::read(alloc, inputs, paths.layers, paths.devices)?;
-            bag(alloc, &files, resource, out)
+            bag(alloc, &files, names, resource, out)
         }
         DeviceRequest::Attr {
             attr,
@@ -110,7 +177,7 @@ fn answer_of_device<'a, I: Inputs, O: Write + Drop>(
             force,
         } => {
             let files = AskedFiles::read(alloc, inputs, paths.layers, paths.devices, &styles)?;
-            attribute(alloc, &files, attr, force, out)
+            attribute(alloc, &files, names, attr, force, out)
         }
     }
 }
@@ -118,57 +185,61 @@ fn answer_of_device<'a, I: Inputs, O: Write + Drop>(
 fn query<O: Write + Drop>(
     alloc: Global,
     files: &AskedFiles,
+    names: bool,
     out: &mut O,
 ) -> Result<Status, Stop<'static>>
-    ensures answers { Queries O.contents out.old out.new (Ok (asked_held files.now)) result }
+    ensures answers { Queries O.contents out.old out.new names (Ok (asked_held files.now)) result }
     ensures unwritten { IfErr result (λ stop. stop_of stop ≢ tool Write → out.new ≡ out.old) }
 {
     let layers = files.files.layers.layers(alloc)?;
     let asked = AskedIds::read(alloc, &layers, &files.files.devices, &files.words)?;
-    Ok(asked.query(out)?)
+    Ok(asked.query(names, out)?)
 }
 
 fn explain<O: Write + Drop>(
     alloc: Global,
     files: &DeviceFiles,
+    names: bool,
     resource: Named<'_>,
     out: &mut O,
 ) -> Result<Status, Stop<'static>>
-    ensures answers { Explains O.contents out.old out.new (named_of resource.entry) (Ok (devices_held files.now)) result }
+    ensures answers { Explains O.contents out.old out.new names (named_of resource.entry) (Ok (devices_held files.now)) result }
     ensures unwritten { IfErr result (λ stop. stop_of stop ≢ tool Write → out.new ≡ out.old) }
 {
     let layers = files.layers.layers(alloc)?;
     let asked = AskedId::read(alloc, &layers, &files.devices, resource)?;
-    Ok(asked.explain(out)?)
+    Ok(asked.explain(names, out)?)
 }
 
 fn bag<O: Write + Drop>(
     alloc: Global,
     files: &DeviceFiles,
+    names: bool,
     resource: Named<'_>,
     out: &mut O,
 ) -> Result<Status, Stop<'static>>
-    ensures answers { PrintsBag O.contents out.old out.new (named_of resource.entry) (Ok (devices_held files.now)) result }
+    ensures answers { PrintsBag O.contents out.old out.new names (named_of resource.entry) (Ok (devices_held files.now)) result }
     ensures unwritten { IfErr result (λ stop. stop_of stop ≢ tool Write → out.new ≡ out.old) }
 {
     let layers = files.layers.layers(alloc)?;
     let asked = AskedId::read(alloc, &layers, &files.devices, resource)?;
-    Ok(asked.bag(alloc, out)?)
+    Ok(asked.bag(alloc, names, out)?)
 }
 
 fn attribute<O: Write + Drop>(
     alloc: Global,
     files: &AskedFiles,
+    names: bool,
     attr: Named<'_>,
     force: bool,
     out: &mut O,
 ) -> Result<Status, Stop<'static>>
-    ensures answers { PrintsAttr O.contents out.old out.new (named_of attr.entry) force (Ok (asked_held files.now)) result }
+    ensures answers { PrintsAttr O.contents out.old out.new names (named_of attr.entry) force (Ok (asked_held files.now)) result }
     ensures unwritten { IfErr result (λ stop. stop_of stop ≢ tool Write → out.new ≡ out.old) }
 {
     let layers = files.files.layers.layers(alloc)?;
     let asked = AskedAttr::read(alloc, &layers, &files.files.devices, attr, &files.words)?;
-    Ok(asked.attr(alloc, force, out)?)
+    Ok(asked.attr(alloc, force, names, out)?)
 }
 
 fn answer_of_box<'a, I: Inputs, C: Clock, O: Write + Drop, E: Write + Drop>(
@@ -176,19 +247,29 @@ fn answer_of_box<'a, I: Inputs, C: Clock, O: Write + Drop, E: Write + Drop>(
     inputs: &I,
     watch: Watch<'_, C>,
     paths: Paths<'a>,
+    names: bool,
     request: BoxRequest<'a>,
     out: &mut O,
     errors: &mut E,
 ) -> Result<Status, Stop<'a>>
-    ensures answers { IfSome (I.places inputs.now) (λ places. AnswersOfBox O.contents out.old out.new places
-        paths.entry.layers.now paths.entry.devices.now request.entry result) }
+    ensures answers { IfSome (I.places inputs.now) (λ places. AnswersOfBox watch.entry.is_terminal O.contents E.contents out.old out.new
+        errors.old errors.new places paths.entry.layers.now paths.entry.devices.now names request.entry result) }
     ensures unwritten { IfErr result (λ stop. stop_of stop ≢ tool Write → out.new ≡ out.old) }
-    ensures quiet { watch.entry.is_terminal ≡ false → errors.new ≡ errors.old }
+    ensures quiet { watch.entry.is_terminal ≡ false → says_beside names request.entry ≡ false → errors.new ≡ errors.old }
+    ensures unsaid { watch.entry.is_terminal ≡ false → IfErr result (λ stop. stop_of stop ≢ tool Write → errors.new ≡ errors.old) }
 {
     match request {
-        BoxRequest::Make { max_nodes, goals } => {
+        BoxRequest::Make {
+            max_nodes,
+            omit,
+            goals,
+        } => {
+            if omit {
+                let files = AskedFiles::read(alloc, inputs, paths.layers, paths.devices, &goals)?;
+                return make_omitting(alloc, &files, max_nodes, watch, out, errors);
+            }
             let files = AskedFiles::read(alloc, inputs, paths.layers, paths.devices, &goals)?;
-            make(alloc, &files, max_nodes, watch, out, errors)
+            make(alloc, &files, names, max_nodes, watch, out, errors)
         }
         BoxRequest::Check {
             certificate_path,
@@ -203,7 +284,7 @@ fn answer_of_box<'a, I: Inputs, C: Clock, O: Write + Drop, E: Write + Drop>(
                 certificate_path,
                 &goals,
             )?;
-            check(alloc, &files, out)
+            check(alloc, &files, names, out, errors)
         }
     }
 }
@@ -211,32 +292,55 @@ fn answer_of_box<'a, I: Inputs, C: Clock, O: Write + Drop, E: Write + Drop>(
 fn make<C: Clock, O: Write + Drop, E: Write + Drop>(
     alloc: Global,
     files: &AskedFiles,
+    names: bool,
     max_nodes: u32,
     watch: Watch<'_, C>,
     out: &mut O,
     errors: &mut E,
 ) -> Result<Status, Stop<'static>>
-    ensures answers { Makes O.contents out.old out.new max_nodes (Ok (asked_held files.now)) result }
+    ensures answers { Makes watch.entry.is_terminal O.contents E.contents out.old out.new errors.old errors.new names max_nodes (Ok (asked_held files.now)) result }
     ensures unwritten { IfErr result (λ stop. stop_of stop ≢ tool Write → out.new ≡ out.old) }
-    ensures quiet { watch.entry.is_terminal ≡ false → errors.new ≡ errors.old }
+    ensures quiet { watch.entry.is_terminal ≡ false → names ≡ false → errors.new ≡ errors.old }
+    ensures unsaid { watch.entry.is_terminal ≡ false → IfErr result (λ stop. stop_of stop ≢ tool Write → errors.new ≡ errors.old) }
 {
     let layers = files.files.layers.layers(alloc)?;
     let asked = AskedMake::read(alloc, &layers, &files.files.devices, &files.words)?;
-    Ok(asked.make(alloc, max_nodes, watch, out, errors)?)
+    Ok(asked.make(alloc, names, max_nodes, watch, out, errors)?)
 }
 
-fn check<O: Write + Drop>(
+fn make_omitting<C: Clock, O: Write + Drop, E: Write + Drop>(
+    alloc: Global,
+    files: &AskedFiles,
+    max_nodes: u32,
+    watch: Watch<'_, C>,
+    out: &mut O,
+    errors: &mut E,
+) -> Result<Status, Stop<'static>>
+    ensures answers { MakesOmitting watch.entry.is_terminal O.contents E.contents out.old out.new errors.old errors.new max_nodes (Ok (asked_held files.now)) result }
+    ensures unwritten { IfErr result (λ stop. stop_of stop ≢ tool Write → out.new ≡ out.old) }
+    ensures unsaid { watch.entry.is_terminal ≡ false → IfErr result (λ stop. stop_of stop ≢ tool Write → errors.new ≡ errors.old) }
+{
+    let layers = files.files.layers.layers(alloc)?;
+    let asked = AskedMake::read(alloc, &layers, &files.files.devices, &files.words)?;
+    Ok(asked.make_omitting(alloc, max_nodes, watch, out, errors)?)
+}
+
+fn check<O: Write + Drop, E: Write + Drop>(
     alloc: Global,
     files: &CheckFiles,
+    names: bool,
     out: &mut O,
+    errors: &mut E,
 ) -> Result<Status, Stop<'static>>
-    ensures answers { Checks O.contents out.old out.new (Ok (check_held files.now)) result }
+    ensures answers { Checks O.contents E.contents out.old out.new errors.old errors.new names (Ok (check_held files.now)) result }
     ensures unwritten { IfErr result (λ stop. stop_of stop ≢ tool Write → out.new ≡ out.old) }
+    ensures quiet { names ≡ false → errors.new ≡ errors.old }
+    ensures unsaid { IfErr result (λ stop. stop_of stop ≢ tool Write → errors.new ≡ errors.old) }
 {
     let asked_files = &files.asked;
     let layers = asked_files.files.layers.layers(alloc)?;
     let box_json = &asked_files.files.devices;
     let words = &asked_files.words;
     let asked = AskedCheck::read(alloc, &layers, box_json, &files.certificate, words)?;
-    Ok(asked.check(alloc, out)?)
+    Ok(asked.check(alloc, names, out, errors)?)
 }

@@ -1,16 +1,19 @@
 //! What a request asks for, once the inputs are opened and the names are looked up.
 
 ghost use Rattle.std.specs.Prelude.{◌≡◌, false, map, string_bytes, Ok};
-ghost use Rattle.program_run.specs.command_base.Output.{Prints, PrintsOneOf};
+ghost use Rattle.program_run.specs.command_base.Output.{Prints};
 ghost use Rattle.program_run.specs.command_base.StackBytesSeen.{layer_bytes};
 ghost use Rattle.program_run.specs.Stop.{GivesOrStops};
 ghost use Rattle.program_run.specs.command_words.name_words.Named.{named_of};
-ghost use Rattle.resource_tool.specs.CheckOutput.{IsCheckOutput};
-ghost use Rattle.resource_tool.specs.MakeOutput.{IsMakeOutput};
+ghost use Rattle.resource_tool.specs.Answered.{PrintsBothOneOf};
+ghost use Rattle.resource_tool.specs.CheckOutput.{IsCheckAnswer};
+ghost use Rattle.resource_tool.specs.MakeOutput.{IsMakeOutput, IsMakeAnswer};
+ghost use Rattle.resource_tool.specs.OmitOutput.{IsOmitOutput};
 ghost use Rattle.resource_tool.specs.device_commands.AttrOutput.{attr_answer};
 ghost use Rattle.resource_tool.specs.device_commands.BagOutput.{bag_answer};
 ghost use Rattle.resource_tool.specs.device_commands.ExplainOutput.{explain_answer};
 ghost use Rattle.resource_tool.specs.device_commands.QueryOutput.{query_answer};
+ghost use Rattle.restool.specs.Answers.{LeavesOut, PrintsTold};
 ghost use Rattle.restool.specs.Asked.{id_asked, ids_asked, attr_asked, make_asked, check_asked};
 ghost use Rattle.restool.specs.AskedSeen.{id_seen, ids_seen, attr_seen, make_seen, check_seen};
 
@@ -19,10 +22,10 @@ use program_run::{
     ids_named,
 };
 use resource_tool::{
-    Goal, LayerParts, Opened, OpenedBox, OpenedCert, Status, ToolFault, Unwatched,
+    Goal, LayerParts, Opened, OpenedBox, OpenedCert, Status, ToolFault, Unwatched, write_goal_told,
 };
 use std::alloc::Global;
-use std::io::{Write, sink};
+use std::io::Write;
 use std::time::Clock;
 
 /// A resource, of a device.
@@ -47,16 +50,21 @@ impl<'a> AskedId<'a> {
         Ok(AskedId { opened, id })
     }
 
-    pub fn explain<W: Write + Drop>(&self, out: &mut W) -> Result<Status, ToolFault>
-        ensures { Prints W.contents out.old out.new result (Ok (explain_answer (id_seen self.now).opened (id_seen self.now).id.0 false)) }
+    pub fn explain<W: Write + Drop>(&self, names: bool, out: &mut W) -> Result<Status, ToolFault>
+        ensures { Prints W.contents out.old out.new result (Ok (explain_answer (id_seen self.now).opened (id_seen self.now).id.0 names)) }
     {
-        Ok(self.opened.explain(self.id, false, out)?)
+        Ok(self.opened.explain(self.id, names, out)?)
     }
 
-    pub fn bag<W: Write + Drop>(&self, alloc: Global, out: &mut W) -> Result<Status, ToolFault>
-        ensures { Prints W.contents out.old out.new result (Ok (bag_answer (id_seen self.now).opened (id_seen self.now).id.0 false)) }
+    pub fn bag<W: Write + Drop>(
+        &self,
+        alloc: Global,
+        names: bool,
+        out: &mut W,
+    ) -> Result<Status, ToolFault>
+        ensures { Prints W.contents out.old out.new result (Ok (bag_answer (id_seen self.now).opened (id_seen self.now).id.0 names)) }
     {
-        self.opened.bag(alloc, self.id, false, out)
+        self.opened.bag(alloc, self.id, names, out)
     }
 }
 
@@ -83,10 +91,10 @@ impl<'a> AskedIds<'a> {
         Ok(AskedIds { opened, ids })
     }
 
-    pub fn query<W: Write + Drop>(&self, out: &mut W) -> Result<Status, ToolFault>
-        ensures { Prints W.contents out.old out.new result (Ok (query_answer (ids_seen self.now).opened (ids_seen self.now).ids false)) }
+    pub fn query<W: Write + Drop>(&self, names: bool, out: &mut W) -> Result<Status, ToolFault>
+        ensures { Prints W.contents out.old out.new result (Ok (query_answer (ids_seen self.now).opened (ids_seen self.now).ids names)) }
     {
-        Ok(self.opened.query(&self.ids, false, out)?)
+        Ok(self.opened.query(&self.ids, names, out)?)
     }
 }
 
@@ -124,13 +132,14 @@ impl<'a> AskedAttr<'a> {
         &self,
         alloc: Global,
         force: bool,
+        names: bool,
         out: &mut W,
     ) -> Result<Status, ToolFault>
         ensures { Prints W.contents out.old out.new result
-            (Ok (attr_answer (attr_seen self.now).opened (attr_seen self.now).attr.0 (attr_seen self.now).styles force false)) }
+            (Ok (attr_answer (attr_seen self.now).opened (attr_seen self.now).attr.0 (attr_seen self.now).styles force names)) }
     {
         self.opened
-            .attr(alloc, self.attr, &self.styles, force, false, out)
+            .attr(alloc, self.attr, &self.styles, force, names, out)
     }
 }
 
@@ -161,25 +170,52 @@ impl<'a> AskedMake<'a> {
     pub fn make<C: Clock, W: Write + Drop, E: Write + Drop>(
         &self,
         alloc: Global,
+        names: bool,
         max_nodes: u32,
         watch: Watch<'_, C>,
         out: &mut W,
         errors: &mut E,
     ) -> Result<Status, ToolFault>
-        ensures prints { PrintsOneOf (IsMakeOutput (make_seen self.now).goals max_nodes) W.contents out.old out.new result
-            (Ok (make_seen self.now).inputs) }
-        ensures quiet { watch.entry.is_terminal ≡ false → errors.new ≡ errors.old }
+        ensures told { PrintsTold watch.entry.is_terminal (IsMakeOutput (make_seen self.now).goals max_nodes) (IsMakeAnswer (make_seen self.now).goals max_nodes names)
+            W.contents E.contents out.old out.new errors.old errors.new result (Ok (make_seen self.now).inputs) }
+        ensures quiet { watch.entry.is_terminal ≡ false → names ≡ false → errors.new ≡ errors.old }
     {
         let opened = &self.opened;
+        let goals = &self.goals;
         if !watch.is_terminal {
-            let answered =
-                opened.make_telling(alloc, &self.goals, max_nodes, &mut Unwatched, out)?;
-            return Ok(answered.status);
+            return opened.make(alloc, goals, max_nodes, names, &mut Unwatched, out, errors);
         }
         let mut line = ProgressLine::new(errors, watch.clock);
-        let answered = opened.make_telling(alloc, &self.goals, max_nodes, &mut line, out);
+        let answered = opened.make_telling(alloc, goals, max_nodes, &mut line, out);
         line.clear();
-        Ok(answered?.status)
+        let answered = answered?;
+        write_goal_told(&opened.stack, goals, names, answered.about, errors)?;
+        Ok(answered.status)
+    }
+
+    /// The same, where goals without a value are left out.
+    pub fn make_omitting<C: Clock, W: Write + Drop, E: Write + Drop>(
+        &self,
+        alloc: Global,
+        max_nodes: u32,
+        watch: Watch<'_, C>,
+        out: &mut W,
+        errors: &mut E,
+    ) -> Result<Status, ToolFault>
+        ensures { PrintsTold watch.entry.is_terminal (LeavesOut (make_seen self.now).goals max_nodes) (IsOmitOutput (make_seen self.now).goals max_nodes)
+            W.contents E.contents out.old out.new errors.old errors.new result (Ok (make_seen self.now).inputs) }
+    {
+        let opened = &self.opened;
+        let goals = self.goals.as_slice();
+        if !watch.is_terminal {
+            let omitting = opened.make_omitting(alloc, goals, max_nodes, &mut Unwatched)?;
+            return opened.print_omitting(alloc, goals, &omitting, out, errors);
+        }
+        let mut line = ProgressLine::new(errors, watch.clock);
+        let omitting = opened.make_omitting(alloc, goals, max_nodes, &mut line);
+        line.clear();
+        let omitting = omitting?;
+        opened.print_omitting(alloc, goals, &omitting, out, errors)
     }
 }
 
@@ -207,11 +243,17 @@ impl<'a> AskedCheck<'a> {
         Ok(AskedCheck { opened, goals })
     }
 
-    pub fn check<W: Write + Drop>(&self, alloc: Global, out: &mut W) -> Result<Status, ToolFault>
-        ensures { PrintsOneOf (IsCheckOutput (check_seen self.now).goals) W.contents out.old out.new result
-            (Ok (check_seen self.now).inputs) }
+    pub fn check<W: Write + Drop, E: Write + Drop>(
+        &self,
+        alloc: Global,
+        names: bool,
+        out: &mut W,
+        errors: &mut E,
+    ) -> Result<Status, ToolFault>
+        ensures told { PrintsBothOneOf (IsCheckAnswer (check_seen self.now).goals names) W.contents E.contents
+            out.old out.new errors.old errors.new result (Ok (check_seen self.now).inputs) }
+        ensures quiet { names ≡ false → errors.new ≡ errors.old }
     {
-        self.opened
-            .check(alloc, &self.goals, false, out, &mut sink())
+        self.opened.check(alloc, &self.goals, names, out, errors)
     }
 }

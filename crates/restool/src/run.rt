@@ -59,7 +59,7 @@ fn carry_out<'a, I: Inputs, C: Clock, O: Write + Drop, E: Write + Drop>(
     errors: &mut E,
 ) -> (Result<Status, Stop<'a>>, O)
     requires { writer_buffer out ≡ [] }
-    ensures answers { IfSome (I.places inputs.now) (λ places. Answers O.contents E.contents (writer_inner out) result.1
+    ensures answers { IfSome (I.places inputs.now) (λ places. Answers watch.entry.is_terminal O.contents E.contents (writer_inner out) result.1
         errors.old errors.new places request.entry result.0) }
     ensures unwritten { IfErr result.0 (λ stop. stop_of stop ≢ tool Write → result.1 ≡ writer_inner out) }
     ensures shows { Shows watch.entry.is_terminal errors.old errors.new request.entry result.0 }

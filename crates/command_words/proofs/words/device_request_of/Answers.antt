@@ -1,17 +1,16 @@
-use Rattle.std.proofs.Common.{◌≡◌, ◌≢◌, ℕ, Bool, true, false, not, List, [], ◌∷◌, Some, None, Ok, codes, MatchBool, refl}
+use Rattle.std.proofs.Common.{◌≡◌, ℕ, Bool, true, false, not, List, [], ◌∷◌, Some, None, Ok, codes, refl}
 use Rattle.clap.specs.Matches.{found_of}
-use Rattle.clap.specs.Walk.{Row, one_of, rows_of}
+use Rattle.clap.specs.Walk.{Row, rows_of}
 use Rattle.json_input.specs.Each.{each}
 use Rattle.name_words.specs.Named.{NamedOf, named_of}
 use Rattle.command_words.specs.ResourceWords.{named_word, set_word, texts_of}
-use Rattle.command_words.specs.Request.{IsForced, words_asked, word_at, words_at}
+use Rattle.command_words.specs.Request.{IsGiven, words_asked, word_at, words_at}
 use Rattle.command_words.specs.declared.command.DeviceCommand.TheVariants.{Query, Explain, Bag, Attr}
 use Rattle.command_words.proofs.words.device_request_of.Goals as goal
 
-forced : (rows : List Row) (is_kept : Bool) → MatchBool is_kept (one_of (codes "keep") rows ≡ Some (codes "true")) (one_of (codes "keep") rows ≢ Some (codes "true"))
-    → IsForced rows (not is_kept)
-forced rows true given = given
-forced rows false given = given
+kept : (rows : List Row) (is_kept : Bool) → IsGiven (codes "keep") rows is_kept → IsGiven (codes "keep") rows (not (not is_kept))
+kept rows true given = given
+kept rows false given = given
 
 query_asked : (rows : List Row) (words : List (List ℕ)) → each set_word (words_at (codes "ID") rows) ≡ Ok words
     → words_asked Query rows ≡ Ok (record { one = None; words = words })
@@ -53,5 +52,5 @@ returns-in_ok-given_sets-in-Attr c =
     rw c.in-Attr.is (
       record { one = Some one; words = words },
       attr_asked _ one words c.in_ok-given_named-in-Attr.ensures c.in_ok-given_sets-in-Attr.ensures,
-      (refl, forced (rows_of (found_of c.args.given.now)) c.given_flag.result c.given_flag.ensures),
+      (refl, kept (rows_of (found_of c.args.given.now)) c.given_flag.result c.given_flag.ensures),
     )

@@ -4,18 +4,18 @@ use Rattle.restool.proofs.run.carry_out.Goals as goal
 pub returns-clause-answers : goal.returns-clause-answers
 returns-clause-answers g c =
     let written = c.written_out.ensures in
-    answers-behind g.O.Write.contents g.E.Write.contents c.args.out c.answer-answered.new.out c.written_out.result.1 c.args.errors.now c.answer-answered.new.errors c.answer-answered.result c.written_out.result.0
+    answers-behind c.args.watch.is_terminal g.O.Write.contents g.E.Write.contents c.args.out c.answer-answered.new.out c.written_out.result.1 c.args.errors.now c.answer-answered.new.errors c.answer-answered.result c.written_out.result.0
     written.status written.stop written.write written.unwritten
     (g.I.Inputs.places c.args.inputs.now) c.args.request c.requires c.answer-answered.ensures.answers written.whole
 
 pub returns-clause-unwritten : goal.returns-clause-unwritten
 returns-clause-unwritten g c =
     let written = c.written_out.ensures in
-    unwritten-behind g.O.Write.contents g.E.Write.contents c.args.out c.answer-answered.new.out c.written_out.result.1 c.args.errors.now c.answer-answered.new.errors c.answer-answered.result c.written_out.result.0
+    unwritten-behind c.args.watch.is_terminal g.O.Write.contents g.E.Write.contents c.args.out c.answer-answered.new.out c.written_out.result.1 c.args.errors.now c.answer-answered.new.errors c.answer-answered.result c.written_out.result.0
     written.status written.stop written.write written.unwritten c.answer-answered.ensures.unwritten
 
 pub returns-clause-shows : goal.returns-clause-shows
 returns-clause-shows g c =
     let written = c.written_out.ensures in
-    shows-behind g.O.Write.contents g.E.Write.contents c.args.out c.answer-answered.new.out c.written_out.result.1 c.args.errors.now c.answer-answered.new.errors c.answer-answered.result c.written_out.result.0
-    written.status written.stop written.write written.unwritten c.args.watch.is_terminal c.args.request c.answer-answered.ensures.shows
+    shows-behind c.args.watch.is_terminal g.O.Write.contents g.E.Write.contents c.args.out c.answer-answered.new.out c.written_out.result.1 c.args.errors.now c.answer-answered.new.errors c.answer-answered.result c.written_out.result.0
+    written.status written.stop written.write written.unwritten c.args.request c.answer-answered.ensures.shows
