@@ -5,7 +5,7 @@
 
 PROGRAM is restool. In each case some bytes of the tables are changed: flags of types and entries, kinds of chunks and
 values, bytes of configurations. Some tables are written as newer tools do, with 16-bit offsets and compact entries. A table
-that restool refuses is surveyed alone. What `examples/newer_format.py` finds is found by `survey` too. The cases are
+that restool refuses is surveyed alone. What `newer_format.py` finds is found by `survey` too. The cases are
 numbered from FIRST on, which is 0 if it is not given. The last line counts the surveys, those with a warning and those of
 tables that are refused."""
 import json
@@ -23,7 +23,7 @@ from made_layers import chunk, record_bytes, type_spec
 from plain_survey import NO_ENTRY, SHORT, survey_of, survey_of_refused
 from random_cases import Case
 
-NEWER = os.path.join(os.path.dirname(os.path.abspath(__file__)), "..", "examples", "newer_format.py")
+NEWER = os.path.join(os.path.dirname(os.path.abspath(__file__)), "newer_format.py")
 LOCALES = ("de", "de-DE", "en", "en-US", "en-GB", "fil", "fil-PH", "tl", "zh", "zh-TW", "sr", "sr-ME", "es-419", "es-MX", "yue", "yue-CN")
 
 

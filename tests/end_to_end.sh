@@ -338,30 +338,12 @@ else
 fi
 ends "make to a closed output" 5 '"$0" make layers box 0x7f010000 >&-'
 
-# The step of a build that the guide shows. Each of these folders has other names.
-if command -v python3 >/dev/null; then
-    for folder in spaced nameless strange; do cp -r "$here/examples/release" $folder; done
-    awk '{ print "\n" $0 "\n" }' "$here/examples/release/goals.txt" >spaced/goals.txt
-    line nameless/goals.txt ''
-    line strange/goals.txt 'dimen/spout'
-    line absent-table "[{\"table\":\"$work/absent\"}]"
-    line wrong-table "[{\"table\":\"$work/cut\"}]"
-    layers=examples/release/layers.json
-    cd "$here" || exit 1
-    ends "the certificate of examples/release" 0 "export RESTOOL=\"\$0\"
-        sh examples/release/make.sh $layers | cmp - examples/release/certificate.json"
-    ends "blank lines between names" 0 "RESTOOL=\"\$0\" sh '$work/spaced/check.sh' $layers"
-    ends "no names" 1 "RESTOOL=\"\$0\" sh '$work/nameless/check.sh' $layers"
-    ends "a name that the table has not" 1 "RESTOOL=\"\$0\" sh '$work/strange/check.sh' $layers"
-    for script in check make; do
-        ends "$script of an absent table" 5 "RESTOOL=\"\$0\" sh examples/release/$script.sh '$work/absent-table'"
-        ends "$script of a table that is rejected" 3 "RESTOOL=\"\$0\" sh examples/release/$script.sh '$work/wrong-table'"
-        ends "$script of no layers" 1 "RESTOOL=\"\$0\" sh examples/release/$script.sh '$work/no-layers'"
-    done
-    cd "$work" || exit 1
-else
-    echo "not run, since python3 is missing: the step of a build"
-fi
+# What the guide keeps of an app: the certificate, its text, and the warnings of a survey.
+release='examples/release/layers.json examples/release/phones.json @examples/release/goals.txt'
+ends "the certificate of examples/release" 0 "cd '$here' && \"\$0\" make $release | cmp - examples/release/certificate.json"
+ends "its text" 0 "cd '$here' && \"\$0\" show ${release%% *} examples/release/certificate.json | cmp - examples/release/certificate.txt"
+ends "the warnings that it keeps" 0 "cd '$here' && \"\$0\" survey ${release%% @*} | grep ^warning | cmp - examples/release/warnings.txt"
+ends "the map of a second overlay" 0 "cd '$here/examples' && \"\$0\" map teapot/resources.arsc copper/resources.arsc | cmp - copper/map.json"
 
 if command -v python3 >/dev/null; then
     ends "worked certificates that are made" 0 "python3 '$here/tests/worked_made.py' \"\$0\""
@@ -380,9 +362,6 @@ shows() {
         /^```/ { name = "" } name { print >(name ".lines") }' "$2/$1"
     for shown in shown/*.lines; do
         command=$(cat "${shown%.lines}.command")
-        case $command in
-        python3* | 'sh examples/release'*) command -v python3 >/dev/null || { echo "not run, since python3 is missing: $command"; continue; } ;;
-        esac
         (cd "$2" && sh -c "$command") >printed 2>&1
         ends "$1's output of '$command' in $2" 0 "awk -f '$here/tests/shown.awk' '$shown' printed >&2"
     done
@@ -390,17 +369,17 @@ shows() {
 shows README.md "$here"
 shows docs/GUIDE.md "$here"
 
-# The guide's search for newer features. Each of these bytes of the example gives it one: the flags of its first type, its
-# grammatical gender, the flags of its first entry.
+# A survey of newer features, beside a plain search for them. Each of these bytes of the example gives it one: the flags of
+# its first type, its grammatical gender, the flags of its first entry.
 if command -v python3 >/dev/null; then
     for byte in '853 \002' '883 \001' '946 \010'; do
         cp "$teapot/resources.arsc" newer
         printf "${byte#* }" | dd of=newer bs=1 seek="${byte% *}" conv=notrunc 2>/dev/null
-        ends "newer features are found at ${byte% *}" 1 "python3 '$here/examples/newer_format.py' newer"
+        ends "newer features are found at ${byte% *}" 1 "python3 '$here/tests/newer_format.py' newer"
         line newer-layers '[{"table":"newer"}]'
         ends "a survey warns of them at ${byte% *}" 1 '"$0" survey newer-layers'
     done
-    ends "what is no table has no newer features" 2 "python3 '$here/examples/newer_format.py' '$here/examples/porcelain/map.json'"
+    ends "what is no table has no newer features" 2 "python3 '$here/tests/newer_format.py' '$here/examples/porcelain/map.json'"
 else
     echo "not run, since python3 is missing: a search for newer features"
 fi
