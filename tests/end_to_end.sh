@@ -294,7 +294,7 @@ check "a certificate without goals" 0 none.out $none show layers none.json
 line no-goal.out 'no goal 0'
 check "a picture of a goal that is not there" 1 no-goal.out $none show --dot 0 layers none.json
 check "an absent certificate" 5 $none absent.err show layers absent
-line wrong.json '{"goals":[],"version":2}'
+line wrong.json '{"goals":[],"version":3}'
 ends "a wrong certificate" 3 '"$0" show layers wrong.json'
 
 # ---- make
