@@ -104,7 +104,7 @@ def faults_of_reads(refuser, run):
 def faults_of_writes(refuser, run):
     """A failed write of the answer is status 5, and nothing is said of it; one of a message changes no status. No write
     follows it."""
-    status = 5 if run.ended.out else run.ended.status
+    status = 5 if run.is_answer else run.ended.status
     for name, place, ended, writes in refuser.each_with_calls(run, "write"):
         is_begun = run.ended.out.startswith(ended.out) and run.ended.err.startswith(ended.err)
         is_whole = (ended.out, ended.err) == (run.ended.out, run.ended.err)

@@ -11,12 +11,14 @@ Ended = namedtuple("Ended", "status out err")
 
 
 class Run:
-    """The words, the files that are read for them in their order, and how the program ends."""
+    """The words, the files that are read for them in their order, and how the program ends; whether that is an answer,
+    which it is wherever something is written to standard output."""
 
-    def __init__(self, name, words, files=(), status=0, out="", err="", folder=HERE, given=os.devnull):
+    def __init__(self, name, words, files=(), status=0, out="", err="", folder=HERE, given=os.devnull, answers=False):
         self.name, self.words, self.files = name, words, list(files)
         self.ended = Ended(status, out.encode(), err.encode())
         self.folder, self.given = folder, given
+        self.is_answer = answers or out != ""
 
     def has(self, path):
         """Whether this is a file that is there, or the standard input."""
@@ -178,7 +180,7 @@ def box_runs():
     omitted = COUNTER.replace("counter goal 0", "omitted goal 0 0x7f050009")
     omit = ["make", "--omit", LAYERS, PHONES, "0x7f050009"]
     yield Run("make --omit", [*omit, *GOALS], of_box, out=MADE, err=omitted)
-    yield Run("no goal is left", omit, of_box, 1, err=omitted)
+    yield Run("no goal is left", omit, of_box, 1, err=omitted, answers=True)
     yield Run("make --names", ["make", "--names", *omit[2:]], of_box, 1, COUNTER, "goal 0 0x7f050009\n")
     yield Run("node limit", ["make", "--max-nodes", "1", LAYERS, PHONES, GOALS[0]], of_box, 1, "node limit\n")
 
