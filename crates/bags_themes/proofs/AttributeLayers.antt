@@ -24,7 +24,7 @@ use Rattle.bags_themes.specs.declared.slot.AttributeStep.TheVariants.{Follows, R
 use Rattle.bags_themes.specs.declared.theme_value.ThemeValue.{ThemeValue}
 use Rattle.bags_themes.specs.Merge.{merge}
 use Rattle.bags_themes.specs.Bag.{FoundBagOf, rows_in, bag_in_cell, bag_in, most_parents, parent_of, chain_of, merged, bag_of}
-use Rattle.bags_themes.specs.Theme.{AttributeValues, unset, is_undefined_value, values_for, values_after}
+use Rattle.bags_themes.specs.Theme.{AttributeValues, unset, is_undefined_value, values_after}
 use Rattle.bags_themes.specs.Attribute.{attributes_followed, references_after_slot, step_of, slot_of}
 use Rattle.bags_themes.specs.AttributeTrace.{slot_trace, style_end, style_by, styles_trace, attribute_trace}
 use Rattle.contract_words.specs.Faults.{◌>>=◌}

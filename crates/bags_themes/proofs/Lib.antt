@@ -3,6 +3,7 @@ pub mod BagIdSteps
 pub mod ThemeSteps
 pub mod StyleSteps
 pub mod CourseSteps
+pub mod ContentCourses
 pub mod Courses
 pub mod AttributeEnds
 pub mod KeySteps

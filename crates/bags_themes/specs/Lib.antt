@@ -7,6 +7,7 @@ pub mod Styles
 pub mod Attribute
 pub mod AttributeTrace
 pub mod AttributeEnd
+pub mod ContentTrace
 pub mod Course
 pub use Rattle.reference_resolver.specs as reference_resolver
 pub use Rattle.reference_resolver.specs.config_record

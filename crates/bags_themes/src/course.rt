@@ -1,4 +1,5 @@
-//! The look-ups on the way to the end of an id, or of an attribute under styles, one after the other.
+//! The look-ups on the way to the end of an id, or of an attribute under styles, or to what an id says, one after the
+//! other.
 
 ghost use Rattle.std.specs.Prelude.{IfOk};
 ghost use Rattle.std.specs.Option.{option_map};
@@ -8,6 +9,7 @@ ghost use Rattle.bags_themes.specs.Theme.{unset};
 ghost use Rattle.bags_themes.specs.AttributeEnd.{IsTheEndUnder};
 ghost use Rattle.bags_themes.specs.Course.{after_reference, IsWay};
 
+use crate::content_course::{after_content, after_parent};
 use crate::style_course::{StyleCourse, next_style};
 use crate::theme::Theme;
 use reference_resolver::{Cand, Device, End, Next, REFERENCES_FOLLOWED, ResId, Stack, select};
@@ -21,6 +23,10 @@ pub enum Course<'a, 's> {
     References { left: u8 },
     /// A bag of a style was looked up.
     Style(Rc<StyleCourse<'a, 's>>),
+    /// So many references may still be followed. Where they end at a bag, its parents are looked up.
+    Content { left: u8 },
+    /// The parents of this bag are looked up. So many more bags may be found.
+    Parents { bag: ResId, left: u8 },
     /// This end, whatever is selected.
     Ended(End),
 }
@@ -41,6 +47,7 @@ impl<'a, 's> Course<'a, 's> {
     ghost use Rattle.reference_resolver.specs.Ends.{references_followed};
     ghost use Rattle.reference_resolver.specs.Trace.{trace_of};
     ghost use Rattle.bags_themes.specs.AttributeTrace.{attribute_trace};
+    ghost use Rattle.bags_themes.specs.ContentTrace.{content_trace};
     ghost use Rattle.bags_themes.specs.Course.{after_course, look_ups_after, look_ups_of_styles, IsWay, SameCourse};
 
     /// The first look-up of an id, of which at most twenty references are followed.
@@ -67,6 +74,15 @@ impl<'a, 's> Course<'a, 's> {
         next_style(alloc, Theme::new(alloc), styles, attr)
     }
 
+    /// The first look-up of what an id says: of the id and its references, of which at most twenty are followed, and of
+    /// the parents of a bag.
+    pub fn of_content(id: ResId) -> CourseStep<'a, 's>
+        ensures { IsWay (λ stack. content_trace stack id.0) 86 result }
+    {
+        let left = REFERENCES_FOLLOWED;
+        CourseStep::LookUp(id, Course::Content { left })
+    }
+
     /// The same course. What it has found is not copied.
     pub fn shared(&self) -> Result<Course<'a, 's>, AllocError>
         ensures { IfOk result (λ course. SameCourse course self.now) }
@@ -74,6 +90,11 @@ impl<'a, 's> Course<'a, 's> {
         match self {
             Course::References { left } => Ok(Course::References { left: *left }),
             Course::Style(course) => Ok(Course::Style(course.clone()?)),
+            Course::Content { left } => Ok(Course::Content { left: *left }),
+            Course::Parents { bag, left } => Ok(Course::Parents {
+                bag: *bag,
+                left: *left,
+            }),
             Course::Ended(end) => Ok(Course::Ended(*end)),
         }
     }
@@ -91,6 +112,8 @@ impl<'a, 's> Course<'a, 's> {
         match self {
             Course::References { left } => Ok(after_reference(id, best, *left)),
             Course::Style(course) => course.as_ref().after(alloc, best),
+            Course::Content { left } => Ok(after_content(id, best, *left)),
+            Course::Parents { bag, left } => Ok(after_parent(*bag, best, *left)),
             Course::Ended(end) => Ok(CourseStep::EndsAt(*end)),
         }
     }

@@ -4,8 +4,8 @@
 //! it came from, or why there are none. A `Theme` is a finite map from attributes to values; `apply` sets
 //! what the rows of a style set, or leaves the theme unchanged, and `attribute` gives where an attribute ends.
 //! `attribute_under` gives the one end of an attribute under styles. A `Course` says what comes after each look-up on
-//! the way of an id, or of an attribute under styles: these look-ups, with what their candidates do, and the end are
-//! its trace.
+//! the way of an id, of an attribute under styles, or of what an id says: these look-ups, with what their candidates do,
+//! and the end are its trace.
 //!
 //! ```text
 //! let rows = bag(alloc, &stack, id, &device)?;
@@ -26,6 +26,7 @@ mod bag_ids;
 mod bag_row;
 mod bag_rows;
 mod bags;
+mod content_course;
 mod course;
 mod found_bag;
 mod merging;

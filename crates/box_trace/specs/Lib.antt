@@ -7,6 +7,7 @@ pub mod CommonStep
 pub mod OpenCondition
 pub mod OpenBox
 pub use Rattle.bags_themes.specs as bags_themes
+pub use Rattle.config_box.specs as config_box
 pub use Rattle.reference_resolver.specs as reference_resolver
 pub use Rattle.reference_resolver.specs.config_match
 pub use Rattle.reference_resolver.specs.config_precedence

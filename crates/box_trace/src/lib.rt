@@ -1,7 +1,7 @@
-//! The trace of an id, or of an attribute under styles, for all members of a box at once: what each candidate of the
-//! look-ups does, and where they end. The candidates are gone through in turn, and each question about one is asked of
-//! all members: does it match, and does it take over from the best before it? No member is tried by itself. What
-//! comes after a look-up is the same for all, and is asked of its course (`bags_themes`).
+//! The trace of an id, of an attribute under styles, or of what an id says, for all members of a box at once: what each
+//! candidate of the look-ups does, and where they end. The candidates are gone through in turn, and each question about
+//! one is asked of all members: does it match, and does it take over from the best before it? No member is tried by
+//! itself. What comes after a look-up is the same for all, and is asked of its course (`bags_themes`).
 //!
 //! For the crates above: `OpenBox::common_trace` gives the end of the one trace that all members have, or where they
 //! part: the first question that members answer differently, and two of them side by side with different traces. A part
@@ -28,7 +28,8 @@ mod weight;
 
 pub use bags_themes::{attribute_under, resolve};
 pub use common::CommonTrace;
+pub use config_box::{ConfigBox, MemberPair, OutOfMemory, Values};
 pub use live::Live;
 pub use open_box::OpenBox;
 pub use parting::{Asked, Parting};
-pub use reference_resolver::{Cand, Coord, Device, End, Locale, MOST_LAYERS, Stack};
+pub use reference_resolver::{Cand, Coord, Device, End, Locale, MOST_LAYERS, ResId, Stack};

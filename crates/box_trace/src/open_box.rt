@@ -30,6 +30,7 @@ impl<'a, 's> OpenBox<'a, 's> {
     ghost use Rattle.reference_resolver.specs.Ends.{references_followed};
     ghost use Rattle.reference_resolver.specs.Trace.{Trace, trace_of};
     ghost use Rattle.bags_themes.specs.AttributeTrace.{attribute_trace};
+    ghost use Rattle.bags_themes.specs.ContentTrace.{content_trace};
     ghost use Rattle.bags_themes.specs.Course.{trace_from};
     ghost use Rattle.box_trace.specs.OpenBox.{IsReached};
     ghost use Rattle.box_trace.specs.CommonTrace.{IsCommonTrace};
@@ -61,6 +62,19 @@ impl<'a, 's> OpenBox<'a, 's> {
     {
         let first = Course::of_attribute(alloc, attr, styles)?;
         OpenBox::from_step(alloc, stack, first, members)
+    }
+
+    /// The same of what an id says, for which the parents of a bag are looked up too.
+    pub fn whole_of_content(
+        alloc: Global,
+        stack: &Stack<'a>,
+        id: ResId,
+        members: ConfigBox,
+    ) -> Result<OpenBox<'a, 's>, OutOfMemory>
+        ensures members { IfOk result (λ part. part.members ≡ members) }
+        ensures reached { IfOk result (IsReached stack.now (content_trace stack.now id.0)) }
+    {
+        OpenBox::from_step(alloc, stack, Course::of_content(id), members)
     }
 
     // The same, where this is what comes first.
