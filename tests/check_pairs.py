@@ -18,21 +18,22 @@ SHOWN = 600
 
 
 def names_and_others(layers):
-    """What each name stands for, and the ids of rows for which no name does."""
+    """What each name of a package stands for, and the ids of rows for which no name does."""
     names, ids = {}, set()
     for table, is_overlay in layers:
         for row in [] if is_overlay else table.rows:
             ids.add(row.id)
             if None not in row.names:
-                names.setdefault(row.names, row.id)
+                names.setdefault((row.id >> 24, *row.names), row.id)
     return names, ids - set(names.values())
 
 
 def label_text(label):
     if isinstance(label, int):
         return f"Id(ResId({label}))"
-    type_name, entry_name = (json.dumps(text, ensure_ascii=False) for text in label)
-    return f"Name {{ type_name: {type_name}, entry_name: {entry_name} }}"
+    package, *names = label
+    type_name, entry_name = (json.dumps(text, ensure_ascii=False) for text in names)
+    return f"Name {{ package: {package}, type_name: {type_name}, entry_name: {entry_name} }}"
 
 
 def sides_text(old, new):
@@ -44,10 +45,10 @@ def sides_text(old, new):
 
 
 def plain_pairs(old, new):
-    """The lines of the pairs: names by type and entry, byte by byte, and ids behind them."""
+    """The lines of the pairs: names by package, then by type and entry, byte by byte, and ids behind them."""
     (old_names, old_others), (new_names, new_others) = names_and_others(old), names_and_others(new)
-    in_bytes = lambda names: [text.encode() for text in names]
-    for names in sorted(old_names.keys() | new_names.keys(), key=in_bytes):
+    in_order = lambda name: (name[0], [text.encode() for text in name[1:]])
+    for names in sorted(old_names.keys() | new_names.keys(), key=in_order):
         yield f"{label_text(names)} {sides_text(old_names.get(names), new_names.get(names))}"
     for id in sorted(old_others | new_others):
         yield f"{label_text(id)} {sides_text(id if id in old_others else None, id if id in new_others else None)}"

@@ -119,7 +119,7 @@ def table_rows():
     five = "Plain(Value { kind: 16, word: 5 })"
     yield row("table_calls", ["Table::open", "A"], f"{FIRST} {five}")
     yield row("table_calls", ["find_names", "B", "k"], f"[Some({FIRST}), None]")
-    by_name = 'Name { type_name: "s", entry_name: "k" }'
+    by_name = 'Name { package: 127, type_name: "s", entry_name: "k" }'
     by_id = f"Id({FIRST}) Removed {{ old: {FIRST} }}"
     yield row("table_calls", ["name_pairs", "A", "B"], f"{by_name} Added {{ new: {FIRST} }}\n{by_id}")
     yield row("table_calls", ["name_pairs", "B", "B"], f"{by_name} Both {{ old: {FIRST}, new: {FIRST} }}")

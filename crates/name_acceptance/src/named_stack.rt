@@ -12,12 +12,27 @@ const TYPE_NAME: usize = 362;
 
 const ENTRY_NAME: usize = 398;
 
+/// Where it has the number of its first type less one, and twice that of its type.
+const TYPE_OFFSET: usize = 324;
+
+const TYPES: [usize; 2] = [408, 428];
+
 /// A table whose one resource has the type s and this entry.
 pub(crate) fn table_of(alloc: Global, package: u8, entry: u8) -> Result<Vec<u8>, AllocError> {
     let mut bytes = table_b(alloc)?;
     put(&mut bytes, PACKAGE, &[package]);
     put(&mut bytes, TYPE_NAME, b"s");
     put(&mut bytes, ENTRY_NAME, &[entry]);
+    Ok(bytes)
+}
+
+/// The same, where its type is the second one.
+pub(crate) fn moved_table_of(alloc: Global, package: u8, entry: u8) -> Result<Vec<u8>, AllocError> {
+    let mut bytes = table_of(alloc, package, entry)?;
+    put(&mut bytes, TYPE_OFFSET, &[1]);
+    for place in TYPES {
+        put(&mut bytes, place, &[2]);
+    }
     Ok(bytes)
 }
 

@@ -1,6 +1,6 @@
 //! The labels of two stacks side by side.
 
-use crate::named_stack::table_of;
+use crate::named_stack::{moved_table_of, table_of};
 use name_pairs::{Label, NamePair, Sides, name_pairs};
 use overlay_map::Stack;
 use res_value::ResId;
@@ -9,10 +9,12 @@ use std::test::Fail;
 use test_layers::table_a;
 use test_stacks::{SAME, push_base, push_overlay};
 
-/// The ids of the one resource of a table, by its package.
+/// The ids of the one resource of a table.
 const APP: ResId = ResId(0x7f01_0000);
 
-const SYSTEM: ResId = ResId(0x0101_0000);
+const MOVED: ResId = ResId(0x7f02_0000);
+
+const FRAMEWORK: ResId = ResId(0x0101_0000);
 
 const LIBRARY: ResId = ResId(0x0201_0000);
 
@@ -24,12 +26,14 @@ const SAME_ID: Sides = Sides::Both { old: APP, new: APP };
 enum Layer {
     /// s/k of the app.
     App,
+    /// s/k of the app, with another id.
+    Moved,
     /// s/o of the app.
     Other,
     /// s/o, over the app.
     Overlay,
-    /// s/m of the system.
-    System,
+    /// s/k of the framework.
+    Framework,
     /// s/k of a library.
     Library,
     /// A resource of the app whose names cannot be read.
@@ -39,8 +43,9 @@ enum Layer {
 #[derive(Drop)]
 struct Tables {
     app: Vec<u8>,
+    moved: Vec<u8>,
     other: Vec<u8>,
-    system: Vec<u8>,
+    framework: Vec<u8>,
     library: Vec<u8>,
     unnamed: Vec<u8>,
 }
@@ -49,8 +54,9 @@ impl Tables {
     fn new(alloc: Global) -> Result<Tables, AllocError> {
         Ok(Tables {
             app: table_of(alloc, 0x7f, b'k')?,
+            moved: moved_table_of(alloc, 0x7f, b'k')?,
             other: table_of(alloc, 0x7f, b'o')?,
-            system: table_of(alloc, 0x01, b'm')?,
+            framework: table_of(alloc, 0x01, b'k')?,
             library: table_of(alloc, 0x02, b'k')?,
             unnamed: table_a(alloc)?,
         })
@@ -59,8 +65,9 @@ impl Tables {
     fn bytes(&self, layer: Layer) -> &[u8] {
         match layer {
             Layer::App => &self.app,
+            Layer::Moved => &self.moved,
             Layer::Other | Layer::Overlay => &self.other,
-            Layer::System => &self.system,
+            Layer::Framework => &self.framework,
             Layer::Library => &self.library,
             Layer::Unnamed => &self.unnamed,
         }
@@ -81,9 +88,22 @@ fn stack_of<'a>(alloc: Global, tables: &'a Tables, layers: &[Layer]) -> Option<S
 /// What a pair has to be.
 #[derive(Clone, Copy)]
 struct Want {
-    /// Of the type s; empty where no name stands for the id.
-    entry_name: &'static str,
+    /// Its package and the name of its entry, of the type s; none where it is an id.
+    name: Option<(u8, &'static str)>,
     sides: Sides,
+}
+
+impl Want {
+    fn name(package: u8, entry_name: &'static str, sides: Sides) -> Want {
+        Want {
+            name: Some((package, entry_name)),
+            sides,
+        }
+    }
+
+    fn id(sides: Sides) -> Want {
+        Want { name: None, sides }
+    }
 }
 
 fn is_on(id: ResId, sides: Sides) -> bool {
@@ -95,12 +115,17 @@ fn is_on(id: ResId, sides: Sides) -> bool {
 }
 
 fn is_wanted(pair: &NamePair<'_>, want: &Want) -> bool {
-    let is_called = match &pair.label {
-        Label::Name {
-            type_name,
-            entry_name,
-        } => type_name.as_str() == "s" && entry_name.as_str() == want.entry_name,
-        Label::Id(id) => want.entry_name.is_empty() && is_on(*id, want.sides),
+    let is_called = match (&pair.label, want.name) {
+        (
+            Label::Name {
+                package,
+                type_name,
+                entry_name,
+            },
+            Some((in_package, name)),
+        ) => *package == in_package && type_name.as_str() == "s" && entry_name.as_str() == name,
+        (Label::Id(id), None) => is_on(*id, want.sides),
+        _ => false,
     };
     is_called && pair.sides == want.sides
 }
@@ -128,24 +153,13 @@ fn are_pairs(
 #[test]
 fn tells_names_by_the_stacks_that_have_them(rt: HostRuntime) -> Result<(), Fail> {
     let tables = Tables::new(rt.alloc())?;
-    let old = [Layer::System, Layer::App];
+    let old = [Layer::Framework, Layer::App];
     let new = [Layer::Other, Layer::Library];
     let want = [
-        Want {
-            entry_name: "k",
-            sides: Sides::Both {
-                old: APP,
-                new: LIBRARY,
-            },
-        },
-        Want {
-            entry_name: "m",
-            sides: Sides::Removed { old: SYSTEM },
-        },
-        Want {
-            entry_name: "o",
-            sides: Sides::Added { new: APP },
-        },
+        Want::name(0x01, "k", Sides::Removed { old: FRAMEWORK }),
+        Want::name(0x02, "k", Sides::Added { new: LIBRARY }),
+        Want::name(0x7f, "k", Sides::Removed { old: APP }),
+        Want::name(0x7f, "o", Sides::Added { new: APP }),
     ];
     assert!(rt; are_pairs(rt.alloc(), &tables, &old, &new, &want)?);
     assert!(rt; are_pairs(rt.alloc(), &tables, &[], &[], &[])?);
@@ -153,19 +167,34 @@ fn tells_names_by_the_stacks_that_have_them(rt: HostRuntime) -> Result<(), Fail>
 }
 
 #[test]
+fn takes_names_of_packages_apart(rt: HostRuntime) -> Result<(), Fail> {
+    let tables = Tables::new(rt.alloc())?;
+    let old = [Layer::Framework, Layer::App];
+    let new = [Layer::Moved, Layer::Framework];
+    let in_framework = Sides::Both {
+        old: FRAMEWORK,
+        new: FRAMEWORK,
+    };
+    let in_app = Sides::Both {
+        old: APP,
+        new: MOVED,
+    };
+    let want = [
+        Want::name(0x01, "k", in_framework),
+        Want::name(0x7f, "k", in_app),
+    ];
+    assert!(rt; are_pairs(rt.alloc(), &tables, &old, &new, &want)?);
+    Ok(())
+}
+
+#[test]
 fn takes_the_first_id_of_a_name(rt: HostRuntime) -> Result<(), Fail> {
     let tables = Tables::new(rt.alloc())?;
-    let both = [Layer::App, Layer::Library];
+    let both = [Layer::App, Layer::Moved];
     let twice = [Layer::App, Layer::App];
     let want = [
-        Want {
-            entry_name: "k",
-            sides: SAME_ID,
-        },
-        Want {
-            entry_name: "",
-            sides: Sides::Removed { old: LIBRARY },
-        },
+        Want::name(0x7f, "k", SAME_ID),
+        Want::id(Sides::Removed { old: MOVED }),
     ];
     assert!(rt; are_pairs(rt.alloc(), &tables, &both, &twice, &want)?);
     assert!(rt; are_pairs(rt.alloc(), &tables, &twice, &twice, &want[..1])?);
@@ -176,14 +205,8 @@ fn takes_the_first_id_of_a_name(rt: HostRuntime) -> Result<(), Fail> {
 fn tells_what_has_no_name_by_its_id(rt: HostRuntime) -> Result<(), Fail> {
     let tables = Tables::new(rt.alloc())?;
     let want = [
-        Want {
-            entry_name: "k",
-            sides: Sides::Added { new: APP },
-        },
-        Want {
-            entry_name: "",
-            sides: Sides::Removed { old: APP },
-        },
+        Want::name(0x7f, "k", Sides::Added { new: APP }),
+        Want::id(Sides::Removed { old: APP }),
     ];
     assert!(rt; are_pairs(rt.alloc(), &tables, &[Layer::Unnamed], &[Layer::App], &want)?);
     Ok(())
@@ -193,10 +216,7 @@ fn tells_what_has_no_name_by_its_id(rt: HostRuntime) -> Result<(), Fail> {
 fn takes_no_names_from_overlays(rt: HostRuntime) -> Result<(), Fail> {
     let tables = Tables::new(rt.alloc())?;
     let new = [Layer::App, Layer::Overlay];
-    let want = [Want {
-        entry_name: "k",
-        sides: SAME_ID,
-    }];
+    let want = [Want::name(0x7f, "k", SAME_ID)];
     assert!(rt; are_pairs(rt.alloc(), &tables, &[Layer::App], &new, &want)?);
     Ok(())
 }

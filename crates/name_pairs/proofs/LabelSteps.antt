@@ -5,11 +5,12 @@ use Rattle.std.specs.Cmp.{IsTotalOrder}
 use Rattle.std.specs.Ordering.{is_eq, ordering_reverse}
 use Rattle.std.specs.declared.cmp.Ordering.{Ordering}
 use Rattle.std.specs.declared.cmp.Ordering.TheVariants.{Less, Equal, Greater}
-use Rattle.name_index.specs.Names.{NameOf}
-use Rattle.name_pairs.specs.Label.{LabelOf, ByName, ById, label_cmp}
+use Rattle.name_pairs.specs.Label.{FullNameOf, LabelOf, ByName, ById, name_cmp, label_cmp}
 
-names_total : IsTotalOrder (λ a b. label_cmp (ByName a) (ByName b))
-names_total = then_total (on_total (λ (name : NameOf). name.type_name) nat_list_cmp_total) (on_total (λ (name : NameOf). name.entry_name) nat_list_cmp_total)
+names_total : IsTotalOrder name_cmp
+names_total =
+    then_total (on_total (λ (name : FullNameOf). name.package_id) nat_cmp_total)
+    (then_total (on_total (λ (name : FullNameOf). name.type_name) nat_list_cmp_total) (on_total (λ (name : FullNameOf). name.entry_name) nat_list_cmp_total))
 
 antisymm : (a b : LabelOf) → label_cmp a b ≡ ordering_reverse (label_cmp b a)
 antisymm (ByName a) (ByName b) = names_total.antisymm a b

@@ -1,5 +1,5 @@
 -- The labels of two stacks are side by side, and no resource is lost.
-use Rattle.std.proofs.Common.{◌≡◌, ℕ, ◌==◌, ◌||◌, ◌&&◌, not, Bool, true, false, cond, List, [], ◌∷◌, ◌++◌, map, Option, Some, None, refl, sym, ap, subst, ◌∙◌, arith}
+use Rattle.std.proofs.Common.{◌≡◌, ℕ, ◌==◌, ◌||◌, not, Bool, true, false, cond, List, [], ◌∷◌, ◌++◌, map, Option, Some, None, refl, sym, ap, subst, ◌∙◌, arith}
 use Rattle.std.proofs.lemmas.Bool.{eqb-true}
 use Rattle.std.proofs.lemmas.Bool.Decides.{nat_tests}
 use Rattle.std.proofs.lemmas.Cmp.{alike_right, tied_itself}
@@ -13,15 +13,16 @@ use Rattle.std.specs.Option.{IsSome, is_some, option_map, option_or}
 use Rattle.std.specs.Ordering.{is_eq, match_ordering, nat_cmp, ordering_reverse}
 use Rattle.std.specs.declared.cmp.Ordering.{Ordering}
 use Rattle.std.specs.declared.cmp.Ordering.TheVariants.{Less, Equal, Greater}
-use Rattle.name_index.specs.IdsOfType.{ids_of_type}
+use Rattle.name_index.specs.IdsOfType.{id_of_number, ids_of_type}
 use Rattle.name_index.specs.NameText.{name_text}
 use Rattle.overlay_map.specs.Layer.{LayerOf, base_tables}
+use Rattle.overlay_map.specs.res_value.ResId.{package_of}
 use Rattle.overlay_map.specs.res_value.declared.res_id.ResId.{ResId}
 use Rattle.overlay_map.specs.resource_table.Names.{type_name_in, key_name_in}
 use Rattle.overlay_map.specs.resource_table.Table.{rows_of}
 use Rattle.overlay_map.specs.type_chunks.Row.{RowOf}
 use Rattle.name_pairs.specs.declared.pair.Sides.{Sides}
-use Rattle.name_pairs.specs.Label.{LabelOf, ByName, ById, label_cmp, is_same}
+use Rattle.name_pairs.specs.Label.{LabelOf, ById, label_cmp, is_same}
 use Rattle.name_pairs.specs.StackLabels.{Labelled, first_with, labels_of, labelled, is_id, stands_for, name_of_parts, name_of_row, named, named_rows, names_in, nameless, by_id}
 use Rattle.name_pairs.specs.Pairs.{PairOf, sides_of, paired, rising, pairs_of, name_pairs}
 use Rattle.name_pairs.specs.Laws.{AreSideBySide, EachHasLabel, id_of}
@@ -174,10 +175,10 @@ is-found : (id : ResId) (found : Option ResId) → is_id id found ≡ true → f
 is-found id None same = absurd cc
 is-found id (Some other) same = let one : ResId → Option ResId = λ x. Some x in ap one (same_id id other same)
 
-no_id_named : (row : RowOf) (type_name entry_name : Option (List ℕ)) (id : ResId) → first_with (named row (name_of_parts type_name entry_name)) (ById id) ≡ None
-no_id_named row (Some type_name) (Some entry_name) id = refl
-no_id_named row (Some type_name) None id = refl
-no_id_named row None entry_name id = refl
+no_id_named : (row : RowOf) (package_id : ℕ) (type_name entry_name : Option (List ℕ)) (id : ResId) → first_with (named row (name_of_parts package_id type_name entry_name)) (ById id) ≡ None
+no_id_named row package_id (Some type_name) (Some entry_name) id = refl
+no_id_named row package_id (Some type_name) None id = refl
+no_id_named row package_id None entry_name id = refl
 
 none-joined : {A : Type 0} (f : A → List Labelled) (label : LabelOf) → ((x : A) → first_with (f x) label ≡ None) → (xs : List A) → first_with (flat_map f xs) label ≡ None
 none-joined f label none [] = refl
@@ -189,7 +190,7 @@ unfolding names_in name_of_row
 none-named layers id =
     none-joined named_rows (ById id)
     (λ table. none-joined (λ row. named row (name_of_row table row)) (ById id)
-    (λ row. no_id_named row (name_text (type_name_in table row)) (name_text (key_name_in table row)) id) (rows_of table))
+    (λ row. no_id_named row (package_of (id_of_number row.id)) (name_text (type_name_in table row)) (name_text (key_name_in table row)) id) (rows_of table))
     (base_tables layers)
 
 is_eq-nat_cmp : (a b : ℕ) → is_eq (nat_cmp a b) ≡ (b == a)

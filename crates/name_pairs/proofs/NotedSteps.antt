@@ -1,17 +1,17 @@
 -- A map of labels, seen label by label.
-use Rattle.std.proofs.Common.{◌≡◌, ℕ, ◌==◌, ◌||◌, Bool, true, false, cond, eqb, ltb, List, [], ◌∷◌, ◌++◌, map, Option, Some, None, refl, sym, ap, subst, ◌∙◌, arith, append_assoc, get_or, option_and_then}
+use Rattle.std.proofs.Common.{◌≡◌, ◌||◌, Bool, true, false, cond, List, [], ◌∷◌, ◌++◌, map, Option, Some, None, refl, sym, ap, subst, ◌∙◌, get_or, option_and_then}
 use Rattle.std.proofs.Math.Path.{fun_ext}
 use Rattle.std.proofs.lemmas.Cmp.{eq_by_cmp_equiv, on_total}
 use Rattle.std.proofs.lemmas.List.{append-nil}
 use Rattle.std.proofs.lemmas.List.Elements.{All-head, All-tail}
 use Rattle.std.proofs.lemmas.Map.Views.{All-found}
-use Rattle.std.specs.BTreeMap.{BTreeMap, insert_entry, is_at, get, get_by, keys, values, IsOrdered}
+use Rattle.std.specs.BTreeMap.{BTreeMap, insert_entry, is_at, get, get_by, values, IsOrdered}
 use Rattle.std.specs.BTreeSet.{insert_key}
 use Rattle.std.specs.Cmp.{IsTotalOrder}
 use Rattle.std.specs.List.{All, filter_map, list_any}
 use Rattle.std.specs.Map.{keys_of, values_of, lookup}
 use Rattle.std.specs.Option.{option_map}
-use Rattle.std.specs.Ordering.{is_eq, match_ordering, nat_cmp, eq_by_cmp}
+use Rattle.std.specs.Ordering.{is_eq, match_ordering}
 use Rattle.std.specs.declared.borrow.CowStr.TheVariants.{Borrowed}
 use Rattle.std.specs.declared.cmp.Ordering.{Ordering}
 use Rattle.std.specs.declared.cmp.Ordering.TheVariants.{Less, Equal, Greater}
@@ -33,9 +33,9 @@ abbrev order : Label → Label → Ordering
 order = cmp-value.it
 
 same_order : (x y : Label) → order x y ≡ label_cmp (label_of x) (label_of y)
-same_order (Name a b) (Name c d) = refl
-same_order (Name a b) (Id d) = refl
-same_order (Id a) (Name c d) = refl
+same_order (Name p a b) (Name q c d) = refl
+same_order (Name p a b) (Id d) = refl
+same_order (Id a) (Name q c d) = refl
 same_order (Id a) (Id d) = refl
 
 order_total : IsTotalOrder order
@@ -45,7 +45,7 @@ order_total =
 
 -- a label of the code for a label
 at_label : LabelOf → Label
-at_label (ByName name) = Name (Borrowed (record { ref_ptr = (0, 0); now = name.type_name })) (Borrowed (record { ref_ptr = (0, 0); now = name.entry_name }))
+at_label (ByName name) = Name name.package_id (Borrowed (record { ref_ptr = (0, 0); now = name.type_name })) (Borrowed (record { ref_ptr = (0, 0); now = name.entry_name }))
 at_label (ById id) = Id id
 
 label_of-at : (label : LabelOf) → label_of (at_label label) ≡ label

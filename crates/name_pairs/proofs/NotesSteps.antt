@@ -16,7 +16,7 @@ use Rattle.name_pairs.specs.declared.pair.Sides.TheVariants.{Removed, Added, Bot
 use Rattle.name_pairs.specs.Label.{LabelOf, label_cmp, is_same}
 use Rattle.name_pairs.specs.StackLabels.{Labelled, first_with, labelled, labels_of}
 use Rattle.name_pairs.specs.Pairs.{PairOf, sides_of, paired, rising, name_pairs}
-use Rattle.name_pairs.specs.Noted.{Notes, labels_in, sides_at, with_id, with_found}
+use Rattle.name_pairs.specs.Noted.{Notes, labels_in, sides_at, with_found}
 
 pub first-append : (a b : List Labelled) (label : LabelOf) → first_with (a ++ b) label ≡ option_or (first_with a label) (first_with b label)
 first-append [] b label = refl

@@ -5,6 +5,7 @@ use Rattle.std.specs.Option.{option_map, option_map_or}
 use Rattle.name_index.specs.IdsOfType.{id_of_number, ids_of_type}
 use Rattle.name_index.specs.NameText.{name_text}
 use Rattle.overlay_map.specs.Layer.{LayerOf, base_tables}
+use Rattle.overlay_map.specs.res_value.ResId.{package_of}
 use Rattle.overlay_map.specs.res_value.declared.res_id.ResId.{ResId}
 use Rattle.overlay_map.specs.resource_table.Names.{type_name_in, key_name_in}
 use Rattle.overlay_map.specs.resource_table.Table.{TableOf, rows_of}
@@ -25,14 +26,14 @@ first_with all label = option_map (λ one. one.id) (find (λ one. is_same label 
 
 -- ---- names
 
--- the name of these two parts, where both are text
-abbrev pub name_of_parts : Option (List ℕ) → Option (List ℕ) → Option LabelOf
-name_of_parts (Some type_name) (Some entry_name) = Some (ByName (record { type_name = type_name; entry_name = entry_name }))
-name_of_parts (Some type_name) None = None
-name_of_parts None entry_name = None
+-- the name of these two parts in a package, where both are text
+abbrev pub name_of_parts : ℕ → Option (List ℕ) → Option (List ℕ) → Option LabelOf
+name_of_parts package_id (Some type_name) (Some entry_name) = Some (ByName (record { package_id = package_id; type_name = type_name; entry_name = entry_name }))
+name_of_parts package_id (Some type_name) None = None
+name_of_parts package_id None entry_name = None
 
 unfoldable pub name_of_row : TableOf → RowOf → Option LabelOf
-name_of_row table row = name_of_parts (name_text (type_name_in table row)) (name_text (key_name_in table row))
+name_of_row table row = name_of_parts (package_of (id_of_number row.id)) (name_text (type_name_in table row)) (name_text (key_name_in table row))
 
 -- a row's id with its name, where it has one
 abbrev pub named : RowOf → Option LabelOf → List Labelled

@@ -99,6 +99,7 @@ fn name_of_row<'a>(
         return Ok(None);
     };
     Ok(Some(Label::Name {
+        package: row.id.package(),
         type_name,
         entry_name,
     }))

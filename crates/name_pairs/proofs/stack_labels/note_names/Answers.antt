@@ -1,4 +1,4 @@
-use Rattle.name_pairs.proofs.NotesSteps.{NotesAllBut-none, NotesAllBut-next_at, NotesAllBut-end_at}
+use Rattle.name_pairs.proofs.NotesSteps.{NotesAllBut-next_at, NotesAllBut-end_at}
 use Rattle.name_pairs.proofs.stack_labels.note_names.Goals as goal
 
 pub loop-table-preserved : goal.loop-table-preserved
