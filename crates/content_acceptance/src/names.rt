@@ -8,55 +8,67 @@ use std::test::Fail;
 use test_layers::{LayerFault, device_of, layer_of_lines, put, table_b};
 use test_stacks::push_base;
 
-/// Where table B has the id of its package, and the name of its entry.
+/// Where table B has the id of its package, the number of its first type less one, twice that of its type, and the name
+/// of its entry.
 const PACKAGE: usize = 48;
+
+const TYPE_OFFSET: usize = 324;
+
+const TYPES: [usize; 2] = [408, 428];
 
 const ENTRY_NAME: usize = 398;
 
 /// The resource of entry 1, which has no name.
 const STYLE: ResId = ResId(0x7f01_0001);
 
-// A table whose one resource has the names s and this.
-fn named(alloc: Global, package: u8, entry: u8) -> Result<Vec<u8>, AllocError> {
+/// Resources that have names.
+const FIRST_TYPE: ResId = ResId(0x7f01_0000);
+
+const SECOND_TYPE: ResId = ResId(0x7f02_0000);
+
+const FRAMEWORK: ResId = ResId(0x0101_0000);
+
+const LIBRARY: ResId = ResId(0x0201_0000);
+
+// A table whose one resource has this id, and the names s and this.
+fn table_named(alloc: Global, id: ResId, entry: u8) -> Result<Vec<u8>, AllocError> {
     let mut bytes = table_b(alloc)?;
-    put(&mut bytes, PACKAGE, &[package]);
+    put(&mut bytes, PACKAGE, &[id.package()]);
+    put(&mut bytes, TYPE_OFFSET, &[id.type_id().saturating_sub(1)]);
+    for place in TYPES {
+        put(&mut bytes, place, &[id.type_id()]);
+    }
     put(&mut bytes, ENTRY_NAME, &[entry]);
     Ok(bytes)
 }
 
-/// An app whose resources k and m have ids in these packages, and its rows.
-#[derive(Drop)]
-struct Tables {
-    k: Vec<u8>,
-    m: Vec<u8>,
-    rows: Vec<u8>,
+// A table for each resource with its name, and one of rows without names.
+fn tables_of(alloc: Global, named: &[(ResId, u8)], rows: &str) -> Result<Vec<Vec<u8>>, LayerFault> {
+    let mut tables = Vec::new(alloc);
+    for (id, entry) in named {
+        let table = table_named(alloc, *id, *entry)?;
+        tables.push(table)?;
+    }
+    let table = layer_of_lines(alloc, rows)?;
+    tables.push(table)?;
+    Ok(tables)
 }
 
-impl Tables {
-    fn of(alloc: Global, k: u8, m: u8, rows: &str) -> Result<Tables, LayerFault> {
-        Ok(Tables {
-            k: named(alloc, k, b'k')?,
-            m: named(alloc, m, b'm')?,
-            rows: layer_of_lines(alloc, rows)?,
-        })
+fn stack_of(alloc: Global, tables: &[Vec<u8>]) -> Option<Stack<'_>> {
+    let mut stack = Stack::new(alloc);
+    for table in tables {
+        push_base(alloc, &mut stack, table)?;
     }
-
-    fn stack(&self, alloc: Global) -> Option<Stack<'_>> {
-        let mut stack = Stack::new(alloc);
-        push_base(alloc, &mut stack, &self.k)?;
-        push_base(alloc, &mut stack, &self.m)?;
-        push_base(alloc, &mut stack, &self.rows)?;
-        Some(stack)
-    }
+    Some(stack)
 }
 
 /// A style that sets k to a reference to m, m to the attribute k, and what has no name; k has the smaller id in one, and
 /// m in the other.
 const SMALLER_K: &str =
-    "1 [] bag 0x00000000 0x01010000=@0x7f010000 0x7f010000=?0x01010000 0x7f010009=@0x7f010009";
+    "1 [] bag 0x00000000 0x7f010000=@0x7f020000 0x7f010009=@0x7f010009 0x7f020000=?0x7f010000";
 
 const SMALLER_M: &str =
-    "1 [] bag 0x00000000 0x01010000=?0x7f010000 0x7f010000=@0x01010000 0x7f010009=@0x7f010009";
+    "1 [] bag 0x00000000 0x7f010000=?0x7f020000 0x7f010009=@0x7f010009 0x7f020000=@0x7f010000";
 
 const LINES: &str = "\
 \"s\"/\"k\" @\"s\"/\"m\"
@@ -67,16 +79,53 @@ const LINES: &str = "\
 #[test]
 fn names_stand_for_ids_that_move(rt: HostRuntime) -> Result<(), Fail> {
     let alloc = rt.alloc();
-    let before = Tables::of(alloc, 0x01, 0x7f, SMALLER_K)?;
-    let after = Tables::of(alloc, 0x7f, 0x01, SMALLER_M)?;
-    let unmoved = Tables::of(alloc, 0x7f, 0x01, SMALLER_K)?;
-    let before = before.stack(alloc).ok_or("refused")?;
-    let after = after.stack(alloc).ok_or("refused")?;
-    let unmoved = unmoved.stack(alloc).ok_or("refused")?;
+    let k_first = [(FIRST_TYPE, b'k'), (SECOND_TYPE, b'm')];
+    let m_first = [(FIRST_TYPE, b'm'), (SECOND_TYPE, b'k')];
+    let before = tables_of(alloc, &k_first, SMALLER_K)?;
+    let after = tables_of(alloc, &m_first, SMALLER_M)?;
+    let unmoved = tables_of(alloc, &m_first, SMALLER_K)?;
+    let before = stack_of(alloc, &before).ok_or("refused")?;
+    let after = stack_of(alloc, &after).ok_or("refused")?;
+    let unmoved = stack_of(alloc, &unmoved).ok_or("refused")?;
     let device = device_of("").ok_or(LayerFault::Malformed)?;
     assert!(rt; says(alloc, &before, STYLE, "", LINES)?);
     assert!(rt; says(alloc, &after, STYLE, "", LINES)?);
     assert!(rt; say_the_same(alloc, &before, &after, STYLE, &device)?);
     assert!(rt; !say_the_same(alloc, &before, &unmoved, STYLE, &device)?);
+    Ok(())
+}
+
+/// The framework, a library and an app with the same name each.
+const EACH: [(ResId, u8); 3] = [(FRAMEWORK, b'k'), (LIBRARY, b'k'), (FIRST_TYPE, b'k')];
+
+const OF_EACH: &str =
+    "1 [] bag 0x00000000 0x01010000=@0x01010000 0x02010000=?0x02010000 0x7f010000=@0x7f010000";
+
+const LINES_OF_EACH: &str = "\
+\"s\"/\"k\" @\"s\"/\"k\"
+0x02:\"s\"/\"k\" ?0x02:\"s\"/\"k\"
+android:\"s\"/\"k\" @android:\"s\"/\"k\"
+";
+
+/// The attribute of each.
+const ATTRIBUTES: [(&str, &str); 3] = [
+    ("1 [] ?0x01010000", "?android:\"s\"/\"k\""),
+    ("1 [] ?0x02010000", "?0x02:\"s\"/\"k\""),
+    ("1 [] ?0x7f010000", "?\"s\"/\"k\""),
+];
+
+// Whether the style says this over the tables of each.
+fn says_over_each(alloc: Global, rows: &str, lines: &str) -> Result<bool, Fail> {
+    let tables = tables_of(alloc, &EACH, rows)?;
+    let stack = stack_of(alloc, &tables).ok_or("refused")?;
+    says(alloc, &stack, STYLE, "", lines)
+}
+
+#[test]
+fn packages_tell_names_apart(rt: HostRuntime) -> Result<(), Fail> {
+    assert!(rt; says_over_each(rt.alloc(), OF_EACH, LINES_OF_EACH)?);
+    for (rows, line) in ATTRIBUTES {
+        assert!(rt; says_over_each(rt.alloc(), rows, line)?);
+    }
     Ok(())
 }

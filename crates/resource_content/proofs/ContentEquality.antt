@@ -4,11 +4,10 @@ use Rattle.std.specs.Bool.{Decides}
 use Rattle.std.specs.Cmp.{unsigned_Decides}
 use Rattle.std.specs.Cmp.Lexicographic.{pointwise, pointwise_decides}
 use Rattle.resource_content.specs.contracts.content.ContentPartialEq.TheImpl.{eq-value}
-use Rattle.resource_content.specs.contracts.content.RowContentPartialEq.TheImpl.{eq-value as row_eq-value}
 use Rattle.resource_content.specs.declared.content.Content.{Content}
 use Rattle.resource_content.specs.declared.content.Content.TheVariants as contents
 use Rattle.resource_content.specs.declared.content.RowContent.{RowContent}
-use Rattle.resource_content.specs.Content.{RowContentOf, ContentOf, ValueOf, BagOf}
+use Rattle.resource_content.specs.Content.{RowContentOf, ValueOf, BagOf}
 use Rattle.resource_content.specs.ContentSeen.{row_content_of, content_of}
 
 abbrev same_bytes : List ℕ → List ℕ → Bool

@@ -1,5 +1,6 @@
 pub mod Content
 pub mod ContentSeen
+pub mod PackageText
 pub mod ValueContent
 pub mod ByName
 pub mod ContentAt

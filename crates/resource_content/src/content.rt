@@ -3,7 +3,7 @@
 /// What a resource says, apart from ids and indexes.
 #[derive(Debug, PartialEq, Eq, Drop)]
 pub enum Content {
-    /// A value as it is printed, but a string by its text and an id by its name.
+    /// A value as it is printed, but a string by its text and an id by its name, with the package.
     Value(Vec<u8>),
     /// The rows of a bag, those that it inherits among them.
     Bag(Vec<RowContent>),

@@ -6,8 +6,9 @@ ghost use Rattle.contract_words.specs.Writes.{Writes};
 ghost use Rattle.answer_text.specs.reference_resolver.string_pool.Pool.{pool_of};
 ghost use Rattle.answer_text.specs.type_chunks.Row.{row_of};
 ghost use Rattle.answer_text.specs.DumpText.{names_text};
-ghost use Rattle.resource_content.specs.ValueContent.{has_names, id_content, string_content, value_content};
+ghost use Rattle.resource_content.specs.ValueContent.{has_names, full_name_text, id_content, string_content, value_content};
 
+use crate::package::write_package;
 use answer_text::{
     Pool, ResId, Row, Stack, Table, Value, kind, strings_of_layer, write_id, write_string,
     write_value,
@@ -32,7 +33,7 @@ pub(crate) fn value_content(
     }
 }
 
-/// An id by its name, or as it is.
+/// An id by its package and its names, or as it is.
 pub(crate) fn id_content(alloc: Global, stack: &Stack<'_>, id: ResId) -> Result<Vec<u8>, AllocError>
     ensures { IfOk result (λ text. text.items ≡ id_content stack.now id.0) }
 {
@@ -86,7 +87,7 @@ fn write_id_content<W: Write + Drop>(stack: &Stack<'_>, id: ResId, out: &mut W) 
     ensures { Writes W.contents out.old out.new result (id_content stack.now id.0) }
 {
     match stack.base_row(id) {
-        Some(found) if has_names(found.table, &found.row) => write_names(
+        Some(found) if has_names(found.table, &found.row) => write_full_name(
             found.table,
             &found.row,
             out,
@@ -100,6 +101,14 @@ fn has_names(table: &Table<'_>, row: &Row<'_>) -> bool
     ensures { result ≡ has_names table.now (row_of row.now) }
 {
     table.type_name(row).is_ok() && table.key_name(row).is_ok()
+}
+
+#[tactic(auto, unfolding(crate::specs::ValueContent::full_name_text))]
+fn write_full_name<W: Write + Drop>(table: &Table<'_>, row: &Row<'_>, out: &mut W) -> io::Result<()>
+    ensures { Writes W.contents out.old out.new result (full_name_text table.now (row_of row.now)) }
+{
+    write_package(row.id.package(), out)?;
+    write_names(table, row, out)
 }
 
 #[tactic(auto, unfolding(answer_text::specs::DumpText::names_text))]
