@@ -1,12 +1,10 @@
 -- Devices with the same steps select the same, look-up by look-up.
-use Rattle.std.proofs.Common.{◌≡◌, ◌<◌, ℕ, zero, suc, ◌-◌, ◌==◌, Bool, true, false, List, [], ◌∷◌, ◌++◌, inl, inr, Some, None, refl, sym, ap, subst, ◌∙◌, append_assoc, arith}
-use Rattle.std.specs.Prelude.{Option, Result, Ok, Err, if◌then◌else◌}
+use Rattle.std.proofs.Common.{◌≡◌, ◌<◌, ℕ, zero, suc, ◌-◌, ◌==◌, true, false, List, [], ◌∷◌, ◌++◌, inl, inr, Some, None, refl, sym, ap, subst, ◌∙◌, append_assoc, arith}
+use Rattle.std.specs.Prelude.{Option, Result, Ok, Err}
 use Rattle.std.proofs.lemmas.Bool.{cases_Bool}
 use Rattle.contract_words.specs.Faults.{◌>>=◌}
 use Rattle.contract_words.specs.Sequences.{with_front}
 use Rattle.bags_themes.specs.reference_resolver.res_value.declared.res_id.ResId.{ResId}
-use Rattle.bags_themes.specs.reference_resolver.res_value.declared.value.Value.{Value as Word}
-use Rattle.bags_themes.specs.reference_resolver.res_value.Cell.{CellOf, PlainOf, BagOf}
 use Rattle.bags_themes.specs.overlay_map.Layer.{LayerOf}
 use Rattle.bags_themes.specs.overlay_map.Candidates.{CandOf, candidates_of}
 use Rattle.bags_themes.specs.reference_resolver.declared.step.Step.{Step}
@@ -15,17 +13,19 @@ use Rattle.bags_themes.specs.reference_resolver.declared.end.End.TheVariants as 
 use Rattle.bags_themes.specs.reference_resolver.declared.next.Next.{Next}
 use Rattle.bags_themes.specs.reference_resolver.declared.next.Next.TheVariants as nexts
 use Rattle.bags_themes.specs.reference_resolver.Selection.{selected, step_of, best_after, best_of, scan_candidates}
-use Rattle.bags_themes.specs.reference_resolver.Ends.{references_followed, is_reference, next_of, cut_off, next_within, end_of}
+use Rattle.bags_themes.specs.reference_resolver.Ends.{references_followed, next_of, cut_off, next_within, end_of}
 use Rattle.bags_themes.specs.reference_resolver.Trace.{Trace, scan_look_up, scan_chain, look_ups_of}
 use Rattle.bags_themes.specs.declared.bag_row.BagRow.{BagRow}
 use Rattle.bags_themes.specs.declared.bag_fault.BagFault.{BagFault}
 use Rattle.bags_themes.specs.Bag.{FoundBagOf, bag_in, parent_of, chain_of, most_parents, merged, bag_of}
 use Rattle.bags_themes.specs.BagIds.{most_bags, ids_after}
 use Rattle.bags_themes.specs.AttributeTrace.{steps_of_ids}
+use Rattle.bags_themes.specs.ContentTrace.{ids_behind, content_trace}
 use Rattle.bags_themes.proofs.ChainSteps.{chain_of-top, chain_of-deep, chain_of-next}
+use Rattle.bags_themes.proofs.ContentCourses.{bag_here, bag_before}
 use Rattle.reference_resolver.proofs.Chains.{ends_within, goes_on_within}
 use Rattle.resource_content.specs.ContentAt.{bag_content, end_content, content_at}
-use Rattle.resource_content.specs.ContentTrace.{ids_behind, content_trace, TraceTellsContent}
+use Rattle.resource_content.specs.TraceLaw.{TraceTellsContent}
 
 -- ---- one look-up
 
@@ -60,25 +60,6 @@ unfolding selected
 selected_told stack id d e xs ys same = best_told (candidates_of stack id) d e xs ys None same
 
 -- ---- references
-
--- where an id leads to a bag, it is its own
-bag_here : (id : ℕ) (best : Option CandOf) (bag : ResId) → next_of id best ≡ nexts.EndsAt (ends.Bag bag) → id ≡ bag.0
-bag_here id None bag leads = absurd cc
-bag_here id (Some candidate) bag leads = by_cell id candidate.layer candidate.row.cell bag leads
-  where
-    by_word : (id layer : ℕ) (value : Word) (b : Bool) (bag : ResId)
-        → (if b then nexts.LookUp (record { 0 = value.word }) else nexts.EndsAt (ends.Value layer value)) ≡ nexts.EndsAt (ends.Bag bag) → id ≡ bag.0
-    by_word id layer value true bag leads = absurd cc
-    by_word id layer value false bag leads = absurd cc
-
-    by_cell : (id layer : ℕ) (cell : CellOf) (bag : ResId) → next_of id (Some (record { layer = layer; overlay = candidate.overlay; row = record candidate.row { cell = cell } })) ≡ nexts.EndsAt (ends.Bag bag) → id ≡ bag.0
-    by_cell id layer (PlainOf value) bag leads = by_word id layer value (is_reference value) bag leads
-    by_cell id layer (BagOf parent rows) bag leads = let same : record { 0 = id } ≡ bag = cc in ap (λ (i : ResId). i.0) same
-
-bag_before : (left : ℕ) (next : Next) (bag : ResId) → cut_off left next ≡ nexts.EndsAt (ends.Bag bag) → next ≡ nexts.EndsAt (ends.Bag bag)
-bag_before zero (nexts.LookUp target) bag leads = absurd cc
-bag_before zero (nexts.EndsAt end) bag leads = leads
-bag_before (suc left) next bag leads = leads
 
 -- what is told of a chain of references, behind which these steps stand
 record ToldChain (stack : List LayerOf) (left id : ℕ) (d e : List ℕ) (xs ys : List Step) : Type 0 where

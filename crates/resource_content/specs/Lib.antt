@@ -4,4 +4,4 @@ pub mod PackageText
 pub mod ValueContent
 pub mod ByName
 pub mod ContentAt
-pub mod ContentTrace
+pub mod TraceLaw
