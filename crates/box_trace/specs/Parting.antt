@@ -24,7 +24,7 @@ unfoldable pub answer_of : Parting → List ℕ → Bool
 answer_of parting d = says_yes parting.asked (step_of (option_map cand_of parting.best) (cand_of parting.candidate) d)
 
 -- members with one trace answer alike
-abbrev pub TraceTells : (List ℕ → Type 0) → (List ℕ → Trace) → (List ℕ → Bool) → Type 0
+abbrev pub TraceTells : {X : Type 0} → (List ℕ → Type 0) → (List ℕ → X) → (List ℕ → Bool) → Type 0
 TraceTells members trace answer = (d e : List ℕ) → members d → members e → trace d ≡ trace e → answer d ≡ answer e
 
 -- Two members side by side answer differently, and a member's trace tells its answer.

@@ -9,26 +9,44 @@ use Rattle.cert_checker.proofs.config_record.DeviceLemmas.{coordinate-at_place, 
 use Rattle.cert_checker.proofs.box_answers.Coords.{all_coords-count}
 use Rattle.cert_checker.specs.config_record.ComparedNumber.{device_number}
 use Rattle.cert_checker.proofs.config_record.ChangedNumber.{by_coord, number_at-set_same, number_at-set_other}
-use Rattle.cert_checker.specs.reference_resolver.Trace.{Trace}
 use Rattle.cert_checker.specs.box_answers.NumberSet.{SetOf, RangeOf, NumbersOf, LocalesOf, IsIn}
 use Rattle.cert_checker.specs.box_answers.Members.{set_at, IsMember}
 use Rattle.cert_checker.specs.box_answers.Sameness.{AreNeighbours, Separates}
 use Rattle.cert_checker.specs.box_trace.Parting.{TraceTells}
-use Rattle.cert_checker.specs.config_box.Tests.{ChoiceOf, AtMostOf, AmongOf, is_listed, answers, is_range, has_wrong_kind}
-use Rattle.cert_checker.proofs.box_trace.Partings.{traces_differ}
+use Rattle.cert_checker.specs.config_box.Tests.{TestOf, ChoiceOf, AtMostOf, AmongOf, is_listed, answers, is_range, has_wrong_kind}
 use Rattle.cert_maker.specs.Needed.{AgreeBut, IsNeededTest}
 use Rattle.cert_maker.specs.Listed.{numbers_of, answer_with}
 use Rattle.cert_maker.proofs.ByNumbers.{AnswersByNumbers}
 use Rattle.cert_maker.proofs.Steps.{test-passes}
+
+-- What is needed to tell how members answer is needed to tell their traces, where these tell what they answer.
+pub needed-by-trace : {X : Type 0} (trace : List ℕ → X) (answer : List ℕ → Bool) (sets : List SetOf) (test : TestOf) → TraceTells (IsMember sets) trace answer → IsNeededTest answer sets (IsMember sets) test
+    → IsNeededTest trace sets (IsMember sets) test
+needed-by-trace trace answer sets test tells s = record {
+  passes = s.passes;
+  x = s.x;
+  y = s.y;
+  yes = s.yes;
+  no = s.no;
+  others = s.others;
+  differ = λ e. s.differ (tells s.x s.y s.yes.member s.no.member e);
+  near = s.near;
+  parts = λ is_choice alone u v u_is v_is e. s.parts is_choice alone u v u_is v_is (tells u v u_is.member v_is.member e);
+}
+
+answers-differ : (answer : List ℕ → Bool) (sets : List SetOf) (x y : List ℕ) (c : coord.Coord) → Separates sets answer x y c → answer x ≢ answer y
+answers-differ answer sets x y c s e =
+    let no : true ≡ false = sym s.parts.yes.answers ∙ e ∙ s.parts.no.answers in
+    cc
 
 turned : (c : coord.Coord) (x y : List ℕ) → AgreeBut c x y → AgreeBut c y x
 turned c x y a k other = sym (a k other)
 
 -- ---- a range
 
-by-range : (trace : List ℕ → Trace) (sets : List SetOf) (x y : List ℕ) (c : coord.Coord) (m : ℕ) → is_range (set_at sets c) ≡ true → has_wrong_kind sets (AtMostOf c m) ≡ false → IsMember sets x → IsMember sets y
-    → trace x ≢ trace y → AgreeBut c x y → device_number x c ≡ m → device_number y c ≡ m + 1 → IsNeededTest trace sets (IsMember sets) (AtMostOf c m)
-by-range trace sets x y c m range right mx my differ others ex ey =
+by-range : (answer : List ℕ → Bool) (sets : List SetOf) (x y : List ℕ) (c : coord.Coord) (m : ℕ) → is_range (set_at sets c) ≡ true → has_wrong_kind sets (AtMostOf c m) ≡ false → IsMember sets x → IsMember sets y
+    → answer x ≢ answer y → AgreeBut c x y → device_number x c ≡ m → device_number y c ≡ m + 1 → IsNeededTest answer sets (IsMember sets) (AtMostOf c m)
+by-range answer sets x y c m range right mx my differ others ex ey =
     let x_is : answers (AtMostOf c m) x ≡ true = le-leb (device_number x c) m (omega arith) in
     let y_is : answers (AtMostOf c m) y ≡ false = lt-leb (device_number y c) m (omega arith) in
     record {
@@ -48,14 +66,14 @@ near-one (RangeOf low high) m n range near = near
 near-one (NumbersOf numbers) m n range near = absurd (cc range)
 near-one (LocalesOf numbers) m n range near = absurd (cc range)
 
-pub cut-range : (trace : List ℕ → Trace) (answer : List ℕ → Bool) (sets : List SetOf) (x y : List ℕ) (c : coord.Coord) (m : ℕ) → Separates sets answer x y c → is_range (set_at sets c) ≡ true
-    → has_wrong_kind sets (AtMostOf c m) ≡ false → m ≡ min (device_number x c) (device_number y c) → TraceTells (IsMember sets) trace answer → IsNeededTest trace sets (IsMember sets) (AtMostOf c m)
-cut-range trace answer sets x y c m s range right e tells =
+pub cut-range : (answer : List ℕ → Bool) (sets : List SetOf) (x y : List ℕ) (c : coord.Coord) (m : ℕ) → Separates sets answer x y c → is_range (set_at sets c) ≡ true
+    → has_wrong_kind sets (AtMostOf c m) ≡ false → m ≡ min (device_number x c) (device_number y c) → IsNeededTest answer sets (IsMember sets) (AtMostOf c m)
+cut-range answer sets x y c m s range right e =
     let p = s.parts in
-    let d = traces_differ trace answer sets x y c s tells in
+    let d = answers-differ answer sets x y c s in
     elim (near-one (set_at sets c) (device_number x c) (device_number y c) range s.near) [
-      | inl above ↦ by-range trace sets y x c m range right p.no.member p.yes.member (λ q. d (sym q)) (turned c x y p.others) (omega arith) (omega arith)
-      | inr below ↦ by-range trace sets x y c m range right p.yes.member p.no.member d p.others (omega arith) (omega arith)
+      | inl above ↦ by-range answer sets y x c m range right p.no.member p.yes.member (λ q. d (sym q)) (turned c x y p.others) (omega arith) (omega arith)
+      | inr below ↦ by-range answer sets x y c m range right p.yes.member p.no.member d p.others (omega arith) (omega arith)
     ]
 
 -- ---- a choice: all its numbers with which x answers yes
@@ -79,9 +97,9 @@ on-line answer c x z by others =
 abbrev pub ListsYes : (List ℕ → Bool) → List SetOf → List ℕ → coord.Coord → ChoiceOf → Type 0
 ListsYes answer sets x c choice = (n : ℕ) → IsIn (set_at sets c) n → is_listed c choice n ≡ answer_with answer x c n
 
-pub cut-choice : (trace : List ℕ → Trace) (answer : List ℕ → Bool) (sets : List SetOf) (x y : List ℕ) (c : coord.Coord) (choice : ChoiceOf) → AnswersByNumbers answer → Separates sets answer x y c
-    → has_wrong_kind sets (AmongOf c choice) ≡ false → ListsYes answer sets x c choice → TraceTells (IsMember sets) trace answer → IsNeededTest trace sets (IsMember sets) (AmongOf c choice)
-cut-choice trace answer sets x y c choice by s right lists tells =
+pub cut-choice : (answer : List ℕ → Bool) (sets : List SetOf) (x y : List ℕ) (c : coord.Coord) (choice : ChoiceOf) → AnswersByNumbers answer → Separates sets answer x y c
+    → has_wrong_kind sets (AmongOf c choice) ≡ false → ListsYes answer sets x c choice → IsNeededTest answer sets (IsMember sets) (AmongOf c choice)
+cut-choice answer sets x y c choice by s right lists =
     let p = s.parts in
     let of_member : (z : List ℕ) → IsMember sets z → AgreeBut c z x → answers (AmongOf c choice) z ≡ answer z =
     λ z m others. lists (device_number z c) (m c) ∙ sym (on-line answer c x z by others) in
@@ -94,11 +112,10 @@ cut-choice trace answer sets x y c choice by s right lists tells =
       yes = record { member = p.yes.member; answers = x_is };
       no = record { member = p.no.member; answers = y_is };
       others = p.others;
-      differ = traces_differ trace answer sets x y c s tells;
+      differ = answers-differ answer sets x y c s;
       near = tt;
       parts = λ is_choice alone u v u_is v_is e.
           let u_yes : answer u ≡ true = sym (of_member u u_is.member (alone u x u_is.member p.yes.member)) ∙ u_is.answers in
           let v_no : answer v ≡ false = sym (of_member v v_is.member (alone v x v_is.member p.yes.member)) ∙ v_is.answers in
-          let same = tells u v u_is.member v_is.member e in
           absurd (cc);
     }

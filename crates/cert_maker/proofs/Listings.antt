@@ -14,9 +14,8 @@ use Rattle.cert_checker.specs.config_record.ComparedNumber.{device_number, local
 use Rattle.cert_checker.specs.config_record.Locale.{IsGiven, IsOfSomeText, locale_text}
 use Rattle.cert_checker.proofs.config_record.LocaleGiven.{TwoBytes, given, numbered}
 use Rattle.cert_checker.specs.config_record.Device.{CanHave}
-use Rattle.cert_checker.specs.reference_resolver.Trace.{Trace}
 use Rattle.cert_checker.specs.box_trace.declared.parting.Parting.{Parting}
-use Rattle.cert_checker.specs.box_trace.Parting.{answer_of, TraceTells}
+use Rattle.cert_checker.specs.box_trace.Parting.{answer_of}
 use Rattle.cert_checker.specs.box_answers.Sameness.{Separates}
 use Rattle.cert_checker.specs.box_answers.NumberSet.{SetOf, RangeOf, NumbersOf, LocalesOf, IsIn, named_numbers, locale_numbers}
 use Rattle.cert_checker.specs.box_answers.Members.{set_at, IsMember, IsOfKind, IsBox}
@@ -127,14 +126,14 @@ right-choice sets c choice no_range = no_range
 
 -- ---- so the tests are needed
 
-pub needed-numbers : (trace : List ℕ → Trace) (parting : Parting) (sets : List SetOf) (x y : List ℕ) (c : coord.Coord) (numbers kept : List ℕ) → Separates sets (answer_of parting) x y c → IsBox sets → NumbersOf numbers ≡ set_at sets c
-    → kept ≡ filter (answer_with (answer_of parting) x c) numbers → TraceTells (IsMember sets) trace (answer_of parting) → IsNeededTest trace sets (IsMember sets) (seen.AmongOf c (seen.NumbersOf kept))
-needed-numbers trace parting sets x y c numbers kept s b e is tells =
+pub needed-numbers : (parting : Parting) (sets : List SetOf) (x y : List ℕ) (c : coord.Coord) (numbers kept : List ℕ) → Separates sets (answer_of parting) x y c → IsBox sets → NumbersOf numbers ≡ set_at sets c
+    → kept ≡ filter (answer_with (answer_of parting) x c) numbers → IsNeededTest (answer_of parting) sets (IsMember sets) (seen.AmongOf c (seen.NumbersOf kept))
+needed-numbers parting sets x y c numbers kept s b e is =
     let choice = seen.NumbersOf kept in
-    cut-choice trace (answer_of parting) sets x y c choice (parting-by-numbers parting) s (right-choice sets c choice (ap is_range (sym e))) (lists-numbers (answer_of parting) sets x c numbers kept (b.each c).kind (sym e) is) tells
+    cut-choice (answer_of parting) sets x y c choice (parting-by-numbers parting) s (right-choice sets c choice (ap is_range (sym e))) (lists-numbers (answer_of parting) sets x c numbers kept (b.each c).kind (sym e) is)
 
-pub needed-locales : (trace : List ℕ → Trace) (parting : Parting) (sets : List SetOf) (x y : List ℕ) (c : coord.Coord) (locales kept : List Locale) → Separates sets (answer_of parting) x y c → IsBox sets
-    → LocalesOf (locale_numbers locales) ≡ set_at sets c → kept ≡ filter (answer_in (answer_of parting) x) locales → TraceTells (IsMember sets) trace (answer_of parting) → IsNeededTest trace sets (IsMember sets) (seen.AmongOf c (seen.LocalesOf kept))
-needed-locales trace parting sets x y c locales kept s b e is tells =
+pub needed-locales : (parting : Parting) (sets : List SetOf) (x y : List ℕ) (c : coord.Coord) (locales kept : List Locale) → Separates sets (answer_of parting) x y c → IsBox sets
+    → LocalesOf (locale_numbers locales) ≡ set_at sets c → kept ≡ filter (answer_in (answer_of parting) x) locales → IsNeededTest (answer_of parting) sets (IsMember sets) (seen.AmongOf c (seen.LocalesOf kept))
+needed-locales parting sets x y c locales kept s b e is =
     let choice = seen.LocalesOf kept in
-    cut-choice trace (answer_of parting) sets x y c choice (parting-by-numbers parting) s (right-choice sets c choice (ap is_range (sym e))) (lists-locales (answer_of parting) sets x c locales kept (b.each c).kind (sym e) is) tells
+    cut-choice (answer_of parting) sets x y c choice (parting-by-numbers parting) s (right-choice sets c choice (ap is_range (sym e))) (lists-locales (answer_of parting) sets x c locales kept (b.each c).kind (sym e) is)

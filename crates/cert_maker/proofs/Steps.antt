@@ -48,7 +48,7 @@ test-passes sets members test x y right mx my is isnt EmptyHalf (inl all) = let 
 test-passes sets members test x y right mx my is isnt EmptyHalf (inr all) = let e = all x mx in cc
 test-passes sets members test x y right mx my is isnt rule f = f
 
-pub moved : (trace : List ℕ → Trace) (sets part : List SetOf) (path : Path) (test : TestOf) → IsBoxAt sets path part → IsNeededTest trace part (IsMember part) test → IsNeededTest trace sets (IsAt sets path) test
+pub moved : {X : Type 0} (trace : List ℕ → X) (sets part : List SetOf) (path : Path) (test : TestOf) → IsBoxAt sets path part → IsNeededTest trace part (IsMember part) test → IsNeededTest trace sets (IsAt sets path) test
 moved trace sets part path test b s =
     let x_at = (b.members s.x).0 s.yes.member in
     let y_at = (b.members s.y).0 s.no.member in

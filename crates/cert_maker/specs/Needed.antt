@@ -1,9 +1,8 @@
 -- Trees each of whose tests separates two devices that have different traces. A trace says for each device what the rules of
--- the platform do.
+-- the platform do, of one stack or of two.
 use Rattle.std.specs.Prelude.{◌≡◌, ◌≢◌, ℕ, ◌<◌, true, false, List}
 use Rattle.cert_checker.specs.config_record.declared.coord.Coord.{Coord}
 use Rattle.cert_checker.specs.config_record.ComparedNumber.{device_number}
-use Rattle.cert_checker.specs.reference_resolver.Trace.{Trace}
 use Rattle.cert_checker.specs.box_answers.NumberSet.{SetOf}
 use Rattle.cert_checker.specs.box_answers.Members.{set_at}
 use Rattle.cert_checker.specs.box_answers.MemberAnswers.{IsOneThatAnswers}
@@ -26,7 +25,7 @@ NoneBetween members (AtMostOf c most) x y =
 NoneBetween members (AmongOf c choice) x y = Unit {0}
 
 -- no trace stands on both sides of a test
-abbrev pub PartsTraces : (List ℕ → Trace) → (List ℕ → Type 0) → TestOf → Type 0
+abbrev pub PartsTraces : {X : Type 0} → (List ℕ → X) → (List ℕ → Type 0) → TestOf → Type 0
 PartsTraces trace members test =
     (x y : List ℕ) → IsOneThatAnswers members (answers test) true x → IsOneThatAnswers members (answers test) false y → trace x ≢ trace y
 
@@ -36,7 +35,7 @@ VariesOnlyAt c members = (x y : List ℕ) → members x → members y → AgreeB
 -- No rule fails at the test, and it separates two of the members that come to it: they differ in its coordinate alone, and
 -- have different traces. Of a test for numbers up to a bound the two are neighbours: no member's number lies between theirs.
 -- Where the coordinate is a choice, and is all in which members differ, no trace stands on both sides.
-pub record IsNeededTest (trace : List ℕ → Trace) (sets : List SetOf) (members : List ℕ → Type 0) (test : TestOf) : Type 0 where
+pub record IsNeededTest {X : Type 0} (trace : List ℕ → X) (sets : List SetOf) (members : List ℕ → Type 0) (test : TestOf) : Type 0 where
   pub passes : (rule : Rule) → FailsAtTest sets members test rule → ⊥
   pub x : List ℕ
   pub y : List ℕ
@@ -48,11 +47,11 @@ pub record IsNeededTest (trace : List ℕ → Trace) (sets : List SetOf) (member
   pub parts : is_range (set_at sets (coord_of test)) ≡ false → VariesOnlyAt (coord_of test) members → PartsTraces trace members test
 
 -- nothing is said of leaves
-abbrev pub IsNeededAt : (List ℕ → Trace) → List SetOf → NodeOf → Path → Type 0
+abbrev pub IsNeededAt : {X : Type 0} → (List ℕ → X) → List SetOf → NodeOf → Path → Type 0
 IsNeededAt trace sets (TestAt test) path = IsNeededTest trace sets (IsAt sets path) test
 IsNeededAt trace sets (ValueAt layer value) path = Unit {0}
 IsNeededAt trace sets (BagAt id) path = Unit {0}
 
 -- one whole tree, each of whose tests is needed
-abbrev pub IsNeeded : (List ℕ → Trace) → List SetOf → List NodeOf → Type 0
+abbrev pub IsNeeded : {X : Type 0} → (List ℕ → X) → List SetOf → List NodeOf → Type 0
 IsNeeded trace sets nodes = HoldsOfTree (IsNeededAt trace sets) nodes

@@ -35,3 +35,4 @@ pub use made::Made;
 pub use making::{make, make_watched};
 pub use omitted::{Omitted, Omitting};
 pub use omitting::make_omitting;
+pub use parting::parting_test;

@@ -5,10 +5,9 @@ ghost use Rattle.cert_checker.specs.config_record.Locale.{IsGiven, IsOfSomeText}
 ghost use Rattle.cert_checker.specs.config_record.ComparedNumber.{locale_number, locale_of_number};
 ghost use Rattle.cert_checker.specs.config_record.Device.{CanHave};
 ghost use Rattle.cert_checker.specs.config_record.DeviceSeen.{device_numbers};
-ghost use Rattle.cert_checker.specs.reference_resolver.Trace.{Trace};
 ghost use Rattle.cert_checker.specs.box_answers.Members.{IsMember};
 ghost use Rattle.cert_checker.specs.box_answers.Sameness.{Separates};
-ghost use Rattle.cert_checker.specs.box_trace.Parting.{answer_of, TraceTells};
+ghost use Rattle.cert_checker.specs.box_trace.Parting.{answer_of};
 ghost use Rattle.cert_checker.specs.config_box.Tests.{test_of};
 ghost use Rattle.cert_checker.specs.cert_tree.Certificate.{TestAt, NodeFits};
 ghost use Rattle.cert_maker.specs.Needed.{IsNeededTest};
@@ -19,13 +18,13 @@ use std::alloc::Global;
 
 /// A test that parts the two members that a parting shows, and asks no more than it needs: of a range for numbers up to
 /// the lesser of theirs, of a choice for all values with which the first answers yes.
-pub(crate) fn parting_test(
+pub fn parting_test(
     alloc: Global,
     members: &ConfigBox,
     parting: &Parting<'_>,
 ) -> Result<Test, OutOfMemory>
     requires { Separates members.now (answer_of parting.now) (device_numbers parting.now.pair.yes) (device_numbers parting.now.pair.no) parting.now.pair.coord }
-    ensures needed { IfOk result (λ test. (trace : List ℕ → Trace) → TraceTells (IsMember members.now) trace (answer_of parting.now) → IsNeededTest trace members.now (IsMember members.now) (test_of test)) }
+    ensures needed { IfOk result (λ test. IsNeededTest (answer_of parting.now) members.now (IsMember members.now) (test_of test)) }
     ensures fits { IfOk result (λ test. NodeFits (TestAt (test_of test))) }
 {
     let coord = parting.pair.coord;

@@ -12,6 +12,7 @@ use Rattle.cert_checker.specs.FirstFault.{goal_trace}
 use Rattle.cert_checker.proofs.box_trace.OpenBoxes.{rest_of, reached_there, told_in_place}
 use Rattle.cert_maker.specs.Growth.{Grows}
 use Rattle.cert_maker.proofs.GoalLayers.{goal-below}
+use Rattle.cert_maker.proofs.Cut.{needed-by-trace}
 use Rattle.cert_maker.proofs.Steps.{grows-leaf, map-push}
 use Rattle.cert_maker.proofs.growth.add_node.Goals as goal
 
@@ -50,14 +51,7 @@ parting_test-requires c =
     (c.in_ok-parting-in-Mixed.ensures.told stack rest (c.in_ok-end.ensures.reached rest reached))).separates
 
 pub add_test-requires-clause-asked : goal.add_test-requires-clause-asked
-add_test-requires-clause-asked c =
-    let stack = c.args.stack.now in
-    let rest : List ℕ → Trace = rest_of stack c.args.part.walk in
-    let reached = reached_there stack c.args.part in
-    let told =
-    told_in_place rest _ c.in-Mixed.first _ c.args.part.members _ _ c.in-Mixed.is c.in_ok-end.ensures.members c.in_ok-parting-in-Mixed.ensures.members (c.in_ok-end.ensures.common rest reached)
-    (c.in_ok-parting-in-Mixed.ensures.told stack rest (c.in_ok-end.ensures.reached rest reached)) in
-    (c.in_ok-test-in-Mixed.ensures.needed rest told.trace_tells).passes
+add_test-requires-clause-asked c = c.in_ok-test-in-Mixed.ensures.needed.passes
 
 pub returns-clause-grows : goal.returns-clause-grows
 returns-clause-grows c = λ goal reached all.
@@ -67,7 +61,7 @@ returns-clause-grows c = λ goal reached all.
     let told =
     told_in_place trace _ c.in-Mixed.first _ c.args.part.members _ _ c.in-Mixed.is c.in_ok-end.ensures.members c.in_ok-parting-in-Mixed.ensures.members (c.in_ok-end.ensures.common trace reached)
     (c.in_ok-parting-in-Mixed.ensures.told stack trace further) in
-    let grows = c.in_ok-add_test-in-Mixed.ensures.grows trace (c.in_ok-test-in-Mixed.ensures.needed trace told.trace_tells) in (
+    let grows = c.in_ok-add_test-in-Mixed.ensures.grows trace (needed-by-trace trace _ _ _ told.trace_tells c.in_ok-test-in-Mixed.ensures.needed) in (
       subst (λ (sets : List SetOf). Grows trace sets (map node_of c.args.nodes.now.items) (map node_of c.add_test.new.nodes.items) (boxes_of c.args.open_boxes.now) (boxes_of c.add_test.new.open_boxes))
           (c.in_ok-parting-in-Mixed.ensures.members ∙ c.in_ok-end.ensures.members) grows,
       c.in_ok-add_test-in-Mixed.ensures.reached stack trace (c.in_ok-parting-in-Mixed.ensures.reached stack trace further) all,

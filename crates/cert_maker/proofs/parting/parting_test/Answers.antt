@@ -12,21 +12,21 @@ pub listed_locales-requires : goal.listed_locales-requires
 listed_locales-requires c = can-locales c.args.members.now c.args.parting.now.pair.coord c.in-Locales.locales.now c.in-Locales.ensures.sets c.in-Locales.ensures.value
 
 pub returns-in-Range-clause-needed : goal.returns-in-Range-clause-needed
-returns-in-Range-clause-needed c = λ trace tells.
+returns-in-Range-clause-needed c =
     let at = c.args.parting.now.pair.coord in
     let range : is_range (set_at c.args.members.now at) ≡ true = ap is_range (sym c.in-Range.ensures.value) in
-    cut-range trace (answer_of c.args.parting.now) c.args.members.now (device_numbers c.args.parting.now.pair.yes) (device_numbers c.args.parting.now.pair.no) at c.min-lesser.result c.requires range
-    (right-range c.args.members.now at c.min-lesser.result (c.in-Range.ensures.sets.each at).kind range) (cc) tells
+    cut-range (answer_of c.args.parting.now) c.args.members.now (device_numbers c.args.parting.now.pair.yes) (device_numbers c.args.parting.now.pair.no) at c.min-lesser.result c.requires range
+    (right-range c.args.members.now at c.min-lesser.result (c.in-Range.ensures.sets.each at).kind range) (cc)
 
 pub returns-in_ok-listed-in-Numbers-clause-needed : goal.returns-in_ok-listed-in-Numbers-clause-needed
-returns-in_ok-listed-in-Numbers-clause-needed c = λ trace tells.
-    needed-numbers trace c.args.parting.now c.args.members.now (device_numbers c.args.parting.now.pair.yes) (device_numbers c.args.parting.now.pair.no) c.args.parting.now.pair.coord c.in-Numbers.numbers.now
-    c.in_ok-listed-in-Numbers.listed.items c.requires c.in-Numbers.ensures.sets c.in-Numbers.ensures.value c.in_ok-listed-in-Numbers.ensures tells
+returns-in_ok-listed-in-Numbers-clause-needed c =
+    needed-numbers c.args.parting.now c.args.members.now (device_numbers c.args.parting.now.pair.yes) (device_numbers c.args.parting.now.pair.no) c.args.parting.now.pair.coord c.in-Numbers.numbers.now
+    c.in_ok-listed-in-Numbers.listed.items c.requires c.in-Numbers.ensures.sets c.in-Numbers.ensures.value c.in_ok-listed-in-Numbers.ensures
 
 pub returns-in_ok-listed-in-Locales-clause-needed : goal.returns-in_ok-listed-in-Locales-clause-needed
-returns-in_ok-listed-in-Locales-clause-needed c = λ trace tells.
-    needed-locales trace c.args.parting.now c.args.members.now (device_numbers c.args.parting.now.pair.yes) (device_numbers c.args.parting.now.pair.no) c.args.parting.now.pair.coord c.in-Locales.locales.now
-    c.in_ok-listed-in-Locales.listed.items c.requires c.in-Locales.ensures.sets c.in-Locales.ensures.value c.in_ok-listed-in-Locales.ensures.listed tells
+returns-in_ok-listed-in-Locales-clause-needed c =
+    needed-locales c.args.parting.now c.args.members.now (device_numbers c.args.parting.now.pair.yes) (device_numbers c.args.parting.now.pair.no) c.args.parting.now.pair.coord c.in-Locales.locales.now
+    c.in_ok-listed-in-Locales.listed.items c.requires c.in-Locales.ensures.sets c.in-Locales.ensures.value c.in_ok-listed-in-Locales.ensures.listed
 
 pub returns-in_ok-listed-in-Numbers-clause-fits : goal.returns-in_ok-listed-in-Numbers-clause-fits
 returns-in_ok-listed-in-Numbers-clause-fits c =
