@@ -111,7 +111,7 @@ each-set P sets c half count here others k =
     (λ e. subst (λ (j : Coord). P j (set_at (set sets (place_of c) half) j)) (sym e) (subst (λ (s : SetOf). P c s) (sym (set_at-same sets c half count)) here))
     (λ ne. subst (λ (s : SetOf). P k s) (sym (set_at-other sets c k half ne)) (others k))
 
-kind-alike : (c : Coord) (a b : SetOf) → AreMarkedAlike a b → IsOfKind c a → IsOfKind c b
+pub kind-alike : (c : Coord) (a b : SetOf) → AreMarkedAlike a b → IsOfKind c a → IsOfKind c b
 kind-alike coords.Locale (LocalesOf a) (LocalesOf b) m h = tt
 kind-alike coords.Locale (LocalesOf a) (RangeOf x y) m h = absurd m
 kind-alike coords.Locale (LocalesOf a) (NumbersOf b) m h = absurd m

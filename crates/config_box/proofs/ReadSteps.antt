@@ -84,7 +84,7 @@ nothing-inside c other = refl
 
 -- ---- a set more
 
-place-at : (i : ℕ) (here d : Coord) (items : List Coord) → items ≡ all_coords → here ≡ get_or items i d → i < length items → place_of here ≡ i
+pub place-at : (i : ℕ) (here d : Coord) (items : List Coord) → items ≡ all_coords → here ≡ get_or items i d → i < length items → place_of here ≡ i
 unfolding all_coords place_of
 place-at i here d items all is on =
     let count : i < 25 = omega (arith, ap (λ (cs : List Coord). length cs) all) in

@@ -1,6 +1,6 @@
 //! Boxes.
 
-ghost use Rattle.std.specs.Prelude.{◌≡◌, ◌↔◌, IsTrue, IfOk};
+ghost use Rattle.std.specs.Prelude.{◌≡◌, ◌≢◌, ◌↔◌, IsTrue, IfOk, IfSome, MatchBool, MatchOption};
 ghost use Rattle.box_answers.specs.config_record.Record.{record_bytes};
 ghost use Rattle.box_answers.specs.config_record.DeviceSeen.{device_numbers};
 ghost use Rattle.box_answers.specs.config_match.Matching.{is_match};
@@ -15,6 +15,8 @@ ghost use Rattle.config_box.specs.declared.box_fault.BoxFault.TheVariants.{OutOf
 
 use crate::box_fault::BoxFault;
 use crate::half::half_of;
+use crate::joined::{is_same, joined_sets};
+use crate::order::order_but;
 use crate::read::sets_in_value;
 use crate::split::{OutOfMemory as NoMemory, Split, has_wrong_kind, shared_sets, with_set};
 use crate::test::Test;
@@ -22,6 +24,7 @@ use crate::values::{Values, values_of};
 use box_answers::{Coord, Device, NumberSet, Record, Sameness, set_at};
 use json_input::read_value;
 use std::alloc::Global;
+use std::cmp::Ordering;
 use std::marker::Model;
 
 /// For each coordinate a range of numbers, or a choice of values; none is empty, and all its members are
@@ -47,6 +50,8 @@ impl ConfigBox {
     ghost use Rattle.config_box.specs.BoxJson.{box_in};
     ghost use Rattle.config_box.specs.BoxSeen.{values_seen};
     ghost use Rattle.config_box.specs.Halves.{IsSplit, HalvesKeepAnswers};
+    ghost use Rattle.config_box.specs.Joined.{IsJoined, HasJoinedSets, CannotJoin};
+    ghost use Rattle.config_box.specs.Order.{order_but};
 
     /// The box of a JSON text: an object with a list or a range of numbers for each coordinate and a list of
     /// texts for the locale. What is missing is 0, or no locale; the density has to be there.
@@ -134,6 +139,37 @@ impl ConfigBox {
         let yes = half_box(alloc, sets, test, true, yes)?;
         let no = half_box(alloc, sets, test, false, no)?;
         Ok(Split::Halves(yes, no))
+    }
+
+    /// The one box that has exactly the members of both. There is one where they have the same set at each
+    /// coordinate but one, and make one set there: ranges that follow one another, or choices without a common
+    /// value, of at most 512 together.
+    pub fn joined(&self, alloc: Global, other: &ConfigBox) -> Result<Option<ConfigBox>, NoMemory>
+        ensures members { IfOk result (λ joined. IfSome joined (IsJoined self.now other.now)) }
+        ensures sets { IfOk result (λ joined. MatchOption joined (CannotJoin self.now other.now) (HasJoinedSets self.now other.now)) }
+    {
+        let Some(sets) = joined_sets(alloc, self.sets.as_slice(), other.sets.as_slice())? else {
+            return Ok(None);
+        };
+        Ok(Some(ConfigBox { sets }))
+    }
+
+    /// An order for sorts, by all sets, that of a coordinate last: boxes that are alike but there stand side by
+    /// side, in the order of their sets there.
+    pub fn order_but(&self, other: &ConfigBox, at: Coord) -> Ordering
+        ensures { result ≡ order_but at self.now other.now }
+    {
+        order_but(self.sets.as_slice(), other.sets.as_slice(), at)
+    }
+
+    /// Whether two boxes have the same set at a coordinate.
+    pub fn is_alike_at(&self, other: &ConfigBox, at: Coord) -> bool
+        ensures { MatchBool result (set_at self.now at ≡ set_at other.now at) (set_at self.now at ≢ set_at other.now at) }
+    {
+        is_same(
+            set_at(self.sets.as_slice(), at),
+            set_at(other.sets.as_slice(), at),
+        )
     }
 }
 

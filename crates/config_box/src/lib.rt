@@ -1,6 +1,7 @@
 //! Boxes of devices: for each of the 25 coordinates a range of numbers, or a choice of values. A box is
 //! read from JSON, is split into halves by tests of one coordinate, and answers two questions for all
-//! its members at once: does a record match, and is one record better than another?
+//! its members at once: does a record match, and is one record better than another? Two boxes are
+//! joined where they make one box together.
 //!
 //! For the crates above: a box is the list of its 25 sets, none of them empty and each in its
 //! coordinate's range; a device is a member where each of its numbers lies in the set at its
@@ -21,6 +22,8 @@ mod box_fault;
 mod choice;
 mod config_box;
 mod half;
+mod joined;
+mod order;
 mod read;
 mod split;
 mod test;

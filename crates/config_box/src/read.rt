@@ -25,7 +25,7 @@ use std::alloc::{AllocError, Global};
 use std::rc::Rc;
 
 /// The most items of a list.
-const MOST_VALUES: usize = 512;
+pub(crate) const MOST_VALUES: usize = 512;
 
 /// The sets of all coordinates.
 #[tactic(auto, unfolding(crate::specs::BoxJson::box_in_value))]
