@@ -1,0 +1,11 @@
+use Rattle.std.proofs.Common.{◌≤◌, ◌<◌, length}
+use Rattle.joined_boxes.specs.Counts.{HaveSameCounts}
+use Rattle.joined_boxes.proofs.join.joined_in_order.Given as goal
+
+-- those so far are joined
+abbrev pub invariant-loop-next : goal.invariant-loop-next
+invariant-loop-next l = record {
+  counts : HaveSameCounts l.yielded l.joined.items;
+  no_more : length l.joined.items ≤ length l.yielded;
+  some : 0 < length l.yielded → 0 < length l.joined.items;
+}

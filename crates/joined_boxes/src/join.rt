@@ -1,0 +1,93 @@
+//! Lists of boxes that are joined.
+
+ghost use Rattle.std.specs.Prelude.{◌+◌, ◌<◌, ◌≤◌, ◌++◌, ◌∷◌, [], length, IfOk, OnOk};
+ghost use Rattle.joined_boxes.specs.Devices.{KeepDevices};
+ghost use Rattle.joined_boxes.specs.Counts.{HaveSameCounts};
+
+use config_box::{ConfigBox, Coord, OutOfMemory};
+use std::alloc::Global;
+
+/// The boxes, joined where two make one. Boxes that are alike but at one coordinate stand side by side when
+/// that coordinate is looked at, and each is joined with the one before where that is possible.
+pub fn join_boxes(alloc: Global, boxes: Vec<ConfigBox>) -> Result<Vec<ConfigBox>, OutOfMemory>
+    ensures devices { IfOk result (λ joined. KeepDevices boxes.items joined.items) }
+    ensures no_more { IfOk result (λ joined. length joined.items ≤ length boxes.items) }
+    ensures some { IfOk result (λ joined. 0 < length boxes.items → 0 < length joined.items) }
+{
+    joined_along(alloc, boxes, &Coord::ALL)
+}
+
+fn joined_along(
+    alloc: Global,
+    boxes: Vec<ConfigBox>,
+    coords: &[Coord],
+) -> Result<Vec<ConfigBox>, OutOfMemory>
+    ensures devices { IfOk result (λ joined. KeepDevices boxes.items joined.items) }
+    ensures no_more { IfOk result (λ joined. length joined.items ≤ length boxes.items) }
+    ensures some { IfOk result (λ joined. 0 < length boxes.items → 0 < length joined.items) }
+{
+    let mut joined = boxes;
+    for at in coords {
+        if vary(joined.as_slice(), *at) {
+            joined = joined_at(alloc, joined, *at)?;
+        }
+    }
+    Ok(joined)
+}
+
+// Whether a box has another set there than the first.
+fn vary(boxes: &[ConfigBox], at: Coord) -> bool {
+    let Some((first, others)) = boxes.split_first() else {
+        return false;
+    };
+    for other in others {
+        if !first.is_alike_at(other, at) {
+            return true;
+        }
+    }
+    false
+}
+
+fn joined_at(
+    alloc: Global,
+    mut boxes: Vec<ConfigBox>,
+    at: Coord,
+) -> Result<Vec<ConfigBox>, OutOfMemory>
+    ensures counts { IfOk result (λ joined. HaveSameCounts boxes.items joined.items) }
+    ensures no_more { IfOk result (λ joined. length joined.items ≤ length boxes.items) }
+    ensures some { IfOk result (λ joined. 0 < length boxes.items → 0 < length joined.items) }
+{
+    boxes.sort_by(|one, other| one.order_but(other, at))?;
+    joined_in_order(alloc, boxes)
+}
+
+fn joined_in_order(alloc: Global, boxes: Vec<ConfigBox>) -> Result<Vec<ConfigBox>, OutOfMemory>
+    ensures counts { IfOk result (λ joined. HaveSameCounts boxes.items joined.items) }
+    ensures no_more { IfOk result (λ joined. length joined.items ≤ length boxes.items) }
+    ensures some { IfOk result (λ joined. 0 < length boxes.items → 0 < length joined.items) }
+{
+    let mut joined = Vec::with_capacity(alloc, boxes.len())?;
+    for next in boxes {
+        add(alloc, &mut joined, next)?;
+    }
+    Ok(joined)
+}
+
+// Joins the box with the last of the list, or puts it behind.
+fn add(alloc: Global, boxes: &mut Vec<ConfigBox>, next: ConfigBox) -> Result<(), OutOfMemory>
+    ensures counts { OnOk result (HaveSameCounts (boxes.old.items ++ next ∷ []) boxes.new.items) }
+    ensures no_more { OnOk result (length boxes.new.items ≤ length boxes.old.items + 1) }
+    ensures some { OnOk result (0 < length boxes.new.items) }
+{
+    let Some(last) = boxes.pop() else {
+        boxes.push(next)?;
+        return Ok(());
+    };
+    if let Some(both) = last.joined(alloc, &next)? {
+        boxes.push(both)?;
+        return Ok(());
+    }
+    boxes.push(last)?;
+    boxes.push(next)?;
+    Ok(())
+}
