@@ -441,7 +441,7 @@ REACHED = {
     "Table::open": "BagChecks::new BagChecks::make_ready types_of_children",
     "Device::read": "read_value",
     "find_names": "Places::new Places::push Passed::new Passed::put",
-    "name_pairs": "name_text Noted::new Noted::note Noted::ids_on Noted::into_pairs",
+    "name_pairs": "name_text name_of_row Noted::new Noted::note Noted::ids_on Noted::into_pairs",
     "push_base": "IndexedTable::new",
     "map_bytes": "Carried::new FirstRows::new FirstRows::in_order",
     "query_bytes": "open_stack",

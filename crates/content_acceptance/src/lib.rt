@@ -1,5 +1,5 @@
 //! What resources say, as tests over the public calls of `resource_content`: worked rows of values and bags, strings
-//! whose indexes move, and ids with and without names. Nothing stands on this crate.
+//! whose indexes move, ids with and without names, and names that are quoted. Nothing stands on this crate.
 #![tactic(auto)]
 
 #[cfg(test)]
@@ -12,3 +12,5 @@ mod shown;
 mod strings;
 #[cfg(test)]
 mod values;
+#[cfg(test)]
+mod written_names;

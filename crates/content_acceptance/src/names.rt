@@ -16,13 +16,13 @@ const TYPE_OFFSET: usize = 324;
 
 const TYPES: [usize; 2] = [408, 428];
 
-const ENTRY_NAME: usize = 398;
+pub(crate) const ENTRY_NAME: usize = 398;
 
 /// The resource of entry 1, which has no name.
-const STYLE: ResId = ResId(0x7f01_0001);
+pub(crate) const STYLE: ResId = ResId(0x7f01_0001);
 
 /// Resources that have names.
-const FIRST_TYPE: ResId = ResId(0x7f01_0000);
+pub(crate) const FIRST_TYPE: ResId = ResId(0x7f01_0000);
 
 const SECOND_TYPE: ResId = ResId(0x7f02_0000);
 
@@ -31,7 +31,7 @@ const FRAMEWORK: ResId = ResId(0x0101_0000);
 const LIBRARY: ResId = ResId(0x0201_0000);
 
 // A table whose one resource has this id, and the names s and this.
-fn table_named(alloc: Global, id: ResId, entry: u8) -> Result<Vec<u8>, AllocError> {
+pub(crate) fn table_named(alloc: Global, id: ResId, entry: u8) -> Result<Vec<u8>, AllocError> {
     let mut bytes = table_b(alloc)?;
     put(&mut bytes, PACKAGE, &[id.package()]);
     put(&mut bytes, TYPE_OFFSET, &[id.type_id().saturating_sub(1)]);
@@ -54,7 +54,7 @@ fn tables_of(alloc: Global, named: &[(ResId, u8)], rows: &str) -> Result<Vec<Vec
     Ok(tables)
 }
 
-fn stack_of(alloc: Global, tables: &[Vec<u8>]) -> Option<Stack<'_>> {
+pub(crate) fn stack_of(alloc: Global, tables: &[Vec<u8>]) -> Option<Stack<'_>> {
     let mut stack = Stack::new(alloc);
     for table in tables {
         push_base(alloc, &mut stack, table)?;
@@ -71,9 +71,9 @@ const SMALLER_M: &str =
     "1 [] bag 0x00000000 0x7f010000=?0x7f020000 0x7f010009=@0x7f010009 0x7f020000=@0x7f010000";
 
 const LINES: &str = "\
-\"s\"/\"k\" @\"s\"/\"m\"
-\"s\"/\"m\" ?\"s\"/\"k\"
 0x7f010009 @0x7f010009
+s/k @s/m
+s/m ?s/k
 ";
 
 #[test]
@@ -102,16 +102,16 @@ const OF_EACH: &str =
     "1 [] bag 0x00000000 0x01010000=@0x01010000 0x02010000=?0x02010000 0x7f010000=@0x7f010000";
 
 const LINES_OF_EACH: &str = "\
-\"s\"/\"k\" @\"s\"/\"k\"
-0x02:\"s\"/\"k\" ?0x02:\"s\"/\"k\"
-android:\"s\"/\"k\" @android:\"s\"/\"k\"
+0x02:s/k ?0x02:s/k
+android:s/k @android:s/k
+s/k @s/k
 ";
 
 /// The attribute of each.
 const ATTRIBUTES: [(&str, &str); 3] = [
-    ("1 [] ?0x01010000", "?android:\"s\"/\"k\""),
-    ("1 [] ?0x02010000", "?0x02:\"s\"/\"k\""),
-    ("1 [] ?0x7f010000", "?\"s\"/\"k\""),
+    ("1 [] ?0x01010000", "?android:s/k"),
+    ("1 [] ?0x02010000", "?0x02:s/k"),
+    ("1 [] ?0x7f010000", "?s/k"),
 ];
 
 // Whether the style says this over the tables of each.

@@ -83,9 +83,13 @@ fn note_row<'a>(
     }
 }
 
-// The name of a row, where both its parts are text.
+/// The name of a row of a table, where both its parts are text. What is UTF-8 in the table is lent, and not copied.
+///
+/// ```text
+/// let label = name_of_row(alloc, found.table, &found.row)?; // the name dimen/margin in package 0x7f
+/// ```
 #[tactic(auto, unfolding(crate::specs::StackLabels::name_of_row))]
-fn name_of_row<'a>(
+pub fn name_of_row<'a>(
     alloc: Global,
     table: &Table<'a>,
     row: &Row<'_>,

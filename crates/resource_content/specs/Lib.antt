@@ -1,6 +1,7 @@
 pub mod Content
 pub mod ContentSeen
 pub mod PackageText
+pub mod LabelText
 pub mod ValueContent
 pub mod ByName
 pub mod ContentAt

@@ -1,39 +1,28 @@
--- What a value says, as text: as values are printed, but a string by its text, and an id by its names and their package.
-use Rattle.std.specs.Prelude.{ℕ, ◌==◌, ◌&&◌, Bool, List, ◌++◌, codes, if◌then◌else◌, is_ok, Option, Some, None}
+-- What a value says, as text: as values are printed, but a string by its text, and an id by its name.
+use Rattle.std.specs.Prelude.{ℕ, ◌==◌, List, ◌++◌, codes, if◌then◌else◌, Option, Some, None, option_and_then, unwrap_or}
 use Rattle.answer_text.specs.reference_resolver.string_pool.Pool.{PoolOf}
 use Rattle.answer_text.specs.reference_resolver.string_pool.Text.{text_in}
 use Rattle.answer_text.specs.reference_resolver.string_pool.Shown.{string_text}
-use Rattle.answer_text.specs.res_value.ResId.{id_text, package_of}
 use Rattle.answer_text.specs.res_value.Kind.{string_kind, reference_kind, attribute_kind}
 use Rattle.answer_text.specs.res_value.ValueText.{value_text}
 use Rattle.answer_text.specs.res_value.declared.value.Value.{Value}
-use Rattle.answer_text.specs.type_chunks.Row.{RowOf}
-use Rattle.answer_text.specs.resource_table.Table.{TableOf}
-use Rattle.answer_text.specs.resource_table.Names.{type_name_in, key_name_in}
 use Rattle.answer_text.specs.overlay_map.Layer.{LayerOf}
-use Rattle.answer_text.specs.overlay_map.BaseRow.{BaseRowOf, first_base_row}
-use Rattle.answer_text.specs.DumpText.{names_text}
+use Rattle.answer_text.specs.overlay_map.BaseRow.{first_base_row}
 use Rattle.answer_text.specs.QueryText.{strings_of_layer}
-use Rattle.resource_content.specs.PackageText.{package_text}
+use Rattle.name_pairs.specs.Label.{LabelOf, ById}
+use Rattle.name_pairs.specs.StackLabels.{name_of_row}
+use Rattle.resource_content.specs.LabelText.{label_text}
 
 -- ---- ids
 
--- the names of the type and the entry of a row can be read
-abbrev pub has_names : TableOf → RowOf → Bool
-has_names table row = is_ok (type_name_in table row) && is_ok (key_name_in table row)
+-- What an id is called: by the name of the first row that it has in a base layer. Where there is none, or its name is no
+-- text, it stands for itself.
+unfoldable pub label_of_id : List LayerOf → ℕ → LabelOf
+label_of_id stack id =
+    unwrap_or (option_and_then (λ found. name_of_row found.table found.row) (first_base_row stack id)) (ById (record { 0 = id }))
 
--- the package of a row, and behind it the names of its type and its entry
-unfoldable pub full_name_text : TableOf → RowOf → List ℕ
-full_name_text table row = package_text (package_of (record { 0 = row.id })) ++ names_text table row
-
-abbrev pub name_or_id : ℕ → Option BaseRowOf → List ℕ
-name_or_id id None = id_text id
-name_or_id id (Some found) = if has_names found.table found.row then full_name_text found.table found.row else id_text id
-
--- An id by the package and the names of the first row that it has in a base layer. Where there is none, or they cannot
--- be read, it stands as it is.
-unfoldable pub id_content : List LayerOf → ℕ → List ℕ
-id_content stack id = name_or_id id (first_base_row stack id)
+abbrev pub id_content : List LayerOf → ℕ → List ℕ
+id_content stack id = label_text (label_of_id stack id)
 
 -- ---- values
 

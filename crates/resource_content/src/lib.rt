@@ -2,19 +2,20 @@
 //!
 //! For the crates above: `content_at` gives the content of an id: a value by its text, where a string stands for itself
 //! and an id by its name, or the rows of a bag, or what stands in place of these. Two contents are the same where
-//! `says_same` says so, whichever stacks they are of. `write_package` writes the package of a name before it, as contents
-//! have it.
+//! `says_same` says so, whichever stacks they are of. `write_label` writes what a resource is called, as contents have it,
+//! and `write_package` its package.
 //!
 //! ```text
 //! let before = content_at(alloc, &old, old_id, &device)?; // Value("dimension 4/2^0 dp")
 //! let after = content_at(alloc, &new, new_id, &device)?; // Value("dimension 3/2^0 dp")
 //! if !before.says_same(&after) { .. }
-//! write_package(id.package(), &mut out)?; // android:
+//! write_label(&label, &mut out)?; // android:dimen/margin
 //! ```
 #![tactic(auto)]
 
 mod content;
 mod device_content;
+mod label_text;
 mod laws;
 mod package;
 mod value_content;
@@ -23,5 +24,7 @@ pub use answer_text::ResId;
 pub use bags_themes::{Device, Stack};
 pub use content::{Content, RowContent};
 pub use device_content::content_at;
+pub use label_text::write_label;
 pub use laws::trace_tells_content;
+pub use name_pairs::Label;
 pub use package::write_package;
