@@ -9,7 +9,7 @@ use std::test::Fail;
 use test_layers::{LayerFault, layer_of_lines};
 use test_stacks::stack_of_base;
 
-/// Where the attribute ends for all, or the densities of the two members that are shown.
+/// Where an attribute or an id ends for all, or the densities of the two members that are shown.
 #[derive(Clone, Copy, Debug, PartialEq, Eq)]
 pub(crate) enum Common {
     One(End),
@@ -34,18 +34,27 @@ impl Common {
         let table = layer_of_lines(alloc, lines)?;
         let stack = stack_of_base(alloc, &table).ok_or(LayerFault::Malformed)?;
         let members = ConfigBox::read(alloc, members.as_bytes())?;
-        Common::over(alloc, &stack, goal.attr, goal.styles, members)
+        let whole = OpenBox::whole_of_attribute(alloc, &stack, goal.attr, goal.styles, members)?;
+        Common::told(alloc, &stack, whole)
     }
 
-    // The same over a stack.
-    fn over(
+    /// The same of what an id says.
+    pub(crate) fn of_content(
         alloc: Global,
-        stack: &Stack<'_>,
-        attr: ResId,
-        styles: &[ResId],
-        members: ConfigBox,
+        lines: &str,
+        id: ResId,
+        members: &str,
     ) -> Result<Common, Fail> {
-        let mut whole = OpenBox::whole_of_attribute(alloc, stack, attr, styles, members)?;
+        let table = layer_of_lines(alloc, lines)?;
+        let stack = stack_of_base(alloc, &table).ok_or(LayerFault::Malformed)?;
+        let members = ConfigBox::read(alloc, members.as_bytes())?;
+        let whole = OpenBox::whole_of_content(alloc, &stack, id, members)?;
+        Common::told(alloc, &stack, whole)
+    }
+
+    // What such a box tells.
+    fn told<'a>(alloc: Global, stack: &Stack<'a>, whole: OpenBox<'a, '_>) -> Result<Common, Fail> {
+        let mut whole = whole;
         Ok(match whole.common_trace(alloc, stack)? {
             CommonTrace::One(end) => Common::One(end),
             CommonTrace::Mixed(parting) => Common::Mixed {
@@ -63,6 +72,10 @@ pub(crate) fn decimal(word: u32) -> Common {
         word,
     };
     Common::One(End::Value { layer: 0, value })
+}
+
+pub(crate) fn bag(id: ResId) -> Common {
+    Common::One(End::Bag { id })
 }
 
 pub(crate) fn absent(id: ResId) -> Common {
