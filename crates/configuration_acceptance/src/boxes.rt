@@ -3,5 +3,6 @@
 mod answers;
 mod every_member;
 mod halves;
+mod joined;
 mod random;
 mod texts;
