@@ -57,10 +57,10 @@ by_member d b member other =
 
 -- ---- lists
 
-count-cons : (d : List ℕ) (b : List SetOf) (bs : List (List SetOf)) → box_count d (b ∷ bs) ≡ counted d b + box_count d bs
+pub count-cons : (d : List ℕ) (b : List SetOf) (bs : List (List SetOf)) → box_count d (b ∷ bs) ≡ counted d b + box_count d bs
 count-cons d b bs = sum_by-cons (counted d) b bs
 
-none-count : (d : List ℕ) (bs : List (List SetOf)) → HasNone d bs → box_count d bs ≡ 0
+pub none-count : (d : List ℕ) (bs : List (List SetOf)) → HasNone d bs → box_count d bs ≡ 0
 none-count d [] h = refl
 none-count d (b ∷ bs) h = let both = count-cons d b bs in let here = counted-other d b h.0 in let rest = none-count d bs h.1 in omega arith
 
@@ -70,7 +70,7 @@ count-none d (b ∷ bs) e =
     let both = count-cons d b bs in
     (λ member. let here = counted-member d b member in absurd (omega arith), count-none d bs (omega arith))
 
-once-count : (d : List ℕ) (bs : List (List SetOf)) → HasOnce d bs → box_count d bs ≡ 1
+pub once-count : (d : List ℕ) (bs : List (List SetOf)) → HasOnce d bs → box_count d bs ≡ 1
 once-count d (b ∷ bs) (inl h) = let both = count-cons d b bs in let here = counted-member d b h.0 in let rest = none-count d bs h.1 in omega arith
 once-count d (b ∷ bs) (inr h) = let both = count-cons d b bs in let here = counted-other d b h.0 in let rest = once-count d bs h.1 in omega arith
 once-count d [] h = absurd h
@@ -90,6 +90,10 @@ keep-devices old new same = record {
 }
 
 -- ---- what keeps the counts
+
+pub same-behind : (a b c : List (List SetOf)) → HaveSameCounts a b → HaveSameCounts (a ++ c) (b ++ c)
+same-behind a b c same d =
+    sum_by-append (counted d) b c ∙ ap (λ (n : ℕ). n + box_count d c) (same d) ∙ sym (sum_by-append (counted d) a c)
 
 -- the joined box counts as the two
 joined-count : (a b j : List SetOf) → IsJoined a b j → (d : List ℕ) → counted d j ≡ counted d a + counted d b

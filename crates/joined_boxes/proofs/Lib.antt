@@ -1,1 +1,5 @@
 pub mod CountSteps
+pub mod OrderLaws
+pub mod RangeSteps
+pub mod SortSteps
+pub mod AlongSteps

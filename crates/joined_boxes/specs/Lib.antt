@@ -1,2 +1,5 @@
 pub mod Devices
 pub mod Counts
+pub mod Least
+pub mod Ranges
+pub mod Unfolded

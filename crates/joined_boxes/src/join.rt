@@ -1,18 +1,24 @@
 //! Lists of boxes that are joined.
 
-ghost use Rattle.std.specs.Prelude.{◌+◌, ◌<◌, ◌≤◌, ◌++◌, ◌∷◌, [], length, IfOk, OnOk};
+ghost use Rattle.std.specs.Prelude.{◌≡◌, ◌+◌, ◌<◌, ◌≤◌, ◌++◌, ◌∷◌, [], length, IfOk, OnOk, MatchBool};
+ghost use Rattle.config_box.specs.config_record.declared.coord.Coord as coord;
+ghost use Rattle.config_box.specs.config_record.Coord.{all_coords};
 ghost use Rattle.joined_boxes.specs.Devices.{KeepDevices};
 ghost use Rattle.joined_boxes.specs.Counts.{HaveSameCounts};
+ghost use Rattle.joined_boxes.specs.Least.{HasOneSet, DifferByRanges, IsLeast};
+ghost use Rattle.joined_boxes.specs.Ranges.{low_at, AreRanges, AreInOrder, HaveGaps, EndBelow, AreJoinedRanges};
 
 use config_box::{ConfigBox, Coord, OutOfMemory};
 use std::alloc::Global;
 
 /// The boxes, joined where two make one. Boxes that are alike but at one coordinate stand side by side when
 /// that coordinate is looked at, and each is joined with the one before where that is possible.
+#[tactic(auto, unfolding(crate::specs::Unfolded::all_coords))]
 pub fn join_boxes(alloc: Global, boxes: Vec<ConfigBox>) -> Result<Vec<ConfigBox>, OutOfMemory>
     ensures devices { IfOk result (λ joined. KeepDevices boxes.items joined.items) }
     ensures no_more { IfOk result (λ joined. length joined.items ≤ length boxes.items) }
     ensures some { IfOk result (λ joined. 0 < length boxes.items → 0 < length joined.items) }
+    ensures least { IfOk result (λ joined. IsLeast boxes.items joined.items) }
 {
     joined_along(alloc, boxes, &Coord::ALL)
 }
@@ -22,21 +28,42 @@ fn joined_along(
     boxes: Vec<ConfigBox>,
     coords: &[Coord],
 ) -> Result<Vec<ConfigBox>, OutOfMemory>
+    requires { coords.now ≡ all_coords }
     ensures devices { IfOk result (λ joined. KeepDevices boxes.items joined.items) }
     ensures no_more { IfOk result (λ joined. length joined.items ≤ length boxes.items) }
     ensures some { IfOk result (λ joined. 0 < length boxes.items → 0 < length joined.items) }
+    ensures least { IfOk result (λ joined. IsLeast boxes.items joined.items) }
 {
     let mut joined = boxes;
     for at in coords {
-        if vary(joined.as_slice(), *at) {
-            joined = joined_at(alloc, joined, *at)?;
-        }
+        joined = joined_at(alloc, joined, *at)?;
     }
     Ok(joined)
 }
 
+// Joined along one coordinate.
+fn joined_at(
+    alloc: Global,
+    mut boxes: Vec<ConfigBox>,
+    at: Coord,
+) -> Result<Vec<ConfigBox>, OutOfMemory>
+    ensures counts { IfOk result (λ joined. HaveSameCounts boxes.items joined.items) }
+    ensures no_more { IfOk result (λ joined. length joined.items ≤ length boxes.items) }
+    ensures some { IfOk result (λ joined. 0 < length boxes.items → 0 < length joined.items) }
+    ensures stay { IfOk result (λ joined. HasOneSet at boxes.items → joined.items ≡ boxes.items) }
+    ensures ranges { IfOk result (λ joined. DifferByRanges at boxes.items → AreJoinedRanges at boxes.items joined.items) }
+{
+    if !vary(boxes.as_slice(), at) {
+        return Ok(boxes);
+    }
+    boxes.sort_by(|one, other| one.order_but(other, at))?;
+    joined_in_order(alloc, boxes)
+}
+
 // Whether a box has another set there than the first.
-fn vary(boxes: &[ConfigBox], at: Coord) -> bool {
+fn vary(boxes: &[ConfigBox], at: Coord) -> bool
+    ensures { MatchBool result (HasOneSet at boxes.now → ⊥) (HasOneSet at boxes.now) }
+{
     let Some((first, others)) = boxes.split_first() else {
         return false;
     };
@@ -48,23 +75,11 @@ fn vary(boxes: &[ConfigBox], at: Coord) -> bool {
     false
 }
 
-fn joined_at(
-    alloc: Global,
-    mut boxes: Vec<ConfigBox>,
-    at: Coord,
-) -> Result<Vec<ConfigBox>, OutOfMemory>
-    ensures counts { IfOk result (λ joined. HaveSameCounts boxes.items joined.items) }
-    ensures no_more { IfOk result (λ joined. length joined.items ≤ length boxes.items) }
-    ensures some { IfOk result (λ joined. 0 < length boxes.items → 0 < length joined.items) }
-{
-    boxes.sort_by(|one, other| one.order_but(other, at))?;
-    joined_in_order(alloc, boxes)
-}
-
 fn joined_in_order(alloc: Global, boxes: Vec<ConfigBox>) -> Result<Vec<ConfigBox>, OutOfMemory>
     ensures counts { IfOk result (λ joined. HaveSameCounts boxes.items joined.items) }
     ensures no_more { IfOk result (λ joined. length joined.items ≤ length boxes.items) }
     ensures some { IfOk result (λ joined. 0 < length boxes.items → 0 < length joined.items) }
+    ensures ranges { IfOk result (λ joined. (c : coord.Coord) → AreRanges c boxes.items → AreInOrder c boxes.items → AreJoinedRanges c boxes.items joined.items) }
 {
     let mut joined = Vec::with_capacity(alloc, boxes.len())?;
     for next in boxes {
@@ -78,6 +93,7 @@ fn add(alloc: Global, boxes: &mut Vec<ConfigBox>, next: ConfigBox) -> Result<(),
     ensures counts { OnOk result (HaveSameCounts (boxes.old.items ++ next ∷ []) boxes.new.items) }
     ensures no_more { OnOk result (length boxes.new.items ≤ length boxes.old.items + 1) }
     ensures some { OnOk result (0 < length boxes.new.items) }
+    ensures ranges { OnOk result ((c : coord.Coord) → AreRanges c (boxes.old.items ++ next ∷ []) → HaveGaps c boxes.old.items → EndBelow c (low_at c next) boxes.old.items → AreJoinedRanges c (boxes.old.items ++ next ∷ []) boxes.new.items) }
 {
     let Some(last) = boxes.pop() else {
         boxes.push(next)?;

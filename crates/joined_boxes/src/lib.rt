@@ -1,7 +1,8 @@
 //! Boxes of a list are joined where they make one box together, so that lists of devices are short.
 //!
 //! For the crates above: no box of the result has a device that none of the list had, and exactly one has
-//! it where exactly one had it (`HasNone` and `HasOnce`), and there are no more boxes than before.
+//! it where exactly one had it (`HasNone` and `HasOnce`), and there are no more boxes than before. Of boxes
+//! that differ by ranges of one coordinate alone, no two of the result make one (`IsLeast`).
 //!
 //! ```text
 //! // three boxes, alike but at two coordinates: de, sdk 26 to 30; de, sdk 31 to 34; fr, sdk 26 to 34

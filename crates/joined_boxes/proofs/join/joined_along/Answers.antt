@@ -1,5 +1,40 @@
+use Rattle.std.proofs.Common.{◌≡◌, inl, inr, List, length, get_or, refl, ap, ◌∙◌, arith}
+use Rattle.std.proofs.lemmas.Bool.{cases_eq}
+use Rattle.config_box.specs.config_record.declared.coord.Coord.{Coord}
+use Rattle.config_box.specs.config_record.declared.coord.Coord.TheVariants as coords
+use Rattle.config_box.specs.config_record.Coord.{place_of}
+use Rattle.config_box.specs.box_answers.NumberSet.{SetOf}
+use Rattle.config_box.proofs.ReadSteps.{place-at}
+use Rattle.config_box.proofs.box_answers.Coords.{all_coords-count, place_of-below}
+use Rattle.joined_boxes.proofs.RangeSteps.{none-of-them-join}
+use Rattle.joined_boxes.proofs.AlongSteps.{IsJoinedAlong, along-before, along-there, along-after}
 use Rattle.joined_boxes.proofs.CountSteps.{keep-devices}
 use Rattle.joined_boxes.proofs.join.joined_along.Goals as goal
 
 pub returns-clause-devices : goal.returns-clause-devices
 returns-clause-devices c = keep-devices _ _ c.loop-at.invariant.counts
+
+pub loop-at-preserved : goal.loop-at-preserved
+loop-at-preserved c =
+    let boxes : List (List SetOf) = c.args.boxes.items in
+    let old : List (List SetOf) = c.loop-at.joined.items in
+    let new : List (List SetOf) = c.in_ok-joined.joined.items in
+    let at : Coord = get_or c.args.coords.now c.loop-at.at-index coords.Mcc in
+    let here : place_of at ≡ c.loop-at.at-index = place-at c.loop-at.at-index at coords.Mcc c.args.coords.now c.requires refl c.loop-at-test.true in
+    let step : IsJoinedAlong at old new = record { stay = c.in_ok-joined.ensures.stay; ranges = c.in_ok-joined.ensures.ranges } in
+    let so_far = c.loop-at.invariant in record {
+      counts = λ d. c.in_ok-joined.ensures.counts d ∙ so_far.counts d;
+      no_more = omega (arith, c.in_ok-joined.ensures.no_more, so_far.no_more);
+      some = λ q. c.in_ok-joined.ensures.some (so_far.some q);
+      before = λ k differ le. along-before k at boxes old new differ (so_far.before k differ (omega arith)) (omega arith) step;
+      after = λ k differ lt. elim (cases_eq (place_of k) (place_of at)) [
+        | inl same ↦ along-there k at boxes old new differ (so_far.before k differ (omega arith)) same step
+        | inr other ↦ along-after k at boxes old new differ (so_far.after k differ (omega arith)) (omega arith) step
+      ];
+    }
+
+pub returns-clause-least : goal.returns-clause-least
+returns-clause-least c k differ =
+    let past = c.loop-at-test.false in
+    let count = ap (λ (cs : List Coord). length cs) c.requires in
+    none-of-them-join k c.args.boxes.items c.loop-at.joined.items (c.loop-at.invariant.after k differ (omega (arith, place_of-below k, all_coords-count)))

@@ -1,10 +1,17 @@
-use Rattle.std.proofs.Common.{◌≤◌, ◌<◌, length}
+use Rattle.std.proofs.Common.{◌≡◌, ◌≤◌, ◌<◌, length}
+use Rattle.config_box.specs.config_record.declared.coord.Coord.{Coord}
+use Rattle.config_box.specs.config_record.Coord.{place_of}
 use Rattle.joined_boxes.specs.Counts.{HaveSameCounts}
+use Rattle.joined_boxes.specs.Least.{DifferByRanges}
+use Rattle.joined_boxes.specs.Ranges.{AreJoinedRanges}
 use Rattle.joined_boxes.proofs.join.joined_along.Given as goal
 
+-- boxes that differ at one coordinate alone stay as they are until it is looked at, and are joined then
 abbrev pub invariant-loop-at : goal.invariant-loop-at
 invariant-loop-at l = record {
   counts : HaveSameCounts l.fn.boxes.items l.joined.items;
   no_more : length l.joined.items ≤ length l.fn.boxes.items;
   some : 0 < length l.fn.boxes.items → 0 < length l.joined.items;
+  before : (c : Coord) → DifferByRanges c l.fn.boxes.items → l.at-index ≤ place_of c → l.joined.items ≡ l.fn.boxes.items;
+  after : (c : Coord) → DifferByRanges c l.fn.boxes.items → place_of c < l.at-index → AreJoinedRanges c l.fn.boxes.items l.joined.items;
 }
