@@ -1,7 +1,7 @@
 //! What a resource says.
 
 /// What a resource says, apart from ids and indexes.
-#[derive(Debug, PartialEq, Eq, Drop)]
+#[derive(Debug, PartialEq, Eq, PartialOrd, Ord, Drop)]
 pub enum Content {
     /// A value as it is printed, but a string by its text and an id by its name, with the package.
     Value(Vec<u8>),
@@ -16,7 +16,7 @@ pub enum Content {
 }
 
 /// A row of a bag.
-#[derive(Debug, PartialEq, Eq, Drop)]
+#[derive(Debug, PartialEq, Eq, PartialOrd, Ord, Drop)]
 pub struct RowContent {
     /// The attribute or key by its name, or the id that has none.
     pub name: Vec<u8>,

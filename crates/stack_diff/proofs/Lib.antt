@@ -1,0 +1,6 @@
+pub mod Once
+pub mod Moved
+pub mod Both
+pub mod Walks
+pub mod Grouping
+pub mod Counts

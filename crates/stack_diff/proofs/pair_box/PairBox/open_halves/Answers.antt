@@ -1,0 +1,47 @@
+use Rattle.std.proofs.Common.{List, ◌∷◌, ◌++◌, [], append_assoc, true, false, sym, ◌∙◌, ap, subst}
+use Rattle.cert_checker.specs.box_answers.NumberSet.{SetOf}
+use Rattle.cert_checker.specs.config_box.declared.split.Split.{Split}
+use Rattle.cert_checker.specs.config_box.Tests.{test_of}
+use Rattle.cert_checker.specs.config_box.Halves.{IsHalf, IsSplit}
+use Rattle.cert_checker.specs.declared.rule.Rule.TheVariants.{TestKind, EmptyHalf}
+use Rattle.stack_diff.specs.declared.pair_box.PairBox.{PairBox}
+use Rattle.stack_diff.specs.PairBox.{members_of}
+use Rattle.stack_diff.proofs.pair_box.PairBox.open_halves.Goals as goal
+
+pub narrowed-requires-clause-within : goal.narrowed-requires-clause-within
+narrowed-requires-clause-within c = λ d m.
+    let split = subst (λ (s : Split). IsSplit (members_of c.args.self.now) (test_of c.args.test.now) s) c.in-Halves.is c.in_ok-yes.ensures.halves in
+    ((split.2.members d).0 m).member
+
+pub narrowed-requires-in-Halves-clause-within : goal.narrowed-requires-in-Halves-clause-within
+narrowed-requires-in-Halves-clause-within c = λ d m.
+    let split = subst (λ (s : Split). IsSplit (members_of c.args.self.now) (test_of c.args.test.now) s) c.in-Halves.is c.in_ok-yes.ensures.halves in
+    ((split.1.members d).0 m).member
+
+pub unreachable-requires : goal.unreachable-requires
+unreachable-requires c =
+    let wrong = subst (λ (s : Split). IsSplit (members_of c.args.self.now) (test_of c.args.test.now) s) c.in-WrongKind.is c.in_ok-yes.ensures.halves in
+    c.requires.asked TestKind wrong
+
+pub unreachable-requires-in-EmptyHalf : goal.unreachable-requires-in-EmptyHalf
+unreachable-requires-in-EmptyHalf c =
+    let split = subst (λ (s : Split). IsSplit (members_of c.args.self.now) (test_of c.args.test.now) s) c.in-EmptyHalf.is c.in_ok-yes.ensures.halves in
+    c.requires.asked EmptyHalf split.1
+
+pub returns : goal.returns
+returns c =
+    let part = members_of c.args.self.now in
+    let test = test_of c.args.test.now in
+    let split = subst (λ (s : Split). IsSplit part test s) c.in-Halves.is c.in_ok-yes.ensures.halves in
+    let no_half = c.in_ok-narrowed-in-Halves in
+    let yes_half = c.in_ok-narrowed-in-Halves-2 in
+    record {
+      yes_half = yes_half.field-0;
+      no_half = no_half.field-0;
+      opened = c.in_ok-push-in-Halves-2.ensures.items ∙ ap (λ (parts : List PairBox). parts ++ yes_half.field-0 ∷ []) c.in_ok-push-in-Halves.ensures.items
+          ∙ append_assoc c.args.open_boxes.now.items (no_half.field-0 ∷ []) (yes_half.field-0 ∷ []);
+      yes_members = subst (λ (sets : List SetOf). IsHalf part test true sets) (sym yes_half.ensures.members) split.1;
+      no_members = subst (λ (sets : List SetOf). IsHalf part test false sets) (sym no_half.ensures.members) split.2;
+      yes_open = yes_half.ensures.open;
+      no_open = no_half.ensures.open;
+    }

@@ -1,0 +1,15 @@
+pub mod Sides
+pub mod Once
+pub mod Changes
+pub mod ChangeSeen
+pub mod PairBox
+pub mod Told
+pub mod NeededTree
+pub mod Tree
+pub mod Grouped
+pub mod Compared
+pub mod Outcomes
+pub use Rattle.cert_checker.specs as cert_checker
+pub use Rattle.name_pairs.specs as name_pairs
+pub use Rattle.cert_maker.specs as cert_maker
+pub use Rattle.resource_content.specs as resource_content
