@@ -155,6 +155,16 @@ def stack_rows():
     many = " ".join(f"{name}={number}" for name, number in reversed(numbers))
     said = "\n".join(f"{name}\ndecimal {number}" for name, number in numbers)
     yield row("stack_calls", ["content_at", f"0 [] bag 0x00000000 {many}"], said)
+    before, after = "0x01010001=1 0x01010002=2", "0x01010001=7 0x01010003=3"
+    changed = [
+        f"changed {ID}",
+        "  0x01010001 decimal 1 -> decimal 7",
+        "  removed 0x01010002 decimal 2",
+        "  added 0x01010003 decimal 3",
+        "",
+    ]
+    bags = f"0 [] bag 0x00000000 {before}\n1 [] bag 0x00000000 {after}"
+    yield row("stack_calls", ["write_change", bags], "\n".join(changed))
     unset = [absent(C), absent(D)]
     before = [value(ONE), value(EMPTY), *unset]
     after = [value(ONE), value(EMPTY), value(ONE), unset[1]]
@@ -442,6 +452,7 @@ REACHED = {
     "Device::read": "read_value",
     "find_names": "Places::new Places::push Passed::new Passed::put",
     "name_pairs": "name_text name_of_row Noted::new Noted::note Noted::ids_on Noted::into_pairs",
+    "write_change": "RowValues::of",
     "push_base": "IndexedTable::new",
     "map_bytes": "Carried::new FirstRows::new FirstRows::in_order",
     "query_bytes": "open_stack",

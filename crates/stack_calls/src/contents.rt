@@ -1,15 +1,21 @@
 //! What a resource says.
 
 use config_record::Device;
-use marked_calls::{begin, end, tell, tell_text};
+use diff_text::{ConfigBox, Label, write_change};
+use marked_calls::{Writer, begin, end, tell, tell_text};
 use overlay_map::{ResId, Stack};
 use resource_content::{Content, content_at};
 use std::io;
 use std::test::Fail;
 
+/// The resources of the entries 0 and 1.
+const FIRST: ResId = ResId(0x7f01_0000);
+
+const SECOND: ResId = ResId(0x7f01_0001);
+
 pub fn content(rt: &HostRuntime, stack: &Stack<'_>, device: &Device) -> Result<(), Fail> {
     begin(rt);
-    let found = content_at(rt.alloc(), stack, ResId(0x7f01_0000), device);
+    let found = content_at(rt.alloc(), stack, FIRST, device);
     end(rt);
     match found {
         Ok(content) => tell_content(rt, &content)?,
@@ -30,4 +36,29 @@ fn tell_content(rt: &HostRuntime, content: &Content) -> io::Result<()> {
         }
         other => tell(rt, other),
     }
+}
+
+/// The lines where entry 0 says what stands before, and entry 1 what stands after.
+pub fn change(rt: &HostRuntime, stack: &Stack<'_>, device: &Device) -> Result<(), Fail> {
+    let before = content_at(rt.alloc(), stack, FIRST, device)?;
+    let after = content_at(rt.alloc(), stack, SECOND, device)?;
+    let whole = ConfigBox::read(rt.alloc(), br#"{"density":[160]}"#)?;
+    let mut out = Writer::failing_at(rt.alloc(), 0)?;
+    let label = Label::Id(FIRST);
+    begin(rt);
+    let written = write_change(
+        rt.alloc(),
+        &label,
+        &before,
+        &after,
+        &whole,
+        &whole,
+        &mut out,
+    );
+    end(rt);
+    match written {
+        Ok(()) => tell_text(rt, &out.text)?,
+        Err(fault) => tell(rt, fault.kind())?,
+    }
+    Ok(())
 }

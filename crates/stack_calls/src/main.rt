@@ -34,6 +34,7 @@ fn call_of(rt: &HostRuntime, name: &str, stack: &Stack<'_>, device: &Device) -> 
     match name {
         "bag" => bags::rows(rt, stack, device),
         "content_at" => contents::content(rt, stack, device),
+        "write_change" => contents::change(rt, stack, device),
         "apply" => themes::applied(rt, stack, device, false),
         "apply with force" => themes::applied(rt, stack, device, true),
         "Theme::of_styles" => themes::of_styles(rt, stack, device),

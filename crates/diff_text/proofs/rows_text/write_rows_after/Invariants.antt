@@ -1,0 +1,10 @@
+use Rattle.std.proofs.Common.{drop, map}
+use Rattle.contract_words.proofs.TextSteps.{PutsAllBut}
+use Rattle.resource_content.specs.ContentSeen.{row_content_of}
+use Rattle.diff_text.specs.RowsText.{row_after}
+use Rattle.diff_text.proofs.RowSteps.{line_by}
+use Rattle.diff_text.proofs.rows_text.write_rows_after.Given as goal
+
+abbrev pub invariant-loop-row : goal.invariant-loop-row
+invariant-loop-row g l =
+    PutsAllBut (line_by row_after (map row_content_of l.before)) (g.W.Write.contents l.fn.out) (g.W.Write.contents l.out) (map row_content_of l.rows) (map row_content_of (drop l.row-index l.rows))
