@@ -1,30 +1,29 @@
--- Coordinate after coordinate.
+-- Coordinate after coordinate: boxes that differ at one alone stay as they are until it is looked at, and behind it.
 use Rattle.std.proofs.Common.{◌≡◌, ◌≢◌, ◌<◌, arith, List, sym, ap, subst, ◌∙◌}
+use Rattle.std.specs.List.{All}
 use Rattle.config_box.specs.config_record.declared.coord.Coord.{Coord}
 use Rattle.config_box.specs.config_record.Coord.{place_of}
 use Rattle.config_box.proofs.config_record.ChangedNumber.{place_of-injective}
 use Rattle.config_box.specs.box_answers.NumberSet.{SetOf}
-use Rattle.joined_boxes.specs.Least.{HasOneSet, DifferByRanges}
-use Rattle.joined_boxes.specs.Ranges.{AreJoinedRanges}
+use Rattle.config_box.specs.box_answers.Members.{set_at}
+use Rattle.joined_boxes.specs.Least.{HasOneSet, DifferAt}
 
--- what is joined along one coordinate
-pub record IsJoinedAlong (at : Coord) (old new : List (List SetOf)) : Type 0 where
-  pub stay : HasOneSet at old → new ≡ old
-  pub ranges : DifferByRanges at old → AreJoinedRanges at old new
-
-pub along-before : (c at : Coord) (boxes old new : List (List SetOf)) → DifferByRanges c boxes → old ≡ boxes → place_of at < place_of c → IsJoinedAlong at old new → new ≡ boxes
-along-before c at boxes old new differ same lt step =
+pub along-before : (c at : Coord) (boxes old new : List (List SetOf)) → DifferAt c boxes → old ≡ boxes → place_of at < place_of c → (HasOneSet at old → new ≡ old) → new ≡ boxes
+along-before c at boxes old new differ same lt stay =
     let ne : at ≢ c = λ e. let places = ap place_of e in absurd (omega arith) in
-    step.stay (subst (HasOneSet at) (sym same) (differ.alike at ne)) ∙ same
+    stay (subst (HasOneSet at) (sym same) (differ.alike at ne)) ∙ same
 
-pub along-there : (c at : Coord) (boxes old new : List (List SetOf)) → DifferByRanges c boxes → old ≡ boxes → place_of c ≡ place_of at → IsJoinedAlong at old new → AreJoinedRanges c boxes new
-along-there c at boxes old new differ same places step =
-    let e : c ≡ at = place_of-injective c at places in
-    subst (λ (l : List (List SetOf)). AreJoinedRanges c l new) same
-    (subst (λ (k : Coord). AreJoinedRanges k old new) (sym e) (step.ranges (subst (λ (k : Coord). DifferByRanges k old) e (subst (DifferByRanges c) (sym same) differ))))
+-- D says how they differ, and R what is joined of them
+module _ (D : Coord → List (List SetOf) → Type 0) (R : Coord → List (List SetOf) → List (List SetOf) → Type 0) where
+  pub along-there : (c at : Coord) (boxes old new : List (List SetOf)) → D c boxes → old ≡ boxes → place_of c ≡ place_of at → (D at old → R at old new) → R c boxes new
+  along-there c at boxes old new differ same places step =
+      let e : c ≡ at = place_of-injective c at places in
+      subst (λ (l : List (List SetOf)). R c l new) same
+      (subst (λ (k : Coord). R k old new) (sym e) (step (subst (λ (k : Coord). D k old) e (subst (D c) (sym same) differ))))
 
-pub along-after : (c at : Coord) (boxes old new : List (List SetOf)) → DifferByRanges c boxes → AreJoinedRanges c boxes old → place_of c < place_of at → IsJoinedAlong at old new → AreJoinedRanges c boxes new
-along-after c at boxes old new differ joined lt step =
-    let ne : at ≢ c = λ e. let places = ap place_of e in absurd (omega arith) in
-    let one = differ.alike at ne in
-    subst (AreJoinedRanges c boxes) (sym (step.stay (one.0, joined.alike at ne one.0 one.1))) joined
+  pub along-after : (c at : Coord) (boxes old new : List (List SetOf)) → DifferAt c boxes → R c boxes old → ((k : Coord) → k ≢ c → (set : SetOf) → All (λ b. set_at b k ≡ set) boxes → All (λ b. set_at b k ≡ set) old)
+      → place_of c < place_of at → (HasOneSet at old → new ≡ old) → R c boxes new
+  along-after c at boxes old new differ joined alike lt stay =
+      let ne : at ≢ c = λ e. let places = ap place_of e in absurd (omega arith) in
+      let one = differ.alike at ne in
+      subst (R c boxes) (sym (stay (one.0, alike at ne one.0 one.1))) joined

@@ -3,3 +3,4 @@ pub mod OrderLaws
 pub mod RangeSteps
 pub mod SortSteps
 pub mod AlongSteps
+pub mod OneChoiceSteps

@@ -18,7 +18,7 @@ use Rattle.config_box.specs.box_answers.Members.{set_at, IsMember, IsBox}
 use Rattle.config_box.specs.Order.{order_but}
 use Rattle.joined_boxes.specs.Devices.{HasNone, HasOnce}
 use Rattle.joined_boxes.specs.Counts.{counted, box_count}
-use Rattle.joined_boxes.specs.Least.{HasOneSet, IsRange, DifferByRanges}
+use Rattle.joined_boxes.specs.Least.{HasOneSet, IsRange, DifferAt, DifferByRanges}
 use Rattle.joined_boxes.specs.Ranges.{low_at, high_at, AreRanges, AreInOrder, AreJoinedRanges}
 use Rattle.joined_boxes.proofs.CountSteps.{counted-member, count-cons, none-count, once-count}
 use Rattle.joined_boxes.proofs.OrderLaws.{boxes_ranked, alike-order, low-order}
@@ -52,7 +52,7 @@ unfolding all-numbers
 all-numbers-count d = length-map all_coords (device_number d) ∙ all_coords-count
 
 -- boxes that are alike but at a coordinate, and have a number there in common, have a device in common
-shared-device : (a b : List SetOf) (c : Coord) (n : ℕ) → IsBox a → ((k : Coord) → k ≢ c → set_at a k ≡ set_at b k) → IsIn (set_at a c) n → IsIn (set_at b c) n
+pub shared-device : (a b : List SetOf) (c : Coord) (n : ℕ) → IsBox a → ((k : Coord) → k ≢ c → set_at a k ≡ set_at b k) → IsIn (set_at a c) n → IsIn (set_at b c) n
     → (d : List ℕ) × (IsMember a d × IsMember b d)
 shared-device a b c n box alike first second =
     let m = some_member a box in
@@ -68,12 +68,12 @@ shared-device a b c n box alike first second =
       ),
     )
 
-at_most_once : (d : List ℕ) (boxes : List (List SetOf)) → HasNone d boxes ⊎ HasOnce d boxes → box_count d boxes ≤ 1
+pub at_most_once : (d : List ℕ) (boxes : List (List SetOf)) → HasNone d boxes ⊎ HasOnce d boxes → box_count d boxes ≤ 1
 at_most_once d boxes (inl none) = let zero_count = none-count d boxes none in omega arith
 at_most_once d boxes (inr once) = let one = once-count d boxes once in omega arith
 
 -- so two of the boxes have no number there in common, in whatever order they stand
-pub no-number-shared : (c : Coord) (boxes ys : List (List SetOf)) (i j n : ℕ) (x : List SetOf) → DifferByRanges c boxes → IsPermutation boxes ys → i < j → j < length ys
+pub no-number-shared : (c : Coord) (boxes ys : List (List SetOf)) (i j n : ℕ) (x : List SetOf) → DifferAt c boxes → IsPermutation boxes ys → i < j → j < length ys
     → IsIn (set_at (get_or ys i x) c) n → IsIn (set_at (get_or ys j x) c) n → ⊥
 no-number-shared c boxes ys i j n x differ moved lt q first second =
     let each = All-permutation IsBox boxes ys moved differ.each in
@@ -101,22 +101,22 @@ pub sorted-order : (c : Coord) (boxes ys : List (List SetOf)) → DifferByRanges
 sorted-order c boxes ys differ moved sorted i j d lt q =
     let a : List SetOf = get_or ys i d in
     let b : List SetOf = get_or ys j d in
-    let each = All-permutation IsBox boxes ys moved differ.each in
+    let each = All-permutation IsBox boxes ys moved differ.differ.each in
     let ranges = All-permutation (λ b. IsRange (set_at b c)) boxes ys moved differ.ranges in
     let p : i < length ys = omega arith in
     let alike : (k : Coord) → k ≢ c → set_at b k ≡ set_at a k =
-    λ k ne. let h = differ.alike k ne in one-set k ys j i d (h.0, All-permutation (λ b. set_at b k ≡ h.0) boxes ys moved h.1) q p in
+    λ k ne. let h = differ.differ.alike k ne in one-set k ys j i d (h.0, All-permutation (λ b. set_at b k ≡ h.0) boxes ys moved h.1) q p in
     let far : is_lt (order_but c b a) ≡ false = sorted_far (λ a b. is_lt (order_but c a b)) (boxes_ranked c) ys sorted i j d (omega arith) q in
     let low : low_at c a ≤ low_at c b = low-order (set_at a c) (set_at b c) (ranges i d p) (ranges j d q) (ap is_lt (sym (alike-order b a c (each j d q).count (each i d p).count alike)) ∙ far) in
     elim (cases_lt (high_at c a) (low_at c b)) [
       | inl behind ↦ behind
-      | inr not_behind ↦ absurd (no-number-shared c boxes ys i j (low_at c b) d differ moved lt q
+      | inr not_behind ↦ absurd (no-number-shared c boxes ys i j (low_at c b) d differ.differ moved lt q
           (between-in (set_at a c) (low_at c b) (ranges i d p) low not_behind) (low-in (set_at b c) (ranges j d q)))
     ]
 
 pub sorted-ranges : (c : Coord) (boxes ys : List (List SetOf)) → DifferByRanges c boxes → IsPermutation boxes ys → AreRanges c ys
 sorted-ranges c boxes ys differ moved = record {
-  alike = λ k ne. let h = differ.alike k ne in (h.0, All-permutation (λ b. set_at b k ≡ h.0) boxes ys moved h.1);
+  alike = λ k ne. let h = differ.differ.alike k ne in (h.0, All-permutation (λ b. set_at b k ≡ h.0) boxes ys moved h.1);
   ranges = All-permutation (λ b. IsRange (set_at b c)) boxes ys moved differ.ranges;
 }
 
@@ -136,5 +136,5 @@ one-set-joined c boxes differ moved one =
     (λ i j d lt q.
     let up = differ.ranges i d (omega arith) in
     let low = low-in (set_at (get_or boxes i d) c) up in
-    absurd (no-number-shared c boxes boxes i j (low_at c (get_or boxes i d)) d differ moved lt q low
+    absurd (no-number-shared c boxes boxes i j (low_at c (get_or boxes i d)) d differ.differ moved lt q low
     (subst (λ (s : SetOf). IsIn s (low_at c (get_or boxes i d))) (one-set c boxes i j d one (omega arith) q) low)))

@@ -2,4 +2,5 @@ pub mod Devices
 pub mod Counts
 pub mod Least
 pub mod Ranges
+pub mod OneChoice
 pub mod Unfolded

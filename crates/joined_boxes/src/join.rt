@@ -5,8 +5,9 @@ ghost use Rattle.config_box.specs.config_record.declared.coord.Coord as coord;
 ghost use Rattle.config_box.specs.config_record.Coord.{all_coords};
 ghost use Rattle.joined_boxes.specs.Devices.{KeepDevices};
 ghost use Rattle.joined_boxes.specs.Counts.{HaveSameCounts};
-ghost use Rattle.joined_boxes.specs.Least.{HasOneSet, DifferByRanges, IsLeast};
+ghost use Rattle.joined_boxes.specs.Least.{HasOneSet, DifferByRanges, DifferByChoices, IsLeast};
 ghost use Rattle.joined_boxes.specs.Ranges.{low_at, AreRanges, AreInOrder, HaveGaps, EndBelow, AreJoinedRanges};
+ghost use Rattle.joined_boxes.specs.OneChoice.{AreChoices, IsOneChoice};
 
 use config_box::{ConfigBox, Coord, OutOfMemory};
 use std::alloc::Global;
@@ -52,6 +53,7 @@ fn joined_at(
     ensures some { IfOk result (λ joined. 0 < length boxes.items → 0 < length joined.items) }
     ensures stay { IfOk result (λ joined. HasOneSet at boxes.items → joined.items ≡ boxes.items) }
     ensures ranges { IfOk result (λ joined. DifferByRanges at boxes.items → AreJoinedRanges at boxes.items joined.items) }
+    ensures choices { IfOk result (λ joined. DifferByChoices at boxes.items → IsOneChoice at boxes.items joined.items) }
 {
     if !vary(boxes.as_slice(), at) {
         return Ok(boxes);
@@ -80,6 +82,7 @@ fn joined_in_order(alloc: Global, boxes: Vec<ConfigBox>) -> Result<Vec<ConfigBox
     ensures no_more { IfOk result (λ joined. length joined.items ≤ length boxes.items) }
     ensures some { IfOk result (λ joined. 0 < length boxes.items → 0 < length joined.items) }
     ensures ranges { IfOk result (λ joined. (c : coord.Coord) → AreRanges c boxes.items → AreInOrder c boxes.items → AreJoinedRanges c boxes.items joined.items) }
+    ensures choices { IfOk result (λ joined. (c : coord.Coord) → AreChoices c boxes.items → IsOneChoice c boxes.items joined.items) }
 {
     let mut joined = Vec::with_capacity(alloc, boxes.len())?;
     for next in boxes {
@@ -94,6 +97,7 @@ fn add(alloc: Global, boxes: &mut Vec<ConfigBox>, next: ConfigBox) -> Result<(),
     ensures no_more { OnOk result (length boxes.new.items ≤ length boxes.old.items + 1) }
     ensures some { OnOk result (0 < length boxes.new.items) }
     ensures ranges { OnOk result ((c : coord.Coord) → AreRanges c (boxes.old.items ++ next ∷ []) → HaveGaps c boxes.old.items → EndBelow c (low_at c next) boxes.old.items → AreJoinedRanges c (boxes.old.items ++ next ∷ []) boxes.new.items) }
+    ensures choices { OnOk result ((c : coord.Coord) → AreChoices c (boxes.old.items ++ next ∷ []) → length boxes.old.items ≤ 1 → IsOneChoice c (boxes.old.items ++ next ∷ []) boxes.new.items) }
 {
     let Some(last) = boxes.pop() else {
         boxes.push(next)?;

@@ -1,9 +1,11 @@
-use Rattle.std.proofs.Common.{◌≡◌, List, [], ◌∷◌, ◌++◌, Option, sym, ap, ◌∙◌}
+use Rattle.std.proofs.Common.{◌≡◌, List, [], ◌∷◌, ◌++◌, Option, sym, ap, subst, ◌∙◌}
 use Rattle.std.specs.Option.{option_to_list}
 use Rattle.config_box.specs.box_answers.NumberSet.{SetOf}
 use Rattle.config_box.specs.Joined.{IsJoined, CannotJoin, HasJoinedSets}
 use Rattle.joined_boxes.specs.Counts.{box_count}
 use Rattle.joined_boxes.proofs.CountSteps.{same-joined}
+use Rattle.joined_boxes.specs.OneChoice.{AreChoices}
+use Rattle.joined_boxes.proofs.OneChoiceSteps.{choices-join, put-choice-at}
 use Rattle.joined_boxes.proofs.RangeSteps.{put-behind-at, put-joined-at}
 use Rattle.joined_boxes.proofs.join.add.Goals as goal
 
@@ -30,3 +32,18 @@ returns-clause-ranges c at r gaps below =
     let cannot : CannotJoin c.in-Some.last c.args.next = rw c.in_default-2.is at c.in_ok-both.ensures.sets in
     put-behind-at at c.args.boxes.now.items front c.push-3.new.self.items c.in-Some.last c.args.next whole
     (c.in_ok-push-4.ensures.items ∙ ap (λ (l : List (List SetOf)). l ++ c.args.next ∷ []) c.in_ok-push-3.ensures.items) r gaps below cannot
+
+pub returns-in-Some-2-clause-choices : goal.returns-in-Some-2-clause-choices
+returns-in-Some-2-clause-choices c at r few =
+    let front : List (List SetOf) = c.pop.new.self.items in
+    let whole : c.args.boxes.now.items ≡ front ++ c.in-Some.last ∷ [] = c.pop.ensures.items ∙ ap (λ (r : Option (List SetOf)). front ++ option_to_list r) c.in-Some.is in
+    let joined : IsJoined c.in-Some.last c.args.next c.in-Some-2.both = rw c.in-Some-2.is at c.in_ok-both.ensures.members in
+    let has : HasJoinedSets c.in-Some.last c.args.next c.in-Some-2.both = rw c.in-Some-2.is at c.in_ok-both.ensures.sets in
+    put-choice-at at c.args.boxes.now.items front c.push-in-Some-2.new.self.items c.in-Some.last c.args.next c.in-Some-2.both whole c.in_ok-push-2.ensures.items r few joined has
+
+pub returns-clause-choices : goal.returns-clause-choices
+returns-clause-choices c at r few =
+    let front : List (List SetOf) = c.pop.new.self.items in
+    let whole : c.args.boxes.now.items ≡ front ++ c.in-Some.last ∷ [] = c.pop.ensures.items ∙ ap (λ (r : Option (List SetOf)). front ++ option_to_list r) c.in-Some.is in
+    let cannot : CannotJoin c.in-Some.last c.args.next = rw c.in_default-2.is at c.in_ok-both.ensures.sets in
+    absurd (choices-join at front c.in-Some.last c.args.next (subst (λ (l : List (List SetOf)). AreChoices at (l ++ c.args.next ∷ [])) whole r) cannot)

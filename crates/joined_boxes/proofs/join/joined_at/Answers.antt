@@ -7,8 +7,10 @@ use Rattle.std.proofs.lemmas.Result.{IfOk-weaker}
 use Rattle.config_box.specs.config_record.declared.coord.Coord.{Coord}
 use Rattle.config_box.specs.box_answers.NumberSet.{SetOf}
 use Rattle.config_box.specs.Order.{order_but}
-use Rattle.joined_boxes.specs.Least.{HasOneSet, DifferByRanges}
+use Rattle.joined_boxes.specs.Least.{HasOneSet, DifferByRanges, DifferByChoices}
 use Rattle.joined_boxes.specs.Ranges.{AreRanges, AreInOrder, AreJoinedRanges}
+use Rattle.joined_boxes.specs.OneChoice.{AreChoices, IsOneChoice}
+use Rattle.joined_boxes.proofs.OneChoiceSteps.{sorted-choices, choice-of-sorted, one-set-chosen}
 use Rattle.joined_boxes.proofs.OrderLaws.{boxes_ranked}
 use Rattle.joined_boxes.proofs.SortSteps.{sorted-order, sorted-ranges, joined-of-sorted, one-set-joined}
 use Rattle.joined_boxes.proofs.join.joined_at.Goals as goal
@@ -35,3 +37,16 @@ returns-clause-ranges c =
     (λ joined h differ. joined-of-sorted at boxes ys joined.items c.sort_by.ensures.permutation
     (h at (sorted-ranges at boxes ys differ c.sort_by.ensures.permutation) (sorted-order at boxes ys differ c.sort_by.ensures.permutation sorted)))
     c.joined_in_order.ensures.ranges
+
+pub returns-then-not-vary-clause-choices : goal.returns-then-not-vary-clause-choices
+returns-then-not-vary-clause-choices c differ =
+    one-set-chosen c.args.at c.args.boxes.items differ (IsPermutation-refl c.args.boxes.items) (subst (HasOneSet c.args.at) c.as_slice.ensures.value c.if-not-vary.ensures)
+
+pub returns-clause-choices : goal.returns-clause-choices
+returns-clause-choices c =
+    let at : Coord = c.args.at in
+    let boxes : List (List SetOf) = c.args.boxes.items in
+    let ys : List (List SetOf) = c.sort_by.new.self.items in
+    IfOk-weaker c.joined_in_order.result (λ joined. (k : Coord) → AreChoices k ys → IsOneChoice k ys joined.items) (λ joined. DifferByChoices at boxes → IsOneChoice at boxes joined.items)
+    (λ joined h differ. choice-of-sorted at boxes ys joined.items c.sort_by.ensures.permutation (h at (sorted-choices at boxes ys differ c.sort_by.ensures.permutation)))
+    c.joined_in_order.ensures.choices
