@@ -110,6 +110,7 @@ def reading_rows():
     yield read("words_in_text", "# sizes\n\n  dimen/* \ns/k", '["dimen/*", "s/k"]')
     yield read("LayerList::read", '[{"table":"a"},{"table":"b","map":"m"}]', '[("a", None), ("b", Some("m"))]')
     yield read("LayerList::read", "{}", "Shape")
+    yield read("open_side", "A", "1")
     yield read("read_input", "aaa", "true\nNone")
     yield read("read_input of many bytes", "", "true")
 
@@ -370,6 +371,7 @@ def without_memory(program, name, answer, *words):
 
 WITHOUT_MEMORY = [
     without_memory("reading_calls", "look", f"Some({SECOND})", f'[["{ID}","0x7f010001"]]'),
+    without_memory("reading_calls", "open_side", "SideTable(New, 0, Chunk(Oversize(0)))", "cut"),
     without_memory("table_calls", "Table::open", "Chunk(Oversize(0))", "cut"),
     without_memory("command_calls", "rows_bytes", "rows 0 set-aside 0\nDone", "no rows", "", ID),
     without_memory("command_calls", "rows_bytes", "(Table(Chunk(Oversize(0))), 0)", "cut", "", ID),

@@ -8,7 +8,8 @@ use Rattle.fault_text.specs.overlay_map.Layer.{LayerOf, most_layers}
 use Rattle.fault_text.specs.declared.layers_fault.LayersFault.TheVariants.{TooManyLayers}
 use Rattle.fault_text.specs.declared.fault.ToolFault.{ToolFault}
 use Rattle.fault_text.specs.declared.fault.ToolFault.TheVariants.{Layers}
-use Rattle.fault_text.specs.ToolFault.{fault_of_layer_table, fault_of_layer_map}
+use Rattle.fault_text.specs.declared.side.Side.{Side}
+use Rattle.fault_text.specs.ToolFault.{fault_of_layer_table, fault_of_layer_map, fault_on_side}
 use Rattle.command_base.specs.MapErr.{map_err}
 
 -- the bytes of a layer: those of its table and, at an overlay, those of its id map
@@ -45,3 +46,7 @@ unfoldable pub stack_in : List LayerBytes → Result (List LayerOf) ToolFault
 stack_in layers = do
   _ ← refuse (nat_lt most_layers (length layers)) (Layers TooManyLayers)
   layers_from 0 layers
+
+-- the same of one of two stacks that are compared: a fault of its layers names the side
+abbrev pub stack_on_side : Side → List LayerBytes → Result (List LayerOf) ToolFault
+stack_on_side side layers = map_err (fault_on_side side) (stack_in layers)

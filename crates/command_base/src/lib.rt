@@ -10,6 +10,7 @@
 //! let list = LayerList::read(alloc, &json)?; // which files the layers are
 //! let layers = [(base.as_slice(), None), (overlay.as_slice(), Some(map.as_slice()))];
 //! let stack = open_stack(alloc, &layers)?; // the base and the overlay, opened
+//! let old = open_side(alloc, Side::Old, &layers)?; // the same of one of two; its faults name the side
 //! ```
 #![tactic(auto)]
 
@@ -19,9 +20,9 @@ mod layer_parts;
 mod stack;
 mod status;
 
-pub use fault_text::{LayersFault, Progress, ToolFault, fault_text};
+pub use fault_text::{LayersFault, Progress, Side, ToolFault, fault_text};
 pub use input::{InputFault, read_input};
 pub use layer_list::LayerList;
 pub use layer_parts::LayerParts;
-pub use stack::open_stack;
+pub use stack::{open_side, open_stack};
 pub use status::Status;

@@ -8,11 +8,13 @@ ghost use Rattle.fault_text.specs.declared.fault.ToolFault.TheVariants.{OutOfMem
 ghost use Rattle.fault_text.specs.ToolFault.{fault_of_layer_table, fault_of_layer_map};
 ghost use Rattle.command_base.specs.MapErr.{map_err};
 ghost use Rattle.command_base.specs.Output.{IsOfInput};
-ghost use Rattle.command_base.specs.StackBytes.{table_of_layer, map_of_layer, layer_in, layers_from, stack_in};
+ghost use Rattle.command_base.specs.StackBytes.{table_of_layer, map_of_layer, layer_in, layers_from, stack_in, stack_on_side};
 ghost use Rattle.command_base.specs.StackBytesSeen.{layer_bytes, with_layer};
 
 use crate::layer_parts::LayerParts;
-use fault_text::{IdMap, LayersFault, MOST_LAYERS, MapFault, Stack, Table, TableFault, ToolFault};
+use fault_text::{
+    IdMap, LayersFault, MOST_LAYERS, MapFault, Side, Stack, Table, TableFault, ToolFault,
+};
 use std::alloc::Global;
 
 /// The stack of layers of which each is the bytes of a table and, at an overlay, those of an id map. More
@@ -29,6 +31,21 @@ pub fn open_stack<'a>(
         return Err(ToolFault::Layers(LayersFault::TooManyLayers));
     }
     open_layers(alloc, layers)
+}
+
+/// The same stack of one of two that are compared: a fault of its layers names the side.
+pub fn open_side<'a>(
+    alloc: Global,
+    side: Side,
+    layers: &[LayerParts<&'a [u8]>],
+) -> Result<Stack<'a>, ToolFault>
+    ensures value { GivesOr OutOfMemory (λ stack. stack) result (stack_on_side side (map layer_bytes layers.now)) }
+    ensures of_input { IsOfInput result }
+{
+    match open_stack(alloc, layers) {
+        Ok(stack) => Ok(stack),
+        Err(fault) => Err(fault.on_side(side)),
+    }
 }
 
 #[tactic(auto, using(crate::proofs::StackSteps::stack_steps))]

@@ -1,8 +1,9 @@
 -- The line for a fault.
 use Rattle.std.specs.Prelude.{ℕ, List, [], ◌∷◌, ◌++◌, codes}
 use Rattle.fault_text.specs.declared.fault.ToolFault.{ToolFault}
-use Rattle.fault_text.specs.declared.fault.ToolFault.TheVariants.{Table, Layers, LayerTable, LayerMap, Device, Box, Certificate, OutOfMemory, Write}
+use Rattle.fault_text.specs.declared.fault.ToolFault.TheVariants.{Table, Layers, LayerTable, LayerMap, SideLayers, SideTable, SideMap, Device, Box, Certificate, OutOfMemory, Write}
 use Rattle.line_parts.specs.LayerText.{layer_text}
+use Rattle.fault_text.specs.SideName.{side_name}
 use Rattle.fault_text.specs.TableFaultText.{table_fault_text}
 use Rattle.fault_text.specs.LayersFaultText.{layers_fault_text}
 use Rattle.fault_text.specs.MapFaultText.{map_fault_text}
@@ -10,12 +11,16 @@ use Rattle.fault_text.specs.DeviceFaultText.{device_fault_text}
 use Rattle.fault_text.specs.BoxFaultText.{box_fault_text}
 use Rattle.fault_text.specs.CertFaultText.{cert_fault_text}
 
--- `refused: PART: `, the part of the input that is refused, a layer being named by its place; nothing where none is
+-- `refused: PART: `, the part of the input that is refused, a layer being named by its place, and behind the side where
+-- two stacks are compared; nothing where none is
 unfoldable pub part_text : ToolFault → List ℕ
 part_text (Table _) = codes "refused: table: "
 part_text (Layers _) = codes "refused: layers: "
 part_text (LayerTable layer _) = codes "refused: " ++ layer_text layer ++ codes " table: "
 part_text (LayerMap layer _) = codes "refused: " ++ layer_text layer ++ codes " map: "
+part_text (SideLayers side _) = codes "refused: " ++ side_name side ++ codes " layers: "
+part_text (SideTable side layer _) = codes "refused: " ++ side_name side ++ codes " " ++ layer_text layer ++ codes " table: "
+part_text (SideMap side layer _) = codes "refused: " ++ side_name side ++ codes " " ++ layer_text layer ++ codes " map: "
 part_text (Device _) = codes "refused: device: "
 part_text (Box _) = codes "refused: box: "
 part_text (Certificate _) = codes "refused: certificate: "
@@ -28,6 +33,9 @@ reason_text (Table fault) = table_fault_text fault
 reason_text (Layers fault) = layers_fault_text fault
 reason_text (LayerTable _ fault) = table_fault_text fault
 reason_text (LayerMap _ fault) = map_fault_text fault
+reason_text (SideLayers _ fault) = layers_fault_text fault
+reason_text (SideTable _ _ fault) = table_fault_text fault
+reason_text (SideMap _ _ fault) = map_fault_text fault
 reason_text (Device fault) = device_fault_text fault
 reason_text (Box fault) = box_fault_text fault
 reason_text (Certificate fault) = cert_fault_text fault

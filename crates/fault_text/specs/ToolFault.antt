@@ -14,6 +14,7 @@ use Rattle.overlay_map.specs.declared.stack_fault.StackFault.{StackFault}
 use Rattle.overlay_map.specs.declared.stack_fault.StackFault.TheVariants as of_stack
 use Rattle.fault_text.specs.declared.layers_fault.LayersFault.{LayersFault}
 use Rattle.fault_text.specs.declared.layers_fault.LayersFault.TheVariants as of_layers
+use Rattle.fault_text.specs.declared.side.Side.{Side}
 use Rattle.fault_text.specs.declared.fault.ToolFault.{ToolFault}
 use Rattle.fault_text.specs.declared.fault.ToolFault.TheVariants as of_tool
 
@@ -41,6 +42,13 @@ fault_of_layer_map layer fault = of_tool.LayerMap layer fault
 abbrev pub fault_of_stack : StackFault → ToolFault
 fault_of_stack of_stack.TooManyLayers = of_tool.Layers of_layers.TooManyLayers
 fault_of_stack of_stack.OutOfMemory = of_tool.OutOfMemory
+
+-- The same in one of two stacks that are compared: what is wrong with a list of layers, or with a layer, names the side.
+abbrev pub fault_on_side : Side → ToolFault → ToolFault
+fault_on_side side (of_tool.Layers fault) = of_tool.SideLayers side fault
+fault_on_side side (of_tool.LayerTable layer fault) = of_tool.SideTable side layer fault
+fault_on_side side (of_tool.LayerMap layer fault) = of_tool.SideMap side layer fault
+fault_on_side side fault = fault
 
 -- of the device
 abbrev pub fault_of_device : DeviceFault → ToolFault

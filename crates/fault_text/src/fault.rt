@@ -4,7 +4,8 @@ ghost use Rattle.std.specs.Prelude.{◌≡◌, ◌++◌, if◌then◌else◌, co
 ghost use Rattle.contract_words.specs.Writes.{Writes};
 ghost use Rattle.line_parts.specs.LayerText.{layer_text};
 ghost use Rattle.fault_text.specs.FaultText.{part_text, reason_text, fault_line};
-ghost use Rattle.fault_text.specs.ToolFault.{fault_of_layer_table, fault_of_layer_map};
+ghost use Rattle.fault_text.specs.SideName.{side_name};
+ghost use Rattle.fault_text.specs.ToolFault.{fault_of_layer_table, fault_of_layer_map, fault_on_side};
 ghost use Rattle.fault_text.specs.declared.fault.ToolFault.TheVariants.{OutOfMemory, Write};
 
 use crate::box_fault::write_box_fault;
@@ -12,6 +13,7 @@ use crate::cert_fault::write_cert_fault;
 use crate::device_fault::write_device_fault;
 use crate::layers_fault::{LayersFault, write_layers_fault};
 use crate::map_fault::write_map_fault;
+use crate::side::Side;
 use crate::table_fault::write_table_fault;
 use cert_tree::{BoxFault, CertFault};
 use line_parts::write_layer;
@@ -35,6 +37,14 @@ pub enum ToolFault {
     /// The id map of an overlay.
     #[error("refused: layer {0} map: {1}")]
     LayerMap(usize, MapFault),
+    /// The list of the layers' files of one of two stacks that are compared.
+    #[error("refused: {0} layers: {1}")]
+    SideLayers(Side, LayersFault),
+    #[error("refused: {0} layer {1} table: {2}")]
+    SideTable(Side, usize, TableFault),
+    /// The id map of an overlay in one of two stacks.
+    #[error("refused: {0} layer {1} map: {2}")]
+    SideMap(Side, usize, MapFault),
     #[error("refused: device: {0}")]
     Device(DeviceFault),
     #[error("refused: box: {0}")]
@@ -63,6 +73,19 @@ impl ToolFault {
     {
         let ran_out = matches!(fault, MapFault::OutOfMemory);
         or_memory(ran_out, ToolFault::LayerMap(layer, fault))
+    }
+
+    /// The same fault in one of two stacks that are compared: that of a list of layers, or of a layer, names the side,
+    /// and every other stays.
+    pub fn on_side(self, side: Side) -> ToolFault
+        ensures { result ≡ fault_on_side side self }
+    {
+        match self {
+            ToolFault::Layers(fault) => ToolFault::SideLayers(side, fault),
+            ToolFault::LayerTable(layer, fault) => ToolFault::SideTable(side, layer, fault),
+            ToolFault::LayerMap(layer, fault) => ToolFault::SideMap(side, layer, fault),
+            other => other,
+        }
     }
 }
 
@@ -186,6 +209,12 @@ fn write_part<W: Write + Drop>(fault: &ToolFault, out: &mut W) -> io::Result<()>
         ToolFault::Layers(_) => out.write_all(b"refused: layers: "),
         ToolFault::LayerTable(layer, _) => write_layer_part(layer, " table: ", out),
         ToolFault::LayerMap(layer, _) => write_layer_part(layer, " map: ", out),
+        ToolFault::SideLayers(side, _) => {
+            write_side(side, out)?;
+            out.write_all(b"layers: ")
+        }
+        ToolFault::SideTable(side, layer, _) => write_side_layer(side, layer, " table: ", out),
+        ToolFault::SideMap(side, layer, _) => write_side_layer(side, layer, " map: ", out),
         ToolFault::Device(_) => out.write_all(b"refused: device: "),
         ToolFault::Box(_) => out.write_all(b"refused: box: "),
         ToolFault::Certificate(_) => out.write_all(b"refused: certificate: "),
@@ -201,15 +230,44 @@ fn write_layer_part<W: Write + Drop>(layer: usize, part: &str, out: &mut W) -> i
     out.write_all(part.as_bytes())
 }
 
+fn write_side_layer<W: Write + Drop>(
+    side: Side,
+    layer: usize,
+    part: &str,
+    out: &mut W,
+) -> io::Result<()>
+    ensures { Writes W.contents out.old out.new result
+        (codes "refused: " ++ side_name side ++ codes " " ++ layer_text layer ++ part.now) }
+{
+    write_side(side, out)?;
+    write_layer(layer, out)?;
+    out.write_all(part.as_bytes())
+}
+
+// The side of a part that is refused.
+fn write_side<W: Write + Drop>(side: Side, out: &mut W) -> io::Result<()>
+    ensures { Writes W.contents out.old out.new result (codes "refused: " ++ side_name side ++ codes " ") }
+{
+    out.write_all(b"refused: ")?;
+    out.write_all(side.name().as_bytes())?;
+    out.write_all(b" ")
+}
+
 // The names of a fault from outside in.
 #[tactic(auto, unfolding(crate::specs::FaultText::reason_text))]
 fn write_reason<W: Write + Drop>(fault: &ToolFault, out: &mut W) -> io::Result<()>
     ensures { Writes W.contents out.old out.new result (reason_text fault.now) }
 {
     match *fault {
-        ToolFault::Table(fault) | ToolFault::LayerTable(_, fault) => write_table_fault(fault, out),
-        ToolFault::Layers(fault) => write_layers_fault(fault, out),
-        ToolFault::LayerMap(_, fault) => write_map_fault(fault, out),
+        ToolFault::Table(fault)
+        | ToolFault::LayerTable(_, fault)
+        | ToolFault::SideTable(_, _, fault) => write_table_fault(fault, out),
+        ToolFault::Layers(fault) | ToolFault::SideLayers(_, fault) => {
+            write_layers_fault(fault, out)
+        }
+        ToolFault::LayerMap(_, fault) | ToolFault::SideMap(_, _, fault) => {
+            write_map_fault(fault, out)
+        }
         ToolFault::Device(fault) => write_device_fault(fault, out),
         ToolFault::Box(fault) => write_box_fault(fault, out),
         ToolFault::Certificate(fault) => write_cert_fault(fault, out),

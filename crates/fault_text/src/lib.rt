@@ -8,6 +8,8 @@
 //! fault_text(&ToolFault::from(TableFault::NotTable), &mut out)?; // refused: table: NotTable
 //! fault_text(&ToolFault::from(BoxFault::Empty(Coord::Sdk)), &mut out)?; // refused: box: Empty sdk
 //! fault_text(&ToolFault::of_layer_table(2, TableFault::Entry(64)), &mut out)?; // refused: layer 2 table: Entry 64
+//! let fault = ToolFault::from(LayersFault::Shape).on_side(Side::New); // one of two stacks that are compared
+//! fault_text(&fault, &mut out)?; // refused: new layers: Shape
 //! ```
 #![tactic(auto)]
 
@@ -17,9 +19,11 @@ mod device_fault;
 mod fault;
 mod layers_fault;
 mod map_fault;
+mod side;
 mod table_fault;
 
 pub use cert_tree::Progress;
 pub use fault::{ToolFault, fault_text};
 pub use layers_fault::LayersFault;
 pub use overlay_map::{IdMap, MOST_LAYERS, MapFault, Stack, Table, TableFault};
+pub use side::Side;

@@ -33,6 +33,9 @@ impl ExitStatus {
             | ToolFault::Layers(_)
             | ToolFault::LayerTable(_, _)
             | ToolFault::LayerMap(_, _)
+            | ToolFault::SideLayers(_, _)
+            | ToolFault::SideTable(_, _, _)
+            | ToolFault::SideMap(_, _, _)
             | ToolFault::Device(_)
             | ToolFault::Box(_)
             | ToolFault::Certificate(_) => ExitStatus::Refused,

@@ -1,7 +1,7 @@
-//! Lists of layers, and inputs.
+//! Lists of layers, layers of one of two stacks, and inputs.
 
-use command_base::{InputFault, LayerList, read_input};
-use marked_calls::{Reader, begin, end, tell};
+use command_base::{InputFault, LayerList, Side, open_side, read_input};
+use marked_calls::{Reader, begin, end, table_of, tell};
 use std::alloc::Global;
 use std::test::Fail;
 
@@ -14,6 +14,20 @@ pub fn layer_list(rt: &HostRuntime, json: &str) -> Result<(), Fail> {
     end(rt);
     match found {
         Ok(list) => tell(rt, list.paths)?,
+        Err(fault) => tell(rt, fault)?,
+    }
+    Ok(())
+}
+
+/// Opens a table as the one layer of the new of two stacks, and tells how many layers that has.
+pub fn side(rt: &HostRuntime, word: &str) -> Result<(), Fail> {
+    let table = table_of(rt.alloc(), word)?;
+    let layers = [(table.as_slice(), None)];
+    begin(rt);
+    let found = open_side(rt.alloc(), Side::New, &layers);
+    end(rt);
+    match found {
+        Ok(stack) => tell(rt, stack.len())?,
         Err(fault) => tell(rt, fault)?,
     }
     Ok(())

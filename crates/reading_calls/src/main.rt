@@ -33,6 +33,7 @@ fn call(rt: &HostRuntime, words: &[String]) -> Result<(), Fail> {
         "NamedGoal::read" => certificates::named_goal(rt, given),
         "words_in_text" => word_files::text(rt, given),
         "LayerList::read" => inputs::layer_list(rt, given),
+        "open_side" => inputs::side(rt, given),
         "read_input" => inputs::input(rt, given.as_bytes()),
         "read_input of many bytes" => inputs::many_bytes(rt),
         _ => Ok(()),

@@ -57,6 +57,9 @@ omitting-printed contents says old new before after asked most inputs (Err (faul
 omitting-printed contents says old new before after asked most inputs (Err (faults.Layers fault)) omitting printed again right = absurd (let e = printed.0 in cc)
 omitting-printed contents says old new before after asked most inputs (Err (faults.LayerTable layer fault)) omitting printed again right = absurd (let e = printed.0 in cc)
 omitting-printed contents says old new before after asked most inputs (Err (faults.LayerMap layer fault)) omitting printed again right = absurd (let e = printed.0 in cc)
+omitting-printed contents says old new before after asked most inputs (Err (faults.SideLayers side fault)) omitting printed again right = absurd (let e = printed.0 in cc)
+omitting-printed contents says old new before after asked most inputs (Err (faults.SideTable side layer fault)) omitting printed again right = absurd (let e = printed.0 in cc)
+omitting-printed contents says old new before after asked most inputs (Err (faults.SideMap side layer fault)) omitting printed again right = absurd (let e = printed.0 in cc)
 omitting-printed contents says old new before after asked most inputs (Err (faults.Device fault)) omitting printed again right = absurd (let e = printed.0 in cc)
 omitting-printed contents says old new before after asked most inputs (Err (faults.Box fault)) omitting printed again right = absurd (let e = printed.0 in cc)
 omitting-printed contents says old new before after asked most inputs (Err (faults.Certificate fault)) omitting printed again right = absurd (let e = printed.0 in cc)
@@ -80,6 +83,9 @@ lines-first contents says old new before after asked most inputs (Err (faults.Ta
 lines-first contents says old new before after asked most inputs (Err (faults.Layers fault)) omitting printed first again right = inl printed.1
 lines-first contents says old new before after asked most inputs (Err (faults.LayerTable layer fault)) omitting printed first again right = inl printed.1
 lines-first contents says old new before after asked most inputs (Err (faults.LayerMap layer fault)) omitting printed first again right = inl printed.1
+lines-first contents says old new before after asked most inputs (Err (faults.SideLayers side fault)) omitting printed first again right = inl printed.1
+lines-first contents says old new before after asked most inputs (Err (faults.SideTable side layer fault)) omitting printed first again right = inl printed.1
+lines-first contents says old new before after asked most inputs (Err (faults.SideMap side layer fault)) omitting printed first again right = inl printed.1
 lines-first contents says old new before after asked most inputs (Err (faults.Device fault)) omitting printed first again right = inl printed.1
 lines-first contents says old new before after asked most inputs (Err (faults.Box fault)) omitting printed first again right = inl printed.1
 lines-first contents says old new before after asked most inputs (Err (faults.Certificate fault)) omitting printed first again right = inl printed.1

@@ -1,7 +1,7 @@
 -- An answer that is printed with what is said beside it, where errors may have shown how far the work is before.
 use Rattle.std.proofs.Common.{◌≡◌, ℕ, Bool, false, List, Option, Result, Ok, Err, refl, subst}
 use Rattle.program_run.specs.fault_text.declared.fault.ToolFault.{ToolFault}
-use Rattle.program_run.specs.fault_text.declared.fault.ToolFault.TheVariants.{Table, Layers, LayerTable, LayerMap, Device, Box, Certificate, OutOfMemory, Write}
+use Rattle.program_run.specs.fault_text.declared.fault.ToolFault.TheVariants.{Table, Layers, LayerTable, LayerMap, SideLayers, SideTable, SideMap, Device, Box, Certificate, OutOfMemory, Write}
 use Rattle.program_run.specs.command_base.declared.status.Status.{Status}
 use Rattle.program_run.specs.command_base.Output.{Output, PrintsOneOf}
 use Rattle.resource_tool.specs.Answered.{PrintsBothOneOf}
@@ -19,6 +19,9 @@ module _ {W V X : Type 0} (Tells : X → Output → List ℕ → Type 0) (conten
   alone begun after (Err (Layers f)) meant p = (p.0, p.1)
   alone begun after (Err (LayerTable n f)) meant p = (p.0, p.1)
   alone begun after (Err (LayerMap n f)) meant p = (p.0, p.1)
+  alone begun after (Err (SideLayers s f)) meant p = (p.0, p.1)
+  alone begun after (Err (SideTable s n f)) meant p = (p.0, p.1)
+  alone begun after (Err (SideMap s n f)) meant p = (p.0, p.1)
   alone begun after (Err (Device f)) meant p = (p.0, p.1)
   alone begun after (Err (Box f)) meant p = (p.0, p.1)
   alone begun after (Err (Certificate f)) meant p = (p.0, p.1)

@@ -7,7 +7,7 @@ use Rattle.std.specs.Io.KnownBytes.{Appends, Keeps, append_known}
 use Rattle.std.specs.declared.alloc.Global.{Global}
 use Rattle.std.specs.declared.io.buffered.BufWriter.{BufWriter}
 use Rattle.program_run.specs.fault_text.declared.fault.ToolFault.{ToolFault}
-use Rattle.program_run.specs.fault_text.declared.fault.ToolFault.TheVariants.{Table, Layers, LayerTable, LayerMap, Device, Box, Certificate, OutOfMemory, Write}
+use Rattle.program_run.specs.fault_text.declared.fault.ToolFault.TheVariants.{Table, Layers, LayerTable, LayerMap, SideLayers, SideTable, SideMap, Device, Box, Certificate, OutOfMemory, Write}
 use Rattle.program_run.specs.command_base.declared.status.Status.{Status}
 use Rattle.program_run.specs.command_base.Output.{Output, Prints, PrintsOneOf}
 use Rattle.resource_tool.specs.table_commands.TableOutput.{rows_output, dump_output}
@@ -114,6 +114,9 @@ module _ {W V E : Type 0} (is_terminal : Bool) (c : W → Option (List ℕ)) (d 
   prints-fault (Layers f) meant stays p = (p.0, stays p.1)
   prints-fault (LayerTable n f) meant stays p = (p.0, stays p.1)
   prints-fault (LayerMap n f) meant stays p = (p.0, stays p.1)
+  prints-fault (SideLayers s f) meant stays p = (p.0, stays p.1)
+  prints-fault (SideTable s n f) meant stays p = (p.0, stays p.1)
+  prints-fault (SideMap s n f) meant stays p = (p.0, stays p.1)
   prints-fault (Device f) meant stays p = (p.0, stays p.1)
   prints-fault (Box f) meant stays p = (p.0, stays p.1)
   prints-fault (Certificate f) meant stays p = (p.0, stays p.1)
@@ -126,6 +129,9 @@ module _ {W V E : Type 0} (is_terminal : Bool) (c : W → Option (List ℕ)) (d 
   prints_one_of-fault Allows (Layers f) meant stays p = (p.0, stays p.1)
   prints_one_of-fault Allows (LayerTable n f) meant stays p = (p.0, stays p.1)
   prints_one_of-fault Allows (LayerMap n f) meant stays p = (p.0, stays p.1)
+  prints_one_of-fault Allows (SideLayers s f) meant stays p = (p.0, stays p.1)
+  prints_one_of-fault Allows (SideTable s n f) meant stays p = (p.0, stays p.1)
+  prints_one_of-fault Allows (SideMap s n f) meant stays p = (p.0, stays p.1)
   prints_one_of-fault Allows (Device f) meant stays p = (p.0, stays p.1)
   prints_one_of-fault Allows (Box f) meant stays p = (p.0, stays p.1)
   prints_one_of-fault Allows (Certificate f) meant stays p = (p.0, stays p.1)
@@ -138,6 +144,9 @@ module _ {W V E : Type 0} (is_terminal : Bool) (c : W → Option (List ℕ)) (d 
   prints_both-fault (Layers f) meant stays p = (p.0, stays p.1, p.2)
   prints_both-fault (LayerTable n f) meant stays p = (p.0, stays p.1, p.2)
   prints_both-fault (LayerMap n f) meant stays p = (p.0, stays p.1, p.2)
+  prints_both-fault (SideLayers s f) meant stays p = (p.0, stays p.1, p.2)
+  prints_both-fault (SideTable s n f) meant stays p = (p.0, stays p.1, p.2)
+  prints_both-fault (SideMap s n f) meant stays p = (p.0, stays p.1, p.2)
   prints_both-fault (Device f) meant stays p = (p.0, stays p.1, p.2)
   prints_both-fault (Box f) meant stays p = (p.0, stays p.1, p.2)
   prints_both-fault (Certificate f) meant stays p = (p.0, stays p.1, p.2)
@@ -150,6 +159,9 @@ module _ {W V E : Type 0} (is_terminal : Bool) (c : W → Option (List ℕ)) (d 
   prints_told-fault Tells (Layers f) meant stays p = (p.0, stays p.1, p.2)
   prints_told-fault Tells (LayerTable n f) meant stays p = (p.0, stays p.1, p.2)
   prints_told-fault Tells (LayerMap n f) meant stays p = (p.0, stays p.1, p.2)
+  prints_told-fault Tells (SideLayers s f) meant stays p = (p.0, stays p.1, p.2)
+  prints_told-fault Tells (SideTable s n f) meant stays p = (p.0, stays p.1, p.2)
+  prints_told-fault Tells (SideMap s n f) meant stays p = (p.0, stays p.1, p.2)
   prints_told-fault Tells (Device f) meant stays p = (p.0, stays p.1, p.2)
   prints_told-fault Tells (Box f) meant stays p = (p.0, stays p.1, p.2)
   prints_told-fault Tells (Certificate f) meant stays p = (p.0, stays p.1, p.2)

@@ -2,6 +2,7 @@
 
 use cert_tree::CertFault;
 use chunk_walk::ChunkFault;
+use command_base::Side;
 use config_box::BoxFault;
 use config_record::{Coord, DeviceFault};
 use overlay_map::MapFault;
@@ -12,7 +13,7 @@ use string_pool::PoolFault;
 use type_chunks::TableFault;
 
 /// Faults of tables and of stacks, and their lines.
-const OF_LAYERS: [(ToolFault, &str); 10] = [
+const OF_LAYERS: [(ToolFault, &str); 14] = [
     (
         ToolFault::Table(TableFault::Chunk(ChunkFault::Oversize(0))),
         "refused: table: Chunk Oversize 0\n",
@@ -52,6 +53,22 @@ const OF_LAYERS: [(ToolFault, &str); 10] = [
     (
         ToolFault::LayerMap(63, MapFault::OtherPackage(ResId(0x0101_000a))),
         "refused: layer 63 map: OtherPackage 0x0101000a\n",
+    ),
+    (
+        ToolFault::SideLayers(Side::Old, LayersFault::Syntax),
+        "refused: old layers: Syntax\n",
+    ),
+    (
+        ToolFault::SideLayers(Side::New, LayersFault::TooManyLayers),
+        "refused: new layers: TooManyLayers\n",
+    ),
+    (
+        ToolFault::SideTable(Side::New, 1, TableFault::NotTable),
+        "refused: new layer 1 table: NotTable\n",
+    ),
+    (
+        ToolFault::SideMap(Side::Old, 1, MapFault::Repeated(ResId(0x7f01_0000))),
+        "refused: old layer 1 map: Repeated 0x7f010000\n",
     ),
 ];
 

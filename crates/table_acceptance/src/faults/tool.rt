@@ -3,6 +3,7 @@
 use crate::faults::other_text;
 use bags_themes::BagFault;
 use cert_tree::CertFault;
+use command_base::Side;
 use config_box::BoxFault;
 use config_record::DeviceFault;
 use overlay_map::{MapFault, StackFault};
@@ -71,6 +72,18 @@ fn shows_faults_of_commands(rt: HostRuntime) {
                 (
                     ToolFault::LayerMap(63, MapFault::Syntax),
                     "refused: layer 63 map: Syntax",
+                ),
+                (
+                    ToolFault::SideLayers(Side::New, LayersFault::Shape),
+                    "refused: new layers: Shape",
+                ),
+                (
+                    ToolFault::SideTable(Side::Old, 2, TableFault::NotTable),
+                    "refused: old layer 2 table: NotTable",
+                ),
+                (
+                    ToolFault::SideMap(Side::New, 63, MapFault::Syntax),
+                    "refused: new layer 63 map: Syntax",
                 ),
                 (
                     ToolFault::Device(DeviceFault::Density),
