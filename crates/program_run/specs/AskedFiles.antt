@@ -3,8 +3,9 @@ use Rattle.std.specs.Prelude.{ℕ, List, Result, Ok}
 use Rattle.contract_words.specs.Faults.{◌>>=◌}
 use Rattle.contract_words.specs.Sequences.{joined_each}
 use Rattle.command_base.specs.StackBytes.{LayerBytes}
+use Rattle.command_base.specs.fault_text.declared.side.Side.TheVariants.{Old, New}
 use Rattle.program_run.specs.AskedWords.{words_at}
-use Rattle.program_run.specs.Inputs.{Places, file_of, device_files}
+use Rattle.program_run.specs.Inputs.{Places, file_of, device_files, layers_on_side}
 use Rattle.program_run.specs.Stop.{StopOf}
 
 -- layers, the bytes of a device or of a box of devices, and the words of the argument that takes several
@@ -34,3 +35,19 @@ check_files places layers_path box_path certificate_path words = do
     asked = record { layers = files.layers; devices = files.devices; words = words };
     certificate = certificate;
   })
+
+-- two stacks of layers, the bytes of a box, and the words of the argument that takes several
+pub record DiffInputs : Type 0 where
+  pub old : List LayerBytes
+  pub new : List LayerBytes
+  pub box_json : List ℕ
+  pub words : List (List ℕ)
+
+-- the layers before a change, those after it, a box, and then the files of words
+unfoldable pub diff_files : Places → List ℕ → List ℕ → List ℕ → List (List ℕ) → Result DiffInputs StopOf
+diff_files places old_path new_path box_path words = do
+  old ← layers_on_side Old places old_path
+  new ← layers_on_side New places new_path
+  box_json ← file_of places box_path
+  words ← joined_each (words_at places) words
+  Ok (record { old = old; new = new; box_json = box_json; words = words })

@@ -10,7 +10,8 @@ use Rattle.program_run.specs.declared.files.ShowFiles.{ShowFiles}
 use Rattle.program_run.specs.declared.files.DeviceFiles.{DeviceFiles}
 use Rattle.program_run.specs.declared.files.AskedFiles.{AskedFiles}
 use Rattle.program_run.specs.declared.files.CheckFiles.{CheckFiles}
-use Rattle.program_run.specs.AskedFiles.{AskedInputs, CheckInputs}
+use Rattle.program_run.specs.declared.files.DiffFiles.{DiffFiles}
+use Rattle.program_run.specs.AskedFiles.{AskedInputs, CheckInputs, DiffInputs}
 use Rattle.program_run.specs.AskedWords.{strings_held}
 use Rattle.program_run.specs.Inputs.{MapInputs, SurveyInputs, ShowInputs, DeviceInputs}
 
@@ -45,3 +46,6 @@ asked_held asked = record { layers = layers_held asked.files.layers; devices = a
 
 abbrev pub check_held : CheckFiles → CheckInputs
 check_held files = record { asked = asked_held files.asked; certificate = files.certificate.items }
+
+abbrev pub diff_held : DiffFiles → DiffInputs
+diff_held files = record { old = layers_held files.old; new = layers_held files.new; box_json = files.box_json.items; words = strings_held files.words }

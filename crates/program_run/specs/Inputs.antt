@@ -5,11 +5,12 @@ use Rattle.contract_words.specs.Faults.{◌>>=◌}
 use Rattle.json_input.specs.Each.{each}
 use Rattle.command_base.specs.fault_text.ToolFault.{fault_of_layers}
 use Rattle.command_base.specs.fault_text.declared.fault.ToolFault.TheVariants as faults
+use Rattle.command_base.specs.fault_text.declared.side.Side.{Side}
 use Rattle.command_base.specs.LayerList.{LayerPaths, layers_in}
 use Rattle.command_base.specs.StackBytes.{LayerBytes}
 use Rattle.command_base.specs.declared.input.InputFault.{InputFault}
 use Rattle.command_base.specs.declared.input.InputFault.TheVariants.{Read, TooLarge, OutOfMemory}
-use Rattle.program_run.specs.Stop.{StopOf, file, tool}
+use Rattle.program_run.specs.Stop.{StopOf, file, tool, stop_on_side}
 use Rattle.program_run.specs.Place.{PlaceOf, standard_input, at_path}
 
 -- how many bytes an input has at most
@@ -58,6 +59,10 @@ layers_of places path = do
   json ← file_of places path
   layers ← or_stop (λ fault. tool (fault_of_layers fault)) (layers_in json)
   each (layer_of places) layers
+
+-- the same of one of two stacks that are compared: a fault of its list names the side
+abbrev pub layers_on_side : Side → Places → List ℕ → Result (List LayerBytes) StopOf
+layers_on_side side places path = or_stop (stop_on_side side) (layers_of places path)
 
 -- ---- the files of a request
 

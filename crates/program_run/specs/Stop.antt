@@ -6,6 +6,8 @@ use Rattle.clap.specs.declared.error.kind.ErrorKind.TheVariants as kinds
 use Rattle.command_base.specs.fault_text.declared.fault.ToolFault.{ToolFault}
 use Rattle.command_base.specs.fault_text.declared.fault.ToolFault.TheVariants as faults
 use Rattle.command_base.specs.fault_text.FaultText.{fault_line}
+use Rattle.command_base.specs.fault_text.ToolFault.{fault_on_side}
+use Rattle.command_base.specs.fault_text.declared.side.Side.{Side}
 use Rattle.command_words.specs.declared.words_fault.WordsFault.{WordsFault}
 use Rattle.command_words.specs.declared.words_fault.WordsFault.TheVariants.{CommandLine, NotText, BadId, OutOfMemory}
 use Rattle.named_resources.specs.declared.fault.NameFault.{NameFault}
@@ -41,6 +43,11 @@ stop_of (stops.File path) = file path.now
 stop_of (stops.LayerFile path) = file (string_bytes path)
 stop_of (stops.NoResource name) = no_resource (string_bytes name)
 stop_of (stops.Tool fault) = tool fault
+
+-- the same where two stacks are compared: a fault of layers names the side
+abbrev pub stop_on_side : Side → StopOf → StopOf
+stop_on_side side (tool fault) = tool (fault_on_side side fault)
+stop_on_side side stop = stop
 
 -- where a name stands for no resource
 abbrev pub stop_of_name : NameFault → Stop

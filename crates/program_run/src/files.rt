@@ -5,14 +5,14 @@ ghost use Rattle.json_input.specs.Each.{each};
 ghost use Rattle.command_base.specs.LayerListSeen.{paths_of, all_paths_of};
 ghost use Rattle.command_base.specs.StackBytesSeen.{layer_bytes};
 ghost use Rattle.program_run.specs.Stop.{GivesOrStops};
-ghost use Rattle.program_run.specs.Inputs.{map_files, layer_of, layers_of, survey_files, show_files, device_files};
-ghost use Rattle.program_run.specs.FilesSeen.{map_held, layer_held, all_held, layers_held, survey_held, show_held, devices_held, asked_held, check_held};
-ghost use Rattle.program_run.specs.AskedFiles.{asked_files, check_files};
+ghost use Rattle.program_run.specs.Inputs.{map_files, layer_of, layers_of, layers_on_side, survey_files, show_files, device_files};
+ghost use Rattle.program_run.specs.FilesSeen.{map_held, layer_held, all_held, layers_held, survey_held, show_held, devices_held, asked_held, check_held, diff_held};
+ghost use Rattle.program_run.specs.AskedFiles.{asked_files, check_files, diff_files};
 
 use crate::asked::asked_words;
 use crate::input::{Inputs, file_bytes, layer_file_bytes, table_bytes};
 use crate::stop::Stop;
-use command_base::{LayerList, LayerParts};
+use command_base::{LayerList, LayerParts, Side};
 use std::alloc::{AllocError, Global};
 
 /// The bytes of a table, and of an overlay's.
@@ -63,6 +63,22 @@ impl LayerFiles {
         let list = LayerList::read(alloc, &json)?;
         let files = read_each_layer(alloc, inputs, list.paths)?;
         Ok(LayerFiles { files })
+    }
+
+    /// The same of one of two stacks that are compared; a fault of its list names the side.
+    fn read_side<'a, I: Inputs>(
+        alloc: Global,
+        inputs: &I,
+        side: Side,
+        path: &'a str,
+    ) -> Result<LayerFiles, Stop<'a>>
+        ensures { IfSome (I.places inputs.now) (λ places. GivesOrStops layers_held result
+            (layers_on_side side places path.entry.now)) }
+    {
+        match LayerFiles::read(alloc, inputs, path) {
+            Ok(files) => Ok(files),
+            Err(stop) => Err(stop.on_side(side)),
+        }
     }
 
     /// The layers, lent.
@@ -248,5 +264,42 @@ impl CheckFiles {
         let words = asked_words(alloc, inputs, words)?;
         let asked = AskedFiles { files, words };
         Ok(CheckFiles { asked, certificate })
+    }
+}
+
+/// The bytes of two stacks of layers that are compared, and of a box, and the words of the argument that takes several.
+#[derive(Drop)]
+pub struct DiffFiles {
+    pub old: LayerFiles,
+    pub new: LayerFiles,
+    pub box_json: Vec<u8>,
+    pub words: Vec<String>,
+}
+
+impl DiffFiles {
+    /// Reads the list of the layers before a change with the files that it names, the same of those after it, then a box,
+    /// and the files of words.
+    #[tactic(auto, unfolding(crate::specs::AskedFiles::diff_files))]
+    pub fn read<'a, I: Inputs>(
+        alloc: Global,
+        inputs: &I,
+        old_path: &'a str,
+        new_path: &'a str,
+        box_path: &'a str,
+        words: &[&'a str],
+    ) -> Result<DiffFiles, Stop<'a>>
+        ensures { IfSome (I.places inputs.now) (λ places. GivesOrStops diff_held result
+            (diff_files places old_path.entry.now new_path.entry.now box_path.entry.now (map (λ word. word.now) words.now))) }
+    {
+        let old = LayerFiles::read_side(alloc, inputs, Side::Old, old_path)?;
+        let new = LayerFiles::read_side(alloc, inputs, Side::New, new_path)?;
+        let box_json = file_bytes(inputs, box_path)?;
+        let words = asked_words(alloc, inputs, words)?;
+        Ok(DiffFiles {
+            old,
+            new,
+            box_json,
+            words,
+        })
     }
 }

@@ -33,7 +33,7 @@ pub use command_words::{
 };
 pub use ending::{end, written_out};
 pub use files::{
-    AskedFiles, CheckFiles, DeviceFiles, LayerFiles, MapFiles, ShowFiles, SurveyFiles,
+    AskedFiles, CheckFiles, DeviceFiles, DiffFiles, LayerFiles, MapFiles, ShowFiles, SurveyFiles,
 };
 pub use input::{Inputs, ProcessInputs, table_bytes};
 pub use named_resources::{ResId, goals_named, id_named, ids_named};

@@ -10,7 +10,7 @@ ghost use Rattle.program_run.specs.Stop.{is_asked_for, is_output, status_of_stop
 
 use crate::status::ExitStatus;
 use clap::error::ErrorKind;
-use command_base::{LayersFault, ToolFault, fault_text};
+use command_base::{LayersFault, Side, ToolFault, fault_text};
 use command_words::WordsFault;
 use named_resources::NameFault;
 use std::alloc::{AllocError, AllocFailed};
@@ -43,7 +43,17 @@ pub struct Reported {
 }
 
 impl Stop<'_> {
-    ghost use Rattle.program_run.specs.Stop.{stop_of};
+    ghost use Rattle.program_run.specs.Stop.{stop_of, stop_on_side};
+
+    /// The same stop where two stacks are compared: a fault of layers names the side.
+    pub(crate) fn on_side(self, side: Side) -> Self
+        ensures { stop_of result ≡ stop_on_side side (stop_of self.entry) }
+    {
+        match self {
+            Stop::Tool(fault) => Stop::Tool(fault.on_side(side)),
+            other => other,
+        }
+    }
 
     /// Says why, on the stream where that belongs, and gives the exit status.
     pub fn report<O: Write + Drop, E: Write + Drop>(&self, out: &mut O, errors: &mut E) -> Reported
