@@ -4,7 +4,8 @@ use Rattle.std.proofs.lemmas.List.{map-append, append-nil}
 use Rattle.std.proofs.lemmas.List.Concat.{flat_map-append}
 use Rattle.std.proofs.lemmas.List.Elements.{All-nil, All-cons, All-same, All-push, All-pop}
 use Rattle.cert_checker.specs.box_answers.NumberSet.{SetOf}
-use Rattle.cert_checker.specs.box_answers.Members.{IsMember, IsBox}
+use Rattle.cert_checker.specs.box_answers.Members.{IsMember, SomeMember}
+use Rattle.cert_checker.proofs.box_answers.SomeMember.{some_member}
 use Rattle.resource_content.specs.Content.{ContentOf}
 use Rattle.resource_content.specs.ContentSeen.{content_of}
 use Rattle.stack_diff.specs.declared.resource.Resource.{Resource}
@@ -56,7 +57,7 @@ module _ (before after : Resource) (sets : List SetOf) where
   real-one leaf right = record {
     differ = right.differ;
     somewhere = omega arith;
-    boxes = All-cons IsBox leaf.members [] right.is_box (All-nil IsBox);
+    devices = All-cons SomeMember leaf.members [] (some_member leaf.members right.is_box) (All-nil SomeMember);
     so = All-cons (SoOn (content_of leaf.before) (content_of leaf.after)) leaf.members [] right.so (All-nil (SoOn (content_of leaf.before) (content_of leaf.after)));
   }
 
@@ -69,7 +70,7 @@ module _ (before after : Resource) (sets : List SetOf) where
       record {
         differ = real.differ;
         somewhere = omega (arith, long);
-        boxes = All-push IsBox boxes leaf.members real.boxes right.is_box;
+        devices = All-push SomeMember boxes leaf.members real.devices (some_member leaf.members right.is_box);
         so = All-push (SoOn old new) boxes leaf.members real.so so;
       }
 

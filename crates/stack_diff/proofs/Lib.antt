@@ -3,4 +3,5 @@ pub mod Moved
 pub mod Both
 pub mod Walks
 pub mod Grouping
+pub mod Joining
 pub mod Counts

@@ -8,7 +8,8 @@ use Rattle.std.proofs.lemmas.List.Elements.{All-from_recursion, recursion_from_A
 use Rattle.std.proofs.lemmas.List.Sorted.{IsPermutation-keeps, IsPermutation-swap, length_permutation, All-permutation}
 use Rattle.cert_checker.specs.box_answers.NumberSet.{SetOf}
 use Rattle.cert_checker.specs.box_answers.Members.{IsMember}
-use Rattle.stack_diff.specs.Once.{HasNone, HasOnce, KeepsEach}
+use Rattle.joined_boxes.specs.Devices.{HasNone, HasOnce}
+use Rattle.stack_diff.specs.Once.{KeepsEach}
 
 -- ---- by places
 

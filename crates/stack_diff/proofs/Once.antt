@@ -5,7 +5,8 @@ use Rattle.cert_checker.specs.box_answers.NumberSet.{SetOf}
 use Rattle.cert_checker.specs.box_answers.Members.{IsMember}
 use Rattle.cert_checker.specs.config_box.Tests.{TestOf, answers}
 use Rattle.cert_checker.specs.config_box.Halves.{IsHalf}
-use Rattle.stack_diff.specs.Once.{HasNone, HasOnce, KeepsEach}
+use Rattle.joined_boxes.specs.Devices.{HasNone, HasOnce}
+use Rattle.stack_diff.specs.Once.{KeepsEach}
 
 -- ---- lists that are put together
 

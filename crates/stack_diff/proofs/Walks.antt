@@ -16,7 +16,8 @@ use Rattle.stack_diff.specs.declared.resource.Resource.{Resource}
 use Rattle.stack_diff.specs.declared.pair_box.PairBox.{PairBox}
 use Rattle.stack_diff.specs.declared.told.Told.{Told}
 use Rattle.stack_diff.specs.Sides.{says, both_traces}
-use Rattle.stack_diff.specs.Once.{HasOnce, KeepsEach}
+use Rattle.joined_boxes.specs.Devices.{HasOnce}
+use Rattle.stack_diff.specs.Once.{KeepsEach}
 use Rattle.stack_diff.specs.PairBox.{members_of, IsOpen}
 use Rattle.stack_diff.specs.Told.{SaySame, IsTold}
 use Rattle.stack_diff.specs.NeededTree.{HasNeededTree}

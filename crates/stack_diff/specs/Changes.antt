@@ -2,9 +2,9 @@
 use Rattle.std.specs.Prelude.{◌≡◌, ◌≢◌, ℕ, ◌<◌, List, length}
 use Rattle.std.specs.List.{All, flat_map}
 use Rattle.cert_checker.specs.box_answers.NumberSet.{SetOf}
-use Rattle.cert_checker.specs.box_answers.Members.{IsMember, IsBox}
+use Rattle.cert_checker.specs.box_answers.Members.{IsMember, SomeMember}
 use Rattle.resource_content.specs.Content.{ContentOf}
-use Rattle.stack_diff.specs.Once.{HasOnce}
+use Rattle.joined_boxes.specs.Devices.{HasOnce}
 
 -- What is said before and after, on the devices of these boxes.
 pub record ChangeOf : Type 0 where
@@ -22,7 +22,7 @@ pub record IsSo (before after : List ℕ → ContentOf) (sets : List SetOf) (old
 pub record IsReal (before after : List ℕ → ContentOf) (sets : List SetOf) (change : ChangeOf) : Type 0 where
   pub differ : change.before ≢ change.after
   pub somewhere : 0 < length change.boxes
-  pub boxes : All IsBox change.boxes
+  pub devices : All SomeMember change.boxes
   pub so : All (λ part. (d : List ℕ) → IsMember part d → IsSo before after sets change.before change.after d) change.boxes
 
 -- the boxes of all changes

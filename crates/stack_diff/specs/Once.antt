@@ -1,17 +1,7 @@
 -- Which of some boxes has a device.
-use Rattle.std.specs.Prelude.{◌⊎◌, ℕ, List, [], ◌∷◌}
+use Rattle.std.specs.Prelude.{ℕ, List}
 use Rattle.cert_checker.specs.box_answers.NumberSet.{SetOf}
-use Rattle.cert_checker.specs.box_answers.Members.{IsMember}
-
--- none of them
-abbrev pub HasNone : List ℕ → List (List SetOf) → Type 0
-HasNone d [] = Unit {0}
-HasNone d (part ∷ parts) = (IsMember part d → ⊥) × HasNone d parts
-
--- one of them, and one alone
-abbrev pub HasOnce : List ℕ → List (List SetOf) → Type 0
-HasOnce d [] = ⊥
-HasOnce d (part ∷ parts) = (IsMember part d × HasNone d parts) ⊎ ((IsMember part d → ⊥) × HasOnce d parts)
+use Rattle.joined_boxes.specs.Devices.{HasNone, HasOnce}
 
 -- a device that is in none of the first is in none of the others, and one that is in one alone is in one alone
 pub record KeepsEach (old new : List (List SetOf)) : Type 0 where

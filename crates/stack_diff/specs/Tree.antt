@@ -12,7 +12,7 @@ use Rattle.stack_diff.specs.declared.pair_box.PairBox.{PairBox}
 use Rattle.stack_diff.specs.declared.told.Told.{Told}
 use Rattle.stack_diff.specs.declared.tree.Leaves.{Leaves}
 use Rattle.stack_diff.specs.Sides.{says, both_traces}
-use Rattle.stack_diff.specs.Once.{HasOnce}
+use Rattle.joined_boxes.specs.Devices.{HasOnce}
 use Rattle.stack_diff.specs.Changes.{IsSo}
 use Rattle.stack_diff.specs.NeededTree.{HasNeededTree}
 use Rattle.stack_diff.specs.PairBox.{members_of, IsOpen}

@@ -41,6 +41,6 @@ pub returns : goal.returns
 returns c =
     let none : c.leaves.told.items ≡ [] = nil_from_length _ (sym c.leaves.told.ok.0 ∙ c.in_default.ensures.cases.0) in
     record {
-      devices = subst (λ (told : List Told). KeepsEach (boxes_told c.args.told.items) (boxes_told told ++ boxes_in (map change_of c.leaves.changes.items))) none c.leaves.invariant.devices;
-      real = λ before after sets right. (c.leaves.invariant.real before after sets right).1;
+      devices = keeps-on _ _ _ (subst (λ (told : List Told). KeepsEach (boxes_told c.args.told.items) (boxes_told told ++ boxes_in (map change_of c.leaves.changes.items))) none c.leaves.invariant.devices) c.in_ok-join_last.ensures.devices;
+      real = λ before after sets right. c.in_ok-join_last.ensures.real before after sets (c.leaves.invariant.real before after sets right).1;
     }

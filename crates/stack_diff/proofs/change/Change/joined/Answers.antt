@@ -1,0 +1,13 @@
+use Rattle.std.proofs.Common.{refl, subst}
+use Rattle.std.specs.List.{All}
+use Rattle.cert_checker.specs.box_answers.Members.{SomeMember}
+use Rattle.stack_diff.proofs.change.Change.joined.Goals as goal
+
+pub returns : goal.returns
+returns c = record {
+  before = refl;
+  after = refl;
+  devices = c.in_ok-boxes.ensures.devices;
+  some = c.in_ok-boxes.ensures.some;
+  none_empty = subst (All SomeMember) c.deref.ensures.value c.have_devices.ensures;
+}
