@@ -2,6 +2,7 @@
 
 use config_box::{ConfigBox, Coord, Split, Test};
 use config_record::Device;
+use joined_boxes::join_boxes;
 use marked_calls::{begin, end, tell, tell_text};
 use overlay_map::IdMap;
 use res_value::ResId;
@@ -76,4 +77,39 @@ pub fn halves(rt: &HostRuntime, json: &str) -> Result<(), Fail> {
 fn tell_halves(rt: &HostRuntime, low: &ConfigBox, high: &ConfigBox) -> io::Result<()> {
     tell(rt, low.values(Coord::Density))?;
     tell(rt, high.values(Coord::Density))
+}
+
+/// Joins the boxes of two texts.
+pub fn both(rt: &HostRuntime, json: &str, other: &str) -> Result<(), Fail> {
+    let one = ConfigBox::read(rt.alloc(), json.as_bytes())?;
+    let other = ConfigBox::read(rt.alloc(), other.as_bytes())?;
+    begin(rt);
+    let found = one.joined(rt.alloc(), &other);
+    end(rt);
+    match found {
+        Ok(Some(both)) => tell(rt, both.values(Coord::Density))?,
+        Ok(None) => tell(rt, "no one box")?,
+        Err(fault) => tell(rt, fault)?,
+    }
+    Ok(())
+}
+
+/// Joins the boxes of a list of texts.
+pub fn joined(rt: &HostRuntime, texts: &[String]) -> Result<(), Fail> {
+    let mut boxes = Vec::new(rt.alloc());
+    for text in texts {
+        boxes.push(ConfigBox::read(rt.alloc(), text.as_bytes())?)?;
+    }
+    begin(rt);
+    let found = join_boxes(rt.alloc(), boxes);
+    end(rt);
+    match found {
+        Ok(joined) => {
+            for one in &joined {
+                tell(rt, one.values(Coord::Density))?;
+            }
+        }
+        Err(fault) => tell(rt, fault)?,
+    }
+    Ok(())
 }

@@ -27,6 +27,8 @@ fn call(rt: &HostRuntime, words: &[String]) -> Result<(), Fail> {
         "look" => devices::looked_up(rt, given),
         "ConfigBox::read" => devices::config_box(rt, given),
         "split" => devices::halves(rt, given),
+        "ConfigBox::joined" => devices::both(rt, given, word(words, 2)),
+        "join_boxes" => devices::joined(rt, words.get(1..).unwrap_or(&[])),
         "Cert::read" => certificates::certificate(rt, given),
         "Cert::write" => certificates::written(rt, given),
         "Goal::read" => certificates::goal(rt, given),
