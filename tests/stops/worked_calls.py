@@ -196,6 +196,7 @@ def goal_rows():
     yield ask("goal_end", two_styles, MEDIUM_BOX, absent(B), f"0x01010002@{ID}")
     yield from check_rows(ask)
     yield from make_rows(ask)
+    yield from diff_rows(ask)
 
 
 def check_rows(ask):
@@ -225,6 +226,14 @@ def make_rows(ask):
     yield ask("make", STYLED_DENSITIES, MEDIUM_BOX, unset, f"0x01010002@{ID}")
     yield from omit_rows(ask)
     yield from rows_of_many_nodes(ask)
+
+
+def diff_rows(ask):
+    """Two stacks side by side: how many changes a label has; and of each the contents before and after, and its boxes."""
+    other = DENSITIES.replace("] 2", "] 3")
+    yield ask("compare_stacks", DENSITIES, TO_197, "0", nodes=other)
+    yield ask("compare_stacks", DENSITIES, TO_198, "1\n2\n3\n1", nodes=other)
+    yield ask("compare_stacks", "0 [locale=fr] 1", BOTH_LOCALES, '1\n"Absent"\n2\n1', nodes=LOCALES)
 
 
 def omit_rows(ask):
@@ -470,7 +479,8 @@ REACHED = {
     "goal_end": "attribute_under CourseStep::end",
     "check": """goal_box OpenBox::whole OpenBox::whole_of_attribute OpenBox::narrowed OpenBox::common_trace
         OpenBoxes::new OpenBoxes::push Course::of_attribute Course::shared Course::after""",
-    "make": "make_watched make_bytes_watched ConfigBox::shared OpenBox::weightiest_parting",
+    "make": "make_watched make_bytes_watched ConfigBox::shared OpenBox::weightiest_parting parting_test",
+    "compare_stacks": "compare OpenBox::whole_of_content",
     "ids_named": "Finder::new Finder::id Finder::ids ids_of_type Stack::base_tables",
     "goals_named": "Finder::each_id",
     "OpenedBox::make": "OpenedBox::read OpenedBox::make_telling",

@@ -7,6 +7,7 @@
 
 mod ends;
 mod live;
+mod stacks;
 mod trees;
 mod without_memory;
 
@@ -47,6 +48,7 @@ fn call_of(rt: &HostRuntime, words: &[String], asked: Asked<'_, '_>) -> Result<(
         "check" => trees::checked(rt, asked, word(words, 4)),
         "make" => trees::made(rt, asked, word(words, 4)),
         "make_omitting" => trees::made_omitting(rt, asked, word(words, 4)),
+        "compare_stacks" => stacks::compared(rt, asked, word(words, 4)),
         "config_box" => without_memory::members(rt, asked.members),
         "Goal::attr" => without_memory::attr(rt),
         _ => Ok(()),
