@@ -35,6 +35,7 @@ values_text (LocalesOf numbers) = listed locale_value numbers
 
 -- ---- where a part is narrower than the whole
 
+-- how many numbers a set has
 abbrev pub number_count : SetOf → ℕ
 number_count (RangeOf low high) = high - low + 1
 number_count (NumbersOf numbers) = length numbers
