@@ -232,8 +232,8 @@ def diff_rows(ask):
     """Two stacks side by side: how many changes a label has; and of each the contents before and after, and its boxes."""
     other = DENSITIES.replace("] 2", "] 3")
     yield ask("compare_stacks", DENSITIES, TO_197, "0", nodes=other)
-    yield ask("compare_stacks", DENSITIES, TO_198, "1\n2\n3\n1", nodes=other)
-    yield ask("compare_stacks", "0 [locale=fr] 1", BOTH_LOCALES, '1\n"Absent"\n2\n1', nodes=LOCALES)
+    yield ask("compare_stacks", DENSITIES, TO_198, "1\ndecimal 2\ndecimal 3\n1", nodes=other)
+    yield ask("compare_stacks", "0 [locale=fr] 1", BOTH_LOCALES, '1\n"Absent"\ndecimal 2\n1', nodes=LOCALES)
 
 
 def omit_rows(ask):
