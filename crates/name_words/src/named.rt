@@ -4,7 +4,7 @@ use crate::cut::{is_part, parts_at_slash};
 use res_value::ResId;
 
 /// A resource, by its id or by its name.
-#[derive(Clone, Copy, Debug, PartialEq, Eq)]
+#[derive(Clone, Copy, Debug, PartialEq, Eq, PartialOrd, Ord)]
 pub enum Named<'a> {
     Id(ResId),
     Name {

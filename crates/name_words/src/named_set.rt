@@ -7,7 +7,7 @@ use crate::named::Named;
 const ALL: &str = "*";
 
 /// Resources that one word asks for.
-#[derive(Clone, Copy, Debug, PartialEq, Eq)]
+#[derive(Clone, Copy, Debug, PartialEq, Eq, PartialOrd, Ord)]
 pub enum NamedSet<'a> {
     One(Named<'a>),
     OfType { type_name: &'a str },

@@ -1,3 +1,5 @@
 pub mod AskedSteps
 pub mod TellsSteps
 pub mod WordSteps
+pub mod WordSetSteps
+pub mod PairSteps

@@ -3,6 +3,8 @@
 ghost use Rattle.std.specs.Prelude.{◌≡◌};
 ghost use Rattle.named_resources.specs.declared.fault.NameFault.TheVariants.{OutOfMemory};
 
+use name_words::{Named, NamedSet};
+use res_value::{ResId, write_id};
 use std::alloc::{AllocError, AllocFailed, Global};
 
 /// Stands for all entries of a type, and for all resources.
@@ -11,7 +13,7 @@ const ALL: &str = "*";
 /// Why names stand for no resource.
 #[derive(Debug, PartialEq, Eq, Drop)]
 pub enum NameFault {
-    /// The first that is not there: its text, as `dimen/margin`, `dimen/*` or `*`.
+    /// The first that is not there: its text, as `0x7f010000`, `dimen/margin`, `dimen/*` or `*`.
     NoResource(String),
     OutOfMemory,
 }
@@ -19,8 +21,12 @@ pub enum NameFault {
 impl NameFault {
     ghost use Rattle.std.specs.Prelude.{◌≡◌, ◌≢◌};
     ghost use Rattle.std.specs.Option.{option_map};
+    ghost use Rattle.std.specs.Str.{IsUtf8};
+    ghost use Rattle.res_value.specs.ResId.{id_text};
+    ghost use Rattle.name_words.specs.NamedSet.{named_set_of};
     ghost use Rattle.named_resources.specs.NameFault.{missing};
     ghost use Rattle.named_resources.specs.NamedIds.{name_text, type_text};
+    ghost use Rattle.named_resources.specs.NamedPairs.{text_of_set};
     ghost use Rattle.named_resources.specs.declared.fault.NameFault.TheVariants.{OutOfMemory};
 
     /// No row has this name.
@@ -30,6 +36,45 @@ impl NameFault {
         match format!(in alloc; "{type_name}/{entry_name}") {
             Ok(text) => NameFault::NoResource(text),
             Err(_) => NameFault::OutOfMemory,
+        }
+    }
+
+    /// No pair is asked for by this word.
+    pub(crate) fn no_pair(alloc: Global, set: NamedSet<'_>) -> NameFault
+        ensures { result ≢ OutOfMemory → missing result ≡ text_of_set (named_set_of set.entry) }
+    {
+        match set {
+            NamedSet::One(Named::Id(id)) => NameFault::no_id(alloc, id),
+            NamedSet::One(
+                Named::Name {
+                    type_name,
+                    entry_name,
+                },
+            ) => NameFault::no_name(alloc, type_name, entry_name),
+            NamedSet::OfType { type_name } => NameFault::no_row(alloc, Some(type_name)),
+            NamedSet::All => NameFault::no_row(alloc, None),
+        }
+    }
+
+    // Nothing has this id.
+    fn no_id(alloc: Global, id: ResId) -> NameFault
+        ensures { result ≢ OutOfMemory → missing result ≡ id_text id.0 }
+    {
+        let mut text = Vec::new(alloc);
+        match write_id(id, &mut text) {
+            Ok(()) => NameFault::no_resource(text),
+            // To a `Vec` only a want of memory is a fault.
+            Err(_) => NameFault::OutOfMemory,
+        }
+    }
+
+    fn no_resource(text: Vec<u8>) -> NameFault
+        requires { IsUtf8 text.items }
+        ensures { missing result ≡ text.items }
+    {
+        match String::from_utf8(text) {
+            Ok(text) => NameFault::NoResource(text),
+            Err(_) => unreachable!(),
         }
     }
 
