@@ -22,11 +22,10 @@ from concurrent.futures import ProcessPoolExecutor
 from case_files import Files, device_of
 from plain_certificates import certificate_json, goal_word, order_of, says
 from plain_rules import end_text
-from plain_trees import Traces, fault_of_need, needed_size, places, runs, varying
+from plain_trees import Traces, fault_of_need, have_larger_trees, places, runs, varying
 from random_cases import Case
 
 NODE_LIMIT = ("node limit\n", 1)
-TREES_TRIED = 40
 DEVICES_ASKED = 3
 
 
@@ -113,12 +112,7 @@ def faults_of_shown(files, case, asked, lines):
 def may_pass(case, limit):
     """Whether there are needed trees that have more nodes."""
     traces = [Traces(case.layers, goal) for goal in case.asked]
-    if len(varying(case.members)) <= 1:
-        return sum(2 * runs(case.box, case.members, of_id) - 1 for of_id in traces) > limit
-    sizes = (
-        sum(needed_size(case.box, case.members, of_id, case.chance) for of_id in traces) for _ in range(TREES_TRIED)
-    )
-    return any(size > limit for size in sizes)
+    return have_larger_trees(case.box, case.members, traces, limit, case.chance)
 
 
 def faults_of_counter(files, case, text):

@@ -13,19 +13,9 @@ import sys
 from concurrent.futures import ProcessPoolExecutor
 
 from named_tables import Table
+from plain_diff import Stack, pairs_of
 
 SHOWN = 600
-
-
-def names_and_others(layers):
-    """What each name of a package stands for, and the ids of rows for which no name does."""
-    names, ids = {}, set()
-    for table, is_overlay in layers:
-        for row in [] if is_overlay else table.rows:
-            ids.add(row.id)
-            if None not in row.names:
-                names.setdefault((row.id >> 24, *row.names), row.id)
-    return names, ids - set(names.values())
 
 
 def label_text(label):
@@ -45,21 +35,18 @@ def sides_text(old, new):
 
 
 def plain_pairs(old, new):
-    """The lines of the pairs: names by package, then by type and entry, byte by byte, and ids behind them."""
-    (old_names, old_others), (new_names, new_others) = names_and_others(old), names_and_others(new)
-    in_order = lambda name: (name[0], [text.encode() for text in name[1:]])
-    for names in sorted(old_names.keys() | new_names.keys(), key=in_order):
-        yield f"{label_text(names)} {sides_text(old_names.get(names), new_names.get(names))}"
-    for id in sorted(old_others | new_others):
-        yield f"{label_text(id)} {sides_text(id if id in old_others else None, id if id in new_others else None)}"
+    """The lines of the pairs."""
+    for label, *sides in pairs_of(Stack(old), Stack(new)):
+        yield f"{label_text(label)} {sides_text(*sides)}"
 
 
 def random_layers(chance):
-    return [(Table(chance), chance.random() < 0.2) for _ in range(chance.randint(1, 3))]
+    """Tables, of which some are overlays whose maps are empty."""
+    return [(Table(chance), {} if chance.random() < 0.2 else None) for _ in range(chance.randint(1, 3))]
 
 
 def word_of(layers):
-    return ",".join("+" * is_overlay + "#" + table.bytes.hex() for table, is_overlay in layers)
+    return ",".join("+" * (own is not None) + "#" + table.bytes.hex() for table, own in layers)
 
 
 def check_case(program, number):

@@ -17,7 +17,7 @@ import tempfile
 from concurrent.futures import ProcessPoolExecutor
 
 from case_files import id_text
-from made_layers import chunk, entries_chunk, pool_chunk, type_spec, value_bytes
+from made_layers import Pool, chunk, entries_chunk, type_spec, value_bytes
 from plain_bags import Bag
 from random_cases import FIRST_ATTRIBUTE, Case
 
@@ -66,11 +66,11 @@ class Twins:
 
 
 def table_bytes(types):
-    names = pool_chunk(TYPES)
-    keys = pool_chunk([f"key_{place}" for place in range(KEYS)])
+    names = Pool(TYPES).bytes
+    keys = Pool(f"key_{place}" for place in range(KEYS)).bytes
     pools = struct.pack("<5I", PACKAGE_HEADER, 0, PACKAGE_HEADER + len(names), 0, 0)
     package = chunk(0x0200, struct.pack("<I", PACKAGE_ID) + b"\0" * 256 + pools, names + keys + types)
-    return chunk(0x0002, struct.pack("<I", 1), pool_chunk([]) + package)
+    return chunk(0x0002, struct.pack("<I", 1), Pool(()).bytes + package)
 
 
 class Folder:

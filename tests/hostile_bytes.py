@@ -11,7 +11,7 @@ import subprocess
 import sys
 from concurrent.futures import ThreadPoolExecutor
 
-from made_layers import chunk, entries_chunk, entry_bytes, pool_chunk, type_spec
+from made_layers import Pool, chunk, entries_chunk, entry_bytes, type_spec
 from plain_rules import Record
 
 BYTES = (0x00, 0x7F, 0xFF)
@@ -21,7 +21,7 @@ COMMANDS = ("rows", "dump")
 def table():
     children = type_spec(1, 1) + entries_chunk(1, Record({}), {0: entry_bytes((0x10, 5))}, True)
     package = chunk(0x0200, struct.pack("<I", 0x7F) + b"\0" * 276, children)
-    return chunk(0x0002, struct.pack("<I", 1), pool_chunk([]) + package)
+    return chunk(0x0002, struct.pack("<I", 1), Pool(()).bytes + package)
 
 
 def changed(whole):

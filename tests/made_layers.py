@@ -2,12 +2,18 @@
 import os
 import struct
 import sys
+from collections import namedtuple
 
 sys.path.append(os.path.join(os.path.dirname(os.path.abspath(__file__)), "..", "bench"))
+import make_strings
 from make_rows import NO_ENTRY, chunk, type_spec
+from make_strings import shown
 
 from plain_bags import Bag
 from plain_certificates import order_of
+from plain_map import Row
+
+PACKAGE_HEADER = 284
 
 
 def record_bytes(record):
@@ -48,12 +54,12 @@ def value_bytes(kind, word):
     return struct.pack("<HBBI", 8, 0, kind, word)
 
 
-def entry_bytes(cell):
-    """A value, or a bag."""
+def entry_bytes(cell, key=0):
+    """A value, or a bag, with the index of its name."""
     if isinstance(cell, Bag):
         rows = b"".join(struct.pack("<I", name) + value_bytes(*value) for name, value in cell.rows)
-        return struct.pack("<HHIII", 16, 1, 0, cell.parent, len(cell.rows)) + rows
-    return struct.pack("<HHI", 8, 0, 0) + value_bytes(*cell)
+        return struct.pack("<HHIII", 16, 1, key, cell.parent, len(cell.rows)) + rows
+    return struct.pack("<HHI", 8, 0, key) + value_bytes(*cell)
 
 
 def type_chunk(count, entry, record, cell):
@@ -63,13 +69,21 @@ def type_chunk(count, entry, record, cell):
     return chunk(0x0201, header, struct.pack(f"<{count}I", *offsets) + entry_bytes(cell))
 
 
-def pool_chunk(texts):
-    """A pool of these texts, in ASCII and shorter than 128 bytes."""
-    strings = [bytes([len(text)] * 2) + text.encode() + b"\0" for text in texts]
-    offsets = [sum(map(len, strings[:place])) for place in range(len(strings))]
-    stored = b"".join(strings)
-    header = struct.pack("<5I", len(strings), 0, 0x100, 28 + 4 * len(strings), 0)
-    return chunk(0x0001, header, struct.pack(f"<{len(offsets)}I", *offsets) + stored + b"\0" * (-len(stored) % 4))
+class Pool:
+    """A pool of these texts, in UTF-8 or UTF-16."""
+
+    def __init__(self, texts, is_utf16=False):
+        self.texts = list(texts)
+        self.is_utf16 = is_utf16
+        self.bytes = make_strings.pool_chunk(self.texts, is_utf16)
+
+    def get(self, index):
+        """The text of an index, None where it is no text, and how it is printed."""
+        if not 0 <= index < len(self.texts):
+            return None, "!NoSuch"
+        text = self.texts[index]
+        is_text = not any(0xD800 <= ord(character) <= 0xDFFF for character in text)
+        return text if is_text else None, shown(text, self.is_utf16)
 
 
 def entries_chunk(type_id, record, entries, is_sparse):
@@ -96,3 +110,97 @@ def table_bytes(rows):
     package = chunk(0x0200, struct.pack("<I", package_id) + b"\0" * 276, children)
     pool = chunk(0x0001, b"\0" * 20, b"")
     return chunk(0x0002, struct.pack("<I", 1), pool + package)
+
+
+# ---- tables with names
+
+
+def package_chunk(package_id, offset, types, keys, children):
+    """A package with these pools of names. Without an offset of its types it has the shorter header."""
+    size = PACKAGE_HEADER if offset is None else PACKAGE_HEADER + 4
+    header = struct.pack("<I256x4I", package_id, size, 0, size + len(types.bytes), 0)
+    header += b"" if offset is None else struct.pack("<I", offset)
+    return chunk(0x0200, header, types.bytes + keys.bytes + children)
+
+
+def named_table_bytes(strings, packages):
+    """A table of packages with a pool of strings."""
+    return chunk(0x0002, struct.pack("<I", len(packages)), strings.bytes + b"".join(packages))
+
+
+Text = namedtuple("Text", "text")
+"""A value that is a string."""
+
+
+class Resource(namedtuple("Resource", "type_name entry_name rows")):
+    """A resource by its names, with its rows, each a configuration and a cell. In a cell a `Text` stands for a string of the
+    table, `@color/clay` and `?attr/tint` for references and attributes, and in a bag `attr/tint` for the id of a row or of the
+    parent."""
+
+    @property
+    def name(self):
+        return f"{self.type_name}/{self.entry_name}"
+
+
+def ids_of(resources, package_id=0x7F):
+    """The id of each resource, by its name: types and entries are numbered in their order."""
+    types, counts, ids = {}, {}, {}
+    for resource in resources:
+        type_id = types.setdefault(resource.type_name, len(types) + 1)
+        index = counts[type_id] = counts.get(type_id, -1) + 1
+        ids.setdefault(resource.name, package_id << 24 | type_id << 16 | index)
+    return ids
+
+
+class NamedTable:
+    """A table of resources of one package. `ids` are those that names stand for. Rows are told by their configurations, each of
+    which has a chunk of its own. The pool has first these strings, and then those of rows."""
+
+    def __init__(self, resources, ids, package_id=0x7F, strings=(), is_utf16=False, is_sparse=False):
+        self.ids, self.is_sparse, self.rows = ids, is_sparse, []
+        self.indexes = {text: index for index, text in enumerate(dict.fromkeys(strings))}
+        types = list(dict.fromkeys(resource.type_name for resource in resources))
+        keys = list(dict.fromkeys(resource.entry_name for resource in resources))
+        self.types, self.keys = Pool(types, is_utf16), Pool(keys, is_utf16)
+        self.key_of = {key: index for index, key in enumerate(keys)}
+        children = b""
+        for type_id, type_name in enumerate(types, 1):
+            of_type = [resource for resource in resources if resource.type_name == type_name]
+            children += type_spec(type_id, len(of_type)) + self.type_chunks(package_id << 24 | type_id << 16, of_type)
+        self.strings = Pool(self.indexes, is_utf16)
+        self.bytes = named_table_bytes(self.strings, [package_chunk(package_id, None, self.types, self.keys, children)])
+
+    def type_chunks(self, first_id, resources):
+        chunks = {}
+        for index, resource in enumerate(resources):
+            for place, (record, cell) in enumerate(resource.rows):
+                before = sum(other is record for other, _ in resource.rows[:place])
+                chunks.setdefault((record, before), {})[index] = self.cell(cell)
+        return b"".join(self.entries(first_id, record, resources, cells) for (record, _), cells in chunks.items())
+
+    def entries(self, first_id, record, resources, cells):
+        """The chunk of one configuration."""
+        type_id, entries = first_id >> 16 & 0xFF, {}
+        type_name = self.types.get(type_id - 1)
+        for index, cell in cells.items():
+            key = self.key_of[resources[index].entry_name]
+            names = type_name, self.keys.get(key)
+            said = tuple(text for text, _ in names), "/".join(shown for _, shown in names)
+            self.rows.append(Row(first_id | index, *said, record, cell))
+            entries[index] = entry_bytes(cell, key)
+        return entries_chunk(type_id, record, entries, self.is_sparse)
+
+    def cell(self, cell):
+        if not isinstance(cell, Bag):
+            return self.value(cell)
+        return Bag(self.id(cell.parent), [(self.id(name), self.value(value)) for name, value in cell.rows])
+
+    def value(self, value):
+        if isinstance(value, Text):
+            return 3, self.indexes.setdefault(value.text, len(self.indexes))
+        if isinstance(value, str):
+            return "@?".index(value[0]) + 1, self.id(value[1:])
+        return value
+
+    def id(self, name):
+        return self.ids.get(name, 0) if isinstance(name, str) else name

@@ -6,9 +6,9 @@ from plain_certificates import id_text
 
 REFERENCE, ATTRIBUTE = 1, 2
 
-Row = namedtuple("Row", "id names shown cell")
-"""A row of a table: its id, the names of its type and entry, how these are printed, and what it holds. A name that cannot be
-read, or is no text, is None."""
+Row = namedtuple("Row", "id names shown record cell")
+"""A row of a table: its id, the names of its type and entry, how these are printed, its configuration, and what it holds. A
+name that cannot be read, or is no text, is None."""
 
 
 def first_rows(rows):

@@ -251,19 +251,29 @@ def step_of(decided):
     return "kept out" if decided.startswith("kept out") else "no match"
 
 
+def by_id(rows):
+    """The rows of each id, of rows that are an id, a configuration and a cell."""
+    found = {}
+    for name, record, cell in rows:
+        found.setdefault(name, []).append((record, cell))
+    return found
+
+
 class Layers:
     """The layers of a stack: each has the rows of its ids, and, for an overlay, which own id stands for a target."""
 
     def __init__(self, layers):
         self.layers = layers
+        self.all_candidates = {}
         self.found = {}
 
     def candidates(self, name):
-        found = []
-        for layer, (rows, own_of) in enumerate(self.layers):
-            own = name if own_of is None else own_of.get(name)
-            found += [Candidate(layer, own_of is not None, record, cell) for record, cell in rows.get(own, [])]
-        return found
+        if name not in self.all_candidates:
+            found = self.all_candidates[name] = []
+            for layer, (rows, own_of) in enumerate(self.layers):
+                own = name if own_of is None else own_of.get(name)
+                found += [Candidate(layer, own_of is not None, record, cell) for record, cell in rows.get(own, [])]
+        return self.all_candidates[name]
 
     def set_aside(self):
         rows = [record for rows, _ in self.layers for of_id in rows.values() for record, _ in of_id]
@@ -301,17 +311,24 @@ class Layers:
             name = word
         return look_ups, ("too long", name)
 
-    def way_of_attribute(self, attr, styles, device):
-        """The same of an attribute under styles: the bags of each, and then the reference that the attribute is."""
-        look_ups, theme = [], {}
+    def way_of_bag(self, name, device):
+        """The look-ups of a bag and its parents, and its rows, as `look_up_bag` gives them."""
+        look_ups = []
 
         def select(name):
             decided, best = self.look_up(name, device)
             look_ups.append((name, decided))
             return None if best is None else (best.layer, best.cell)
 
+        rows = look_up_bag(select, name)
+        return look_ups, rows
+
+    def way_of_attribute(self, attr, styles, device):
+        """The same of an attribute under styles: the bags of each, and then the reference that the attribute is."""
+        look_ups, theme = [], {}
         for style in styles:
-            rows = look_up_bag(select, style)
+            more, rows = self.way_of_bag(style, device)
+            look_ups += more
             if rows is None or rows == "too long":
                 return look_ups, (rows or "absent", style)
             theme.update((name, (layer, value)) for name, layer, value in rows)

@@ -1,9 +1,11 @@
-"""A plain reading of needed trees: which tests of a tree are needed, and how many nodes the least tree has. For
-check_made.py.
+"""A plain reading of needed trees: which tests of a tree are needed, and how many nodes the least tree has. For the scripts
+beside it.
 
 A node is what its JSON says of it, and members are the devices that stand at it."""
 from plain_certificates import answer, order_of
 from plain_rules import COORDS
+
+TREES_TRIED = 40
 
 
 class Traces:
@@ -130,3 +132,17 @@ def needed_size(box, members, traces, chance):
         for wanted in (False, True) if test else ():
             waiting.append([device for device in at_node if answer(test, device) == wanted])
     return size
+
+
+def have_larger_trees(box, members, all_traces, limit, chance):
+    """Whether there are trees, one for each of these traces, that have more nodes in all than the limit and whose tests are all
+    needed. Where several coordinates vary, some are tried."""
+    if len(varying(members)) <= 1:
+        return sum(2 * runs(box, members, traces) - 1 for traces in all_traces) > limit
+    largest = [0] * len(all_traces)
+    for _ in range(TREES_TRIED):
+        for place, traces in enumerate(all_traces):
+            largest[place] = max(largest[place], needed_size(box, members, traces, chance))
+        if sum(largest) > limit:
+            return True
+    return False

@@ -1,7 +1,7 @@
 """Random layers, boxes and certificates. For the scripts beside it."""
 from plain_bags import Attribute, Bag
 from plain_certificates import Box, leaf_of
-from plain_rules import COORDS, Layers, Record
+from plain_rules import COORDS, Layers, Record, by_id
 
 FIRST_ID = 0x7F010000
 ENTRIES = 5
@@ -46,19 +46,81 @@ NUMBERS = {
 OTHER_CELLS = ((1, 0), (2, 0x01010001), (3, 0), (0, 0), (0, 1), (0x12, 0xFFFFFFFF), (0x1C, 0xFF102030))
 
 
-class Case:
-    """Layers, a box, and the goals that are asked: ids, and, where the case has styles, attributes too."""
+class Focus:
+    """A few coordinates that most rows and boxes are about."""
 
-    def __init__(self, chance, has_styles=False):
+    def __init__(self, chance):
         self.chance = chance
-        self.has_styles = has_styles
         self.focus = chance.sample(list(COORDS), chance.randint(1, 4))
         if chance.random() < 0.3 and "density" not in self.focus:
             self.focus.append("density")
+
+    def record(self):
+        given = {}
+        for name in COORDS:
+            if self.chance.random() < (0.6 if name in self.focus else 0.02):
+                given[name] = self.chance.choice(NUMBERS[name])
+        script = b"Latn" if self.chance.random() < 0.04 else b""
+        variant = b"polytoni" if self.chance.random() < 0.02 else b""
+        return Record(given, script, variant, int(self.chance.random() < 0.05))
+
+    def random_range(self, name, size):
+        greatest = GREATEST_DENSITY if name == "density" else COORDS[name]
+        size = self.chance.randint(1, min(size, greatest))
+        low = self.chance.choice((0,) + NUMBERS[name]) - self.chance.randrange(size)
+        low = max(low, 1 if name == "density" else 0)
+        low = min(low, greatest - size + 1)
+        return low, low + size - 1
+
+    def random_choice(self, name, size):
+        values = list(NUMBERS[name]) + ["" if name == "locale" else 0, self.chance.choice(NUMBERS[name])]
+        if name == "locale":
+            values += ["it", "de-AT"]
+        else:
+            values += [self.chance.choice(NUMBERS[name]) + 1]
+        most = GREATEST_DENSITY if name == "density" else COORDS[name]
+        least = 1 if name == "density" else 0
+        values = [value for value in values if name == "locale" or least <= value <= most]
+        return self.chance.choices(values, k=self.chance.randint(1, size))
+
+    def random_box(self, sizes):
+        """A box of one of these sizes, or somewhat smaller."""
+        said, left = {}, self.chance.choice(sizes)
+        for name in self.chance.sample(self.focus, len(self.focus)):
+            if name == "locale" or self.chance.random() < 0.4:
+                said[name] = self.random_choice(name, min(left, 8))
+                left //= len(set(said[name]))
+            else:
+                said[name] = self.random_range(name, left)
+                left //= said[name][1] - said[name][0] + 1
+        for name in COORDS:
+            if name not in said and (name == "density" or self.chance.random() < 0.15):
+                single = name == "locale" or self.chance.random() < 0.5
+                said[name] = self.random_choice(name, 1) if single else self.random_range(name, 1)
+        return Box(said)
+
+    def narrowed(self, box, size):
+        """The box with one value of each coordinate but one, of which it has so many at most."""
+        said = {}
+        for name, values in box.said.items():
+            value = self.chance.choice(box.sets[name])
+            said[name] = (value, value) if isinstance(values, tuple) else [value]
+        name = self.chance.choice(self.focus)
+        is_choice = name == "locale" or self.chance.random() < 0.4
+        said[name] = self.random_choice(name, min(size, 8)) if is_choice else self.random_range(name, size)
+        return Box(said)
+
+
+class Case(Focus):
+    """Layers, a box, and the goals that are asked: ids, and, where the case has styles, attributes too."""
+
+    def __init__(self, chance, has_styles=False):
+        super().__init__(chance)
+        self.has_styles = has_styles
         self.tables = [self.rows() for _ in range(chance.randint(1, 3))]
         self.maps = [None] + [self.id_map() for _ in self.tables[1:]]
         self.layers = Layers([(by_id(rows), own) for rows, own in zip(self.tables, self.maps)])
-        self.box = self.random_box()
+        self.box = self.random_box((2, 30, 100, 300) if has_styles else (2, 30, 300, MOST_MEMBERS))
         self.members = self.box.members()
         self.asked = [self.goal() for _ in range(chance.randint(1, 3))]
 
@@ -73,15 +135,6 @@ class Case:
         return FIRST_ATTRIBUTE + self.chance.randrange(ATTRIBUTES)
 
     # ---- layers
-
-    def record(self):
-        given = {}
-        for name in COORDS:
-            if self.chance.random() < (0.6 if name in self.focus else 0.02):
-                given[name] = self.chance.choice(NUMBERS[name])
-        script = b"Latn" if self.chance.random() < 0.04 else b""
-        variant = b"polytoni" if self.chance.random() < 0.02 else b""
-        return Record(given, script, variant, int(self.chance.random() < 0.05))
 
     def value_of_row(self):
         draw = self.chance.random()
@@ -134,53 +187,9 @@ class Case:
         targets = self.chance.sample(range(FIRST_ID, FIRST_ID + ENTRIES), self.chance.randint(0, ENTRIES))
         return {target: FIRST_ID + self.chance.randrange(ENTRIES) for target in targets}
 
-    # ---- boxes
-
-    def random_range(self, name, size):
-        greatest = GREATEST_DENSITY if name == "density" else COORDS[name]
-        size = self.chance.randint(1, min(size, greatest))
-        low = self.chance.choice((0,) + NUMBERS[name]) - self.chance.randrange(size)
-        low = max(low, 1 if name == "density" else 0)
-        low = min(low, greatest - size + 1)
-        return low, low + size - 1
-
-    def random_choice(self, name, size):
-        values = list(NUMBERS[name]) + ["" if name == "locale" else 0, self.chance.choice(NUMBERS[name])]
-        if name == "locale":
-            values += ["it", "de-AT"]
-        else:
-            values += [self.chance.choice(NUMBERS[name]) + 1]
-        most = GREATEST_DENSITY if name == "density" else COORDS[name]
-        least = 1 if name == "density" else 0
-        values = [value for value in values if name == "locale" or least <= value <= most]
-        return self.chance.choices(values, k=self.chance.randint(1, size))
-
-    def random_box(self):
-        said = {}
-        left = self.chance.choice((2, 30, 100, 300) if self.has_styles else (2, 30, 300, MOST_MEMBERS))
-        for name in self.chance.sample(self.focus, len(self.focus)):
-            if name == "locale" or self.chance.random() < 0.4:
-                said[name] = self.random_choice(name, min(left, 8))
-                left //= len(set(said[name]))
-            else:
-                said[name] = self.random_range(name, left)
-                left //= said[name][1] - said[name][0] + 1
-        for name in COORDS:
-            if name not in said and (name == "density" or self.chance.random() < 0.15):
-                single = name == "locale" or self.chance.random() < 0.5
-                said[name] = self.random_choice(name, 1) if single else self.random_range(name, 1)
-        return Box(said)
-
     def narrow(self):
         """Leaves one value of each coordinate but one."""
-        said = {}
-        for name, values in self.box.said.items():
-            value = self.chance.choice(self.box.sets[name])
-            said[name] = (value, value) if isinstance(values, tuple) else [value]
-        name = self.chance.choice(self.focus)
-        is_choice = name == "locale" or self.chance.random() < 0.4
-        said[name] = self.random_choice(name, 8) if is_choice else self.random_range(name, 300)
-        self.box = Box(said)
+        self.box = self.narrowed(self.box, 300)
         self.members = self.box.members()
 
 
@@ -326,10 +335,3 @@ class CertifiedCase(Case):
         attr, styles = goal
         others = [(attr + 1, styles), (attr, styles + (FIRST_ID,)), (attr, styles[1:]), (attr, styles[::-1])]
         return Attribute(*self.chance.choice(others))
-
-
-def by_id(rows):
-    found = {}
-    for name, record, cell in rows:
-        found.setdefault(name, []).append((record, cell))
-    return found

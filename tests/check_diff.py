@@ -1,0 +1,255 @@
+#!/usr/bin/env python3
+"""Holds what `restool diff` prints against a plain reading of the rules, which asks every device of a box:
+
+    check_diff.py PROGRAM CASES [JOBS [FIRST]]
+
+Two stacks of layers are drawn, mostly an app with overlays before a few changes and after them (random_apps.py), else tables with
+odd names (named_tables.py); a box; and now and then words that ask for some resources, or a limit of nodes. Each label is to be
+told as removed, added or the same, or with lines that say what each device of the box loads from either stack, where that
+differs, once and in order.
+
+The cases are numbered from FIRST on, which is 0 if it is not given. The last line counts what was compared."""
+import json
+import os
+import random
+import re
+import subprocess
+import sys
+import tempfile
+from collections import Counter
+from concurrent.futures import ProcessPoolExecutor
+from itertools import groupby
+
+from check_names import Missing, Words, written
+from named_tables import Table
+from plain_certificates import id_text
+from plain_diff import Both, Stack, asks_for, change_text, devices_text, label_text, pairs_of
+from plain_trees import Traces, have_larger_trees, varying
+from random_apps import SIZES, Apps, layers_of
+from random_cases import Focus
+
+CASES_OF_A_JOB = 25
+DEVICES = re.compile(r"( on(?: [A-Za-z]+=[A-Za-z0-9.,-]+)+)?$")
+NODE_LIMIT = "node limit\n", "", 1
+SHOWN = 700
+
+
+class Case:
+    """Two stacks of layers, a box, words, and a limit of nodes, None where that is left out."""
+
+    def __init__(self, number):
+        self.chance = chance = random.Random(number)
+        if chance.random() < 0.85:
+            apps = Apps(chance)
+            self.old, self.new, self.box = layers_of(apps.before), layers_of(apps.after), apps.box
+        else:
+            self.old, self.new = (
+                [(Table(chance), {} if chance.random() < 0.2 else None) for _ in range(chance.randint(1, 3))] for _ in range(2)
+            )
+            self.box = Focus(chance).random_box(SIZES)
+        self.members = self.box.members()
+        self.stacks = Both(Stack(self.old), Stack(self.new))
+        known = [(table, own is not None) for table, own in self.old + self.new]
+        words = Words(chance, known) if chance.random() < 0.2 else None
+        self.words = [words.several() for _ in range(chance.randint(1, 4))] if words else []
+        self.limit = chance.choice((1, 3, 10, 20, 40, 100, 1000)) if chance.random() < 0.15 else None
+
+    def pairs(self):
+        """The pairs that are asked for."""
+        pairs = list(pairs_of(*self.stacks.stacks))
+        for word in self.words:
+            if not any(asks_for(word, pair) for pair in pairs):
+                raise Missing(word)
+        return [pair for pair in pairs if not self.words or any(asks_for(word, pair) for word in self.words)]
+
+    # ---- the program
+
+    def write(self, folder):
+        """The files, and the words of the command."""
+        write_inputs(folder, self.old, self.new, self.box.json())
+        limit = [] if self.limit is None else ["--max-nodes", str(self.limit)]
+        return ["diff", *limit, "old", "new", "box", *written(self.chance, folder, self.words)]
+
+
+def write_inputs(folder, old, new, box):
+    """Two lists of layers and a box, and the tables and maps that they name, equal ones once."""
+    names = {}
+    for name, layers in (("old", old), ("new", new)):
+        listed = []
+        for table, own in layers:
+            listed.append({"table": written_once(folder, names, table.bytes)})
+            if own is not None:
+                pairs = [[id_text(target), id_text(name)] for target, name in own.items()]
+                listed[-1]["map"] = written_once(folder, names, json.dumps(pairs).encode())
+        write(folder, name, json.dumps(listed).encode())
+    write(folder, "box", json.dumps(box).encode())
+
+
+def write(folder, name, some):
+    with open(os.path.join(folder, name), "wb") as out:
+        out.write(some)
+
+
+def written_once(folder, names, some):
+    """The name of a file that has these bytes."""
+    if some not in names:
+        names[some] = f"file{len(names)}"
+        write(folder, names[some], some)
+    return names[some]
+
+
+# ---- the lines of a label
+
+
+class Line:
+    """A line of a change: how it goes on behind the label, its devices as text, and the rows below."""
+
+    def __init__(self, text, rows):
+        self.devices = DEVICES.search(text)[0]
+        self.change = text[: len(text) - len(self.devices)], tuple(rows)
+
+    def part(self, box):
+        """The values of the coordinates that the devices name."""
+        return {name: values_of(box, name, text) for name, text in (word.split("=") for word in self.devices.split()[1:])}
+
+
+def values_of(box, name, text):
+    if name == "locale":
+        return ["" if value == "none" else value for value in text.split(",")]
+    if not box.is_range(name):
+        return [int(value) for value in text.split(",")]
+    low, _, high = text.partition("..")
+    return range(int(low), int(high or low) + 1)
+
+
+def lines_needed(case, changes):
+    """How many lines are enough, where at most one coordinate varies."""
+    due = [change for change in changes if change]
+    names = varying(case.members)
+    if names and case.box.is_range(names[0]):
+        return sum(change is not None for change, _ in groupby(changes))
+    return len(set(due))
+
+
+def faults_of_lines(case, lines, changes):
+    """The faults of the lines of a label, where these are the changes of the devices, None where there is none."""
+    told = [False] * len(changes)
+    due = [change and change_text(*change) for change in changes]
+    for line in lines:
+        part = line.part(case.box)
+        if devices_text(case.box, part) != line.devices or not all(is_rising(case.box, *named) for named in part.items()):
+            yield f"devices written as{line.devices}"
+        here = [place for place, device in enumerate(case.members) if all(device[name] in part[name] for name in part)]
+        if not here:
+            yield f"no device{line.devices}"
+        for place in here:
+            if told[place] or due[place] != line.change:
+                yield f"{line.change}{line.devices}, where {case.members[place]} has {due[place]}{', told before' * told[place]}"
+                return
+            told[place] = True
+    for place, change in enumerate(due):
+        if change and not told[place]:
+            yield f"{case.members[place]} is missed, which has {change}"
+            return
+    if len(varying(case.members)) <= 1 and len(lines) > lines_needed(case, changes):
+        yield f"{len(lines)} lines, where {lines_needed(case, changes)} would do"
+
+
+def is_rising(box, name, values):
+    return list(values) == [value for value in box.sets[name] if value in values]
+
+
+# ---- all lines
+
+
+def changes_of(case, ids):
+    """The change of each device, None where both stacks say the same."""
+    contents = [case.stacks.contents(ids, device) for device in case.members]
+    return [None if before == after else (before, after) for before, after in contents]
+
+
+def with_rows(text):
+    """The lines that stand at the margin, each with those behind it that do not. The last is followed by nothing."""
+    lines = []
+    for line in text.split("\n"):
+        if line.startswith("  ") and lines:
+            lines[-1][1].append(line)
+        else:
+            lines.append((line, []))
+    return lines
+
+
+def faults_of_text(case, pairs, text):
+    """The faults of what is printed of these pairs."""
+    lines, place, same = with_rows(text), 0, 0
+    for label, *ids in pairs:
+        label, first = label_text(label), place
+        due = f"{'added' if ids[0] is None else 'removed' if ids[1] is None else 'changed'} {label}"
+        while lines[place][0] == due or lines[place][0].startswith(f"{due} "):
+            place += 1
+        if None in ids:
+            faults = [] if lines[first:place] == [(due, [])] else [f"{lines[first:place + 1]}, where {due} is due"]
+        else:
+            told = [Line(line[len(due) :], rows) for line, rows in lines[first:place]]
+            changes = changes_of(case, ids)
+            same += not any(changes)
+            faults = [f"{label}: {fault}" for fault in faults_of_lines(case, told, changes)]
+        if faults:
+            return faults
+    rest = [(f"same {same}", []), ("", [])]
+    return [] if lines[place:] == rest else [f"at the end {lines[place:]}, where {rest} is due"]
+
+
+def is_above_limit(case, pairs):
+    """Whether there are trees for these pairs that have more nodes than the limit."""
+    traces = [Traces(case.stacks, ids) for _, *ids in pairs if None not in ids]
+    return have_larger_trees(case.box, case.members, traces, case.limit, case.chance)
+
+
+def faults_of(case, said):
+    """The faults of what is printed to both streams, and of the status; and what was told."""
+    try:
+        pairs = case.pairs()
+    except Missing as word:
+        return [] if said == ("", f"no resource {word}\n", 1) else [f"no resource {word} is due"], "no resource"
+    if said == NODE_LIMIT:
+        return [] if case.limit and is_above_limit(case, pairs) else ["no trees are that large"], "node limit"
+    text, messages, status = said
+    faults = faults_of_text(case, pairs, text) + ([messages] if messages else [])
+    is_same = text.startswith("same ")
+    faults += [] if status == int(not is_same) else [f"status {status}"]
+    if case.limit and sum(None not in pair for pair in pairs) > case.limit:
+        faults.append("fewer nodes than labels")
+    return faults, "same" if is_same else "changed"
+
+
+def check_case(program, folder, number):
+    case = Case(number)
+    done = subprocess.run([program, *case.write(folder)], cwd=folder, capture_output=True)
+    said = done.stdout.decode(), done.stderr.decode(), done.returncode
+    faults, told = faults_of(case, said)
+    changes = sum(line.startswith("changed ") for line in said[0].split("\n"))
+    return [f"case {number}: {fault}, of {str(said)[:SHOWN]}" for fault in faults], told, changes
+
+
+def check_cases(program, numbers):
+    with tempfile.TemporaryDirectory() as folder:
+        return [check_case(program, folder, number) for number in numbers]
+
+
+def main():
+    program, cases = os.path.abspath(sys.argv[1]), int(sys.argv[2])
+    jobs, first = (int(word) for word in (sys.argv[3:] + ["1", "0"][len(sys.argv) - 3 :])[:2])
+    parts = [range(at, min(at + CASES_OF_A_JOB, first + cases)) for at in range(first, first + cases, CASES_OF_A_JOB)]
+    told, wrong, lines = Counter(), 0, 0
+    with ProcessPoolExecutor(jobs) as pool:
+        for faults, what, count in (case for done in pool.map(check_cases, [program] * len(parts), parts) for case in done):
+            told[what] += 1
+            wrong, lines = wrong + bool(faults), lines + count
+            print(*faults, sep="\n", end="\n" if faults else "")
+    print(f"{cases} cases: {', '.join(f'{what} {told[what]}' for what in sorted(told))}; {lines} changes")
+    sys.exit(wrong > 0)
+
+
+if __name__ == "__main__":
+    main()
