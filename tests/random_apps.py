@@ -3,16 +3,17 @@ from collections import namedtuple
 
 from made_layers import NamedTable, Resource, Text, ids_of
 from plain_bags import Bag
+from plain_certificates import Box
 from plain_map import made_map
-from plain_rules import Record
-from random_cases import Focus
+from plain_rules import COORDS, Record
+from random_cases import NUMBERS, Focus
 
 FRAMEWORK, APP = 0x01, 0x7F
 COUNTS = {"string": 3, "color": 2, "dimen": 2, "attr": 3, "style": 3, "array": 1, "plurals": 1}
 """How many resources of each type an app has, at most."""
 ENTRY_NAMES = ("title", "card", "größe", "a b", "Theme.Dark")
 TEXTS = ("Cancel", "Cancel!", "OK", "日本", "", 'say "hi"', "one\ntwo", "😀", "half \ud83d", " on sdk=26", "a -> b")
-NUMBERS = ((5, 0x401), (5, 0x301), (5, 0x101), (0x1C, 0xFF402000), (0x1D, 0xFF102030), (0x10, 1), (0x10, 2), (0x12, 1))
+VALUES = ((5, 0x401), (5, 0x301), (5, 0x101), (0x1C, 0xFF402000), (0x1D, 0xFF102030), (0x10, 1), (0x10, 2), (0x12, 1))
 OTHERS = ((1, 0), (0, 0), (0, 1), (3, 99), (7, 0x7F010000), (1, 0x7F090000), (2, 0x01010001))
 FIRST_OF = {"array": 0x02000000, "plurals": 0x01000004}
 SIZES = (1, 2, 5, 12, 12, 30, 30, 60, 200)
@@ -48,6 +49,8 @@ class Apps(Focus):
 
     def __init__(self, chance):
         super().__init__(chance)
+        self.often = 1.2 / len(self.focus)
+        self.numbers = {**NUMBERS, **{name: self.two_numbers(NUMBERS[name]) for name in self.focus}}
         self.records = [Record({})] + [self.record() for _ in range(chance.randint(1, 4))]
         self.before = [self.app(False)]
         if chance.random() < 0.2:
@@ -56,11 +59,30 @@ class Apps(Focus):
             self.before.append(self.app(False))
         self.before += [self.app(True) for _ in range(chance.choice((0, 0, 1, 1, 2)))]
         self.after = self.before
-        for _ in range(chance.choice((0, 1, 1, 2, 2, 3, 5))):
-            self.after = chance.choice(CHANGES)(self, self.after)
+        for _ in range(chance.choice((0, 1, 2, 4, 6, 9))):
+            change = chance.choice(CHANGES)
+            self.after = change(self, self.after) if self.after else [self.app(False)]
         self.box = self.random_box(SIZES)
         if chance.random() < 0.3:
             self.box = self.narrowed(self.box, chance.choice(SIZES))
+        if chance.random() < 0.7:
+            self.box = self.widened(self.box)
+
+    def two_numbers(self, numbers):
+        """Two numbers for rows; the last two densities are those of no device, so that the first is another."""
+        return self.chance.choice(numbers[:-2] or numbers), self.chance.choice(numbers)
+
+    def widened(self, box):
+        """The box with both devices that have the first number of some coordinates and devices that do not."""
+        said = dict(box.said)
+        for name in self.chance.sample(self.focus, min(len(self.focus), self.chance.choice((1, 1, 2)))):
+            number = self.numbers[name][0]
+            if name == "locale" or self.chance.random() < 0.5:
+                said[name] = [number, *self.random_choice(name, 2)]
+            else:
+                low = max(number - self.chance.randint(1, 3), 1 if name == "density" else 0)
+                said[name] = low, number + (number < COORDS[name] and self.chance.random() < 0.5)
+        return Box(said)
 
     # ---- apps
 
@@ -86,7 +108,7 @@ class Apps(Focus):
 
     def resource(self, type_name, entry_name, is_overlay):
         default = 0.4 if is_overlay else 0.95
-        has_row = lambda place: self.chance.random() < (0.3 if place else default)
+        has_row = lambda place: self.chance.random() < (0.5 if place else default)
         rows = [self.row(type_name, record) for place, record in enumerate(self.records) if has_row(place)]
         if self.chance.random() < 0.05:
             rows.append(self.row(type_name, self.chance.choice(self.records + [self.record()])))
@@ -124,7 +146,7 @@ class Apps(Focus):
             return f"?{self.name('attr')}"
         if draw < 0.3:
             return self.chance.choice(OTHERS)
-        return Text(self.chance.choice(TEXTS)) if type_name == "string" else self.chance.choice(NUMBERS)
+        return Text(self.chance.choice(TEXTS)) if type_name == "string" else self.chance.choice(VALUES)
 
     def other_cell(self, type_name, cell):
         """Another cell of a resource, in which little changes."""

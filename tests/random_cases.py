@@ -47,7 +47,10 @@ OTHER_CELLS = ((1, 0), (2, 0x01010001), (3, 0), (0, 0), (0, 1), (0x12, 0xFFFFFFF
 
 
 class Focus:
-    """A few coordinates that most rows and boxes are about."""
+    """A few coordinates that most rows and boxes are about. A row has each of them often, with one of these numbers."""
+
+    often = 0.6
+    numbers = NUMBERS
 
     def __init__(self, chance):
         self.chance = chance
@@ -58,8 +61,8 @@ class Focus:
     def record(self):
         given = {}
         for name in COORDS:
-            if self.chance.random() < (0.6 if name in self.focus else 0.02):
-                given[name] = self.chance.choice(NUMBERS[name])
+            if self.chance.random() < (self.often if name in self.focus else 0.02):
+                given[name] = self.chance.choice(self.numbers[name])
         script = b"Latn" if self.chance.random() < 0.04 else b""
         variant = b"polytoni" if self.chance.random() < 0.02 else b""
         return Record(given, script, variant, int(self.chance.random() < 0.05))
@@ -67,17 +70,17 @@ class Focus:
     def random_range(self, name, size):
         greatest = GREATEST_DENSITY if name == "density" else COORDS[name]
         size = self.chance.randint(1, min(size, greatest))
-        low = self.chance.choice((0,) + NUMBERS[name]) - self.chance.randrange(size)
+        low = self.chance.choice((0,) + self.numbers[name]) - self.chance.randrange(size)
         low = max(low, 1 if name == "density" else 0)
         low = min(low, greatest - size + 1)
         return low, low + size - 1
 
     def random_choice(self, name, size):
-        values = list(NUMBERS[name]) + ["" if name == "locale" else 0, self.chance.choice(NUMBERS[name])]
+        values = list(self.numbers[name]) + ["" if name == "locale" else 0, self.chance.choice(self.numbers[name])]
         if name == "locale":
             values += ["it", "de-AT"]
         else:
-            values += [self.chance.choice(NUMBERS[name]) + 1]
+            values += [self.chance.choice(self.numbers[name]) + 1]
         most = GREATEST_DENSITY if name == "density" else COORDS[name]
         least = 1 if name == "density" else 0
         values = [value for value in values if name == "locale" or least <= value <= most]
