@@ -182,7 +182,7 @@ def with_rows(text):
 def faults_of_text(case, pairs, text):
     """The faults of what is printed of these pairs."""
     lines, place, same = with_rows(text), 0, 0
-    for label, *ids in pairs:
+    for label, ids in pairs:
         label, first = label_text(label), place
         due = f"{'added' if ids[0] is None else 'removed' if ids[1] is None else 'changed'} {label}"
         while lines[place][0] == due or lines[place][0].startswith(f"{due} "):
@@ -202,7 +202,7 @@ def faults_of_text(case, pairs, text):
 
 def is_above_limit(case, pairs):
     """Whether there are trees for these pairs that have more nodes than the limit."""
-    traces = [Traces(case.stacks, ids) for _, *ids in pairs if None not in ids]
+    traces = [Traces(case.stacks, ids) for _, ids in pairs if None not in ids]
     return have_larger_trees(case.box, case.members, traces, case.limit, case.chance)
 
 
@@ -218,7 +218,7 @@ def faults_of(case, said):
     faults = faults_of_text(case, pairs, text) + ([messages] if messages else [])
     is_same = text.startswith("same ")
     faults += [] if status == int(not is_same) else [f"status {status}"]
-    if case.limit and sum(None not in pair for pair in pairs) > case.limit:
+    if case.limit and sum(None not in ids for _, ids in pairs) > case.limit:
         faults.append("fewer nodes than labels")
     return faults, "same" if is_same else "changed"
 

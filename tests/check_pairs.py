@@ -36,8 +36,8 @@ def sides_text(old, new):
 
 def plain_pairs(old, new):
     """The lines of the pairs."""
-    for label, *sides in pairs_of(Stack(old), Stack(new)):
-        yield f"{label_text(label)} {sides_text(*sides)}"
+    for label, ids in pairs_of(Stack(old), Stack(new)):
+        yield f"{label_text(label)} {sides_text(*ids)}"
 
 
 def random_layers(chance):

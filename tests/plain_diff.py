@@ -112,14 +112,14 @@ class Both:
 
 
 def pairs_of(old, new):
-    """The labels of two stacks in their order, each with what it stands for in either, None where it stands for nothing."""
+    """The labels of two stacks in their order, each with the ids that it stands for before and after, None where for nothing."""
     for label in sorted(old.ids.keys() | new.ids.keys(), key=in_order):
-        yield label, old.ids.get(label), new.ids.get(label)
+        yield label, (old.ids.get(label), new.ids.get(label))
 
 
 def asks_for(word, pair):
     """Whether a word asks for a pair: by an id on either side, or by a name in any package."""
-    label, *ids = pair
+    label, ids = pair
     if "/" not in word:
         return word == "*" or int(word, 16) in ids
     type_name, entry_name = word.split("/", 1)
