@@ -153,8 +153,8 @@ def ids_of(resources, package_id=0x7F):
 
 
 class NamedTable:
-    """A table of resources of one package. `ids` are those that names stand for. Rows are told by their configurations, each of
-    which has a chunk of its own. The pool has first these strings, and then those of rows."""
+    """A table of resources of one package, in which names stand for these ids. A type has a chunk for each configuration of its
+    rows. The pool has first these strings, and then those of rows."""
 
     def __init__(self, resources, ids, package_id=0x7F, strings=(), is_utf16=False, is_sparse=False):
         self.ids, self.is_sparse, self.rows = ids, is_sparse, []

@@ -1,4 +1,5 @@
 """Random apps with overlays, changes of them, and boxes. For check_diff.py."""
+import math
 from collections import namedtuple
 
 from made_layers import NamedTable, Resource, Text, ids_of
@@ -16,7 +17,8 @@ TEXTS = ("Cancel", "Cancel!", "OK", "日本", "", 'say "hi"', "one\ntwo", "😀"
 VALUES = ((5, 0x401), (5, 0x301), (5, 0x101), (0x1C, 0xFF402000), (0x1D, 0xFF102030), (0x10, 1), (0x10, 2), (0x12, 1))
 OTHERS = ((1, 0), (0, 0), (0, 1), (3, 99), (7, 0x7F010000), (1, 0x7F090000), (2, 0x01010001))
 FIRST_OF = {"array": 0x02000000, "plurals": 0x01000004}
-SIZES = (1, 2, 5, 12, 12, 30, 30, 60, 200)
+SIZES = (1, 4, 12, 12, 30, 60, 100)
+MOST_MEMBERS = 200
 
 App = namedtuple("App", "resources package_id is_overlay strings is_utf16 is_sparse own_first lost")
 """A table before it is built: its resources, the strings that its pool has first, whether its own ids come first where it names
@@ -62,11 +64,18 @@ class Apps(Focus):
         for _ in range(chance.choice((0, 1, 2, 4, 6, 9))):
             change = chance.choice(CHANGES)
             self.after = change(self, self.after) if self.after else [self.app(False)]
-        self.box = self.random_box(SIZES)
-        if chance.random() < 0.3:
-            self.box = self.narrowed(self.box, chance.choice(SIZES))
-        if chance.random() < 0.7:
-            self.box = self.widened(self.box)
+        self.box = self.small_box()
+
+    def small_box(self):
+        """A box of few devices, of which mostly some differ at a number that rows have."""
+        while True:
+            box = self.random_box(SIZES)
+            if self.chance.random() < 0.2:
+                box = self.narrowed(box, self.chance.choice(SIZES))
+            if self.chance.random() < 0.8:
+                box = self.widened(box)
+            if math.prod(map(len, box.sets.values())) <= MOST_MEMBERS:
+                return box
 
     def two_numbers(self, numbers):
         """Two numbers for rows; the last two densities are those of no device, so that the first is another."""
@@ -75,7 +84,7 @@ class Apps(Focus):
     def widened(self, box):
         """The box with both devices that have the first number of some coordinates and devices that do not."""
         said = dict(box.said)
-        for name in self.chance.sample(self.focus, min(len(self.focus), self.chance.choice((1, 1, 2)))):
+        for name in self.chance.sample(self.focus, min(len(self.focus), self.chance.choice((1, 2, 2, 3)))):
             number = self.numbers[name][0]
             if name == "locale" or self.chance.random() < 0.5:
                 said[name] = [number, *self.random_choice(name, 2)]
