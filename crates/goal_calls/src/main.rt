@@ -49,6 +49,7 @@ fn call_of(rt: &HostRuntime, words: &[String], asked: Asked<'_, '_>) -> Result<(
         "make" => trees::made(rt, asked, word(words, 4)),
         "make_omitting" => trees::made_omitting(rt, asked, word(words, 4)),
         "compare_stacks" => stacks::compared(rt, asked, word(words, 4)),
+        "compare_with_itself" => stacks::compared_with_itself(rt, asked, word(words, 4)),
         "config_box" => without_memory::members(rt, asked.members),
         "Goal::attr" => without_memory::attr(rt),
         _ => Ok(()),

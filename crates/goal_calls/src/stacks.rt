@@ -1,8 +1,11 @@
 //! What two stacks say differently.
 
 use crate::trees::Asked;
+use cert_checker::OutOfMemory;
 use marked_calls::{begin, end, table_of, tell, tell_text};
-use stack_diff::{Change, Content, Outcome, Outcomes, compare_stacks, name_pairs};
+use stack_diff::{
+    Change, Content, Outcome, Outcomes, compare_stacks, compare_with_itself, name_pairs,
+};
 use std::test::Fail;
 use test_layers::LayerFault;
 use test_stacks::stack_of_base;
@@ -25,6 +28,26 @@ pub fn compared(rt: &HostRuntime, asked: Asked<'_, '_>, table: &str) -> Result<(
         MOST_NODES,
     );
     end(rt);
+    tell_found(rt, found)
+}
+
+/// What the stack says differently from itself, of the labels of another table's stack too.
+pub fn compared_with_itself(
+    rt: &HostRuntime,
+    asked: Asked<'_, '_>,
+    table: &str,
+) -> Result<(), Fail> {
+    let bytes = table_of(rt.alloc(), table)?;
+    let other = stack_of_base(rt.alloc(), &bytes).ok_or(LayerFault::Malformed)?;
+    let pairs = name_pairs(rt.alloc(), asked.stack, &other)?;
+    begin(rt);
+    let found = compare_with_itself(rt.alloc(), asked.stack, &pairs, asked.members, MOST_NODES);
+    end(rt);
+    tell_found(rt, found)
+}
+
+// Tells what was found.
+fn tell_found(rt: &HostRuntime, found: Result<Outcomes, OutOfMemory>) -> Result<(), Fail> {
     match found {
         Ok(Outcomes::All(outcomes)) => tell_outcomes(rt, &outcomes),
         Ok(Outcomes::NodeLimit) => Ok(tell(rt, "NodeLimit")?),

@@ -4,13 +4,15 @@ use Rattle.std.specs.List.{AllZip, sum}
 use Rattle.std.proofs.lemmas.List.{map-append, take_more, drop_more, take-append-drop}
 use Rattle.std.proofs.lemmas.List.Sums.{sum_by-append, sum_by-cons}
 use Rattle.cert_checker.specs.overlay_map.Layer.{LayerOf}
+use Rattle.cert_checker.specs.reference_resolver.Trace.{Trace}
 use Rattle.cert_checker.specs.box_answers.NumberSet.{SetOf}
 use Rattle.cert_checker.specs.cert_tree.Certificate.{BagAt}
 use Rattle.name_pairs.specs.Pairs.{PairOf, pair_of}
 use Rattle.name_pairs.specs.declared.pair.NamePair.{NamePair}
 use Rattle.name_pairs.specs.declared.pair.Sides.{Sides}
 use Rattle.name_pairs.specs.declared.pair.Sides.TheVariants as of_sides
-use Rattle.stack_diff.specs.Outcomes.{HasTree, HaveTrees}
+use Rattle.stack_diff.specs.NeededTree.{HasNeededTree}
+use Rattle.stack_diff.specs.Outcomes.{pair_traces, HasTree, HaveTrees}
 
 -- ---- lists side by side
 
@@ -28,15 +30,18 @@ zip-append R (a ∷ xs) others (b ∷ ys) more h r = (h.0, zip-append R xs other
 
 -- ---- trees
 
+-- a leaf alone is a tree that needs no test
+pub leaf-alone : (traces : List ℕ → Trace × Trace) (sets : List SetOf) (says : ℕ → Type 0) → says 1 → HasNeededTree traces sets says
+leaf-alone traces sets says one = (BagAt (record { 0 = 0 }) ∷ [], (tt, tt), one)
+
 module _ (old new : List LayerOf) (sets : List SetOf) where
   abbrev Counts : PairOf → ℕ → Type 0
   Counts pair count = HasTree old new sets pair.sides (λ nodes. nodes ≡ count)
 
-  -- a leaf alone is a tree that needs no test
   pub some-tree : (sides : Sides) → (count : ℕ) × HasTree old new sets sides (λ nodes. nodes ≡ count)
   some-tree (of_sides.Removed id) = (0, refl)
   some-tree (of_sides.Added id) = (0, refl)
-  some-tree (of_sides.Both before after) = (1, (BagAt (record { 0 = 0 }) ∷ [], (tt, tt), refl))
+  some-tree (of_sides.Both before after) = (1, leaf-alone (pair_traces old new before after) sets (λ nodes. nodes ≡ 1) refl)
 
   pub some-trees : (pairs : List PairOf) → (counts : List ℕ) × AllZip Counts pairs counts
   some-trees [] = ([], tt)

@@ -5,3 +5,4 @@ pub mod Walks
 pub mod Grouping
 pub mod Joining
 pub mod Counts
+pub mod Unchanged

@@ -15,6 +15,7 @@
 mod change;
 mod comparison;
 mod grouped;
+mod itself;
 mod outcome;
 mod pair_box;
 mod resource;
@@ -24,6 +25,7 @@ mod tree;
 pub use cert_checker::ConfigBox;
 pub use change::{Change, Compared};
 pub use comparison::compare;
+pub use itself::compare_with_itself;
 pub use name_pairs::{Label, NamePair, Sides, name_pairs};
 pub use outcome::{Outcome, Outcomes, compare_stacks};
 pub use resource::Resource;

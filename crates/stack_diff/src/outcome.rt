@@ -1,7 +1,8 @@
 //! What two stacks say differently of each label.
 
-ghost use Rattle.std.specs.Prelude.{map, IfOk};
+ghost use Rattle.std.specs.Prelude.{◌≡◌, true, map, IfOk};
 ghost use Rattle.name_pairs.specs.Pairs.{pair_of};
+ghost use Rattle.name_pairs.specs.declared.pair.Sides.TheVariants as of_sides;
 ghost use Rattle.stack_diff.specs.Outcomes.{AreOutcomes, IsJudged};
 
 use crate::change::{Change, Compared};
@@ -45,10 +46,37 @@ pub fn compare_stacks<'a>(
 ) -> Result<Outcomes, OutOfMemory>
     ensures { IfOk result (AreOutcomes old.now new.now (map pair_of pairs.now) members.now max_nodes) }
 {
+    let stacks = Stacks {
+        old,
+        new,
+        are_one: false,
+    };
+    outcomes_in(alloc, stacks, pairs, members, max_nodes)
+}
+
+/// The stacks that are compared, and whether they are one.
+#[derive(Clone, Copy)]
+pub(crate) struct Stacks<'s, 'a> {
+    pub(crate) old: &'s Stack<'a>,
+    pub(crate) new: &'s Stack<'a>,
+    pub(crate) are_one: bool,
+}
+
+/// What becomes of labels, one after the other.
+pub(crate) fn outcomes_in<'a>(
+    alloc: Global,
+    stacks: Stacks<'_, 'a>,
+    pairs: &[NamePair<'a>],
+    members: &ConfigBox,
+    max_nodes: u32,
+) -> Result<Outcomes, OutOfMemory>
+    requires { stacks.are_one ≡ true → stacks.new.now ≡ stacks.old.now }
+    ensures { IfOk result (AreOutcomes stacks.entry.old.now stacks.entry.new.now (map pair_of pairs.now) members.now max_nodes) }
+{
     let mut told = Vec::with_capacity(alloc, pairs.len())?;
     let mut spare = max_nodes as usize;
     for pair in pairs {
-        let Some(judged) = judge(alloc, old, new, pair.sides, members, spare)? else {
+        let Some(judged) = judge(alloc, stacks, pair.sides, members, spare)? else {
             return Ok(Outcomes::NodeLimit);
         };
         spare -= judged.nodes;
@@ -67,27 +95,44 @@ struct Judged {
 // What becomes of a label that stands for these ids; none where the tree that finds it has more nodes than this.
 fn judge<'a>(
     alloc: Global,
-    old: &Stack<'a>,
-    new: &Stack<'a>,
+    stacks: Stacks<'_, 'a>,
     sides: Sides,
     members: &ConfigBox,
     most: usize,
 ) -> Result<Option<Judged>, OutOfMemory>
-    ensures { IfOk result (IsJudged old.now new.now members.now sides most) }
+    requires { stacks.are_one ≡ true → stacks.new.now ≡ stacks.old.now }
+    ensures { IfOk result (IsJudged stacks.entry.old.now stacks.entry.new.now members.now sides most) }
 {
-    let (before, after) = match sides {
-        Sides::Removed { .. } => return Ok(Some(Judged::at_once(Outcome::Removed))),
-        Sides::Added { .. } => return Ok(Some(Judged::at_once(Outcome::Added))),
-        Sides::Both { old, new } => (old, new),
-    };
-    let before = Resource {
-        stack: old,
-        id: before,
-    };
-    let after = Resource {
-        stack: new,
-        id: after,
-    };
+    match sides {
+        Sides::Removed { .. } => Ok(Some(Judged::at_once(Outcome::Removed))),
+        Sides::Added { .. } => Ok(Some(Judged::at_once(Outcome::Added))),
+        Sides::Both { old, new } => {
+            if stacks.are_one && old == new {
+                return Ok(Judged::unchanged(alloc, most));
+            }
+            let before = Resource {
+                stack: stacks.old,
+                id: old,
+            };
+            let after = Resource {
+                stack: stacks.new,
+                id: new,
+            };
+            judge_both(alloc, before, after, members, most)
+        }
+    }
+}
+
+// The same of a label that stands for these two resources.
+fn judge_both<'a>(
+    alloc: Global,
+    before: Resource<'_, 'a>,
+    after: Resource<'_, 'a>,
+    members: &ConfigBox,
+    most: usize,
+) -> Result<Option<Judged>, OutOfMemory>
+    ensures { IfOk result (IsJudged before.entry.stack.now after.entry.stack.now members.now (of_sides.Both before.entry.id after.entry.id) most) }
+{
     match compare(alloc, before, after, members, most)? {
         Compared::Changes { changes, nodes } => Ok(Some(Judged {
             outcome: Outcome::Both(changes),
@@ -98,7 +143,12 @@ fn judge<'a>(
 }
 
 impl Judged {
-    ghost use Rattle.std.specs.Prelude.{◌≡◌};
+    ghost use Rattle.std.specs.Prelude.{◌≡◌, List};
+    ghost use Rattle.cert_checker.specs.overlay_map.Layer.{LayerOf};
+    ghost use Rattle.cert_checker.specs.res_value.declared.res_id.ResId.{ResId};
+    ghost use Rattle.cert_checker.specs.box_answers.NumberSet.{SetOf};
+    ghost use Rattle.name_pairs.specs.declared.pair.Sides.TheVariants as of_sides;
+    ghost use Rattle.stack_diff.specs.Outcomes.{IsJudged};
 
     // Without a tree.
     fn at_once(outcome: Outcome) -> Judged
@@ -106,5 +156,18 @@ impl Judged {
         ensures nodes { result.nodes ≡ 0 }
     {
         Judged { outcome, nodes: 0 }
+    }
+
+    // Of a resource beside itself: no change, and a tree of one leaf.
+    fn unchanged(alloc: Global, most: usize) -> Option<Judged>
+        ensures { (layers : List LayerOf) (sets : List SetOf) (id : ResId) → IsJudged layers layers sets (of_sides.Both id id) most result }
+    {
+        if most == 0 {
+            return None;
+        }
+        Some(Judged {
+            outcome: Outcome::Both(Vec::new(alloc)),
+            nodes: 1,
+        })
     }
 }

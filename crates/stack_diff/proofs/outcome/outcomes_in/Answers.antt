@@ -5,21 +5,21 @@ use Rattle.name_pairs.specs.Pairs.{PairOf, pair_of}
 use Rattle.stack_diff.specs.declared.outcome.Judged.{Judged}
 use Rattle.stack_diff.specs.Outcomes.{OutcomeOf, outcome_of, IsOutcome, IsJudged}
 use Rattle.stack_diff.proofs.Counts.{zip-push, above, one-more, pairs-up-to, pairs-around}
-use Rattle.stack_diff.proofs.outcome.compare_stacks.Goals as goal
+use Rattle.stack_diff.proofs.outcome.outcomes_in.Goals as goal
 
 pub returns-in_default : goal.returns-in_default
 returns-in_default c =
     let pair = c.pair-item.result in
     let around = pairs-around c.args.pairs.now c.loop-pair.pair-index pair c.loop-pair-test.true c.pair-item.is in
-    let more = subst (λ (judged : Option Judged). IsJudged c.args.old.now c.args.new.now c.args.members.now pair.sides c.loop-pair.spare judged) c.in_default.is c.in_ok-judged.ensures in
-    above c.args.old.now c.args.new.now c.args.members.now (map pair_of c.args.pairs.now) (map pair_of (take c.loop-pair.pair-index c.args.pairs.now)) (map pair_of (drop (c.loop-pair.pair-index + 1) c.args.pairs.now)) (pair_of pair) c.loop-pair.spare
+    let more = subst (λ (judged : Option Judged). IsJudged c.args.stacks.old.now c.args.stacks.new.now c.args.members.now pair.sides c.loop-pair.spare judged) c.in_default.is c.in_ok-judged.ensures in
+    above c.args.stacks.old.now c.args.stacks.new.now c.args.members.now (map pair_of c.args.pairs.now) (map pair_of (take c.loop-pair.pair-index c.args.pairs.now)) (map pair_of (drop (c.loop-pair.pair-index + 1) c.args.pairs.now)) (pair_of pair) c.loop-pair.spare
     c.args.max_nodes around c.loop-pair.invariant.trees more
 
 pub loop-pair-preserved : goal.loop-pair-preserved
 loop-pair-preserved c =
     let pair = c.pair-item.result in
-    let old = c.args.old.now in
-    let new = c.args.new.now in
+    let old = c.args.stacks.old.now in
+    let new = c.args.stacks.new.now in
     let sets = c.args.members.now in
     let done = map pair_of (take c.loop-pair.pair-index c.args.pairs.now) in
     let more = pairs-up-to c.args.pairs.now c.loop-pair.pair-index pair c.loop-pair-test.true c.pair-item.is in
