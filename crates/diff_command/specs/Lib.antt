@@ -1,0 +1,4 @@
+pub mod DiffInputs
+pub mod DiffText
+pub mod DiffOutput
+pub mod OpenedSeen
