@@ -41,7 +41,7 @@ asks_for SetOfAll pair = true
 
 -- ---- all words
 
--- how a word is written
+-- how a word is written; the digits of an id in lower case
 abbrev pub text_of_set : NamedSetOf → List ℕ
 text_of_set (SetOfOne (word.ById id)) = id_text id.0
 text_of_set (SetOfOne (word.ByName type_name entry_name)) = name_text type_name entry_name
@@ -61,7 +61,7 @@ abbrev pub unless_missing : Option NamedSetOf → List PairOf → Result (List P
 unless_missing (Some set) pairs = Err (text_of_set set)
 unless_missing None pairs = Ok pairs
 
--- without words all pairs, else those for which some word asks
+-- without words all pairs; else those for which some word asks, in their order, where each word asks for some
 unfoldable pub pairs_named : List NamedSetOf → List PairOf → Result (List PairOf) (List ℕ)
 pairs_named [] pairs = Ok pairs
 pairs_named (set ∷ sets) pairs = unless_missing (first_missing (set ∷ sets) pairs) (filter (is_asked (set ∷ sets)) pairs)

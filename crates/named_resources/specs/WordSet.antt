@@ -12,12 +12,14 @@ use Rattle.name_pairs.specs.Label.{LabelOf, ByName, ById}
 use Rattle.name_pairs.specs.Pairs.{PairOf}
 use Rattle.named_resources.specs.declared.word_set.WordSet.{WordSet}
 
+-- whether two words have the same id, or the same names
 abbrev pub is_same_one : NamedOf → NamedOf → Bool
 is_same_one (word.ById a) (word.ById b) = a.0 == b.0
 is_same_one (word.ByName a b) (word.ByName c d) = bytes_eq a c && bytes_eq b d
 is_same_one (word.ById a) (word.ByName c d) = false
 is_same_one (word.ByName a b) (word.ById c) = false
 
+-- whether two words are the same
 abbrev pub is_same : NamedSetOf → NamedSetOf → Bool
 is_same (SetOfOne a) (SetOfOne b) = is_same_one a b
 is_same (SetOfOne a) (SetOfType b) = false

@@ -16,8 +16,8 @@ use name_words::NamedSet;
 use std::alloc::{AllocError, Global};
 
 /// Those pairs of two stacks for which some word asks, in their order; all of them without words. An id asks for a pair
-/// that it stands for in either stack, and a name for those pairs that have it in any package. It walks once over the words
-/// and twice over the pairs, however many there are.
+/// that it stands for in either stack, and a name for those pairs that have it in any package. It walks twice over the
+/// words and three times over the pairs, however many there are.
 ///
 /// ```text
 /// let pairs = pairs_named(alloc, name_pairs(alloc, &old, &new)?, &words)?;
