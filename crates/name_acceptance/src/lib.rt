@@ -3,6 +3,8 @@
 #![tactic(auto)]
 
 #[cfg(test)]
+mod asked_pairs;
+#[cfg(test)]
 mod goals;
 #[cfg(test)]
 mod ids;
