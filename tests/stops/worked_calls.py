@@ -12,6 +12,8 @@ GERMAN = 0x64650000
 A, B, C, D = (f"ResId({0x01010001 + place})" for place in range(4))
 ONE, TWO, SEVEN = (f"Value {{ kind: 16, word: {word} }}" for word in (1, 2, 7))
 EMPTY = "Value { kind: 0, word: 1 }"
+K = 'Name { package: 127, type_name: "s", entry_name: "k" }'
+"""The label of the entry of table B."""
 
 
 def row(program, words, answer, unchanged=()):
@@ -20,6 +22,10 @@ def row(program, words, answer, unchanged=()):
 
 def value(meant, layer=0):
     return f"Value {{ layer: {layer}, value: {meant} }}"
+
+
+def pair(label, sides):
+    return f"NamePair {{ label: {label}, sides: {sides} }}"
 
 
 def absent(id):
@@ -127,10 +133,9 @@ def table_rows():
     five = "Plain(Value { kind: 16, word: 5 })"
     yield row("table_calls", ["Table::open", "A"], f"{FIRST} {five}")
     yield row("table_calls", ["find_names", "B", "k"], f"[Some({FIRST}), None]")
-    by_name = 'Name { package: 127, type_name: "s", entry_name: "k" }'
     by_id = f"Id({FIRST}) Removed {{ old: {FIRST} }}"
-    yield row("table_calls", ["name_pairs", "A", "B"], f"{by_name} Added {{ new: {FIRST} }}\n{by_id}")
-    yield row("table_calls", ["name_pairs", "B", "B"], f"{by_name} Both {{ old: {FIRST}, new: {FIRST} }}")
+    yield row("table_calls", ["name_pairs", "A", "B"], f"{K} Added {{ new: {FIRST} }}\n{by_id}")
+    yield row("table_calls", ["name_pairs", "B", "B"], f"{K} Both {{ old: {FIRST}, new: {FIRST} }}")
     base, overlay = "0 [locale=fr] 1", "0 [locale=fr] 2"
     of_base = f"layer 0 Plain({ONE})"
     yield row("table_calls", ["push_base", base], f"1 layers\n{of_base}", ["0 layers"])
@@ -151,6 +156,29 @@ def named_rows():
         ("goals_named", "0x01010001@s/k", f"[Attr {{ attr: {A}, styles: [{FIRST}] }}]"),
     ):
         yield row("named_calls", [name, "B", word], answer)
+    yield from pair_rows()
+
+
+def pair_rows():
+    """Words for the pairs of two stacks: of a name that the new one alone has and an id that the old one alone has; and of
+    so many ids without names that they fill more than one node of a tree."""
+
+    def ask(old, new, words, answer):
+        return row("named_calls", ["pairs_named", old, new, *words], answer)
+
+    by_name = pair(K, f"Added {{ new: {FIRST} }}")
+    by_id = pair(f"Id({FIRST})", f"Removed {{ old: {FIRST} }}")
+    for word in ("s/k", "s/*"):
+        yield ask("A", "B", [word], f"[{by_name}]")
+    for words in ([ID], ["s/*", "*", "s/k"]):
+        yield ask("A", "B", words, f"[{by_name}, {by_id}]")
+    for words, missing in ((["s/k", "s/x", "k/*"], "s/x"), (["k/*"], "k/*"), (["0x7f010001"], "0x7f010001")):
+        yield ask("A", "B", words, f'NoResource("{missing}")')
+    yield ask("no rows", "no rows", ["*"], 'NoResource("*")')
+    entries = range(0x7F010000, 0x7F010000 + MANY)
+    many = "\n".join(f"{entry} [] {entry}" for entry in range(MANY))
+    pairs = [pair(f"Id(ResId({id}))", f"Both {{ old: ResId({id}), new: ResId({id}) }}") for id in entries]
+    yield ask(many, many, [f"{id:#010x}" for id in entries], f"[{', '.join(pairs)}]")
 
 
 def stack_rows():
@@ -411,6 +439,7 @@ WITHOUT_MEMORY = [
         "res_value",
         f"(Some({FIRST}), None)\ndimension 13/2^0 dp\n({A}, Value {{ kind: 16, word: 5 }})",
     ),
+    without_memory("named_calls", "pairs_named", f"[{pair(K, f'Both {{ old: {FIRST}, new: {FIRST} }}')}]", "B", "B"),
     without_memory("table_calls", "resource_table", f'(1, 0)\ntrue\n"s""k"\n(Some({FIRST}), None)'),
     without_memory("stack_calls", "overlay_map", "(1, 0)\ntrue\ntrue\ntrue", DENSITIES),
     without_memory(
@@ -486,6 +515,7 @@ REACHED = {
     "compare_stacks": "compare OpenBox::whole_of_content",
     "ids_named": "Finder::new Finder::id Finder::ids ids_of_type Stack::base_tables",
     "goals_named": "Finder::each_id",
+    "pairs_named": "WordSet::of_sets WordSet::of_pairs",
     "OpenedBox::make": "OpenedBox::read OpenedBox::make_telling",
     "OpenedBox::print_omitting": "OpenedBox::make_omitting",
     "OpenedCert::check": "OpenedCert::read",

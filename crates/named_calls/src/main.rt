@@ -1,11 +1,14 @@
-//! A program of tests: which ids and goals a word stands for over the stack of a table.
+//! A program of tests: which ids and goals a word stands for over the stack of a table, and for which pairs of two such
+//! stacks words ask.
 //!
 //! ```text
 //! named_calls ids_named B 's/*' // [ResId(2130771968)]
+//! named_calls pairs_named A B 'k/*' // NoResource("k/*")
 //! ```
 #![tactic(auto)]
 
 mod named;
+mod pairs;
 
 use marked_calls::{table_of, word, words};
 use named_resources::Stack;
@@ -15,7 +18,10 @@ use test_stacks::stack_of_base;
 
 fn main(rt: HostRuntime) -> Result<(), Fail> {
     let words = words(&rt)?;
-    call(&rt, &words)
+    match word(&words, 0) {
+        "pairs_named" => pairs::told(&rt, words.get(1..).unwrap_or(&[])),
+        _ => call(&rt, &words),
+    }
 }
 
 // Makes the call that the first word names, of a table and a word.
