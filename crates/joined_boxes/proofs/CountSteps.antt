@@ -64,7 +64,7 @@ pub none-count : (d : List ℕ) (bs : List (List SetOf)) → HasNone d bs → bo
 none-count d [] h = refl
 none-count d (b ∷ bs) h = let both = count-cons d b bs in let here = counted-other d b h.0 in let rest = none-count d bs h.1 in omega arith
 
-count-none : (d : List ℕ) (bs : List (List SetOf)) → box_count d bs ≡ 0 → HasNone d bs
+pub count-none : (d : List ℕ) (bs : List (List SetOf)) → box_count d bs ≡ 0 → HasNone d bs
 count-none d [] e = tt
 count-none d (b ∷ bs) e =
     let both = count-cons d b bs in
@@ -75,7 +75,7 @@ once-count d (b ∷ bs) (inl h) = let both = count-cons d b bs in let here = cou
 once-count d (b ∷ bs) (inr h) = let both = count-cons d b bs in let here = counted-other d b h.0 in let rest = once-count d bs h.1 in omega arith
 once-count d [] h = absurd h
 
-count-once : (d : List ℕ) (bs : List (List SetOf)) → box_count d bs ≡ 1 → HasOnce d bs
+pub count-once : (d : List ℕ) (bs : List (List SetOf)) → box_count d bs ≡ 1 → HasOnce d bs
 count-once d [] e = absurd (omega arith)
 count-once d (b ∷ bs) e =
     let both = count-cons d b bs in

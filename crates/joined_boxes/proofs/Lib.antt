@@ -4,3 +4,7 @@ pub mod RangeSteps
 pub mod SortSteps
 pub mod AlongSteps
 pub mod OneChoiceSteps
+pub mod KindSteps
+pub mod PairSteps
+pub mod LineSteps
+pub mod FewestSteps

@@ -56,7 +56,7 @@ value-le (LocalesOf ns) t (NumbersOf js) a b joined = absurd joined.mark
 value-le (RangeOf low high) t j a b joined = absurd a
 value-le s (RangeOf low high) j a b joined = absurd b
 
-mark-choice : (s j : SetOf) → AreMarkedAlike s j → IsChoice s → IsChoice j
+pub mark-choice : (s j : SetOf) → AreMarkedAlike s j → IsChoice s → IsChoice j
 mark-choice (NumbersOf ns) (NumbersOf js) m a = tt
 mark-choice (LocalesOf ns) (LocalesOf js) m a = tt
 mark-choice (NumbersOf ns) (RangeOf low high) m a = m

@@ -26,12 +26,12 @@ use Rattle.joined_boxes.proofs.RangeSteps.{one-set, self-joined}
 
 -- ---- a device that two boxes have
 
-count-some : (d : List ℕ) (bs : List (List SetOf)) (i : ℕ) (x : List SetOf) → i < length bs → IsMember (get_or bs i x) d → 1 ≤ box_count d bs
+pub count-some : (d : List ℕ) (bs : List (List SetOf)) (i : ℕ) (x : List SetOf) → i < length bs → IsMember (get_or bs i x) d → 1 ≤ box_count d bs
 count-some d [] i x q member = absurd (omega arith)
 count-some d (b ∷ bs) zero x q member = let both = count-cons d b bs in let here = counted-member d b member in omega arith
 count-some d (b ∷ bs) (suc i) x q member = let both = count-cons d b bs in let rest = count-some d bs i x (omega arith) member in omega arith
 
-count-two : (d : List ℕ) (bs : List (List SetOf)) (i j : ℕ) (x : List SetOf) → i < j → j < length bs → IsMember (get_or bs i x) d → IsMember (get_or bs j x) d → 2 ≤ box_count d bs
+pub count-two : (d : List ℕ) (bs : List (List SetOf)) (i j : ℕ) (x : List SetOf) → i < j → j < length bs → IsMember (get_or bs i x) d → IsMember (get_or bs j x) d → 2 ≤ box_count d bs
 count-two d [] i j x lt q first second = absurd (omega arith)
 count-two d (b ∷ bs) i zero x lt q first second = absurd (omega arith)
 count-two d (b ∷ bs) zero (suc j) x lt q first second =
@@ -51,20 +51,28 @@ all-numbers-count : (d : List ℕ) → length (all-numbers d) ≡ 25
 unfolding all-numbers
 all-numbers-count d = length-map all_coords (device_number d) ∙ all_coords-count
 
+-- a member with a number of the set at a coordinate
+pub member-with : (b : List SetOf) (c : Coord) (n : ℕ) → IsBox b → IsIn (set_at b c) n → (d : List ℕ) × IsMember b d × (device_number d c ≡ n)
+member-with b c n box is =
+    let m = some_member b box in
+    let d : List ℕ = set (all-numbers m.0) (place_of c) n in
+    let here : device_number d c ≡ n = number_at-set_same (all-numbers m.0) c n (all-numbers-count m.0) in
+    let other : (k : Coord) → k ≢ c → device_number d k ≡ device_number m.0 k = λ k ne. number_at-set_other (all-numbers m.0) c k n ne ∙ all-numbers-same m.0 k in (
+      d,
+      λ k. by_coord k c (λ e. subst (λ (i : Coord). IsIn (set_at b i) (device_number d i)) (sym e) (subst (IsIn (set_at b c)) (sym here) is)) (λ ne. subst (IsIn (set_at b k)) (sym (other k ne)) (m.1 k)),
+      here,
+    )
+
 -- boxes that are alike but at a coordinate, and have a number there in common, have a device in common
 pub shared-device : (a b : List SetOf) (c : Coord) (n : ℕ) → IsBox a → ((k : Coord) → k ≢ c → set_at a k ≡ set_at b k) → IsIn (set_at a c) n → IsIn (set_at b c) n
     → (d : List ℕ) × (IsMember a d × IsMember b d)
 shared-device a b c n box alike first second =
-    let m = some_member a box in
-    let e : List ℕ = set (all-numbers m.0) (place_of c) n in
-    let here : device_number e c ≡ n = number_at-set_same (all-numbers m.0) c n (all-numbers-count m.0) in
-    let other : (k : Coord) → k ≢ c → device_number e k ≡ device_number m.0 k = λ k ne. number_at-set_other (all-numbers m.0) c k n ne ∙ all-numbers-same m.0 k in
-    let in_a : (k : Coord) → k ≢ c → IsIn (set_at a k) (device_number e k) = λ k ne. subst (IsIn (set_at a k)) (sym (other k ne)) (m.1 k) in (
-      e,
+    let m = member-with a c n box first in (
+      m.0,
       (
-        λ k. by_coord k c (λ e_c. subst (λ (i : Coord). IsIn (set_at a i) (device_number e i)) (sym e_c) (subst (IsIn (set_at a c)) (sym here) first)) (λ ne. in_a k ne),
-        λ k. by_coord k c (λ e_c. subst (λ (i : Coord). IsIn (set_at b i) (device_number e i)) (sym e_c) (subst (IsIn (set_at b c)) (sym here) second))
-            (λ ne. subst (λ (s : SetOf). IsIn s (device_number e k)) (alike k ne) (in_a k ne)),
+        m.1,
+        λ k. by_coord k c (λ e. subst (λ (i : Coord). IsIn (set_at b i) (device_number m.0 i)) (sym e) (subst (IsIn (set_at b c)) (sym m.2) second))
+            (λ ne. subst (λ (s : SetOf). IsIn s (device_number m.0 k)) (alike k ne) (m.1 k)),
       ),
     )
 

@@ -1,4 +1,5 @@
 pub mod Devices
+pub mod Kinds
 pub mod Counts
 pub mod Least
 pub mod Ranges

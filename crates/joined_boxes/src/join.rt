@@ -4,6 +4,7 @@ ghost use Rattle.std.specs.Prelude.{◌≡◌, ◌+◌, ◌<◌, ◌≤◌, ◌+
 ghost use Rattle.config_box.specs.config_record.declared.coord.Coord as coord;
 ghost use Rattle.config_box.specs.config_record.Coord.{all_coords};
 ghost use Rattle.joined_boxes.specs.Devices.{KeepDevices};
+ghost use Rattle.joined_boxes.specs.Kinds.{KeepKinds};
 ghost use Rattle.joined_boxes.specs.Counts.{HaveSameCounts};
 ghost use Rattle.joined_boxes.specs.Least.{HasOneSet, DifferByRanges, DifferByChoices, IsLeast};
 ghost use Rattle.joined_boxes.specs.Ranges.{low_at, AreRanges, AreInOrder, HaveGaps, EndBelow, AreJoinedRanges};
@@ -19,6 +20,7 @@ pub fn join_boxes(alloc: Global, boxes: Vec<ConfigBox>) -> Result<Vec<ConfigBox>
     ensures devices { IfOk result (λ joined. KeepDevices boxes.items joined.items) }
     ensures no_more { IfOk result (λ joined. length joined.items ≤ length boxes.items) }
     ensures some { IfOk result (λ joined. 0 < length boxes.items → 0 < length joined.items) }
+    ensures kinds { IfOk result (λ joined. KeepKinds boxes.items joined.items) }
     ensures least { IfOk result (λ joined. IsLeast boxes.items joined.items) }
 {
     joined_along(alloc, boxes, &Coord::ALL)
@@ -33,6 +35,7 @@ fn joined_along(
     ensures devices { IfOk result (λ joined. KeepDevices boxes.items joined.items) }
     ensures no_more { IfOk result (λ joined. length joined.items ≤ length boxes.items) }
     ensures some { IfOk result (λ joined. 0 < length boxes.items → 0 < length joined.items) }
+    ensures kinds { IfOk result (λ joined. KeepKinds boxes.items joined.items) }
     ensures least { IfOk result (λ joined. IsLeast boxes.items joined.items) }
 {
     let mut joined = boxes;
@@ -51,6 +54,7 @@ fn joined_at(
     ensures counts { IfOk result (λ joined. HaveSameCounts boxes.items joined.items) }
     ensures no_more { IfOk result (λ joined. length joined.items ≤ length boxes.items) }
     ensures some { IfOk result (λ joined. 0 < length boxes.items → 0 < length joined.items) }
+    ensures kinds { IfOk result (λ joined. KeepKinds boxes.items joined.items) }
     ensures stay { IfOk result (λ joined. HasOneSet at boxes.items → joined.items ≡ boxes.items) }
     ensures ranges { IfOk result (λ joined. DifferByRanges at boxes.items → AreJoinedRanges at boxes.items joined.items) }
     ensures choices { IfOk result (λ joined. DifferByChoices at boxes.items → IsOneChoice at boxes.items joined.items) }
@@ -81,6 +85,7 @@ fn joined_in_order(alloc: Global, boxes: Vec<ConfigBox>) -> Result<Vec<ConfigBox
     ensures counts { IfOk result (λ joined. HaveSameCounts boxes.items joined.items) }
     ensures no_more { IfOk result (λ joined. length joined.items ≤ length boxes.items) }
     ensures some { IfOk result (λ joined. 0 < length boxes.items → 0 < length joined.items) }
+    ensures kinds { IfOk result (λ joined. KeepKinds boxes.items joined.items) }
     ensures ranges { IfOk result (λ joined. (c : coord.Coord) → AreRanges c boxes.items → AreInOrder c boxes.items → AreJoinedRanges c boxes.items joined.items) }
     ensures choices { IfOk result (λ joined. (c : coord.Coord) → AreChoices c boxes.items → IsOneChoice c boxes.items joined.items) }
 {
@@ -96,6 +101,7 @@ fn add(alloc: Global, boxes: &mut Vec<ConfigBox>, next: ConfigBox) -> Result<(),
     ensures counts { OnOk result (HaveSameCounts (boxes.old.items ++ next ∷ []) boxes.new.items) }
     ensures no_more { OnOk result (length boxes.new.items ≤ length boxes.old.items + 1) }
     ensures some { OnOk result (0 < length boxes.new.items) }
+    ensures kinds { OnOk result (KeepKinds (boxes.old.items ++ next ∷ []) boxes.new.items) }
     ensures ranges { OnOk result ((c : coord.Coord) → AreRanges c (boxes.old.items ++ next ∷ []) → HaveGaps c boxes.old.items → EndBelow c (low_at c next) boxes.old.items → AreJoinedRanges c (boxes.old.items ++ next ∷ []) boxes.new.items) }
     ensures choices { OnOk result ((c : coord.Coord) → AreChoices c (boxes.old.items ++ next ∷ []) → length boxes.old.items ≤ 1 → IsOneChoice c (boxes.old.items ++ next ∷ []) boxes.new.items) }
 {

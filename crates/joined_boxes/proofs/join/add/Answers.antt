@@ -7,6 +7,7 @@ use Rattle.joined_boxes.proofs.CountSteps.{same-joined}
 use Rattle.joined_boxes.specs.OneChoice.{AreChoices}
 use Rattle.joined_boxes.proofs.OneChoiceSteps.{choices-join, put-choice-at}
 use Rattle.joined_boxes.proofs.RangeSteps.{put-behind-at, put-joined-at}
+use Rattle.joined_boxes.proofs.KindSteps.{put-kinds}
 use Rattle.joined_boxes.proofs.join.add.Goals as goal
 
 pub returns-in-Some-2-clause-counts : goal.returns-in-Some-2-clause-counts
@@ -17,6 +18,14 @@ returns-in-Some-2-clause-counts c d =
     ap (box_count d) c.in_ok-push-2.ensures.items
     ∙ same-joined front c.in-Some.last c.args.next c.in-Some-2.both joined d
     ∙ ap (λ (l : List (List SetOf)). box_count d (l ++ c.args.next ∷ [])) (sym whole)
+
+pub returns-in-Some-2-clause-kinds : goal.returns-in-Some-2-clause-kinds
+returns-in-Some-2-clause-kinds c =
+    let front : List (List SetOf) = c.pop.new.self.items in
+    let whole : c.args.boxes.now.items ≡ front ++ c.in-Some.last ∷ [] = c.pop.ensures.items ∙ ap (λ (r : Option (List SetOf)). front ++ option_to_list r) c.in-Some.is in
+    let joined : IsJoined c.in-Some.last c.args.next c.in-Some-2.both = rw c.in-Some-2.is at c.in_ok-both.ensures.members in
+    let has : HasJoinedSets c.in-Some.last c.args.next c.in-Some-2.both = rw c.in-Some-2.is at c.in_ok-both.ensures.sets in
+    put-kinds c.args.boxes.now.items front c.push-in-Some-2.new.self.items c.in-Some.last c.args.next c.in-Some-2.both whole c.in_ok-push-2.ensures.items joined has
 
 pub returns-in-Some-2-clause-ranges : goal.returns-in-Some-2-clause-ranges
 returns-in-Some-2-clause-ranges c at r gaps below =

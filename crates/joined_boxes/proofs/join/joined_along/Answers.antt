@@ -28,6 +28,7 @@ loop-at-preserved c =
       counts = λ d. c.in_ok-joined.ensures.counts d ∙ so_far.counts d;
       no_more = omega (arith, c.in_ok-joined.ensures.no_more, so_far.no_more);
       some = λ q. c.in_ok-joined.ensures.some (so_far.some q);
+      kinds = λ sets h. c.in_ok-joined.ensures.kinds sets (so_far.kinds sets h);
       before = λ k differ le. along-before k at boxes old new differ (so_far.before k differ (omega arith)) (omega arith) c.in_ok-joined.ensures.stay;
       ranges = λ k differ lt. elim (cases_eq (place_of k) (place_of at)) [
         | inl same ↦ along-there DifferByRanges AreJoinedRanges k at boxes old new differ (so_far.before k differ.differ (omega arith)) same c.in_ok-joined.ensures.ranges

@@ -1,6 +1,7 @@
 use Rattle.std.proofs.Common.{◌≡◌, ◌≤◌, ◌<◌, length}
 use Rattle.config_box.specs.config_record.declared.coord.Coord.{Coord}
 use Rattle.config_box.specs.config_record.Coord.{place_of}
+use Rattle.joined_boxes.specs.Kinds.{KeepKinds}
 use Rattle.joined_boxes.specs.Counts.{HaveSameCounts}
 use Rattle.joined_boxes.specs.Least.{DifferAt, DifferByRanges, DifferByChoices}
 use Rattle.joined_boxes.specs.Ranges.{AreJoinedRanges}
@@ -13,6 +14,7 @@ invariant-loop-at l = record {
   counts : HaveSameCounts l.fn.boxes.items l.joined.items;
   no_more : length l.joined.items ≤ length l.fn.boxes.items;
   some : 0 < length l.fn.boxes.items → 0 < length l.joined.items;
+  kinds : KeepKinds l.fn.boxes.items l.joined.items;
   before : (c : Coord) → DifferAt c l.fn.boxes.items → l.at-index ≤ place_of c → l.joined.items ≡ l.fn.boxes.items;
   ranges : (c : Coord) → DifferByRanges c l.fn.boxes.items → place_of c < l.at-index → AreJoinedRanges c l.fn.boxes.items l.joined.items;
   choices : (c : Coord) → DifferByChoices c l.fn.boxes.items → place_of c < l.at-index → IsOneChoice c l.fn.boxes.items l.joined.items;

@@ -13,6 +13,8 @@ use Rattle.joined_boxes.specs.OneChoice.{AreChoices, IsOneChoice}
 use Rattle.joined_boxes.proofs.OneChoiceSteps.{sorted-choices, choice-of-sorted, one-set-chosen}
 use Rattle.joined_boxes.proofs.OrderLaws.{boxes_ranked}
 use Rattle.joined_boxes.proofs.SortSteps.{sorted-order, sorted-ranges, joined-of-sorted, one-set-joined}
+use Rattle.joined_boxes.specs.Kinds.{KeepKinds}
+use Rattle.joined_boxes.proofs.KindSteps.{kinds-moved}
 use Rattle.joined_boxes.proofs.join.joined_at.Goals as goal
 
 pub returns-then-not-vary-clause-ranges : goal.returns-then-not-vary-clause-ranges
@@ -26,6 +28,12 @@ returns-clause-stay c =
     IfOk-weaker c.joined_in_order.result (λ joined. (k : Coord) → AreRanges k ys → AreInOrder k ys → AreJoinedRanges k ys joined.items) (λ joined. HasOneSet c.args.at boxes → joined.items ≡ boxes)
     (λ joined h one. absurd (c.if-not-vary.ensures (subst (HasOneSet c.args.at) (sym c.as_slice.ensures.value) one)))
     c.joined_in_order.ensures.ranges
+
+pub returns-clause-kinds : goal.returns-clause-kinds
+returns-clause-kinds c =
+    let ys : List (List SetOf) = c.sort_by.new.self.items in
+    IfOk-weaker c.joined_in_order.result (λ joined. KeepKinds ys joined.items) (λ joined. KeepKinds c.args.boxes.items joined.items)
+    (λ joined keep. kinds-moved c.args.boxes.items ys joined.items c.sort_by.ensures.permutation keep) c.joined_in_order.ensures.kinds
 
 pub returns-clause-ranges : goal.returns-clause-ranges
 returns-clause-ranges c =

@@ -1,5 +1,6 @@
 use Rattle.std.proofs.Common.{◌≤◌, ◌<◌, length}
 use Rattle.config_box.specs.config_record.declared.coord.Coord.{Coord}
+use Rattle.joined_boxes.specs.Kinds.{KeepKinds}
 use Rattle.joined_boxes.specs.Counts.{HaveSameCounts}
 use Rattle.joined_boxes.specs.Ranges.{AreRanges, AreInOrder, AreJoinedRanges}
 use Rattle.joined_boxes.specs.OneChoice.{AreChoices, IsOneChoice}
@@ -11,6 +12,7 @@ invariant-loop-next l = record {
   counts : HaveSameCounts l.yielded l.joined.items;
   no_more : length l.joined.items ≤ length l.yielded;
   some : 0 < length l.yielded → 0 < length l.joined.items;
+  kinds : KeepKinds l.yielded l.joined.items;
   ranges : (c : Coord) → AreRanges c l.yielded → AreInOrder c l.yielded → AreJoinedRanges c l.yielded l.joined.items;
   choices : (c : Coord) → AreChoices c l.yielded → IsOneChoice c l.yielded l.joined.items;
 }
