@@ -1,22 +1,28 @@
 -- Changes whose boxes are joined.
-use Rattle.std.proofs.Common.{◌≡◌, ℕ, List, [], ◌∷◌, ◌++◌, map, sym, subst}
-use Rattle.std.specs.List.{All}
+use Rattle.std.proofs.Common.{◌≡◌, ℕ, ◌⊎◌, arith, List, [], ◌∷◌, get_or, map, sym, ap, subst, ◌∙◌}
+use Rattle.std.specs.List.{All, AllPairs, AllZip}
 use Rattle.std.proofs.lemmas.List.Elements.{All-nil, All-cons, All-head, All-tail}
+use Rattle.std.proofs.lemmas.List.Kept.{AllPairs-cons}
 use Rattle.cert_checker.specs.box_answers.NumberSet.{SetOf}
 use Rattle.cert_checker.specs.box_answers.Members.{IsMember}
-use Rattle.joined_boxes.specs.Devices.{HasNone, KeepDevices}
+use Rattle.joined_boxes.specs.Devices.{HasNone, HasOnce, KeepDevices}
+use Rattle.joined_boxes.specs.Kinds.{IsOfKinds}
 use Rattle.joined_boxes.proofs.CountSteps.{by_member}
+use Rattle.joined_boxes.proofs.PairSteps.{pairs-head, pairs-tail, all-flat}
+use Rattle.resource_content.specs.declared.content.Content.{Content}
 use Rattle.resource_content.specs.ContentSeen.{content_of}
 use Rattle.stack_diff.specs.declared.resource.Resource.{Resource}
 use Rattle.stack_diff.specs.declared.change.Change.{Change}
 use Rattle.stack_diff.specs.declared.told.Told.{Told}
 use Rattle.stack_diff.specs.Sides.{says}
 use Rattle.stack_diff.specs.Once.{KeepsEach}
-use Rattle.stack_diff.specs.Changes.{IsSo, IsReal, boxes_in}
+use Rattle.stack_diff.specs.Changes.{ChangeOf, IsSo, AreChanges, boxes_in}
 use Rattle.stack_diff.specs.ChangeSeen.{change_of}
-use Rattle.stack_diff.specs.Grouped.{AddsLeafTo, JoinsBoxes, KeepsTold}
-use Rattle.stack_diff.proofs.Once.{keeps-on, keeps-same, keeps-behind}
-use Rattle.stack_diff.proofs.Grouping.{boxes-push, real-push, real-pop}
+use Rattle.stack_diff.specs.Fewest.{TellOther, AreToldShort}
+use Rattle.stack_diff.specs.Tree.{AreRight}
+use Rattle.stack_diff.specs.Grouped.{IsGathered, AreGathered, JoinsBoxes, Groups}
+use Rattle.stack_diff.proofs.Once.{keeps-on, keeps-all, keeps-behind, keeps-before}
+use Rattle.stack_diff.proofs.FewBoxes.{IsJoinedOf, at-most-once, part-count, none-or-once, few-boxes}
 
 -- what holds of the members of each box holds of a device that one of them has
 of-one : (Q : List ℕ → Type 0) (d : List ℕ) (boxes : List (List SetOf)) → All (λ part. (e : List ℕ) → IsMember part e → Q e) boxes → (HasNone d boxes → ⊥) → Q d
@@ -37,30 +43,106 @@ kept-so Q old new keep all = to-each Q new (λ d not_none. of-one Q d old all (�
 joined-each : (old new : List (List SetOf)) → KeepDevices old new → KeepsEach old new
 joined-each old new keep = record { none = λ d h. (keep.none d).0 h; once = λ d h. (keep.once d).0 h }
 
-real-joined : (before after : Resource) (sets : List SetOf) (old new : Change) → JoinsBoxes old new → IsReal (says before) (says after) sets (change_of old) → IsReal (says before) (says after) sets (change_of new)
-real-joined before after sets old new joins real =
-    let as_old : IsReal (says before) (says after) sets (record { before = content_of old.before; after = content_of old.after; boxes = new.boxes.items }) = record {
-      differ = real.differ;
-      somewhere = joins.some real.somewhere;
-      devices = joins.none_empty;
-      so = kept-so (λ d. IsSo (says before) (says after) sets (content_of old.before) (content_of old.after) d) old.boxes.items new.boxes.items joins.devices real.so;
-    } in
-    subst (λ c. IsReal (says before) (says after) sets (record { before = content_of c; after = content_of new.after; boxes = new.boxes.items })) (sym joins.before)
-    (subst (λ c. IsReal (says before) (says after) sets (record { before = content_of old.before; after = content_of c; boxes = new.boxes.items })) (sym joins.after) as_old)
+-- ---- one change
 
--- the last change is joined
-pub told-joined : (old rest new : List Change) (last joined : Change) → old ≡ rest ++ last ∷ [] → new ≡ rest ++ joined ∷ [] → JoinsBoxes last joined → KeepsTold old new
-told-joined old rest new last joined e f joins = record {
-  devices = keeps-on _ _ _ (keeps-same _ _ (sym (boxes-push rest old last e)))
-      (keeps-on _ _ _ (keeps-behind (boxes_in (map change_of rest)) _ _ (joined-each last.boxes.items joined.boxes.items joins.devices)) (keeps-same _ _ (boxes-push rest new joined f)));
-  real = λ before after sets reals.
-      let popped = real-pop before after sets old rest last e reals in
-      real-push before after sets rest new joined f popped.0 (real-joined before after sets last joined joins popped.1);
-}
+-- a change with other boxes tells the same contents
+with-boxes : (old new : Change) → JoinsBoxes old new → change_of new ≡ record { before = content_of old.before; after = content_of old.after; boxes = new.boxes.items }
+with-boxes old new joins =
+    ap (λ (b : Content). record { before = content_of b; after = content_of new.after; boxes = new.boxes.items }) joins.before
+    ∙ ap (λ (a : Content). record { before = content_of old.before; after = content_of a; boxes = new.boxes.items }) joins.after
 
--- and a leaf comes behind it
-pub adds-after : (leaf : Told) (old mid new : List Change) → KeepsTold old mid → AddsLeafTo leaf mid new → AddsLeafTo leaf old new
-adds-after leaf old mid new kept adds = record {
-  devices = keeps-on _ _ _ (keeps-behind (leaf.members ∷ []) _ _ kept.devices) adds.devices;
-  real = λ before after sets right reals. adds.real before after sets right (kept.real before after sets reals);
-}
+gathered-joined : (before after : Resource) (sets : List SetOf) (old new : Change) → JoinsBoxes old new → IsGathered before after sets (change_of old) → IsGathered before after sets (change_of new)
+gathered-joined before after sets old new joins h =
+    subst (IsGathered before after sets) (sym (with-boxes old new joins)) (record {
+      real = record {
+        differ = h.real.differ;
+        somewhere = joins.some h.real.somewhere;
+        devices = joins.none_empty;
+        so = kept-so (λ d. IsSo (says before) (says after) sets (content_of old.before) (content_of old.after) d) old.boxes.items new.boxes.items joins.devices h.real.so;
+      };
+      kinds = joins.kinds sets h.kinds;
+    })
+
+-- ---- all changes
+keeps-joined : (olds news : List Change) → AllZip JoinsBoxes olds news → KeepsEach (boxes_in (map change_of olds)) (boxes_in (map change_of news))
+keeps-joined [] [] joins = keeps-all []
+keeps-joined [] (new ∷ news) joins = absurd joins
+keeps-joined (old ∷ olds) [] joins = absurd joins
+keeps-joined (old ∷ olds) (new ∷ news) joins =
+    keeps-on _ _ _ (keeps-before old.boxes.items new.boxes.items (boxes_in (map change_of olds)) (joined-each old.boxes.items new.boxes.items joins.0.devices))
+    (keeps-behind new.boxes.items _ _ (keeps-joined olds news joins.1))
+
+-- what each tells stays other than what this one tells
+others-joined : (old new : Change) (olds news : List Change) → JoinsBoxes old new → AllZip JoinsBoxes olds news → All (TellOther (change_of old)) (map change_of olds) → All (TellOther (change_of new)) (map change_of news)
+others-joined old new [] [] joins all h = All-nil (TellOther (change_of new))
+others-joined old new [] (other ∷ news) joins all h = absurd all
+others-joined old new (first ∷ olds) [] joins all h = absurd all
+others-joined old new (first ∷ olds) (other ∷ news) joins all h =
+    All-cons (TellOther (change_of new)) (change_of other) (map change_of news)
+    (λ e f.
+    All-head (TellOther (change_of old)) (change_of first) (map change_of olds) h
+    (sym (ap content_of joins.before) ∙ e ∙ ap content_of all.0.before) (sym (ap content_of joins.after) ∙ f ∙ ap content_of all.0.after))
+    (others-joined old new olds news joins all.1 (All-tail (TellOther (change_of old)) (change_of first) (map change_of olds) h))
+
+apart-joined : (olds news : List Change) → AllZip JoinsBoxes olds news → AllPairs TellOther (map change_of olds) → AllPairs TellOther (map change_of news)
+apart-joined [] [] joins h = h
+apart-joined [] (new ∷ news) joins h = absurd joins
+apart-joined (old ∷ olds) [] joins h = absurd joins
+apart-joined (old ∷ olds) (new ∷ news) joins h =
+    AllPairs-cons TellOther (change_of new) (map change_of news)
+    (others-joined old new olds news joins.0 joins.1 (pairs-head TellOther (change_of old) (map change_of olds) h))
+    (apart-joined olds news joins.1 (pairs-tail TellOther (change_of old) (map change_of olds) h))
+
+module _ (before after : Resource) (sets : List SetOf) where
+  abbrev Gathered : ChangeOf → Type 0
+  Gathered = IsGathered before after sets
+
+  gathered-each : (olds news : List Change) → AllZip JoinsBoxes olds news → AreGathered before after sets olds → AreGathered before after sets news
+  gathered-each [] [] joins h = h
+  gathered-each [] (new ∷ news) joins h = absurd joins
+  gathered-each (old ∷ olds) [] joins h = absurd joins
+  gathered-each (old ∷ olds) (new ∷ news) joins h =
+      All-cons Gathered (change_of new) (map change_of news) (gathered-joined before after sets old new joins.0 (All-head Gathered (change_of old) (map change_of olds) h))
+      (gathered-each olds news joins.1 (All-tail Gathered (change_of old) (map change_of olds) h))
+
+  -- no two boxes of a change have a device in common
+  abbrev Apart : ChangeOf → Type 0
+  Apart change = (d : List ℕ) → HasNone d change.boxes ⊎ HasOnce d change.boxes
+
+  abbrev Joined : ChangeOf → Type 0
+  Joined = IsJoinedOf (says before) (says after) sets
+
+  joined-of : (olds news : List Change) → AllZip JoinsBoxes olds news → AreGathered before after sets olds → All Apart (map change_of olds) → All Joined (map change_of news)
+  joined-of [] [] joins h apart = All-nil Joined
+  joined-of [] (new ∷ news) joins h apart = absurd joins
+  joined-of (old ∷ olds) [] joins h apart = absurd joins
+  joined-of (old ∷ olds) (new ∷ news) joins h apart =
+      let first = All-head Gathered (change_of old) (map change_of olds) h in
+      All-cons Joined (change_of new) (map change_of news)
+      (record {
+        parts = old.boxes.items;
+        each = λ k b q. record { kinds = first.kinds k b q; within = λ d m. (first.real.so k b q d m).member };
+        apart = All-head Apart (change_of old) (map change_of olds) apart;
+        least = joins.0.least;
+      })
+      (joined-of olds news joins.1 (All-tail Gathered (change_of old) (map change_of olds) h) (All-tail Apart (change_of old) (map change_of olds) apart))
+
+  pub changes-of : (told : List Told) (changes : List Change) → AreRight before after sets told → Groups told changes
+      → AreToldShort (says before) (says after) sets (map change_of changes)
+  changes-of told changes right groups =
+      let all : List ChangeOf = map change_of groups.gathered in
+      let so_far = groups.gathers.gathered before after sets right.right in
+      let are_so : AreChanges (says before) (says after) sets all = record { real = λ k c q. (so_far k c q).real; once = λ d m differ. groups.gathers.devices.once d (right.once d m differ) } in
+      let each = gathered-each groups.gathered changes groups.joins so_far in
+      let are : AreChanges (says before) (says after) sets (map change_of changes) = record {
+        real = λ k c q. (each k c q).real;
+        once = λ d m differ. (keeps-joined groups.gathered changes groups.joins).once d (are_so.once d m differ);
+      } in
+      let apart : All Apart all = λ k c q d.
+      let few = part-count (says before) (says after) sets all d k c q in
+      let one = at-most-once (says before) (says after) sets all d are_so in
+      none-or-once (says before) (says after) sets d (get_or all k c).boxes (omega arith) in (
+        are,
+        few-boxes (says before) (says after) sets (map change_of changes) right.is_box are (apart-joined groups.gathered changes groups.joins groups.gathers.apart)
+            (all-flat (IsOfKinds sets) (λ change. change.boxes) (map change_of changes) (λ k c q. (each k c q).kinds)) (joined-of groups.gathered changes groups.joins so_far apart),
+      )

@@ -2,7 +2,9 @@ pub mod Once
 pub mod Moved
 pub mod Both
 pub mod Walks
+pub mod Rising
 pub mod Grouping
+pub mod FewBoxes
 pub mod Joining
 pub mod Counts
 pub mod Unchanged

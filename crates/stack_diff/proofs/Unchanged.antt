@@ -1,5 +1,5 @@
 -- A resource beside itself.
-use Rattle.std.proofs.Common.{◌≡◌, ℕ, ◌<◌, ◌≤◌, arith, List, [], Option, Some, None, map, refl, sym, ap, subst}
+use Rattle.std.proofs.Common.{◌≡◌, ℕ, arith, List, [], Option, refl, sym, subst}
 use Rattle.std.proofs.lemmas.List.Elements.{All-nil}
 use Rattle.cert_checker.specs.overlay_map.Layer.{LayerOf}
 use Rattle.cert_checker.specs.res_value.declared.res_id.ResId.{ResId}
@@ -7,15 +7,28 @@ use Rattle.cert_checker.specs.box_answers.NumberSet.{SetOf}
 use Rattle.name_pairs.specs.declared.pair.Sides.TheVariants.{Both}
 use Rattle.resource_content.specs.Content.{ContentOf}
 use Rattle.stack_diff.specs.declared.outcome.Judged.{Judged}
+use Rattle.joined_boxes.specs.Kinds.{IsOfKinds}
 use Rattle.stack_diff.specs.Changes.{ChangeOf, IsReal, AreChanges}
+use Rattle.stack_diff.specs.Fewest.{AreShort, AreToldShort}
 use Rattle.stack_diff.specs.Outcomes.{IsJudged}
 
 -- it says nothing differently
-pub no-changes : (says : List ℕ → ContentOf) (sets : List SetOf) (changes : List ChangeOf) → changes ≡ [] → AreChanges says says sets changes
+no-changes : (says : List ℕ → ContentOf) (sets : List SetOf) (changes : List ChangeOf) → changes ≡ [] → AreChanges says says sets changes
 no-changes says sets changes none = subst (AreChanges says says sets) (sym none) (record {
   real = All-nil (IsReal says says sets);
   once = λ d member differ. absurd (differ refl);
 })
+
+-- in no box
+pub no-boxes : (says : List ℕ → ContentOf) (sets : List SetOf) (changes : List ChangeOf) → changes ≡ [] → AreToldShort says says sets changes
+no-boxes says sets changes none = (
+  no-changes says sets changes none,
+  subst (AreShort says says sets) (sym none) (record {
+    apart = λ i j d lt q. absurd (omega arith);
+    kinds = All-nil (IsOfKinds sets);
+    fewest = λ c alone others other kinds. omega arith;
+  }),
+)
 
 -- two stacks that are one, and two ids
 pub judged-alike : (old new : List LayerOf) (sets : List SetOf) (before after : ResId) (most : ℕ) (judged : Option Judged) → new ≡ old → before ≡ after

@@ -17,6 +17,7 @@ use Rattle.stack_diff.specs.declared.pair_box.PairBox.{PairBox}
 use Rattle.stack_diff.specs.declared.told.Told.{Told}
 use Rattle.stack_diff.specs.Sides.{says, both_traces}
 use Rattle.joined_boxes.specs.Devices.{HasOnce}
+use Rattle.joined_boxes.specs.Kinds.{IsOfKinds}
 use Rattle.stack_diff.specs.Once.{KeepsEach}
 use Rattle.stack_diff.specs.PairBox.{members_of, IsOpen}
 use Rattle.stack_diff.specs.Told.{SaySame, IsTold}
@@ -34,6 +35,7 @@ module _ (before after_it : Resource) (sets : List SetOf) where
   -- the nodes so far are the first of a tree of needed tests; what was told is right, and a device on which the stacks differ
   -- was told of once or is in one open box
   pub record Going (opened_boxes : List PairBox) (told : List Told) (nodes : ℕ) : Type 0 where
+    pub is_box : IsBox sets
     pub tree : List NodeOf
     pub count : length tree ≡ nodes
     pub paths : List Path
@@ -71,6 +73,7 @@ module _ (before after_it : Resource) (sets : List SetOf) where
   started part opened_boxes told is_box same is_open e none =
       let boxes : boxes_open opened_boxes ≡ sets ∷ [] = ap boxes_open e ∙ ap (λ (s : List SetOf). s ∷ []) same in
       record {
+        is_box = is_box;
         tree = [];
         count = refl;
         paths = root;
@@ -96,6 +99,7 @@ module _ (before after_it : Resource) (sets : List SetOf) where
       let long = length-append going.tree (node ∷ []) in
       let count = going.count in
       record {
+        is_box = going.is_box;
         tree = going.tree ++ node ∷ [];
         count = omega (arith, long, count);
         paths = after node path paths;
@@ -129,7 +133,7 @@ module _ (before after_it : Resource) (sets : List SetOf) where
 
   told-right : (part : List SetOf) (path : Path) (leaf : Told) → IsBoxAt sets path part → IsTold (says before) (says after_it) part leaf → IsRight before after_it sets leaf
   told-right part path leaf at told = record {
-    is_box = subst IsBox (sym told.members) at.is_box;
+    kinds = subst (IsOfKinds sets) (sym told.members) (record { is_box = at.is_box; marks = at.marks });
     differ = told.differ;
     so = λ d m.
         let here : IsMember part d = subst (λ (s : List SetOf). IsMember s d) told.members m in
@@ -158,6 +162,7 @@ module _ (before after_it : Resource) (sets : List SetOf) where
       let come : (d : List ℕ) → IsMember sets d → says before d ≢ says after_it d → HasOnce d (boxes_told told ++ (boxes_open rest ++ members_of part ∷ [])) =
       λ d m differ. subst (λ (bs : List (List SetOf)). HasOnce d (boxes_told told ++ bs)) (pushed-one rest opened_boxes part e) (going.once d m differ) in
       record {
+        is_box = going.is_box;
         tree = going.tree ++ bare ∷ [];
         count = omega (arith, long, count);
         paths = paths;
@@ -195,6 +200,7 @@ module _ (before after_it : Resource) (sets : List SetOf) where
       let boxes : boxes_open opened_boxes ≡ [] = ap boxes_open e in
       let paths = no-paths going.paths (subst (λ (parts : List (List SetOf)). Stand sets (reverse parts) going.paths) boxes going.stand) in (
         record {
+          is_box = going.is_box;
           right = going.right;
           once = λ d m differ. subst (HasOnce d) (ap (λ (bs : List (List SetOf)). boxes_told told ++ bs) boxes ∙ append-nil (boxes_told told)) (going.once d m differ);
         },

@@ -2,6 +2,7 @@ pub mod Sides
 pub mod Once
 pub mod Changes
 pub mod ChangeSeen
+pub mod Fewest
 pub mod PairBox
 pub mod Told
 pub mod NeededTree

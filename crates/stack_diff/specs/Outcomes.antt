@@ -15,13 +15,14 @@ use Rattle.stack_diff.specs.declared.outcome.Outcome.TheVariants.{Removed, Added
 use Rattle.stack_diff.specs.declared.outcome.Judged.{Judged}
 use Rattle.stack_diff.specs.declared.outcome.Outcomes.{Outcomes}
 use Rattle.stack_diff.specs.declared.outcome.Outcomes.TheVariants.{All, NodeLimit}
-use Rattle.stack_diff.specs.Changes.{ChangeOf, AreChanges}
+use Rattle.stack_diff.specs.Changes.{ChangeOf}
+use Rattle.stack_diff.specs.Fewest.{AreToldShort}
 use Rattle.stack_diff.specs.ChangeSeen.{change_of}
 use Rattle.stack_diff.specs.NeededTree.{HasNeededTree}
 
 -- ---- what is told
 
--- of a label that the old stack alone has, that the new one alone has, or that both have: then all changes
+-- of a label that the old stack alone has, that the new one alone has, or that both have: then all changes, in few boxes
 pub data OutcomeOf : Type 0 where
   RemovedOf : OutcomeOf
   AddedOf : OutcomeOf
@@ -36,7 +37,7 @@ outcome_of (Both changes) = BothOf (map change_of changes.items)
 abbrev pub IsOutcome : List LayerOf → List LayerOf → List SetOf → Sides → OutcomeOf → Type 0
 IsOutcome old new sets (of_sides.Removed id) RemovedOf = Unit {0}
 IsOutcome old new sets (of_sides.Added id) AddedOf = Unit {0}
-IsOutcome old new sets (of_sides.Both before after) (BothOf changes) = AreChanges (content_at old before.0) (content_at new after.0) sets changes
+IsOutcome old new sets (of_sides.Both before after) (BothOf changes) = AreToldShort (content_at old before.0) (content_at new after.0) sets changes
 IsOutcome old new sets sides outcome = ⊥
 
 -- ---- the limit

@@ -13,6 +13,7 @@ use Rattle.stack_diff.specs.declared.told.Told.{Told}
 use Rattle.stack_diff.specs.declared.tree.Leaves.{Leaves}
 use Rattle.stack_diff.specs.Sides.{says, both_traces}
 use Rattle.joined_boxes.specs.Devices.{HasOnce}
+use Rattle.joined_boxes.specs.Kinds.{IsOfKinds}
 use Rattle.stack_diff.specs.Changes.{IsSo}
 use Rattle.stack_diff.specs.NeededTree.{HasNeededTree}
 use Rattle.stack_diff.specs.PairBox.{members_of, IsOpen}
@@ -50,14 +51,15 @@ AddsNode before after part opened_boxes new_open told new_told =
 abbrev pub boxes_told : List Told → List (List SetOf)
 boxes_told told = map (λ leaf. leaf.members) told
 
--- of the members of one leaf, which are some of a whole box, it is so
+-- of the members of one leaf, which are some of a whole box, it is so; and they are a box of its kinds
 pub record IsRight (before after : Resource) (sets : List SetOf) (leaf : Told) : Type 0 where
-  pub is_box : IsBox leaf.members
+  pub kinds : IsOfKinds sets leaf.members
   pub differ : content_of leaf.before ≢ content_of leaf.after
   pub so : (d : List ℕ) → IsMember leaf.members d → IsSo (says before) (says after) sets (content_of leaf.before) (content_of leaf.after) d
 
--- each leaf is right, and a device on which the two stacks differ comes to one leaf, and to one alone
+-- each leaf is right, in a box; and a device on which the two stacks differ comes to one leaf, and to one alone
 pub record AreRight (before after : Resource) (sets : List SetOf) (told : List Told) : Type 0 where
+  pub is_box : IsBox sets
   pub right : All (IsRight before after sets) told
   pub once : (d : List ℕ) → IsMember sets d → says before d ≢ says after d → HasOnce d (boxes_told told)
 

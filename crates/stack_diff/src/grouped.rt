@@ -1,11 +1,9 @@
 //! Leaves that tell the same two contents, as one change.
 
 ghost use Rattle.std.specs.Prelude.{◌≡◌, [], ◌∷◌, ◌++◌, IfOk, MatchBool};
-ghost use Rattle.std.specs.List.{All};
+ghost use Rattle.std.specs.List.{All, AllZip};
 ghost use Rattle.cert_checker.specs.box_answers.Members.{SomeMember};
-ghost use Rattle.resource_content.specs.ContentSeen.{content_of};
-ghost use Rattle.stack_diff.specs.ChangeSeen.{change_of};
-ghost use Rattle.stack_diff.specs.Grouped.{HaveOneContent, AddsLeafTo, JoinsBoxes, KeepsTold, Groups};
+ghost use Rattle.stack_diff.specs.Grouped.{HaveOneContent, AddsLeafTo, GatherLeaves, JoinsBoxes, Groups};
 
 use crate::change::Change;
 use crate::told::Told;
@@ -17,6 +15,15 @@ use std::alloc::Global;
 pub(crate) fn grouped(alloc: Global, told: Vec<Told>) -> Result<Vec<Change>, OutOfMemory>
     ensures { IfOk result (λ changes. Groups told.items changes.items) }
 {
+    let gathered = gathered(alloc, told)?;
+    let changes = joined_each(alloc, gathered)?;
+    Ok(changes)
+}
+
+// A change for each two contents, with the boxes of all leaves that tell them.
+fn gathered(alloc: Global, told: Vec<Told>) -> Result<Vec<Change>, OutOfMemory>
+    ensures { IfOk result (λ changes. GatherLeaves told.items changes.items) }
+{
     let mut told = told;
     // Those of the same contents stand side by side, the greatest first, since leaves are taken from the end.
     told.sort_by(|leaf, other| other.cmp_contents(leaf))?;
@@ -24,18 +31,7 @@ pub(crate) fn grouped(alloc: Global, told: Vec<Told>) -> Result<Vec<Change>, Out
     'leaves: while let Some(leaf) = told.pop() {
         add_leaf(alloc, &mut changes, leaf)?;
     }
-    join_last(alloc, &mut changes)?;
     Ok(changes)
-}
-
-// Joins the boxes of the last change, if there is one.
-fn join_last(alloc: Global, changes: &mut Vec<Change>) -> Result<(), OutOfMemory>
-    ensures { IfOk result (λ _. KeepsTold changes.old.items changes.new.items) }
-{
-    if let Some(last) = changes.pop() {
-        changes.push(last.joined(alloc)?)?;
-    }
-    Ok(())
 }
 
 // Adds a leaf to the last change, if that has the same contents, or as a new one.
@@ -51,8 +47,7 @@ fn add_leaf(alloc: Global, changes: &mut Vec<Change>, leaf: Told) -> Result<(), 
     }
 }
 
-// The same, where this is the last change, which was taken. No leaf more comes to one behind which another stands, so its
-// boxes are joined then.
+// The same, where this is the last change, which was taken.
 fn add_behind(
     alloc: Global,
     changes: &mut Vec<Change>,
@@ -65,15 +60,28 @@ fn add_behind(
         changes.push(last.with_box(leaf.members)?)?;
         return Ok(());
     }
-    changes.push(last.joined(alloc)?)?;
+    changes.push(last)?;
     changes.push(Change::of(alloc, leaf)?)?;
     Ok(())
+}
+
+// Joins the boxes of each change. All its leaves are there now.
+fn joined_each(alloc: Global, changes: Vec<Change>) -> Result<Vec<Change>, OutOfMemory>
+    ensures { IfOk result (λ joined. AllZip JoinsBoxes changes.items joined.items) }
+{
+    let mut joined = Vec::with_capacity(alloc, changes.len())?;
+    for change in changes {
+        joined.push(change.joined(alloc)?)?;
+    }
+    Ok(joined)
 }
 
 impl Change {
     // What one leaf tells.
     fn of(alloc: Global, leaf: Told) -> Result<Change, OutOfMemory>
-        ensures { IfOk result (λ change. change_of change ≡ record { before = content_of leaf.before; after = content_of leaf.after; boxes = leaf.members ∷ [] }) }
+        ensures before { IfOk result (λ change. change.before ≡ leaf.before) }
+        ensures after { IfOk result (λ change. change.after ≡ leaf.after) }
+        ensures boxes { IfOk result (λ change. change.boxes.items ≡ leaf.members ∷ []) }
     {
         let mut boxes = Vec::new(alloc);
         boxes.push(leaf.members)?;
@@ -86,7 +94,9 @@ impl Change {
 
     // With one more box.
     fn with_box(self, members: ConfigBox) -> Result<Change, OutOfMemory>
-        ensures { IfOk result (λ change. change_of change ≡ record { before = content_of self.before; after = content_of self.after; boxes = self.boxes.items ++ members ∷ [] }) }
+        ensures before { IfOk result (λ change. change.before ≡ self.before) }
+        ensures after { IfOk result (λ change. change.after ≡ self.after) }
+        ensures boxes { IfOk result (λ change. change.boxes.items ≡ self.boxes.items ++ members ∷ []) }
     {
         let mut boxes = self.boxes;
         boxes.push(members)?;

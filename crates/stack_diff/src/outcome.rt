@@ -34,8 +34,8 @@ pub enum Outcomes {
     NodeLimit,
 }
 
-/// What two stacks say differently of each of their labels, for all devices of a box. The trees that find it may have so
-/// many nodes in all.
+/// What two stacks say differently of each of their labels, for all devices of a box. Where at most one qualifier of the
+/// box has several values, no fewer boxes tell it. The trees that find it may have so many nodes in all.
 pub fn compare_stacks<'a>(
     alloc: Global,
     old: &Stack<'a>,

@@ -21,6 +21,9 @@ pub(crate) struct Told {
 }
 
 impl Told {
+    ghost use Rattle.std.specs.Prelude.{◌≡◌};
+    ghost use Rattle.stack_diff.specs.Grouped.{contents_of_leaf, contents_order};
+
     /// What the members load, if that differs.
     pub(crate) fn of(
         alloc: Global,
@@ -46,7 +49,9 @@ impl Told {
     }
 
     /// The order of two contents, whichever devices load them.
-    pub(crate) fn cmp_contents(&self, other: &Told) -> Ordering {
+    pub(crate) fn cmp_contents(&self, other: &Told) -> Ordering
+        ensures { result ≡ contents_order (contents_of_leaf self.now) (contents_of_leaf other.now) }
+    {
         match self.before.cmp(&other.before) {
             Ordering::Equal => self.after.cmp(&other.after),
             order => order,

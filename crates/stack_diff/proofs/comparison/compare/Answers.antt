@@ -1,7 +1,7 @@
 use Rattle.std.proofs.Common.{Option, subst}
 use Rattle.stack_diff.specs.declared.tree.Leaves.{Leaves}
 use Rattle.stack_diff.specs.Tree.{IsGrown}
-use Rattle.stack_diff.proofs.Grouping.{changes-of}
+use Rattle.stack_diff.proofs.Joining.{changes-of}
 use Rattle.stack_diff.proofs.comparison.compare.Goals as goal
 
 pub returns-in_ok-changes-in-Some : goal.returns-in_ok-changes-in-Some

@@ -9,5 +9,7 @@ returns c = record {
   after = refl;
   devices = c.in_ok-boxes.ensures.devices;
   some = c.in_ok-boxes.ensures.some;
+  kinds = c.in_ok-boxes.ensures.kinds;
+  least = c.in_ok-boxes.ensures.least;
   none_empty = subst (All SomeMember) c.deref.ensures.value c.have_devices.ensures;
 }
