@@ -6,7 +6,7 @@ use Rattle.json_input.specs.Each.{each}
 use Rattle.json_input.proofs.EachSteps.{EachAllBut, EachAllBut-stops_item}
 use Rattle.command_words.specs.declared.words_fault.WordsFault.{WordsFault}
 use Rattle.command_words.specs.declared.words_fault.WordsFault.TheVariants.{CommandLine, NotText, BadId, OutOfMemory}
-use Rattle.command_words.specs.ResourceWords.{ReadsWord, ReadsWords}
+use Rattle.command_words.specs.AskedWords.{ReadsWord, ReadsWords}
 
 -- a word that is lent
 abbrev pub word_of : Bor (List ℕ) → List ℕ

@@ -24,11 +24,18 @@ several_words name = record (new_rule name) {
   range = Some (record { start_inclusive = 1; end_inclusive = usize_max });
 }
 
+-- one word or more, which may be left out
+abbrev pub maybe_words : List ℕ → Rule
+maybe_words name = record (new_rule name) {
+  action = Some Append;
+  range = Some (record { start_inclusive = 1; end_inclusive = usize_max });
+}
+
 -- a flag, `--NAME`
 abbrev pub flag : List ℕ → Rule
 flag name = record (new_rule name) { long = Some name; action = Some SetTrue }
 
--- how many nodes a certificate may have at most, and where the words name no number
+-- how many nodes trees may have at most, and where the words name no number
 
 abbrev pub most_nodes : ℕ
 most_nodes = 1000000
@@ -93,6 +100,8 @@ commands =
     ∷ command (codes "make")
     (nodes (codes "max-nodes") ∷ flag (codes "omit") ∷ names ∷ layers ∷ one_word (codes "BOX") ∷ goals ∷ [])
     ∷ command (codes "check") (names ∷ layers ∷ one_word (codes "BOX") ∷ one_word (codes "CERT") ∷ goals ∷ [])
+    ∷ command (codes "diff")
+    (nodes (codes "max-nodes") ∷ one_word (codes "OLD") ∷ one_word (codes "NEW") ∷ one_word (codes "BOX") ∷ maybe_words (codes "NAME") ∷ [])
     ∷ []
 
 -- the program, which has a version, and has to be given a command

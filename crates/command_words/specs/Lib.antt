@@ -1,7 +1,6 @@
 pub mod WordsFault
 pub mod CommandLine
 pub mod ArgumentsSeen
-pub mod ResourceWords
-pub mod GoalWords
+pub mod AskedWords
 pub mod Request
 pub use Rattle.name_words.specs as name_words

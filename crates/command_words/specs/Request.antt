@@ -21,7 +21,7 @@ use Rattle.command_words.specs.declared.request.DeviceRequest.TheVariants as of_
 use Rattle.command_words.specs.declared.request.BoxRequest.{BoxRequest}
 use Rattle.command_words.specs.declared.request.BoxRequest.TheVariants as of_box
 use Rattle.command_words.specs.declared.command.Command.{Command}
-use Rattle.command_words.specs.declared.command.Command.TheVariants.{Rows, Dump, Map, OfLayers, OfDevice, OfBox}
+use Rattle.command_words.specs.declared.command.Command.TheVariants.{Rows, Dump, Map, Diff, OfLayers, OfDevice, OfBox}
 use Rattle.command_words.specs.declared.command.LayersCommand.{LayersCommand}
 use Rattle.command_words.specs.declared.command.LayersCommand.TheVariants.{Survey, Show}
 use Rattle.command_words.specs.declared.command.DeviceCommand.{DeviceCommand}
@@ -29,8 +29,8 @@ use Rattle.command_words.specs.declared.command.DeviceCommand.TheVariants.{Query
 use Rattle.command_words.specs.declared.command.BoxCommand.{BoxCommand}
 use Rattle.command_words.specs.declared.command.BoxCommand.TheVariants.{Make, Check}
 use Rattle.command_words.specs.CommandLine.{command_line, most_nodes, nodes_if_left_out, greatest_goal}
-use Rattle.command_words.specs.ResourceWords.{named_word, set_word, texts_of}
-use Rattle.command_words.specs.GoalWords.{goal_word}
+use Rattle.command_words.specs.AskedWords.{asked_word, named_word, texts_of}
+use Rattle.command_words.specs.declared.asked_words.Asks.TheVariants.{Resources, Goals}
 
 -- ---- no words
 
@@ -85,6 +85,7 @@ command_of name =
     else if bytes_eq name (codes "attr") then Some (OfDevice Attr)
     else if bytes_eq name (codes "make") then Some (OfBox Make)
     else if bytes_eq name (codes "check") then Some (OfBox Check)
+    else if bytes_eq name (codes "diff") then Some Diff
     else None
 
 -- what the words of a command for a device ask for: one resource where one stands, and words where several may stand
@@ -95,7 +96,7 @@ pub record Asked : Type 0 where
 -- What is asked from left to right, or the first of these words that asks for nothing.
 unfoldable pub words_asked : DeviceCommand → List Row → Result Asked (List ℕ)
 words_asked Query rows = do
-  words ← each set_word (words_at (codes "ID") rows)
+  words ← each (asked_word Resources) (words_at (codes "ID") rows)
   Ok (record { one = None; words = words })
 words_asked Explain rows = do
   one ← named_word (word_at (codes "ID") rows)
@@ -105,12 +106,16 @@ words_asked Bag rows = do
   Ok (record { one = Some one; words = [] })
 words_asked Attr rows = do
   one ← named_word (word_at (codes "ATTR") rows)
-  words ← each set_word (words_at (codes "STYLE") rows)
+  words ← each (asked_word Resources) (words_at (codes "STYLE") rows)
   Ok (record { one = Some one; words = words })
 
 -- the same of the goals of a command for a box
 abbrev pub goals_asked : List Row → Result (List (List ℕ)) (List ℕ)
-goals_asked rows = each goal_word (words_at (codes "GOAL") rows)
+goals_asked rows = each (asked_word Goals) (words_at (codes "GOAL") rows)
+
+-- the same of the resources that a change is to be seen in; there may be none
+abbrev pub names_compared : List Row → Result (List (List ℕ)) (List ℕ)
+names_compared rows = each (asked_word Resources) (words_at (codes "NAME") rows)
 
 -- Words were read that are to ask for resources or goals: what was read is right for what they ask, or the first word that
 -- asks for nothing is named. Where memory ran out, nothing is said.
@@ -172,11 +177,19 @@ IsRequestForBox command rows asked (requests.OfBox layers_path box_path names re
     × IsGiven (codes "names") rows names × IsBoxRequestOf command rows asked request
 IsRequestForBox command rows asked _ = ⊥
 
+-- what a command for a change asks for whose words are these
+abbrev pub IsDiffOf : List Row → List (List ℕ) → Request → Type 0
+IsDiffOf rows asked (requests.Diff old_path new_path box_path max_nodes words) =
+    (old_path.now ≡ word_at (codes "OLD") rows) × (new_path.now ≡ word_at (codes "NEW") rows) × (box_path.now ≡ word_at (codes "BOX") rows)
+    × IsNodeLimit (one_of (codes "max-nodes") rows) max_nodes × (asked ≡ texts_of words)
+IsDiffOf rows asked _ = ⊥
+
 -- a command was read, whose arguments have these rows
 abbrev pub ReadsCommand : Command → List Row → Result Request WordsFault → Type 0
 ReadsCommand (OfLayers command) rows result = IsOkAnd result (IsRequestForLayers command rows)
 ReadsCommand (OfDevice command) rows result = ReadsAlong (words_asked command rows) (IsRequestForDevice command rows) result
 ReadsCommand (OfBox command) rows result = ReadsAlong (goals_asked rows) (IsRequestForBox command rows) result
+ReadsCommand Diff rows result = ReadsAlong (names_compared rows) (IsDiffOf rows) result
 ReadsCommand command rows result = IsOkAnd result (IsTableRequestOf command rows)
 
 -- Words were read, of which the first is the program's name: a fault of the command line comes first, and else it is the

@@ -3,13 +3,11 @@
 ghost use Rattle.std.specs.Prelude.{◌≡◌, map, codes, option_map};
 ghost use Rattle.clap.specs.Words.{all_of, first_of, found_of, one_of, rows_of};
 ghost use Rattle.json_input.specs.Each.{each};
-ghost use Rattle.command_words.specs.GoalWords.{goal_word};
-ghost use Rattle.command_words.specs.ResourceWords.{ReadsNamed, ReadsWords, named_word, set_word};
+ghost use Rattle.command_words.specs.AskedWords.{ReadsNamed, ReadsWords, asked_word, named_word};
 ghost use Rattle.command_words.specs.Request.{IsGiven, IsGoalNumber, IsNodeLimit, word_at, words_at};
 
+use crate::asked_words::{Asks, asked_words, named_word};
 use crate::command_line::{Argument, DOT, MAX_NODES, MOST_NODES, NODES_IF_LEFT_OUT};
-use crate::goal_words::goal_words;
-use crate::resource_words::{named_word, set_words};
 use crate::words_fault::WordsFault;
 use clap::ArgMatches;
 use name_words::Named;
@@ -41,33 +39,19 @@ pub(crate) fn given_named<'a>(
     named_word(given_word(given, argument))
 }
 
-/// The words of an argument, each of which asks for some resources, in their order.
+/// The words of an argument, each of which asks for some resources or goals, in their order.
 #[tactic(auto, using(crate::proofs::Rows::rows))]
-pub(crate) fn given_sets<'a>(
+pub(crate) fn given_asked<'a>(
     alloc: Global,
     given: &ArgMatches<'a>,
     argument: &Argument,
+    asks: Asks,
 ) -> Result<Vec<&'a str>, WordsFault<'a>>
-    ensures { ReadsWords result (each set_word (words_at argument.now.name.now (rows_of (found_of given.now)))) }
+    ensures { ReadsWords result (each (asked_word asks) (words_at argument.now.name.now (rows_of (found_of given.now)))) }
 {
     match given.get_strs(argument.name) {
-        Some(words) => set_words(alloc, words),
-        None => set_words(alloc, &[]),
-    }
-}
-
-/// The words of an argument, each of which asks for some goals, in their order.
-#[tactic(auto, using(crate::proofs::Rows::rows))]
-pub(crate) fn given_goals<'a>(
-    alloc: Global,
-    given: &ArgMatches<'a>,
-    argument: &Argument,
-) -> Result<Vec<&'a str>, WordsFault<'a>>
-    ensures { ReadsWords result (each goal_word (words_at argument.now.name.now (rows_of (found_of given.now)))) }
-{
-    match given.get_strs(argument.name) {
-        Some(words) => goal_words(alloc, words),
-        None => goal_words(alloc, &[]),
+        Some(words) => asked_words(alloc, words, asks),
+        None => asked_words(alloc, &[], asks),
     }
 }
 
@@ -79,7 +63,7 @@ pub(crate) fn given_flag(given: &ArgMatches<'_>, argument: &Argument) -> bool
     given.get_one(argument.name).unwrap_or(false)
 }
 
-/// How many nodes a certificate may have.
+/// How many nodes all trees may have.
 #[tactic(auto, using(crate::proofs::Rows::rows))]
 pub(crate) fn given_nodes(given: &ArgMatches<'_>) -> u32
     ensures { IsNodeLimit (one_of (codes "max-nodes") (rows_of (found_of given.now))) result }

@@ -1,6 +1,8 @@
 //! The commands, by their names.
 
-use crate::command_line::{ATTR, BAG, CHECK, DUMP, EXPLAIN, MAKE, MAP, QUERY, ROWS, SHOW, SURVEY};
+use crate::command_line::{
+    ATTR, BAG, CHECK, DIFF, DUMP, EXPLAIN, MAKE, MAP, QUERY, ROWS, SHOW, SURVEY,
+};
 
 /// What a name on the command line stands for.
 #[derive(Clone, Copy)]
@@ -8,6 +10,7 @@ pub(crate) enum Command {
     Rows,
     Dump,
     Map,
+    Diff,
     OfLayers(LayersCommand),
     OfDevice(DeviceCommand),
     OfBox(BoxCommand),
@@ -57,6 +60,7 @@ impl Command {
             ATTR => Command::OfDevice(DeviceCommand::Attr),
             MAKE => Command::OfBox(BoxCommand::Make),
             CHECK => Command::OfBox(BoxCommand::Check),
+            DIFF => Command::Diff,
             _ => unreachable!(),
         }
     }

@@ -22,7 +22,8 @@ Exit status:
   0  done
   1  something you asked for does not exist, or has too many references or parents,
      or a certificate is rejected or cannot be made, or an id map leaves out ids or
-     references of its overlay, or a survey finds what a device may read otherwise
+     references of its overlay, or a survey finds what a device may read otherwise,
+     or a change alters something
   2  bad command line, or an argument that is neither a resource id nor a name
   3  an input was refused
   4  out of memory
@@ -50,6 +51,8 @@ pub(crate) const ATTR: &str = "attr";
 pub(crate) const MAKE: &str = "make";
 
 pub(crate) const CHECK: &str = "check";
+
+pub(crate) const DIFF: &str = "diff";
 
 /// How a command is written: its name, and the arguments after it.
 struct Usage {
@@ -114,6 +117,11 @@ const USAGES: &[Usage] = &[
         about: "Checks whether a certificate is true for every device of a box",
         arguments: &[GOAL_NAMES, LAYERS, BOX, CERTIFICATE, GOALS],
     },
+    Usage {
+        name: DIFF,
+        about: "Prints what a change of layers alters, for every device of a box",
+        arguments: &[DIFF_NODES, OLD, NEW, BOX, COMPARED],
+    },
 ];
 
 /// An argument of a command.
@@ -131,6 +139,8 @@ enum Takes {
     /// One word, or none.
     MaybeOneWord,
     Words,
+    /// One word or more, or none.
+    MaybeWords,
     /// Nothing: it is a flag.
     Nothing,
     /// A number of nodes, after the argument's name.
@@ -142,7 +152,7 @@ enum Takes {
 /// How many nodes may be asked for at most.
 pub(crate) const MOST_NODES: u32 = 1_000_000;
 
-/// How many nodes a certificate may have where the words name no number. The help says it too.
+/// How many nodes trees may have where the words name no number. The help says it too.
 pub(crate) const NODES_IF_LEFT_OUT: u32 = 100_000;
 
 pub(crate) const TABLE: Argument = Argument {
@@ -167,6 +177,18 @@ pub(crate) const LAYERS: Argument = Argument {
     name: "LAYERS",
     takes: Takes::OneWord,
     help: "Path of the JSON list of layers",
+};
+
+pub(crate) const OLD: Argument = Argument {
+    name: "OLD",
+    takes: Takes::OneWord,
+    help: "Path of the JSON list of layers before the change",
+};
+
+pub(crate) const NEW: Argument = Argument {
+    name: "NEW",
+    takes: Takes::OneWord,
+    help: "Path of the JSON list of layers after the change",
 };
 
 pub(crate) const DEVICE: Argument = Argument {
@@ -205,6 +227,12 @@ pub(crate) const IDS: Argument = Argument {
     takes: Takes::Words,
     help: "Resource, by its id or its name, such as 0x7f010000 or dimen/margin; dimen/* for all \
            of a type, * for all, @FILE for those in a file, one a line",
+};
+
+pub(crate) const COMPARED: Argument = Argument {
+    name: "NAME",
+    takes: Takes::MaybeWords,
+    help: "Resource to compare, by its name or its id, as for query; without one, all",
 };
 
 pub(crate) const GOALS: Argument = Argument {
@@ -263,6 +291,14 @@ pub(crate) const MAX_NODES: Argument = Argument {
     name: "max-nodes",
     takes: Takes::Nodes,
     help: "Node limit of all trees together, 1 to 1000000 [default: 100000]",
+};
+
+/// The same of a change. It has the same name, so that it is read as `MAX_NODES` is.
+const DIFF_NODES: Argument = Argument {
+    name: "max-nodes",
+    takes: Takes::Nodes,
+    help: "Node limit of the trees that part the devices, all together, 1 to 1000000 \
+           [default: 100000]",
 };
 
 pub(crate) const DOT: Argument = Argument {
@@ -352,6 +388,7 @@ fn built_argument<'a>(alloc: Global, argument: &Argument) -> Arg<'a>
         Takes::OneWord => arg.required(true).action(ArgAction::Set),
         Takes::MaybeOneWord => arg.action(ArgAction::Set),
         Takes::Words => arg.required(true).num_args(1..).action(ArgAction::Append),
+        Takes::MaybeWords => arg.num_args(1..).action(ArgAction::Append),
         Takes::Nothing => arg.long(argument.name).action(ArgAction::SetTrue),
         Takes::Nodes => {
             let number = value_parser!(u32).range(1..=i64::from(MOST_NODES));

@@ -2,7 +2,7 @@
 //!
 //! A command is what a name such as `query` stands for, a `Command`. A request is a command with what its words
 //! ask for, a `Request`. Both are of a table, of layers, of a
-//! device or of a box.
+//! device, of a box or of a change.
 //!
 //! For the program above: `read_words` gives the request, or why there is none. What clap says of the words comes
 //! first, and then the first word that asks for no resource, or for a box for no goal.
@@ -17,11 +17,10 @@
 #![tactic(auto)]
 
 mod arguments;
+mod asked_words;
 mod command;
 mod command_line;
-mod goal_words;
 mod request;
-mod resource_words;
 mod words;
 mod words_fault;
 

@@ -39,6 +39,18 @@ pub enum Request<'a> {
         names: bool,
         request: BoxRequest<'a>,
     },
+    /// What a change of layers alters for all devices of a box.
+    Diff {
+        /// The layers before the change.
+        old_path: &'a str,
+        /// The layers after it.
+        new_path: &'a str,
+        box_path: &'a str,
+        /// How many nodes all trees may have.
+        max_nodes: u32,
+        /// The words of the resources that are compared. Without one it is all.
+        words: Vec<&'a str>,
+    },
 }
 
 /// What is asked of layers alone.

@@ -4,17 +4,18 @@ ghost use Rattle.std.specs.Prelude.{◌≡◌, ◌≢◌, true, map, is_some, If
 ghost use Rattle.std.specs.IoError.{error_kind};
 ghost use Rattle.clap.specs.Words.{FailsBy, fault_of, has_subcommand, rows_of, found_of, subcommand_of, subcommand_rows_of};
 ghost use Rattle.command_words.specs.CommandLine.{command_line};
-ghost use Rattle.command_words.specs.Request.{AsksFor, IsBoxRequestOf, IsDeviceRequestOf, IsLayersRequestOf, ReadsAlong, ReadsCommand, ReadsCommandLine, command_of, goals_asked, words_asked};
+ghost use Rattle.command_words.specs.Request.{AsksFor, IsBoxRequestOf, IsDeviceRequestOf, IsDiffOf, IsLayersRequestOf, ReadsAlong, ReadsCommand, ReadsCommandLine, command_of, goals_asked, names_compared, words_asked};
 ghost use Rattle.command_words.specs.WordsFault.{IsOfReading};
 
 use crate::arguments::{
-    given_flag, given_goal_number, given_goals, given_maybe_word, given_named, given_nodes,
-    given_sets, given_word,
+    given_asked, given_flag, given_goal_number, given_maybe_word, given_named, given_nodes,
+    given_word,
 };
+use crate::asked_words::Asks;
 use crate::command::{BoxCommand, Command, DeviceCommand, LayersCommand};
 use crate::command_line::{
-    ATTRIBUTE, BAG_ID, BOX, CERTIFICATE, DEVICE, GOALS, ID, IDS, KEEP, LAYERS, MAYBE_BOX, NAMES,
-    OMIT, OVERLAY, STYLES, TABLE, TARGET, command_line,
+    ATTRIBUTE, BAG_ID, BOX, CERTIFICATE, COMPARED, DEVICE, GOALS, ID, IDS, KEEP, LAYERS, MAYBE_BOX,
+    NAMES, NEW, OLD, OMIT, OVERLAY, STYLES, TABLE, TARGET, command_line,
 };
 use crate::request::{BoxRequest, DeviceRequest, LayersRequest, Request};
 use crate::words_fault::WordsFault;
@@ -101,6 +102,7 @@ fn request_of<'a>(
             target_path: given_word(given, &TARGET),
             overlay_path: given_word(given, &OVERLAY),
         }),
+        Command::Diff => diff_of(alloc, given),
         Command::OfLayers(command) => Ok(Request::OfLayers {
             layers_path: given_word(given, &LAYERS),
             request: layers_request_of(command, given),
@@ -124,6 +126,18 @@ fn request_of<'a>(
             })
         }
     }
+}
+
+fn diff_of<'a>(alloc: Global, given: &ArgMatches<'a>) -> Result<Request<'a>, WordsFault<'a>>
+    ensures { ReadsAlong (names_compared (rows_of (found_of given.now))) (IsDiffOf (rows_of (found_of given.now))) result }
+{
+    Ok(Request::Diff {
+        old_path: given_word(given, &OLD),
+        new_path: given_word(given, &NEW),
+        box_path: given_word(given, &BOX),
+        max_nodes: given_nodes(given),
+        words: given_asked(alloc, given, &COMPARED, Asks::Resources)?,
+    })
 }
 
 fn layers_request_of<'a>(command: LayersCommand, given: &ArgMatches<'a>) -> LayersRequest<'a>
@@ -151,7 +165,7 @@ fn device_request_of<'a>(
 {
     match command {
         DeviceCommand::Query => Ok(DeviceRequest::Query {
-            words: given_sets(alloc, given, &IDS)?,
+            words: given_asked(alloc, given, &IDS, Asks::Resources)?,
         }),
         DeviceCommand::Explain => Ok(DeviceRequest::Explain {
             resource: given_named(given, &ID)?,
@@ -161,7 +175,7 @@ fn device_request_of<'a>(
         }),
         DeviceCommand::Attr => Ok(DeviceRequest::Attr {
             attr: given_named(given, &ATTRIBUTE)?,
-            styles: given_sets(alloc, given, &STYLES)?,
+            styles: given_asked(alloc, given, &STYLES, Asks::Resources)?,
             force: !given_flag(given, &KEEP),
         }),
     }
@@ -179,11 +193,11 @@ fn box_request_of<'a>(
         BoxCommand::Make => Ok(BoxRequest::Make {
             max_nodes: given_nodes(given),
             omit: given_flag(given, &OMIT),
-            goals: given_goals(alloc, given, &GOALS)?,
+            goals: given_asked(alloc, given, &GOALS, Asks::Goals)?,
         }),
         BoxCommand::Check => Ok(BoxRequest::Check {
             certificate_path: given_word(given, &CERTIFICATE),
-            goals: given_goals(alloc, given, &GOALS)?,
+            goals: given_asked(alloc, given, &GOALS, Asks::Goals)?,
         }),
     }
 }

@@ -1,11 +1,14 @@
--- Words that ask for resources.
-use Rattle.std.specs.Prelude.{ℕ, ◌≡◌, ◌||◌, List, map, ok_or, is_some, Result, Ok, Err, Vec, if◌then◌else◌}
+-- Words that ask for resources or for goals.
+use Rattle.std.specs.Prelude.{ℕ, ◌≡◌, ◌||◌, Bool, List, map, ok_or, is_some, is_ok, Result, Ok, Err, Vec, if◌then◌else◌}
 use Rattle.std.specs.Borrow.{Bor}
 use Rattle.std.specs.declared.alloc.Global.{Global}
 use Rattle.name_words.specs.declared.named.Named.{Named}
 use Rattle.name_words.specs.Named.{NamedOf, named_of, named_in}
+use Rattle.name_words.specs.NamedGoal.{named_goal_in}
 use Rattle.name_words.specs.NamedSet.{named_set_in}
 use Rattle.name_words.specs.WordFile.{file_path_in}
+use Rattle.command_words.specs.declared.asked_words.Asks.{Asks}
+use Rattle.command_words.specs.declared.asked_words.Asks.TheVariants.{Resources, Goals}
 use Rattle.command_words.specs.declared.words_fault.WordsFault.{WordsFault}
 use Rattle.command_words.specs.declared.words_fault.WordsFault.TheVariants.{BadId, OutOfMemory}
 
@@ -13,9 +16,14 @@ use Rattle.command_words.specs.declared.words_fault.WordsFault.TheVariants.{BadI
 abbrev pub named_word : List ℕ → Result NamedOf (List ℕ)
 named_word word = ok_or (named_in word) word
 
+-- whether a word asks for some of what is to be asked for
+abbrev pub asks_for : Asks → List ℕ → Bool
+asks_for Resources word = is_some (named_set_in word)
+asks_for Goals word = is_ok (named_goal_in word)
+
 -- where several may stand: a word that asks for some, or that names a file of such words; or the word, if it does neither
-abbrev pub set_word : List ℕ → Result (List ℕ) (List ℕ)
-set_word word = if is_some (file_path_in word) || is_some (named_set_in word) then Ok word else Err word
+abbrev pub asked_word : Asks → List ℕ → Result (List ℕ) (List ℕ)
+asked_word asks word = if is_some (file_path_in word) || asks_for asks word then Ok word else Err word
 
 -- ---- how they are read
 
