@@ -36,7 +36,7 @@ pub use files::{
     AskedFiles, CheckFiles, DeviceFiles, DiffFiles, LayerFiles, MapFiles, ShowFiles, SurveyFiles,
 };
 pub use input::{Inputs, ProcessInputs, table_bytes};
-pub use named_resources::{ResId, goals_named, id_named, ids_named};
+pub use named_resources::{ResId, goals_named, id_named, ids_named, pairs_named};
 pub use place::Place;
 pub use progress::{ProgressLine, Watch};
 pub use status::ExitStatus;

@@ -8,7 +8,8 @@ pub enum ExitStatus {
     /// All was done, or help or the version was printed that was asked for.
     Done = 0,
     /// Something that was asked for does not exist, or has too many references or parents; or a certificate
-    /// is rejected, or cannot be made; or an id map leaves out ids or references of its overlay.
+    /// is rejected, or cannot be made; or an id map leaves out ids or references of its overlay; or a survey
+    /// finds what a device may read otherwise; or a change alters something.
     Negative = 1,
     /// A bad command line, or an argument that is neither a resource id nor a name.
     BadCommandLine = 2,
