@@ -20,15 +20,16 @@ use Rattle.resource_tool.specs.Answered.{PrintsBothOneOf}
 use Rattle.resource_tool.specs.MakeOutput.{IsMakeOutput, IsMakeAnswer}
 use Rattle.resource_tool.specs.CheckOutput.{IsCheckAnswer}
 use Rattle.resource_tool.specs.OmitOutput.{IsOmitOutput}
+use Rattle.diff_command.specs.DiffOutput.{IsDiffOutput}
 use Rattle.program_run.specs.command_words.declared.request.Request.{Request}
-use Rattle.program_run.specs.command_words.declared.request.Request.TheVariants.{Rows, Dump, Map, OfLayers, OfDevice, OfBox}
+use Rattle.program_run.specs.command_words.declared.request.Request.TheVariants.{Rows, Dump, Map, OfLayers, OfDevice, OfBox, Diff}
 use Rattle.program_run.specs.command_words.declared.request.LayersRequest.TheVariants.{Survey, Show}
 use Rattle.program_run.specs.command_words.declared.request.DeviceRequest.TheVariants.{Query, Explain, Bag, Attr}
 use Rattle.program_run.specs.command_words.declared.request.BoxRequest.TheVariants.{Make, Check}
 use Rattle.program_run.specs.declared.stop.Stop.{Stop}
 use Rattle.program_run.specs.Stop.{StopOf, stop_of, tool}
 use Rattle.program_run.specs.Inputs.{Places, MapInputs, SurveyInputs, ShowInputs, table_of, map_files}
-use Rattle.restool.specs.Asked.{AskedId, AskedIds, AskedAttr, AskedMake, AskedCheck}
+use Rattle.restool.specs.Asked.{AskedId, AskedIds, AskedAttr, AskedMake, AskedCheck, AskedDiff}
 use Rattle.survey_commands.specs.SurveyOutput.{survey_output}
 use Rattle.restool.specs.Answers.{Answers, CarriesOut, LeavesOut, PrintsTold, shown_output}
 use Rattle.restool.specs.Run.{Shows}
@@ -75,6 +76,12 @@ module _ {W V E : Type 0} (is_terminal : Bool) (c : W → Option (List ℕ)) (d 
 
   abbrev pub Behind : {X : Type 0} → (X → Result Output ToolFault) → X → Result Status ToolFault → Type 0
   Behind F read result = Prints d before after result (F read)
+
+  abbrev pub BeforeAny : {X Y : Type 0} → (X → Y → Output → Type 0) → (X → Result Y ToolFault) → X → Result Status ToolFault → Type 0
+  BeforeAny Allows F read result = PrintsOneOf (Allows read) c old new result (F read)
+
+  abbrev pub BehindAny : {X Y : Type 0} → (X → Y → Output → Type 0) → (X → Result Y ToolFault) → X → Result Status ToolFault → Type 0
+  BehindAny Allows F read result = PrintsOneOf (Allows read) d before after result (F read)
 
   abbrev pub BeforeOneOf : {X Y : Type 0} → (X → Y → Output → Type 0) → (X → Y → Output → List ℕ → Type 0) → (X → Result Y ToolFault) → X → Result Status ToolFault → Type 0
   BeforeOneOf Allows Tells F read result = PrintsTold is_terminal (Allows read) (Tells read) c says old new quiet said result (F read)
@@ -172,6 +179,8 @@ module _ {W V E : Type 0} (is_terminal : Bool) (c : W → Option (List ℕ)) (d 
   answers-over : (from to : Result Status Stop)
       → ((X : Type 0) (F : X → Result Output ToolFault) (meant : Result X StopOf)
       → CarriesOut (Before F) meant from → CarriesOut (Behind F) meant to)
+      → ((X Y : Type 0) (Allows : X → Y → Output → Type 0) (F : X → Result Y ToolFault) (meant : Result X StopOf)
+      → CarriesOut (BeforeAny Allows F) meant from → CarriesOut (BehindAny Allows F) meant to)
       → ((X Y : Type 0) (Allows : X → Y → Output → Type 0) (Tells : X → Y → Output → List ℕ → Type 0) (F : X → Result Y ToolFault) (meant : Result X StopOf)
       → CarriesOut (BeforeOneOf Allows Tells F) meant from → CarriesOut (BehindOneOf Allows Tells F) meant to)
       → ((X Y : Type 0) (Tells : X → Y → Output → List ℕ → Type 0) (F : X → Result Y ToolFault) (meant : Result X StopOf)
@@ -179,35 +188,38 @@ module _ {W V E : Type 0} (is_terminal : Bool) (c : W → Option (List ℕ)) (d 
       → ((X : Type 0) (F : X → Result MapOutput ToolFault) (meant : Result X StopOf)
       → CarriesOut (BeforeBoth F) meant from → CarriesOut (BehindBoth F) meant to)
       → (places : Places) (request : Request) → Answers is_terminal c says old new quiet said places request from → Answers is_terminal d says before after quiet said places request to
-  answers-over from to carry carry_one carry_told carry_both places (Rows path) p = carry _ rows_output (table_of places path.now) p
-  answers-over from to carry carry_one carry_told carry_both places (Dump path) p = carry _ dump_output (table_of places path.now) p
-  answers-over from to carry carry_one carry_told carry_both places (Map target overlay) p =
+  answers-over from to carry carry_any carry_one carry_told carry_both places (Rows path) p = carry _ rows_output (table_of places path.now) p
+  answers-over from to carry carry_any carry_one carry_told carry_both places (Dump path) p = carry _ dump_output (table_of places path.now) p
+  answers-over from to carry carry_any carry_one carry_told carry_both places (Map target overlay) p =
       carry_both _ (λ (inputs : MapInputs). map_output inputs.target inputs.overlay) (map_files places target.now overlay.now) p
-  answers-over from to carry carry_one carry_told carry_both places (OfLayers layers (Survey box_path)) p =
+  answers-over from to carry carry_any carry_one carry_told carry_both places (OfLayers layers (Survey box_path)) p =
       carry _ (λ (inputs : SurveyInputs). survey_output inputs.layers inputs.box_json) _ p
-  answers-over from to carry carry_one carry_told carry_both places (OfLayers layers (Show certificate pictured)) p =
+  answers-over from to carry carry_any carry_one carry_told carry_both places (OfLayers layers (Show certificate pictured)) p =
       carry _ (λ (inputs : ShowInputs). shown_output pictured inputs) _ p
-  answers-over from to carry carry_one carry_told carry_both places (OfDevice layers device names (Query words)) p =
+  answers-over from to carry carry_any carry_one carry_told carry_both places (OfDevice layers device names (Query words)) p =
       carry _ (λ (asked : AskedIds). Ok (query_answer asked.opened asked.ids names)) _ p
-  answers-over from to carry carry_one carry_told carry_both places (OfDevice layers device names (Explain resource)) p =
+  answers-over from to carry carry_any carry_one carry_told carry_both places (OfDevice layers device names (Explain resource)) p =
       carry _ (λ (asked : AskedId). Ok (explain_answer asked.opened asked.id.0 names)) _ p
-  answers-over from to carry carry_one carry_told carry_both places (OfDevice layers device names (Bag resource)) p =
+  answers-over from to carry carry_any carry_one carry_told carry_both places (OfDevice layers device names (Bag resource)) p =
       carry _ (λ (asked : AskedId). Ok (bag_answer asked.opened asked.id.0 names)) _ p
-  answers-over from to carry carry_one carry_told carry_both places (OfDevice layers device names (Attr attr styles force)) p =
+  answers-over from to carry carry_any carry_one carry_told carry_both places (OfDevice layers device names (Attr attr styles force)) p =
       carry _ (λ (asked : AskedAttr). Ok (attr_answer asked.opened asked.attr.0 asked.styles force names)) _ p
-  answers-over from to carry carry_one carry_told carry_both places (OfBox layers box_path names (Make max_nodes false goals)) p =
+  answers-over from to carry carry_any carry_one carry_told carry_both places (OfBox layers box_path names (Make max_nodes false goals)) p =
       carry_one _ _ (λ (asked : AskedMake). IsMakeOutput asked.goals max_nodes) (λ (asked : AskedMake). IsMakeAnswer asked.goals max_nodes names)
       (λ (asked : AskedMake). Ok asked.inputs) _ p
-  answers-over from to carry carry_one carry_told carry_both places (OfBox layers box_path names (Make max_nodes true goals)) p =
+  answers-over from to carry carry_any carry_one carry_told carry_both places (OfBox layers box_path names (Make max_nodes true goals)) p =
       carry_one _ _ (λ (asked : AskedMake). LeavesOut asked.goals max_nodes) (λ (asked : AskedMake). IsOmitOutput asked.goals max_nodes)
       (λ (asked : AskedMake). Ok asked.inputs) _ p
-  answers-over from to carry carry_one carry_told carry_both places (OfBox layers box_path names (Check certificate goals)) p =
+  answers-over from to carry carry_any carry_one carry_told carry_both places (OfBox layers box_path names (Check certificate goals)) p =
       carry_told _ _ (λ (asked : AskedCheck). IsCheckAnswer asked.goals names) (λ (asked : AskedCheck). Ok asked.inputs) _ p
+  answers-over from to carry carry_any carry_one carry_told carry_both places (Diff old_path new_path box_path max_nodes words) p =
+      carry_any _ _ (λ (asked : AskedDiff). IsDiffOutput asked.pairs max_nodes) (λ (asked : AskedDiff). Ok asked.inputs) _ p
 
   answers-done : (status : Status) → Passes → (places : Places) (request : Request)
       → Answers is_terminal c says old new quiet said places request (Ok status) → Answers is_terminal d says before after quiet said places request (Ok status)
   answers-done status passes = answers-over (Ok status) (Ok status)
       (λ X F meant p. carries-done (Before F) (Behind F) meant status (λ read q. prints-done status (F read) passes q) p)
+      (λ X Y Allows F meant p. carries-done (BeforeAny Allows F) (BehindAny Allows F) meant status (λ read q. prints_one_of-done (Allows read) status (F read) passes q) p)
       (λ X Y Allows Tells F meant p. carries-done (BeforeOneOf Allows Tells F) (BehindOneOf Allows Tells F) meant status
       (λ read q. (prints_one_of-done (Allows read) status (F read) passes q.0, λ plain. prints_told-done (Tells read) status (F read) passes (q.1 plain))) p)
       (λ X Y Tells F meant p. carries-done (BeforeTold Tells F) (BehindTold Tells F) meant status (λ read q. prints_told-done (Tells read) status (F read) passes q) p)
@@ -217,6 +229,7 @@ module _ {W V E : Type 0} (is_terminal : Bool) (c : W → Option (List ℕ)) (d 
       → Answers is_terminal c says old new quiet said places request (Err stop) → Answers is_terminal d says before after quiet said places request (Err stop)
   answers-stop stop stays = answers-over (Err stop) (Err stop)
       (λ X F meant p. carries-stop (Before F) (Behind F) meant stop (λ read fault q. prints-fault fault (F read) stays q) p)
+      (λ X Y Allows F meant p. carries-stop (BeforeAny Allows F) (BehindAny Allows F) meant stop (λ read fault q. prints_one_of-fault (Allows read) fault (F read) stays q) p)
       (λ X Y Allows Tells F meant p. carries-stop (BeforeOneOf Allows Tells F) (BehindOneOf Allows Tells F) meant stop
       (λ read fault q. (prints_one_of-fault (Allows read) fault (F read) stays q.0, λ plain. prints_told-fault (Tells read) fault (F read) stays (q.1 plain))) p)
       (λ X Y Tells F meant p. carries-stop (BeforeTold Tells F) (BehindTold Tells F) meant stop (λ read fault q. prints_told-fault (Tells read) fault (F read) stays q) p)
@@ -226,6 +239,7 @@ module _ {W V E : Type 0} (is_terminal : Bool) (c : W → Option (List ℕ)) (d 
       → Answers is_terminal c says old new quiet said places request (Ok status) → Answers is_terminal d says before after quiet said places request (Err stop)
   answers-failed status stop failed = answers-over (Ok status) (Err stop)
       (λ X F meant p. carries-failed (Before F) (Behind F) meant status stop failed (λ read q. rw q.1 refl) p)
+      (λ X Y Allows F meant p. carries-failed (BeforeAny Allows F) (BehindAny Allows F) meant status stop failed (λ read q. rw q.2 refl) p)
       (λ X Y Allows Tells F meant p. carries-failed (BeforeOneOf Allows Tells F) (BehindOneOf Allows Tells F) meant status stop failed
       (λ read q. (rw q.0.2 refl, λ plain. rw q.0.2 refl)) p)
       (λ X Y Tells F meant p. carries-failed (BeforeTold Tells F) (BehindTold Tells F) meant status stop failed (λ read q. rw q.3 refl) p)
@@ -293,6 +307,7 @@ module _ {T E : Type 0} (is_terminal : Bool) (contents : T → Option (List ℕ)
   shows-behind (OfLayers layers asked) shown = shown
   shows-behind (OfDevice layers device names asked) shown = shown
   shows-behind (OfBox layers box_path names asked) shown = λ plain. ((shown plain).0, unsaid-behind (shown plain).1)
+  shows-behind (Diff old_path new_path box_path max_nodes words) shown = shown
   shows-behind (Map target overlay) shown = unsaid-behind shown
 
   -- Where there is no answer and no write failed, the writer behind is as it was.

@@ -17,8 +17,9 @@ use Rattle.resource_tool.specs.Answered.{PrintsBothOneOf}
 use Rattle.resource_tool.specs.MakeOutput.{MakeInputs, IsMakeOutput, IsMakeAnswer}
 use Rattle.resource_tool.specs.OmitOutput.{IsOmitOutput}
 use Rattle.resource_tool.specs.CheckOutput.{IsCheckAnswer}
+use Rattle.diff_command.specs.DiffOutput.{IsDiffOutput}
 use Rattle.program_run.specs.command_words.declared.request.Request.{Request}
-use Rattle.program_run.specs.command_words.declared.request.Request.TheVariants.{Rows, Dump, Map, OfLayers, OfDevice, OfBox}
+use Rattle.program_run.specs.command_words.declared.request.Request.TheVariants.{Rows, Dump, Map, OfLayers, OfDevice, OfBox, Diff}
 use Rattle.program_run.specs.command_words.declared.request.LayersRequest.{LayersRequest}
 use Rattle.program_run.specs.command_words.declared.request.LayersRequest.TheVariants.{Survey, Show}
 use Rattle.program_run.specs.command_words.declared.request.DeviceRequest.{DeviceRequest}
@@ -28,11 +29,11 @@ use Rattle.program_run.specs.command_words.declared.request.BoxRequest.TheVarian
 use Rattle.program_run.specs.declared.stop.Stop.{Stop}
 use Rattle.program_run.specs.Stop.{StopOf, stop_of, tool}
 use Rattle.program_run.specs.Inputs.{Places, SurveyInputs, ShowInputs, DeviceInputs, table_of, map_files, survey_files, show_files, device_files}
-use Rattle.program_run.specs.AskedFiles.{AskedInputs, CheckInputs, asked_files, check_files}
-use Rattle.program_run.specs.command_words.ResourceWords.{texts_of}
+use Rattle.program_run.specs.AskedFiles.{AskedInputs, CheckInputs, DiffInputs, asked_files, check_files, diff_files}
+use Rattle.program_run.specs.command_words.AskedWords.{texts_of}
 use Rattle.program_run.specs.command_words.name_words.Named.{NamedOf, named_of}
 use Rattle.contract_words.specs.Faults.{◌>>=◌}
-use Rattle.restool.specs.Asked.{ids_asked, id_asked, attr_asked, make_asked, check_asked}
+use Rattle.restool.specs.Asked.{ids_asked, id_asked, attr_asked, make_asked, check_asked, diff_asked}
 
 -- A command is carried out on what is read: it is done as the command does it. A stop is why something is not read, or
 -- the command's fault. Where memory ran out, nothing is said.
@@ -112,6 +113,13 @@ Checks contents says old new before after names read result =
     CarriesOut (λ asked done. PrintsBothOneOf (IsCheckAnswer asked.goals names) contents says old new before after done (Ok asked.inputs))
     (read >>= λ inputs. check_asked inputs.asked.layers inputs.asked.devices inputs.certificate inputs.asked.words) result
 
+-- ---- the same of a change
+
+abbrev pub Diffs : {W : Type 0} → (W → Option (List ℕ)) → W → W → ℕ → Result DiffInputs StopOf → Result Status Stop → Type 0
+Diffs contents old new max_nodes read result =
+    CarriesOut (λ asked done. PrintsOneOf (IsDiffOutput asked.pairs max_nodes) contents old new done (Ok asked.inputs))
+    (read >>= λ inputs. diff_asked inputs.old inputs.new inputs.box_json inputs.words) result
+
 -- ---- requests, from what the places have
 
 abbrev pub AnswersOfLayers : {W : Type 0} → (W → Option (List ℕ)) → W → W → Places → List ℕ → LayersRequest → Result Status Stop → Type 0
@@ -155,3 +163,5 @@ Answers is_terminal contents says old new before after places (OfDevice layers d
     AnswersOfDevice contents old new places layers.now device.now names request
 Answers is_terminal contents says old new before after places (OfBox layers box_path names request) =
     AnswersOfBox is_terminal contents says old new before after places layers.now box_path.now names request
+Answers is_terminal contents says old new before after places (Diff old_path new_path box_path max_nodes words) =
+    Diffs contents old new max_nodes (diff_files places old_path.now new_path.now box_path.now (texts_of words))

@@ -12,11 +12,14 @@ use Rattle.program_run.specs.fault_text.declared.fault.ToolFault.{ToolFault}
 use Rattle.program_run.specs.command_base.StackBytes.{LayerBytes}
 use Rattle.program_run.specs.named_resources.NamedGoals.{goals_named}
 use Rattle.program_run.specs.named_resources.NamedIds as names
+use Rattle.program_run.specs.named_resources.NamedPairs.{pairs_named}
 use Rattle.program_run.specs.command_words.name_words.Named.{NamedOf}
 use Rattle.program_run.specs.AskedWords.{set_asked, goal_asked}
 use Rattle.program_run.specs.Inputs.{or_stop}
 use Rattle.program_run.specs.Stop.{StopOf, no_resource, tool}
 use Rattle.resource_tool.specs.cert_tree.res_value.declared.res_id.ResId.{ResId}
+use Rattle.diff_command.specs.DiffInputs.{DiffInputs, diff_inputs}
+use Rattle.diff_command.specs.name_pairs.Pairs.{PairOf, name_pairs}
 
 -- what was read of the inputs, or the fault of one of them
 abbrev pub read_or_stop : {X : Type 0} → Result X ToolFault → Result X StopOf
@@ -93,3 +96,17 @@ check_asked layers box_json certificate words = do
   opened ← read_or_stop (check.check_inputs layers box_json certificate)
   goals ← found_or_stop (goals_named opened.stack named)
   Ok (record { inputs = opened; goals = goals })
+
+-- ---- of a change
+
+pub record AskedDiff : Type 0 where
+  pub inputs : DiffInputs
+  pub pairs : List PairOf
+
+-- what a change of layers alters of resources
+unfoldable pub diff_asked : List LayerBytes → List LayerBytes → List ℕ → List (List ℕ) → Result AskedDiff StopOf
+diff_asked old new box_json words = do
+  sets ← each set_asked words
+  opened ← read_or_stop (diff_inputs old new box_json)
+  pairs ← found_or_stop (pairs_named sets (name_pairs opened.old opened.new))
+  Ok (record { inputs = opened; pairs = pairs })

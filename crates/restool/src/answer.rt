@@ -3,15 +3,17 @@
 ghost use Rattle.std.specs.Prelude.{◌≡◌, ◌≢◌, false, Ok, IfErr, IfSome, option_map};
 ghost use Rattle.program_run.specs.fault_text.declared.fault.ToolFault.TheVariants.{Write};
 ghost use Rattle.program_run.specs.command_words.name_words.Named.{named_of};
-ghost use Rattle.program_run.specs.FilesSeen.{asked_held, check_held, devices_held, show_held, survey_held};
+ghost use Rattle.program_run.specs.AskedFiles.{diff_files};
+ghost use Rattle.program_run.specs.command_words.AskedWords.{texts_of};
+ghost use Rattle.program_run.specs.FilesSeen.{asked_held, check_held, devices_held, diff_held, show_held, survey_held};
 ghost use Rattle.program_run.specs.Stop.{stop_of, tool};
-ghost use Rattle.restool.specs.Answers.{Answers, AnswersOfBox, AnswersOfDevice, AnswersOfLayers, Surveys, ShowsTrees, Queries, Explains, PrintsBag, PrintsAttr, Makes, MakesOmitting, Checks};
+ghost use Rattle.restool.specs.Answers.{Answers, AnswersOfBox, AnswersOfDevice, AnswersOfLayers, Surveys, ShowsTrees, Queries, Explains, PrintsBag, PrintsAttr, Makes, MakesOmitting, Checks, Diffs};
 ghost use Rattle.restool.specs.Run.{Shows, says_beside};
 
-use crate::asked::{AskedAttr, AskedCheck, AskedId, AskedIds, AskedMake};
+use crate::asked::{AskedAttr, AskedCheck, AskedDiff, AskedId, AskedIds, AskedMake};
 use program_run::{
-    AskedFiles, BoxRequest, CheckFiles, DeviceFiles, DeviceRequest, Inputs, LayersRequest,
-    MapFiles, Named, Request, ShowFiles, Stop, SurveyFiles, Watch, table_bytes,
+    AskedFiles, BoxRequest, CheckFiles, DeviceFiles, DeviceRequest, DiffFiles, Inputs,
+    LayersRequest, MapFiles, Named, Request, ShowFiles, Stop, SurveyFiles, Watch, table_bytes,
 };
 use resource_tool::{Status, dump_bytes, map_bytes, rows_bytes};
 use show_command::{show_bytes, show_dot_bytes};
@@ -72,6 +74,15 @@ pub fn answer<'a, I: Inputs, C: Clock, O: Write + Drop, E: Write + Drop>(
             let paths = Paths::new(layers_path, box_path);
             answer_of_box(alloc, inputs, watch, paths, names, request, out, errors)
         }
+        Request::Diff {
+            old_path,
+            new_path,
+            box_path,
+            max_nodes,
+            words,
+        } => answer_of_change(
+            alloc, inputs, old_path, new_path, box_path, max_nodes, words, out,
+        ),
     }
 }
 
@@ -343,4 +354,37 @@ fn check<O: Write + Drop, E: Write + Drop>(
     let words = &asked_files.words;
     let asked = AskedCheck::read(alloc, &layers, box_json, &files.certificate, words)?;
     Ok(asked.check(alloc, names, out, errors)?)
+}
+
+fn answer_of_change<'a, I: Inputs, O: Write + Drop>(
+    alloc: Global,
+    inputs: &I,
+    old_path: &'a str,
+    new_path: &'a str,
+    box_path: &'a str,
+    max_nodes: u32,
+    words: Vec<&'a str>,
+    out: &mut O,
+) -> Result<Status, Stop<'a>>
+    ensures answers { IfSome (I.places inputs.now) (λ places. Diffs O.contents out.old out.new max_nodes
+        (diff_files places old_path.entry.now new_path.entry.now box_path.entry.now (texts_of words.entry)) result) }
+    ensures unwritten { IfErr result (λ stop. stop_of stop ≢ tool Write → out.new ≡ out.old) }
+{
+    let files = DiffFiles::read(alloc, inputs, old_path, new_path, box_path, &words)?;
+    diff(alloc, &files, max_nodes, out)
+}
+
+fn diff<O: Write + Drop>(
+    alloc: Global,
+    files: &DiffFiles,
+    max_nodes: u32,
+    out: &mut O,
+) -> Result<Status, Stop<'static>>
+    ensures answers { Diffs O.contents out.old out.new max_nodes (Ok (diff_held files.now)) result }
+    ensures unwritten { IfErr result (λ stop. stop_of stop ≢ tool Write → out.new ≡ out.old) }
+{
+    let old = files.old.layers(alloc)?;
+    let new = files.new.layers(alloc)?;
+    let asked = AskedDiff::read(alloc, &old, &new, &files.box_json, &files.words)?;
+    Ok(asked.diff(alloc, max_nodes, out)?)
 }

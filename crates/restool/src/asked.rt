@@ -1,10 +1,11 @@
 //! What a request asks for, once the inputs are opened and the names are looked up.
 
 ghost use Rattle.std.specs.Prelude.{◌≡◌, false, map, string_bytes, Ok};
-ghost use Rattle.program_run.specs.command_base.Output.{Prints};
+ghost use Rattle.program_run.specs.command_base.Output.{Prints, PrintsOneOf};
 ghost use Rattle.program_run.specs.command_base.StackBytesSeen.{layer_bytes};
 ghost use Rattle.program_run.specs.Stop.{GivesOrStops};
 ghost use Rattle.program_run.specs.command_words.name_words.Named.{named_of};
+ghost use Rattle.diff_command.specs.DiffOutput.{IsDiffOutput};
 ghost use Rattle.resource_tool.specs.Answered.{PrintsBothOneOf};
 ghost use Rattle.resource_tool.specs.CheckOutput.{IsCheckAnswer};
 ghost use Rattle.resource_tool.specs.MakeOutput.{IsMakeOutput, IsMakeAnswer};
@@ -14,12 +15,13 @@ ghost use Rattle.resource_tool.specs.device_commands.BagOutput.{bag_answer};
 ghost use Rattle.resource_tool.specs.device_commands.ExplainOutput.{explain_answer};
 ghost use Rattle.resource_tool.specs.device_commands.QueryOutput.{query_answer};
 ghost use Rattle.restool.specs.Answers.{LeavesOut, PrintsTold};
-ghost use Rattle.restool.specs.Asked.{id_asked, ids_asked, attr_asked, make_asked, check_asked};
-ghost use Rattle.restool.specs.AskedSeen.{id_seen, ids_seen, attr_seen, make_seen, check_seen};
+ghost use Rattle.restool.specs.Asked.{id_asked, ids_asked, attr_asked, make_asked, check_asked, diff_asked};
+ghost use Rattle.restool.specs.AskedSeen.{id_seen, ids_seen, attr_seen, make_seen, check_seen, diff_seen};
 
+use diff_command::{NamePair, OpenedDiff};
 use program_run::{
     Named, ProgressLine, ResId, Stop, Watch, asked_goals, asked_sets, goals_named, id_named,
-    ids_named,
+    ids_named, pairs_named,
 };
 use resource_tool::{
     Goal, LayerParts, Opened, OpenedBox, OpenedCert, Status, ToolFault, Unwatched, write_goal_told,
@@ -255,5 +257,42 @@ impl<'a> AskedCheck<'a> {
         ensures quiet { names ≡ false → errors.new ≡ errors.old }
     {
         self.opened.check(alloc, &self.goals, names, out, errors)
+    }
+}
+
+/// Resources of two stacks, and a box on which they are compared.
+#[derive(Drop)]
+pub(crate) struct AskedDiff<'a> {
+    pub opened: OpenedDiff<'a>,
+    pub pairs: Vec<NamePair<'a>>,
+}
+
+impl<'a> AskedDiff<'a> {
+    #[tactic(auto, unfolding(crate::specs::Asked::diff_asked))]
+    pub fn read(
+        alloc: Global,
+        old: &[LayerParts<&'a [u8]>],
+        new: &[LayerParts<&'a [u8]>],
+        box_json: &[u8],
+        words: &[String],
+    ) -> Result<AskedDiff<'a>, Stop<'static>>
+        ensures { GivesOrStops diff_seen result (diff_asked (map layer_bytes old.now) (map layer_bytes new.now) box_json.now (map string_bytes words.now)) }
+    {
+        let sets = asked_sets(alloc, words)?;
+        let opened = OpenedDiff::read(alloc, old, new, box_json)?;
+        let all = opened.pairs(alloc)?;
+        let pairs = pairs_named(alloc, all, &sets)?;
+        Ok(AskedDiff { opened, pairs })
+    }
+
+    pub fn diff<W: Write + Drop>(
+        &self,
+        alloc: Global,
+        max_nodes: u32,
+        out: &mut W,
+    ) -> Result<Status, ToolFault>
+        ensures { PrintsOneOf (IsDiffOutput (diff_seen self.now).pairs max_nodes) W.contents out.old out.new result (Ok (diff_seen self.now).inputs) }
+    {
+        self.opened.diff(alloc, &self.pairs, max_nodes, out)
     }
 }
