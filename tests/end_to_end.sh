@@ -352,6 +352,64 @@ else
     echo "not run, since python3 is missing: worked and random certificates that are made"
 fi
 
+# ---- diff
+cp "$tables/rich.arsc" base
+line old '[{"table":"base"}]'
+line new '[{"table":"whole"}]'
+line none.out 'same 0'
+check "a change of nothing" 0 none.out $none diff new new box
+line all.out "same $(awk '$1 == "row" { print $2 }' "$tables/rich.rows.txt" | sort -u | wc -l)"
+check "the same layers" 0 all.out $none diff old old box
+check "the most nodes for a change" 0 none.out $none diff --max-nodes 1000000 new new box
+check "the limit after the box" 0 none.out $none diff new new box --max-nodes 1
+
+# no_diff NAME STATUS LINE WORD..: diff with these words ends with this status and this line on standard error.
+no_diff() {
+    name=$1 status=$2
+    line diff.err "$3"
+    shift 3
+    check "$name" "$status" $none diff.err diff "$@"
+}
+line shapeless '{}'
+line unmapped '[{"table":"whole"},{"table":"whole","map":"box"}]'
+no_diff "an old list of wrong shape" 3 'refused: old layers: Shape' shapeless absent absent
+no_diff "a new list of wrong shape" 3 'refused: new layers: Shape' new shapeless absent
+no_diff "an old table that is cut comes first" 3 'refused: old layer 0 table: Chunk Truncated 0' cut-layers unmapped emptied
+no_diff "a new map that is none comes before the box" 3 'refused: new layer 1 map: Shape' old unmapped emptied
+no_diff "the wrong box of a change" 3 'refused: box: Empty night' old new emptied
+no_diff "an absent old list" 5 'file: absent' absent shapeless nowhere
+no_diff "an absent old table comes before the new list" 5 'file: nowhere' nowhere-layers shapeless absent
+no_diff "an absent new list comes before the box" 5 'file: absent' cut-layers absent nowhere
+no_diff "an absent new table comes before the box" 5 'file: nowhere' cut-layers nowhere-layers absent
+no_diff "an absent box of a change comes before what is refused" 5 'file: absent' cut-layers unmapped absent
+no_diff "an absent file of names comes before what is refused" 5 'file: nowhere' cut-layers unmapped emptied @nowhere
+no_diff "what is refused comes before a name that is not there" 3 'refused: box: Empty night' old new emptied string/none
+no_diff "a name that neither stack has" 1 'no resource string/none' old new box 'string/*' string/none
+no_diff "a type that neither stack has" 1 'no resource none/*' old new box 'none/*' string/none
+no_diff "an id that neither stack has" 1 'no resource 0x7f7f0000' old new box 0x7f7f0000
+no_diff "all of two stacks that have nothing" 1 'no resource *' new new box '*'
+no_diff "a bad name comes before the files" 2 'command: bad id string' absent absent absent 0x7f010000 string
+no_diff "an attribute under styles is not compared" 2 'command: bad id attr/a@style/b' old new box attr/a@style/b
+ends "diff without a box" 2 '"$0" diff old new'
+ends "a change within 0 nodes" 2 '"$0" diff --max-nodes 0 old new box'
+ends "a change within too many nodes" 2 '"$0" diff --max-nodes 1000001 old new box'
+ends "two limits of a change" 2 '"$0" diff --max-nodes 1 --max-nodes 1 old new box'
+ends "names beside the ids of a change" 2 '"$0" diff --names old new box'
+ends "diff to a closed output" 5 '"$0" diff new new box >&-'
+
+line plain '[{"table":"examples/teapot/resources.arsc"}]'
+printf '%s\n' 'changed bool/whistles true -> false' \
+    'changed color/clay rgb8 #ffb5651d -> argb8 #fff8f4ec on night=1' \
+    'changed dimen/handle dimension 12/2^0 dp -> dimension 16/2^0 dp on density=120..197' \
+    'changed string/brand "Teekanne" -> "Porzellankanne" on locale=de-AT,de-CH,de-DE' \
+    'changed string/brand "Teapot" -> "Porcelain teapot" on locale=en-GB,en-US' \
+    'changed string/title "Teekanne" -> "Porzellankanne" on locale=de-AT,de-CH,de-DE' \
+    'changed string/title "Teapot" -> "Porcelain teapot" on locale=en-GB,en-US' 'same 14' >changed.out
+cd "$here" || exit 1
+check "what the porcelain changes" 1 "$work/changed.out" $none \
+    diff "$work/plain" examples/porcelain/layers.json examples/porcelain/phones.json
+cd "$work" || exit 1
+
 # ---- README and the guide: what they show after a command is what it prints
 
 # shows PAGE FOLDER: the commands of this page of the folder, run there one after the other.
@@ -529,7 +587,7 @@ check "one resource is not in a file" 2 $none "$work/word.err" explain absent $p
 cd "$work" || exit 1
 
 # ---- words
-for command in rows dump map survey show query explain bag attr make check; do
+for command in rows dump map survey show query explain bag attr make check diff; do
     check "help of $command" 0 "$here/tests/helps/$command.txt" $none "$command" --help
 done
 check "help" 0 "$here/tests/helps/restool.txt" $none --help

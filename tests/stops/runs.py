@@ -46,6 +46,8 @@ LAYER_FILES = [LAYERS, TEAPOT, PORCELAIN, "examples/porcelain/map.json"]
 OF_PHONE = [*LAYER_FILES, PHONE]
 PHONES = "examples/porcelain/phones.json"
 CERTIFICATE, WRONG = "examples/porcelain/certificate.json", "examples/porcelain/wrong.json"
+COPPER = "examples/copper/layers.json"
+COPPER_FILES = [COPPER, *LAYER_FILES[1:], "examples/copper/resources.arsc", "examples/copper/map.json"]
 TABLET = ["rich-overlay.layers.json", "tablet-de.device.json"]
 OF_TABLET = [TABLET[0], "rich.arsc", "overlay.arsc", "overlay-map.json", TABLET[1]]
 FRENCH = ["rich.layers.json", "phone-fr.device.json"]
@@ -131,6 +133,13 @@ SHOWN = lines(
     "2\telse value layer 0 dimension 13/2^0 dp",
     "goals 2",
 )
+DIFFERENT = lines(
+    "changed color/clay argb8 #fff8f4ec -> argb8 #ffb87333 on night=1",
+    "changed color/clay rgb8 #ff402000 -> argb8 #ff7a4a20 on night=2",
+    'changed string/brand "Porcelain teapot" -> "Copper teapot" on locale=en-GB,en-US',
+    'changed string/title "Porcelain teapot" -> "Copper teapot" on locale=en-GB,en-US',
+    "same 16",
+)
 TABLELESS = lines(
     "error: the following required arguments were not provided:",
     "  <TABLE>",
@@ -185,6 +194,18 @@ def box_runs():
     yield Run("node limit", ["make", "--max-nodes", "1", LAYERS, PHONES, GOALS[0]], of_box, 1, "node limit\n")
 
 
+def change_runs():
+    """Runs of the command that compares two stacks on all devices of a box."""
+    change, of_change = [LAYERS, COPPER, PHONES], [*LAYER_FILES, *COPPER_FILES, PHONES]
+    yield Run("diff", ["diff", *change], of_change, 1, DIFFERENT)
+    title = [line for line in DIFFERENT.splitlines() if "/title" in line]
+    yield Run("diff of names", ["diff", *change, "string/title", "dimen/*"], of_change, 1, lines(*title, "same 4"))
+    same = ["diff", LAYERS, LAYERS, PHONES, "string/title"]
+    yield Run("diff of the same", same, [*LAYER_FILES, *LAYER_FILES, PHONES], out="same 1\n")
+    limited = ["diff", "--max-nodes", "1", *change, "string/title"]
+    yield Run("node limit of a change", limited, of_change, 1, "node limit\n")
+
+
 def stopped_runs():
     """Runs that end with a message."""
     yield Run("no TABLE", ["rows"], status=2, err=TABLELESS)
@@ -198,6 +219,7 @@ def made_runs(folder):
     files = {
         "long": whole + bytes(LONG - len(whole)),
         "layers": b'[{"table":"long"},{"table":"long","map":"empty"}]',
+        "old": b'[{"table":"long"}]',
         "empty": b"",
         "device": b'{"density":160}',
         "target": target,
@@ -212,6 +234,9 @@ def made_runs(folder):
     words = ["map", "target", "misspelled"]
     unmapped = 'unmapped 0x7f040000 "dimen"/"handel"\n'
     yield Run("lines of map", words, words[1:], 1, WITHOUT_HANDLE, unmapped, folder)
+    of_change = ["old", "long", *read]
+    words = ["diff", "old", "layers", "device"]
+    yield Run("refused after a change", words, of_change, 3, err=line.replace("layer", "new layer"), folder=folder)
     yield Run("refused", ["query", "layers", "device", "0x7f010000"], read, 3, err=line, folder=folder)
 
 
@@ -224,6 +249,7 @@ def runs(folder):
     yield from layers_runs()
     yield from device_runs()
     yield from box_runs()
+    yield from change_runs()
     yield Run("help", ["query", "--help"], out=text_of("tests", "helps", "query.txt"))
     yield from stopped_runs()
     yield from made_runs(folder)
