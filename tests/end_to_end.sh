@@ -409,6 +409,12 @@ cd "$here" || exit 1
 check "what the porcelain changes" 1 "$work/changed.out" $none \
     diff "$work/plain" examples/porcelain/layers.json examples/porcelain/phones.json
 cd "$work" || exit 1
+if command -v python3 >/dev/null; then
+    ends "worked changes of an app" 0 "python3 '$here/tests/worked_diff.py' \"\$0\""
+    ends "random changes of layers" 0 "python3 '$here/tests/check_diff.py' \"\$0\" 400 4"
+else
+    echo "not run, since python3 is missing: worked and random changes of layers"
+fi
 
 # ---- README and the guide: what they show after a command is what it prints
 
