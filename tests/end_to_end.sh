@@ -401,10 +401,10 @@ line plain '[{"table":"examples/teapot/resources.arsc"}]'
 printf '%s\n' 'changed bool/whistles true -> false' \
     'changed color/clay rgb8 #ffb5651d -> argb8 #fff8f4ec on night=1' \
     'changed dimen/handle dimension 12/2^0 dp -> dimension 16/2^0 dp on density=120..197' \
-    'changed string/brand "Teekanne" -> "Porzellankanne" on locale=de-AT,de-CH,de-DE' \
     'changed string/brand "Teapot" -> "Porcelain teapot" on locale=en-GB,en-US' \
-    'changed string/title "Teekanne" -> "Porzellankanne" on locale=de-AT,de-CH,de-DE' \
-    'changed string/title "Teapot" -> "Porcelain teapot" on locale=en-GB,en-US' 'same 14' >changed.out
+    'changed string/brand "Teekanne" -> "Porzellankanne" on locale=de-AT,de-CH,de-DE' \
+    'changed string/title "Teapot" -> "Porcelain teapot" on locale=en-GB,en-US' \
+    'changed string/title "Teekanne" -> "Porzellankanne" on locale=de-AT,de-CH,de-DE' 'same 14' >changed.out
 cd "$here" || exit 1
 check "what the porcelain changes" 1 "$work/changed.out" $none \
     diff "$work/plain" examples/porcelain/layers.json examples/porcelain/phones.json
