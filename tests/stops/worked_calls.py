@@ -329,6 +329,7 @@ def command_rows():
     yield from check_commands(ask)
     yield from make_commands(ask)
     yield from show_commands(ask)
+    yield from diff_commands(ask)
 
 
 def check_commands(ask):
@@ -404,6 +405,26 @@ def show_commands(ask):
     ]
     yield ask("show_dot_bytes", DENSITIES, "\n".join(picture), nodes=halves)
     yield ask("show_dot_bytes", DENSITIES, "no goal 0\nNegative", nodes='{"version":1,"goals":[]}')
+
+
+def diff_commands(ask):
+    """Two tables, and a box in place of a certificate."""
+
+    def compare(old, new, answer, box=MEDIUM_BOX):
+        for name in ("diff_bytes", "OpenedDiff::diff"):
+            yield ask(name, old, answer, new, nodes=box)
+
+    other = DENSITIES.replace("] 2", "] 3")
+    wide = f"changed {ID} decimal 2 -> decimal 3 on density=198\nsame 0\nNegative"
+    yield from compare(DENSITIES, other, wide, TO_198)
+    yield from compare(DENSITIES, other, "same 1\nDone", TO_197)
+    yield from compare(DENSITIES, DENSITIES, "same 1\nDone", TO_198)
+    yield from compare("A", "B", f"added s/k\nremoved {ID}\nsame 0\nNegative")
+    many = "\n".join(f"{entry} [] 1" for entry in range(11))
+    yield from compare(many, many.replace("] 1", "] 2"), "node limit\nNegative")
+    yield from compare("cut", "cut", "(SideTable(Old, 0, Chunk(Oversize(0))), 0)", "{}")
+    yield from compare("B", "cut", "(SideTable(New, 0, Chunk(Oversize(0))), 0)", "{}")
+    yield from compare("B", "A", "(Box(Density), 0)", "{}")
 
 
 def rows():
@@ -516,6 +537,7 @@ REACHED = {
     "ids_named": "Finder::new Finder::id Finder::ids ids_of_type Stack::base_tables",
     "goals_named": "Finder::each_id",
     "pairs_named": "WordSet::of_sets WordSet::of_pairs",
+    "OpenedDiff::diff": "OpenedDiff::read OpenedDiff::pairs",
     "OpenedBox::make": "OpenedBox::read OpenedBox::make_telling",
     "OpenedBox::print_omitting": "OpenedBox::make_omitting",
     "OpenedCert::check": "OpenedCert::read",

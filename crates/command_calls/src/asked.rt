@@ -1,5 +1,6 @@
 //! What a command is asked of.
 
+use diff_command::{OpenedDiff, diff_bytes};
 use marked_calls::{Writer, table_of, word};
 use res_value::ResId;
 use resource_tool::{
@@ -24,7 +25,8 @@ const STYLES: [ResId; 2] = [FIRST, ResId(0x7f01_0001)];
 
 const ATTR: ResId = ResId(0x0101_0001);
 
-/// A command, its table, what it is asked of this (a device, a box or an overlay), a goal and a certificate.
+/// A command, its table, what it is asked of this (a device, a box, an overlay or another table), a goal, and a certificate or
+/// the box of two tables.
 #[derive(Drop)]
 pub struct Asked<'w> {
     name: &'w str,
@@ -57,8 +59,21 @@ impl<'w> Asked<'w> {
             "dump_bytes" => dump_bytes(alloc, &self.table, out),
             "map_bytes" => map_bytes(alloc, &self.table, &self.of, out, &mut sink()),
             "errors of map_bytes" => map_bytes(alloc, &self.table, &self.of, &mut sink(), out),
+            "diff_bytes" | "OpenedDiff::diff" => self.diff(alloc, out),
             _ => self.answer_of_layers(alloc, &[(self.table.as_slice(), None)], out),
         }
+    }
+
+    // Compares the table with another, of which all is asked, or what was opened.
+    fn diff(&self, alloc: Global, out: &mut Writer) -> Result<Status, ToolFault> {
+        let old = [(self.table.as_slice(), None)];
+        let new = [(self.of.as_slice(), None)];
+        if self.name == "diff_bytes" {
+            return diff_bytes(alloc, &old, &new, self.certificate, MOST_NODES, out);
+        }
+        let opened = OpenedDiff::read(alloc, &old, &new, self.certificate)?;
+        let pairs = opened.pairs(alloc)?;
+        opened.diff(alloc, &pairs, MOST_NODES, out)
     }
 
     fn answer_of_layers(
@@ -178,10 +193,12 @@ impl<'w> Asked<'w> {
     }
 }
 
-// The overlay that a word says, or the word's own bytes.
+// The overlay or the other table that a word says, or the word's own bytes.
 fn of_word(alloc: Global, name: &str, word: &str) -> Result<Vec<u8>, Fail> {
     match name {
-        "map_bytes" | "errors of map_bytes" => Ok(table_of(alloc, word)?),
+        "map_bytes" | "errors of map_bytes" | "diff_bytes" | "OpenedDiff::diff" => {
+            Ok(table_of(alloc, word)?)
+        }
         _ => Ok(Vec::from_slice(alloc, word.as_bytes())?),
     }
 }
