@@ -2,6 +2,8 @@
 
 A label is a name, `(package, type, entry)`, or an id. A content is a text, or, of a bag, the texts of its rows, each a name and
 a value. A change is the content before and the one after."""
+from itertools import zip_longest
+
 from made_layers import shown
 from plain_map import first_rows
 from plain_rules import COORDS, Layers, by_id, step_of, value_text
@@ -138,16 +140,16 @@ def rows_of(content):
 
 
 def row_lines(before, after):
-    """The rows before that go or change, and then those that come. A name stands for its first row."""
-    first_before, first_after = dict(reversed(before)), dict(reversed(after))
-    for name, value in before:
-        if name not in first_after:
-            yield f"  removed {name} {value}"
-        elif first_after[name] != value:
-            yield f"  {name} {value} -> {first_after[name]}"
-    for name, value in after:
-        if name not in first_before:
-            yield f"  added {name} {value}"
+    """What becomes of the rows of each name, in the order of names: the first before with the first after, and so on."""
+    for name in sorted({name for name, _ in before + after}, key=str.encode):
+        of_name = ([value for other, value in rows if other == name] for rows in (before, after))
+        for old, new in zip_longest(*of_name):
+            if new is None:
+                yield f"  removed {name} {old}"
+            elif old is None:
+                yield f"  added {name} {new}"
+            elif old != new:
+                yield f"  {name} {old} -> {new}"
 
 
 def change_text(before, after):

@@ -191,16 +191,6 @@ def stack_rows():
     many = " ".join(f"{name}={number}" for name, number in reversed(numbers))
     said = "\n".join(f"{name}\ndecimal {number}" for name, number in numbers)
     yield row("stack_calls", ["content_at", f"0 [] bag 0x00000000 {many}"], said)
-    before, after = "0x01010001=1 0x01010002=2", "0x01010001=7 0x01010003=3"
-    changed = [
-        f"changed {ID}",
-        "  0x01010001 decimal 1 -> decimal 7",
-        "  removed 0x01010002 decimal 2",
-        "  added 0x01010003 decimal 3",
-        "",
-    ]
-    bags = f"0 [] bag 0x00000000 {before}\n1 [] bag 0x00000000 {after}"
-    yield row("stack_calls", ["write_change", bags], "\n".join(changed))
     unset = [absent(C), absent(D)]
     before = [value(ONE), value(EMPTY), *unset]
     after = [value(ONE), value(EMPTY), value(ONE), unset[1]]
@@ -422,7 +412,6 @@ def diff_commands(ask):
     yield from compare("A", "B", f"added s/k\nremoved {ID}\nsame 0\nNegative")
     many = "\n".join(f"{entry} [] 1" for entry in range(11))
     yield from compare(many, many.replace("] 1", "] 2"), "node limit\nNegative")
-    yield from compare("cut", "cut", "(SideTable(Old, 0, Chunk(Oversize(0))), 0)", "{}")
     yield from compare("B", "cut", "(SideTable(New, 0, Chunk(Oversize(0))), 0)", "{}")
     yield from compare("B", "A", "(Box(Density), 0)", "{}")
 
@@ -445,6 +434,12 @@ WITHOUT_MEMORY = [
     without_memory("command_calls", "rows_bytes", "(Table(Chunk(Oversize(0))), 0)", "cut", "", ID),
     without_memory(
         "command_calls",
+        "diff_bytes",
+        "(SideTable(Old, 0, Chunk(Oversize(0))), 0)",
+        *("cut", "cut", ID, "{}"),
+    ),
+    without_memory(
+        "command_calls",
         "check_bytes",
         "(LayerTable(0, Chunk(Oversize(0))), 0)",
         *("cut", TO_197, ID, certificate(leaf(1))),
@@ -463,6 +458,12 @@ WITHOUT_MEMORY = [
     without_memory("named_calls", "pairs_named", f"[{pair(K, f'Both {{ old: {FIRST}, new: {FIRST} }}')}]", "B", "B"),
     without_memory("table_calls", "resource_table", f'(1, 0)\ntrue\n"s""k"\n(Some({FIRST}), None)'),
     without_memory("stack_calls", "overlay_map", "(1, 0)\ntrue\ntrue\ntrue", DENSITIES),
+    without_memory(
+        "stack_calls",
+        "write_change",
+        f"changed {ID}\n  0x01010001 decimal 1 -> decimal 7\n  removed 0x01010002 decimal 2\n  added 0x01010003 decimal 3\n",
+        "0 [] bag 0x00000000 0x01010001=1 0x01010002=2\n1 [] bag 0x00000000 0x01010001=7 0x01010003=3",
+    ),
     without_memory(
         "stack_calls",
         "reference_resolver",
@@ -523,7 +524,6 @@ REACHED = {
     "Device::read": "read_value",
     "find_names": "Places::new Places::push Passed::new Passed::put",
     "name_pairs": "name_text name_of_row Noted::new Noted::note Noted::ids_on Noted::into_pairs",
-    "write_change": "RowValues::of",
     "push_base": "IndexedTable::new",
     "map_bytes": "Carried::new FirstRows::new FirstRows::in_order",
     "query_bytes": "open_stack",

@@ -94,32 +94,29 @@ const ROWS_CHANGED: &str = "\
 changed x/y on sdk=26
   0x01010098 dimension 4/2^0 dp -> dimension 3/2^0 dp
   android:attr/tint ?attr/accent -> @color/white
-  removed attr/gone decimal 1
-  removed attr/zuletzt \"a\"
   added attr/first decimal 2
+  removed attr/gone decimal 1
   added attr/then empty
+  removed attr/zuletzt \"a\"
 ";
 
-/// Of a name twice before, each goes by the first after.
-const TWICE_BEFORE: [(&str, &str); 3] = [("a/b", "1"), ("a/b", "2"), ("a/c", "3")];
+/// Rows of one name go side by side in their order; of three before and two after one goes.
+const TWICE_BEFORE: [(&str, &str); 4] = [("a/b", "1"), ("a/b", "2"), ("a/b", "3"), ("a/c", "3")];
 
-const TWICE_AFTER: [(&str, &str); 3] = [("a/b", "2"), ("a/b", "4"), ("a/d", "5")];
+const TWICE_AFTER: [(&str, &str); 3] = [("a/b", "1"), ("a/b", "4"), ("a/d", "5")];
 
 const TWICE_CHANGED: &str = "\
 changed x/y on sdk=26
-  a/b 1 -> 2
+  a/b 2 -> 4
+  removed a/b 3
   removed a/c 3
   added a/d 5
 ";
 
-/// Rows that stand in no order.
-const UNSORTED: [(&str, &str); 2] = [("a/d", "7"), ("a/b", "2")];
-
-const UNSORTED_CHANGED: &str = "\
+/// The same with one more after.
+const ONCE_MORE: &str = "\
 changed x/y on sdk=26
-  removed a/d 7
-  a/b 2 -> 1
-  added a/c 3
+  added a/b 1
 ";
 
 const CHANGES: [Worked; 9] = [
@@ -149,9 +146,9 @@ const CHANGES: [Worked; 9] = [
         lines: TWICE_CHANGED,
     },
     Worked {
-        before: Said::Bag(&UNSORTED),
-        after: Said::Bag(&[("a/b", "1"), ("a/c", "3")]),
-        lines: UNSORTED_CHANGED,
+        before: Said::Bag(&[("a/b", "1")]),
+        after: Said::Bag(&[("a/b", "1"), ("a/b", "1")]),
+        lines: ONCE_MORE,
     },
     Worked {
         before: Said::Bag(&[]),
@@ -181,7 +178,7 @@ impl Worked {
         let whole = box_of(alloc, r#"{"density":[160],"sdk":{"from":21,"to":30}}"#)?;
         let part = box_of(alloc, r#"{"density":[160],"sdk":{"from":26,"to":26}}"#)?;
         let mut out = Vec::new(alloc);
-        write_change(alloc, &label, &before, &after, &whole, &part, &mut out)?;
+        write_change(&label, &before, &after, &whole, &part, &mut out)?;
         Ok(out.as_slice() == self.lines.as_bytes())
     }
 }

@@ -24,7 +24,7 @@ pub(crate) fn diff_text(
     ensures { IfOk result (λ text. text.items ≡ diff_text whole.now (map pair_of pairs.now) (map outcome_of outcomes.now)) }
 {
     let mut text = Vec::new(alloc);
-    match write_diff(alloc, whole, pairs, outcomes, &mut text) {
+    match write_diff(whole, pairs, outcomes, &mut text) {
         Ok(()) => Ok(text),
         // To a `Vec` only a want of memory is a fault.
         Err(_) => Err(AllocError),
@@ -33,7 +33,6 @@ pub(crate) fn diff_text(
 
 #[tactic(auto, unfolding(crate::specs::DiffText::diff_text))]
 fn write_diff<W: Write + Drop>(
-    alloc: Global,
     whole: &ConfigBox,
     pairs: &[NamePair<'_>],
     outcomes: &[Outcome],
@@ -41,13 +40,12 @@ fn write_diff<W: Write + Drop>(
 ) -> io::Result<()>
     ensures { Writes W.contents out.old out.new result (diff_text whole.now (map pair_of pairs.now) (map outcome_of outcomes.now)) }
 {
-    write_labels(alloc, whole, pairs, outcomes, out)?;
+    write_labels(whole, pairs, outcomes, out)?;
     write_same(same_count(outcomes), out)
 }
 
 #[tactic(auto, unfolding(crate::specs::DiffText::label_lines), using(contract_words::proofs::TextSteps::puts))]
 fn write_labels<W: Write + Drop>(
-    alloc: Global,
     whole: &ConfigBox,
     pairs: &[NamePair<'_>],
     outcomes: &[Outcome],
@@ -56,14 +54,13 @@ fn write_labels<W: Write + Drop>(
     ensures { Writes W.contents out.old out.new result (label_lines whole.now (map pair_of pairs.now) (map outcome_of outcomes.now)) }
 {
     for (pair, outcome) in pairs.iter().zip(outcomes) {
-        write_outcome(alloc, whole, &pair.label, outcome, out)?;
+        write_outcome(whole, &pair.label, outcome, out)?;
     }
     Ok(())
 }
 
 #[tactic(auto, unfolding(crate::specs::DiffText::outcome_lines))]
 fn write_outcome<W: Write + Drop>(
-    alloc: Global,
     whole: &ConfigBox,
     label: &Label<'_>,
     outcome: &Outcome,
@@ -74,13 +71,12 @@ fn write_outcome<W: Write + Drop>(
     match outcome {
         Outcome::Removed => write_removed(label, out),
         Outcome::Added => write_added(label, out),
-        Outcome::Both(changes) => write_changes(alloc, whole, label, changes, out),
+        Outcome::Both(changes) => write_changes(whole, label, changes, out),
     }
 }
 
 #[tactic(auto, using(contract_words::proofs::TextSteps::puts_slice))]
 fn write_changes<W: Write + Drop>(
-    alloc: Global,
     whole: &ConfigBox,
     label: &Label<'_>,
     changes: &[Change],
@@ -89,14 +85,13 @@ fn write_changes<W: Write + Drop>(
     ensures { Writes W.contents out.old out.new result (flat_map (change_lines whole.now (label_of label.now)) (map change_of changes.now)) }
 {
     for change in changes {
-        write_change_lines(alloc, whole, label, change, out)?;
+        write_change_lines(whole, label, change, out)?;
     }
     Ok(())
 }
 
 #[tactic(auto, unfolding(crate::specs::DiffText::change_lines), using(contract_words::proofs::TextSteps::puts))]
 fn write_change_lines<W: Write + Drop>(
-    alloc: Global,
     whole: &ConfigBox,
     label: &Label<'_>,
     change: &Change,
@@ -105,15 +100,7 @@ fn write_change_lines<W: Write + Drop>(
     ensures { Writes W.contents out.old out.new result (change_lines whole.now (label_of label.now) (change_of change.now)) }
 {
     for part in &change.boxes {
-        write_change(
-            alloc,
-            label,
-            &change.before,
-            &change.after,
-            whole,
-            part,
-            out,
-        )?;
+        write_change(label, &change.before, &change.after, whole, part, out)?;
     }
     Ok(())
 }

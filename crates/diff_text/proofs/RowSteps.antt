@@ -1,96 +1,95 @@
--- The values of rows by their names, put one after the other, and the lines that go by them.
-use Rattle.std.proofs.Common.{◌≡◌, ℕ, ◌+◌, ◌<◌, false, cond, List, [], ◌∷◌, ◌++◌, Option, Some, None, inl, inr, refl, sym, ap, subst, ◌∙◌, length, take, drop, map, get_or}
-use Rattle.std.specs.Borrow.{Bor}
-use Rattle.std.specs.BTreeMap.{get_by}
-use Rattle.std.specs.Cmp.Lexicographic.{slice_cmp}
+-- How the lines of rows are written, one after the other.
+use Rattle.std.proofs.Common.{◌≡◌, ℕ, true, false, List, [], ◌∷◌, ◌++◌, Option, refl, sym, ap, subst, ◌∙◌, length, map}
+use Rattle.std.specs.Prelude.{Result, Ok, Err}
+use Rattle.std.specs.List.{flat_map}
 use Rattle.std.specs.Io.KnownBytes.{Appends}
-use Rattle.std.specs.Option.{option_map, option_or, is_some}
-use Rattle.std.specs.Ordering.{nat_cmp}
-use Rattle.std.specs.Str.{bytes_eq}
-use Rattle.std.proofs.lemmas.Bool.{cases_Bool}
-use Rattle.std.proofs.lemmas.List.{drop_more, map_more}
-use Rattle.std.proofs.lemmas.Slice.Eq.{bytes_eq-Decides}
-use Rattle.contract_words.proofs.TextSteps.{PutsAllBut, PutsAllBut-next}
+use Rattle.std.proofs.KnownBytes.{Appends-trans}
+use Rattle.std.proofs.lemmas.List.{nil_from_length}
+use Rattle.contract_words.specs.Writes.{Writes}
+use Rattle.string_pool.proofs.WriteSteps.{WroteAllBut, WroteAllBut-next}
 use Rattle.resource_content.specs.declared.content.RowContent.{RowContent}
 use Rattle.resource_content.specs.Content.{RowContentOf}
 use Rattle.resource_content.specs.ContentSeen.{row_content_of}
-use Rattle.diff_text.specs.declared.row_values.RowValues.{RowValues}
-use Rattle.diff_text.specs.RowValues.{value_in}
-use Rattle.diff_text.specs.RowsText.{value_at}
+use Rattle.resource_content.specs.ByName.{is_named_before}
+use Rattle.diff_text.specs.RowsText.{changed_row, removed_row, added_row, rows_text}
 
--- a value, if its name is this one
-abbrev if_named : List ℕ → List ℕ → List ℕ → Option (List ℕ)
-if_named name value other = cond (bytes_eq name other) (Some value) None
+-- all that is left
+pub rows-end : {W X E : Type 0} (contents : W → Option (List ℕ)) (old mid new : W) (result : Result X E) (left last text : List ℕ) → WroteAllBut (contents old) (contents mid) left text
+    → left ≡ last → Writes contents mid new result last → Writes contents old new result text
+rows-end contents old mid new (Ok x) left last text before is put =
+    let whole : before.so_far ++ last ≡ text = ap (λ (t : List ℕ). before.so_far ++ t) (sym is) ∙ before.others in
+    subst (λ (t : List ℕ). Appends (contents old) (contents new) t) whole (Appends-trans (contents old) (contents mid) (contents new) before.so_far last before.written put)
+rows-end contents old mid new (Err fault) left last text before is put = put
 
-or_none : {X : Type 0} (o : Option X) → option_or o None ≡ o
-or_none None = refl
-or_none (Some x) = refl
+-- ---- what stands first
 
--- what the map has once a name that it did not have is put in
-pub put_step : (old new : RowValues) (name other : List ℕ) (value : Bor (List ℕ)) → value_in old name ≡ None
-    → get_by (λ key. slice_cmp nat_cmp other key.now) new.by_name ≡ cond (bytes_eq name other) (Some value) (get_by (λ key. slice_cmp nat_cmp other key.now) old.by_name)
-    → value_in new other ≡ option_or (value_in old other) (if_named name value.now other)
-put_step old new name other value none found =
-    elim (cases_Bool (bytes_eq name other)) [
-      | inl is ↦ (let same : name ≡ other = (bytes_eq-Decides name other).0 is in
-          let there : value_in old other ≡ None = ap (λ (n : List ℕ). value_in old n) (sym same) ∙ none in
-          ap (option_map (λ (v : Bor (List ℕ)). v.now)) found ∙ rw (is, there) refl)
-      | inr is ↦ ap (option_map (λ (v : Bor (List ℕ)). v.now)) found ∙ rw is (sym (or_none (value_in old other)))
-    ]
+abbrev pub seen : List RowContent → List RowContentOf
+seen rows = map row_content_of rows
 
--- the first value of a name among some rows, with one row more
-value_at-more : (rows : List RowContentOf) (row : RowContentOf) (name : List ℕ) → value_at (rows ++ row ∷ []) name ≡ option_or (value_at rows name) (if_named row.name row.value name)
-value_at-more [] row name =
-    elim (cases_Bool (bytes_eq row.name name)) [
-      | inl is ↦ rw is refl
-      | inr is ↦ rw is refl
-    ]
-value_at-more (first ∷ rows) row name =
-    elim (cases_Bool (bytes_eq first.name name)) [
-      | inl is ↦ rw is refl
-      | inr is ↦ rw is (value_at-more rows row name)
-    ]
+pub removed_first : (row other : RowContentOf) (before after : List RowContentOf) → is_named_before row other ≡ true
+    → rows_text (row ∷ before) (other ∷ after) ≡ removed_row row ++ rows_text before (other ∷ after)
+unfolding rows_text
+removed_first row other before after is = rw is refl
 
-pub none_seen : {A B : Type 0} (view : A → B) (o : Option A) → is_some o ≡ false → option_map view o ≡ None
-none_seen view None none = refl
-none_seen view (Some x) none = absurd cc
+pub added_first : (row other : RowContentOf) (before after : List RowContentOf) → is_named_before row other ≡ false → is_named_before other row ≡ true
+    → rows_text (row ∷ before) (other ∷ after) ≡ added_row other ++ rows_text (row ∷ before) after
+unfolding rows_text
+added_first row other before after not is = rw (not, is) refl
 
--- the values of the rows up to a place, with those of the row there
-pub values-next : (old new : RowValues) (rows : List RowContent) (place : ℕ) (row : RowContent) (name value : List ℕ) → place < length rows → row ≡ get_or rows place row
-    → name ≡ row.name.items → value ≡ row.value.items
-    → ((other : List ℕ) → value_in old other ≡ value_at (map row_content_of (take place rows)) other)
-    → ((other : List ℕ) → value_in new other ≡ option_or (value_in old other) (if_named name value other))
-    → (other : List ℕ) → value_in new other ≡ value_at (map row_content_of (take (place + 1) rows)) other
-values-next old new rows place row name value on is named valued before put other =
-    let up_to : List RowContentOf = map row_content_of (take place rows) in
-    let last : map row_content_of (take (place + 1) rows) ≡ up_to ++ row_content_of row ∷ [] =
-    map_more row_content_of rows place row on ∙ ap (λ (r : RowContent). up_to ++ row_content_of r ∷ []) (sym is) in
-    let one : if_named name value other ≡ if_named row.name.items row.value.items other =
-    ap (λ (n : List ℕ). if_named n value other) named ∙ ap (λ (v : List ℕ). if_named row.name.items v other) valued in
-    put other
-    ∙ ap (λ (o : Option (List ℕ)). option_or o (if_named name value other)) (before other)
-    ∙ ap (λ (o : Option (List ℕ)). option_or (value_at up_to other) o) one
-    ∙ sym (value_at-more up_to (row_content_of row) other)
-    ∙ ap (λ (rs : List RowContentOf). value_at rs other) (sym last)
+pub both_first : (row other : RowContentOf) (before after : List RowContentOf) → is_named_before row other ≡ false → is_named_before other row ≡ false
+    → rows_text (row ∷ before) (other ∷ after) ≡ changed_row row other ++ rows_text before after
+unfolding rows_text
+both_first row other before after not nor = rw (not, nor) refl
 
--- ---- lines
+-- none is left on one side
+pub rows_text-added : (left rows : List RowContent) → length left ≡ 0 → rows_text (seen left) (seen rows) ≡ flat_map added_row (seen rows)
+unfolding rows_text
+rows_text-added left rows none = ap (λ (others : List RowContent). rows_text (seen others) (seen rows)) (nil_from_length left none)
 
--- the line of a row, by the value that its name has among others
-abbrev pub line_by : (RowContentOf → Option (List ℕ) → List ℕ) → List RowContentOf → RowContentOf → List ℕ
-line_by line others row = line row (value_at others row.name)
+rows_text-alone : (rows : List RowContentOf) → rows_text rows [] ≡ flat_map removed_row rows
+unfolding rows_text
+rows_text-alone [] = refl
+rows_text-alone (row ∷ rows) = refl
 
--- the line of the row at a place was written
-pub row-next : (line : RowContentOf → Option (List ℕ) → List ℕ) (others : List RowContentOf) (values : RowValues) (old mid new : Option (List ℕ)) (rows : List RowContent) (place : ℕ)
-    (row : RowContent) (name : List ℕ) (found : Option (List ℕ))
-    → PutsAllBut (line_by line others) old mid (map row_content_of rows) (map row_content_of (drop place rows))
-    → place < length rows → row ≡ get_or rows place row → name ≡ row.name.items
-    → ((other : List ℕ) → value_in values other ≡ value_at others other) → found ≡ value_in values name
-    → Appends mid new (line (row_content_of row) found)
-    → PutsAllBut (line_by line others) old new (map row_content_of rows) (map row_content_of (drop (place + 1) rows))
-row-next line others values old mid new rows place row name found before on is named told is_found put =
-    let seen : List RowContent → List RowContentOf = λ left. map row_content_of left in
-    let split : seen (drop place rows) ≡ row_content_of row ∷ seen (drop (place + 1) rows) =
-    ap seen (drop_more rows place row on ∙ ap (λ (r : RowContent). r ∷ drop (place + 1) rows) (sym is)) in
-    let value : found ≡ value_at others row.name.items = is_found ∙ told name ∙ ap (value_at others) named in
-    PutsAllBut-next (line_by line others) old mid new (seen rows) (seen (drop place rows)) (seen (drop (place + 1) rows)) (row_content_of row) before split
-    (subst (λ (v : Option (List ℕ)). Appends mid new (line (row_content_of row) v)) value put)
+pub rows_text-removed : (rows left : List RowContent) → length left ≡ 0 → rows_text (seen rows) (seen left) ≡ flat_map removed_row (seen rows)
+rows_text-removed rows left none =
+    ap (λ (others : List RowContent). rows_text (seen rows) (seen others)) (nil_from_length left none) ∙ rows_text-alone (seen rows)
+
+-- ---- one row more
+
+-- two lists that are split are seen so
+split_both : (left left_after : List RowContent) (row other : RowContent) (others others_after : List RowContent) → left ≡ row ∷ others → left_after ≡ other ∷ others_after
+    → rows_text (seen left) (seen left_after) ≡ rows_text (row_content_of row ∷ seen others) (row_content_of other ∷ seen others_after)
+split_both left left_after row other others others_after is is_after =
+    ap (λ (rows : List RowContent). rows_text (seen rows) (seen left_after)) is
+    ∙ ap (λ (rows : List RowContent). rows_text (row_content_of row ∷ seen others) (seen rows)) is_after
+
+module _ (old mid new : Option (List ℕ)) (left left_after : List RowContent) (row other : RowContent) (others others_after : List RowContent) (text : List ℕ) where
+  pub row-removed : WroteAllBut old mid (rows_text (seen left) (seen left_after)) text → left ≡ row ∷ others → left_after ≡ other ∷ others_after
+      → is_named_before (row_content_of row) (row_content_of other) ≡ true → Appends mid new (removed_row (row_content_of row))
+      → WroteAllBut old new (rows_text (seen others) (seen left_after)) text
+  row-removed before is is_after first put =
+      let split : rows_text (seen left) (seen left_after) ≡ removed_row (row_content_of row) ++ rows_text (seen others) (seen left_after) =
+      split_both left left_after row other others others_after is is_after
+      ∙ removed_first (row_content_of row) (row_content_of other) (seen others) (seen others_after) first
+      ∙ ap (λ (rows : List RowContent). removed_row (row_content_of row) ++ rows_text (seen others) (seen rows)) (sym is_after) in
+      WroteAllBut-next old mid new _ (removed_row (row_content_of row)) _ text before split put
+
+  pub row-added : WroteAllBut old mid (rows_text (seen left) (seen left_after)) text → left ≡ row ∷ others → left_after ≡ other ∷ others_after
+      → is_named_before (row_content_of row) (row_content_of other) ≡ false → is_named_before (row_content_of other) (row_content_of row) ≡ true
+      → Appends mid new (added_row (row_content_of other)) → WroteAllBut old new (rows_text (seen left) (seen others_after)) text
+  row-added before is is_after not first put =
+      let split : rows_text (seen left) (seen left_after) ≡ added_row (row_content_of other) ++ rows_text (seen left) (seen others_after) =
+      split_both left left_after row other others others_after is is_after
+      ∙ added_first (row_content_of row) (row_content_of other) (seen others) (seen others_after) not first
+      ∙ ap (λ (rows : List RowContent). added_row (row_content_of other) ++ rows_text (seen rows) (seen others_after)) (sym is) in
+      WroteAllBut-next old mid new _ (added_row (row_content_of other)) _ text before split put
+
+  pub row-both : WroteAllBut old mid (rows_text (seen left) (seen left_after)) text → left ≡ row ∷ others → left_after ≡ other ∷ others_after
+      → is_named_before (row_content_of row) (row_content_of other) ≡ false → is_named_before (row_content_of other) (row_content_of row) ≡ false
+      → Appends mid new (changed_row (row_content_of row) (row_content_of other)) → WroteAllBut old new (rows_text (seen others) (seen others_after)) text
+  row-both before is is_after not nor put =
+      let split : rows_text (seen left) (seen left_after) ≡ changed_row (row_content_of row) (row_content_of other) ++ rows_text (seen others) (seen others_after) =
+      split_both left left_after row other others others_after is is_after
+      ∙ both_first (row_content_of row) (row_content_of other) (seen others) (seen others_after) not nor in
+      WroteAllBut-next old mid new _ (changed_row (row_content_of row) (row_content_of other)) _ text before split put

@@ -2,6 +2,6 @@ pub mod NameLines
 pub mod DevicesText
 pub mod ContentText
 pub mod RowsText
+pub mod RowsLaw
 pub mod ChangeText
-pub mod RowValues
 pub mod Unfolded

@@ -11,18 +11,16 @@ use crate::devices_text::write_devices;
 use crate::rows_text::write_rows;
 use config_box::ConfigBox;
 use resource_content::{Content, Label, RowContent, write_label};
-use std::alloc::Global;
 use std::io::{self, Write};
 
 /// Writes what a resource says before and after on the devices of a part of the whole box, and a line for each row of a
 /// bag in which they differ.
 ///
 /// ```text
-/// write_change(alloc, &label, &before, &after, &phones, &german, &mut out)?; // changed string/cancel "Cancel" -> ..
+/// write_change(&label, &before, &after, &phones, &german, &mut out)?; // changed string/cancel "Cancel" -> ..
 /// ```
 #[tactic(auto, unfolding(crate::specs::ChangeText::change_text))]
 pub fn write_change<W: Write + Drop>(
-    alloc: Global,
     label: &Label<'_>,
     before: &Content,
     after: &Content,
@@ -33,7 +31,7 @@ pub fn write_change<W: Write + Drop>(
     ensures { Writes W.contents out.old out.new result (change_text (label_of label.now) (content_of before.now) (content_of after.now) whole.now part.now) }
 {
     write_changed_line(label, before, after, whole, part, out)?;
-    write_rows(alloc, rows_in(before), rows_in(after), out)
+    write_rows(rows_in(before), rows_in(after), out)
 }
 
 #[tactic(auto, unfolding(crate::specs::ChangeText::changed_line))]

@@ -1,61 +1,83 @@
 //! The rows in which two bags differ, written.
 
-ghost use Rattle.std.specs.Prelude.{map};
-ghost use Rattle.std.specs.Option.{option_map};
+ghost use Rattle.std.specs.Prelude.{◌≡◌, [], ◌∷◌, ◌++◌, codes, map};
+ghost use Rattle.std.specs.List.{flat_map};
 ghost use Rattle.contract_words.specs.Writes.{Writes};
+ghost use Rattle.resource_content.specs.ByName.{is_named_before};
 ghost use Rattle.resource_content.specs.ContentSeen.{row_content_of};
-ghost use Rattle.diff_text.specs.RowsText.{changed_row, removed_row, added_row, row_before, row_after, rows_before, rows_after, rows_text};
+ghost use Rattle.diff_text.specs.RowsText.{changed_row, removed_row, added_row, rows_text};
 
-use crate::row_values::RowValues;
 use resource_content::RowContent;
-use std::alloc::Global;
 use std::io::{self, Write};
 
-/// Writes a line for each row in which two bags differ.
-#[tactic(auto, unfolding(crate::specs::RowsText::rows_text))]
+/// Writes a line for each row in which two bags differ. Both have their rows in the order of names.
+#[tactic(auto, using(string_pool::proofs::WriteSteps::writes))]
 pub(crate) fn write_rows<W: Write + Drop>(
-    alloc: Global,
     before: &[RowContent],
     after: &[RowContent],
     out: &mut W,
 ) -> io::Result<()>
     ensures { Writes W.contents out.old out.new result (rows_text (map row_content_of before.now) (map row_content_of after.now)) }
 {
-    write_rows_before(alloc, before, after, out)?;
-    write_rows_after(alloc, after, before, out)
+    let mut left = before;
+    let mut left_after = after;
+    'rows: loop {
+        let Some((row, others)) = left.split_first() else {
+            return write_added_rows(left_after, out);
+        };
+        let Some((row_after, others_after)) = left_after.split_first() else {
+            return write_removed_rows(left, out);
+        };
+        if is_named_before(row, row_after) {
+            write_removed_row(row, out)?;
+            left = others;
+        } else if is_named_before(row_after, row) {
+            write_added_row(row_after, out)?;
+            left_after = others_after;
+        } else {
+            write_changed_row(row, row_after, out)?;
+            left = others;
+            left_after = others_after;
+        }
+    }
 }
 
-// ---- the rows before
+fn is_named_before(row: &RowContent, other: &RowContent) -> bool
+    ensures { result ≡ is_named_before (row_content_of row.now) (row_content_of other.now) }
+{
+    row.name.cmp(&other.name).is_lt()
+}
+
+#[tactic(auto, unfolding(crate::specs::RowsText::changed_row))]
+fn write_changed_row<W: Write + Drop>(
+    before: &RowContent,
+    after: &RowContent,
+    out: &mut W,
+) -> io::Result<()>
+    ensures { Writes W.contents out.old out.new result (changed_row (row_content_of before.now) (row_content_of after.now)) }
+{
+    if before.value == after.value {
+        return Ok(());
+    }
+    out.write_all(b"  ")?;
+    out.write_all(&before.name)?;
+    out.write_all(b" ")?;
+    out.write_all(&before.value)?;
+    out.write_all(b" -> ")?;
+    out.write_all(&after.value)?;
+    out.write_all(b"\n")
+}
+
+// ---- rows that one bag alone has
 
 #[tactic(auto, using(contract_words::proofs::TextSteps::puts_slice))]
-fn write_rows_before<W: Write + Drop>(
-    alloc: Global,
-    rows: &[RowContent],
-    after: &[RowContent],
-    out: &mut W,
-) -> io::Result<()>
-    ensures { Writes W.contents out.old out.new result (rows_before (map row_content_of rows.now) (map row_content_of after.now)) }
+fn write_removed_rows<W: Write + Drop>(rows: &[RowContent], out: &mut W) -> io::Result<()>
+    ensures { Writes W.contents out.old out.new result (flat_map removed_row (map row_content_of rows.now)) }
 {
-    let values = RowValues::of(alloc, after)?;
     for row in rows {
-        write_row_before(row, values.get(&row.name), out)?;
+        write_removed_row(row, out)?;
     }
     Ok(())
-}
-
-#[tactic(auto, unfolding(crate::specs::RowsText::row_before))]
-fn write_row_before<W: Write + Drop>(
-    row: &RowContent,
-    after: Option<&[u8]>,
-    out: &mut W,
-) -> io::Result<()>
-    ensures { Writes W.contents out.old out.new result (row_before (row_content_of row.now) (option_map (λ value. value.now) after.entry)) }
-{
-    match after {
-        None => write_removed_row(row, out),
-        Some(after) if row.value.as_slice() == after => Ok(()),
-        Some(after) => write_changed_row(row, after, out),
-    }
 }
 
 #[tactic(auto, unfolding(crate::specs::RowsText::removed_row))]
@@ -63,55 +85,17 @@ fn write_removed_row<W: Write + Drop>(row: &RowContent, out: &mut W) -> io::Resu
     ensures { Writes W.contents out.old out.new result (removed_row (row_content_of row.now)) }
 {
     out.write_all(b"  removed ")?;
-    out.write_all(&row.name)?;
-    out.write_all(b" ")?;
-    out.write_all(&row.value)?;
-    out.write_all(b"\n")
+    write_name_and_value(row, out)
 }
-
-#[tactic(auto, unfolding(crate::specs::RowsText::changed_row))]
-fn write_changed_row<W: Write + Drop>(row: &RowContent, after: &[u8], out: &mut W) -> io::Result<()>
-    ensures { Writes W.contents out.old out.new result (changed_row (row_content_of row.now) after.now) }
-{
-    out.write_all(b"  ")?;
-    out.write_all(&row.name)?;
-    out.write_all(b" ")?;
-    out.write_all(&row.value)?;
-    out.write_all(b" -> ")?;
-    out.write_all(after)?;
-    out.write_all(b"\n")
-}
-
-// ---- the rows after
 
 #[tactic(auto, using(contract_words::proofs::TextSteps::puts_slice))]
-fn write_rows_after<W: Write + Drop>(
-    alloc: Global,
-    rows: &[RowContent],
-    before: &[RowContent],
-    out: &mut W,
-) -> io::Result<()>
-    ensures { Writes W.contents out.old out.new result (rows_after (map row_content_of rows.now) (map row_content_of before.now)) }
+fn write_added_rows<W: Write + Drop>(rows: &[RowContent], out: &mut W) -> io::Result<()>
+    ensures { Writes W.contents out.old out.new result (flat_map added_row (map row_content_of rows.now)) }
 {
-    let values = RowValues::of(alloc, before)?;
     for row in rows {
-        write_row_after(row, values.get(&row.name), out)?;
+        write_added_row(row, out)?;
     }
     Ok(())
-}
-
-#[tactic(auto, unfolding(crate::specs::RowsText::row_after))]
-fn write_row_after<W: Write + Drop>(
-    row: &RowContent,
-    before: Option<&[u8]>,
-    out: &mut W,
-) -> io::Result<()>
-    ensures { Writes W.contents out.old out.new result (row_after (row_content_of row.now) (option_map (λ value. value.now) before.entry)) }
-{
-    match before {
-        None => write_added_row(row, out),
-        Some(_) => Ok(()),
-    }
 }
 
 #[tactic(auto, unfolding(crate::specs::RowsText::added_row))]
@@ -119,6 +103,12 @@ fn write_added_row<W: Write + Drop>(row: &RowContent, out: &mut W) -> io::Result
     ensures { Writes W.contents out.old out.new result (added_row (row_content_of row.now)) }
 {
     out.write_all(b"  added ")?;
+    write_name_and_value(row, out)
+}
+
+fn write_name_and_value<W: Write + Drop>(row: &RowContent, out: &mut W) -> io::Result<()>
+    ensures { Writes W.contents out.old out.new result (row.now.name.items ++ codes " " ++ row.now.value.items ++ 10 ∷ []) }
+{
     out.write_all(&row.name)?;
     out.write_all(b" ")?;
     out.write_all(&row.value)?;

@@ -46,15 +46,7 @@ pub fn change(rt: &HostRuntime, stack: &Stack<'_>, device: &Device) -> Result<()
     let mut out = Writer::failing_at(rt.alloc(), 0)?;
     let label = Label::Id(FIRST);
     begin(rt);
-    let written = write_change(
-        rt.alloc(),
-        &label,
-        &before,
-        &after,
-        &whole,
-        &whole,
-        &mut out,
-    );
+    let written = write_change(&label, &before, &after, &whole, &whole, &mut out);
     end(rt);
     match written {
         Ok(()) => tell_text(rt, &out.text)?,
