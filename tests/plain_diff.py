@@ -9,7 +9,6 @@ from plain_map import first_rows
 from plain_rules import COORDS, Layers, by_id, step_of, value_text
 
 REFERENCE, ATTRIBUTE, STRING = 1, 2, 3
-ENDS = {"absent": "absent", "too long": "too many references"}
 
 
 # ---- labels
@@ -80,7 +79,9 @@ class Stack:
         end = self.layers.way(name, device)[1]
         if end[0] == "value":
             return self.value_content(*end[1:])
-        return self.bag_content(end[1], device) if end[0] == "bag" else ENDS[end[0]]
+        if end[0] == "absent":
+            return f"absent {self.id_content(end[1])}"
+        return self.bag_content(end[1], device) if end[0] == "bag" else "too many references"
 
     def bag_content(self, name, device):
         rows = self.layers.way_of_bag(name, device)[1]

@@ -251,7 +251,7 @@ def diff_rows(ask):
     other = DENSITIES.replace("] 2", "] 3")
     yield ask("compare_stacks", DENSITIES, TO_197, "0", nodes=other)
     yield ask("compare_stacks", DENSITIES, TO_198, "1\ndecimal 2\ndecimal 3\n1", nodes=other)
-    yield ask("compare_stacks", "0 [locale=fr] 1", BOTH_LOCALES, '1\n"Absent"\ndecimal 2\n1', nodes=LOCALES)
+    yield ask("compare_stacks", "0 [locale=fr] 1", BOTH_LOCALES, f'1\n"Absent"\n{ID}\ndecimal 2\n1', nodes=LOCALES)
     yield ask("compare_with_itself", DENSITIES, TO_198, '0\n"Added"', nodes="0 [] 1\n1 [] 2")
     many = "\n".join(f"{entry} [] 1" for entry in range(11))
     yield ask("compare_with_itself", many, MEDIUM_BOX, '"NodeLimit"', nodes=many)

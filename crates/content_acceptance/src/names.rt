@@ -9,7 +9,7 @@ use test_layers::{LayerFault, device_of, layer_of_lines, put, table_b};
 use test_stacks::push_base;
 
 /// Where table B has the id of its package, the number of its first type less one, twice that of its type, and the name
-/// of its entry.
+/// of its entry; and the mobile country of its row.
 const PACKAGE: usize = 48;
 
 const TYPE_OFFSET: usize = 324;
@@ -17,6 +17,8 @@ const TYPE_OFFSET: usize = 324;
 const TYPES: [usize; 2] = [408, 428];
 
 pub(crate) const ENTRY_NAME: usize = 398;
+
+const COUNTRY: usize = 444;
 
 /// The resource of entry 1, which has no name.
 pub(crate) const STYLE: ResId = ResId(0x7f01_0001);
@@ -92,6 +94,23 @@ fn names_stand_for_ids_that_move(rt: HostRuntime) -> Result<(), Fail> {
     assert!(rt; says(alloc, &after, STYLE, "", LINES)?);
     assert!(rt; say_the_same(alloc, &before, &after, STYLE, &device)?);
     assert!(rt; !say_the_same(alloc, &before, &unmoved, STYLE, &device)?);
+    Ok(())
+}
+
+// Whether the style that refers to s/k says this. Only devices of mobile country 1 have a row of s/k.
+fn says_of_a_country(alloc: Global, device: &str, line: &str) -> Result<bool, Fail> {
+    let mut tables = tables_of(alloc, &[(FIRST_TYPE, b'k')], "1 [] @0x7f010000")?;
+    if let Some(table) = tables.first_mut() {
+        put(table, COUNTRY, &[1]);
+    }
+    let stack = stack_of(alloc, &tables).ok_or("refused")?;
+    says(alloc, &stack, STYLE, device, line)
+}
+
+#[test]
+fn ids_that_select_nothing_have_names(rt: HostRuntime) -> Result<(), Fail> {
+    assert!(rt; says_of_a_country(rt.alloc(), "mcc=1", "decimal 5")?);
+    assert!(rt; says_of_a_country(rt.alloc(), "mcc=2", "absent s/k")?);
     Ok(())
 }
 

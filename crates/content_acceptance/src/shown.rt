@@ -73,7 +73,10 @@ fn shown(alloc: Global, content: &Content) -> Result<Vec<u8>, AllocError> {
                 text.extend_from_slice(b"\n")?;
             }
         }
-        Content::Absent => text.extend_from_slice(b"absent")?,
+        Content::Absent(id) => {
+            text.extend_from_slice(b"absent ")?;
+            text.extend_from_slice(id)?;
+        }
         Content::TooManyReferences => text.extend_from_slice(b"too many references")?,
         Content::TooManyParents => text.extend_from_slice(b"too many parents")?,
     }

@@ -127,8 +127,8 @@ const CHANGES: [Worked; 9] = [
     },
     Worked {
         before: Said::Value("dimension 4/2^0 dp"),
-        after: Said::Absent,
-        lines: "changed x/y dimension 4/2^0 dp -> absent on sdk=26\n",
+        after: Said::Absent("x/y"),
+        lines: "changed x/y dimension 4/2^0 dp -> absent x/y on sdk=26\n",
     },
     Worked {
         before: Said::TooManyReferences,
@@ -162,8 +162,8 @@ const CHANGES: [Worked; 9] = [
     },
     Worked {
         before: Said::Bag(&[("a/b", "1")]),
-        after: Said::Absent,
-        lines: "changed x/y bag -> absent on sdk=26\n  removed a/b 1\n",
+        after: Said::Absent("0x0106000b"),
+        lines: "changed x/y bag -> absent 0x0106000b on sdk=26\n  removed a/b 1\n",
     },
 ];
 

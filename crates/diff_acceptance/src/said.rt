@@ -9,7 +9,8 @@ pub(crate) enum Said {
     Value(&'static str),
     /// The names of rows with their values.
     Bag(&'static [(&'static str, &'static str)]),
-    Absent,
+    /// The text of an id.
+    Absent(&'static str),
     TooManyReferences,
     TooManyParents,
 }
@@ -19,7 +20,7 @@ impl Said {
         Ok(match self {
             Said::Value(text) => Content::Value(Vec::from_slice(alloc, text.as_bytes())?),
             Said::Bag(rows) => Content::Bag(rows_of(alloc, rows)?),
-            Said::Absent => Content::Absent,
+            Said::Absent(id) => Content::Absent(Vec::from_slice(alloc, id.as_bytes())?),
             Said::TooManyReferences => Content::TooManyReferences,
             Said::TooManyParents => Content::TooManyParents,
         })

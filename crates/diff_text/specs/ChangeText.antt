@@ -22,7 +22,7 @@ changed_line label before after whole part =
 abbrev pub rows_in : ContentOf → List RowContentOf
 rows_in (ValueOf text) = []
 rows_in (BagOf rows) = rows
-rows_in AbsentOf = []
+rows_in (AbsentOf id) = []
 rows_in TooManyReferencesOf = []
 rows_in TooManyParentsOf = []
 

@@ -21,7 +21,10 @@ pub(crate) fn write_content<W: Write + Drop>(content: &Content, out: &mut W) -> 
     match content {
         Content::Value(text) => out.write_all(text),
         Content::Bag(_) => out.write_all(b"bag"),
-        Content::Absent => out.write_all(b"absent"),
+        Content::Absent(id) => {
+            out.write_all(b"absent ")?;
+            out.write_all(id)
+        }
         Content::TooManyReferences => out.write_all(b"too many references"),
         Content::TooManyParents => out.write_all(b"too many parents"),
     }

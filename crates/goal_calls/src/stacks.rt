@@ -77,12 +77,15 @@ fn tell_changes(rt: &HostRuntime, changes: &[Change]) -> Result<(), Fail> {
     Ok(())
 }
 
-// The text of a value, or how many rows a bag has.
+// The text of a value, or of the id that selects nothing, or how many rows a bag has.
 fn tell_content(rt: &HostRuntime, content: &Content) -> Result<(), Fail> {
     match content {
         Content::Value(text) => Ok(tell_text(rt, text)?),
         Content::Bag(rows) => Ok(tell(rt, rows.len())?),
-        Content::Absent => Ok(tell(rt, "Absent")?),
+        Content::Absent(id) => {
+            tell(rt, "Absent")?;
+            Ok(tell_text(rt, id)?)
+        }
         Content::TooManyReferences => Ok(tell(rt, "TooManyReferences")?),
         Content::TooManyParents => Ok(tell(rt, "TooManyParents")?),
     }

@@ -7,7 +7,7 @@ use Rattle.resource_content.specs.contracts.content.ContentPartialEq.TheImpl.{eq
 use Rattle.resource_content.specs.declared.content.Content.{Content}
 use Rattle.resource_content.specs.declared.content.Content.TheVariants as contents
 use Rattle.resource_content.specs.declared.content.RowContent.{RowContent}
-use Rattle.resource_content.specs.Content.{RowContentOf, ValueOf, BagOf}
+use Rattle.resource_content.specs.Content.{RowContentOf, ValueOf, BagOf, AbsentOf}
 use Rattle.resource_content.specs.ContentSeen.{row_content_of, content_of}
 
 abbrev same_bytes : List ℕ → List ℕ → Bool
@@ -53,7 +53,9 @@ content-Decides (contents.Value s) (contents.Value t) =
 content-Decides (contents.Bag s) (contents.Bag t) =
     let rows = rows-Decides s.items t.items in
     (λ e. ap BagOf (rows.0 e), λ e. rows.1 (let same = e in cc))
-content-Decides contents.Absent contents.Absent = (λ e. refl, λ e. refl)
+content-Decides (contents.Absent s) (contents.Absent t) =
+    let ids = bytes-Decides s.items t.items in
+    (λ e. ap AbsentOf (ids.0 e), λ e. ids.1 (let same = e in cc))
 content-Decides contents.TooManyReferences contents.TooManyReferences = (λ e. refl, λ e. refl)
 content-Decides contents.TooManyParents contents.TooManyParents = (λ e. refl, λ e. refl)
 content-Decides a b = (λ e. absurd cc, λ e. absurd cc)

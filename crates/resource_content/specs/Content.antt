@@ -11,8 +11,8 @@ pub data ContentOf : Type 0 where
   ValueOf : List ℕ → ContentOf
   -- the rows of a bag, those that it inherits among them
   BagOf : List RowContentOf → ContentOf
-  -- nothing is selected
-  AbsentOf : ContentOf
+  -- an id that selects nothing
+  AbsentOf : List ℕ → ContentOf
   -- there is a reference too many
   TooManyReferencesOf : ContentOf
   -- there is a bag, with a parent too many

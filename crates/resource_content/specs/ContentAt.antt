@@ -24,7 +24,7 @@ bag_content stack (Err fault) = TooManyParentsOf
 abbrev pub end_content : List LayerOf → End → List ℕ → ContentOf
 end_content stack (of_end.Value layer value) d = ValueOf (value_content stack layer value)
 end_content stack (of_end.Bag id) d = bag_content stack (bag_of stack id.0 d)
-end_content stack (of_end.Absent id) d = AbsentOf
+end_content stack (of_end.Absent id) d = AbsentOf (id_content stack id.0)
 end_content stack (of_end.TooLong id) d = TooManyReferencesOf
 
 -- the content of an id: what stands where its references end

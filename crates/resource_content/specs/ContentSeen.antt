@@ -11,6 +11,6 @@ row_content_of row = record { name = row.name.items; value = row.value.items }
 abbrev pub content_of : Content → ContentOf
 content_of (of_content.Value text) = ValueOf text.items
 content_of (of_content.Bag rows) = BagOf (map row_content_of rows.items)
-content_of of_content.Absent = AbsentOf
+content_of (of_content.Absent id) = AbsentOf id.items
 content_of of_content.TooManyReferences = TooManyReferencesOf
 content_of of_content.TooManyParents = TooManyParentsOf

@@ -7,8 +7,8 @@ pub enum Content {
     Value(Vec<u8>),
     /// The rows of a bag, those that it inherits among them.
     Bag(Vec<RowContent>),
-    /// Nothing is selected.
-    Absent,
+    /// The id that selects nothing, by its name where it has one: the last one, where references lead there.
+    Absent(Vec<u8>),
     /// There is a reference too many.
     TooManyReferences,
     /// There is a bag, with a parent too many.
