@@ -30,6 +30,7 @@ ANY, GERMAN, LAND, WIDE, NIGHT, DENSE, NEWER = (
 )
 ONE, OTHER = 0x01000006, 0x01000004
 BLACK, WHITE, GREY = (0x1C, 0xFF000000), (0x1C, 0xFFFFFFFF), (0x1C, 0xFF808080)
+FRAMEWORK_WHITE, FRAMEWORK_BLACK = (1, 0x0106000B), (1, 0x0106000C)
 
 
 def dp(number):
@@ -130,6 +131,18 @@ CASES = [
         (),
         "changed dimen/margin dimension 16/2^0 dp -> dimension 4/2^0 dp on smallestWidthDp=600..720 orientation=1\n"
         "changed dimen/margin dimension 16/2^0 dp -> dimension 8/2^0 dp on smallestWidthDp=600..720 orientation=2\nsame 11",
+    ),
+    # A German row is for no other device. The framework's table is no layer.
+    (
+        changed(resource("string/cancel", (GERMAN, Text("Abbrechen")))),
+        (),
+        'changed string/cancel "Cancel" -> absent string/cancel on locale=none,fr-FR\nsame 11',
+    ),
+    (
+        changed(resource("color/text", (ANY, FRAMEWORK_WHITE), (NIGHT, FRAMEWORK_BLACK))),
+        (),
+        "changed color/text argb8 #ff000000 -> absent 0x0106000b on night=1\n"
+        "changed color/text argb8 #ffffffff -> absent 0x0106000c on night=2\nsame 11",
     ),
     # The text stands first in the pool, so that all indexes of strings move.
     (app([resource("string/about", (ANY, Text("About"))), *APP]), (), "added string/about\nsame 12"),

@@ -72,7 +72,7 @@ changed 0x7f010001 decimal 5 -> decimal 6
 same 1
 ";
 
-const WORKED: [Worked; 9] = [
+const WORKED: [Worked; 10] = [
     // The value of the higher density is best from 198 on.
     Worked {
         old: "0 [density=160] 1\n0 [density=320] 2",
@@ -94,7 +94,7 @@ const WORKED: [Worked; 9] = [
         new: "0 [locale=fr] 1",
         members: r#"{"density":[160],"locale":["fr","de-AT","de"]}"#,
         status: Status::Negative,
-        text: "changed 0x7f010000 decimal 2 -> absent on locale=de,de-AT\nsame 0\n",
+        text: "changed 0x7f010000 decimal 2 -> absent 0x7f010000 on locale=de,de-AT\nsame 0\n",
     },
     Worked {
         old: BAG_BEFORE,
@@ -110,6 +110,14 @@ const WORKED: [Worked; 9] = [
         members: MEDIUM,
         status: Status::Negative,
         text: REFERENCE_CHANGED,
+    },
+    // What no layer has is told by its id.
+    Worked {
+        old: "0 [] @0x0106000b",
+        new: "0 [] @0x0106000c",
+        members: MEDIUM,
+        status: Status::Negative,
+        text: "changed 0x7f010000 absent 0x0106000b -> absent 0x0106000c\nsame 0\n",
     },
     // Resources without a name are compared by their ids.
     Worked {
