@@ -1,5 +1,6 @@
 pub mod LabelSteps
 pub mod NotesSteps
 pub mod NotedSteps
+pub mod PassedSteps
 pub mod NamelessSteps
 pub mod Laws

@@ -34,7 +34,7 @@ first-append (one ∷ a) b label = by (is_same label one.label) (first-append a 
     by false behind = behind
 
 -- what is found first stays
-with_found-twice : (side : Side) (a b : Option ResId) (sides : Option Sides) → with_found side b (with_found side a sides) ≡ with_found side (option_or a b) sides
+pub with_found-twice : (side : Side) (a b : Option ResId) (sides : Option Sides) → with_found side b (with_found side a sides) ≡ with_found side (option_or a b) sides
 with_found-twice side None b sides = refl
 with_found-twice side (Some a) None sides = refl
 with_found-twice Old (Some a) (Some b) None = refl

@@ -3,4 +3,5 @@ pub mod StackLabels
 pub mod Pairs
 pub mod Laws
 pub mod Noted
+pub mod Passed
 pub use Rattle.overlay_map.specs as overlay_map

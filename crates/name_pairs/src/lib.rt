@@ -18,6 +18,7 @@
 mod label;
 mod noted;
 mod pair;
+mod passed;
 mod stack_labels;
 
 pub use label::Label;

@@ -9,10 +9,12 @@ ghost use Rattle.overlay_map.specs.type_chunks.Row.{row_of};
 ghost use Rattle.name_pairs.specs.Label.{label_of};
 ghost use Rattle.name_pairs.specs.StackLabels.{name_of_row, named, named_rows, by_id, labelled};
 ghost use Rattle.name_pairs.specs.Noted.{Notes, HasNone};
+ghost use Rattle.name_pairs.specs.Passed.{AreNoted};
 
 use crate::label::Label;
 use crate::noted::Noted;
 use crate::pair::Side;
+use crate::passed::Passed;
 use name_index::{ids_of_type, name_text};
 use overlay_map::{ResId, Row, Stack, Table};
 use std::alloc::{AllocError, Global};
@@ -61,26 +63,35 @@ fn note_rows<'a>(
 ) -> Result<(), AllocError>
     ensures { OnOk result (Notes side (named_rows table.now) noted.old noted.new) }
 {
+    let mut passed = Passed::new(alloc);
     for row in table.all_rows() {
-        note_row(alloc, table, &row, side, noted)?;
+        pass_row(alloc, table, &row, side, &mut passed, noted)?;
     }
     Ok(())
 }
 
-// Notes the name of a row, where it has one.
-fn note_row<'a>(
+// Notes the name of a row, where it has one. Where a row of the same names was noted before, there is nothing to note.
+fn pass_row<'a>(
     alloc: Global,
     table: &Table<'a>,
     row: &Row<'_>,
     side: Side,
+    passed: &mut Passed,
     noted: &mut Noted<'a>,
 ) -> Result<(), AllocError>
-    ensures { OnOk result (Notes side (named (row_of row.now) (name_of_row table.now (row_of row.now))) noted.old noted.new) }
+    requires { AreNoted table.now side passed.old noted.old }
+    ensures noted { OnOk result (Notes side (named (row_of row.now) (name_of_row table.now (row_of row.now))) noted.old noted.new) }
+    ensures passed { OnOk result (AreNoted table.now side passed.new noted.new) }
 {
-    match name_of_row(alloc, table, row)? {
-        Some(label) => noted.note(side, label, row.id),
-        None => Ok(()),
+    if passed.has(row) {
+        return Ok(());
     }
+    let Some(label) = name_of_row(alloc, table, row)? else {
+        return Ok(());
+    };
+    noted.note(side, label, row.id)?;
+    passed.put(row)?;
+    Ok(())
 }
 
 /// The name of a row of a table, where both its parts are text. What is UTF-8 in the table is lent, and not copied.
