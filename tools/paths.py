@@ -11,8 +11,8 @@ import os
 import sys
 
 LIST = os.path.join(os.path.dirname(os.path.dirname(os.path.realpath(__file__))), "crates.txt")
-MOST = 1600
-MOST_OF = {"restool": 1400}
+MOST = 1800
+MOST_OF = {"restool": 2600, "command_calls": 2700}
 
 
 def counted(lines):
