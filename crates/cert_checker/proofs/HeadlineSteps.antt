@@ -12,13 +12,12 @@ use Rattle.box_trace.proofs.reference_resolver.Chains.{is_the_end}
 use Rattle.box_trace.specs.overlay_map.Layer.{LayerOf}
 use Rattle.cert_tree.specs.box_answers.NumberSet.{SetOf}
 use Rattle.cert_tree.specs.box_answers.Members.{IsMember}
-use Rattle.cert_tree.specs.res_value.declared.res_id.ResId.{ResId}
 use Rattle.cert_tree.specs.Certificate.{GoalSeen, IdGoal, AttrGoal, GoalOf}
 use Rattle.cert_checker.specs.declared.verdict.Verdict.{Verdict}
 use Rattle.cert_checker.specs.declared.verdict.Verdict.TheVariants.{Accepted, Rejected}
 use Rattle.cert_checker.specs.FirstFault.{goal_trace, goals_in, NoRuleFailsIn}
 use Rattle.cert_checker.specs.Verdict.{IsVerdict}
-use Rattle.cert_checker.specs.Headline.{RulesEndAt, EndsAtItsLeaf, Headline, IdsEndByReferences}
+use Rattle.cert_checker.specs.Headline.{RulesEndAt, EndsAtItsLeaf, Headline, AcceptedHolds, IdsEndByReferences}
 use Rattle.cert_checker.proofs.Law.{reaches, ends_at_leaf}
 
 pub rules_end : (stack : List LayerOf) (goal : GoalSeen) (d : List ℕ) (end : End) → (goal_trace stack goal d).end ≡ end → RulesEndAt stack goal d end
@@ -54,6 +53,9 @@ of_verdict stack sets asked trees (Rejected g k rule shown) h = h.0
 pub headline : (stack : List LayerOf) (sets : List SetOf) (asked : List GoalSeen) (trees : List GoalOf) (r : Result Verdict AllocError) → IfOk r (IsVerdict stack sets asked trees) → IfOk r (Headline stack sets asked trees)
 headline stack sets asked trees (Ok verdict) h = of_verdict stack sets asked trees verdict h
 headline stack sets asked trees (Err e) h = tt
+
+pub accepted : AcceptedHolds
+accepted stack sets asked trees h = of_verdict stack sets asked trees Accepted h
 
 pub ids_end : IdsEndByReferences
 ids_end stack sets asked trees h g id at =

@@ -12,7 +12,7 @@ use Rattle.cert_tree.specs.Certificate.{NodeOf, GoalSeen, IdGoal, AttrGoal, Goal
 use Rattle.cert_checker.specs.declared.verdict.Verdict.{Verdict}
 use Rattle.cert_checker.specs.declared.verdict.Verdict.TheVariants.{Accepted, Rejected}
 use Rattle.cert_checker.specs.Paths.{Reaches}
-use Rattle.cert_checker.specs.FirstFault.{goal_trace, IsFirstFault}
+use Rattle.cert_checker.specs.FirstFault.{goal_trace, IsAccepted, IsFirstFault}
 
 -- For a goal and a device the rules end here: those of selection, overlays and references, within twenty references; for an
 -- attribute those of bags and themes too, where nothing is set before its styles, within twenty attribute steps.
@@ -38,6 +38,12 @@ Headline stack sets asked trees Accepted =
     → (tree : GoalOf) × (slice_get trees g ≡ Some tree) × (tree.goal ≡ goal)
     × ((d : List ℕ) → IsMember sets d → EndsAtItsLeaf stack goal tree.nodes d)
 Headline stack sets asked trees (Rejected g k rule shown) = IsFirstFault stack sets asked trees g k rule
+
+-- A certificate of which no rule fails says where its goals end, whoever wrote it and whether it was checked or not.
+abbrev pub AcceptedHolds : Type 0
+AcceptedHolds =
+    (stack : List LayerOf) (sets : List SetOf) (asked : List GoalSeen) (trees : List GoalOf) → IsAccepted stack sets asked trees
+    → Headline stack sets asked trees Accepted
 
 -- Of an id its words are fewer: for every configuration in the box the selection, overlay and reference rules end within
 -- twenty references at the value of the leaf that the configuration reaches. (In a certificate of ids alone these are all

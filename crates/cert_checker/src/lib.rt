@@ -35,7 +35,7 @@ pub use cert_tree::{
     Unwatched, Values,
 };
 pub use checking::check;
-pub use laws::{ids_end_by_references, traces_end_by_rules};
+pub use laws::{accepted_holds, ids_end_by_references, traces_end_by_rules};
 pub use one_device::goal_end;
 pub use open_boxes::OpenBoxes;
 pub use rule::Rule;
