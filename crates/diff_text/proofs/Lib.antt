@@ -1,2 +1,3 @@
 pub mod RowSteps
 pub mod RowsTell
+pub mod DevicesNamed

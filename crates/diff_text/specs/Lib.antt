@@ -1,5 +1,6 @@
 pub mod NameLines
 pub mod DevicesText
+pub mod DevicesLaw
 pub mod ContentText
 pub mod RowsText
 pub mod RowsLaw

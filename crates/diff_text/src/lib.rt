@@ -1,7 +1,8 @@
 //! What differs between two stacks of layers as lines, for the devices of a box.
 //!
 //! For the crates above: what each call appends is the one text of what it is given, as `specs/` define it, and nothing
-//! else; the only error is the writer's. Two bags that differ have the line of a row (`rows_tell`).
+//! else; the only error is the writer's. Two bags that differ have the line of a row (`rows_tell`), and a line names
+//! exactly the devices of its part (`devices_are_named`).
 //!
 //! ```text
 //! changed string/cancel "Cancel" -> "Cancel!" on locale=de-AT,de-CH,de-DE
@@ -26,6 +27,6 @@ mod rows_text;
 pub use change_text::write_change;
 pub use config_box::ConfigBox;
 pub use devices_text::write_devices;
-pub use laws::rows_tell;
+pub use laws::{devices_are_named, rows_tell};
 pub use name_lines::{write_added, write_removed, write_same};
 pub use resource_content::{Content, Label, RowContent, write_label};
