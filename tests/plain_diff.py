@@ -62,10 +62,10 @@ class Stack:
         """What each label stands for."""
 
     def id_content(self, name):
-        """An id by the name of its first row, if that has one."""
+        """An id by the name of its first row, if that stands for the id."""
         row = self.first.get(name)
-        is_named = row is not None and None not in row.names
-        return label_text((name >> 24, *row.names) if is_named else name)
+        label = row and (name >> 24, *row.names)
+        return label_text(label if self.ids.get(label) == name else name)
 
     def value_content(self, layer, kind, word):
         if kind == STRING:

@@ -523,7 +523,7 @@ REACHED = {
     "Table::open": "BagChecks::new BagChecks::make_ready types_of_children",
     "Device::read": "read_value",
     "find_names": "Places::new Places::push Passed::new Passed::put",
-    "name_pairs": "name_text name_of_row Noted::new Noted::note Noted::ids_on Noted::into_pairs",
+    "name_pairs": "name_text Noted::new Noted::note Noted::ids_on Noted::into_pairs",
     "push_base": "IndexedTable::new",
     "map_bytes": "Carried::new FirstRows::new FirstRows::in_order",
     "query_bytes": "open_stack",
@@ -533,7 +533,7 @@ REACHED = {
     "check": """goal_box OpenBox::whole OpenBox::whole_of_attribute OpenBox::narrowed OpenBox::common_trace
         OpenBoxes::new OpenBoxes::push Course::of_attribute Course::shared Course::after""",
     "make": "make_watched make_bytes_watched ConfigBox::shared OpenBox::weightiest_parting parting_test",
-    "compare_stacks": "compare OpenBox::whole_of_content",
+    "compare_stacks": "NamedStack::of NamedStack::label_of_id OpenBox::whole_of_content",
     "ids_named": "Finder::new Finder::id Finder::ids ids_of_type Stack::base_tables",
     "goals_named": "Finder::each_id",
     "pairs_named": "WordSet::of_sets WordSet::of_pairs",

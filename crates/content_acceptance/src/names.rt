@@ -114,6 +114,25 @@ fn ids_that_select_nothing_have_names(rt: HostRuntime) -> Result<(), Fail> {
     Ok(())
 }
 
+/// Two resources of one name, which stands for the first, and a style that refers to both.
+const OF_ONE_NAME: [(ResId, u8); 2] = [(FIRST_TYPE, b'k'), (SECOND_TYPE, b'k')];
+
+const BOTH: &str = "1 [] bag 0x00000000 0x7f010000=@0x7f020000 0x7f020000=?0x7f010000";
+
+const LINES_OF_BOTH: &str = "\
+0x7f020000 ?s/k
+s/k @0x7f020000
+";
+
+#[test]
+fn a_name_stands_for_one_id(rt: HostRuntime) -> Result<(), Fail> {
+    let alloc = rt.alloc();
+    let tables = tables_of(alloc, &OF_ONE_NAME, BOTH)?;
+    let stack = stack_of(alloc, &tables).ok_or("refused")?;
+    assert!(rt; says(alloc, &stack, STYLE, "", LINES_OF_BOTH)?);
+    Ok(())
+}
+
 /// The framework, a library and an app with the same name each.
 const EACH: [(ResId, u8); 3] = [(FRAMEWORK, b'k'), (LIBRARY, b'k'), (FIRST_TYPE, b'k')];
 

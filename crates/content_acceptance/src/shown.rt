@@ -1,7 +1,7 @@
 //! Contents as lines.
 
 use overlay_map::Stack;
-use resource_content::{Content, Device, ResId, content_at};
+use resource_content::{Content, Device, NamedStack, ResId, content_at};
 use std::alloc::{AllocError, Global};
 use std::test::Fail;
 use test_layers::{LayerFault, device_of, layer_of_lines};
@@ -44,7 +44,8 @@ pub(crate) fn says(
     lines: &str,
 ) -> Result<bool, Fail> {
     let device = device_of(device).ok_or(LayerFault::Malformed)?;
-    let content = content_at(alloc, stack, id, &device)?;
+    let named = NamedStack::of(alloc, stack)?;
+    let content = content_at(alloc, &named, id, &device)?;
     Ok(shown(alloc, &content)?.as_slice() == lines.as_bytes())
 }
 
@@ -56,8 +57,10 @@ pub(crate) fn say_the_same(
     id: ResId,
     device: &Device,
 ) -> Result<bool, AllocError> {
-    let content = content_at(alloc, stack, id, device)?;
-    Ok(content.says_same(&content_at(alloc, other, id, device)?))
+    let stack = NamedStack::of(alloc, stack)?;
+    let other = NamedStack::of(alloc, other)?;
+    let content = content_at(alloc, &stack, id, device)?;
+    Ok(content.says_same(&content_at(alloc, &other, id, device)?))
 }
 
 // A value, or a line for each row of a bag, `NAME VALUE`.

@@ -3,4 +3,6 @@ pub mod NotesSteps
 pub mod NotedSteps
 pub mod PassedSteps
 pub mod NamelessSteps
-pub mod Laws
+pub mod SideBySide
+pub mod NamedSteps
+pub mod IdLabels

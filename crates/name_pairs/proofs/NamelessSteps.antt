@@ -112,7 +112,7 @@ any_from_found f agrees label (one ∷ all) id found holds = by (is_same label o
     by false e found later = behind (f one.label) (list_any (λ other. f other.label) all) (later found)
 
 -- what is on a side after names were noted there is what they stand for
-id_on-noted : (side : Side) (found : Option ResId) (sides : Option Sides) → option_and_then (id_on side) sides ≡ None → option_and_then (id_on side) (with_found side found sides) ≡ found
+pub id_on-noted : (side : Side) (found : Option ResId) (sides : Option Sides) → option_and_then (id_on side) sides ≡ None → option_and_then (id_on side) (with_found side found sides) ≡ found
 id_on-noted side None sides none = none
 id_on-noted Old (Some id) None none = refl
 id_on-noted Old (Some id) (Some (Removed old)) none = absurd cc

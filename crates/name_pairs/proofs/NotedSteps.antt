@@ -56,7 +56,7 @@ label_of-at (ById id) = refl
 -- ---- what is at a label
 
 -- looking up a label of the code is looking up what it is
-found_as : (m : BTreeMap Label Sides) (key : Label) → get order m key ≡ get_by (λ other. label_cmp (label_of key) (label_of other)) m
+pub found_as : (m : BTreeMap Label Sides) (key : Label) → get order m key ≡ get_by (λ other. label_cmp (label_of key) (label_of other)) m
 found_as m key = ap (λ (test : Label → Bool). lookup test m.entries) (fun_ext (λ (other : Label). ap is_eq (same_order key other)))
 
 found_at : (m : BTreeMap Label Sides) (label : LabelOf) → get order m (at_label label) ≡ get_by (λ other. label_cmp label (label_of other)) m

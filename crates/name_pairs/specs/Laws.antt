@@ -1,5 +1,5 @@
--- What holds of the pairs of two stacks.
-use Rattle.std.specs.Prelude.{◌≡◌, ◌==◌, true, List, map, Option, Some, None, IsSome}
+-- What holds of labels, and of the pairs of two stacks.
+use Rattle.std.specs.Prelude.{◌≡◌, ℕ, ◌==◌, true, List, map, Option, Some, None, IsSome}
 use Rattle.std.specs.List.{All, list_any}
 use Rattle.std.specs.List.Sorted.{IsStrictlySortedBy}
 use Rattle.name_index.specs.IdsOfType.{ids_of_type}
@@ -7,6 +7,7 @@ use Rattle.overlay_map.specs.Layer.{LayerOf, base_tables}
 use Rattle.overlay_map.specs.res_value.declared.res_id.ResId.{ResId}
 use Rattle.name_pairs.specs.Label.{LabelOf, label_cmp, is_same}
 use Rattle.name_pairs.specs.StackLabels.{first_with, labelled}
+use Rattle.name_pairs.specs.IdLabel.{label_of_id}
 use Rattle.name_pairs.specs.Pairs.{PairOf, sides_of}
 
 -- the id that a label stands for in a stack
@@ -29,3 +30,7 @@ pub record AreSideBySide (old new : List LayerOf) (pairs : List PairOf) : Type 0
   -- and no resource is lost
   pub old_ids : EachHasLabel old
   pub new_ids : EachHasLabel new
+
+-- what is called the same in a stack is one id
+abbrev pub LabelTellsId : Type 0
+LabelTellsId = (layers : List LayerOf) (id other : ℕ) → label_of_id layers id ≡ label_of_id layers other → id ≡ other

@@ -1,5 +1,6 @@
 pub mod Label
 pub mod StackLabels
+pub mod IdLabel
 pub mod Pairs
 pub mod Laws
 pub mod Noted

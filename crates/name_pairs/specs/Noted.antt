@@ -3,6 +3,7 @@ use Rattle.std.specs.Prelude.{◌≡◌, List, map, Option, Some, None, option_a
 use Rattle.std.specs.BTreeMap.{get_by, keys}
 use Rattle.std.specs.BTreeSet.{insert_key}
 use Rattle.std.specs.List.{fold}
+use Rattle.overlay_map.specs.Layer.{LayerOf}
 use Rattle.overlay_map.specs.res_value.declared.res_id.ResId.{ResId}
 use Rattle.name_pairs.specs.declared.noted.Noted.{Noted}
 use Rattle.name_pairs.specs.declared.pair.Side.{Side}
@@ -10,7 +11,7 @@ use Rattle.name_pairs.specs.declared.pair.Side.TheVariants.{Old, New}
 use Rattle.name_pairs.specs.declared.pair.Sides.{Sides}
 use Rattle.name_pairs.specs.declared.pair.Sides.TheVariants.{Removed, Added, Both}
 use Rattle.name_pairs.specs.Label.{LabelOf, label_of, label_cmp}
-use Rattle.name_pairs.specs.StackLabels.{Labelled, first_with, labels_of}
+use Rattle.name_pairs.specs.StackLabels.{Labelled, first_with, names_in, labels_of}
 
 -- the labels that were noted, in their order
 abbrev pub labels_in : Noted → List LabelOf
@@ -52,3 +53,7 @@ pub record Notes (side : Side) (all : List Labelled) (old new : Noted) : Type 0 
 -- nothing was noted on this side
 abbrev pub HasNone : Side → Noted → Type 0
 HasNone side noted = (label : LabelOf) → option_and_then (id_on side) (sides_at noted label) ≡ None
+
+-- the names of a stack were noted, as those of an old one
+abbrev pub HasNames : List LayerOf → Noted → Type 0
+HasNames layers noted = (label : LabelOf) → option_and_then (id_on Old) (sides_at noted label) ≡ first_with (names_in layers) label

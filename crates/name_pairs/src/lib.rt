@@ -2,7 +2,8 @@
 //! both have, with the id that each name stands for in each.
 //!
 //! For the crates above: `name_pairs` gives exactly the pairs that the definition of like name does, each label once and in
-//! rising order. A label is a name, or an id for which no name stands. `name_of_row` gives the name of one row.
+//! rising order. A label is a name, or an id for which no name stands. What an id is called where a value refers to it,
+//! `NamedStack::label_of_id` gives: never what another id of the stack is called.
 //!
 //! ```text
 //! for pair in name_pairs(alloc, &old, &new)? {
@@ -16,12 +17,15 @@
 #![tactic(auto)]
 
 mod label;
+mod laws;
+mod named_stack;
 mod noted;
 mod pair;
 mod passed;
 mod stack_labels;
 
 pub use label::Label;
+pub use laws::label_tells_id;
+pub use named_stack::NamedStack;
 pub use overlay_map::{ResId, Stack};
 pub use pair::{NamePair, Sides, name_pairs};
-pub use stack_labels::name_of_row;

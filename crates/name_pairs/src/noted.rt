@@ -43,6 +43,16 @@ impl<'a> Noted<'a> {
         Ok(())
     }
 
+    /// The id that a label stands for on one side.
+    pub fn id_on(&self, side: Side, label: &Label<'a>) -> Option<ResId>
+        ensures { result ≡ option_and_then (id_on side) (sides_at self.now (label_of label.now)) }
+    {
+        match self.sides.get(label) {
+            Some(sides) => sides.on(side),
+            None => None,
+        }
+    }
+
     /// The ids on one side.
     pub fn ids_on(&self, alloc: Global, side: Side) -> Result<BTreeSet<u32>, AllocError>
         ensures { IfOk result (λ ids. (id : ResId) → contains nat_cmp ids id.0 ≡ list_any (λ label. is_id id (option_and_then (id_on side) (sides_at self.now label))) (labels_in self.now)) }

@@ -39,8 +39,8 @@ pub(crate) fn note_stack<'a>(
     Ok(())
 }
 
-// Notes the names of all rows.
-fn note_names<'a>(
+/// Notes the names of all rows.
+pub(crate) fn note_names<'a>(
     alloc: Global,
     tables: &[&Table<'a>],
     side: Side,
@@ -95,12 +95,8 @@ fn pass_row<'a>(
 }
 
 /// The name of a row of a table, where both its parts are text. What is UTF-8 in the table is lent, and not copied.
-///
-/// ```text
-/// let label = name_of_row(alloc, found.table, &found.row)?; // the name dimen/margin in package 0x7f
-/// ```
 #[tactic(auto, unfolding(crate::specs::StackLabels::name_of_row))]
-pub fn name_of_row<'a>(
+pub(crate) fn name_of_row<'a>(
     alloc: Global,
     table: &Table<'a>,
     row: &Row<'_>,

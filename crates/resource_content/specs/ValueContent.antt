@@ -1,5 +1,6 @@
--- What a value says, as text: as values are printed, but a string by its text, and an id by its name.
-use Rattle.std.specs.Prelude.{ℕ, ◌==◌, List, ◌++◌, codes, if◌then◌else◌, Option, Some, None, option_and_then, unwrap_or}
+-- What a value says, as text: as values are printed, but a string by its text, and an id by its name, where that stands for
+-- the id.
+use Rattle.std.specs.Prelude.{ℕ, ◌==◌, List, ◌++◌, codes, if◌then◌else◌, Option, Some, None}
 use Rattle.answer_text.specs.reference_resolver.string_pool.Pool.{PoolOf}
 use Rattle.answer_text.specs.reference_resolver.string_pool.Text.{text_in}
 use Rattle.answer_text.specs.reference_resolver.string_pool.Shown.{string_text}
@@ -7,20 +8,13 @@ use Rattle.answer_text.specs.res_value.Kind.{string_kind, reference_kind, attrib
 use Rattle.answer_text.specs.res_value.ValueText.{value_text}
 use Rattle.answer_text.specs.res_value.declared.value.Value.{Value}
 use Rattle.answer_text.specs.overlay_map.Layer.{LayerOf}
-use Rattle.answer_text.specs.overlay_map.BaseRow.{first_base_row}
 use Rattle.answer_text.specs.QueryText.{strings_of_layer}
-use Rattle.name_pairs.specs.Label.{LabelOf, ById}
-use Rattle.name_pairs.specs.StackLabels.{name_of_row}
+use Rattle.name_pairs.specs.IdLabel.{label_of_id}
 use Rattle.resource_content.specs.LabelText.{label_text}
 
 -- ---- ids
 
--- What an id is called: by the name of the first row that it has in a base layer. Where there is none, or its name is no
--- text, it stands for itself.
-unfoldable pub label_of_id : List LayerOf → ℕ → LabelOf
-label_of_id stack id =
-    unwrap_or (option_and_then (λ found. name_of_row found.table found.row) (first_base_row stack id)) (ById (record { 0 = id }))
-
+-- what an id is called
 abbrev pub id_content : List LayerOf → ℕ → List ℕ
 id_content stack id = label_text (label_of_id stack id)
 

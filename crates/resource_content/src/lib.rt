@@ -6,6 +6,7 @@
 //! and `write_package` its package.
 //!
 //! ```text
+//! let old = NamedStack::of(alloc, &old_layers)?;
 //! let before = content_at(alloc, &old, old_id, &device)?; // Value("dimension 4/2^0 dp")
 //! let after = content_at(alloc, &new, new_id, &device)?; // Value("dimension 3/2^0 dp")
 //! if !before.says_same(&after) { .. }
@@ -26,5 +27,5 @@ pub use content::{Content, RowContent};
 pub use device_content::content_at;
 pub use label_text::write_label;
 pub use laws::trace_tells_content;
-pub use name_pairs::Label;
+pub use name_pairs::{Label, NamedStack};
 pub use package::write_package;

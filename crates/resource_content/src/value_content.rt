@@ -4,19 +4,18 @@ ghost use Rattle.std.specs.Prelude.{◌≡◌, IfOk};
 ghost use Rattle.std.specs.Option.{option_map};
 ghost use Rattle.contract_words.specs.Writes.{Writes};
 ghost use Rattle.answer_text.specs.reference_resolver.string_pool.Pool.{pool_of};
-ghost use Rattle.name_pairs.specs.Label.{label_of};
-ghost use Rattle.resource_content.specs.ValueContent.{label_of_id, id_content, string_content, value_content};
+ghost use Rattle.resource_content.specs.ValueContent.{id_content, string_content, value_content};
 
 use crate::label_text::write_label;
-use answer_text::{Pool, ResId, Stack, Value, kind, strings_of_layer, write_string, write_value};
-use name_pairs::{Label, name_of_row};
+use answer_text::{Pool, ResId, Value, kind, strings_of_layer, write_string, write_value};
+use name_pairs::NamedStack;
 use std::alloc::{AllocError, Global};
 use std::io::{self, Write};
 
 /// What a value says that a row of this layer holds.
 pub(crate) fn value_content(
     alloc: Global,
-    stack: &Stack<'_>,
+    stack: &NamedStack<'_, '_>,
     layer: usize,
     value: Value,
 ) -> Result<Vec<u8>, AllocError>
@@ -30,8 +29,8 @@ pub(crate) fn value_content(
     }
 }
 
-/// An id by its name, or as it is.
-pub(crate) fn id_content(alloc: Global, stack: &Stack<'_>, id: ResId) -> Result<Vec<u8>, AllocError>
+/// An id by its name where that stands for it, or as it is.
+pub(crate) fn id_content(alloc: Global, stack: &NamedStack<'_, '_>, id: ResId) -> Result<Vec<u8>, AllocError>
     ensures { IfOk result (λ text. text.items ≡ id_content stack.now id.0) }
 {
     let mut text = Vec::new(alloc);
@@ -45,7 +44,7 @@ pub(crate) fn id_content(alloc: Global, stack: &Stack<'_>, id: ResId) -> Result<
 #[tactic(auto, unfolding(crate::specs::ValueContent::value_content))]
 fn write_value_content<W: Write + Drop>(
     alloc: Global,
-    stack: &Stack<'_>,
+    stack: &NamedStack<'_, '_>,
     layer: usize,
     value: Value,
     out: &mut W,
@@ -53,7 +52,7 @@ fn write_value_content<W: Write + Drop>(
     ensures { Writes W.contents out.old out.new result (value_content stack.now layer value) }
 {
     match value.kind {
-        kind::STRING => write_string_content(strings_of_layer(stack, layer), value.word, out),
+        kind::STRING => write_string_content(strings_of_layer(stack.stack(), layer), value.word, out),
         kind::REFERENCE => {
             out.write_all(b"@")?;
             write_id_content(alloc, stack, ResId(value.word), out)
@@ -82,26 +81,12 @@ fn write_string_content<W: Write + Drop>(
 
 fn write_id_content<W: Write + Drop>(
     alloc: Global,
-    stack: &Stack<'_>,
+    stack: &NamedStack<'_, '_>,
     id: ResId,
     out: &mut W,
 ) -> io::Result<()>
     ensures { Writes W.contents out.old out.new result (id_content stack.now id.0) }
 {
-    let label = label_of_id(alloc, stack, id)?;
+    let label = stack.label_of_id(alloc, id)?;
     write_label(&label, out)
-}
-
-// What an id is called.
-#[tactic(auto, unfolding(crate::specs::ValueContent::label_of_id))]
-fn label_of_id<'a>(alloc: Global, stack: &Stack<'a>, id: ResId) -> Result<Label<'a>, AllocError>
-    ensures { IfOk result (λ label. label_of label ≡ label_of_id stack.now id.0) }
-{
-    let Some(found) = stack.base_row(id) else {
-        return Ok(Label::Id(id));
-    };
-    match name_of_row(alloc, found.table, &found.row)? {
-        Some(label) => Ok(label),
-        None => Ok(Label::Id(id)),
-    }
 }

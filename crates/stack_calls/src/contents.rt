@@ -4,7 +4,7 @@ use config_record::Device;
 use diff_text::{ConfigBox, Label, write_change};
 use marked_calls::{Writer, begin, end, tell, tell_text};
 use overlay_map::{ResId, Stack};
-use resource_content::{Content, content_at};
+use resource_content::{Content, NamedStack, content_at};
 use std::io;
 use std::test::Fail;
 
@@ -14,8 +14,9 @@ const FIRST: ResId = ResId(0x7f01_0000);
 const SECOND: ResId = ResId(0x7f01_0001);
 
 pub fn content(rt: &HostRuntime, stack: &Stack<'_>, device: &Device) -> Result<(), Fail> {
+    let named = NamedStack::of(rt.alloc(), stack)?;
     begin(rt);
-    let found = content_at(rt.alloc(), stack, FIRST, device);
+    let found = content_at(rt.alloc(), &named, FIRST, device);
     end(rt);
     match found {
         Ok(content) => tell_content(rt, &content)?,
@@ -40,8 +41,9 @@ fn tell_content(rt: &HostRuntime, content: &Content) -> io::Result<()> {
 
 /// The lines where entry 0 says what stands before, and entry 1 what stands after.
 pub fn change(rt: &HostRuntime, stack: &Stack<'_>, device: &Device) -> Result<(), Fail> {
-    let before = content_at(rt.alloc(), stack, FIRST, device)?;
-    let after = content_at(rt.alloc(), stack, SECOND, device)?;
+    let named = NamedStack::of(rt.alloc(), stack)?;
+    let before = content_at(rt.alloc(), &named, FIRST, device)?;
+    let after = content_at(rt.alloc(), &named, SECOND, device)?;
     let whole = ConfigBox::read(rt.alloc(), br#"{"density":[160]}"#)?;
     let mut out = Writer::failing_at(rt.alloc(), 0)?;
     let label = Label::Id(FIRST);

@@ -17,6 +17,7 @@ use Rattle.stack_diff.specs.declared.told.Told.{Told}
 use Rattle.stack_diff.specs.Sides.{says}
 use Rattle.stack_diff.specs.Once.{KeepsEach}
 use Rattle.stack_diff.specs.Changes.{ChangeOf, IsSo, AreChanges, boxes_in}
+use Rattle.stack_diff.proofs.Same.{are-changes}
 use Rattle.stack_diff.specs.ChangeSeen.{change_of}
 use Rattle.stack_diff.specs.Fewest.{TellOther, AreToldShort}
 use Rattle.stack_diff.specs.Tree.{AreRight}
@@ -132,12 +133,11 @@ module _ (before after : Resource) (sets : List SetOf) where
   changes-of told changes right groups =
       let all : List ChangeOf = map change_of groups.gathered in
       let so_far = groups.gathers.gathered before after sets right.right in
-      let are_so : AreChanges (says before) (says after) sets all = record { real = λ k c q. (so_far k c q).real; once = λ d m differ. groups.gathers.devices.once d (right.once d m differ) } in
+      let are_so : AreChanges (says before) (says after) sets all = are-changes (says before) (says after) sets all (λ k c q. (so_far k c q).real) (λ d m differ. groups.gathers.devices.once d (right.once d m differ)) in
       let each = gathered-each groups.gathered changes groups.joins so_far in
-      let are : AreChanges (says before) (says after) sets (map change_of changes) = record {
-        real = λ k c q. (each k c q).real;
-        once = λ d m differ. (keeps-joined groups.gathered changes groups.joins).once d (are_so.once d m differ);
-      } in
+      let are : AreChanges (says before) (says after) sets (map change_of changes) =
+      are-changes (says before) (says after) sets (map change_of changes) (λ k c q. (each k c q).real)
+      (λ d m differ. (keeps-joined groups.gathered changes groups.joins).once d (are_so.once d m differ)) in
       let apart : All Apart all = λ k c q d.
       let few = part-count (says before) (says after) sets all d k c q in
       let one = at-most-once (says before) (says after) sets all d are_so in

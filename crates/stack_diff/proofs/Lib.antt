@@ -1,4 +1,5 @@
 pub mod Once
+pub mod Same
 pub mod Moved
 pub mod Both
 pub mod Walks

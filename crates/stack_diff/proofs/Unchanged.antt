@@ -17,6 +17,7 @@ no-changes : (says : List ℕ → ContentOf) (sets : List SetOf) (changes : List
 no-changes says sets changes none = subst (AreChanges says says sets) (sym none) (record {
   real = All-nil (IsReal says says sets);
   once = λ d member differ. absurd (differ refl);
+  same = λ d member none. refl;
 })
 
 -- in no box

@@ -4,7 +4,7 @@ use Rattle.std.specs.List.{All, flat_map}
 use Rattle.cert_checker.specs.box_answers.NumberSet.{SetOf}
 use Rattle.cert_checker.specs.box_answers.Members.{IsMember, SomeMember}
 use Rattle.resource_content.specs.Content.{ContentOf}
-use Rattle.joined_boxes.specs.Devices.{HasOnce}
+use Rattle.joined_boxes.specs.Devices.{HasNone, HasOnce}
 
 -- What is said before and after, on the devices of these boxes.
 pub record ChangeOf : Type 0 where
@@ -30,7 +30,8 @@ abbrev pub boxes_in : List ChangeOf → List (List SetOf)
 boxes_in changes = flat_map (λ change. change.boxes) changes
 
 -- Nothing is invented. Nothing is missed or told twice: a device of the whole box on which the two differ is in one box, and
--- in one alone.
+-- in one alone; and a device that is in none says the same in both.
 pub record AreChanges (before after : List ℕ → ContentOf) (sets : List SetOf) (changes : List ChangeOf) : Type 0 where
   pub real : All (IsReal before after sets) changes
   pub once : (d : List ℕ) → IsMember sets d → before d ≢ after d → HasOnce d (boxes_in changes)
+  pub same : (d : List ℕ) → IsMember sets d → HasNone d (boxes_in changes) → before d ≡ after d

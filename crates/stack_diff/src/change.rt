@@ -16,7 +16,7 @@ pub struct Change {
 
 /// What a comparison of two resources answers.
 #[derive(Drop)]
-pub enum Compared {
+pub(crate) enum Compared {
     /// All changes, and how many nodes the tree had that found them.
     Changes { changes: Vec<Change>, nodes: usize },
     /// There is a tree of needed tests that has more nodes than the limit. A test is needed that parts two devices

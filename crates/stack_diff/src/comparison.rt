@@ -12,7 +12,7 @@ use std::alloc::Global;
 
 /// What a resource says differently in the stack before and in the one after, for all devices of a box; or that the
 /// tree which finds it has more nodes than the limit.
-pub fn compare<'a>(
+pub(crate) fn compare<'a>(
     alloc: Global,
     before: Resource<'_, 'a>,
     after: Resource<'_, 'a>,

@@ -7,7 +7,7 @@ ghost use Rattle.stack_diff.specs.Outcomes.{AreOutcomes};
 use crate::outcome::{Outcomes, Stacks, outcomes_in};
 use cert_checker::{ConfigBox, OutOfMemory};
 use name_pairs::NamePair;
-use resource_content::Stack;
+use resource_content::{NamedStack, Stack};
 use std::alloc::Global;
 
 /// What a stack says differently from itself: nothing of a label that stands for one id. No device is asked then, and
@@ -21,9 +21,10 @@ pub fn compare_with_itself<'a>(
 ) -> Result<Outcomes, OutOfMemory>
     ensures { IfOk result (AreOutcomes stack.now stack.now (map pair_of pairs.now) members.now max_nodes) }
 {
+    let named = NamedStack::of(alloc, stack)?;
     let stacks = Stacks {
-        old: stack,
-        new: stack,
+        old: &named,
+        new: &named,
         are_one: true,
     };
     outcomes_in(alloc, stacks, pairs, members, max_nodes)

@@ -1,13 +1,15 @@
 //! What two stacks say differently, on which devices of a box.
 //!
-//! For the crate above: `compare` answers the changes of a resource. Each is two contents that differ, and boxes of devices on which the
-//! resource says the one in the stack before and the other in the stack after. A device of the box on which the two
-//! differ is in one of the boxes, and in one alone; a device on which they do not is in none.
+//! For the crate above: `compare_stacks` answers what becomes of each label: it is removed, added, or these are its
+//! changes. A change is two contents that differ, and boxes of devices on which the label says the one in the old stack and
+//! the other in the new one. A device of the box on which the two differ is in one of the boxes, and in one alone; a device
+//! that is in none says the same in both. `compare_with_itself` answers the same of one stack, and asks no device.
 //!
 //! ```text
-//! match compare(alloc, old_margin, new_margin, &phones, 1_000_000)? {
-//!     Compared::Changes { changes, .. } => .., // before: dimension 4/2^0 dp, after: dimension 3/2^0 dp, boxes: landscape
-//!     Compared::NodeLimit => ..,
+//! let pairs = name_pairs(alloc, &old, &new)?;
+//! match compare_stacks(alloc, &old, &new, &pairs, &phones, 100_000)? {
+//!     Outcomes::All(outcomes) => .., // Both: dimension 4/2^0 dp before, dimension 3/2^0 dp after, in landscape
+//!     Outcomes::NodeLimit => ..,
 //! }
 //! ```
 #![tactic(auto)]
@@ -23,10 +25,8 @@ mod told;
 mod tree;
 
 pub use cert_checker::ConfigBox;
-pub use change::{Change, Compared};
-pub use comparison::compare;
+pub use change::Change;
 pub use itself::compare_with_itself;
 pub use name_pairs::{Label, NamePair, Sides, name_pairs};
 pub use outcome::{Outcome, Outcomes, compare_stacks};
-pub use resource::Resource;
 pub use resource_content::{Content, ResId, RowContent, Stack};

@@ -10,7 +10,7 @@ use crate::comparison::compare;
 use crate::resource::Resource;
 use cert_checker::{ConfigBox, OutOfMemory};
 use name_pairs::{NamePair, Sides};
-use resource_content::Stack;
+use resource_content::{NamedStack, Stack};
 use std::alloc::Global;
 
 /// What becomes of a label.
@@ -46,9 +46,11 @@ pub fn compare_stacks<'a>(
 ) -> Result<Outcomes, OutOfMemory>
     ensures { IfOk result (AreOutcomes old.now new.now (map pair_of pairs.now) members.now max_nodes) }
 {
+    let old = NamedStack::of(alloc, old)?;
+    let new = NamedStack::of(alloc, new)?;
     let stacks = Stacks {
-        old,
-        new,
+        old: &old,
+        new: &new,
         are_one: false,
     };
     outcomes_in(alloc, stacks, pairs, members, max_nodes)
@@ -57,8 +59,8 @@ pub fn compare_stacks<'a>(
 /// The stacks that are compared, and whether they are one.
 #[derive(Clone, Copy)]
 pub(crate) struct Stacks<'s, 'a> {
-    pub(crate) old: &'s Stack<'a>,
-    pub(crate) new: &'s Stack<'a>,
+    pub(crate) old: &'s NamedStack<'s, 'a>,
+    pub(crate) new: &'s NamedStack<'s, 'a>,
     pub(crate) are_one: bool,
 }
 

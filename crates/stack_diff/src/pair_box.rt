@@ -37,8 +37,8 @@ impl<'a, 's> PairBox<'a, 's> {
     {
         let shared = members.shared(alloc)?;
         Ok(PairBox {
-            before: OpenBox::whole_of_content(alloc, before.stack, before.id, shared)?,
-            after: OpenBox::whole_of_content(alloc, after.stack, after.id, members.shared(alloc)?)?,
+            before: OpenBox::whole_of_content(alloc, before.stack.stack(), before.id, shared)?,
+            after: OpenBox::whole_of_content(alloc, after.stack.stack(), after.id, members.shared(alloc)?)?,
         })
     }
 
@@ -60,10 +60,10 @@ impl<'a, 's> PairBox<'a, 's> {
         ensures open { IsOpen before.entry after.entry self.new }
         ensures parts { IfOk result (λ parting. MatchOption parting (HaveOneTrace (IsMember (members_of self.old)) (both_traces before.entry after.entry)) (PartsBoth before.entry after.entry (members_of self.old))) }
     {
-        if let Some(parting) = parting_in(alloc, before.stack, &mut self.before)? {
+        if let Some(parting) = parting_in(alloc, before.stack.stack(), &mut self.before)? {
             return Ok(Some(parting));
         }
-        let parting = parting_in(alloc, after.stack, &mut self.after)?;
+        let parting = parting_in(alloc, after.stack.stack(), &mut self.after)?;
         Ok(parting)
     }
 

@@ -1,10 +1,10 @@
 //! A resource of a stack.
 
-use resource_content::{ResId, Stack};
+use resource_content::{NamedStack, ResId};
 
 /// A resource of a stack.
 #[derive(Clone, Copy)]
-pub struct Resource<'s, 'a> {
-    pub stack: &'s Stack<'a>,
-    pub id: ResId,
+pub(crate) struct Resource<'s, 'a> {
+    pub(crate) stack: &'s NamedStack<'s, 'a>,
+    pub(crate) id: ResId,
 }

@@ -2,7 +2,7 @@ use Rattle.std.proofs.Common.{List, sym, subst, ◌∙◌}
 use Rattle.std.proofs.lemmas.Result.{IfOk-weaker}
 use Rattle.name_pairs.specs.Pairs.{PairOf}
 use Rattle.name_pairs.specs.Laws.{AreSideBySide}
-use Rattle.name_pairs.proofs.Laws.{side_by_side}
+use Rattle.name_pairs.proofs.SideBySide.{side_by_side}
 use Rattle.name_pairs.proofs.NotesSteps.{name_pairs-noted}
 use Rattle.name_pairs.proofs.pair.name_pairs.Goals as goal
 

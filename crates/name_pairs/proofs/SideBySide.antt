@@ -171,7 +171,7 @@ found_label test (one ∷ all) found = by (test one.label) refl found (found_lab
 same_id : (id other : ResId) → (other.0 == id.0) ≡ true → other ≡ id
 same_id id other same = let made : ℕ → ResId = λ n. record { 0 = n } in ap made (eqb-true other.0 id.0 same)
 
-is-found : (id : ResId) (found : Option ResId) → is_id id found ≡ true → found ≡ Some id
+pub is-found : (id : ResId) (found : Option ResId) → is_id id found ≡ true → found ≡ Some id
 is-found id None same = absurd cc
 is-found id (Some other) same = let one : ResId → Option ResId = λ x. Some x in ap one (same_id id other same)
 
@@ -185,7 +185,7 @@ none-joined f label none [] = refl
 none-joined f label none (x ∷ xs) =
     first-append (f x) (flat_map f xs) label ∙ ap (λ (o : Option ResId). option_or o (first_with (flat_map f xs) label)) (none x) ∙ none-joined f label none xs
 
-none-named : (layers : List LayerOf) (id : ResId) → first_with (names_in layers) (ById id) ≡ None
+pub none-named : (layers : List LayerOf) (id : ResId) → first_with (names_in layers) (ById id) ≡ None
 unfolding names_in name_of_row
 none-named layers id =
     none-joined named_rows (ById id)
