@@ -30,7 +30,11 @@ pub(crate) fn value_content(
 }
 
 /// An id by its name where that stands for it, or as it is.
-pub(crate) fn id_content(alloc: Global, stack: &NamedStack<'_, '_>, id: ResId) -> Result<Vec<u8>, AllocError>
+pub(crate) fn id_content(
+    alloc: Global,
+    stack: &NamedStack<'_, '_>,
+    id: ResId,
+) -> Result<Vec<u8>, AllocError>
     ensures { IfOk result (λ text. text.items ≡ id_content stack.now id.0) }
 {
     let mut text = Vec::new(alloc);
@@ -52,7 +56,11 @@ fn write_value_content<W: Write + Drop>(
     ensures { Writes W.contents out.old out.new result (value_content stack.now layer value) }
 {
     match value.kind {
-        kind::STRING => write_string_content(strings_of_layer(stack.stack(), layer), value.word, out),
+        kind::STRING => write_string_content(
+            strings_of_layer(stack.stack(), layer),
+            value.word,
+            out,
+        ),
         kind::REFERENCE => {
             out.write_all(b"@")?;
             write_id_content(alloc, stack, ResId(value.word), out)

@@ -38,7 +38,12 @@ impl<'a, 's> PairBox<'a, 's> {
         let shared = members.shared(alloc)?;
         Ok(PairBox {
             before: OpenBox::whole_of_content(alloc, before.stack.stack(), before.id, shared)?,
-            after: OpenBox::whole_of_content(alloc, after.stack.stack(), after.id, members.shared(alloc)?)?,
+            after: OpenBox::whole_of_content(
+                alloc,
+                after.stack.stack(),
+                after.id,
+                members.shared(alloc)?,
+            )?,
         })
     }
 
