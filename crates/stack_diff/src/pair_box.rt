@@ -35,15 +35,11 @@ impl<'a, 's> PairBox<'a, 's> {
         ensures open { IfOk result (IsOpen before.entry after.entry) }
         ensures sets { IfOk result (λ _. IsBox members.now) }
     {
-        let shared = members.shared(alloc)?;
+        let of_before = members.shared(alloc)?;
+        let of_after = members.shared(alloc)?;
         Ok(PairBox {
-            before: OpenBox::whole_of_content(alloc, before.stack.stack(), before.id, shared)?,
-            after: OpenBox::whole_of_content(
-                alloc,
-                after.stack.stack(),
-                after.id,
-                members.shared(alloc)?,
-            )?,
+            before: OpenBox::whole_of_content(alloc, before.stack.stack(), before.id, of_before)?,
+            after: OpenBox::whole_of_content(alloc, after.stack.stack(), after.id, of_after)?,
         })
     }
 
