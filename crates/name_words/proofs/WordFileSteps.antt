@@ -1,12 +1,16 @@
 -- How the words of a file are found, line by line.
 use Rattle.std.proofs.Common.{◌≡◌, ◌≢◌, ℕ, ◌+◌, ◌<◌, ◌≤◌, Bool, true, false, List, [], ◌∷◌, ◌++◌, map, length, drop, get_or, Option, Some, None, refl, sym, ap, ◌∙◌, append_assoc, arith, cond}
-use Rattle.std.specs.Prelude.{MatchOption, ◌==◌}
+use Rattle.std.specs.Prelude.{MatchOption, ◌==◌, nat_eq}
 use Rattle.std.specs.Borrow.{Bor}
-use Rattle.std.specs.List.{filter, slice_split}
-use Rattle.std.specs.Option.{option_map}
+use Rattle.std.specs.Char.{encode_utf8}
+use Rattle.std.specs.List.{filter, slice_split, starts_with}
+use Rattle.std.specs.Option.{option_map, unwrap_or}
 use Rattle.std.specs.Str.{trim}
+use Rattle.std.specs.Str.Pattern.{FindsCharPrefix, StripsPrefix}
+use Rattle.std.proofs.lemmas.Bool.Decides.{Decides-eqb}
 use Rattle.std.proofs.lemmas.List.{append-nil, drop_more, drop_all, get_or-map, length-map}
-use Rattle.name_words.specs.WordFile.{file_path_in, is_line_feed, is_word, words_in_text}
+use Rattle.std.proofs.lemmas.Slice.Eq.{starts_is}
+use Rattle.name_words.specs.WordFile.{byte_order_mark, file_path_in, is_line_feed, is_word, without_mark, words_in_text}
 
 -- ---- the path of a file
 
@@ -19,6 +23,25 @@ path_seen (byte ∷ rest) None none = other byte rest (byte == 64) refl none
     other byte rest true is none = absurd (none rest (grind (arith, is)))
     other byte rest false is none = rw is refl
 path_seen word (Some path) found = rw found refl
+
+-- ---- the byte order mark
+
+encoded : encode_utf8 65279 ≡ byte_order_mark
+unfolding encode_utf8
+encoded = refl
+
+pub without_mark_seen : (text : Bor (List ℕ)) (rest : Option (Bor (List ℕ))) → MatchOption rest (FindsCharPrefix 65279 text.now None) (λ rest. StripsPrefix (FindsCharPrefix 65279) text.now rest.now)
+    → (unwrap_or rest text).now ≡ without_mark text.now
+unfolding without_mark
+without_mark_seen text None none = go (starts_with nat_eq text.now byte_order_mark) refl
+  where
+    go : (has : Bool) → starts_with nat_eq text.now byte_order_mark ≡ has → text.now ≡ without_mark text.now
+    go true has = absurd (none _ ((starts_is Decides-eqb text.now byte_order_mark _ refl).0 has ∙ ap (λ mark. mark ++ drop 3 text.now) (sym encoded)))
+    go false has = rw has refl
+without_mark_seen text (Some rest) found =
+    let has : starts_with nat_eq text.now byte_order_mark ≡ true =
+    (starts_is Decides-eqb text.now byte_order_mark _ refl).1 (drop found.0 text.now) (found.1.split ∙ ap (λ mark. mark ++ drop found.0 text.now) encoded) in
+    rw has (found.2 ∙ ap (λ n. drop n text.now) found.1.ends)
 
 -- ---- the words
 
@@ -67,7 +90,7 @@ WordsAllBut-pass found place items d before on is =
     }
 
 pub WordsAllBut-end : (found : List (List ℕ)) (place : ℕ) (items : List (Bor (List ℕ))) (text : List ℕ) → WordsAllBut found place (map line_of items)
-    → length items ≤ place → map line_of items ≡ slice_split is_line_feed text → found ≡ words_in_text text
+    → length items ≤ place → map line_of items ≡ slice_split is_line_feed (without_mark text) → found ≡ words_in_text text
 unfolding words_in_text
 WordsAllBut-end found place items text before past lines =
     sym (append-nil found)

@@ -13,7 +13,7 @@
 //! ```
 #![tactic(auto)]
 
-mod cut;
+mod name_parts;
 mod named;
 mod named_goal;
 mod named_set;

@@ -1,6 +1,6 @@
 //! One resource.
 
-use crate::cut::{is_part, parts_at_slash};
+use crate::name_parts::{is_part, parts_at_slash};
 use res_value::ResId;
 
 /// A resource, by its id or by its name.

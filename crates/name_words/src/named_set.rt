@@ -1,6 +1,6 @@
 //! Sets of resources.
 
-use crate::cut::{is_part, parts_at_slash};
+use crate::name_parts::{is_part, parts_at_slash};
 use crate::named::Named;
 
 /// Stands for all entries of a type, and for all resources.

@@ -3,12 +3,15 @@
 ghost use Rattle.std.specs.Prelude.{◌≡◌, map, IfOk};
 ghost use Rattle.std.specs.List.{slice_split};
 ghost use Rattle.std.specs.Option.{option_map};
-ghost use Rattle.name_words.specs.WordFile.{file_path_in, is_line_feed, is_word, words_in_text};
+ghost use Rattle.name_words.specs.WordFile.{file_path_in, is_line_feed, is_word, without_mark, words_in_text};
 
 use std::alloc::{AllocError, Global};
 
 /// Begins a word that names a file.
 const AT_SIGN: char = '@';
+
+/// The byte order mark, which some editors write at the beginning of a file.
+const BYTE_ORDER_MARK: char = '\u{feff}';
 
 /// Ends a line.
 const LINE_FEED: char = '\n';
@@ -23,12 +26,12 @@ pub fn file_path(word: &str) -> Option<&str>
     word.strip_prefix(AT_SIGN)
 }
 
-/// The words that the text of such a file has, one a line. Blank lines are passed over, and so are those that begin
-/// with `#`.
+/// The words that the text of such a file has, one a line. A byte order mark at its beginning is left out. Blank lines are
+/// passed over, and so are those that begin with `#`.
 pub fn words_in_text(alloc: Global, text: &str) -> Result<Vec<&str>, AllocError>
     ensures { IfOk result (λ words. map (λ word. word.now) words.items ≡ words_in_text text.now) }
 {
-    let lines = lines_of(alloc, text)?;
+    let lines = lines_of(alloc, without_mark(text))?;
     let mut words = Vec::new(alloc);
     for line in &lines {
         let word = line.trim();
@@ -37,6 +40,12 @@ pub fn words_in_text(alloc: Global, text: &str) -> Result<Vec<&str>, AllocError>
         }
     }
     Ok(words)
+}
+
+fn without_mark(text: &str) -> &str
+    ensures { result.now ≡ without_mark text.now }
+{
+    text.strip_prefix(BYTE_ORDER_MARK).unwrap_or(text)
 }
 
 fn lines_of(alloc: Global, text: &str) -> Result<Vec<&str>, AllocError>

@@ -1,6 +1,7 @@
 use Rattle.std.proofs.Common.{arith, ◌∙◌, ◌++◌, ◌+◌, ◌∷◌, [], List, ℕ, map, ap, sym, subst}
 use Rattle.std.proofs.lemmas.List.{map-append}
-use Rattle.name_words.specs.WordFile.{is_word}
+use Rattle.std.specs.List.{slice_split}
+use Rattle.name_words.specs.WordFile.{is_line_feed, is_word}
 use Rattle.name_words.proofs.WordFileSteps.{WordsAllBut, WordsAllBut-word, WordsAllBut-pass, WordsAllBut-end, line_of}
 use Rattle.name_words.proofs.word_file.words_in_text.Goals as goal
 use Rattle.name_words.proofs.word_file.words_in_text.Goals.{then-is_word+in_ok-push, else-is_word}
@@ -24,4 +25,4 @@ loop-line-preserved c =
     ]
 
 pub returns : goal.returns
-returns c = WordsAllBut-end _ _ _ c.args.text.now c.loop-line.invariant (omega arith) (rw c.deref-line-items.ensures.value c.in_ok-lines.ensures)
+returns c = WordsAllBut-end _ _ _ c.args.text.now c.loop-line.invariant (omega arith) (rw c.deref-line-items.ensures.value (c.in_ok-lines.ensures ∙ ap (slice_split is_line_feed) c.without_mark.ensures))
