@@ -11,7 +11,7 @@ ghost use Rattle.named_resources.specs.NamedGoals.{goals_of_word, goals_named};
 ghost use Rattle.named_resources.specs.AskedNames.{names_in_goal};
 ghost use Rattle.named_resources.specs.Finder.{Tells};
 
-use crate::asked::names_in_goals;
+use crate::asked_names::names_in_goals;
 use crate::fault::NameFault;
 use crate::finder::Finder;
 use cert_tree::Goal;

@@ -6,7 +6,7 @@ ghost use Rattle.name_words.specs.NamedSet.{named_set_of};
 ghost use Rattle.named_resources.specs.NameFault.{GivesNamed};
 ghost use Rattle.named_resources.specs.NamedIds.{id_named, ids_named};
 
-use crate::asked::{names_in_sets, push_name};
+use crate::asked_names::{names_in_sets, push_name};
 use crate::fault::NameFault;
 use crate::finder::Finder;
 use name_words::{Named, NamedSet};

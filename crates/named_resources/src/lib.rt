@@ -10,7 +10,7 @@
 //! ```
 #![tactic(auto)]
 
-mod asked;
+mod asked_names;
 mod fault;
 mod finder;
 mod goals;

@@ -4,7 +4,7 @@ use Rattle.name_index.specs.Names.{name_of}
 use Rattle.name_words.specs.Named.{named_of}
 use Rattle.named_resources.specs.AskedNames.{names_in}
 use Rattle.named_resources.proofs.AskedSteps.{JoinsBut}
-use Rattle.named_resources.proofs.asked.push_names.Given as goal
+use Rattle.named_resources.proofs.asked_names.push_names.Given as goal
 
 abbrev pub invariant-loop-named : goal.invariant-loop-named
 invariant-loop-named l =

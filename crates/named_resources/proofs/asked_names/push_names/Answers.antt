@@ -5,7 +5,7 @@ use Rattle.name_words.specs.declared.named.Named.{Named}
 use Rattle.name_words.specs.Named.{named_of}
 use Rattle.named_resources.specs.AskedNames.{names_in}
 use Rattle.named_resources.proofs.AskedSteps.{JoinsBut-end}
-use Rattle.named_resources.proofs.asked.push_names.Goals as goal
+use Rattle.named_resources.proofs.asked_names.push_names.Goals as goal
 
 pub returns : goal.returns
 returns c =

@@ -4,7 +4,7 @@ use Rattle.name_index.specs.Names.{name_of}
 use Rattle.name_words.specs.NamedSet.{named_set_of}
 use Rattle.named_resources.specs.AskedNames.{names_in_set}
 use Rattle.named_resources.proofs.AskedSteps.{JoinsBut}
-use Rattle.named_resources.proofs.asked.names_in_sets.Given as goal
+use Rattle.named_resources.proofs.asked_names.names_in_sets.Given as goal
 
 abbrev pub invariant-loop-set : goal.invariant-loop-set
 invariant-loop-set l =

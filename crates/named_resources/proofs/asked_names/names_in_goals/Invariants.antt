@@ -4,7 +4,7 @@ use Rattle.name_index.specs.Names.{name_of}
 use Rattle.name_words.specs.NamedGoal.{named_goal_of}
 use Rattle.named_resources.specs.AskedNames.{names_in_goal}
 use Rattle.named_resources.proofs.AskedSteps.{JoinsBut}
-use Rattle.named_resources.proofs.asked.names_in_goals.Given as goal
+use Rattle.named_resources.proofs.asked_names.names_in_goals.Given as goal
 
 abbrev pub invariant-loop-goal : goal.invariant-loop-goal
 invariant-loop-goal l =
