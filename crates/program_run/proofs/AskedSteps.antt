@@ -1,37 +1,46 @@
 -- How the words of an argument are read, with those of files in the place of words that name some.
-use Rattle.std.proofs.Common.{◌≡◌, ◌≢◌, ℕ, ◌+◌, ◌<◌, ◌≤◌, Bool, true, false, List, [], ◌∷◌, ◌++◌, map, drop, length, get_or, Option, Some, None, IfSome, Result, Ok, Err, Vec, String, refl, sym, ap, ◌∙◌}
+use Rattle.std.proofs.Common.{◌≡◌, ◌≢◌, ◌==◌, ℕ, ◌+◌, ◌<◌, ◌≤◌, Bool, true, false, List, [], ◌∷◌, map, drop, length, get_or, Option, Some, None, IfSome, Ok, Err, Vec, String, refl, sym, ap, ◌∙◌}
 use Rattle.std.specs.Borrow.{Bor}
 use Rattle.std.specs.Str.{is_utf8, IsUtf8}
 use Rattle.std.specs.declared.alloc.Global.{Global}
-use Rattle.std.proofs.lemmas.List.{drop_more, drop_all}
+use Rattle.std.proofs.lemmas.List.{drop_more, drop_all, length-map}
 use Rattle.std.proofs.lemmas.Str.{IsUtf8-from_is_utf8, is_utf8-from_IsUtf8}
 use Rattle.contract_words.specs.Sequences.{with_front, joined_each}
-use Rattle.contract_words.proofs.SequenceSteps.{ReadsAllBut, ReadsAllBut-none, ReadsAllBut-next, ReadsAllBut-stops, ReadsAllBut-end, with_front_nil}
+use Rattle.contract_words.proofs.SequenceSteps.{ReadsAllBut-next, ReadsAllBut-stops, ReadsAllBut-end, with_front_nil}
 use Rattle.command_base.specs.fault_text.declared.fault.ToolFault.TheVariants.{OutOfMemory}
 use Rattle.command_words.specs.name_words.WordFile.{words_in_text}
 use Rattle.program_run.specs.declared.stop.Stop.{Stop}
-use Rattle.program_run.specs.AskedWords.{words_at, words_of_file, strings_held}
+use Rattle.program_run.specs.FileWords.{words_at, words_of_file, strings_held}
 use Rattle.program_run.specs.Inputs.{Places}
-use Rattle.program_run.specs.Stop.{StopOf, not_text, stop_of, tool}
+use Rattle.program_run.specs.Stop.{not_text, no_words, stop_of, tool}
 
 -- ---- the words of a file
 
-pub words_of_text : (bytes : List ℕ) → IsUtf8 bytes → words_of_file bytes ≡ Ok (words_in_text bytes)
-unfolding words_of_file
-words_of_text bytes text = rw (is_utf8-from_IsUtf8 bytes text) refl
+abbrev pub word_of : Bor (List ℕ) → List ℕ
+word_of word = word.now
 
-pub words_of_no_text : (bytes : List ℕ) → (IsUtf8 bytes → ⊥) → words_of_file bytes ≡ Err not_text
+is_blank : (bytes : List ℕ) (words : Vec (Bor (List ℕ)) Global) → map word_of words.items ≡ words_in_text bytes → (length (words_in_text bytes) == 0) ≡ (words.len == 0)
+is_blank bytes words read = ap (λ n. n == 0) (ap length (sym read) ∙ length-map words.items word_of ∙ sym words.ok.0)
+
+pub words_of_text : (path bytes : List ℕ) (words : Vec (Bor (List ℕ)) Global) → IsUtf8 bytes → map word_of words.items ≡ words_in_text bytes → (words.len == 0) ≡ false
+    → words_of_file path bytes ≡ Ok (map word_of words.items)
 unfolding words_of_file
-words_of_no_text bytes none = go (is_utf8 bytes) refl
+words_of_text path bytes words text read some = rw (is_utf8-from_IsUtf8 bytes text, is_blank bytes words read ∙ some, read) refl
+
+pub words_of_blank_text : (path bytes : List ℕ) (words : Vec (Bor (List ℕ)) Global) → IsUtf8 bytes → map word_of words.items ≡ words_in_text bytes → (words.len == 0) ≡ true
+    → words_of_file path bytes ≡ Err (no_words path)
+unfolding words_of_file
+words_of_blank_text path bytes words text read none = rw (is_utf8-from_IsUtf8 bytes text, is_blank bytes words read ∙ none) refl
+
+pub words_of_no_text : (path bytes : List ℕ) → (IsUtf8 bytes → ⊥) → words_of_file path bytes ≡ Err not_text
+unfolding words_of_file
+words_of_no_text path bytes none = go (is_utf8 bytes) refl
   where
-    go : (is : Bool) → is_utf8 bytes ≡ is → words_of_file bytes ≡ Err not_text
+    go : (is : Bool) → is_utf8 bytes ≡ is → words_of_file path bytes ≡ Err not_text
     go true is = absurd (none (IsUtf8-from_is_utf8 bytes is))
     go false is = rw is refl
 
 -- ---- one word after the other
-
-abbrev pub word_of : Bor (List ℕ) → List ℕ
-word_of word = word.now
 
 -- where it is known what the places have: the words so far, and those that are left, are all words
 abbrev pub WordsLeft : Option Places → Vec (String Global) Global → ℕ → List (Bor (List ℕ)) → Type 0

@@ -4,7 +4,7 @@ use Rattle.contract_words.specs.Faults.{◌>>=◌}
 use Rattle.contract_words.specs.Sequences.{joined_each}
 use Rattle.command_base.specs.StackBytes.{LayerBytes}
 use Rattle.command_base.specs.fault_text.declared.side.Side.TheVariants.{Old, New}
-use Rattle.program_run.specs.AskedWords.{words_at}
+use Rattle.program_run.specs.FileWords.{words_at}
 use Rattle.program_run.specs.Inputs.{Places, file_of, device_files, layers_on_side}
 use Rattle.program_run.specs.Stop.{StopOf}
 

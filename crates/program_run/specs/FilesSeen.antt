@@ -12,7 +12,7 @@ use Rattle.program_run.specs.declared.files.AskedFiles.{AskedFiles}
 use Rattle.program_run.specs.declared.files.CheckFiles.{CheckFiles}
 use Rattle.program_run.specs.declared.files.DiffFiles.{DiffFiles}
 use Rattle.program_run.specs.AskedFiles.{AskedInputs, CheckInputs, DiffInputs}
-use Rattle.program_run.specs.AskedWords.{strings_held}
+use Rattle.program_run.specs.FileWords.{strings_held}
 use Rattle.program_run.specs.Inputs.{MapInputs, SurveyInputs, ShowInputs, DeviceInputs}
 
 abbrev pub bytes_of : Vec ℕ Global → List ℕ

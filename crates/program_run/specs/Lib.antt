@@ -3,7 +3,7 @@ pub mod Stop
 pub mod Place
 pub mod Inputs
 pub mod FilesSeen
-pub mod AskedWords
+pub mod FileWords
 pub mod AskedFiles
 pub mod Ending
 pub use Rattle.command_base.specs as command_base

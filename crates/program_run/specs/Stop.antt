@@ -23,10 +23,12 @@ pub data StopOf : Type 0 where
   -- the words are no command line, or ask for help or the version
   command_line : ErrorKind → StopOf
   not_text : StopOf
+  -- the file of words at this path has none
+  no_words : List ℕ → StopOf
   bad_id : List ℕ → StopOf
   -- the file at this path was not read
   file : List ℕ → StopOf
-  -- no layer has a resource of this name
+  -- this word, a name or for `diff` an id, stands for no resource of the base layers
   no_resource : List ℕ → StopOf
   tool : ToolFault → StopOf
 
@@ -38,6 +40,7 @@ stop_of_words OutOfMemory = tool faults.OutOfMemory
 
 abbrev pub stop_of : Stop → StopOf
 stop_of (stops.Words fault) = stop_of_words fault
+stop_of (stops.NoWords path) = no_words path.now
 stop_of (stops.WordOfFile word) = bad_id (string_bytes word)
 stop_of (stops.File path) = file path.now
 stop_of (stops.LayerFile path) = file (string_bytes path)
@@ -78,6 +81,7 @@ is_output _ = false
 abbrev pub stop_line : StopOf → Option (List ℕ)
 stop_line (command_line kind) = None
 stop_line not_text = Some (codes "command: a word is not UTF-8" ++ 10 ∷ [])
+stop_line (no_words path) = Some (codes "command: no words in " ++ path ++ 10 ∷ [])
 stop_line (bad_id word) = Some (codes "command: bad id " ++ word ++ 10 ∷ [])
 stop_line (file path) = Some (codes "file: " ++ path ++ 10 ∷ [])
 stop_line (no_resource name) = Some (codes "no resource " ++ name ++ 10 ∷ [])
@@ -88,6 +92,7 @@ abbrev pub status_of_stop : Bool → StopOf → ExitStatus
 status_of_stop was_written (command_line kind) =
     if is_asked_for kind then (if was_written then Done else Failed) else BadCommandLine
 status_of_stop was_written not_text = BadCommandLine
+status_of_stop was_written (no_words path) = BadCommandLine
 status_of_stop was_written (bad_id word) = BadCommandLine
 status_of_stop was_written (file path) = Failed
 status_of_stop was_written (no_resource name) = Negative

@@ -3,7 +3,7 @@
 ghost use Rattle.std.specs.Prelude.{◌≡◌, ◌++◌, map, IfSome, OnOk, string_bytes};
 ghost use Rattle.contract_words.specs.Sequences.{joined_each, with_front};
 ghost use Rattle.json_input.specs.Each.{each};
-ghost use Rattle.program_run.specs.AskedWords.{words_at, words_of_file, set_asked, goal_asked, strings_held, sets_held, goals_held};
+ghost use Rattle.program_run.specs.FileWords.{words_at, words_of_file, set_asked, goal_asked, strings_held, sets_held, goals_held};
 ghost use Rattle.program_run.specs.Stop.{GivesOrStops};
 ghost use Rattle.command_words.specs.name_words.NamedGoal.{named_goal_of};
 ghost use Rattle.command_words.specs.name_words.NamedSet.{named_set_of};
@@ -15,7 +15,8 @@ use command_words::{GoalFault, NamedGoal, NamedSet, WordsFault, file_path, words
 use std::alloc::{AllocError, Global};
 use std::str;
 
-/// The words of an argument that takes several, and in the place of each that names a file those of the file.
+/// The words of an argument that takes several, and in the place of each that names a file those of the file, which has to
+/// have some.
 pub fn asked_words<'a, I: Inputs>(
     alloc: Global,
     inputs: &I,
@@ -31,7 +32,7 @@ pub fn asked_words<'a, I: Inputs>(
     Ok(asked)
 }
 
-#[tactic(auto, unfolding(crate::specs::AskedWords::words_at))]
+#[tactic(auto, unfolding(crate::specs::FileWords::words_at))]
 fn push_words<'a, I: Inputs>(
     alloc: Global,
     inputs: &I,
@@ -44,22 +45,27 @@ fn push_words<'a, I: Inputs>(
     match file_path(word) {
         Some(path) => {
             let bytes = file_bytes(inputs, path)?;
-            push_words_of_file(alloc, &bytes, asked)
+            push_words_of_file(alloc, path, &bytes, asked)
         }
         None => Ok(push_each(alloc, &[word], asked)?),
     }
 }
 
-fn push_words_of_file(
+fn push_words_of_file<'a>(
     alloc: Global,
+    path: &'a str,
     bytes: &[u8],
     asked: &mut Vec<String>,
-) -> Result<(), Stop<'static>>
-    ensures { GivesOrStops (λ _. strings_held asked.new) result (with_front (strings_held asked.old) (words_of_file bytes.now)) }
+) -> Result<(), Stop<'a>>
+    ensures { GivesOrStops (λ _. strings_held asked.new) result
+        (with_front (strings_held asked.old) (words_of_file path.entry.now bytes.now)) }
 {
     match str::from_utf8(bytes) {
         Ok(text) => {
             let words = words_in_text(alloc, text)?;
+            if words.is_empty() {
+                return Err(Stop::NoWords(path));
+            }
             Ok(push_each(alloc, &words, asked)?)
         }
         Err(_) => Err(Stop::Words(WordsFault::NotText)),

@@ -11,7 +11,7 @@ pub enum ExitStatus {
     /// is rejected, or cannot be made; or an id map leaves out ids or references of its overlay; or a survey
     /// finds what a device may read otherwise; or a change alters something.
     Negative = 1,
-    /// A bad command line, or an argument that is neither a resource id nor a name.
+    /// A bad command line, or an argument that is neither a resource id nor a name, or a file of words that has none.
     BadCommandLine = 2,
     /// An input was refused.
     Refused = 3,

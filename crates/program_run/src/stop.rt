@@ -21,13 +21,15 @@ use std::io::{self, Write};
 pub enum Stop<'a> {
     /// The words ask for nothing that can be done.
     Words(WordsFault<'a>),
+    /// The file of words at this path has none.
+    NoWords(&'a str),
     /// This word of a file asks for no resource, or for no goal where goals are asked.
     WordOfFile(String),
     /// The file at this path was not read.
     File(&'a str),
     /// The file of a layer was not read, whose path a list of layers names.
     LayerFile(String),
-    /// No layer has a resource of this name.
+    /// This word, a name or for `diff` an id, stands for no resource of the base layers.
     NoResource(String),
     /// The command failed.
     Tool(ToolFault),
@@ -78,6 +80,7 @@ impl Stop<'_> {
     {
         match self {
             Stop::Words(fault) => write_fault_of_words(fault, out, errors),
+            Stop::NoWords(path) => write_line("command: no words in ", path, errors),
             Stop::WordOfFile(word) => write_bad_id(word.as_str(), errors),
             Stop::File(path) => write_line("file: ", path, errors),
             Stop::LayerFile(path) => write_line("file: ", path.as_str(), errors),
@@ -92,7 +95,7 @@ impl Stop<'_> {
     {
         match self {
             Stop::Words(fault) => status_after_words(fault, was_written),
-            Stop::WordOfFile(_) => ExitStatus::BadCommandLine,
+            Stop::NoWords(_) | Stop::WordOfFile(_) => ExitStatus::BadCommandLine,
             Stop::File(_) | Stop::LayerFile(_) => ExitStatus::Failed,
             Stop::NoResource(_) => ExitStatus::Negative,
             Stop::Tool(fault) => ExitStatus::after_fault(fault),

@@ -14,7 +14,7 @@ use Rattle.program_run.specs.named_resources.NamedGoals.{goals_named}
 use Rattle.program_run.specs.named_resources.NamedIds as names
 use Rattle.program_run.specs.named_resources.NamedPairs.{pairs_named}
 use Rattle.program_run.specs.command_words.name_words.Named.{NamedOf}
-use Rattle.program_run.specs.AskedWords.{set_asked, goal_asked}
+use Rattle.program_run.specs.FileWords.{set_asked, goal_asked}
 use Rattle.program_run.specs.Inputs.{or_stop}
 use Rattle.program_run.specs.Stop.{StopOf, no_resource, tool}
 use Rattle.resource_tool.specs.cert_tree.res_value.declared.res_id.ResId.{ResId}

@@ -1,6 +1,6 @@
 use Rattle.std.proofs.Common.{map, string_bytes}
 use Rattle.json_input.proofs.EachSteps.{EachAllBut}
-use Rattle.program_run.specs.AskedWords.{goal_asked, goals_held}
+use Rattle.program_run.specs.FileWords.{goal_asked, goals_held}
 use Rattle.program_run.proofs.asked.asked_goals.Given as goal
 
 -- those of the words so far

@@ -2,7 +2,7 @@ use Rattle.std.proofs.Common.{◌≡◌, Err, String, string_bytes, subst}
 use Rattle.std.specs.declared.alloc.Global.{Global}
 use Rattle.std.proofs.lemmas.Result.{err_from_is_err_and}
 use Rattle.json_input.proofs.EachSteps.{EachAllBut-stops_item}
-use Rattle.program_run.specs.AskedWords.{set_asked}
+use Rattle.program_run.specs.FileWords.{set_asked}
 use Rattle.program_run.specs.Stop.{stop_of}
 use Rattle.program_run.proofs.asked.asked_sets.Goals as goal
 

@@ -1,5 +1,5 @@
 use Rattle.std.proofs.Common.{◌≡◌, ◌++◌, map, take}
-use Rattle.program_run.specs.AskedWords.{strings_held}
+use Rattle.program_run.specs.FileWords.{strings_held}
 use Rattle.program_run.proofs.asked.push_each.Given as goal
 
 -- the words so far are pushed

@@ -1,25 +1,28 @@
 -- What the words of an argument ask that takes several.
-use Rattle.std.specs.Prelude.{ℕ, List, [], ◌∷◌, map, ok_or, Option, Some, None, Result, Ok, Err, Vec, String, string_bytes, if◌then◌else◌}
+use Rattle.std.specs.Prelude.{ℕ, ◌==◌, not, List, [], ◌∷◌, length, map, ok_or, Option, Some, None, Result, Ok, Vec, String, string_bytes}
 use Rattle.std.specs.Str.{is_utf8}
 use Rattle.std.specs.Result.{result_ok}
 use Rattle.std.specs.declared.alloc.Global.{Global}
-use Rattle.contract_words.specs.Faults.{◌>>=◌}
+use Rattle.contract_words.specs.Faults.{◌>>=◌, refuse}
 use Rattle.command_words.specs.name_words.declared.named_set.NamedSet.{NamedSet}
 use Rattle.command_words.specs.name_words.declared.named_goal.NamedGoal.{NamedGoal}
 use Rattle.command_words.specs.name_words.NamedSet.{NamedSetOf, named_set_of, named_set_in}
 use Rattle.command_words.specs.name_words.NamedGoal.{NamedGoalOf, named_goal_of, named_goal_in}
 use Rattle.command_words.specs.name_words.WordFile.{file_path_in, words_in_text}
 use Rattle.program_run.specs.Inputs.{Places, file_of}
-use Rattle.program_run.specs.Stop.{StopOf, not_text, bad_id}
+use Rattle.program_run.specs.Stop.{StopOf, not_text, no_words, bad_id}
 
--- the words of a file, which has to be UTF-8
-unfoldable pub words_of_file : List ℕ → Result (List (List ℕ)) StopOf
-words_of_file bytes = if is_utf8 bytes then Ok (words_in_text bytes) else Err not_text
+-- the words of the file at a path, which has to be UTF-8 and to have a word
+unfoldable pub words_of_file : List ℕ → List ℕ → Result (List (List ℕ)) StopOf
+words_of_file path bytes = do
+  _ ← refuse (not (is_utf8 bytes)) not_text
+  _ ← refuse (length (words_in_text bytes) == 0) (no_words path)
+  Ok (words_in_text bytes)
 
 -- those of the file that a word may name
 abbrev pub words_in_place_of : Places → List ℕ → Option (List ℕ) → Result (List (List ℕ)) StopOf
 words_in_place_of places word None = Ok (word ∷ [])
-words_in_place_of places word (Some path) = file_of places path >>= λ bytes. words_of_file bytes
+words_in_place_of places word (Some path) = file_of places path >>= λ bytes. words_of_file path bytes
 
 -- a word, or in its place those of the file that it names
 unfoldable pub words_at : Places → List ℕ → Result (List (List ℕ)) StopOf
