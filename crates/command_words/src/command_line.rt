@@ -24,7 +24,8 @@ Exit status:
      or a certificate is rejected or cannot be made, or an id map leaves out ids or
      references of its overlay, or a survey finds what a device may read otherwise,
      or a change alters something
-  2  bad command line, or an argument that is neither a resource id nor a name
+  2  bad command line, or an argument that is neither a resource id nor a name,
+     or a file of words that has none
   3  an input was refused
   4  out of memory
   5  a file could not be read, the output could not be written, or an input is
@@ -74,12 +75,12 @@ const USAGES: &[Usage] = &[
     },
     Usage {
         name: MAP,
-        about: "Prints the id map of an overlay, made from the names of its resources",
+        about: "Prints an overlay's id map, made from names; what it leaves out goes to standard error, with status 1",
         arguments: &[TARGET, OVERLAY],
     },
     Usage {
         name: SURVEY,
-        about: "Prints what of tables a device may read otherwise, their qualifiers, and those that a box lacks",
+        about: "Prints warnings about the tables, the qualifiers of their rows, and those that a box lacks",
         arguments: &[LAYERS, MAYBE_BOX],
     },
     Usage {
@@ -232,7 +233,8 @@ pub(crate) const IDS: Argument = Argument {
 pub(crate) const COMPARED: Argument = Argument {
     name: "NAME",
     takes: Takes::MaybeWords,
-    help: "Resource to compare, by its name or its id, as for query; without one, all",
+    help: "Resource to compare, by its id or its name, such as 0x7f010000 or dimen/margin; dimen/* for \
+           all of a type, * for all, @FILE for those in a file, one a line; without one, all",
 };
 
 pub(crate) const GOALS: Argument = Argument {
@@ -278,7 +280,7 @@ pub(crate) const NAMES: Argument = Argument {
 const GOAL_NAMES: Argument = Argument {
     name: "names",
     takes: Takes::Nothing,
-    help: "Print on standard error which goal is meant, with its names",
+    help: "If a goal is rejected or has no value, print on standard error which, with its names",
 };
 
 pub(crate) const OMIT: Argument = Argument {
