@@ -3,25 +3,64 @@
 
     check_names.py PROGRAM CASES [JOBS [FIRST]]
 
-Words are ids, names, `TYPE/*`, `*` and files of them, some misspelt. A query of words has to print what a query of the ids
-prints that they stand for, and a certificate of goals what one of their ids has. The tables are those of named_tables.py, and
-the cases are numbered from FIRST on, which is 0 if it is not given. The last line counts what was compared."""
+Words are ids, names, `TYPE/*`, `*` and files of them, some misspelt; some files have no word, or are no text. A query of words
+has to print what a query of the ids prints that they stand for, and a certificate of goals what one of their ids has. The
+tables are those of named_tables.py, and the cases are numbered from FIRST on, which is 0 if it is not given. The last line
+counts what was compared."""
 import json
 import os
 import random
+import re
 import subprocess
 import sys
 import tempfile
+from collections import Counter
 from concurrent.futures import ProcessPoolExecutor
 
 from named_tables import ENTRY_NAMES, TYPE_NAMES, Table, random_id
 from plain_certificates import id_text
 
 MOST_STYLES = 3
+MARK = "\ufeff"
+"""The byte order mark."""
+WHITE_SPACE = "\t\n\v\f\r \x85\xa0\u1680\u2000\u2001\u2002\u2003\u2004\u2005\u2006\u2007\u2008\u2009\u200a\u2028\u2029\u202f\u205f\u3000"
+ONE = r"(?:0x[0-9a-fA-F]{8}|[^*,@/]+/[^*,@]+)"
+SET = re.compile(rf"\*|[^*,@/]+/\*|{ONE}")
+GOAL = re.compile(rf"{SET.pattern}|{ONE}@{ONE}(?:,{ONE}){{0,63}}")
+
+
+class Stop(Exception):
+    """The line with which a command stops at its words."""
 
 
 class Missing(Exception):
     """The text of a name that is not there."""
+
+
+def words_in(folder, path):
+    """The words of a file, one a line."""
+    with open(os.path.join(folder, path), "rb") as file:
+        content = file.read()
+    try:
+        text = content.decode()
+    except UnicodeDecodeError:
+        raise Stop("command: a word is not UTF-8") from None
+    lines = [line.strip(WHITE_SPACE) for line in text.removeprefix(MARK).split("\n")]
+    words = [line for line in lines if line and not line.startswith("#")]
+    if not words:
+        raise Stop(f"command: no words in {path}")
+    return words
+
+
+def words_asked(folder, asked, form):
+    """The words of a command line, with those of files in the place of words that name some. Each has to have this form."""
+    words = []
+    for word in asked:
+        words += words_in(folder, word[1:]) if word.startswith("@") else [word]
+    for word in words:
+        if not form.fullmatch(word):
+            raise Stop(f"command: bad id {word}")
+    return words
 
 
 def bases(layers):
@@ -92,48 +131,68 @@ class Words:
         return f"{self.one()}@{','.join(styles)}"
 
 
+def file_of(chance, words):
+    """A file with these words, one a line, and with lines that have none."""
+    blanks, lines = ("", "", " ", "\t", "\u3000"), []
+    for word in [*words, None]:
+        lines += chance.sample(["", "# more", "  ", "\t#"], chance.choice((0, 0, 1, 2)))
+        if word is not None:
+            lines.append(chance.choice(blanks) + word + chance.choice(blanks))
+    end = chance.choice(("\n", "\r\n"))
+    text = chance.choice(("", MARK)) + end.join(lines) + chance.choice(("", end))
+    return text.encode()
+
+
+def write(folder, name, content):
+    with open(os.path.join(folder, name), "wb") as out:
+        out.write(content)
+    return f"@{name}"
+
+
 def written(chance, folder, words):
     """The words, of which some stand in a file."""
     if chance.random() < 0.6 or not words:
-        return words
+        return list(words)
     begin = chance.randrange(len(words))
-    end = chance.randint(begin, len(words))
-    lines = []
-    for word in words[begin:end]:
-        lines += chance.sample(["", "# more", "  "], chance.choice((0, 0, 1)))
-        lines.append(chance.choice(("", " ", "\t")) + word + chance.choice(("", " ", "\r")))
-    with open(os.path.join(folder, "words"), "w", encoding="utf-8", newline="") as out:
-        out.write("\n".join(lines) + chance.choice(("", "\n")))
-    return words[:begin] + ["@words"] + words[end:]
+    end = chance.randint(begin + 1, len(words))
+    return [*words[:begin], write(folder, "words", file_of(chance, words[begin:end])), *words[end:]]
+
+
+def with_odd_files(chance, folder, words):
+    """These words, and files that may have none, or have some that are odd, or are no text."""
+    words = written(chance, folder, words)
+    for name in ("odd", "odder")[: chance.choice((0, 0, 0, 1, 2))]:
+        some = [word for word in words if not word.startswith("@")][:1]
+        some += chance.choice(([], [word + " # more" for word in some], [MARK + word for word in some]))
+        content = file_of(chance, chance.choice(([], some, some[::-1])))
+        words.insert(chance.randint(0, len(words)), write(folder, name, content + chance.choice((b"", b"", b"", b"\xff"))))
+    return words
 
 
 def write_layers(chance, folder):
     layers = [(Table(chance), chance.random() < 0.2) for _ in range(chance.randint(1, 3))]
     entries = []
     for place, (table, is_overlay) in enumerate(layers):
-        with open(os.path.join(folder, f"table{place}"), "wb") as out:
-            out.write(table.bytes)
+        write(folder, f"table{place}", table.bytes)
         entries.append({"table": f"table{place}", **({"map": "map"} if is_overlay else {})})
     for name, value in (("layers", entries), ("map", []), ("device", {"density": 160}), ("box", {"density": [160]})):
-        with open(os.path.join(folder, name), "w", encoding="ascii") as out:
-            json.dump(value, out)
+        write(folder, name, json.dumps(value).encode())
     return layers
 
 
-def compare(program, folder, command, words, find):
-    """How a command's answer for words differs from that for what they stand for, and whether a name was missing."""
+def compare(program, folder, command, asked, form, find):
+    """How a command's answer for words differs from that for what they stand for, and why there is none, if there is none."""
     run = lambda words: subprocess.run([program, *command, *words], cwd=folder, capture_output=True)
-    asked, words = words
-    done = run(asked)
-    said = done.stdout, done.stderr, done.returncode
+    done, told = run(asked), "answered"
     try:
-        plain = [found for word in words for found in find(word)]
+        same = run([found for word in words_asked(folder, asked, form) for found in find(word)])
+        wanted = same.stdout, same.stderr, same.returncode
+    except Stop as line:
+        wanted, told = (b"", f"{line}\n".encode(), 2), str(line).split("command: ")[1][:8]
     except Missing as name:
-        wanted = b"", f"no resource {name}\n".encode(), 1
-        return "" if said == wanted else f"{asked}: {said}, wanted {wanted}", 1
-    same = run(plain)
-    wanted = same.stdout, same.stderr, same.returncode
-    return "" if said == wanted else f"{asked}: {said}, wanted {wanted}", 0
+        wanted, told = (b"", f"no resource {name}\n".encode(), 1), "no resource"
+    said = done.stdout, done.stderr, done.returncode
+    return "" if said == wanted else f"{asked}: {said}, wanted {wanted}", told
 
 
 def check_case(program, number):
@@ -141,27 +200,23 @@ def check_case(program, number):
     with tempfile.TemporaryDirectory() as folder:
         layers = write_layers(chance, folder)
         words = Words(chance, layers)
-        sets = [words.several() for _ in range(chance.randint(1, 5))]
-        asked = written(chance, folder, sets), sets
-        query = ["query", "layers", "device"]
-        fault, missing = compare(program, folder, query, asked, lambda word: map(id_text, ids_named(layers, word)))
-        goals = [words.goal() for _ in range(chance.randint(1, 3))]
-        asked = written(chance, folder, goals), goals
-        make = ["make", "layers", "box"]
-        other, also_missing = compare(program, folder, make, asked, lambda word: goals_named(layers, word))
-    return "".join(f"case {number}: {it}\n" for it in (fault, other) if it), missing + also_missing
+        asked = with_odd_files(chance, folder, [words.several() for _ in range(chance.randint(1, 5))])
+        of_sets = compare(program, folder, ["query", "layers", "device"], asked, SET, lambda word: map(id_text, ids_named(layers, word)))
+        asked = with_odd_files(chance, folder, [words.goal() for _ in range(chance.randint(1, 3))])
+        of_goals = compare(program, folder, ["make", "layers", "box"], asked, GOAL, lambda word: goals_named(layers, word))
+    return [f"case {number}: {fault}" for fault, _ in (of_sets, of_goals) if fault], [told for _, told in (of_sets, of_goals)]
 
 
 def main():
     program, cases = os.path.abspath(sys.argv[1]), int(sys.argv[2])
     jobs, first = (int(word) for word in (sys.argv[3:] + ["1", "0"][len(sys.argv) - 3 :])[:2])
-    all_missing = wrong = 0
+    all_told, wrong = Counter(), 0
     with ProcessPoolExecutor(jobs) as pool:
-        for fault, missing in pool.map(check_case, [program] * cases, range(first, first + cases), chunksize=8):
-            all_missing, wrong = all_missing + missing, wrong + bool(fault)
-            if fault:
-                print(fault, end="")
-    print(f"{cases} cases: {2 * cases} answers, {all_missing} with a name that is not there")
+        for faults, told in pool.map(check_case, [program] * cases, range(first, first + cases), chunksize=8):
+            all_told.update(told)
+            wrong += bool(faults)
+            print(*faults, sep="\n", end="\n" if faults else "")
+    print(f"{cases} cases: {', '.join(f'{what} {all_told[what]}' for what in sorted(all_told))}")
     sys.exit(wrong > 0)
 
 

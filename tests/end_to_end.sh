@@ -564,6 +564,8 @@ same "names in place of ids" "0x7f030000 0x7f050000" dimen/handle string/title
 printf '%s\n' '# sizes' '' 'dimen/handle' ' string/title ' >"$work/words"
 same "all of a type, and a file of words" "0x7f030000 0x7f030001 0x7f030002 0x7f030003 0x7f030000 0x7f050000" 'dimen/*' \
     "@$work/words"
+printf '\357\273\277# sizes\r\n\r\ndimen/handle\r\n string/title' >"$work/words"
+same "a byte order mark, and lines that end with CR LF" "0x7f030000 0x7f050000" "@$work/words"
 ids=$("$program" rows examples/teapot/resources.arsc | sed -n 's/^row \(0x[0-9a-f]*\) .*/\1/p' | sort -u | tr '\n' ' ')
 same "all resources" "$ids" '*'
 
@@ -585,6 +587,13 @@ check "a file of words names no other" 2 $none "$work/word.err" query $layers $p
 printf 'dimen/handle\n\377\n' >"$work/words"
 line text.err 'command: a word is not UTF-8'
 check "a file of words that is no text" 2 $none "$work/text.err" query $layers $phone "@$work/words"
+line blank.err "command: no words in $work/blank"
+printf '\357\273\277# sizes\r\n \n' >"$work/blank"
+check "a file of words that has none" 2 $none "$work/blank.err" query $layers $phone "@$work/blank" "@$work/words" @absent
+check "no certificate of no words" 2 $none "$work/blank.err" make $layers examples/porcelain/phones.json "@$work/blank"
+check "no styles in a file" 2 $none "$work/blank.err" attr $layers $phone 0x01010000 "@$work/blank"
+check "no change of no words" 2 $none "$work/blank.err" diff $layers $layers examples/porcelain/phones.json "@$work/blank"
+check "the first file of words that is wrong" 2 $none "$work/text.err" query $layers $phone "@$work/words" "@$work/blank"
 line file.err 'file: absent'
 check "files come before the words in them" 5 $none "$work/file.err" query absent $phone "@$work/words"
 check "an absent file of words" 5 $none "$work/file.err" query $layers $phone @absent

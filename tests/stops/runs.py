@@ -46,6 +46,7 @@ LAYER_FILES = [LAYERS, TEAPOT, PORCELAIN, "examples/porcelain/map.json"]
 OF_PHONE = [*LAYER_FILES, PHONE]
 PHONES = "examples/porcelain/phones.json"
 CERTIFICATE, WRONG = "examples/porcelain/certificate.json", "examples/porcelain/wrong.json"
+NAMED = "examples/release/goals.txt"
 COPPER = "examples/copper/layers.json"
 COPPER_FILES = [COPPER, *LAYER_FILES[1:], "examples/copper/resources.arsc", "examples/copper/map.json"]
 TABLET = ["rich-overlay.layers.json", "tablet-de.device.json"]
@@ -157,6 +158,8 @@ def device_runs():
     yield Run("query", [*query, "0x7f050000"], OF_PHONE, out=lines(TITLE, "set-aside 1"))
     named = TITLE.replace(" ", ' "string"/"title" ', 1)
     yield Run("query --names", ["query", "--names", *query[1:], "0x7f050000"], OF_PHONE, out=lines(named, "set-aside 1"))
+    found = "0x7f060000 value layer 1 false", "0x7f020001 value layer 0 rgb8 #ff402000", "0x7f030000 value layer 0 dimension 13/2^0 dp"
+    yield Run("a file of words", [*query, f"@{NAMED}"], [*OF_PHONE, NAMED], out=lines(*found, TITLE, "set-aside 1"))
     absent = "0x7f050009"
     yield Run("absent", [*query, absent], OF_PHONE, 1, lines(f"{absent} absent {absent}", "set-aside 1"))
     yield Run("explain", ["explain", LAYERS, PHONE, "0x7f050002"], OF_PHONE, out=EXPLAINED)
@@ -234,6 +237,8 @@ def made_runs(folder):
     words = ["map", "target", "misspelled"]
     unmapped = 'unmapped 0x7f040000 "dimen"/"handel"\n'
     yield Run("lines of map", words, words[1:], 1, WITHOUT_HANDLE, unmapped, folder)
+    blank = ["query", "layers", "device", "@empty"]
+    yield Run("a file without words", blank, [*read, "empty"], 2, err="command: no words in empty\n", folder=folder)
     of_change = ["old", "long", *read]
     words = ["diff", "old", "layers", "device"]
     yield Run("refused after a change", words, of_change, 3, err=line.replace("layer", "new layer"), folder=folder)

@@ -121,6 +121,7 @@ def reading_rows():
     yield read("NamedGoal::read", STYLED, named)
     yield read("NamedGoal::read", "0x01010001@", "Malformed")
     yield read("words_in_text", "# sizes\n\n  dimen/* \ns/k", '["dimen/*", "s/k"]')
+    yield read("words_in_text", "\ufeff# sizes\r\ndimen/*\r\n", '["dimen/*"]')
     yield read("LayerList::read", '[{"table":"a"},{"table":"b","map":"m"}]', '[("a", None), ("b", Some("m"))]')
     yield read("LayerList::read", "{}", "Shape")
     yield read("open_side", "A", "1")

@@ -1,5 +1,6 @@
-//! Names, as tests over the public calls: which words ask for resources and goals, which resources have a name in
-//! tables, which ids words ask for over a stack, and which names two stacks have. Nothing stands on this crate.
+//! Names, as tests over the public calls: which words ask for resources and goals, which words a file has, which
+//! resources have a name in tables, which ids words ask for over a stack, and which names two stacks have. Nothing stands
+//! on this crate.
 #![tactic(auto)]
 
 #[cfg(test)]
@@ -14,5 +15,7 @@ mod named_stack;
 mod pairs;
 #[cfg(test)]
 mod tables;
+#[cfg(test)]
+mod word_files;
 #[cfg(test)]
 mod words;
