@@ -30,7 +30,7 @@ GOAL = re.compile(rf"{SET.pattern}|{ONE}@{ONE}(?:,{ONE}){{0,63}}")
 
 
 class Stop(Exception):
-    """The line with which a command stops at its words."""
+    """Why a command stops at its words, and how the line ends that says so."""
 
 
 class Missing(Exception):
@@ -44,11 +44,11 @@ def words_in(folder, path):
     try:
         text = content.decode()
     except UnicodeDecodeError:
-        raise Stop("command: a word is not UTF-8") from None
+        raise Stop("a word is", "not UTF-8") from None
     lines = [line.strip(WHITE_SPACE) for line in text.removeprefix(MARK).split("\n")]
     words = [line for line in lines if line and not line.startswith("#")]
     if not words:
-        raise Stop(f"command: no words in {path}")
+        raise Stop("no words in", path)
     return words
 
 
@@ -59,7 +59,7 @@ def words_asked(folder, asked, form):
         words += words_in(folder, word[1:]) if word.startswith("@") else [word]
     for word in words:
         if not form.fullmatch(word):
-            raise Stop(f"command: bad id {word}")
+            raise Stop("bad id", word)
     return words
 
 
@@ -161,7 +161,7 @@ def written(chance, folder, words):
 def with_odd_files(chance, folder, words):
     """These words, and files that may have none, or have some that are odd, or are no text."""
     words = written(chance, folder, words)
-    for name in ("odd", "odder")[: chance.choice((0, 0, 0, 1, 2))]:
+    for name in ("odd", "odder")[: chance.choice((0, 0, 0, 0, 0, 0, 1, 2))]:
         some = [word for word in words if not word.startswith("@")][:1]
         some += chance.choice(([], [word + " # more" for word in some], [MARK + word for word in some]))
         content = file_of(chance, chance.choice(([], some, some[::-1])))
@@ -187,8 +187,9 @@ def compare(program, folder, command, asked, form, find):
     try:
         same = run([found for word in words_asked(folder, asked, form) for found in find(word)])
         wanted = same.stdout, same.stderr, same.returncode
-    except Stop as line:
-        wanted, told = (b"", f"{line}\n".encode(), 2), str(line).split("command: ")[1][:8]
+    except Stop as stop:
+        told, rest = stop.args
+        wanted = b"", f"command: {told} {rest}\n".encode(), 2
     except Missing as name:
         wanted, told = (b"", f"no resource {name}\n".encode(), 1), "no resource"
     said = done.stdout, done.stderr, done.returncode
