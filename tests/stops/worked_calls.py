@@ -38,7 +38,16 @@ def device(density, locale=0):
     return f"Device {{ numbers: {numbers} }}"
 
 
-def certificate(*nodes, goal=f'"id":"{ID}"', version=1):
+ID_GOAL = f'"id":"{ID}"'
+
+
+def under(attr, *styles):
+    """The goal of an attribute under styles, as a certificate has it."""
+    listed = ",".join(f'"{style}"' for style in styles)
+    return f'"attr":"{attr}","styles":[{listed}]'
+
+
+def certificate(*nodes, goal=ID_GOAL, version=1):
     return f'{{"version":{version},"goals":[{{{goal},"nodes":[{",".join(nodes)}]}}]}}'
 
 
@@ -60,7 +69,8 @@ def written_leaf(word):
 
 AT_MOST_197 = '{"coord":"density","atMost":197}'
 STYLED = f"0x01010001@{ID}"
-STYLED_GOAL = f'"attr":"0x01010001","styles":["{ID}"]'
+STYLED_GOAL = under("0x01010001", ID)
+UNSET_GOAL = under("0x01010002", ID)
 MEDIUM = '{"density":160}'
 MEDIUM_BOX = '{"density":[160]}'
 DENSITIES = "0 [density=160] 1\n0 [density=320] 2"
@@ -115,8 +125,6 @@ def reading_rows():
     yield read("Cert::read", certificate(leaf(1), version=3), "Version")
     yield read("Cert::read", certificate('{"bag":5}'), "Shape(0, 0)")
     yield read("Cert::write", certificate(leaf(1)), written(WRITTEN_ID, written_leaf(1)))
-    yield read("Goal::read", STYLED, f"Attr {{ attr: {A}, styles: [{FIRST}] }}")
-    yield read("Goal::read", "0x01010001@", "Malformed")
     named = f"Attr {{ attr: Id({A}), styles: [Id({FIRST})] }}"
     yield read("NamedGoal::read", STYLED, named)
     yield read("NamedGoal::read", "0x01010001@", "Malformed")
@@ -204,15 +212,15 @@ def stack_rows():
 def goal_rows():
     """Goals of both kinds."""
 
-    def ask(name, table, members, answer, goal=ID, nodes=""):
-        return row("goal_calls", [name, table, members, goal, nodes], answer)
+    def ask(name, table, members, answer, goal=ID_GOAL, nodes=""):
+        return row("goal_calls", [name, table, members, certificate(goal=goal, version=2), nodes], answer)
 
     yield ask("Live::new", LOCALES, BOTH_LOCALES, f"(Plain({ONE}), false)\n(Plain({TWO}), false)")
     yield ask("half", LOCALES, BOTH_LOCALES, f"(Plain({TWO}), true)")
-    yield ask("goal_end", STYLED_DENSITIES, MEDIUM_BOX, value(ONE), STYLED)
+    yield ask("goal_end", STYLED_DENSITIES, MEDIUM_BOX, value(ONE), STYLED_GOAL)
     two_styles = "0 [] bag 0x00000000 0x01010001=1\n1 [] bag 0x00000000 0x01010001=7"
-    yield ask("goal_end", two_styles, MEDIUM_BOX, value(SEVEN), f"{STYLED},0x7f010001")
-    yield ask("goal_end", two_styles, MEDIUM_BOX, absent(B), f"0x01010002@{ID}")
+    yield ask("goal_end", two_styles, MEDIUM_BOX, value(SEVEN), under("0x01010001", ID, "0x7f010001"))
+    yield ask("goal_end", two_styles, MEDIUM_BOX, absent(B), UNSET_GOAL)
     yield from check_rows(ask)
     yield from make_rows(ask)
     yield from diff_rows(ask)
@@ -224,13 +232,13 @@ def check_rows(ask):
     mixed = f"Rejected {{ goal: 0, node: 0, rule: MixedTrace, shown: Two({device(198)}, {device(197)}) }}"
     yield ask("check", DENSITIES, TO_198, mixed, nodes=certificate(leaf(1)))
     two_leaves = certificate(AT_MOST_197, leaf(1), leaf(2), goal=STYLED_GOAL, version=2)
-    yield ask("check", STYLED_DENSITIES, TO_198, "Accepted", STYLED, two_leaves)
+    yield ask("check", STYLED_DENSITIES, TO_198, "Accepted", STYLED_GOAL, two_leaves)
     one_leaf = certificate(leaf(1), goal=STYLED_GOAL, version=2)
-    yield ask("check", STYLED_DENSITIES, TO_198, mixed, STYLED, one_leaf)
-    ninth = '"attr":"0x01010001","styles":["0x7f010009"]'
+    yield ask("check", STYLED_DENSITIES, TO_198, mixed, STYLED_GOAL, one_leaf)
+    ninth = under("0x01010001", "0x7f010009")
     valueless = f"Rejected {{ goal: 0, node: 0, rule: NoValue, shown: One({device(120)}, {absent(NINTH)}) }}"
     of_ninth = certificate(leaf(1), goal=ninth, version=2)
-    yield ask("check", STYLED_DENSITIES, TO_198, valueless, "0x01010001@0x7f010009", of_ninth)
+    yield ask("check", STYLED_DENSITIES, TO_198, valueless, ninth, of_ninth)
 
 
 def make_rows(ask):
@@ -240,9 +248,9 @@ def make_rows(ask):
     german = f"Counter {{ goal: 0, device: {device(160, GERMAN)}, ending: {absent(FIRST)} }}"
     yield ask("make", "0 [locale=fr] 1", BOTH_LOCALES, german)
     of_styled = written(WRITTEN_STYLED, at_most, written_leaf(1), written_leaf(2), version=2)
-    yield ask("make", STYLED_DENSITIES, TO_198, of_styled, STYLED)
+    yield ask("make", STYLED_DENSITIES, TO_198, of_styled, STYLED_GOAL)
     unset = f"Counter {{ goal: 0, device: {device(160)}, ending: {absent(B)} }}"
-    yield ask("make", STYLED_DENSITIES, MEDIUM_BOX, unset, f"0x01010002@{ID}")
+    yield ask("make", STYLED_DENSITIES, MEDIUM_BOX, unset, UNSET_GOAL)
     yield from omit_rows(ask)
     yield from rows_of_many_nodes(ask)
 
@@ -264,7 +272,7 @@ def omit_rows(ask):
     german = f"[Omitted {{ goal: 0, device: {device(160, GERMAN)}, ending: {absent(FIRST)} }}]"
     yield ask("make_omitting", "0 [locale=fr] 1", BOTH_LOCALES, f"{none}\n{german}")
     unset = f"[Omitted {{ goal: 0, device: {device(160)}, ending: {absent(B)} }}]"
-    yield ask("make_omitting", STYLED_DENSITIES, MEDIUM_BOX, f"{none}\n{unset}", f"0x01010002@{ID}")
+    yield ask("make_omitting", STYLED_DENSITIES, MEDIUM_BOX, f"{none}\n{unset}", UNSET_GOAL)
     yield ask("make_omitting", DENSITIES, TO_198, "NodeLimit", nodes="2")
 
 
@@ -289,8 +297,8 @@ def rows_of_many_nodes(ask):
 def command_rows():
     """Commands over bytes and a writer. After a fault the number of writes is told."""
 
-    def ask(name, table, answer, of="", goal=ID, nodes=""):
-        return row("command_calls", [name, table, of, goal, nodes], answer)
+    def ask(name, table, answer, of="", goal=ID_GOAL, nodes=""):
+        return row("command_calls", [name, table, of, certificate(goal=goal, version=2), nodes], answer)
 
     two = f"row {ID} [density=160] decimal 2\nrow {ID} [] decimal 1\nrows 2 set-aside 0\nDone"
     yield ask("rows_bytes", "0 [density=160] 2\n0 [] 1", two)
@@ -341,7 +349,7 @@ def check_commands(ask):
     yield ask("check_bytes", DENSITIES, "(Certificate(Syntax), 0)", TO_197, nodes="{")
     two_leaves = certificate(AT_MOST_197, leaf(1), leaf(2), goal=STYLED_GOAL, version=2)
     styled = accepted.replace("nodes 1", "nodes 3")
-    yield ask("check_bytes", STYLED_DENSITIES, styled, TO_198, STYLED, two_leaves)
+    yield ask("check_bytes", STYLED_DENSITIES, styled, TO_198, STYLED_GOAL, two_leaves)
 
 
 def make_commands(ask):
@@ -351,9 +359,9 @@ def make_commands(ask):
     german = ["counter goal 0", "device locale=de density=160", f"end absent {ID}", "Negative"]
     yield ask("make_bytes", "0 [locale=fr] 1", "\n".join(german), BOTH_LOCALES)
     unset = ["counter goal 0", "device density=160", "end absent 0x01010002", "Negative"]
-    yield ask("make_bytes", STYLED_DENSITIES, "\n".join(unset), MEDIUM_BOX, f"0x01010002@{ID}")
+    yield ask("make_bytes", STYLED_DENSITIES, "\n".join(unset), MEDIUM_BOX, UNSET_GOAL)
     told = f'goal 0 0x01010002@{ID} "s"/"k"\nNegative'
-    yield ask("errors of OpenedBox::make", "B", told, MEDIUM_BOX, f"0x01010002@{ID}")
+    yield ask("errors of OpenedBox::make", "B", told, MEDIUM_BOX, UNSET_GOAL)
     yield ask("make_bytes", "0 [] 1", "(Box(Density), 0)", "{}")
     yield from omit_commands(ask, one)
 
@@ -366,7 +374,7 @@ def omit_commands(ask, one):
     german = [f"omitted goal 0 {ID} {name}", "device locale=de density=160", f"end absent {ID}", "Negative"]
     yield ask("errors of make_omitting_bytes", "0 [locale=fr] 1", "\n".join(german), BOTH_LOCALES)
     unset = [f"omitted goal 0 0x01010002@{ID} {name}", "device density=160", "end absent 0x01010002", "Negative"]
-    yield ask("errors of make_omitting_bytes", STYLED_DENSITIES, "\n".join(unset), MEDIUM_BOX, f"0x01010002@{ID}")
+    yield ask("errors of make_omitting_bytes", STYLED_DENSITIES, "\n".join(unset), MEDIUM_BOX, UNSET_GOAL)
     yield ask("make_omitting_bytes", "0 [] 1", "(Box(Density), 0)", "{}")
 
 
@@ -431,19 +439,19 @@ WITHOUT_MEMORY = [
     without_memory("reading_calls", "look", f"Some({SECOND})", f'[["{ID}","0x7f010001"]]'),
     without_memory("reading_calls", "open_side", "SideTable(New, 0, Chunk(Oversize(0)))", "cut"),
     without_memory("table_calls", "Table::open", "Chunk(Oversize(0))", "cut"),
-    without_memory("command_calls", "rows_bytes", "rows 0 set-aside 0\nDone", "no rows", "", ID),
-    without_memory("command_calls", "rows_bytes", "(Table(Chunk(Oversize(0))), 0)", "cut", "", ID),
+    without_memory("command_calls", "rows_bytes", "rows 0 set-aside 0\nDone", "no rows", "", certificate()),
+    without_memory("command_calls", "rows_bytes", "(Table(Chunk(Oversize(0))), 0)", "cut", "", certificate()),
     without_memory(
         "command_calls",
         "diff_bytes",
         "(SideTable(Old, 0, Chunk(Oversize(0))), 0)",
-        *("cut", "cut", ID, "{}"),
+        *("cut", "cut", certificate(), "{}"),
     ),
     without_memory(
         "command_calls",
         "check_bytes",
         "(LayerTable(0, Chunk(Oversize(0))), 0)",
-        *("cut", TO_197, ID, certificate(leaf(1))),
+        *("cut", TO_197, certificate(), certificate(leaf(1))),
     ),
     without_memory("table_calls", "chunk_walk", "(2, 12)\ntrue\n(Some(2), Some(488))"),
     without_memory(
@@ -498,7 +506,7 @@ WITHOUT_MEMORY = [
         f"Range(120, 198)\n(120, true)\nAlways\nMixed({device(197)}, {device(198)}, Density)",
         "",
         TO_198,
-        ID,
+        certificate(),
     ),
     without_memory(
         "command_calls",
@@ -516,7 +524,14 @@ WITHOUT_MEMORY = [
         "resource_text",
         "accepted goals 0 nodes 0\nrejected goal 0 node 0 N6 MixedTrace\nfirst density=198\nsecond density=198",
     ),
-    without_memory("goal_calls", "Goal::attr", f"Some(Attr {{ attr: {A}, styles: [{FIRST}] }})", "", MEDIUM_BOX, ID),
+    without_memory(
+        "goal_calls",
+        "Goal::attr",
+        f"Some(Attr {{ attr: {A}, styles: [{FIRST}] }})",
+        "",
+        MEDIUM_BOX,
+        certificate(),
+    ),
 ]
 """Calls that take no memory: of a table without rows, where the table is refused at once, and those of a crate together."""
 

@@ -4,7 +4,6 @@ pub mod TextLemmas
 pub mod LineLemmas
 pub mod ReadsBackLemmas
 pub mod WrittenSteps
-pub mod WordLemmas
 pub mod GoalEquality
 pub use Rattle.config_box.proofs as config_box
 pub use Rattle.config_box.proofs.box_answers

@@ -1,7 +1,6 @@
 pub mod Certificate
 pub mod ReadOn
 pub mod CertJson
-pub mod GoalWord
 pub mod WrittenJson
 pub mod ReadsBack
 pub mod Lent

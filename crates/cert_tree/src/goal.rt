@@ -1,11 +1,9 @@
 //! What a tree is about.
 
-use crate::goal_word::{GoalFault, goal_in_word};
 use res_value::ResId;
-use std::alloc::Global;
 
 /// How many styles a goal can have.
-pub(crate) const MOST_STYLES: usize = 64;
+pub const MOST_STYLES: usize = 64;
 
 /// What is asked of a device.
 #[derive(Clone, Debug, PartialEq, Eq, Drop)]
@@ -19,9 +17,6 @@ pub enum Goal {
 impl Goal {
     ghost use Rattle.std.specs.Prelude.{◌≡◌, ◌≢◌, nat_le, length, if◌then◌else◌, Some, None, MatchBool};
     ghost use Rattle.std.specs.Option.{option_map};
-    ghost use Rattle.contract_words.specs.Exact.{GivesOr};
-    ghost use Rattle.cert_tree.specs.GoalWord.{goal_in_word};
-    ghost use Rattle.cert_tree.specs.declared.goal_word.GoalFault.TheVariants.{OutOfMemory};
     ghost use Rattle.cert_tree.specs.Certificate.{AttrGoal, goal_seen, most_styles};
 
     /// The goal of an attribute under styles; none where there are more than 64 of them.
@@ -34,13 +29,6 @@ impl Goal {
         } else {
             None
         }
-    }
-
-    /// The goal that a word asks for: an id, or `ATTR@STYLE,STYLE` with 1 to 64 styles.
-    pub fn read(alloc: Global, word: &str) -> Result<Goal, GoalFault>
-        ensures { GivesOr OutOfMemory goal_seen result (goal_in_word word.now) }
-    {
-        goal_in_word(alloc, word)
     }
 
     /// Whether both ask the same, which is what `==` says.

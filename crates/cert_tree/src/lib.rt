@@ -9,7 +9,6 @@
 //! by their content, not their address (`goals_of`), what a goal asks as `goal_seen` says, and a node
 //! as `node_of` says. What is read of a text is exactly what it means (`cert_in`), or its first fault.
 //! What is written of a certificate within the limits (`CertFits`) is read as the same goals and nodes.
-//! A word asks for the goal of `goal_in_word`.
 //!
 //! ```text
 //! let certificate = Cert::read(alloc, b"{\"version\":1,\"goals\":[]}")?;
@@ -22,7 +21,6 @@
 mod cert;
 mod cert_fault;
 mod goal;
-mod goal_word;
 mod members;
 mod node;
 mod progress;
@@ -34,8 +32,7 @@ mod write;
 pub use cert::{Cert, CertGoal, OutOfMemory};
 pub use cert_fault::CertFault;
 pub use config_box::{BoxFault, Choice, ConfigBox, Split, Test, Values};
-pub use goal::Goal;
-pub use goal_word::GoalFault;
+pub use goal::{Goal, MOST_STYLES};
 pub use node::Node;
 pub use progress::{Progress, Unwatched};
 pub use res_value::{ChunkFault, ResId};

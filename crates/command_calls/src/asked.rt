@@ -1,5 +1,6 @@
 //! What a command is asked of.
 
+use cert_checker::Cert;
 use diff_command::{OpenedDiff, diff_bytes};
 use marked_calls::{Writer, table_of, word};
 use res_value::ResId;
@@ -25,8 +26,8 @@ const STYLES: [ResId; 2] = [FIRST, ResId(0x7f01_0001)];
 
 const ATTR: ResId = ResId(0x0101_0001);
 
-/// A command, its table, what it is asked of this (a device, a box, an overlay or another table), a goal, and a certificate or
-/// the box of two tables.
+/// A command, its table, what it is asked of this (a device, a box, an overlay or another table), the goals of a certificate,
+/// and a certificate or the box of two tables.
 #[derive(Drop)]
 pub struct Asked<'w> {
     name: &'w str,
@@ -42,7 +43,8 @@ impl<'w> Asked<'w> {
         let name = word(words, 0);
         let table = table_of(alloc, word(words, 1))?;
         let of = of_word(alloc, name, word(words, 2))?;
-        let goals = vec![in alloc; Goal::read(alloc, word(words, 3))?]?;
+        let trees = Cert::read(alloc, word(words, 3).as_bytes())?.goals;
+        let goals = trees.into_iter().map(|tree| tree.goal).collect(alloc)?;
         Ok(Asked {
             name,
             table,

@@ -1,7 +1,7 @@
 //! A program of tests: calls of the checker and of the maker.
 //!
 //! ```text
-//! goal_calls goal_end '0 [] 1' '{"density":[160]}' 0x7f010000 // Value { layer: 0, value: Value { kind: 16, word: 1 } }
+//! goal_calls goal_end '0 [] 1' '{"density":[160]}' '{"version":1,"goals":[{"id":"0x7f010000","nodes":[]}]}' // Value { layer: 0, value: Value { kind: 16, word: 1 } }
 //! ```
 #![tactic(auto)]
 
@@ -12,6 +12,7 @@ mod trees;
 mod without_memory;
 
 use crate::trees::Asked;
+use cert_checker::Cert;
 use cert_maker::{ConfigBox, Goal};
 use marked_calls::{table_of, word, words};
 use std::test::Fail;
@@ -26,12 +27,13 @@ fn main(rt: HostRuntime) -> Result<(), Fail> {
     call(&rt, &words)
 }
 
-// Makes the call that the first word names: a table, a box and a goal are the words behind it.
+// Makes the call that the first word names: a table, a box and a certificate with a goal are the words behind it.
 fn call(rt: &HostRuntime, words: &[String]) -> Result<(), Fail> {
     let bytes = table_of(rt.alloc(), word(words, 1))?;
     let stack = stack_of_base(rt.alloc(), &bytes).ok_or(LayerFault::Malformed)?;
     let members = ConfigBox::read(rt.alloc(), word(words, 2).as_bytes())?;
-    let goals = vec![in rt.alloc(); Goal::read(rt.alloc(), word(words, 3))?]?;
+    let trees = Cert::read(rt.alloc(), word(words, 3).as_bytes())?.goals;
+    let goals: Vec<Goal> = trees.into_iter().map(|tree| tree.goal).collect(rt.alloc())?;
     let asked = Asked {
         stack: &stack,
         members: &members,

@@ -2,7 +2,7 @@
 //!
 //! ```text
 //! write_goal_words(&stack, id, &styles, false, &mut word)?; // of answer_text
-//! Goal::read(alloc, word)?; // of cert_tree: the goal of that id, or of that attribute under those styles
+//! NamedGoal::read(alloc, word)?; // of name_words: that id alone, or that attribute under those styles
 //! ```
 #![tactic(auto)]
 

@@ -62,6 +62,11 @@ fn reads_goals(rt: HostRuntime) -> Result<(), Fail> {
         NamedGoal::read(alloc, "*")?,
         NamedGoal::Resources(NamedSet::All)
     );
+    let one = NamedSet::One(Named::Id(ResId(0x7f01_000a)));
+    assert_eq!(rt;
+        NamedGoal::read(alloc, "0x7F01000a")?,
+        NamedGoal::Resources(one)
+    );
     let attr = Named::Name {
         type_name: "attr",
         entry_name: "colorAccent",
@@ -79,13 +84,22 @@ fn reads_goals(rt: HostRuntime) -> Result<(), Fail> {
 fn refuses_goals(rt: HostRuntime) {
     let wrong = [
         "",
+        "@",
         "margin",
+        "0x7f01",
+        "0x7f010000,0x7f010001",
         "attr/a@",
+        "0x01010001@",
         "@style/Theme",
+        "@0x7f010000",
         "attr/*@style/Theme",
         "attr/a@style/*",
         "attr/a@style/Theme,",
+        "attr/a@,style/Theme",
+        "0x01010001@0x7f010000 ,0x7f010001",
         "attr/a@style/Theme@style/Other",
+        "attr/a@@style/Theme",
+        "0x0101000g@0x7f010000",
     ];
     for word in wrong {
         assert_eq!(rt;
@@ -94,4 +108,26 @@ fn refuses_goals(rt: HostRuntime) {
             "{word}"
         );
     }
+}
+
+fn style_count(goal: &NamedGoal<'_>) -> usize {
+    match goal {
+        NamedGoal::Resources(_) => 0,
+        NamedGoal::Attr { styles, .. } => styles.len(),
+    }
+}
+
+#[test]
+fn reads_goals_of_64_styles_at_most(rt: HostRuntime) -> Result<(), Fail> {
+    let alloc = rt.alloc();
+    let most = ",0x7f010000".repeat(alloc, 63)?;
+    let word = format!(in alloc; "0x01010001@0x7f010000{most}")?;
+    let goal = NamedGoal::read(alloc, word.as_str())?;
+    assert_eq!(rt; style_count(&goal), 64);
+    let more = format!(in alloc; "{word},0x7f010000")?;
+    assert_eq!(rt;
+        NamedGoal::read(alloc, more.as_str()).err(),
+        Some(GoalFault::Malformed)
+    );
+    Ok(())
 }

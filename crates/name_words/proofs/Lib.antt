@@ -1,1 +1,2 @@
+mod GoalWordSteps
 pub mod WordFileSteps

@@ -1,13 +1,12 @@
 -- What a word asks where goals may stand: a set of resources, each of which is a goal, or an attribute under styles, as
 -- `attr/colorAccent@style/Theme,style/Other`.
-use Rattle.std.specs.Prelude.{ℕ, nat_lt, List, length, map, Result, Ok, ok_or, if◌then◌else◌}
+use Rattle.std.specs.Prelude.{ℕ, ◌==◌, nat_lt, Bool, List, length, map, Result, Ok, ok_or, if◌then◌else◌}
 use Rattle.std.specs.List.{list_any, before_first, after_first, slice_split}
 use Rattle.contract_words.specs.Faults.{◌>>=◌, refuse}
 use Rattle.json_input.specs.Each.{each}
 use Rattle.cert_tree.specs.Certificate.{most_styles}
-use Rattle.cert_tree.specs.GoalWord.{is_at_sign, is_comma}
-use Rattle.cert_tree.specs.declared.goal_word.GoalFault.{GoalFault}
-use Rattle.cert_tree.specs.declared.goal_word.GoalFault.TheVariants.{Malformed}
+use Rattle.name_words.specs.declared.goal_fault.GoalFault.{GoalFault}
+use Rattle.name_words.specs.declared.goal_fault.GoalFault.TheVariants.{Malformed}
 use Rattle.name_words.specs.declared.named_goal.NamedGoal.{NamedGoal}
 use Rattle.name_words.specs.declared.named_goal.NamedGoal.TheVariants.{Resources, Attr}
 use Rattle.name_words.specs.Named.{NamedOf, named_of, named_in}
@@ -21,6 +20,14 @@ pub data NamedGoalOf : Type 0 where
 abbrev pub named_goal_of : NamedGoal → NamedGoalOf
 named_goal_of (Resources set) = GoalsOfSet (named_set_of set)
 named_goal_of (Attr attr styles) = GoalOfAttr (named_of attr) (map named_of styles.items)
+
+-- '@', before the styles
+abbrev pub is_at_sign : ℕ → Bool
+is_at_sign b = b == 64
+
+-- ',', between two styles
+abbrev pub is_comma : ℕ → Bool
+is_comma b = b == 44
 
 -- an attribute, or a style of a goal
 unfoldable pub style_in : List ℕ → Result NamedOf GoalFault

@@ -5,18 +5,15 @@ ghost use Rattle.std.specs.Option.{option_map};
 ghost use Rattle.std.specs.List.{list_any, before_first, after_first, slice_split};
 ghost use Rattle.contract_words.specs.Exact.{GivesOr};
 ghost use Rattle.json_input.specs.Each.{each};
-ghost use Rattle.cert_tree.specs.GoalWord.{is_at_sign, is_comma};
-ghost use Rattle.cert_tree.specs.declared.goal_word.GoalFault.TheVariants.{Malformed, OutOfMemory};
+ghost use Rattle.name_words.specs.declared.goal_fault.GoalFault.TheVariants.{Malformed, OutOfMemory};
 ghost use Rattle.name_words.specs.Named.{named_of};
-ghost use Rattle.name_words.specs.NamedGoal.{named_goal_of, named_goal_in, attr_in, styles_in, style_in, goals_of_set};
+ghost use Rattle.name_words.specs.NamedGoal.{is_at_sign, is_comma, named_goal_of, named_goal_in, attr_in, styles_in, style_in, goals_of_set};
 
+use crate::goal_fault::GoalFault;
 use crate::named::Named;
 use crate::named_set::NamedSet;
-use cert_tree::GoalFault;
+use cert_tree::MOST_STYLES;
 use std::alloc::{AllocError, Global};
-
-/// How many styles a goal can have.
-const MOST_STYLES: usize = 64;
 
 /// Stands between the attribute and its styles.
 const AT_SIGN: char = '@';

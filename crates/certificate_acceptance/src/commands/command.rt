@@ -1,6 +1,6 @@
 //! The commands over a table of a few rows.
 
-use cert_tree::{Goal, GoalFault};
+use cert_tree::{Cert, CertFault, Goal};
 use res_value::ResId;
 use resource_tool::{Status, ToolFault, check_bytes, make_bytes};
 use std::alloc::{AllocError, Global};
@@ -9,16 +9,19 @@ use test_layers::layer_of_lines;
 /// The resource of entry 0.
 pub(crate) const FIRST: ResId = ResId(0x7f01_0000);
 
-/// The same, as a goal is written.
-pub(crate) const FIRST_GOAL: &str = "0x7f010000";
+/// The same, as a goal of a certificate is written.
+pub(crate) const FIRST_GOAL: &str = r#""id":"0x7f010000""#;
 
-/// The goals that are written so.
-pub(crate) fn goals_of(alloc: Global, words: &[&str]) -> Result<Vec<Goal>, GoalFault> {
-    let mut goals = Vec::new(alloc);
-    for word in words {
-        goals.push(Goal::read(alloc, *word)?)?;
+/// The goals that a certificate of these has.
+pub(crate) fn goals_of(alloc: Global, goals: &[&str]) -> Result<Vec<Goal>, CertFault> {
+    let mut found = Vec::new(alloc);
+    for goal in goals {
+        let text = format!(in alloc; "{{\"version\":2,\"goals\":[{{{goal},\"nodes\":[]}}]}}")?;
+        for tree in Cert::read(alloc, text.as_bytes())?.goals {
+            found.push(tree.goal)?;
+        }
     }
-    Ok(goals)
+    Ok(found)
 }
 
 /// A certificate with one tree, of these nodes, for the resource of entry 0.

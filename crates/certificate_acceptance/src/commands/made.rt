@@ -5,7 +5,7 @@ use resource_tool::Status;
 use std::alloc::Global;
 
 /// The resource of entry 1.
-const SECOND_GOAL: &str = "0x7f010001";
+const SECOND_GOAL: &str = r#""id":"0x7f010001""#;
 
 /// A value that is best up to density 197, and one at 198.
 const BY_DENSITY: Order<'static> = Order {

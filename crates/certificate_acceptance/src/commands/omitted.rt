@@ -6,7 +6,7 @@ use std::alloc::Global;
 use test_layers::layer_of_lines;
 
 /// The resource of entry 1.
-const SECOND_GOAL: &str = "0x7f010001";
+const SECOND_GOAL: &str = r#""id":"0x7f010001""#;
 
 /// The first goal has a value in French alone, and the second everywhere.
 const BY_LOCALE: Order<'static> = Order {
@@ -39,7 +39,10 @@ const PRINTED: [(Order, Want); 5] = [
     ),
     (
         Order {
-            goals: &[SECOND_GOAL, "0x01010001@0x7f010001"],
+            goals: &[
+                SECOND_GOAL,
+                r#""attr":"0x01010001","styles":["0x7f010001"]"#,
+            ],
             max_nodes: 1,
             ..BY_LOCALE
         },

@@ -1,12 +1,15 @@
 //! The goal that an answer is about, with its names.
 
-use crate::commands::command::{FIRST, certificate_of, goals_of};
+use crate::commands::command::{FIRST, FIRST_GOAL, certificate_of, goals_of};
 use cert_tree::Goal;
 use resource_tool::{OpenedBox, OpenedCert, Unwatched};
 use std::alloc::Global;
 use std::io::sink;
 use std::test::Fail;
 use test_layers::table_b;
+
+/// An attribute under two styles.
+const STYLED_GOAL: &str = r#""attr":"0x01010001","styles":["0x7f010009","0x7f010000"]"#;
 
 const MEDIUM: &[u8] = br#"{"density":[160]}"#;
 
@@ -29,7 +32,7 @@ fn told_by_check(alloc: Global, names: bool) -> Result<Vec<u8>, Fail> {
 fn told_by_make(alloc: Global, names: bool) -> Result<Vec<u8>, Fail> {
     let table = table_b(alloc)?;
     let opened = OpenedBox::read(alloc, &[(table.as_slice(), None)], MEDIUM)?;
-    let goals = goals_of(alloc, &["0x7f010000", "0x01010001@0x7f010009,0x7f010000"])?;
+    let goals = goals_of(alloc, &[FIRST_GOAL, STYLED_GOAL])?;
     let mut errors = Vec::new(alloc);
     opened.make(
         alloc,

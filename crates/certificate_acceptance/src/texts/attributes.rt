@@ -1,6 +1,6 @@
-//! Goals of attributes: which certificates have them, and which words ask for them.
+//! Goals of attributes: which certificates have them.
 
-use cert_tree::{Cert, CertFault, CertGoal, Goal, GoalFault};
+use cert_tree::{Cert, CertFault, CertGoal, Goal};
 use res_value::ResId;
 use std::alloc::{AllocError, Global};
 use std::test::Fail;
@@ -159,64 +159,5 @@ fn are_equal_where_attribute_and_styles_are(rt: HostRuntime) -> Result<(), Fail>
     assert_ne!(rt; goal, goal_of(attr, vec![in alloc; other, STYLE]?));
     assert_ne!(rt; goal, goal_of(attr, vec![in alloc; STYLE]?));
     assert_ne!(rt; goal, Goal::Id(attr));
-    Ok(())
-}
-
-#[test]
-fn reads_words(rt: HostRuntime) -> Result<(), Fail> {
-    let alloc = rt.alloc();
-    let attr = ResId(0x0101_0001);
-    assert_eq!(rt;
-        Goal::read(alloc, "0x7F01000a")?,
-        Goal::Id(ResId(0x7f01_000a))
-    );
-    let one = goal_of(attr, vec![in alloc; STYLE]?);
-    assert_eq!(rt; Goal::read(alloc, "0x01010001@0x7f010000")?, one);
-    let two = goal_of(
-        attr,
-        vec![in alloc; ResId(0x7f01_0002), ResId(0x7f01_0001)]?,
-    );
-    assert_eq!(rt; Goal::read(alloc, "0x01010001@0x7f010002,0x7f010001")?, two);
-    Ok(())
-}
-
-#[test]
-fn refuses_words(rt: HostRuntime) {
-    let wrong = [
-        "",
-        "@",
-        "0x7f01",
-        "0x7f010000,0x7f010001",
-        "0x01010001@",
-        "@0x7f010000",
-        "0x01010001@0x7f010000,",
-        "0x01010001@,0x7f010000",
-        "0x01010001@0x7f010000 ,0x7f010001",
-        "0x01010001@0x7f010000@0x7f010001",
-        "0x01010001@@0x7f010000",
-        "0x0101000g@0x7f010000",
-        "@style/Theme",
-    ];
-    for word in wrong {
-        assert_eq!(rt;
-            Goal::read(rt.alloc(), word).err(),
-            Some(GoalFault::Malformed),
-            "{word}"
-        );
-    }
-}
-
-#[test]
-fn reads_words_of_64_styles_at_most(rt: HostRuntime) -> Result<(), Fail> {
-    let alloc = rt.alloc();
-    let most = ",0x7f010000".repeat(alloc, 63)?;
-    let word = format!(in alloc; "0x01010001@0x7f010000{most}")?;
-    let goal = Goal::read(alloc, word.as_str())?;
-    assert_eq!(rt; style_count(&goal), 64);
-    let more = format!(in alloc; "{word},0x7f010000")?;
-    assert_eq!(rt;
-        Goal::read(alloc, more.as_str()).err(),
-        Some(GoalFault::Malformed)
-    );
     Ok(())
 }

@@ -1,6 +1,6 @@
 use Rattle.std.proofs.Common.{arith}
 use Rattle.std.proofs.lemmas.Str.Pattern.{split_once_first}
-use Rattle.cert_tree.proofs.WordLemmas.{cut-seen}
+use Rattle.name_words.proofs.GoalWordSteps.{cut-seen}
 use Rattle.name_words.proofs.named_goal.cut_at_sign.Goals as goal
 
 pub returns : goal.returns

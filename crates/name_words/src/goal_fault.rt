@@ -1,0 +1,32 @@
+//! What can go wrong with the word of a goal.
+
+ghost use Rattle.std.specs.Prelude.{◌≡◌};
+ghost use Rattle.name_words.specs.declared.goal_fault.GoalFault.TheVariants.{OutOfMemory};
+
+use std::alloc::{AllocError, AllocFailed};
+use thiserror::Error;
+
+/// Why a word asks for no goal.
+#[derive(Clone, Copy, Debug, PartialEq, Eq, Error)]
+pub enum GoalFault {
+    #[error("Malformed")]
+    Malformed,
+    #[error("OutOfMemory")]
+    OutOfMemory,
+}
+
+impl From<AllocError> for GoalFault {
+    ghost from_gives = { λ _ e. e ≡ OutOfMemory };
+
+    fn from(_error: AllocError) -> GoalFault {
+        GoalFault::OutOfMemory
+    }
+}
+
+impl<T: Drop> From<AllocFailed<T>> for GoalFault {
+    ghost from_gives = { λ _ e. e ≡ OutOfMemory };
+
+    fn from(_error: AllocFailed<T>) -> GoalFault {
+        GoalFault::OutOfMemory
+    }
+}
