@@ -1,9 +1,14 @@
 -- What a command prints, and how it ends.
-use Rattle.std.specs.Prelude.{◌≡◌, ◌≢◌, ℕ, List, Option, Result, Ok, Err, IsOk, IfErr}
+use Rattle.std.specs.Prelude.{◌≡◌, ◌≢◌, ℕ, Bool, List, Option, Result, Ok, Err, IsOk, IfErr, if◌then◌else◌}
 use Rattle.std.specs.Io.KnownBytes.{Appends}
 use Rattle.fault_text.specs.declared.fault.ToolFault.{ToolFault}
 use Rattle.fault_text.specs.declared.fault.ToolFault.TheVariants.{OutOfMemory, Write}
 use Rattle.command_base.specs.declared.status.Status.{Status}
+use Rattle.command_base.specs.declared.status.Status.TheVariants.{Done, Negative}
+
+-- Negative where this holds, else Done
+abbrev pub negative_if : Bool → Status
+negative_if negative = if negative then Negative else Done
 
 -- how a command ends, and the text that it prints
 pub record Output : Type 0 where

@@ -11,6 +11,7 @@
 //! let layers = [(base.as_slice(), None), (overlay.as_slice(), Some(map.as_slice()))];
 //! let stack = open_stack(alloc, &layers)?; // the base and the overlay, opened
 //! let old = open_side(alloc, Side::Old, &layers)?; // the same of one of two; its faults name the side
+//! let status = Status::negative_if(!missing.is_empty()); // Negative where something is missing
 //! ```
 #![tactic(auto)]
 
@@ -24,5 +25,5 @@ pub use fault_text::{LayersFault, Progress, Side, ToolFault, fault_text};
 pub use input::{InputFault, read_input};
 pub use layer_list::LayerList;
 pub use layer_parts::LayerParts;
-pub use stack::{open_side, open_stack};
+pub use stack::{open_side, open_stack, open_table};
 pub use status::Status;

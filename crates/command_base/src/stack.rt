@@ -80,8 +80,8 @@ fn push_layer<'a>(
     push(table, map, stack)
 }
 
-// The table of the layer at a place.
-fn open_table(alloc: Global, layer: usize, bytes: &[u8]) -> Result<Table<'_>, ToolFault>
+/// The table of the layer at a place, which a fault names.
+pub fn open_table(alloc: Global, layer: usize, bytes: &[u8]) -> Result<Table<'_>, ToolFault>
     ensures value { GivesOr OutOfMemory (λ table. table) result (table_of_layer layer bytes.now) }
     ensures of_input { IsOfInput result }
 {

@@ -1,5 +1,8 @@
 //! How a command ends.
 
+ghost use Rattle.std.specs.Prelude.{◌≡◌};
+ghost use Rattle.command_base.specs.Output.{negative_if};
+
 /// How a command ended that was carried out.
 #[derive(Clone, Copy, Debug, PartialEq, Eq)]
 pub enum Status {
@@ -8,4 +11,17 @@ pub enum Status {
     /// Something that was asked for is not there, or has too many references or parents; or a certificate is
     /// rejected, or none is made.
     Negative,
+}
+
+impl Status {
+    /// Negative where this holds, else Done.
+    pub fn negative_if(negative: bool) -> Status
+        ensures { result ≡ negative_if negative }
+    {
+        if negative {
+            Status::Negative
+        } else {
+            Status::Done
+        }
+    }
 }
