@@ -39,7 +39,7 @@ differs-of_row : (locales : List ℕ) (row : RowOf) → some_differs (notes_of_r
 unfolding notes_of_row row_differs
 differs-of_row locales row = some-both (notes_of_values row) (notes_of_locale locales row) _ _ (differs-of_values row) (differs-of_locale locales row)
 
-differs-of_layer : (stack : List LayerOf) (locales : List ℕ) (numbered : ℕ × LayerBytes) → some_differs (notes_of_layer stack locales numbered) ≡ layer_differs stack locales numbered
+pub differs-of_layer : (stack : List LayerOf) (locales : List ℕ) (numbered : ℕ × LayerBytes) → some_differs (notes_of_layer stack locales numbered) ≡ layer_differs stack locales numbered
 unfolding notes_of_layer layer_differs
 differs-of_layer stack locales numbered =
     some-both (notes_of_chunks numbered.1.table) (flat_map (notes_of_row locales) (rows_at stack numbered.0)) _ _

@@ -1,4 +1,5 @@
 pub mod AnySteps
 pub mod LayerLaws
+pub mod WarningSteps
 pub mod QualifierSteps
 pub mod QualifierLaws

@@ -5,6 +5,7 @@ pub mod Qualifiers
 pub mod BoxGaps
 pub mod SurveyText
 pub mod LayersText
+pub mod WarningsLaw
 pub mod Refused
 pub mod SurveyOutput
 pub mod OpenedSeen

@@ -41,19 +41,19 @@ has_scripts language = is_one_of languages_of_scripts language
 -- AOSP matches two locales of different regions where their scripts are the same, and a language alone not with a region
 -- that writes it in another script.
 abbrev pub regions_differ : ℕ → ℕ → Bool
-regions_differ row device =
-    if region_in row == 0 then not (region_in device == 0) && has_scripts (language_in row)
-    else not (region_in row == region_in device)
+regions_differ row_locale device_locale =
+    if region_in row_locale == 0 then not (region_in device_locale == 0) && has_scripts (language_in row_locale)
+    else not (region_in row_locale == region_in device_locale)
 
 -- A row with this locale, and one with a script or a variant beside it, may be matched by AOSP at a device with the other
 -- locale and not here, or here and not by AOSP.
 unfoldable pub differs_at : ℕ → Bool → ℕ → Bool
-differs_at row set_aside device =
-    if language_in row == 0 then set_aside
-    else if language_in row == language_in device then set_aside || regions_differ row device
-    else is_filipino (language_in row) && is_filipino (language_in device)
+differs_at row_locale set_aside device_locale =
+    if language_in row_locale == 0 then set_aside
+    else if language_in row_locale == language_in device_locale then set_aside || regions_differ row_locale device_locale
+    else is_filipino (language_in row_locale) && is_filipino (language_in device_locale)
 
 -- there is such a device
 unfoldable pub differs_somewhere : ℕ → Bool → Bool
-differs_somewhere row set_aside =
-    set_aside || not (language_in row == 0) && (not (region_in row == 0) || (is_filipino (language_in row) || has_scripts (language_in row)))
+differs_somewhere row_locale set_aside =
+    set_aside || not (language_in row_locale == 0) && (not (region_in row_locale == 0) || (is_filipino (language_in row_locale) || has_scripts (language_in row_locale)))

@@ -1,5 +1,5 @@
 -- What the command `survey` prints.
-use Rattle.std.specs.Prelude.{ℕ, ◌||◌, Bool, List, ◌++◌, Option, Some, None, Result, Ok, Err, if◌then◌else◌}
+use Rattle.std.specs.Prelude.{ℕ, ◌||◌, Bool, List, ◌++◌, Option, Some, None, Result, Ok, Err}
 use Rattle.std.specs.List.{flat_map, list_any, enumerate_from}
 use Rattle.contract_words.specs.Faults.{◌>>=◌}
 use Rattle.config_box.specs.config_record.declared.coord.Coord as coord
@@ -10,9 +10,7 @@ use Rattle.overlay_map.specs.Layer.{LayerOf}
 use Rattle.command_base.specs.fault_text.declared.fault.ToolFault.{ToolFault}
 use Rattle.command_base.specs.fault_text.declared.fault.ToolFault.TheVariants.{LayerTable}
 use Rattle.command_base.specs.fault_text.ToolFault.{fault_of_box}
-use Rattle.command_base.specs.declared.status.Status.{Status}
-use Rattle.command_base.specs.declared.status.Status.TheVariants.{Done, Negative}
-use Rattle.command_base.specs.Output.{Output}
+use Rattle.command_base.specs.Output.{Output, negative_if}
 use Rattle.command_base.specs.StackBytes.{LayerBytes, stack_in}
 use Rattle.command_base.specs.MapErr.{map_err}
 use Rattle.survey_commands.specs.LayerNotes.{layer_differs}
@@ -60,15 +58,12 @@ layers_differ stack locales layers = list_any (layer_differs stack locales) (enu
 unfoldable pub lacks_some : SurveyInputs → Bool
 lacks_some inputs = list_any (lacks inputs.sets (rows_in_stack inputs.stack)) all_coords
 
-abbrev pub status_of_survey : Bool → Status
-status_of_survey differs = if differs then Negative else Done
-
 -- ---- the output
 
 -- What is printed of layers and a box that were opened. It is done where nothing makes an answer differ.
 unfoldable pub survey_answer : List LayerBytes → SurveyInputs → Output
 survey_answer layers inputs = let locales = locales_of_box inputs.sets in record {
-  status = status_of_survey (layers_differ inputs.stack locales layers || lacks_some inputs);
+  status = negative_if (layers_differ inputs.stack locales layers || lacks_some inputs);
   text = layers_text inputs.stack locales layers ++ (qualifiers_text inputs.stack ++ lacking_text inputs);
 }
 

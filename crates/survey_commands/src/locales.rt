@@ -48,38 +48,40 @@ fn has_scripts(language: u32) -> bool
     is_one_of(&LANGUAGES_OF_SCRIPTS, language)
 }
 
-fn regions_differ(row: u32, device: u32) -> bool
-    ensures { result ≡ regions_differ row device }
+fn regions_differ(row_locale: u32, device_locale: u32) -> bool
+    ensures { result ≡ regions_differ row_locale device_locale }
 {
-    if region_in(row) == 0 {
-        region_in(device) != 0 && has_scripts(language_in(row))
+    if region_in(row_locale) == 0 {
+        region_in(device_locale) != 0 && has_scripts(language_in(row_locale))
     } else {
-        region_in(row) != region_in(device)
+        region_in(row_locale) != region_in(device_locale)
     }
 }
 
 /// Whether AOSP may compare a row of a locale, with a script or a variant or without, otherwise at a device of another.
 #[tactic(auto, unfolding(crate::specs::Locales::differs_at))]
-pub(crate) fn differs_at(row: u32, set_aside: bool, device: u32) -> bool
-    ensures { result ≡ differs_at row set_aside device }
+pub(crate) fn differs_at(row_locale: u32, set_aside: bool, device_locale: u32) -> bool
+    ensures { result ≡ differs_at row_locale set_aside device_locale }
 {
-    if language_in(row) == 0 {
+    let row_language = language_in(row_locale);
+    let device_language = language_in(device_locale);
+    if row_language == 0 {
         return set_aside;
     }
-    if language_in(row) == language_in(device) {
-        return set_aside || regions_differ(row, device);
+    if row_language == device_language {
+        return set_aside || regions_differ(row_locale, device_locale);
     }
-    is_filipino(language_in(row)) && is_filipino(language_in(device))
+    is_filipino(row_language) && is_filipino(device_language)
 }
 
 /// Whether there is such a device.
 #[tactic(auto, unfolding(crate::specs::Locales::differs_somewhere))]
-pub(crate) fn differs_somewhere(row: u32, set_aside: bool) -> bool
-    ensures { result ≡ differs_somewhere row set_aside }
+pub(crate) fn differs_somewhere(row_locale: u32, set_aside: bool) -> bool
+    ensures { result ≡ differs_somewhere row_locale set_aside }
 {
-    let language = language_in(row);
+    let language = language_in(row_locale);
     if set_aside {
         return true;
     }
-    language != 0 && (region_in(row) != 0 || is_filipino(language) || has_scripts(language))
+    language != 0 && (region_in(row_locale) != 0 || is_filipino(language) || has_scripts(language))
 }

@@ -13,7 +13,7 @@ use config_box::Coord;
 use overlay_map::{Row, Stack, Table};
 
 /// How many coordinates there are.
-const COORD_COUNT: usize = 25;
+const COORD_COUNT: usize = Coord::ALL.len();
 
 /// How many numbers there are, the least and the greatest of them.
 #[derive(Clone, Copy, Debug, PartialEq, Eq)]

@@ -1,33 +1,32 @@
 //! What is printed where a table is refused.
 
-ghost use Rattle.std.specs.Prelude.{◌≡◌, map, Ok};
+ghost use Rattle.std.specs.Prelude.{◌≡◌, ◌≢◌, map, Ok};
 ghost use Rattle.std.specs.List.{list_any};
 ghost use Rattle.contract_words.specs.Writes.{Writes};
-ghost use Rattle.command_base.specs.fault_text.declared.fault.ToolFault.TheVariants.{LayerTable};
+ghost use Rattle.command_base.specs.fault_text.declared.fault.ToolFault.TheVariants.{Write};
 ghost use Rattle.command_base.specs.Output.{Prints};
 ghost use Rattle.command_base.specs.StackBytesSeen.{layer_bytes};
 ghost use Rattle.survey_commands.specs.Refused.{chunks_differ, refused_text, refused_output};
 
 use crate::layers::write_layers;
 use command_base::{LayerParts, Status, ToolFault, fault_text};
-use overlay_map::{Stack, TableFault};
+use overlay_map::Stack;
 use std::alloc::Global;
 use std::io::{self, Write};
 use table_survey::Survey;
 
-/// Prints what the chunks of all layers have, and the fault of the table of one. Where no answer could differ by the
+/// Prints what the chunks of all layers have, and the fault. Where no answer could differ by the
 /// chunks, the fault is the answer.
 #[tactic(auto, unfolding(crate::specs::Refused::refused_output))]
 pub(crate) fn survey_refused<W: Write + Drop>(
     alloc: Global,
     layers: &[LayerParts<&[u8]>],
-    place: usize,
-    fault: TableFault,
+    fault: ToolFault,
     out: &mut W,
 ) -> Result<Status, ToolFault>
-    ensures { Prints W.contents out.old out.new result (refused_output (map layer_bytes layers.now) (LayerTable place fault)) }
+    requires { fault ≢ Write }
+    ensures { Prints W.contents out.old out.new result (refused_output (map layer_bytes layers.now) fault) }
 {
-    let fault = ToolFault::LayerTable(place, fault);
     if !some_chunks_differ(layers) {
         return Err(fault);
     }

@@ -16,7 +16,7 @@ use config_box::{Coord, Locale};
 use overlay_map::{Cell, MapRows, Row, Table, kind};
 use table_survey::{Finding, Site, Survey};
 
-/// The id of an attribute in a shared library (AOSP: `Res_value::TYPE_DYNAMIC_ATTRIBUTE`).
+/// A value that is an attribute of a shared library (AOSP: `Res_value::TYPE_DYNAMIC_ATTRIBUTE`).
 const DYNAMIC_ATTRIBUTE: u8 = 0x08;
 
 fn has_kind(kind: u8, cell: Cell<'_>) -> bool
@@ -60,11 +60,11 @@ fn is_for_one_of(locales: &[Locale], row: &Row<'_>) -> bool
     differs_at_one(row_locale(row), row.config.set_aside(), locales)
 }
 
-fn differs_at_one(row: u32, set_aside: bool, locales: &[Locale]) -> bool
-    ensures { result ≡ list_any (differs_at row set_aside) (locale_numbers locales.now) }
+fn differs_at_one(row_locale: u32, set_aside: bool, locales: &[Locale]) -> bool
+    ensures { result ≡ list_any (differs_at row_locale set_aside) (locale_numbers locales.now) }
 {
     for locale in locales {
-        if differs_at(row, set_aside, locale.number()) {
+        if differs_at(row_locale, set_aside, locale.number()) {
             return true;
         }
     }

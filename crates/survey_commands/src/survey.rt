@@ -13,13 +13,13 @@ ghost use Rattle.survey_commands.specs.Counting.{spread_in};
 ghost use Rattle.survey_commands.specs.BoxGaps.{lacks};
 ghost use Rattle.survey_commands.specs.OpenedSeen.{opened_of};
 ghost use Rattle.survey_commands.specs.SurveyText.{qualifier_line, lacking_line};
-ghost use Rattle.survey_commands.specs.SurveyOutput.{qualifiers_text, lacking_text, lacks_some, status_of_survey, survey_answer, survey_output};
+ghost use Rattle.survey_commands.specs.SurveyOutput.{qualifiers_text, lacking_text, lacks_some, survey_answer, survey_output};
 
 use crate::layers::write_layers;
 use crate::opened::Opened;
 use crate::qualifiers::Qualifiers;
 use crate::refused::survey_refused;
-use crate::text::{write_lacking, write_qualifier};
+use crate::text::{write_lacks, write_qualifier};
 use command_base::{LayerParts, Status, ToolFault};
 use config_box::Coord;
 use overlay_map::Stack;
@@ -41,8 +41,8 @@ pub fn survey_bytes<W: Write + Drop>(
 {
     match Opened::read(alloc, layers, box_json) {
         Ok(opened) => Ok(write_answer(layers, &opened, out)?),
-        Err(ToolFault::LayerTable(place, fault)) => {
-            survey_refused(alloc, layers, place, fault, out)
+        Err(fault) if matches!(fault, ToolFault::LayerTable(..)) => {
+            survey_refused(alloc, layers, fault, out)
         }
         Err(fault) => Err(fault),
     }
@@ -59,18 +59,8 @@ fn write_answer<W: Write + Drop>(
 {
     let differs = write_layers(&opened.stack, opened.locales(), layers, out)?;
     let qualifiers = write_qualifiers(&opened.stack, out)?;
-    let lacks = write_lacks(opened, &qualifiers, out)?;
-    Ok(status_of_survey(differs || lacks))
-}
-
-fn status_of_survey(differs: bool) -> Status
-    ensures { result ≡ status_of_survey differs }
-{
-    if differs {
-        Status::Negative
-    } else {
-        Status::Done
-    }
+    let lacks = write_all_lacking(opened, &qualifiers, out)?;
+    Ok(Status::negative_if(differs || lacks))
 }
 
 // Writes the qualifiers of all rows, and hands them on.
@@ -112,7 +102,7 @@ fn write_line<W: Write + Drop>(qualifiers: &Qualifiers, at: Coord, out: &mut W) 
 
 // Writes the qualifiers that the box lacks, and says whether there are some.
 #[tactic(auto, unfolding(crate::specs::SurveyOutput::lacking_text, crate::specs::SurveyOutput::lacks_some, crate::specs::Unfolded::all_coords))]
-fn write_lacks<W: Write + Drop>(
+fn write_all_lacking<W: Write + Drop>(
     opened: &Opened<'_>,
     qualifiers: &Qualifiers,
     out: &mut W,
@@ -143,6 +133,7 @@ fn write_each_lacking<W: Write + Drop>(
     Ok(some)
 }
 
+#[tactic(auto, unfolding(crate::specs::SurveyText::lacking_line))]
 fn write_lacking_at<W: Write + Drop>(
     opened: &Opened<'_>,
     qualifiers: &Qualifiers,
@@ -155,6 +146,8 @@ fn write_lacking_at<W: Write + Drop>(
     ensures lacks { IfOk result (λ lacking. lacking ≡ lacks (opened_of opened.now).sets (rows_in_stack opened.now.stack) at) }
 {
     let lacking = opened.lacks(at, qualifiers.spread(at));
-    write_lacking(lacking, at, out)?;
+    if lacking {
+        write_lacks(at, out)?;
+    }
     Ok(lacking)
 }

@@ -5,7 +5,7 @@ ghost use Rattle.std.specs.List.{flat_map};
 ghost use Rattle.contract_words.specs.Writes.{Writes};
 ghost use Rattle.table_survey.specs.Finding.{all_findings};
 ghost use Rattle.table_survey.specs.Survey.{tally_in};
-ghost use Rattle.survey_commands.specs.SurveyText.{site_text, weight_text, tally_text, found_line, range_text, number_text, qualifier_line, gap_text, lacks_line, lacking_line};
+ghost use Rattle.survey_commands.specs.SurveyText.{site_text, weight_text, tally_text, found_line, range_text, number_text, qualifier_line, gap_text, lacks_line};
 
 use crate::qualifiers::Spread;
 use config_box::{Coord, Locale, write_locale};
@@ -128,24 +128,9 @@ fn write_number<W: Write + Drop>(coord: Coord, number: u32, out: &mut W) -> io::
     }
 }
 
-/// Writes the line of a qualifier, if the box lacks it.
-#[tactic(auto, unfolding(crate::specs::SurveyText::lacking_line))]
-pub(crate) fn write_lacking<W: Write + Drop>(
-    lacking: bool,
-    coord: Coord,
-    out: &mut W,
-) -> io::Result<()>
-    ensures { Writes W.contents out.old out.new result (lacking_line lacking coord) }
-{
-    if lacking {
-        write_lacks(coord, out)
-    } else {
-        Ok(())
-    }
-}
-
+/// Writes the line of a qualifier that the box lacks.
 #[tactic(auto, unfolding(crate::specs::SurveyText::lacks_line))]
-fn write_lacks<W: Write + Drop>(coord: Coord, out: &mut W) -> io::Result<()>
+pub(crate) fn write_lacks<W: Write + Drop>(coord: Coord, out: &mut W) -> io::Result<()>
     ensures { Writes W.contents out.old out.new result (lacks_line coord) }
 {
     out.write_all(b"warning ")?;

@@ -6,4 +6,4 @@ use Rattle.survey_commands.proofs.rows.differs_at_one.Given as goal
 
 -- the row differs at one of the locales that are left where it does at one of all
 abbrev pub invariant-loop-locale : goal.invariant-loop-locale
-invariant-loop-locale l = list_any (differs_at l.row l.set_aside) (locale_numbers (drop l.locale-index l.locales)) ≡ list_any (differs_at l.row l.set_aside) (locale_numbers l.locales)
+invariant-loop-locale l = list_any (differs_at l.row_locale l.set_aside) (locale_numbers (drop l.locale-index l.locales)) ≡ list_any (differs_at l.row_locale l.set_aside) (locale_numbers l.locales)
