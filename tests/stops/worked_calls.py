@@ -541,7 +541,7 @@ REACHED = {
     "find_names": "Places::new Places::push Passed::new Passed::put",
     "name_pairs": "name_text Noted::new Noted::note Noted::ids_on Noted::into_pairs",
     "push_base": "IndexedTable::new",
-    "map_bytes": "Carried::new FirstRows::new FirstRows::in_order",
+    "map_bytes": "MappedIds::new FirstRows::new FirstRows::in_order open_table",
     "query_bytes": "open_stack",
     "Opened::query": "Opened::read",
     "bag": "FoundBag::select FoundBag::of",

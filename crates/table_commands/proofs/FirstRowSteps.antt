@@ -1,17 +1,21 @@
 -- How the first row of each id is found.
-use Rattle.std.proofs.Common.{◌≡◌, ℕ, ◌==◌, Bool, true, false, cond, List, [], ◌∷◌, map, Option, Some, None, refl, sym, ap, ◌∙◌}
-use Rattle.std.specs.BTreeMap.{BTreeMap, insert_entry, keys}
+use Rattle.std.proofs.Common.{◌≡◌, ℕ, ◌==◌, Bool, true, false, cond, List, [], ◌∷◌, ◌++◌, map, get_or, Option, Some, None, refl, sym, ap, ◌∙◌}
+use Rattle.std.proofs.lemmas.Cmp.{nat_cmp_total}
+use Rattle.std.proofs.lemmas.List.{append-nil}
+use Rattle.std.proofs.lemmas.List.Elements.{All-head, All-tail}
+use Rattle.std.proofs.lemmas.Map.Views.{All-found}
+use Rattle.std.specs.BTreeMap.{BTreeMap, get, insert_entry, IsOrdered, keys, values}
 use Rattle.std.specs.BTreeSet.{insert_key}
-use Rattle.std.specs.List.{fold}
-use Rattle.std.specs.Map.{keys_of}
-use Rattle.std.specs.Option.{option_or}
+use Rattle.std.specs.List.{All, filter_map, fold}
+use Rattle.std.specs.Map.{keys_of, values_of}
+use Rattle.std.specs.Option.{option_map, option_or}
 use Rattle.std.specs.Ordering.{match_ordering, nat_cmp}
 use Rattle.std.specs.declared.cmp.Ordering.{Ordering}
 use Rattle.std.specs.declared.cmp.Ordering.TheVariants.{Less, Equal, Greater}
-use Rattle.answer_text.specs.type_chunks.Row.{RowOf}
+use Rattle.answer_text.specs.type_chunks.Row.{RowOf, row_of}
 use Rattle.answer_text.specs.type_chunks.declared.row.Row.{Row}
-use Rattle.table_commands.specs.FirstRows.{rising, first_row}
-use Rattle.table_commands.specs.FirstRowsSeen.{row_at, row_for}
+use Rattle.table_commands.specs.FirstRows.{rising, first_row, first_rows}
+use Rattle.table_commands.specs.FirstRowsSeen.{AreFirstOf, AreIdsOf, row_at, row_for}
 
 pub keys-insert_entry : {X : Type 0} (es : List (ℕ × X)) (k : ℕ) (v : X) → keys_of (insert_entry nat_cmp es k v) ≡ insert_key nat_cmp (keys_of es) k
 keys-insert_entry [] k v = refl
@@ -74,5 +78,25 @@ FindsAllBut-ids all left kept before nothing =
 pub FindsAllBut-first : (all left : List RowOf) (kept : BTreeMap ℕ Row) → FindsAllBut all left kept → left ≡ [] → (id : ℕ) → row_at kept id ≡ first_row all id
 FindsAllBut-first all left kept before nothing id =
     sym (option_or-none (row_at kept id)) ∙ ap (λ (t : List RowOf). option_or (row_at kept id) (first_row t id)) (sym nothing) ∙ before.first id
+
+-- ---- all rows, in the order of their ids
+
+each_first : (all : List RowOf) (es : List (ℕ × Row)) → All (λ e. first_row all e.0 ≡ Some (row_of e.1)) es
+    → map row_of (values_of es) ≡ filter_map (first_row all) (keys_of es)
+each_first all [] first = refl
+each_first all (e ∷ es) first =
+    let IsFirst : (ℕ × Row) → Type 0 = λ entry. first_row all entry.0 ≡ Some (row_of entry.1) in
+    rw (All-head IsFirst e es first) (ap (λ (rows : List RowOf). row_of e.1 ∷ rows) (each_first all es (All-tail IsFirst e es first)))
+
+pub first_rows-of_values : (all : List RowOf) (kept : BTreeMap ℕ Row) → IsOrdered nat_cmp kept → AreIdsOf all kept → AreFirstOf all kept → map row_of (values kept) ≡ first_rows all
+first_rows-of_values all kept ordered ids first =
+    let found : All (λ e. get nat_cmp kept e.0 ≡ Some e.1) kept.entries = All-found nat_cmp_total kept ordered in
+    each_first all kept.entries (λ i d within. sym (first (get_or kept.entries i d).0) ∙ ap (λ (o : Option Row). option_map row_of o) (found i d within))
+    ∙ ap (filter_map (first_row all)) ids
+
+pub first_rows-end : (all : List RowOf) (kept : BTreeMap ℕ Row) (left : List Row) (rows : List RowOf) → IsOrdered nat_cmp kept → AreIdsOf all kept → AreFirstOf all kept
+    → rows ++ map row_of left ≡ map row_of (values kept) → left ≡ [] → rows ≡ first_rows all
+first_rows-end all kept left rows ordered ids first before nothing =
+    sym (append-nil rows) ∙ ap (λ (t : List Row). rows ++ map row_of t) (sym nothing) ∙ before ∙ first_rows-of_values all kept ordered ids first
 
 pub ruleset first_steps = (FindsAllBut-none, FindsAllBut-next, FindsAllBut-ids, FindsAllBut-first)

@@ -1,6 +1,6 @@
 pub mod LoopSteps
 pub mod FirstRowSteps
-pub mod CarriedSteps
+pub mod MappedIdSteps
 pub mod PairSteps
 pub mod MapJson
 pub mod RisingSteps

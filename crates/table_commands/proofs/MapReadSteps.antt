@@ -9,10 +9,13 @@ use Rattle.serde_json.specs.Data.{array}
 use Rattle.json_input.specs.Each.{each, list_items}
 use Rattle.json_input.proofs.EachSteps.{each-ok}
 use Rattle.answer_text.specs.res_value.ResId.{package_of}
-use Rattle.answer_text.specs.resource_table.Table.{TableOf}
+use Rattle.answer_text.specs.resource_table.Table.{TableOf, table_in}
 use Rattle.answer_text.specs.overlay_map.IdMap.{IdPair, MapOf, check_target, checked_pair, checked_pairs, map_in, pair_item, pairs_in, pairs_of, targets_of}
+use Rattle.command_base.specs.fault_text.ToolFault.{fault_of_layer_table}
+use Rattle.command_base.specs.MapErr.{map_err}
+use Rattle.command_base.specs.StackBytes.{table_of_layer}
 use Rattle.table_commands.specs.MadeMap.{made_map}
-use Rattle.table_commands.specs.MapOutput.{ReadsBack, map_text}
+use Rattle.table_commands.specs.MapOutput.{MadeMapReadsBack, ReadsBack, map_text}
 use Rattle.table_commands.specs.PairSeen.{IdsReadBack}
 use Rattle.table_commands.proofs.MapJson.{map_data, map_text-value, pair_data}
 use Rattle.table_commands.proofs.RisingSteps.{IsRisingFrom, IsTargetOf, made-rises}
@@ -97,3 +100,18 @@ made-reads_back target overlay pairs is back =
     (subst (IsRisingFrom 0) (sym (ap numbers is) ∙ map-map (λ pair. pair.0) (λ pair. (pair.0.0, pair.1.0)) pairs) made.1)
     (all-seen (IsTargetOf made.0) (λ pair. (pair.0.0, pair.1.0)) pairs (subst (All (IsTargetOf made.0)) (sym is) made.2))
     back)
+
+-- ---- the bytes
+
+-- the table that was opened is the one that the bytes mean
+opened-table : (layer : ℕ) (bytes : List ℕ) (opened table : TableOf) → table_of_layer layer bytes ≡ Ok opened → table_in bytes ≡ Ok table → opened ≡ table
+opened-table layer bytes opened table is_opened is_table =
+    let same : map_err (fault_of_layer_table layer) (Ok table) ≡ Ok opened = sym (ap (map_err (fault_of_layer_table layer)) is_table) ∙ is_opened in
+    cc
+
+pub opened-reads_back : (target_bytes overlay_bytes : List ℕ) (opened_target opened_overlay : TableOf) → table_of_layer 0 target_bytes ≡ Ok opened_target
+    → table_of_layer 1 overlay_bytes ≡ Ok opened_overlay → ReadsBack (made_map opened_target opened_overlay) → MadeMapReadsBack target_bytes overlay_bytes
+opened-reads_back target_bytes overlay_bytes opened_target opened_overlay at_target at_overlay back = λ target overlay is_target is_overlay.
+    let target_same = opened-table 0 target_bytes opened_target target at_target is_target in
+    let overlay_same = opened-table 1 overlay_bytes opened_overlay overlay at_overlay is_overlay in
+    subst (λ (made : MapOf). ReadsBack made) (λ k. made_map (target_same k) (overlay_same k)) back

@@ -1,8 +1,19 @@
--- How contracts see references that go astray. (Cited by contracts of this crate alone.)
+-- How contracts see references that go astray, and the search for them. (Cited by contracts of this crate alone.)
+use Rattle.answer_text.specs.overlay_map.IdMap.{MapOf, pairs_of}
+use Rattle.answer_text.specs.resource_table.Table.{TableOf}
 use Rattle.answer_text.specs.type_chunks.Row.{row_of}
 use Rattle.table_commands.specs.declared.astray.Astray.{Astray}
+use Rattle.table_commands.specs.declared.astray.AstraySearch.{AstraySearch}
 use Rattle.table_commands.specs.MadeMap.{AstrayOf}
 
 -- by their content, not their address
 abbrev pub astray_of : Astray → AstrayOf
 astray_of found = record { from = row_of found.from; to = row_of found.to }
+
+-- the overlay that is searched
+abbrev pub overlay_of : AstraySearch → TableOf
+overlay_of search = search.first.now.table.now
+
+-- the map whose references go astray
+abbrev pub map_of : AstraySearch → MapOf
+map_of search = pairs_of search.mapped.now.pairs.now

@@ -2,7 +2,7 @@ pub mod TableOutput
 pub mod FirstRows
 pub mod FirstRowsSeen
 pub mod MadeMap
-pub mod CarriedSeen
+pub mod MappedIdsSeen
 pub mod PairSeen
 pub mod NamedTarget
 pub mod AstraySeen

@@ -1,19 +1,18 @@
 -- What the command `map` prints.
-use Rattle.std.specs.Prelude.{◌≡◌, ℕ, ◌==◌, ◌&&◌, List, [], ◌∷◌, ◌++◌, codes, length, Option, Result, Ok, Err, IsOk, if◌then◌else◌}
+use Rattle.std.specs.Prelude.{◌≡◌, ℕ, ◌==◌, ◌||◌, not, List, [], ◌∷◌, ◌++◌, codes, length, Option, Result, Ok, Err, IsOk}
 use Rattle.std.specs.Io.KnownBytes.{Appends}
 use Rattle.std.specs.List.{flat_map}
 use Rattle.contract_words.specs.Faults.{◌>>=◌}
 use Rattle.answer_text.specs.DumpText.{names_text}
 use Rattle.answer_text.specs.overlay_map.IdMap.{MapOf, map_in}
 use Rattle.answer_text.specs.res_value.ResId.{id_text}
-use Rattle.answer_text.specs.resource_table.Table.{TableOf}
+use Rattle.answer_text.specs.resource_table.Table.{TableOf, table_in}
 use Rattle.answer_text.specs.type_chunks.Row.{RowOf}
 use Rattle.command_base.specs.fault_text.declared.fault.ToolFault.{ToolFault}
 use Rattle.command_base.specs.fault_text.declared.fault.ToolFault.TheVariants.{OutOfMemory, Write}
 use Rattle.command_base.specs.StackBytes.{table_of_layer}
 use Rattle.command_base.specs.declared.status.Status.{Status}
-use Rattle.command_base.specs.declared.status.Status.TheVariants.{Done, Negative}
-use Rattle.command_base.specs.Output.{Output}
+use Rattle.command_base.specs.Output.{Output, negative_if}
 use Rattle.table_commands.specs.MadeMap.{AstrayOf, made_map, unmapped, astray}
 
 -- ---- the map
@@ -35,6 +34,11 @@ map_text (first ∷ others) = codes "[" ++ pair_text first ++ flat_map next_pair
 abbrev pub ReadsBack : MapOf → Type 0
 ReadsBack made = map_in (map_text made) ≡ Ok made
 
+-- so it is of the map that is made of the tables of these bytes
+abbrev pub MadeMapReadsBack : List ℕ → List ℕ → Type 0
+MadeMapReadsBack target_bytes overlay_bytes =
+    (target overlay : TableOf) → table_in target_bytes ≡ Ok target → table_in overlay_bytes ≡ Ok overlay → ReadsBack (made_map target overlay)
+
 -- ---- what is left out, and what goes astray
 
 -- `ID TYPE/KEY`
@@ -54,7 +58,7 @@ left_lines overlay rows found = flat_map (unmapped_line overlay) rows ++ flat_ma
 
 -- it is done where nothing is left out and nothing goes astray
 abbrev pub status_of_map : List RowOf → List AstrayOf → Status
-status_of_map rows found = if length rows == 0 && length found == 0 then Done else Negative
+status_of_map rows found = negative_if (not (length rows == 0) || not (length found == 0))
 
 -- ---- the output, and what is said beside it
 

@@ -7,10 +7,10 @@ ghost use Rattle.answer_text.specs.res_value.Cell.{cell_of};
 ghost use Rattle.answer_text.specs.res_value.MapRows.{map_rows_of};
 ghost use Rattle.answer_text.specs.type_chunks.Row.{row_of};
 ghost use Rattle.table_commands.specs.MadeMap.{astray_to, astray_by, astray_by_bag_row, astray_by_cell, astray_in, astray};
-ghost use Rattle.table_commands.specs.AstraySeen.{astray_of};
+ghost use Rattle.table_commands.specs.AstraySeen.{astray_of, map_of, overlay_of};
 
-use crate::carried::Carried;
 use crate::first_rows::FirstRows;
+use crate::mapped_ids::MappedIds;
 use answer_text::{Cell, MapRows, ResId, Row, Table, Value, kind};
 use std::alloc::{AllocError, Global};
 
@@ -27,124 +27,124 @@ pub(crate) fn astray_references<'a>(
     alloc: Global,
     overlay: &Table<'a>,
     first: &FirstRows<'_, 'a>,
-    carried: &Carried<'_>,
+    mapped: &MappedIds<'_>,
 ) -> Result<Vec<Astray<'a>>, AllocError>
     requires { first.now.table.now ≡ overlay.now }
-    ensures { IfOk result (λ found. map astray_of found.items ≡ astray overlay.now (pairs_of carried.now.pairs.now)) }
+    ensures { IfOk result (λ found. map astray_of found.items ≡ astray overlay.now (pairs_of mapped.now.pairs.now)) }
 {
+    let search = AstraySearch { first, mapped };
     let mut found = Vec::new(alloc);
     for row in overlay.all_rows() {
-        push_row(&row, first, carried, &mut found)?;
+        search.push_row(&row, &mut found)?;
     }
     Ok(found)
 }
 
-// Pushes those of a row, if its id stands for some target.
-#[tactic(auto, unfolding(crate::specs::MadeMap::astray_in))]
-fn push_row<'a>(
-    row: &Row<'a>,
-    first: &FirstRows<'_, 'a>,
-    carried: &Carried<'_>,
-    found: &mut Vec<Astray<'a>>,
-) -> Result<(), AllocError>
-    ensures { OnOk result (map astray_of found.new.items
-        ≡ map astray_of found.old.items ++ astray_in first.now.table.now (pairs_of carried.now.pairs.now) (row_of row.now)) }
-{
-    if !carried.carries(row.id) {
-        return Ok(());
-    }
-    push_cell(row, row.cell, first, carried, found)
+/// By what a reference of an overlay goes astray. Each call pushes the references that do, in their order.
+#[derive(Clone, Copy)]
+struct AstraySearch<'s, 'p, 't, 'a> {
+    first: &'s FirstRows<'t, 'a>,
+    mapped: &'s MappedIds<'p>,
 }
 
-#[tactic(auto, unfolding(crate::specs::MadeMap::astray_by_cell))]
-fn push_cell<'a>(
-    row: &Row<'a>,
-    cell: Cell<'a>,
-    first: &FirstRows<'_, 'a>,
-    carried: &Carried<'_>,
-    found: &mut Vec<Astray<'a>>,
-) -> Result<(), AllocError>
-    ensures { OnOk result (map astray_of found.new.items
-        ≡ map astray_of found.old.items ++ astray_by_cell first.now.table.now (pairs_of carried.now.pairs.now) (row_of row.now) (cell_of cell.entry)) }
-{
-    match cell {
-        Cell::Plain(value) => push_value(row, value, first, carried, found),
-        Cell::Bag { parent, rows } => {
-            push_id(row, parent, first, carried, found)?;
-            push_bag_rows(row, rows, first, carried, found)
+impl<'s, 'p, 't, 'a> AstraySearch<'s, 'p, 't, 'a> {
+    // Those of a row, if its id stands for some target.
+    #[tactic(auto, unfolding(crate::specs::MadeMap::astray_in))]
+    fn push_row(&self, row: &Row<'a>, found: &mut Vec<Astray<'a>>) -> Result<(), AllocError>
+        ensures { OnOk result (map astray_of found.new.items
+            ≡ map astray_of found.old.items ++ astray_in (overlay_of self.now) (map_of self.now) (row_of row.now)) }
+    {
+        if !self.mapped.carries(row.id) {
+            return Ok(());
+        }
+        self.push_cell(row, row.cell, found)
+    }
+
+    #[tactic(auto, unfolding(crate::specs::MadeMap::astray_by_cell))]
+    fn push_cell(
+        &self,
+        row: &Row<'a>,
+        cell: Cell<'a>,
+        found: &mut Vec<Astray<'a>>,
+    ) -> Result<(), AllocError>
+        ensures { OnOk result (map astray_of found.new.items
+            ≡ map astray_of found.old.items ++ astray_by_cell (overlay_of self.now) (map_of self.now) (row_of row.now) (cell_of cell.entry)) }
+    {
+        match cell {
+            Cell::Plain(value) => self.push_value(row, value, found),
+            Cell::Bag { parent, rows } => {
+                self.push_id(row, parent, found)?;
+                self.push_bag_rows(row, rows, found)
+            }
         }
     }
-}
 
-fn push_bag_rows<'a>(
-    row: &Row<'a>,
-    bag_rows: MapRows<'a>,
-    first: &FirstRows<'_, 'a>,
-    carried: &Carried<'_>,
-    found: &mut Vec<Astray<'a>>,
-) -> Result<(), AllocError>
-    ensures { OnOk result (map astray_of found.new.items
-        ≡ map astray_of found.old.items ++ flat_map (astray_by_bag_row first.now.table.now (pairs_of carried.now.pairs.now) (row_of row.now)) (map_rows_of bag_rows.entry)) }
-{
-    for (name, value) in bag_rows {
-        push_bag_row(row, name, value, first, carried, found)?;
+    fn push_bag_rows(
+        &self,
+        row: &Row<'a>,
+        bag_rows: MapRows<'a>,
+        found: &mut Vec<Astray<'a>>,
+    ) -> Result<(), AllocError>
+        ensures { OnOk result (map astray_of found.new.items
+            ≡ map astray_of found.old.items ++ flat_map (astray_by_bag_row (overlay_of self.now) (map_of self.now) (row_of row.now)) (map_rows_of bag_rows.entry)) }
+    {
+        for (name, value) in bag_rows {
+            self.push_bag_row(row, name, value, found)?;
+        }
+        Ok(())
     }
-    Ok(())
-}
 
-#[tactic(auto, unfolding(crate::specs::MadeMap::astray_by_bag_row))]
-fn push_bag_row<'a>(
-    row: &Row<'a>,
-    name: ResId,
-    value: Value,
-    first: &FirstRows<'_, 'a>,
-    carried: &Carried<'_>,
-    found: &mut Vec<Astray<'a>>,
-) -> Result<(), AllocError>
-    ensures { OnOk result (map astray_of found.new.items
-        ≡ map astray_of found.old.items ++ astray_by_bag_row first.now.table.now (pairs_of carried.now.pairs.now) (row_of row.now) (name, value)) }
-{
-    push_id(row, name, first, carried, found)?;
-    push_value(row, value, first, carried, found)
-}
-
-// Pushes what a value refers to, if it goes astray.
-#[tactic(auto, unfolding(crate::specs::MadeMap::astray_by))]
-fn push_value<'a>(
-    row: &Row<'a>,
-    value: Value,
-    first: &FirstRows<'_, 'a>,
-    carried: &Carried<'_>,
-    found: &mut Vec<Astray<'a>>,
-) -> Result<(), AllocError>
-    ensures { OnOk result (map astray_of found.new.items
-        ≡ map astray_of found.old.items ++ astray_by first.now.table.now (pairs_of carried.now.pairs.now) (row_of row.now) value) }
-{
-    if value.kind == kind::REFERENCE || value.kind == kind::ATTRIBUTE {
-        return push_id(row, ResId(value.word), first, carried, found);
+    #[tactic(auto, unfolding(crate::specs::MadeMap::astray_by_bag_row))]
+    fn push_bag_row(
+        &self,
+        row: &Row<'a>,
+        name: ResId,
+        value: Value,
+        found: &mut Vec<Astray<'a>>,
+    ) -> Result<(), AllocError>
+        ensures { OnOk result (map astray_of found.new.items
+            ≡ map astray_of found.old.items ++ astray_by_bag_row (overlay_of self.now) (map_of self.now) (row_of row.now) (name, value)) }
+    {
+        self.push_id(row, name, found)?;
+        self.push_value(row, value, found)
     }
-    Ok(())
-}
 
-// Pushes a row that refers to an id, if that goes astray.
-#[tactic(auto, unfolding(crate::specs::MadeMap::astray_to))]
-fn push_id<'a>(
-    row: &Row<'a>,
-    id: ResId,
-    first: &FirstRows<'_, 'a>,
-    carried: &Carried<'_>,
-    found: &mut Vec<Astray<'a>>,
-) -> Result<(), AllocError>
-    ensures { OnOk result (map astray_of found.new.items
-        ≡ map astray_of found.old.items ++ astray_to first.now.table.now (pairs_of carried.now.pairs.now) (row_of row.now) id.0) }
-{
-    if carried.keeps(id) {
-        return Ok(());
+    // What a value refers to, if it goes astray.
+    #[tactic(auto, unfolding(crate::specs::MadeMap::astray_by))]
+    fn push_value(
+        &self,
+        row: &Row<'a>,
+        value: Value,
+        found: &mut Vec<Astray<'a>>,
+    ) -> Result<(), AllocError>
+        ensures { OnOk result (map astray_of found.new.items
+            ≡ map astray_of found.old.items ++ astray_by (overlay_of self.now) (map_of self.now) (row_of row.now) value) }
+    {
+        if value.kind == kind::REFERENCE || value.kind == kind::ATTRIBUTE {
+            return self.push_id(row, ResId(value.word), found);
+        }
+        Ok(())
     }
-    let Some(to) = first.get(id) else {
-        return Ok(());
-    };
-    let from = *row;
-    found.push(Astray { from, to })?;
-    Ok(())
+
+    // A row that refers to an id, if that goes astray.
+    #[tactic(auto, unfolding(crate::specs::MadeMap::astray_to))]
+    fn push_id(
+        &self,
+        row: &Row<'a>,
+        id: ResId,
+        found: &mut Vec<Astray<'a>>,
+    ) -> Result<(), AllocError>
+        ensures { OnOk result (map astray_of found.new.items
+            ≡ map astray_of found.old.items ++ astray_to (overlay_of self.now) (map_of self.now) (row_of row.now) id.0) }
+    {
+        if self.mapped.keeps(id) {
+            return Ok(());
+        }
+        let Some(to) = self.first.get(id) else {
+            return Ok(());
+        };
+        let from = *row;
+        found.push(Astray { from, to })?;
+        Ok(())
+    }
 }

@@ -44,10 +44,8 @@ impl<'t, 'a> FirstRows<'t, 'a> {
         ensures { IfOk result (λ rows. map row_of rows.items ≡ first_rows (rows_of self.now.table.now)) }
     {
         let mut rows = Vec::with_capacity(alloc, self.rows.len())?;
-        for id in self.rows.keys() {
-            if let Some(row) = self.get(ResId(*id)) {
-                rows.push(row)?;
-            }
+        for row in self.rows.values() {
+            rows.push(*row)?;
         }
         Ok(rows)
     }

@@ -14,11 +14,11 @@
 #![tactic(auto)]
 
 mod astray;
-mod carried;
 mod dump;
 mod first_rows;
 mod map;
 mod map_text;
+mod mapped_ids;
 mod pairs;
 mod rows;
 mod unmapped;

@@ -1,29 +1,26 @@
 //! The command `map`.
 
 ghost use Rattle.std.specs.Prelude.{◌≡◌, map, Ok, OnOk};
-ghost use Rattle.contract_words.specs.Exact.{GivesOr};
 ghost use Rattle.answer_text.specs.type_chunks.Row.{row_of};
-ghost use Rattle.command_base.specs.Output.{IsOfInput};
-ghost use Rattle.command_base.specs.StackBytes.{table_of_layer};
-ghost use Rattle.command_base.specs.fault_text.declared.fault.ToolFault.TheVariants.{OutOfMemory};
 ghost use Rattle.table_commands.specs.AstraySeen.{astray_of};
 ghost use Rattle.table_commands.specs.MadeMap.{made_map};
-ghost use Rattle.table_commands.specs.MapOutput.{PrintsBoth, ReadsBack, map_output, output_of_map, status_of_map};
+ghost use Rattle.table_commands.specs.MapOutput.{MadeMapReadsBack, PrintsBoth, ReadsBack, map_output, output_of_map, status_of_map};
 
 use crate::astray::{Astray, astray_references};
-use crate::carried::Carried;
 use crate::first_rows::FirstRows;
 use crate::map_text::{write_left, write_map};
+use crate::mapped_ids::MappedIds;
 use crate::pairs::made_pairs;
 use crate::unmapped::unmapped_rows;
 use answer_text::{Row, Table};
-use command_base::{Status, ToolFault};
+use command_base::{Status, ToolFault, open_table};
 use std::alloc::Global;
 use std::io::Write;
 
 /// Prints the id map of an overlay: each id of the target, and the overlay's id of the same names. To `errors` goes a
 /// line for each id of the overlay that stands for no target, and one for each of its references to an id of its own
-/// that does not lead there; then the status is Negative. The target is layer 0 and the overlay layer 1.
+/// that does not lead there; then the status is Negative. The target is layer 0 and the overlay layer 1. What is printed
+/// is read as that map.
 #[tactic(auto, unfolding(crate::specs::MapOutput::map_output))]
 pub fn map_bytes<W: Write + Drop, E: Write + Drop>(
     alloc: Global,
@@ -32,22 +29,12 @@ pub fn map_bytes<W: Write + Drop, E: Write + Drop>(
     out: &mut W,
     errors: &mut E,
 ) -> Result<Status, ToolFault>
-    ensures { PrintsBoth W.contents E.contents out.old out.new errors.old errors.new result (map_output target.now overlay.now) }
+    ensures prints { PrintsBoth W.contents E.contents out.old out.new errors.old errors.new result (map_output target.now overlay.now) }
+    ensures reads_back { OnOk result (MadeMapReadsBack target.now overlay.now) }
 {
     let target = open_table(alloc, 0, target)?;
     let overlay = open_table(alloc, 1, overlay)?;
     print_map(alloc, &target, &overlay, out, errors)
-}
-
-// The table of the layer at a place.
-fn open_table(alloc: Global, layer: usize, bytes: &[u8]) -> Result<Table<'_>, ToolFault>
-    ensures value { GivesOr OutOfMemory (λ table. table) result (table_of_layer layer bytes.now) }
-    ensures of_input { IsOfInput result }
-{
-    match Table::open(alloc, bytes) {
-        Ok(table) => Ok(table),
-        Err(fault) => Err(ToolFault::of_layer_table(layer, fault)),
-    }
 }
 
 fn print_map<W: Write + Drop, E: Write + Drop>(
@@ -62,9 +49,9 @@ fn print_map<W: Write + Drop, E: Write + Drop>(
 {
     let pairs = made_pairs(alloc, target, overlay)?;
     let first = FirstRows::new(alloc, overlay)?;
-    let carried = Carried::new(alloc, &pairs)?;
-    let unmapped = unmapped_rows(alloc, &first, &carried)?;
-    let astray = astray_references(alloc, overlay, &first, &carried)?;
+    let mapped = MappedIds::new(alloc, &pairs)?;
+    let unmapped = unmapped_rows(alloc, &first, &mapped)?;
+    let astray = astray_references(alloc, overlay, &first, &mapped)?;
     write_map(&pairs, out)?;
     write_left(overlay, &unmapped, &astray, errors)?;
     Ok(status_of_map(&unmapped, &astray))
@@ -73,9 +60,5 @@ fn print_map<W: Write + Drop, E: Write + Drop>(
 fn status_of_map(unmapped: &[Row<'_>], astray: &[Astray<'_>]) -> Status
     ensures { result ≡ status_of_map (map row_of unmapped.now) (map astray_of astray.now) }
 {
-    if unmapped.is_empty() && astray.is_empty() {
-        Status::Done
-    } else {
-        Status::Negative
-    }
+    Status::negative_if(!unmapped.is_empty() || !astray.is_empty())
 }

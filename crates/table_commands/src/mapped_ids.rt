@@ -2,7 +2,7 @@
 
 ghost use Rattle.std.specs.Prelude.{◌≡◌, IfOk};
 ghost use Rattle.answer_text.specs.overlay_map.IdMap.{pairs_of};
-ghost use Rattle.table_commands.specs.CarriedSeen.{AreCarried, AreKept};
+ghost use Rattle.table_commands.specs.MappedIdsSeen.{AreCarried, AreKept};
 ghost use Rattle.table_commands.specs.MadeMap.{carries, keeps};
 
 use answer_text::ResId;
@@ -11,7 +11,7 @@ use std::collections::BTreeSet;
 
 /// Which ids of an overlay some pairs carry over.
 #[derive(Drop)]
-pub(crate) struct Carried<'p> {
+pub(crate) struct MappedIds<'p> {
     pairs: &'p [(ResId, ResId)],
     /// The numbers of those that stand for some target.
     own: BTreeSet<u32>,
@@ -21,13 +21,13 @@ pub(crate) struct Carried<'p> {
     ghost are_kept: { AreKept (pairs_of pairs.now) kept },
 }
 
-impl<'p> Carried<'p> {
-    pub fn new(alloc: Global, pairs: &'p [(ResId, ResId)]) -> Result<Carried<'p>, AllocError>
-        ensures { IfOk result (λ carried. carried.pairs ≡ pairs.entry) }
+impl<'p> MappedIds<'p> {
+    pub fn new(alloc: Global, pairs: &'p [(ResId, ResId)]) -> Result<MappedIds<'p>, AllocError>
+        ensures { IfOk result (λ mapped. mapped.pairs ≡ pairs.entry) }
     {
         let own = own_ids(alloc, pairs)?;
         let kept = kept_ids(alloc, pairs)?;
-        Ok(Carried { pairs, own, kept })
+        Ok(MappedIds { pairs, own, kept })
     }
 
     /// Whether an id stands for some target.

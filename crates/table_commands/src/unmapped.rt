@@ -5,8 +5,8 @@ ghost use Rattle.answer_text.specs.overlay_map.IdMap.{pairs_of};
 ghost use Rattle.answer_text.specs.type_chunks.Row.{row_of};
 ghost use Rattle.table_commands.specs.MadeMap.{unmapped};
 
-use crate::carried::Carried;
 use crate::first_rows::FirstRows;
+use crate::mapped_ids::MappedIds;
 use answer_text::Row;
 use std::alloc::{AllocError, Global};
 
@@ -14,14 +14,14 @@ use std::alloc::{AllocError, Global};
 pub(crate) fn unmapped_rows<'a>(
     alloc: Global,
     first: &FirstRows<'_, 'a>,
-    carried: &Carried<'_>,
+    mapped: &MappedIds<'_>,
 ) -> Result<Vec<Row<'a>>, AllocError>
-    ensures { IfOk result (λ rows. map row_of rows.items ≡ unmapped first.now.table.now (pairs_of carried.now.pairs.now)) }
+    ensures { IfOk result (λ rows. map row_of rows.items ≡ unmapped first.now.table.now (pairs_of mapped.now.pairs.now)) }
 {
     let rows = first.in_order(alloc)?;
     let mut left = Vec::new(alloc);
     for row in &rows {
-        if !carried.carries(row.id) {
+        if !mapped.carries(row.id) {
             left.push(*row)?;
         }
     }

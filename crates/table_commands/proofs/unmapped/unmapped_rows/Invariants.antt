@@ -8,4 +8,4 @@ use Rattle.table_commands.proofs.unmapped.unmapped_rows.Given as goal
 -- all rows were looked at but those that are left
 abbrev pub invariant-loop-row : goal.invariant-loop-row
 invariant-loop-row l =
-    GivesAllBut (if_unmapped (pairs_of l.carried.pairs.now)) (map row_of l.left.items) (map row_of l.row-items) (map row_of (drop l.row-index l.row-items))
+    GivesAllBut (if_unmapped (pairs_of l.mapped.pairs.now)) (map row_of l.left.items) (map row_of l.row-items) (map row_of (drop l.row-index l.row-items))

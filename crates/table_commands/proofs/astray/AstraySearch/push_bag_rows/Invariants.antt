@@ -1,16 +1,15 @@
 use Rattle.std.proofs.Common.{◌++◌, map}
 use Rattle.std.specs.List.{flat_map}
-use Rattle.answer_text.specs.overlay_map.IdMap.{pairs_of}
 use Rattle.answer_text.specs.res_value.MapRows.{map_rows_of}
 use Rattle.answer_text.specs.type_chunks.Row.{row_of}
-use Rattle.table_commands.specs.AstraySeen.{astray_of}
+use Rattle.table_commands.specs.AstraySeen.{astray_of, map_of, overlay_of}
 use Rattle.table_commands.specs.MadeMap.{astray_by_bag_row}
 use Rattle.table_commands.proofs.LoopSteps.{JoinsAllBut}
-use Rattle.table_commands.proofs.astray.push_bag_rows.Given as goal
+use Rattle.table_commands.proofs.astray.AstraySearch.push_bag_rows.Given as goal
 
 -- those of all rows of the bag were pushed but of the rows that are left
 abbrev pub invariant-loop-name : goal.invariant-loop-name
 invariant-loop-name l =
-    JoinsAllBut (astray_by_bag_row l.first.table.now (pairs_of l.carried.pairs.now) (row_of l.row)) (map astray_of l.found.items)
-    (map astray_of l.fn.found.items ++ flat_map (astray_by_bag_row l.first.table.now (pairs_of l.carried.pairs.now) (row_of l.row)) (map_rows_of l.fn.bag_rows))
+    JoinsAllBut (astray_by_bag_row (overlay_of l.self) (map_of l.self) (row_of l.row)) (map astray_of l.found.items)
+    (map astray_of l.fn.found.items ++ flat_map (astray_by_bag_row (overlay_of l.self) (map_of l.self) (row_of l.row)) (map_rows_of l.fn.bag_rows))
     (map_rows_of l.name-iterator)
