@@ -7,7 +7,7 @@ use Rattle.cert_tree.specs.Certificate.{NodeOf, GoalOf}
 use Rattle.show_command.specs.declared.path_end.LastAnswer.{LastAnswer}
 use Rattle.show_command.specs.declared.path_end.LastAnswer.TheVariants.{Nothing, Yes, No}
 use Rattle.show_command.specs.TreeLines.{LineOf, NodeAt, Unreached, Missing, tree_lines}
-use Rattle.show_command.specs.TreeText.{label_text, goal_words}
+use Rattle.show_command.specs.TreeText.{node_label, goal_head}
 
 -- ---- labels
 
@@ -23,11 +23,11 @@ unfoldable pub quoted : List ℕ → List ℕ
 quoted text = 34 ∷ [] ++ flat_map escaped text ++ 34 ∷ []
 
 unfoldable pub unreached_label : List LayerOf → NodeOf → List ℕ
-unreached_label stack node = codes "not reached: " ++ label_text stack node
+unreached_label stack node = codes "not reached: " ++ node_label stack node
 
 -- what is shown of a line
 unfoldable pub line_label : List LayerOf → LineOf → List ℕ
-line_label stack (NodeAt number path node) = label_text stack node
+line_label stack (NodeAt number path node) = node_label stack node
 line_label stack (Unreached number node) = unreached_label stack node
 line_label stack (Missing path) = codes "ends early"
 
@@ -74,7 +74,7 @@ unfoldable pub head_with : List ℕ → List ℕ
 head_with label = (codes "digraph {" ++ 10 ∷ codes "  label=") ++ quoted label ++ (codes ";" ++ 10 ∷ codes "  node [shape=box];" ++ 10 ∷ [])
 
 unfoldable pub dot_text : List LayerOf → ℕ → GoalOf → List ℕ
-dot_text stack number goal = head_with (goal_words stack number goal.goal) ++ flat_map (statements_text stack) (tree_lines goal.nodes) ++ codes "}" ++ 10 ∷ []
+dot_text stack number goal = head_with (goal_head stack number goal.goal) ++ flat_map (statements_text stack) (tree_lines goal.nodes) ++ codes "}" ++ 10 ∷ []
 
 -- the line `no goal N`
 unfoldable pub no_goal_line : ℕ → List ℕ

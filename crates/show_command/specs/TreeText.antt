@@ -58,10 +58,10 @@ unfoldable pub bag_text : List LayerOf → ResId → List ℕ
 bag_text stack id = end_text (of_end.Bag id) ++ its_name stack id.0
 
 -- a test in words; or a leaf as `query` writes it, where a string value is followed by its string
-unfoldable pub label_text : List LayerOf → NodeOf → List ℕ
-label_text stack (TestAt test) = test_text test
-label_text stack (ValueAt layer value) = value_text (strings_of_layer stack layer) layer value
-label_text stack (BagAt id) = bag_text stack id
+unfoldable pub node_label : List LayerOf → NodeOf → List ℕ
+node_label stack (TestAt test) = test_text test
+node_label stack (ValueAt layer value) = value_text (strings_of_layer stack layer) layer value
+node_label stack (BagAt id) = bag_text stack id
 
 -- before a test
 unfoldable pub if_text : NodeOf → List ℕ
@@ -70,7 +70,7 @@ if_text (ValueAt layer value) = []
 if_text (BagAt id) = []
 
 unfoldable pub node_text : List LayerOf → NodeOf → List ℕ
-node_text stack node = if_text node ++ label_text stack node
+node_text stack node = if_text node ++ node_label stack node
 
 -- ---- lines
 
@@ -123,12 +123,12 @@ asked_text stack (IdGoal id) = id_text id.0 ++ its_name stack id.0
 asked_text stack (AttrGoal attr styles) = id_text attr.0 ++ its_name stack attr.0 ++ codes " under" ++ flat_map (style_text stack) styles
 
 -- `goal N GOAL`, by its number from 0
-unfoldable pub goal_words : List LayerOf → ℕ → GoalSeen → List ℕ
-goal_words stack number goal = codes "goal " ++ decimal number ++ codes " " ++ asked_text stack goal
+unfoldable pub goal_head : List LayerOf → ℕ → GoalSeen → List ℕ
+goal_head stack number goal = codes "goal " ++ decimal number ++ codes " " ++ asked_text stack goal
 
 -- the line `goal N GOAL nodes M`
 unfoldable pub goal_line : List LayerOf → ℕ → GoalSeen → ℕ → List ℕ
-goal_line stack number goal nodes = goal_words stack number goal ++ codes " nodes " ++ decimal nodes ++ 10 ∷ []
+goal_line stack number goal nodes = goal_head stack number goal ++ codes " nodes " ++ decimal nodes ++ 10 ∷ []
 
 -- the line of a goal by its number from 0, and those of its tree
 unfoldable pub goal_text : List LayerOf → (ℕ × GoalOf) → List ℕ

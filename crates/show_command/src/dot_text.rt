@@ -5,11 +5,11 @@ ghost use Rattle.std.specs.List.{flat_map};
 ghost use Rattle.contract_words.specs.Writes.{Writes};
 ghost use Rattle.cert_tree.specs.Certificate.{node_of, goal_seen, goal_of};
 ghost use Rattle.show_command.specs.TreeLinesSeen.{line_of};
-ghost use Rattle.show_command.specs.TreeText.{goal_words};
+ghost use Rattle.show_command.specs.TreeText.{goal_head};
 ghost use Rattle.show_command.specs.DotText.{escaped, quoted, unreached_label, line_label, missing_name, line_name, labeled_arrow, arrow_to, arrow_text, statements_with, statements_text, head_with, dot_text};
 
-use crate::goal_text::write_goal_words;
-use crate::node_text::write_label;
+use crate::goal_text::write_goal_head;
+use crate::node_text::write_node_label;
 use crate::path_end::LastAnswer;
 use crate::tree_lines::{TreeLine, tree_lines};
 use answer_text::Stack;
@@ -40,7 +40,7 @@ fn head_of(
     number: usize,
     goal: &Goal,
 ) -> Result<Vec<u8>, AllocError>
-    ensures { IfOk result (λ text. text.items ≡ head_with (goal_words stack.now number (goal_seen goal.now))) }
+    ensures { IfOk result (λ text. text.items ≡ head_with (goal_head stack.now number (goal_seen goal.now))) }
 {
     let label = goal_label(alloc, stack, number, goal)?;
     let mut text = Vec::new(alloc);
@@ -57,11 +57,12 @@ fn goal_label(
     number: usize,
     goal: &Goal,
 ) -> Result<Vec<u8>, AllocError>
-    ensures { IfOk result (λ label. label.items ≡ goal_words stack.now number (goal_seen goal.now)) }
+    ensures { IfOk result (λ label. label.items ≡ goal_head stack.now number (goal_seen goal.now)) }
 {
     let mut label = Vec::new(alloc);
-    match write_goal_words(stack, number, goal, &mut label) {
+    match write_goal_head(stack, number, goal, &mut label) {
         Ok(()) => Ok(label),
+        // To a `Vec` only a want of memory is a fault.
         Err(_) => Err(AllocError),
     }
 }
@@ -104,6 +105,7 @@ fn push_line(
     let label = label_of(alloc, stack, line)?;
     match write_statements(line, &label, text) {
         Ok(()) => Ok(()),
+        // To a `Vec` only a want of memory is a fault.
         Err(_) => Err(AllocError),
     }
 }
@@ -128,7 +130,7 @@ fn write_line_label<W: Write + Drop>(
     ensures { Writes W.contents out.old out.new result (line_label stack.now (line_of line.now)) }
 {
     match line {
-        TreeLine::NodeAt { node, .. } => write_label(stack, node, out),
+        TreeLine::NodeAt { node, .. } => write_node_label(stack, node, out),
         TreeLine::Unreached { node, .. } => write_unreached_label(stack, node, out),
         TreeLine::Missing { .. } => out.write_all(b"ends early"),
     }
@@ -143,7 +145,7 @@ fn write_unreached_label<W: Write + Drop>(
     ensures { Writes W.contents out.old out.new result (unreached_label stack.now (node_of node.now)) }
 {
     out.write_all(b"not reached: ")?;
-    write_label(stack, node, out)?;
+    write_node_label(stack, node, out)?;
     Ok(())
 }
 

@@ -3,7 +3,7 @@
 ghost use Rattle.std.specs.List.{flat_map};
 ghost use Rattle.contract_words.specs.Writes.{Writes};
 ghost use Rattle.cert_tree.specs.Certificate.{goal_seen};
-ghost use Rattle.show_command.specs.TreeText.{style_text, asked_text, goal_words, goal_line};
+ghost use Rattle.show_command.specs.TreeText.{style_text, asked_text, goal_head, goal_line};
 
 use answer_text::{ResId, Stack, write_id, write_its_name};
 use cert_tree::Goal;
@@ -20,19 +20,19 @@ pub(crate) fn write_goal_line<W: Write + Drop>(
 ) -> io::Result<()>
     ensures { Writes W.contents out.old out.new result (goal_line stack.now number (goal_seen goal.now) nodes) }
 {
-    write_goal_words(stack, number, goal, out)?;
+    write_goal_head(stack, number, goal, out)?;
     writeln!(out, " nodes {nodes}")
 }
 
 /// Writes the number of a goal and what it asks.
-#[tactic(auto, unfolding(crate::specs::TreeText::goal_words))]
-pub(crate) fn write_goal_words<W: Write + Drop>(
+#[tactic(auto, unfolding(crate::specs::TreeText::goal_head))]
+pub(crate) fn write_goal_head<W: Write + Drop>(
     stack: &Stack<'_>,
     number: usize,
     goal: &Goal,
     out: &mut W,
 ) -> io::Result<()>
-    ensures { Writes W.contents out.old out.new result (goal_words stack.now number (goal_seen goal.now)) }
+    ensures { Writes W.contents out.old out.new result (goal_head stack.now number (goal_seen goal.now)) }
 {
     write!(out, "goal {number} ")?;
     write_asked(stack, goal, out)

@@ -1,4 +1,5 @@
-//! The command `show`, over the bytes of layers and of a certificate and a writer: a certificate as text for people.
+//! The command `show`, over the bytes of layers and of a certificate and a writer: a certificate as text for people, or
+//! the tree of one goal as a picture in DOT.
 //!
 //! For the crates above: the command prints the text that its input means and nothing else, or it names the first fault
 //! of that input and has printed nothing. Whatever the nodes of a goal are, each has a line: also those that no path of

@@ -4,7 +4,7 @@ ghost use Rattle.std.specs.Option.{option_map};
 ghost use Rattle.contract_words.specs.Writes.{Writes};
 ghost use Rattle.answer_text.specs.reference_resolver.string_pool.Pool.{pool_of};
 ghost use Rattle.cert_tree.specs.Certificate.{node_of};
-ghost use Rattle.show_command.specs.TreeText.{no_layer, value_text, bag_text, label_text, if_text, node_text};
+ghost use Rattle.show_command.specs.TreeText.{no_layer, value_text, bag_text, node_label, if_text, node_text};
 
 use crate::test_text::write_test;
 use answer_text::{
@@ -24,7 +24,7 @@ pub(crate) fn write_node<W: Write + Drop>(
     ensures { Writes W.contents out.old out.new result (node_text stack.now (node_of node.now)) }
 {
     write_if(node, out)?;
-    write_label(stack, node, out)
+    write_node_label(stack, node, out)
 }
 
 #[tactic(auto, unfolding(crate::specs::TreeText::if_text))]
@@ -39,13 +39,13 @@ fn write_if<W: Write + Drop>(node: &Node, out: &mut W) -> io::Result<()>
 
 /// Writes a test in words, or a leaf as `query` writes it. A string value is followed by its string, which is one of the
 /// table of its layer, and a bag by its name.
-#[tactic(auto, unfolding(crate::specs::TreeText::label_text))]
-pub(crate) fn write_label<W: Write + Drop>(
+#[tactic(auto, unfolding(crate::specs::TreeText::node_label))]
+pub(crate) fn write_node_label<W: Write + Drop>(
     stack: &Stack<'_>,
     node: &Node,
     out: &mut W,
 ) -> io::Result<()>
-    ensures { Writes W.contents out.old out.new result (label_text stack.now (node_of node.now)) }
+    ensures { Writes W.contents out.old out.new result (node_label stack.now (node_of node.now)) }
 {
     match node {
         Node::Test(test) => write_test(test, out),

@@ -5,5 +5,5 @@ use Rattle.show_command.proofs.dot_text.write_unreached_label.Goals as goal
 pub returns : goal.returns
 unfolding unreached_label
 returns g c =
-    Appends-trans (g.W.Write.contents c.args.out.now) (g.W.Write.contents c.write_all.new.self) (g.W.Write.contents c.write_label.new.out) _ _
-    c.in_ok-write_all.ensures.bytes c.in_ok-write_label.ensures
+    Appends-trans (g.W.Write.contents c.args.out.now) (g.W.Write.contents c.write_all.new.self) (g.W.Write.contents c.write_node_label.new.out) _ _
+    c.in_ok-write_all.ensures.bytes c.in_ok-write_node_label.ensures
