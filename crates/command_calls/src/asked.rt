@@ -13,7 +13,7 @@ use show_command::{show_bytes, show_dot_bytes};
 use std::alloc::Global;
 use std::io::{Write, sink};
 use std::test::Fail;
-use survey_commands::survey_bytes;
+use survey_command::survey_bytes;
 
 /// How many nodes are made at most.
 const MOST_NODES: u32 = 10;

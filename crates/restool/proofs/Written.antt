@@ -30,7 +30,7 @@ use Rattle.program_run.specs.declared.stop.Stop.{Stop}
 use Rattle.program_run.specs.Stop.{StopOf, stop_of, tool}
 use Rattle.program_run.specs.Inputs.{Places, MapInputs, SurveyInputs, ShowInputs, table_of, map_files}
 use Rattle.restool.specs.Asked.{AskedId, AskedIds, AskedAttr, AskedMake, AskedCheck, AskedDiff}
-use Rattle.survey_commands.specs.SurveyOutput.{survey_output}
+use Rattle.survey_command.specs.SurveyOutput.{survey_output}
 use Rattle.restool.specs.Answers.{Answers, CarriesOut, LeavesOut, PrintsTold, shown_output}
 use Rattle.restool.specs.Run.{Shows}
 

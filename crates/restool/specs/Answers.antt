@@ -4,7 +4,7 @@ use Rattle.program_run.specs.fault_text.declared.fault.ToolFault.{ToolFault}
 use Rattle.program_run.specs.fault_text.declared.fault.ToolFault.TheVariants.{OutOfMemory}
 use Rattle.program_run.specs.command_base.declared.status.Status.{Status}
 use Rattle.program_run.specs.command_base.Output.{Output, Prints, PrintsOneOf}
-use Rattle.survey_commands.specs.SurveyOutput.{survey_output}
+use Rattle.survey_command.specs.SurveyOutput.{survey_output}
 use Rattle.show_command.specs.ShowOutput.{show_output, show_dot_output}
 use Rattle.resource_tool.specs.table_commands.TableOutput.{rows_output, dump_output}
 use Rattle.resource_tool.specs.table_commands.MapOutput.{PrintsBoth, map_output}

@@ -20,7 +20,7 @@ use show_command::{show_bytes, show_dot_bytes};
 use std::alloc::Global;
 use std::io::Write;
 use std::time::Clock;
-use survey_commands::survey_bytes;
+use survey_command::survey_bytes;
 
 /// Reads what a request names, and answers it. Where it is not answered, nothing is written, unless a write fails.
 pub fn answer<'a, I: Inputs, C: Clock, O: Write + Drop, E: Write + Drop>(

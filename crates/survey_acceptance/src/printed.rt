@@ -1,7 +1,7 @@
 //! What is printed of worked layers, with a box and without.
 
 use std::alloc::Global;
-use survey_commands::{Status, ToolFault, survey_bytes};
+use survey_command::{Status, ToolFault, survey_bytes};
 use test_layers::{LayerFault, layer_of_lines, put, table_with};
 
 /// The id map of an overlay that stands for nothing.

@@ -1,0 +1,13 @@
+use Rattle.std.proofs.Common.{sym, ◌∙◌}
+use Rattle.overlay_map.specs.type_chunks.Row.{row_of}
+use Rattle.survey_command.specs.Counting.{said_at}
+use Rattle.survey_command.proofs.QualifierSteps.{counted-next_at, counted-end_at}
+use Rattle.survey_command.proofs.qualifiers.Qualifiers.add_coords.Goals as goal
+
+pub loop-coord-preserved : goal.loop-coord-preserved
+loop-coord-preserved c =
+    sym (counted-next_at c.loop-coord.self c.add_coord.new.self (said_at (row_of c.args.row.now)) c.args.coords.now c.loop-coord.coord-index _ c.loop-coord-test.true c.add_coord.ensures)
+    ∙ c.loop-coord.invariant
+
+pub returns : goal.returns
+returns c = sym (counted-end_at c.loop-coord.self (said_at (row_of c.args.row.now)) c.args.coords.now c.loop-coord.coord-index c.loop-coord-test.false) ∙ c.loop-coord.invariant

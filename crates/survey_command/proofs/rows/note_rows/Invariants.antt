@@ -1,0 +1,15 @@
+use Rattle.std.proofs.Common.{◌≡◌}
+use Rattle.std.specs.List.{flat_map}
+use Rattle.config_box.specs.box_answers.NumberSet.{locale_numbers}
+use Rattle.overlay_map.specs.resource_table.Table.{rows_of}
+use Rattle.table_survey.specs.Survey.{noted}
+use Rattle.survey_command.specs.RowNotes.{notes_of_row}
+use Rattle.survey_command.proofs.rows.note_rows.Given as goal
+
+-- what the rows that are left have comes to the survey that all rows come to
+abbrev pub invariant-loop-row : goal.invariant-loop-row
+invariant-loop-row l = record {
+  can : (goal.iterator-loop-row).can_next l.row-iterator;
+  ends : (goal.iterator-loop-row).is_finite l.row-iterator;
+  left : noted l.survey (flat_map (notes_of_row (locale_numbers l.locales)) l.row-iterator) ≡ noted l.fn.survey (flat_map (notes_of_row (locale_numbers l.locales)) (rows_of l.table));
+}

@@ -1,0 +1,11 @@
+use Rattle.config_box.specs.config_record.declared.coord.Coord.{Coord}
+use Rattle.config_box.specs.config_record.Coord.{all_coords}
+use Rattle.survey_command.specs.Qualifiers.{rows_in_stack, numbers_at, spread_of}
+use Rattle.survey_command.specs.SurveyOutput.{qualifiers_text}
+use Rattle.survey_command.proofs.QualifierLaws.{lines-of_spreads}
+use Rattle.survey_command.proofs.survey.write_qualifiers.Goals as goal
+
+pub returns-clause-text : goal.returns-clause-text
+unfolding qualifiers_text
+returns-clause-text g c =
+    rw (lines-of_spreads _ (λ (k : Coord). spread_of (numbers_at k (rows_in_stack c.args.stack.now))) all_coords c.of_stack-qualifiers.ensures) at c.in_ok-write_lines.ensures

@@ -1,0 +1,28 @@
+-- What the layers of a stack have that a device may read otherwise.
+use Rattle.std.specs.Prelude.{ℕ, ◌||◌, Bool, List, [], ◌++◌, Option, Some, None, slice_get}
+use Rattle.std.specs.List.{flat_map, list_any}
+use Rattle.std.specs.Option.{option_map}
+use Rattle.overlay_map.specs.type_chunks.Row.{RowOf}
+use Rattle.overlay_map.specs.resource_table.Table.{TableOf, rows_of}
+use Rattle.overlay_map.specs.Layer.{LayerOf}
+use Rattle.command_base.specs.StackBytes.{LayerBytes}
+use Rattle.table_survey.specs.Survey.{Note}
+use Rattle.table_survey.specs.Chunks.{notes_of_chunks}
+use Rattle.table_survey.specs.Differs.{table_differs}
+use Rattle.survey_command.specs.RowNotes.{notes_of_row, row_differs}
+
+abbrev pub rows_of_found : Option TableOf → List RowOf
+rows_of_found None = []
+rows_of_found (Some table) = rows_of table
+
+-- the rows of the layer at a place
+unfoldable pub rows_at : List LayerOf → ℕ → List RowOf
+rows_at stack place = rows_of_found (option_map (λ layer. layer.table) (slice_get stack place))
+
+-- what the layer of these bytes at a place has, where these are the locales of the box
+unfoldable pub notes_of_layer : List LayerOf → List ℕ → (ℕ × LayerBytes) → List Note
+notes_of_layer stack locales numbered = notes_of_chunks numbered.1.table ++ flat_map (notes_of_row locales) (rows_at stack numbered.0)
+
+-- an answer can differ by one of its chunks or rows
+unfoldable pub layer_differs : List LayerOf → List ℕ → (ℕ × LayerBytes) → Bool
+layer_differs stack locales numbered = table_differs numbered.1.table || list_any (row_differs locales) (rows_at stack numbered.0)

@@ -1,0 +1,82 @@
+//! What the layers of a stack have that a device may read otherwise.
+
+ghost use Rattle.std.specs.Prelude.{◌≡◌, map, IfOk};
+ghost use Rattle.std.specs.List.{flat_map};
+ghost use Rattle.contract_words.specs.Writes.{Writes};
+ghost use Rattle.config_box.specs.box_answers.NumberSet.{locale_numbers};
+ghost use Rattle.command_base.specs.StackBytesSeen.{layer_bytes};
+ghost use Rattle.table_survey.specs.Survey.{noted};
+ghost use Rattle.table_survey.specs.Counted.{Counts};
+ghost use Rattle.survey_command.specs.RowNotes.{notes_of_row};
+ghost use Rattle.survey_command.specs.LayerNotes.{rows_at, notes_of_layer, layer_differs};
+ghost use Rattle.survey_command.specs.SurveyOutput.{layers_differ};
+ghost use Rattle.survey_command.specs.LayersText.{layer_lines, layers_text};
+
+use crate::rows::note_rows;
+use crate::text::write_survey;
+use command_base::LayerParts;
+use config_box::Locale;
+use overlay_map::Stack;
+use std::io::{self, Write};
+use table_survey::Survey;
+
+/// Writes what is found in each layer, where these are the locales of the box, and says whether an answer can differ
+/// by it from a device's.
+#[tactic(auto, using(crate::proofs::AnySteps::finds), unfolding(crate::specs::LayersText::layers_text, crate::specs::SurveyOutput::layers_differ))]
+pub(crate) fn write_layers<W: Write + Drop>(
+    stack: &Stack<'_>,
+    locales: &[Locale],
+    layers: &[LayerParts<&[u8]>],
+    out: &mut W,
+) -> io::Result<bool>
+    ensures text { Writes W.contents out.old out.new result (layers_text stack.now (locale_numbers locales.now) (map layer_bytes layers.now)) }
+    ensures differs { IfOk result (λ differs. differs ≡ layers_differ stack.now (locale_numbers locales.now) (map layer_bytes layers.now)) }
+{
+    let mut differs = false;
+    for (place, layer) in layers.iter().enumerate() {
+        differs |= write_layer(stack, locales, place, *layer, out)?;
+    }
+    Ok(differs)
+}
+
+#[tactic(auto, unfolding(crate::specs::LayersText::layer_lines))]
+fn write_layer<W: Write + Drop>(
+    stack: &Stack<'_>,
+    locales: &[Locale],
+    place: usize,
+    layer: LayerParts<&[u8]>,
+    out: &mut W,
+) -> io::Result<bool>
+    ensures text { Writes W.contents out.old out.new result (layer_lines stack.now (locale_numbers locales.now) (place, layer_bytes layer.entry)) }
+    ensures differs { IfOk result (λ differs. differs ≡ layer_differs stack.now (locale_numbers locales.now) (place, layer_bytes layer.entry)) }
+{
+    let survey = layer_survey(stack, locales, place, layer);
+    write_survey(place, &survey, out)?;
+    Ok(survey.differs())
+}
+
+// What the layer at a place has.
+fn layer_survey(
+    stack: &Stack<'_>,
+    locales: &[Locale],
+    place: usize,
+    layer: LayerParts<&[u8]>,
+) -> Survey
+    ensures notes { Counts result (notes_of_layer stack.now (locale_numbers locales.now) (place, layer_bytes layer.entry)) }
+    ensures differs { result.differs ≡ layer_differs stack.now (locale_numbers locales.now) (place, layer_bytes layer.entry) }
+{
+    let (bytes, _) = layer;
+    let mut survey = Survey::none();
+    survey.add_chunks(bytes);
+    note_rows_at(stack, locales, place, &mut survey);
+    survey
+}
+
+#[tactic(auto, unfolding(crate::specs::LayerNotes::rows_at), using(table_survey::proofs::SurveySteps::noted_steps))]
+fn note_rows_at(stack: &Stack<'_>, locales: &[Locale], place: usize, survey: &mut Survey)
+    ensures { survey.new ≡ noted survey.old (flat_map (notes_of_row (locale_numbers locales.now)) (rows_at stack.now place)) }
+{
+    if let Some(table) = stack.layer_table(place) {
+        note_rows(locales, table, survey);
+    }
+}

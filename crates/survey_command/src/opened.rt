@@ -1,0 +1,80 @@
+//! What a survey is asked of: layers, and perhaps a box, opened from their bytes.
+
+ghost use Rattle.std.specs.Prelude.{◌≡◌, map};
+ghost use Rattle.std.specs.Option.{option_map};
+ghost use Rattle.contract_words.specs.Exact.{GivesOr};
+ghost use Rattle.config_box.specs.config_record.declared.coord.Coord as coord;
+ghost use Rattle.config_box.specs.box_answers.NumberSet.{locale_numbers};
+ghost use Rattle.command_base.specs.fault_text.declared.fault.ToolFault.TheVariants.{OutOfMemory};
+ghost use Rattle.command_base.specs.Output.{IsOfInput};
+ghost use Rattle.command_base.specs.StackBytesSeen.{layer_bytes};
+ghost use Rattle.survey_command.specs.Qualifiers.{rows_in_stack, numbers_at, spread_of};
+ghost use Rattle.survey_command.specs.BoxGaps.{locales_of_box, lacks};
+ghost use Rattle.survey_command.specs.SurveyOutput.{sets_in, survey_inputs};
+
+use crate::box_gaps::{is_unknown, locales_of};
+use crate::qualifiers::Spread;
+use command_base::{LayerParts, ToolFault, open_stack};
+use config_box::{ConfigBox, Coord, Locale};
+use overlay_map::Stack;
+use std::alloc::Global;
+
+/// The layers and the box that a survey is asked of.
+#[derive(Drop)]
+pub(crate) struct Opened<'a> {
+    pub stack: Stack<'a>,
+    pub members: Option<ConfigBox>,
+}
+
+impl<'a> Opened<'a> {
+    ghost use Rattle.survey_command.specs.OpenedSeen.{opened_of};
+
+    /// Opens the layers, and then reads the box.
+    #[tactic(auto, unfolding(crate::specs::SurveyOutput::survey_inputs))]
+    pub fn read(
+        alloc: Global,
+        layers: &[LayerParts<&'a [u8]>],
+        box_json: Option<&[u8]>,
+    ) -> Result<Opened<'a>, ToolFault>
+        ensures value { GivesOr OutOfMemory opened_of result (survey_inputs (map layer_bytes layers.now) (option_map (λ json. json.now) box_json.entry)) }
+        ensures of_input { IsOfInput result }
+    {
+        let stack = open_stack(alloc, layers)?;
+        let members = read_box(alloc, box_json)?;
+        Ok(Opened { stack, members })
+    }
+
+    /// The locales of the box.
+    #[tactic(auto, unfolding(crate::specs::BoxGaps::locales_of_box))]
+    pub fn locales(&self) -> &[Locale]
+        ensures { locale_numbers result.now ≡ locales_of_box (opened_of self.now).sets }
+    {
+        match &self.members {
+            Some(members) => locales_of(members.values(Coord::Locale)),
+            None => &[],
+        }
+    }
+
+    /// Whether the box leaves a coordinate unknown that rows have, of which this is the spread.
+    #[tactic(auto, unfolding(crate::specs::BoxGaps::lacks, crate::specs::Qualifiers::spread_of))]
+    pub fn lacks(&self, coord: Coord, spread: Spread) -> bool
+        requires { spread ≡ spread_of (numbers_at coord (rows_in_stack self.now.stack)) }
+        ensures { result ≡ lacks (opened_of self.now).sets (rows_in_stack self.now.stack) coord }
+    {
+        match &self.members {
+            Some(members) => spread.count != 0 && is_unknown(members.values(coord)),
+            None => false,
+        }
+    }
+}
+
+fn read_box(alloc: Global, box_json: Option<&[u8]>) -> Result<Option<ConfigBox>, ToolFault>
+    ensures value { GivesOr OutOfMemory (λ members. members) result (sets_in (option_map (λ json. json.now) box_json.entry)) }
+    ensures of_input { IsOfInput result }
+{
+    let Some(json) = box_json else {
+        return Ok(None);
+    };
+    let members = ConfigBox::read(alloc, json)?;
+    Ok(Some(members))
+}

@@ -1,0 +1,68 @@
+//! What is printed where a table is refused.
+
+ghost use Rattle.std.specs.Prelude.{◌≡◌, ◌≢◌, map, Ok};
+ghost use Rattle.std.specs.List.{list_any};
+ghost use Rattle.contract_words.specs.Writes.{Writes};
+ghost use Rattle.command_base.specs.fault_text.declared.fault.ToolFault.TheVariants.{Write};
+ghost use Rattle.command_base.specs.Output.{Prints};
+ghost use Rattle.command_base.specs.StackBytesSeen.{layer_bytes};
+ghost use Rattle.survey_command.specs.Refused.{chunks_differ, refused_text, refused_output};
+
+use crate::layers::write_layers;
+use command_base::{LayerParts, Status, ToolFault, fault_text};
+use overlay_map::Stack;
+use std::alloc::Global;
+use std::io::{self, Write};
+use table_survey::Survey;
+
+/// Prints what the chunks of all layers have, and the fault. Where no answer could differ by the
+/// chunks, the fault is the answer.
+#[tactic(auto, unfolding(crate::specs::Refused::refused_output))]
+pub(crate) fn survey_refused<W: Write + Drop>(
+    alloc: Global,
+    layers: &[LayerParts<&[u8]>],
+    fault: ToolFault,
+    out: &mut W,
+) -> Result<Status, ToolFault>
+    requires { fault ≢ Write }
+    ensures { Prints W.contents out.old out.new result (refused_output (map layer_bytes layers.now) fault) }
+{
+    if !some_chunks_differ(layers) {
+        return Err(fault);
+    }
+    write_refused(alloc, layers, &fault, out)?;
+    Ok(Status::Negative)
+}
+
+#[tactic(auto, unfolding(crate::specs::Refused::refused_text))]
+fn write_refused<W: Write + Drop>(
+    alloc: Global,
+    layers: &[LayerParts<&[u8]>],
+    fault: &ToolFault,
+    out: &mut W,
+) -> io::Result<()>
+    ensures { Writes W.contents out.old out.new result (refused_text (map layer_bytes layers.now) fault.now) }
+{
+    write_layers(&Stack::new(alloc), &[], layers, out)?;
+    fault_text(fault, out)
+}
+
+fn some_chunks_differ(layers: &[LayerParts<&[u8]>]) -> bool
+    ensures { result ≡ list_any chunks_differ (map layer_bytes layers.now) }
+{
+    for layer in layers {
+        if chunks_differ(*layer) {
+            return true;
+        }
+    }
+    false
+}
+
+fn chunks_differ(layer: LayerParts<&[u8]>) -> bool
+    ensures { result ≡ chunks_differ (layer_bytes layer.entry) }
+{
+    let (bytes, _) = layer;
+    let mut survey = Survey::none();
+    survey.add_chunks(bytes);
+    survey.differs()
+}

@@ -1,0 +1,146 @@
+//! What a survey found, written.
+
+ghost use Rattle.std.specs.List.{flat_map};
+ghost use Rattle.contract_words.specs.Writes.{Writes};
+ghost use Rattle.table_survey.specs.Finding.{all_findings};
+ghost use Rattle.table_survey.specs.Survey.{tally_in};
+ghost use Rattle.survey_command.specs.SurveyText.{site_text, weight_text, tally_text, found_line, range_text, number_text, qualifier_line, gap_text, lacks_line};
+
+use crate::qualifiers::Spread;
+use config_box::{Coord, Locale, write_locale};
+use line_parts::{write_id, write_layer, write_named_coord, write_named_number};
+use std::io::{self, Write};
+use table_survey::{Finding, Site, Survey};
+
+/// Writes a line for each finding that a layer has.
+#[tactic(auto, unfolding(crate::specs::Unfolded::all_findings))]
+pub(crate) fn write_survey<W: Write + Drop>(
+    layer: usize,
+    survey: &Survey,
+    out: &mut W,
+) -> io::Result<()>
+    ensures { Writes W.contents out.old out.new result (flat_map (λ finding. found_line layer finding (tally_in survey.now finding)) all_findings) }
+{
+    write_findings(layer, survey, &Finding::ALL, out)
+}
+
+#[tactic(auto, using(crate::proofs::AnySteps::finds))]
+fn write_findings<W: Write + Drop>(
+    layer: usize,
+    survey: &Survey,
+    findings: &[Finding],
+    out: &mut W,
+) -> io::Result<()>
+    ensures { Writes W.contents out.old out.new result (flat_map (λ finding. found_line layer finding (tally_in survey.now finding)) findings.now) }
+{
+    for finding in findings {
+        write_found(layer, *finding, survey, out)?;
+    }
+    Ok(())
+}
+
+#[tactic(auto, unfolding(crate::specs::SurveyText::found_line))]
+fn write_found<W: Write + Drop>(
+    layer: usize,
+    finding: Finding,
+    survey: &Survey,
+    out: &mut W,
+) -> io::Result<()>
+    ensures { Writes W.contents out.old out.new result (found_line layer finding (tally_in survey.now finding)) }
+{
+    if survey.count(finding) == 0 {
+        return Ok(());
+    }
+    write_weight(finding, out)?;
+    write_layer(layer, out)?;
+    out.write_all(b" ")?;
+    write_tally(finding, survey, out)?;
+    out.write_all(b"\n")
+}
+
+#[tactic(auto, unfolding(crate::specs::SurveyText::weight_text))]
+fn write_weight<W: Write + Drop>(finding: Finding, out: &mut W) -> io::Result<()>
+    ensures { Writes W.contents out.old out.new result (weight_text finding) }
+{
+    if finding.differs() {
+        out.write_all(b"warning ")
+    } else {
+        out.write_all(b"note ")
+    }
+}
+
+#[tactic(auto, unfolding(crate::specs::SurveyText::tally_text))]
+fn write_tally<W: Write + Drop>(finding: Finding, survey: &Survey, out: &mut W) -> io::Result<()>
+    ensures { Writes W.contents out.old out.new result (tally_text finding (tally_in survey.now finding)) }
+{
+    write_named_number(finding.name(), u128::from(survey.count(finding)), out)?;
+    out.write_all(b" first ")?;
+    write_site(survey.first(finding), out)
+}
+
+#[tactic(auto, unfolding(crate::specs::SurveyText::site_text))]
+fn write_site<W: Write + Drop>(site: Site, out: &mut W) -> io::Result<()>
+    ensures { Writes W.contents out.old out.new result (site_text site) }
+{
+    match site {
+        Site::Chunk(place) => write!(out, "{place}"),
+        Site::Row(id) => write_id(id, out),
+    }
+}
+
+/// Writes the line of a qualifier that rows have.
+#[tactic(auto, unfolding(crate::specs::SurveyText::qualifier_line))]
+pub(crate) fn write_qualifier<W: Write + Drop>(
+    coord: Coord,
+    spread: Spread,
+    out: &mut W,
+) -> io::Result<()>
+    ensures { Writes W.contents out.old out.new result (qualifier_line coord spread) }
+{
+    if spread.count == 0 {
+        return Ok(());
+    }
+    write_named_coord("qualifier", coord, out)?;
+    out.write_all(b" ")?;
+    write_named_number("rows", u128::from(spread.count), out)?;
+    write_range(coord, spread, out)?;
+    out.write_all(b"\n")
+}
+
+#[tactic(auto, unfolding(crate::specs::SurveyText::range_text))]
+fn write_range<W: Write + Drop>(coord: Coord, spread: Spread, out: &mut W) -> io::Result<()>
+    ensures { Writes W.contents out.old out.new result (range_text coord spread) }
+{
+    out.write_all(b" from ")?;
+    write_number(coord, spread.least, out)?;
+    out.write_all(b" to ")?;
+    write_number(coord, spread.greatest, out)
+}
+
+#[tactic(auto, unfolding(crate::specs::SurveyText::number_text))]
+fn write_number<W: Write + Drop>(coord: Coord, number: u32, out: &mut W) -> io::Result<()>
+    ensures { Writes W.contents out.old out.new result (number_text coord number) }
+{
+    match coord {
+        Coord::Locale => write_locale(Locale::of_number(number), out),
+        _ => write!(out, "{number}"),
+    }
+}
+
+/// Writes the line of a qualifier that the box lacks.
+#[tactic(auto, unfolding(crate::specs::SurveyText::lacks_line))]
+pub(crate) fn write_lacks<W: Write + Drop>(coord: Coord, out: &mut W) -> io::Result<()>
+    ensures { Writes W.contents out.old out.new result (lacks_line coord) }
+{
+    out.write_all(b"warning ")?;
+    write_gap(coord, out)?;
+    out.write_all(b"\n")
+}
+
+#[tactic(auto, unfolding(crate::specs::SurveyText::gap_text))]
+fn write_gap<W: Write + Drop>(coord: Coord, out: &mut W) -> io::Result<()>
+    ensures { Writes W.contents out.old out.new result (gap_text coord) }
+{
+    out.write_all(b"box ")?;
+    write_named_coord("lacks", coord, out)
+}
