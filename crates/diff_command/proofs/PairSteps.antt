@@ -9,7 +9,7 @@ use Rattle.stack_diff.specs.name_pairs.Label.{label_of}
 use Rattle.stack_diff.specs.name_pairs.Pairs.{PairOf, pair_of}
 use Rattle.stack_diff.specs.name_pairs.declared.pair.NamePair.{NamePair}
 use Rattle.stack_diff.specs.Outcomes.{OutcomeOf, outcome_of}
-use Rattle.diff_command.specs.DiffText.{outcome_lines, pair_lines, label_lines}
+use Rattle.diff_command.specs.DiffLines.{outcome_lines, pair_lines, label_lines}
 
 abbrev pub told_pairs : List NamePair → List Outcome → List (PairOf × OutcomeOf)
 told_pairs pairs outcomes = zip (map pair_of pairs) (map outcome_of outcomes)

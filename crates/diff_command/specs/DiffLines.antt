@@ -43,5 +43,5 @@ abbrev pub some_differ : List OutcomeOf → Bool
 some_differ outcomes = nat_lt (same_count outcomes) (length outcomes)
 
 -- the lines of labels, and then how many say the same
-unfoldable pub diff_text : List SetOf → List PairOf → List OutcomeOf → List ℕ
-diff_text whole pairs outcomes = label_lines whole pairs outcomes ++ same_line (same_count outcomes)
+unfoldable pub diff_lines : List SetOf → List PairOf → List OutcomeOf → List ℕ
+diff_lines whole pairs outcomes = label_lines whole pairs outcomes ++ same_line (same_count outcomes)

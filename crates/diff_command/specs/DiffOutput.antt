@@ -1,20 +1,20 @@
 -- What the command `diff` prints.
-use Rattle.std.specs.Prelude.{◌≡◌, ℕ, List, [], ◌∷◌, ◌++◌, map, codes, if◌then◌else◌}
+use Rattle.std.specs.Prelude.{◌≡◌, ℕ, List, [], ◌∷◌, ◌++◌, map, codes}
 use Rattle.config_box.specs.box_answers.NumberSet.{SetOf}
-use Rattle.command_base.specs.declared.status.Status.TheVariants.{Done, Negative}
-use Rattle.command_base.specs.Output.{Output}
+use Rattle.command_base.specs.declared.status.Status.TheVariants.{Negative}
+use Rattle.command_base.specs.Output.{Output, negative_if}
 use Rattle.stack_diff.specs.name_pairs.Pairs.{PairOf, name_pairs}
 use Rattle.stack_diff.specs.declared.outcome.Outcomes.{Outcomes}
 use Rattle.stack_diff.specs.declared.outcome.Outcomes.TheVariants.{All, NodeLimit}
 use Rattle.stack_diff.specs.Outcomes.{OutcomeOf, outcome_of, AreOutcomes}
 use Rattle.diff_command.specs.DiffInputs.{DiffInputs}
-use Rattle.diff_command.specs.DiffText.{some_differ, diff_text}
+use Rattle.diff_command.specs.DiffLines.{some_differ, diff_lines}
 
 -- what differs, in lines; it is done where nothing does
 abbrev pub told_output : List SetOf → List PairOf → List OutcomeOf → Output
 told_output whole pairs outcomes = record {
-  status = if some_differ outcomes then Negative else Done;
-  text = diff_text whole pairs outcomes;
+  status = negative_if (some_differ outcomes);
+  text = diff_lines whole pairs outcomes;
 }
 
 -- or the line `node limit`

@@ -1,5 +1,5 @@
 pub mod DiffInputs
-pub mod DiffText
+pub mod DiffLines
 pub mod DiffOutput
 pub mod OpenedSeen
 pub use Rattle.stack_diff.specs.name_pairs

@@ -1,7 +1,6 @@
 //! The command `diff`.
 
-ghost use Rattle.std.specs.Prelude.{◌≡◌, map, if◌then◌else◌, Ok, IfOk};
-ghost use Rattle.command_base.specs.declared.status.Status.TheVariants.{Done, Negative};
+ghost use Rattle.std.specs.Prelude.{map, Ok, IfOk};
 ghost use Rattle.command_base.specs.Output.{Prints, PrintsOneOf};
 ghost use Rattle.command_base.specs.StackBytesSeen.{layer_bytes};
 ghost use Rattle.stack_diff.specs.name_pairs.Pairs.{pair_of};
@@ -10,7 +9,7 @@ ghost use Rattle.diff_command.specs.DiffInputs.{diff_inputs};
 ghost use Rattle.diff_command.specs.DiffOutput.{told_output, outcomes_output, IsDiffOutput, IsWholeDiff};
 ghost use Rattle.diff_command.specs.OpenedSeen.{opened_diff};
 
-use crate::lines::{diff_text, some_differ};
+use crate::lines::{diff_lines, some_differ};
 use crate::opened::OpenedDiff;
 use command_base::{LayerParts, Status, ToolFault};
 use stack_diff::{ConfigBox, NamePair, Outcome, Outcomes, compare_stacks, compare_with_itself};
@@ -95,17 +94,7 @@ fn print_lines<W: Write + Drop>(
 ) -> Result<Status, ToolFault>
     ensures { Prints W.contents out.old out.new result (Ok (told_output whole.now (map pair_of pairs.now) (map outcome_of outcomes.now))) }
 {
-    let text = diff_text(alloc, whole, pairs, outcomes)?;
+    let text = diff_lines(alloc, whole, pairs, outcomes)?;
     out.write_all(&text)?;
-    Ok(status_of(some_differ(outcomes)))
-}
-
-fn status_of(differs: bool) -> Status
-    ensures { result ≡ (if differs then Negative else Done) }
-{
-    if differs {
-        Status::Negative
-    } else {
-        Status::Done
-    }
+    Ok(Status::negative_if(some_differ(outcomes)))
 }

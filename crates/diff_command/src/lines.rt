@@ -1,13 +1,13 @@
 //! What two stacks say differently, written.
 
-ghost use Rattle.std.specs.Prelude.{◌≡◌, map, length, IfOk};
+ghost use Rattle.std.specs.Prelude.{◌≡◌, map, IfOk};
 ghost use Rattle.std.specs.List.{flat_map};
 ghost use Rattle.contract_words.specs.Writes.{Writes};
 ghost use Rattle.stack_diff.specs.name_pairs.Label.{label_of};
 ghost use Rattle.stack_diff.specs.name_pairs.Pairs.{pair_of};
 ghost use Rattle.stack_diff.specs.ChangeSeen.{change_of};
 ghost use Rattle.stack_diff.specs.Outcomes.{outcome_of};
-ghost use Rattle.diff_command.specs.DiffText.{change_lines, outcome_lines, label_lines, says_same, same_count, some_differ, diff_text};
+ghost use Rattle.diff_command.specs.DiffLines.{change_lines, outcome_lines, label_lines, says_same, same_count, some_differ, diff_lines};
 
 use diff_text::{write_added, write_change, write_removed, write_same};
 use stack_diff::{Change, ConfigBox, Label, NamePair, Outcome};
@@ -15,36 +15,36 @@ use std::alloc::{AllocError, Global};
 use std::io::{self, Write};
 
 /// The lines of labels, of which this became.
-pub(crate) fn diff_text(
+pub(crate) fn diff_lines(
     alloc: Global,
     whole: &ConfigBox,
     pairs: &[NamePair<'_>],
     outcomes: &[Outcome],
 ) -> Result<Vec<u8>, AllocError>
-    ensures { IfOk result (λ text. text.items ≡ diff_text whole.now (map pair_of pairs.now) (map outcome_of outcomes.now)) }
+    ensures { IfOk result (λ text. text.items ≡ diff_lines whole.now (map pair_of pairs.now) (map outcome_of outcomes.now)) }
 {
     let mut text = Vec::new(alloc);
-    match write_diff(whole, pairs, outcomes, &mut text) {
+    match write_diff_lines(whole, pairs, outcomes, &mut text) {
         Ok(()) => Ok(text),
         // To a `Vec` only a want of memory is a fault.
         Err(_) => Err(AllocError),
     }
 }
 
-#[tactic(auto, unfolding(crate::specs::DiffText::diff_text))]
-fn write_diff<W: Write + Drop>(
+#[tactic(auto, unfolding(crate::specs::DiffLines::diff_lines))]
+fn write_diff_lines<W: Write + Drop>(
     whole: &ConfigBox,
     pairs: &[NamePair<'_>],
     outcomes: &[Outcome],
     out: &mut W,
 ) -> io::Result<()>
-    ensures { Writes W.contents out.old out.new result (diff_text whole.now (map pair_of pairs.now) (map outcome_of outcomes.now)) }
+    ensures { Writes W.contents out.old out.new result (diff_lines whole.now (map pair_of pairs.now) (map outcome_of outcomes.now)) }
 {
     write_labels(whole, pairs, outcomes, out)?;
     write_same(same_count(outcomes), out)
 }
 
-#[tactic(auto, unfolding(crate::specs::DiffText::label_lines), using(contract_words::proofs::TextSteps::puts))]
+#[tactic(auto, unfolding(crate::specs::DiffLines::label_lines), using(contract_words::proofs::TextSteps::puts))]
 fn write_labels<W: Write + Drop>(
     whole: &ConfigBox,
     pairs: &[NamePair<'_>],
@@ -59,7 +59,7 @@ fn write_labels<W: Write + Drop>(
     Ok(())
 }
 
-#[tactic(auto, unfolding(crate::specs::DiffText::outcome_lines))]
+#[tactic(auto, unfolding(crate::specs::DiffLines::outcome_lines))]
 fn write_outcome<W: Write + Drop>(
     whole: &ConfigBox,
     label: &Label<'_>,
@@ -90,7 +90,7 @@ fn write_changes<W: Write + Drop>(
     Ok(())
 }
 
-#[tactic(auto, unfolding(crate::specs::DiffText::change_lines), using(contract_words::proofs::TextSteps::puts))]
+#[tactic(auto, unfolding(crate::specs::DiffLines::change_lines), using(contract_words::proofs::TextSteps::puts))]
 fn write_change_lines<W: Write + Drop>(
     whole: &ConfigBox,
     label: &Label<'_>,

@@ -1,15 +1,17 @@
 -- How the first row of each id is found.
-use Rattle.std.proofs.Common.{◌≡◌, ℕ, ◌==◌, Bool, true, false, cond, List, [], ◌∷◌, ◌++◌, map, get_or, Option, Some, None, refl, sym, ap, ◌∙◌}
+use Rattle.std.proofs.Common.{◌≡◌, ℕ, ◌==◌, Bool, true, false, cond, List, [], ◌∷◌, ◌++◌, map, get_or, Option, Some, None, is_some, refl, sym, ap, ◌∙◌}
 use Rattle.std.proofs.lemmas.Cmp.{nat_cmp_total}
 use Rattle.std.proofs.lemmas.List.{append-nil}
 use Rattle.std.proofs.lemmas.List.Elements.{All-head, All-tail}
+use Rattle.std.proofs.lemmas.Map.Keys.{sorted_head, sorted_tail}
 use Rattle.std.proofs.lemmas.Map.Views.{All-found}
-use Rattle.std.specs.BTreeMap.{BTreeMap, get, insert_entry, IsOrdered, keys, values}
+use Rattle.std.specs.BTreeMap.{BTreeMap, get, insert_entry, is_at, IsOrdered, keys, values}
 use Rattle.std.specs.BTreeSet.{insert_key}
-use Rattle.std.specs.List.{All, filter_map, fold}
-use Rattle.std.specs.Map.{keys_of, values_of}
+use Rattle.std.specs.List.{All, AllByRecursion, filter_map, fold}
+use Rattle.std.specs.List.Sorted.{IsStrictlySortedBy}
+use Rattle.std.specs.Map.{keys_of, lookup, values_of}
 use Rattle.std.specs.Option.{option_map, option_or}
-use Rattle.std.specs.Ordering.{match_ordering, nat_cmp}
+use Rattle.std.specs.Ordering.{is_eq, match_ordering, nat_cmp}
 use Rattle.std.specs.declared.cmp.Ordering.{Ordering}
 use Rattle.std.specs.declared.cmp.Ordering.TheVariants.{Less, Equal, Greater}
 use Rattle.answer_text.specs.type_chunks.Row.{RowOf, row_of}
@@ -50,15 +52,18 @@ found_first row others id = by (row.id == id)
 
 -- of all rows the first of each id are kept, but for those of what is left
 pub record FindsAllBut (all left : List RowOf) (kept : BTreeMap ℕ Row) : Type 0 where
+  pub ordered : IsOrdered nat_cmp kept
   pub ids : fold (insert_key nat_cmp) (keys kept) (map (λ row. row.id) left) ≡ rising (map (λ row. row.id) all)
   pub first : (id : ℕ) → option_or (row_at kept id) (first_row left id) ≡ first_row all id
 
-pub FindsAllBut-none : (all : List RowOf) (kept : BTreeMap ℕ Row) → kept.entries ≡ [] → FindsAllBut all all kept
-FindsAllBut-none all kept empty = rw empty record { ids = refl; first = λ id. refl }
+pub FindsAllBut-none : (all : List RowOf) (kept : BTreeMap ℕ Row) → kept.entries ≡ [] → IsOrdered nat_cmp kept → FindsAllBut all all kept
+FindsAllBut-none all kept empty ordered = record { ordered = ordered; ids = rw empty refl; first = λ id. rw empty refl }
 
 pub FindsAllBut-next : (all left others : List RowOf) (old new : BTreeMap ℕ Row) (row : RowOf) → FindsAllBut all left old → left ≡ row ∷ others
-    → keys new ≡ insert_key nat_cmp (keys old) row.id → ((id : ℕ) → row_at new id ≡ option_or (row_at old id) (row_for row id)) → FindsAllBut all others new
-FindsAllBut-next all left others old new row before split put kept = record {
+    → keys new ≡ insert_key nat_cmp (keys old) row.id → ((id : ℕ) → row_at new id ≡ option_or (row_at old id) (row_for row id))
+    → IsOrdered nat_cmp new → FindsAllBut all others new
+FindsAllBut-next all left others old new row before split put kept ordered = record {
+  ordered = ordered;
   ids =
       ap (λ (ks : List ℕ). fold (insert_key nat_cmp) ks (map (λ (r : RowOf). r.id) others)) put
       ∙ ap (λ (t : List RowOf). fold (insert_key nat_cmp) (keys old) (map (λ (r : RowOf). r.id) t)) (sym split)
@@ -78,6 +83,30 @@ FindsAllBut-ids all left kept before nothing =
 pub FindsAllBut-first : (all left : List RowOf) (kept : BTreeMap ℕ Row) → FindsAllBut all left kept → left ≡ [] → (id : ℕ) → row_at kept id ≡ first_row all id
 FindsAllBut-first all left kept before nothing id =
     sym (option_or-none (row_at kept id)) ∙ ap (λ (t : List RowOf). option_or (row_at kept id) (first_row t id)) (sym nothing) ∙ before.first id
+
+-- ---- a row of an id that has one
+
+-- a number below some keys is none of them
+none-below : (es : List (ℕ × Row)) (k low : ℕ) → nat_cmp k low ≡ Less → AllByRecursion (λ y. nat_cmp low y ≡ Less) (keys_of es) → lookup (is_at (nat_cmp k)) es ≡ None
+none-below [] k low less above = refl
+none-below (e ∷ es) k low less above =
+    ap (λ (r : Ordering). cond (is_eq r) (Some e.1) (lookup (is_at (nat_cmp k)) es)) (nat_cmp_total.trans k low e.0 less above.0) ∙ none-below es k low less above.1
+
+insert_key-there : (es : List (ℕ × Row)) (k : ℕ) → IsStrictlySortedBy nat_cmp (keys_of es) → is_some (lookup (is_at (nat_cmp k)) es) ≡ true
+    → keys_of es ≡ insert_key nat_cmp (keys_of es) k
+insert_key-there [] k sorted there = absurd cc
+insert_key-there (e ∷ es) k sorted there =
+    by (nat_cmp k e.0) refl there (insert_key-there es k (sorted_tail nat_cmp e.0 (keys_of es) sorted)) (sorted_head nat_cmp e.0 (keys_of es) sorted)
+  where
+    by : (r : Ordering) → nat_cmp k e.0 ≡ r → is_some (cond (is_eq r) (Some e.1) (lookup (is_at (nat_cmp k)) es)) ≡ true
+        → (is_some (lookup (is_at (nat_cmp k)) es) ≡ true → keys_of es ≡ insert_key nat_cmp (keys_of es) k) → AllByRecursion (λ y. nat_cmp e.0 y ≡ Less) (keys_of es)
+        → e.0 ∷ keys_of es ≡ match_ordering r (k ∷ e.0 ∷ keys_of es) (e.0 ∷ keys_of es) (e.0 ∷ insert_key nat_cmp (keys_of es) k)
+    by Less is found others above = let none = none-below es k e.0 is above in absurd cc
+    by Equal is found others above = refl
+    by Greater is found others above = ap (λ (ks : List ℕ). e.0 ∷ ks) (others found)
+
+pub keys-there : (kept : BTreeMap ℕ Row) (id : ℕ) → IsOrdered nat_cmp kept → is_some (get nat_cmp kept id) ≡ true → keys kept ≡ insert_key nat_cmp (keys kept) id
+keys-there kept id ordered there = insert_key-there kept.entries id ordered there
 
 -- ---- all rows, in the order of their ids
 

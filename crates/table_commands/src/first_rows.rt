@@ -1,7 +1,7 @@
 //! The first row of each id.
 
 ghost use Rattle.std.specs.Prelude.{◌≡◌, ℕ, map, IfOk, OnOk};
-ghost use Rattle.std.specs.BTreeMap.{keys};
+ghost use Rattle.std.specs.BTreeMap.{keys, IsOrdered};
 ghost use Rattle.std.specs.BTreeSet.{insert_key};
 ghost use Rattle.std.specs.Option.{option_map, option_or};
 ghost use Rattle.std.specs.Ordering.{nat_cmp};
@@ -65,10 +65,13 @@ fn first_rows<'a>(alloc: Global, table: &Table<'a>) -> Result<BTreeMap<u32, Row<
 
 // Puts a row where there is none of its id.
 fn keep_first<'a>(row: Row<'a>, rows: &mut BTreeMap<u32, Row<'a>>) -> Result<(), AllocError>
+    requires { IsOrdered nat_cmp rows.old }
     ensures ids { OnOk result (keys rows.new ≡ insert_key nat_cmp (keys rows.old) row.entry.id.0) }
     ensures kept { OnOk result ((id : ℕ) → row_at rows.new id ≡ option_or (row_at rows.old id) (row_for (row_of row.entry) id)) }
+    ensures ordered { OnOk result (IsOrdered nat_cmp rows.new) }
 {
-    let first = rows.get(&row.id.0).copied().unwrap_or(row);
-    rows.insert(row.id.0, first)?;
+    if !rows.contains_key(&row.id.0) {
+        rows.insert(row.id.0, row)?;
+    }
     Ok(())
 }

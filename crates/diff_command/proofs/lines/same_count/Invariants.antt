@@ -1,6 +1,6 @@
 use Rattle.std.proofs.Common.{◌≡◌, ◌+◌, ◌≤◌, map, drop}
 use Rattle.stack_diff.specs.Outcomes.{outcome_of}
-use Rattle.diff_command.specs.DiffText.{same_count}
+use Rattle.diff_command.specs.DiffLines.{same_count}
 use Rattle.diff_command.proofs.lines.same_count.Given as goal
 
 -- with those that were counted, those that are left make all

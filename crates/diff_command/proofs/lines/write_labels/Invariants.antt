@@ -3,7 +3,7 @@ use Rattle.std.specs.List.{zip}
 use Rattle.contract_words.proofs.TextSteps.{PutsAllBut}
 use Rattle.stack_diff.specs.name_pairs.Pairs.{pair_of}
 use Rattle.stack_diff.specs.Outcomes.{outcome_of}
-use Rattle.diff_command.specs.DiffText.{pair_lines}
+use Rattle.diff_command.specs.DiffLines.{pair_lines}
 use Rattle.diff_command.proofs.lines.write_labels.Given as goal
 
 abbrev pub invariant-loop-pair : goal.invariant-loop-pair

@@ -1,4 +1,4 @@
-use Rattle.std.proofs.Common.{◌≡◌, List, [], ◌∷◌, ◌++◌, Option, None, Some, get_or, refl, ap, ◌∙◌}
+use Rattle.std.proofs.Common.{◌≡◌, [], ◌∷◌, ◌++◌, Option, None, Some, get_or, refl, ap, ◌∙◌}
 use Rattle.answer_text.specs.res_value.declared.res_id.ResId.{ResId}
 use Rattle.table_commands.specs.declared.pairs.NamedTarget.{NamedTarget}
 use Rattle.table_commands.proofs.NamedSteps.{PairedAllBut-put, PairedAllBut-skip}
