@@ -296,6 +296,11 @@ check "a picture of a goal that is not there" 1 no-goal.out $none show --dot 0 l
 check "an absent certificate" 5 $none absent.err show layers absent
 line wrong.json '{"goals":[],"version":3}'
 ends "a wrong certificate" 3 '"$0" show layers wrong.json'
+if command -v python3 >/dev/null; then
+    ends "random certificates for people" 0 "python3 '$here/tests/check_show.py' \"\$0\" 400 4"
+else
+    echo "not run, since python3 is missing: random certificates for people"
+fi
 
 # ---- make
 line layers '[{"table":"whole"}]'
