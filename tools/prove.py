@@ -87,6 +87,13 @@ def free_memory():
     return min(found)
 
 
+def ended(ran):
+    """Waits for a process: its status, and the processor seconds, of user and system, that it and its children took."""
+    _, status, used = os.wait4(ran.pid, 0)
+    ran.returncode = os.waitstatus_to_exitcode(status)
+    return ran.returncode, used.ru_utime + used.ru_stime
+
+
 class Crate:
     """A line of crates.txt, with the crates of this repository that it stands on, lowest first."""
 
@@ -207,6 +214,7 @@ class Prover:
         self.crate, self.rooms = crate, f"{crate.folder}/out/{ROOMS}{os.getpid()}"
         self.left, self.count, self.started = [], 0, 0
         self.runs, self.is_ending = {}, False
+        self.seconds = 0.0
 
     def prove(self):
         held = self.lock()
@@ -305,7 +313,9 @@ class Prover:
             ran = self.runs[crate.name] = subprocess.Popen(words, **how)
             if self.is_ending:
                 ran.terminate()
-            status = ran.wait()
+            status, seconds = ended(ran)
+            out.write(f"{seconds:.1f} processor seconds\n")
+            self.seconds += seconds
         if status and not self.is_ending:
             with open(log, encoding="utf-8", errors="replace") as it:
                 last = "".join(it.readlines()[-SHOWN:])
@@ -334,8 +344,9 @@ def main(words):
     for it in (signal.SIGTERM, signal.SIGHUP):
         signal.signal(it, lambda number, _: sys.exit(128 + number))
     start = time.monotonic()
+    prover = Prover(crates[name])
     try:
-        Prover(crates[name]).prove()
+        prover.prove()
     except NotProved as why:
         say(why)
         return 1
@@ -343,7 +354,7 @@ def main(words):
         say("interrupted; the crates that are proved stay proved")
         return 130
     took = round(time.monotonic() - start)
-    say(f"proved in {took // 60} min {took % 60} s")
+    say(f"proved in {took // 60} min {took % 60} s, {prover.seconds / 60:.1f} processor minutes")
     return 0
 
 
