@@ -15,8 +15,9 @@ With --control it takes the edits of must-fail/ and wrong-bodies/ that name a co
 bug: the right body in the same form. The prover has to let it through, or the edit is refused for its form and shows
 nothing. The last line is 'N let through, M refused'.
 
-With --apply it proves nothing: it checks that each edit of all three folders still applies, and that no two edits of a
-crate have one name. The last line is 'N apply, M do not'.
+With --apply it proves nothing: it checks that each edit of all three folders still applies, that no two edits of a
+crate have one name, and that the first two folders have no more than MOST, of all crates together. The last line is
+'N apply, M do not'.
 
 It works on a copy. What rt says is not read, where its status and what it has built tell as much. The environment may give RT, the command that proves in place of rt, and JOBS, how many edits are
 tried side by side."""
@@ -41,6 +42,8 @@ RAN = "run=ended status=0"
 """What rt says of a program that has run without a proof."""
 FOR_THE_PROVER = ("must-fail", "wrong-bodies")
 FOR_TESTS = ("seen-by-tests",)
+MOST = {"must-fail": 40, "wrong-bodies": 1217}
+"""How many edits there may be, of all crates together: the gate pays for the first, whoever renames something for all."""
 
 
 class Edit:
@@ -226,6 +229,15 @@ def applies(edits):
         yield not why
 
 
+def are_few():
+    """Whether no folder has more edits than it may have."""
+    counts = {folder: len(paths_of("*", [folder])) for folder in MOST}
+    crowded = [folder for folder, count in counts.items() if count > MOST[folder]]
+    for folder in crowded:
+        print(f"{counts[folder]} edits in {folder}/, at most {MOST[folder]}")
+    return not crowded
+
+
 def main():
     words = sys.argv[1:]
     option = words.pop(0) if words[:1] in (["--control"], ["--apply"]) else ""
@@ -238,7 +250,7 @@ def main():
         "": ("seen or refused", "let through"),
     }[option]
     print(f"{sum(found)} {good}, {len(found) - sum(found)} {bad}")
-    sys.exit(not all(found))
+    sys.exit(not (all(found) and (option != "--apply" or are_few())))
 
 
 if __name__ == "__main__":

@@ -6,7 +6,7 @@
 # Without a crate it takes all. It works on a copy, so the checkout stays as it is and may be used meanwhile.
 #   --all    tries those of must-fail/ too
 #   --apply  proves nothing: checks that each edit of these and of seen-by-tests/ still applies (each `old:` text
-#            stands once; planted_bugs.py)
+#            stands once), and that the folders have no more than they may have (planted_bugs.py)
 #   --seen   tries those of seen-by-tests/ alone: of each, the test that it names has to fail (planted_bugs.py)
 #   --control  tries the controls of the edits that name one: the prover has to let each through (planted_bugs.py)
 # A line `control: TEXT` after a `new:` line says what stands there in the control, the right body in the same form.
