@@ -1,3 +1,4 @@
 pub mod SurveySteps
+pub mod EntriesSteps
 pub mod CountedSteps
 pub mod DiffersSteps

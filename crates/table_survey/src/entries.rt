@@ -1,6 +1,7 @@
 //! The flags of entries.
 
-ghost use Rattle.std.specs.Prelude.{◌≡◌, ◌<◌, ◌^◌, IfSome};
+ghost use Rattle.std.specs.Prelude.{◌≡◌, ◌*◌, ◌<◌, ◌≤◌, ◌^◌, IfSome, length};
+ghost use Rattle.std.specs.List.{flat_map, range_with_len};
 ghost use Rattle.chunk_walk.specs.Chunk.{chunk_of};
 ghost use Rattle.table_survey.specs.Survey.{noted};
 ghost use Rattle.table_survey.specs.Entries.{offset_at, entry_flags, notes_of_entry, notes_of_entries, is_compact, has_other_flags};
@@ -16,6 +17,9 @@ use chunk_walk::{Chunk, u16_at, u32_at};
 const NO_SHORT_OFFSET: u16 = 0xffff;
 
 const NO_OFFSET: u32 = 0xffff_ffff;
+
+/// An offset has so many bytes at least.
+const LEAST_OFFSET_SIZE: usize = 2;
 
 /// Short offsets and those of sparse types count so many bytes.
 const WORD_SIZE: usize = 4;
@@ -43,6 +47,16 @@ fn offset_at(chunk: &Chunk<'_>, position: u32) -> Option<usize>
     }
 }
 
+// How many positions can have an entry: as many as the type claims, at most as many as its body has bytes for.
+fn position_count(chunk: &Chunk<'_>) -> u32
+    ensures within { 2 * result ≤ length chunk.now.body.now }
+    // Behind them nothing is found.
+    ensures all { notes_of_entries (chunk_of chunk.now) ≡ flat_map (notes_of_entry (chunk_of chunk.now)) (range_with_len 0 result) }
+{
+    let claimed = u32_at(chunk.header, type_header::OFFSET_COUNT).unwrap_or(0) as usize;
+    claimed.min(chunk.body.len() / LEAST_OFFSET_SIZE) as u32
+}
+
 // The flags of the entry at a position, where there is one.
 fn entry_flags(chunk: &Chunk<'_>, position: u32) -> Option<u16>
     ensures { result ≡ entry_flags (chunk_of chunk.now) position }
@@ -67,11 +81,11 @@ fn has_other_flags(flags: u16) -> bool
 
 impl Survey {
     /// Adds what the entries of a type have.
-    #[tactic(auto, using(crate::proofs::SurveySteps::noted_steps), unfolding(crate::specs::Entries::notes_of_entries))]
+    #[tactic(auto, using(crate::proofs::SurveySteps::noted_steps))]
     pub(crate) fn add_entries(&mut self, chunk: &Chunk<'_>)
         ensures { self.new ≡ noted self.old (notes_of_entries (chunk_of chunk.now)) }
     {
-        let count = u32_at(chunk.header, type_header::OFFSET_COUNT).unwrap_or(0);
+        let count = position_count(chunk);
         for position in 0..count {
             self.add_entry(chunk, position);
         }

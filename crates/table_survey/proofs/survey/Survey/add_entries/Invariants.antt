@@ -2,11 +2,11 @@ use Rattle.std.proofs.Common.{◌≡◌, ◌-◌}
 use Rattle.std.specs.List.{flat_map, range_with_len}
 use Rattle.chunk_walk.specs.Chunk.{chunk_of}
 use Rattle.table_survey.specs.Survey.{noted}
-use Rattle.table_survey.specs.Entries.{notes_of_entry, offset_count}
+use Rattle.table_survey.specs.Entries.{notes_of_entry, notes_of_entries}
 use Rattle.table_survey.proofs.survey.Survey.add_entries.Given as goal
 
 -- what the entries that are left have comes to the survey that all entries come to
 abbrev pub invariant-loop-position : goal.invariant-loop-position
 invariant-loop-position l =
-    noted l.self (flat_map (notes_of_entry (chunk_of l.chunk)) (range_with_len l.position (offset_count (chunk_of l.chunk) - l.position)))
-    ≡ noted l.fn.self (flat_map (notes_of_entry (chunk_of l.chunk)) (range_with_len 0 (offset_count (chunk_of l.chunk))))
+    noted l.self (flat_map (notes_of_entry (chunk_of l.chunk)) (range_with_len l.position (l.count - l.position)))
+    ≡ noted l.fn.self (notes_of_entries (chunk_of l.chunk))
