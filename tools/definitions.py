@@ -16,7 +16,7 @@ PAGE = f"{ROOT}/docs/DEFINITIONS.md"
 MOST_SHOWN = 2
 HEAD = """# Definitions
 
-Contracts of public functions cite these definitions. `tools/definitions.py` makes this page from `specs/` and `src/`; do not edit it. Crates and files stand in the order to read them, and each file begins with what it says. [ARCHITECTURE.md](ARCHITECTURE.md#contracts-and-definitions) says how they are named.
+Contracts of public functions cite these definitions. `tools/definitions.py` makes this page from `specs/` and `src/`; do not edit it. Crates and files stand in the order to read them, and each file begins with what it says. [ARCHITECTURE.md](ARCHITECTURE.md#how-to-read-a-contract) says how they are named.
 
 Behind a file stand those of its definitions that are cited, and up to two functions that cite one, or types whose own contracts do. A file with nothing behind it has what others are made of. Files that only private contracts need are left out: no public promise rests on them.
 """
