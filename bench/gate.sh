@@ -1,23 +1,21 @@
 #!/bin/sh
 # Prints the processor seconds that the gate takes for each crate: for its proof, its tests and its must-fail edits, and
-# the sums, as a table: gate.sh [CRATE..]. After it stand the functions whose proofs took more than twenty of these
-# seconds. Without a crate it measures all, and takes as long as the gate. Each part works from nothing, on a copy of the
-# repository; those below a named crate are proved too. Where the crates of the fixed proof (README.md) are among them, the
-# sum is printed as a multiple of that too.
-# The environment may give RT, the command that proves in place of rt, and JOBS, how many tests and edits run side by
-# side, beside one proof.
+# the sums, as a table: gate.sh [CRATE..]. After it stand the first run, which is the proofs of what restool stands on, and
+# the functions whose proofs took more than twenty of these seconds. Without a crate it measures all, and takes as long as
+# the gate. Each part works from nothing, with one job, on a copy of the repository; those below a named crate are proved
+# too. Where the crates of the fixed proof (README.md) are among them, sums are printed as multiples of that too.
+# The environment may give JOBS, how many tests and edits run side by side.
 here=$(CDPATH='' cd "$(dirname "$0")/.." && pwd) || exit 1
 program=$(basename "$0")
-rt=${RT:-rt}
 fixed="contract_words hex_text chunk_walk json_input config_record"
 . "$here/tools/crates_below.sh"
 
-# measure WORK CRATE PART COMMAND..: runs a command in the crate's folder, and keeps the processor seconds, of user and
-# system, that it and its children took. What it printed is shown where it failed.
+# measure WORK CRATE PART COMMAND..: runs a command in the crate's folder of its room, and keeps the processor seconds, of
+# user and system, that it and its children took. What it printed is shown where it failed.
 measure() {
     seconds=$1/seconds/$2.$3 printed=$1/printed/$2.$3
     (
-        cd "$1/copy/crates/$2" || exit 1
+        cd "$1/rooms/$2/crates/$2" || exit 1
         shift 3
         "$@" >"$printed" 2>&1 </dev/null
         ended=$?
@@ -34,17 +32,28 @@ measure() {
     echo "$2 $3: $(cat "$seconds") s" >&2
 }
 
+# make_room WORK CRATE: a copy for the tests and edits of a crate, since rt lets no two runs into one folder. It has the
+# libraries, and nothing that the crate's own proof left, so that the tests are proved from nothing, as the gate does it.
+make_room() {
+    mkdir -p "$1/rooms/$2/crates" || return 1
+    for below in $(crates_below "$1/copy/crates.txt" "$2"); do
+        mkdir -p "$1/rooms/$2/crates/$below/out" || return 1
+        grep "^$below:" "$1/copy/crates.txt" >>"$1/rooms/$2/crates.txt" || return 1
+        for part in src specs proofs must-fail stdin stdout args status data out/rlib; do
+            if [ -e "$1/copy/crates/$below/$part" ]; then
+                cp -al "$1/copy/crates/$below/$part" "$1/rooms/$2/crates/$below/$part" || return 1
+            fi
+        done
+    done
+}
+
 # measure_rest WORK CRATE: the tests and edits of a crate that is proved.
 measure_rest() {
     folder=$1/copy/crates/$2
-    if grep -rq '^ *#\[test\]' "$folder/src"; then
-        # The gate proves a crate with its tests from nothing once more.
-        rm -rf "$folder/out/incremental"
-        measure "$1" "$2" tests "$rt" test --jobs 1
-    fi
-    if [ -d "$folder/must-fail" ]; then
-        measure "$1" "$2" edits sh -c "cd ../.. && $rt must-fail $2"
-    fi
+    make_room "$1" "$2" || return 1
+    if grep -rq '^ *#\[test\]' "$folder/src"; then measure "$1" "$2" tests rt test --jobs 1; fi
+    if [ -d "$folder/must-fail" ]; then measure "$1" "$2" edits sh -c "cd ../.. && rt must-fail $2"; fi
+    rm -rf "$1/rooms/$2"
 }
 if [ "$1" = --rest ]; then
     measure_rest "$2" "$3"
@@ -55,35 +64,37 @@ listed=$(all_crates "$here/crates.txt")
 for crate in "$@"; do
     echo "$listed" | grep -qx "$crate" || { echo "$program: no crate $crate" >&2; exit 2; }
 done
-named=" $(echo "${*:-$listed}" | tr '\n' ' ') "
+named=${*:-$listed}
 # The crates that are named and all that they stand on, lowest first.
 needed=$(crates_below "$here/crates.txt" $named)
 
 work=$(mktemp -d) || exit 1
 trap 'rm -rf "$work"' EXIT
 trap 'exit 130' INT TERM
-mkdir "$work/copy" "$work/seconds" "$work/printed" && : >"$work/dear" || exit 1
+mkdir "$work/copy" "$work/rooms" "$work/seconds" "$work/printed" && : >"$work/dear" || exit 1
 (cd "$here" && tar -cf - --exclude=.git --exclude=out .) | tar -xf - -C "$work/copy" || exit 1
 
-# One proof at a time, and beside it tests and edits of crates that are proved, with 4 GB of free memory for each.
+python3 "$work/copy/tools/prove.py" --jobs 1 $needed || touch "$work/failed"
+for crate in $needed; do
+    sed -n '$s/ processor seconds$//p' "$work/copy/out/proofs/$crate.log" >"$work/seconds/$crate.proof"
+    python3 "$here/bench/dear_functions.py" "$work/copy/crates/$crate/out/incremental" "$crate" \
+        "$(cat "$work/seconds/$crate.proof")" >>"$work/dear"
+done
+
+# Tests and edits side by side, with 4 GB of free memory for each.
 free=$(awk '/^MemAvailable:/ { print int($2 / 4000000) }' /proc/meminfo 2>/dev/null)
 jobs=$(getconf _NPROCESSORS_ONLN)
 if [ "${free:-1}" -lt "$jobs" ]; then jobs=${free:-1}; fi
-if [ "$jobs" -gt 1 ]; then jobs=$((jobs - 1)); else jobs=1; fi
-for crate in $needed; do
-    if [ -f "$work/copy/crates/$crate/src/main.rt" ]; then
-        measure "$work" "$crate" proof "$rt" run --jobs 1 -- --help || break
-    else
-        measure "$work" "$crate" proof "$rt" lib --jobs 1 || break
-    fi
-    kept=$work/copy/crates/$crate/out/incremental
-    python3 "$here/bench/dear_functions.py" "$kept" "$crate" "$(cat "$work/seconds/$crate.proof")" >>"$work/dear"
-    case $named in *" $crate "*) echo "$crate" ;; esac
-done | xargs -r -P "${JOBS:-$jobs}" -n 1 sh "$0" --rest "$work"
+if [ "$jobs" -lt 1 ]; then jobs=1; fi
+[ -e "$work/failed" ] || echo "$named" | tr ' ' '\n' | xargs -r -P "${JOBS:-$jobs}" -n 1 sh "$0" --rest "$work"
 
+first_run=" $(crates_below "$here/crates.txt" restool) "
 {
     for crate in $fixed; do
         echo "fixed $(cat "$work/seconds/$crate.proof" 2>/dev/null || echo none)"
+    done
+    for crate in $needed; do
+        case $first_run in *" $crate "*) echo "first $(cat "$work/seconds/$crate.proof")" ;; esac
     done
     for crate in $named; do
         for part in proof tests edits; do
@@ -92,10 +103,16 @@ done | xargs -r -P "${JOBS:-$jobs}" -n 1 sh "$0" --rest "$work"
     done
 } | awk '
     $1 == "fixed" { fixed += $2; if ($2 == "none") unmeasured = 1; next }
+    $1 == "first" { first += $2; next }
     { took[$1, $2] = $3; all[$1] += $3; sum[$2] += $3; total += $3; if (!($1 in seen)) { seen[$1] = 1; names[++count] = $1 } }
     function cell(seconds) { return seconds ? sprintf("%.0f", seconds) : "" }
     function row(name, proof, tests, edits, seconds) {
         printf "| %s | %s | %s | %s | %s |\n", name, cell(proof), cell(tests), cell(edits), cell(seconds)
+    }
+    function told(name, seconds) {
+        printf "%s: %.0f processor minutes", name, seconds / 60
+        if (fixed && !unmeasured) printf ", %.1f times the fixed proof, which took %.0f s", seconds / fixed, fixed
+        print ""
     }
     END {
         print "| crate | proof | tests | edits | all, in processor seconds |"
@@ -107,8 +124,9 @@ done | xargs -r -P "${JOBS:-$jobs}" -n 1 sh "$0" --rest "$work"
             row(dearest, took[dearest, "proof"], took[dearest, "tests"], took[dearest, "edits"], all[dearest])
         }
         row("all", sum["proof"], sum["tests"], sum["edits"], total)
-        printf "\n%.0f processor minutes\n", total / 60
-        if (fixed && !unmeasured) printf "%.1f times the fixed proof, which took %.0f s\n", total / fixed, fixed
+        print ""
+        told("the gate", total)
+        if (("restool", "proof") in took) told("the first run", first)
     }'
 printf '\nFunctions whose proofs took more than 20 processor seconds:\n'
 cat "$work/dear"

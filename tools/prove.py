@@ -1,9 +1,9 @@
 #!/usr/bin/env python3
-"""Proves the crates below a crate side by side, and then proves and builds that crate.
+"""Proves crates and all that they stand on side by side, and then proves and builds those that are programs.
 
-usage: tools/prove.py [CRATE]        CRATE is restool if it is left out
+usage: tools/prove.py [--jobs N] [CRATE..]        CRATE is restool if it is left out
 
-A crate is proved once those below it are, first those with the most work behind them, each with the
+With --jobs each proof has at most so many jobs: one job takes the least processor time. A crate is proved once those below it are, first those with the most work behind them, each with the
 jobs that processors and memory allow. A run of rt locks its crate and all crates below it, so each
 run here works on a copy of what it reads, and what it made is then moved to the crate's out/, whole
 or not at all. Nobody edits such a copy, so rt computes each stamp in it once (rt_once.py). What rt
@@ -110,6 +110,9 @@ class Crate:
         self.newest = max(map(os.path.getmtime, [LIST, *files]))
         self.lines = sum(map(lines_in, (it for it in files if it.endswith(".rt"))))
 
+    def is_program(self):
+        return os.path.isfile(f"{self.folder}/src/main.rt")
+
     def sources(self):
         for part in SOURCES:
             for folder, _, names in os.walk(f"{self.folder}/{part}"):
@@ -148,6 +151,14 @@ def read_crates():
         crate = Crate(line, known)
         known[crate.name] = crate
     return known
+
+
+def with_those_below(crates):
+    """These crates and all that they stand on, lowest first."""
+    found = []
+    for crate in crates:
+        found += [it for it in [*crate.below, crate] if it not in found]
+    return found
 
 
 def work_behind(crates):
@@ -208,30 +219,38 @@ class Room:
 
 
 class Prover:
-    """Proves a crate and those below it."""
+    """Proves crates and those below them, each with at most so many jobs."""
 
-    def __init__(self, crate):
-        self.crate, self.rooms = crate, f"{crate.folder}/out/{ROOMS}{os.getpid()}"
+    def __init__(self, crates, most_jobs):
+        self.needed, self.most_jobs = with_those_below(crates), min(most_jobs, processors())
+        self.room_of_rooms = f"{crates[-1].folder}/out"
+        self.rooms = f"{self.room_of_rooms}/{ROOMS}{os.getpid()}"
         self.left, self.count, self.started = [], 0, 0
         self.runs, self.is_ending = {}, False
         self.seconds = 0.0
 
     def prove(self):
+        programs = [it for it in self.needed if it.is_program()]
+        libraries = [it for it in self.needed if it not in programs and it.may_be_old()]
+        self.count = len(libraries) + len(programs)
         held = self.lock()
-        for it in glob.glob(f"{self.crate.folder}/out/{ROOMS}*"):
+        for it in glob.glob(f"{self.room_of_rooms}/{ROOMS}*"):
             shutil.rmtree(it, ignore_errors=True)  # of a run that was killed
         try:
-            self.prove_libraries()
+            self.prove_libraries(libraries)
         finally:
             shutil.rmtree(self.rooms, ignore_errors=True)
             for it in held:
                 os.close(it)
-        self.prove_top()
+        self.is_ending = False
+        for it in programs:
+            self.tell(it)
+            self.prove_program(it)
 
     def lock(self):
         """Keeps runs of rt out of the crates, as rt itself does, until what this returns is closed."""
         held = []
-        for crate in sorted([*self.crate.below, self.crate], key=lambda it: it.folder):
+        for crate in sorted(self.needed, key=lambda it: it.folder):
             held.append(os.open(crate.folder, os.O_RDONLY))
             try:
                 fcntl.flock(held[-1], fcntl.LOCK_EX | fcntl.LOCK_NB)
@@ -242,11 +261,9 @@ class Prover:
                 pass  # some file systems have no locks
         return held
 
-    def prove_libraries(self):
-        behind = work_behind([*self.crate.below, self.crate])
-        old = [it for it in self.crate.below if it.may_be_old()]
-        self.left = sorted(old, key=behind.get, reverse=True)
-        self.count = len(old) + 1
+    def prove_libraries(self, libraries):
+        behind = work_behind(self.needed)
+        self.left = sorted(libraries, key=behind.get, reverse=True)
         running = {}
         with ThreadPoolExecutor(processors()) as pool:
             try:
@@ -268,7 +285,7 @@ class Prover:
             within = crate.jobs_within(memory)
             if len(running) < processors() and (within > 0 or not running):
                 # a run keeps its jobs to its end, so it may use all processors, also those that others use now
-                jobs = max(1, min(within, processors()))
+                jobs = max(1, min(within, self.most_jobs))
                 memory -= crate.memory(jobs)
                 self.left.remove(crate)
                 self.tell(crate)
@@ -285,23 +302,14 @@ class Prover:
         if not self.is_ending:
             room.give_back()
 
-    def prove_top(self):
-        """Proves the crate itself in its own folder, and builds it if it is a program."""
-        self.tell(self.crate)
-        self.is_ending = False
-        jobs = ["--jobs", str(max(1, min(self.crate.jobs_within(free_memory()), processors())))]
-        if os.path.isfile(f"{self.crate.folder}/src/main.rt"):
-            self.prove_program(jobs)
-        else:
-            self.run(self.crate, self.crate.folder, *RT, "lib", *jobs)
-
-    def prove_program(self, jobs):
-        """Proves and builds the program, and writes beside it what proved it."""
-        proved_with = f"{self.crate.folder}/out/{PROVED_WITH}"
+    def prove_program(self, crate):
+        """Proves and builds a program in its own folder, and writes beside it what proved it."""
+        proved_with = f"{crate.folder}/out/{PROVED_WITH}"
         if os.path.exists(proved_with):
             os.remove(proved_with)
         toolchain = subprocess.run([*RT, "version"], stdout=subprocess.PIPE, text=True, check=True).stdout
-        self.run(self.crate, self.crate.folder, *RT, "run", *jobs, "--", "--version")
+        jobs = max(1, min(crate.jobs_within(free_memory()), self.most_jobs))
+        self.run(crate, crate.folder, *RT, "run", "--jobs", str(jobs), "--", "--version")
         with open(proved_with, "w", encoding="utf-8") as file:
             file.write(toolchain)
 
@@ -328,14 +336,26 @@ class Prover:
             ran.terminate()
 
 
+def asked(words):
+    """The most jobs of a proof and the names of the crates that the words ask for; None for wrong words."""
+    most_jobs = MOST_JOBS
+    if words[:1] == ["--jobs"]:
+        if len(words) == 1 or not re.fullmatch("[1-9][0-9]*", words[1]):
+            return None
+        most_jobs, words = min(MOST_JOBS, int(words[1])), words[2:]
+    return None if any(it.startswith("-") for it in words) else (most_jobs, words or ["restool"])
+
+
 def main(words):
-    if len(words) > 1 or any(it.startswith("-") for it in words):
+    found = asked(words)
+    if not found:
         print(__doc__, end="", file=sys.stderr)
         return 2
-    crates, name = read_crates(), words[0] if words else "restool"
-    if name not in crates:
-        say(f"crates.txt has no crate {name}")
-        return 2
+    crates, (most_jobs, names) = read_crates(), found
+    for name in names:
+        if name not in crates:
+            say(f"crates.txt has no crate {name}")
+            return 2
     if not shutil.which("rt"):
         say("rt is not on the path: it comes with the Rattle toolchain")
         return 1
@@ -344,7 +364,7 @@ def main(words):
     for it in (signal.SIGTERM, signal.SIGHUP):
         signal.signal(it, lambda number, _: sys.exit(128 + number))
     start = time.monotonic()
-    prover = Prover(crates[name])
+    prover = Prover([crates[it] for it in names], most_jobs)
     try:
         prover.prove()
     except NotProved as why:
