@@ -1,8 +1,13 @@
 """Runs of each command, with what the program prints where nothing is refused. For refusals.py."""
 import os
+import struct
+import sys
 from collections import namedtuple
 
 HERE = os.path.dirname(os.path.dirname(os.path.dirname(os.path.abspath(__file__))))
+sys.path.append(os.path.join(HERE, "bench"))
+from make_rows import chunk
+
 TABLES = os.path.join(HERE, "tests", "tables")
 STANDARD_INPUT = "-"
 
@@ -58,6 +63,9 @@ LONG = 200_000
 """Bytes of a file that is read in several pieces."""
 MANY = 2000
 """Ids whose answer is written in several pieces."""
+
+CLAIMING = [0, 1, 2] * 334
+"""Flags of types that claim entries: their entry offsets have 32 bits, or belong to indexes, or have 16 bits."""
 
 ROWS = lines(
     "row 0x7f020000 [] false",
@@ -152,6 +160,15 @@ TABLELESS = lines(
 GOALS = ["0x7f050000", "0x7f030000"]
 
 
+def claiming_table():
+    """A table of types that have no entries, and each claim as many as four bytes can say: hours of work for whom believes
+    them."""
+    config = struct.pack("<I24x", 28)
+    types = [chunk(0x0201, struct.pack("<BBHII", 1, flags, 0, 0xFFFFFFFF, 48) + config, b"") for flags in CLAIMING]
+    package = chunk(0x0200, struct.pack("<I", 0x7F) + b"\0" * 276, b"".join(types))
+    return chunk(0x0002, struct.pack("<I", 1), package)
+
+
 def device_runs():
     """Runs of the commands that ask about a device."""
     query = ["query", LAYERS, PHONE]
@@ -216,6 +233,19 @@ def stopped_runs():
     yield Run("absent file", ["dump", "absent"], ["absent"], 5, err="file: absent\n")
 
 
+def write_files(folder, files):
+    for name, content in files.items():
+        with open(os.path.join(folder, name), "wb") as file:
+            file.write(content)
+
+
+def claiming_runs(folder):
+    """A survey of a table that claims entries."""
+    write_files(folder, {"claiming": claiming_table(), "of-claiming": b'[{"table":"claiming"}]'})
+    surveyed = lines("warning layer 0 16-bit-offsets 334 first 396", "refused: layer 0 table: TypeWithoutSpec 300")
+    yield Run("claimed entries", ["survey", "of-claiming"], ["of-claiming", "claiming"], 1, surveyed, folder=folder)
+
+
 def made_runs(folder):
     """Runs on files that are made here."""
     whole, target, overlay = (bytes_of(path) for path in ("crates/restool/stdin", TEAPOT, PORCELAIN))
@@ -228,9 +258,7 @@ def made_runs(folder):
         "target": target,
         "misspelled": overlay.replace(b"handle", b"handel"),
     }
-    for name, content in files.items():
-        with open(os.path.join(folder, name), "wb") as file:
-            file.write(content)
+    write_files(folder, files)
     yield Run("long file", ["rows", "long"], ["long"], out="rows 0 set-aside 0\n", folder=folder)
     read = ["layers", "long", "long", "empty", "device"]
     line = "refused: layer 1 map: Syntax\n"
@@ -257,6 +285,7 @@ def runs(folder):
     yield from change_runs()
     yield Run("help", ["query", "--help"], out=text_of("tests", "helps", "query.txt"))
     yield from stopped_runs()
+    yield from claiming_runs(folder)
     yield from made_runs(folder)
 
 
