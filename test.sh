@@ -5,14 +5,19 @@ here=$(CDPATH='' cd "$(dirname "$0")" && pwd) || exit 1
 cd "$here" || exit 1
 work=$(mktemp -d) || exit 1
 trap 'rm -rf "$work"' EXIT
+. "$here/tools/program.sh"
 
 start=$(date +%s)
+sum=$(sum_of_sources)
 {
     rt ci 2>&1
     echo $? >"$work/status"
 } | tee "$work/gate"
 gate_status=$(cat "$work/status")
-if [ "$gate_status" = 0 ]; then rt version >crates/restool/out/proved-with; fi
+if [ "$gate_status" = 0 ]; then
+    rt version >"$built/proved-with"
+    if [ "$sum" = "$(sum_of_sources)" ]; then echo "$sum" >>"$built/proved-with"; fi
+fi
 echo "the gate took $(($(date +%s) - start)) seconds"
 sh tests/end_to_end.sh 2>&1 | tee "$work/runs"
 

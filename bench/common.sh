@@ -6,8 +6,7 @@ if ! /usr/bin/time -f '%e %M' -o "$work/time" true; then
     echo "$(basename "$0"): GNU time is needed (Debian's package time)" >&2
     exit 1
 fi
-"$here/../restool" --help >/dev/null || exit 1
-program=$here/../crates/restool/out/restool
+program=$(here=$(dirname "$here") && . "$here/tools/program.sh" && build_program && echo "$program") || exit 1
 
 # table_of_apk FILE: the table in a package, which is a zip file.
 table_of_apk() {

@@ -3,8 +3,8 @@
 here=$(CDPATH='' cd "$(dirname "$0")/.." && pwd) || exit 1
 work=$(mktemp -d) || exit 1
 trap 'rm -rf "$work"' EXIT
-"$here/restool" --help >/dev/null || { echo "0 passed, 1 failed"; exit 1; }
-program=$here/crates/restool/out/restool
+. "$here/tools/program.sh"
+build_program || { echo "0 passed, 1 failed"; exit 1; }
 passed=0
 failed=0
 
@@ -456,7 +456,7 @@ fi
 # ---- the package: unpacked into an empty folder, it needs neither the repository nor rt
 mkdir -p bare/tools bare/crates/restool/out bare/crates/restool/src
 cp "$here"/tools/*.sh bare/tools/
-line old.err 'package.sh: the program is missing or older than its sources: ./restool proves and builds it'
+line old.err 'package.sh: no program is of these sources: ./restool proves and builds it'
 ends "no package without a program" 0 '! sh bare/tools/package.sh 2>told && cmp told old.err'
 cp "$program" bare/crates/restool/out/
 touch -d '2 seconds' bare/crates/restool/src/main.rt
@@ -650,11 +650,17 @@ ends "a row of bytes that a function owns" 0 "sh '$here/tests/own_bytes.sh' >&2"
 
 # ---- what proved a program stands beside it
 mkdir -p one/tools one/crates/one/src
-cp "$here"/tools/*.py one/tools/
+cp "$here"/tools/*.py "$here"/tools/*.sh one/tools/
 echo 'one:' >one/crates.txt
 printf '%s\n' '#![tactic(auto)]' '' 'fn main(_rt: HostRuntime) {}' >one/crates/one/src/main.rt
 ends "a program is proved" 0 'python3 one/tools/prove.py one'
-ends "what proved it" 0 'rt version | cmp - one/crates/one/out/proved-with'
+ends "what proved it, and of which sources" 0 \
+    '{ rt version && sh one/tools/source_sum.sh one; } | cmp - one/crates/one/out/proved-with'
+
+# ---- the prebuilt program
+ends "which program ./restool runs" 0 "sh '$here/tests/prebuilt.sh' >&2"
+ends "the prebuilt program, where it is of these sources" 0 "sh '$here/tests/same_prebuilt.sh' >told"
+cat told
 
 # ---- what the toolchain reads
 ends "few paths through crates.txt" 0 "python3 '$here/tools/paths.py' --check >&2"

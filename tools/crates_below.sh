@@ -5,20 +5,23 @@ all_crates() {
     sed -n 's/^\([a-z0-9_]*\).*:.*/\1/p' "$1"
 }
 
-# crates_below LIST CRATE..: the crates that these stand on, themselves with them, lowest first.
+# crates_below LIST CRATE..: the crates that these stand on, themselves with them, lowest first. It needs nothing but a shell.
 crates_below() {
-    list=$1
+    lines=
+    while read -r line || [ -n "$line" ]; do
+        lines="$line
+$lines"
+    done <"$1"
     shift
-    awk -v crates="$*" '
-        BEGIN { split(crates, given, " "); for (it in given) wanted[given[it]] = 1 }
-        !/^#/ && /:/ { lines[++last] = $0 }
-        END {
-            for (at = last; at > 0; at--) {
-                split(lines[at], halves, ":"); split(halves[1], head, " "); name = head[1]
-                if (name in wanted) { split(halves[2], below, " "); for (it in below) wanted[below[it]] = 1; order = name " " order }
-            }
-            print order
-        }' "$list"
+    wanted=" $* " order=
+    while IFS=: read -r name uses; do
+        name=${name%% *}
+        case $name in '' | \#*) continue ;; esac
+        case $wanted in *" $name "*) wanted="$wanted$uses " order="$name $order" ;; esac
+    done <<END
+$lines
+END
+    echo "$order"
 }
 
 # crates_above LIST CRATE..: the crates that stand on these, without themselves, lowest first.

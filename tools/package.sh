@@ -1,16 +1,16 @@
 #!/bin/sh
 # Makes restool-VERSION-linux-x86_64.tar.gz and prints its path: package.sh [FOLDER]
 #
-# FOLDER is where it goes; out/ of the repository if it is left out. It has the program and what proved it, the README,
-# docs, schemas and examples, the repository's licence files, and SHA256SUMS with the checksums of all these. The same
-# files give the same bytes. Needs GNU tar and gzip.
+# FOLDER is where it goes; out/ of the repository if it is left out. It has the program, built here or prebuilt, and what
+# proved it, the README, docs, schemas and examples, the repository's licence files, and SHA256SUMS with the checksums of
+# all these. The same files give the same bytes. Needs GNU tar and gzip.
 here=$(CDPATH='' cd "$(dirname "$0")/.." && pwd) || exit 1
 . "$here/tools/program.sh"
 stop() {
     echo "package.sh: $1" >&2
     exit 1
 }
-if is_old; then stop "the program is missing or older than its sources: ./restool proves and builds it"; fi
+choose_program || stop "no program is of these sources: ./restool proves and builds it"
 proved_with=$(dirname "$program")/proved-with
 [ -s "$proved_with" ] || stop "no file says what proved the program: ./restool writes it"
 version=$("$program" --version) || stop "the program does not say its version"

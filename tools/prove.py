@@ -3,13 +3,15 @@
 
 usage: tools/prove.py [--jobs N] [CRATE..]        CRATE is restool if it is left out
 
-With --jobs each proof has at most so many jobs: one job takes the least processor time. A crate is proved once those below it are, first those with the most work behind them, each with the
-jobs that processors and memory allow. A run of rt locks its crate and all crates below it, so each
-run here works on a copy of what it reads, and what it made is then moved to the crate's out/, whole
-or not at all. Nobody edits such a copy, so rt computes each stamp in it once (rt_once.py). What rt
-finds up to date is not proved again.
+With --jobs each proof has at most so many jobs: one job takes the least processor time. A crate is
+proved once those below it are, first those with the most work behind them, each with the jobs that
+processors and memory allow. A run of rt locks its crate and all crates below it, so each run here
+works on a copy of what it reads, and what it made is then moved to the crate's out/, whole or not at
+all. Nobody edits such a copy, so rt computes each stamp in it once (rt_once.py). What rt finds up to
+date is not proved again.
 
-Beside a program, out/NAME, stands what proved it: the line of `rt version`, in out/proved-with.
+Beside a program, out/NAME, stands what proved it, in out/proved-with: the line of `rt version`, and
+the sum of the sources that it was built from (source_sum.sh), if nobody changed them meanwhile.
 """
 import fcntl
 import glob
@@ -33,7 +35,7 @@ ROOMS = "proofs-"
 SOURCES = ("src", "specs", "proofs")
 # What a proof leaves in out/: work that a later proof begins with, and the library.
 MADE = ("incremental", "rlib")
-# The file in out/ of a program that says which toolchain proved it.
+# The file in out/ of a program that says which toolchain proved it, and from which sources.
 PROVED_WITH = "proved-with"
 # The memory that a check takes: at least so much, so much for a line of the crate and for one below,
 # and for each further job such a part of it again.
@@ -170,6 +172,24 @@ def work_behind(crates):
     return found
 
 
+def source_sum(crate):
+    """The line with the sum of all sources of a crate; nothing where it cannot be made."""
+    command = ["sh", f"{ROOT}/tools/source_sum.sh", crate.name]
+    return subprocess.run(command, stdout=subprocess.PIPE, stderr=subprocess.DEVNULL, text=True).stdout
+
+
+def tell_sources(program, begun, sum_then):
+    """Adds the sum of a program's sources to what proved it, if it is as when the proofs began."""
+    out = f"{program.folder}/out"
+    # older than what was edited meanwhile
+    os.utime(f"{out}/{program.name}", (begun, begun))
+    if source_sum(program) != sum_then:
+        say(f"sources of {program.name} were changed meanwhile: it may be of either")
+        return
+    with open(f"{out}/{PROVED_WITH}", "a", encoding="utf-8") as file:
+        file.write(sum_then)
+
+
 def copy_tree(source, target, copy):
     """Copies a folder, if it is there, file by file."""
     if os.path.isdir(source):
@@ -231,6 +251,7 @@ class Prover:
 
     def prove(self):
         programs = [it for it in self.needed if it.is_program()]
+        begun, sums = time.time(), {it: source_sum(it) for it in programs}
         libraries = [it for it in self.needed if it not in programs and it.may_be_old()]
         self.count = len(libraries) + len(programs)
         held = self.lock()
@@ -246,6 +267,7 @@ class Prover:
         for it in programs:
             self.tell(it)
             self.prove_program(it)
+            tell_sources(it, begun, sums[it])
 
     def lock(self):
         """Keeps runs of rt out of the crates, as rt itself does, until what this returns is closed."""
