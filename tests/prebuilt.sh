@@ -153,6 +153,8 @@ tools=$work/without
 runs "no sha256sum" again
 rm -r crates/restool/out
 proves "no sha256sum, and nothing built" 'sha256sum is missing'
+echo 'a toolchain' >prebuilt/proved-with
+proves "no sha256sum, and a prebuilt program without a sum" 'sha256sum is missing'
 tools=$work/bin
 
 # ---- the scripts that make it and compare it
@@ -179,5 +181,9 @@ same "no prebuilt program" 0 'missing'
 sh tools/prebuilt.sh >/dev/null
 rm -r crates/restool/out
 runs "what tools/prebuilt.sh made" proved
+mkdir docs schemas examples
+echo >README.md
+sh tools/package.sh package >/dev/null && tar -xzOf package/*.tar.gz restool-proved-linux-x86_64/restool | cmp - prebuilt/restool ||
+    fails "a package of the prebuilt program" "status $?"
 
 [ "$failed" = 0 ]

@@ -31,7 +31,7 @@ choose_program() {
 
 # files_now: prints a sum of the files that the choice depends on: of their paths, numbers, sizes and times of change.
 files_now() {
-    cd "$here" && find crates.txt crates/*/src crates/*/specs crates/*/proofs crates/restool/out/restool \
+    cd "$here" && LC_ALL=C find crates.txt crates/*/src crates/*/specs crates/*/proofs crates/restool/out/restool \
         crates/restool/out/proved-with prebuilt -type f -printf '%p %i %s %C@\n' | sha256sum
 }
 
