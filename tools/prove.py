@@ -303,11 +303,12 @@ class Prover:
         ready = [it for it in self.left if not waited_for & {*it.below}]
         # what the runs hold by now is no longer free, and they may come to hold the other half
         memory = free_memory() - sum(crate.memory(jobs) for crate, jobs in running.values()) / 2
+        # each further job reads all libraries once more, so crates side by side come before jobs
+        share = processors() // max(1, len(ready) + len(running))
         for crate in ready:
             within = crate.jobs_within(memory)
             if len(running) < processors() and (within > 0 or not running):
-                # a run keeps its jobs to its end, so it may use all processors, also those that others use now
-                jobs = max(1, min(within, self.most_jobs))
+                jobs = max(1, min(within, self.most_jobs, share))
                 memory -= crate.memory(jobs)
                 self.left.remove(crate)
                 self.tell(crate)
