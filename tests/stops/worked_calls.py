@@ -125,8 +125,12 @@ def reading_rows():
     yield read("Cert::read", certificate(leaf(1), version=3), "Version")
     yield read("Cert::read", certificate('{"bag":5}'), "Shape(0, 0)")
     yield read("Cert::write", certificate(leaf(1)), written(WRITTEN_ID, written_leaf(1)))
-    named = f"Attr {{ attr: Id({A}), styles: [Id({FIRST})] }}"
-    yield read("NamedGoal::read", STYLED, named)
+    styled = f"Attr {{ attr: {A}, styles: [{FIRST}] }}"
+    yield read("Goal::read", STYLED, styled)
+    yield read("Goal::read", "0x01010001@", "Malformed")
+    yield read("NamedGoal::read", STYLED, f"Ids({styled})")
+    named = f'Attr {{ attr: Id({A}), styles: [Name {{ type_name: "s", entry_name: "k" }}] }}'
+    yield read("NamedGoal::read", "0x01010001@s/k", named)
     yield read("NamedGoal::read", "0x01010001@", "Malformed")
     yield read("words_in_text", "# sizes\n\n  dimen/* \ns/k", '["dimen/*", "s/k"]')
     yield read("words_in_text", "\ufeff# sizes\r\ndimen/*\r\n", '["dimen/*"]')
@@ -538,6 +542,7 @@ WITHOUT_MEMORY = [
 REACHED = {
     "Table::open": "BagChecks::new BagChecks::make_ready types_of_children",
     "Device::read": "read_value",
+    "Goal::read": "GoalWord::read",
     "find_names": "Places::new Places::push Passed::new Passed::put",
     "name_pairs": "name_text Noted::new Noted::note Noted::ids_on Noted::into_pairs",
     "push_base": "IndexedTable::new",

@@ -8,7 +8,8 @@ use Rattle.std.specs.Option.{option_map}
 use Rattle.box_trace.specs.overlay_map.Layer.{LayerOf}
 use Rattle.cert_tree.specs.box_answers.NumberSet.{SetOf}
 use Rattle.cert_tree.specs.declared.cert.CertGoal.{CertGoal}
-use Rattle.cert_tree.specs.Certificate.{NodeOf, TestAt, ValueAt, BagAt, GoalSeen, GoalOf, goal_seen, goal_of}
+use Rattle.cert_tree.specs.Certificate.{NodeOf, TestAt, ValueAt, BagAt, GoalOf, goal_of}
+use Rattle.cert_tree.specs.res_value.Goal.{GoalSeen, goal_seen}
 use Rattle.cert_checker.specs.declared.rule.Rule.{Rule}
 use Rattle.cert_checker.specs.declared.rule.Rule.TheVariants as rules
 use Rattle.cert_checker.specs.declared.verdict.Shown.{Shown}

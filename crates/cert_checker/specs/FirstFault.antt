@@ -6,7 +6,8 @@ use Rattle.box_trace.specs.reference_resolver.Ends.{references_followed}
 use Rattle.box_trace.specs.reference_resolver.Trace.{Trace, trace_of}
 use Rattle.box_trace.specs.overlay_map.Layer.{LayerOf}
 use Rattle.cert_tree.specs.box_answers.NumberSet.{SetOf}
-use Rattle.cert_tree.specs.Certificate.{GoalSeen, IdGoal, AttrGoal, GoalOf}
+use Rattle.cert_tree.specs.Certificate.{GoalOf}
+use Rattle.cert_tree.specs.res_value.Goal.{GoalSeen, IdGoal, AttrGoal}
 use Rattle.cert_checker.specs.declared.rule.Rule.{Rule}
 use Rattle.cert_checker.specs.declared.rule.Rule.TheVariants.{GoalList}
 use Rattle.cert_checker.specs.Fails.{NoRuleFails, FailsFirst}

@@ -8,7 +8,8 @@ use Rattle.box_trace.specs.overlay_map.Layer.{LayerOf}
 use Rattle.cert_tree.specs.box_answers.NumberSet.{SetOf}
 use Rattle.cert_tree.specs.box_answers.Members.{IsMember}
 use Rattle.cert_tree.specs.res_value.declared.res_id.ResId.{ResId}
-use Rattle.cert_tree.specs.Certificate.{NodeOf, GoalSeen, IdGoal, AttrGoal, GoalOf}
+use Rattle.cert_tree.specs.Certificate.{NodeOf, GoalOf}
+use Rattle.cert_tree.specs.res_value.Goal.{GoalSeen, IdGoal, AttrGoal}
 use Rattle.cert_checker.specs.declared.verdict.Verdict.{Verdict}
 use Rattle.cert_checker.specs.declared.verdict.Verdict.TheVariants.{Accepted, Rejected}
 use Rattle.cert_checker.specs.Paths.{Reaches}

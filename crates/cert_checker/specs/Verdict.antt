@@ -2,7 +2,8 @@
 use Rattle.std.specs.Prelude.{List}
 use Rattle.box_trace.specs.overlay_map.Layer.{LayerOf}
 use Rattle.cert_tree.specs.box_answers.NumberSet.{SetOf}
-use Rattle.cert_tree.specs.Certificate.{GoalSeen, GoalOf}
+use Rattle.cert_tree.specs.Certificate.{GoalOf}
+use Rattle.cert_tree.specs.res_value.Goal.{GoalSeen}
 use Rattle.cert_checker.specs.declared.verdict.Verdict.{Verdict}
 use Rattle.cert_checker.specs.declared.verdict.Verdict.TheVariants.{Accepted, Rejected}
 use Rattle.cert_checker.specs.FirstFault.{IsAccepted, IsFirstFault}

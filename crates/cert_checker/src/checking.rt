@@ -1,7 +1,8 @@
 //! The check of a certificate.
 
 ghost use Rattle.std.specs.Prelude.{IfOk, map};
-ghost use Rattle.cert_tree.specs.Certificate.{goal_seen, goals_of};
+ghost use Rattle.cert_tree.specs.Certificate.{goals_of};
+ghost use Rattle.cert_tree.specs.res_value.Goal.{goal_seen};
 ghost use Rattle.cert_checker.specs.Verdict.{IsVerdict};
 ghost use Rattle.cert_checker.specs.Headline.{Headline};
 

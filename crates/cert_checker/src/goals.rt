@@ -1,7 +1,8 @@
 //! The list of goals.
 
 ghost use Rattle.std.specs.Prelude.{◌≡◌, ◌≢◌, map, slice_get, MatchBool, MatchOption};
-ghost use Rattle.cert_tree.specs.Certificate.{goal_seen, goal_of};
+ghost use Rattle.cert_tree.specs.Certificate.{goal_of};
+ghost use Rattle.cert_tree.specs.res_value.Goal.{goal_seen};
 ghost use Rattle.cert_checker.specs.FirstFault.{goals_in, DifferFirstAt};
 
 use cert_tree::{CertGoal, Goal};

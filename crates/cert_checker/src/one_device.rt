@@ -2,7 +2,7 @@
 
 ghost use Rattle.std.specs.Prelude.{IfOk};
 ghost use Rattle.box_trace.specs.config_record.DeviceSeen.{device_numbers};
-ghost use Rattle.cert_tree.specs.Certificate.{goal_seen};
+ghost use Rattle.cert_tree.specs.res_value.Goal.{goal_seen};
 ghost use Rattle.cert_checker.specs.Headline.{RulesEndAt};
 
 use box_trace::{Device, End, Stack, attribute_under, resolve};

@@ -1,7 +1,8 @@
 //! The tree of one goal.
 
 ghost use Rattle.std.specs.Prelude.{IfOk, map};
-ghost use Rattle.cert_tree.specs.Certificate.{node_of, goal_seen, goal_of};
+ghost use Rattle.cert_tree.specs.Certificate.{node_of, goal_of};
+ghost use Rattle.cert_tree.specs.res_value.Goal.{goal_seen};
 ghost use Rattle.cert_checker.specs.FirstFault.{goal_trace};
 ghost use Rattle.cert_checker.specs.OpenBoxes.{IsOutcome};
 

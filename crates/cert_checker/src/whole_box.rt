@@ -2,7 +2,7 @@
 
 ghost use Rattle.std.specs.Prelude.{◌≡◌, IfOk};
 ghost use Rattle.box_trace.specs.OpenBox.{IsReached};
-ghost use Rattle.cert_tree.specs.Certificate.{goal_seen};
+ghost use Rattle.cert_tree.specs.res_value.Goal.{goal_seen};
 ghost use Rattle.cert_checker.specs.FirstFault.{goal_trace};
 
 use box_trace::{OpenBox, Stack};

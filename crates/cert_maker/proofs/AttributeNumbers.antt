@@ -17,7 +17,7 @@ use Rattle.cert_checker.specs.bags_themes.BagIds.{most_bags, ids_after, bag_ids}
 use Rattle.cert_checker.specs.bags_themes.Theme.{AttributeValues, unset, values_after}
 use Rattle.cert_checker.specs.bags_themes.Attribute.{attributes_followed, references_after_slot, slot_of}
 use Rattle.cert_checker.specs.bags_themes.AttributeTrace.{behind, steps_of_ids, slot_trace, style_by, styles_trace}
-use Rattle.cert_checker.specs.cert_tree.Certificate.{GoalSeen, IdGoal, AttrGoal}
+use Rattle.cert_checker.specs.res_value.Goal.{GoalSeen, IdGoal, AttrGoal}
 use Rattle.cert_checker.specs.FirstFault.{goal_trace}
 use Rattle.cert_maker.proofs.ByNumbers.{GoesByNumbers, SameNumbers, selected-same, scan-look-up-same, trace-same}
 

@@ -2,7 +2,7 @@
 use Rattle.std.proofs.Common.{ℕ, ◌≤◌, List, length}
 use Rattle.cert_checker.specs.overlay_map.Layer.{LayerOf}
 use Rattle.cert_checker.specs.reference_resolver.Ends.{references_followed}
-use Rattle.cert_checker.specs.cert_tree.Certificate.{GoalSeen, IdGoal, AttrGoal}
+use Rattle.cert_checker.specs.res_value.Goal.{GoalSeen, IdGoal, AttrGoal}
 use Rattle.cert_checker.specs.FirstFault.{goal_trace}
 use Rattle.cert_checker.proofs.bags_themes.EndLayers.{EndBelow, end-below}
 use Rattle.cert_checker.proofs.bags_themes.AttributeLayers.{attribute-below}

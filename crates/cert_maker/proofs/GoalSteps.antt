@@ -10,7 +10,8 @@ use Rattle.cert_checker.proofs.HeadlineSteps.{rules_end}
 use Rattle.cert_checker.specs.overlay_map.Layer.{LayerOf}
 use Rattle.cert_checker.specs.box_answers.NumberSet.{SetOf}
 use Rattle.cert_checker.specs.cert_tree.declared.cert.CertGoal.{CertGoal}
-use Rattle.cert_checker.specs.cert_tree.Certificate.{BagAt, GoalSeen, GoalOf, NodeFits, goal_of, goal_seen, node_of, node_count}
+use Rattle.cert_checker.specs.cert_tree.Certificate.{BagAt, GoalOf, NodeFits, goal_of, node_of, node_count}
+use Rattle.cert_checker.specs.res_value.Goal.{GoalSeen, goal_seen}
 use Rattle.cert_checker.specs.FirstFault.{goal_trace, goals_in, IsAccepted}
 use Rattle.cert_maker.specs.Needed.{IsNeeded}
 use Rattle.cert_maker.specs.Made.{AreNeeded, IsCounterexample}

@@ -9,7 +9,8 @@ use Rattle.cert_checker.specs.config_record.DeviceSeen.{device_numbers}
 use Rattle.cert_checker.specs.overlay_map.Layer.{LayerOf}
 use Rattle.cert_checker.specs.box_answers.NumberSet.{SetOf}
 use Rattle.cert_checker.specs.cert_tree.declared.cert.Cert.{Cert}
-use Rattle.cert_checker.specs.cert_tree.Certificate.{GoalSeen, GoalOf, goals_of}
+use Rattle.cert_checker.specs.cert_tree.Certificate.{GoalOf, goals_of}
+use Rattle.cert_checker.specs.res_value.Goal.{GoalSeen}
 use Rattle.cert_checker.specs.FirstFault.{goals_in}
 use Rattle.cert_maker.specs.declared.made.Made.TheVariants as made
 use Rattle.cert_maker.specs.declared.omitted.Omitted.{Omitted}

@@ -4,7 +4,8 @@ use Rattle.std.specs.Prelude.{slice_get}
 use Rattle.cert_checker.specs.config_record.declared.coord.Coord.{Coord}
 use Rattle.cert_checker.specs.overlay_map.Layer.{LayerOf}
 use Rattle.cert_checker.specs.box_answers.NumberSet.{SetOf}
-use Rattle.cert_checker.specs.cert_tree.Certificate.{GoalSeen, GoalOf, node_count}
+use Rattle.cert_checker.specs.cert_tree.Certificate.{GoalOf, node_count}
+use Rattle.cert_checker.specs.res_value.Goal.{GoalSeen}
 use Rattle.cert_checker.specs.Fails.{NoRuleFails}
 use Rattle.cert_checker.specs.FirstFault.{goal_trace, goals_in, NoRuleFailsIn}
 use Rattle.cert_maker.specs.Needed.{IsNeeded}

@@ -7,7 +7,7 @@ use Rattle.std.proofs.lemmas.Bool.{cases_lt, ne_eqb, eq-eqb}
 use Rattle.std.proofs.lemmas.List.{append-nil, map-append, length_push, get_or_append_left, get_or_at}
 use Rattle.std.proofs.lemmas.List.Elements.{filter-append, All-weaker, All-get_or}
 use Rattle.std.proofs.lemmas.List.Folds.{list_any-append, list_any_none}
-use Rattle.cert_checker.specs.cert_tree.Certificate.{GoalSeen}
+use Rattle.cert_checker.specs.res_value.Goal.{GoalSeen}
 use Rattle.cert_maker.specs.Omitting.{is_kept, without}
 
 abbrev pub AreBelow : ℕ → List ℕ → Type 0

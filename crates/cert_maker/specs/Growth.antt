@@ -10,7 +10,8 @@ use Rattle.cert_checker.specs.box_trace.OpenBox.{boxes_of, IsReached}
 use Rattle.cert_checker.specs.box_answers.NumberSet.{SetOf}
 use Rattle.cert_checker.specs.box_answers.Members.{IsMember}
 use Rattle.cert_checker.specs.config_box.Tests.{TestOf}
-use Rattle.cert_checker.specs.cert_tree.Certificate.{GoalSeen, NodeOf, NodeFits, node_of}
+use Rattle.cert_checker.specs.cert_tree.Certificate.{NodeOf, NodeFits, node_of}
+use Rattle.cert_checker.specs.res_value.Goal.{GoalSeen}
 use Rattle.cert_checker.specs.declared.rule.Rule.{Rule}
 use Rattle.cert_checker.specs.Paths.{Path, IsAt, after}
 use Rattle.cert_checker.specs.reference_resolver.Ends.{is_value}

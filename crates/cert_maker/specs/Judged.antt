@@ -4,7 +4,8 @@ use Rattle.std.specs.Prelude.{◌≡◌, ℕ, ◌+◌, ◌<◌, Bool, true, fals
 use Rattle.std.specs.List.{All}
 use Rattle.cert_checker.specs.overlay_map.Layer.{LayerOf}
 use Rattle.cert_checker.specs.box_answers.NumberSet.{SetOf}
-use Rattle.cert_checker.specs.cert_tree.Certificate.{GoalSeen, GoalOf, goal_of, node_count}
+use Rattle.cert_checker.specs.cert_tree.Certificate.{GoalOf, goal_of, node_count}
+use Rattle.cert_checker.specs.res_value.Goal.{GoalSeen}
 use Rattle.cert_checker.specs.FirstFault.{goals_in}
 use Rattle.cert_maker.specs.declared.made.Made.TheVariants as made
 use Rattle.cert_maker.specs.declared.omitted.Omitted.{Omitted}

@@ -4,7 +4,8 @@ use Rattle.cert_checker.specs.config_record.declared.coord.Coord.{Coord}
 use Rattle.cert_checker.specs.overlay_map.Layer.{LayerOf}
 use Rattle.cert_checker.specs.box_answers.NumberSet.{SetOf}
 use Rattle.cert_checker.specs.box_answers.Members.{IsBox}
-use Rattle.cert_checker.specs.cert_tree.Certificate.{GoalSeen, NodeOf}
+use Rattle.cert_checker.specs.cert_tree.Certificate.{NodeOf}
+use Rattle.cert_checker.specs.res_value.Goal.{GoalSeen}
 use Rattle.cert_checker.specs.Fails.{NoRuleFails}
 use Rattle.cert_checker.specs.FirstFault.{goal_trace}
 use Rattle.cert_maker.specs.Needed.{IsNeeded}

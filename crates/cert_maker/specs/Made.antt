@@ -6,7 +6,8 @@ use Rattle.cert_checker.specs.reference_resolver.declared.end.End.{End}
 use Rattle.cert_checker.specs.overlay_map.Layer.{LayerOf}
 use Rattle.cert_checker.specs.box_answers.NumberSet.{SetOf}
 use Rattle.cert_checker.specs.box_answers.Members.{IsMember}
-use Rattle.cert_checker.specs.cert_tree.Certificate.{GoalSeen, GoalOf, NodeFits, goals_of, node_count}
+use Rattle.cert_checker.specs.cert_tree.Certificate.{GoalOf, NodeFits, goals_of, node_count}
+use Rattle.cert_checker.specs.res_value.Goal.{GoalSeen}
 use Rattle.cert_checker.specs.reference_resolver.Ends.{is_value}
 use Rattle.cert_checker.specs.FirstFault.{goal_trace, goals_in, IsAccepted}
 use Rattle.cert_checker.specs.Headline.{RulesEndAt}

@@ -1,7 +1,7 @@
 //! A certificate for all goals.
 
 ghost use Rattle.std.specs.Prelude.{IfOk, map};
-ghost use Rattle.cert_checker.specs.cert_tree.Certificate.{goal_seen};
+ghost use Rattle.cert_checker.specs.res_value.Goal.{goal_seen};
 ghost use Rattle.cert_maker.specs.Made.{IsMade, CanBeWritten};
 ghost use Rattle.cert_maker.specs.Least.{IsLeast};
 

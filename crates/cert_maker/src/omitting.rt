@@ -1,7 +1,7 @@
 //! A certificate for those goals that have a value at all devices.
 
 ghost use Rattle.std.specs.Prelude.{IfOk, map};
-ghost use Rattle.cert_checker.specs.cert_tree.Certificate.{goal_seen};
+ghost use Rattle.cert_checker.specs.res_value.Goal.{goal_seen};
 ghost use Rattle.cert_maker.specs.Omitting.{IsOmitting};
 ghost use Rattle.cert_maker.specs.Judged.{Judges};
 

@@ -1,7 +1,7 @@
 //! The tree of one goal.
 
 ghost use Rattle.std.specs.Prelude.{IfOk};
-ghost use Rattle.cert_checker.specs.cert_tree.Certificate.{goal_seen};
+ghost use Rattle.cert_checker.specs.res_value.Goal.{goal_seen};
 ghost use Rattle.cert_checker.specs.FirstFault.{goal_trace};
 ghost use Rattle.cert_maker.specs.Growth.{IsGrown};
 

@@ -1,7 +1,7 @@
 //! The trees of all goals.
 
 ghost use Rattle.std.specs.Prelude.{◌≡◌, ◌<◌, ◌^◌, IfOk};
-ghost use Rattle.cert_checker.specs.cert_tree.Certificate.{goal_seen};
+ghost use Rattle.cert_checker.specs.res_value.Goal.{goal_seen};
 ghost use Rattle.cert_maker.specs.Trees.{TakesGoal};
 
 use crate::made::Made;

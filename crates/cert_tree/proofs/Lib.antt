@@ -4,6 +4,5 @@ pub mod TextLemmas
 pub mod LineLemmas
 pub mod ReadsBackLemmas
 pub mod WrittenSteps
-pub mod GoalEquality
 pub use Rattle.config_box.proofs as config_box
 pub use Rattle.config_box.proofs.box_answers

@@ -30,7 +30,8 @@ use Rattle.res_value.specs.ResId.{id_of, id_text}
 use Rattle.cert_tree.specs.declared.cert_fault.CertFault.{CertFault}
 use Rattle.cert_tree.specs.declared.cert_fault.CertFault.TheVariants.{Syntax, Shape}
 use Rattle.config_box.specs.Tests.{ChoiceOf, NumbersOf, LocalesOf, AtMostOf, AmongOf}
-use Rattle.cert_tree.specs.Certificate.{NodeOf, TestAt, ValueAt, BagAt, GoalSeen, IdGoal, AttrGoal, GoalOf, ChoiceFits, NodeFits, GoalFits, CertFits, node_count, most_nodes, most_styles, most_listed, last_layer}
+use Rattle.cert_tree.specs.Certificate.{NodeOf, TestAt, ValueAt, BagAt, GoalOf, ChoiceFits, NodeFits, GoalFits, CertFits, node_count, most_nodes, most_listed, last_layer}
+use Rattle.res_value.specs.Goal.{GoalSeen, IdGoal, AttrGoal, most_styles}
 use Rattle.cert_tree.specs.ReadOn.{read_on}
 use Rattle.cert_tree.specs.CertJson.{last_word, last_kind, number_within, number_at, id_at, list_at, coord_named, coord_at, number_item, locale_item, choice_in, at_most_in, among_in, value_in, bag_in, node_in, node_after, id_goal_in, id_item, attr_goal_in, asked_in, goal_in, goal_after, is_version, goal_list, goals_in_value, cert_in}
 use Rattle.cert_tree.specs.WrittenJson.{number_data, id_data, locale_data, list_data, choice_items, node_data, asked_data, goal_data, is_id_goal, version_of, cert_data}

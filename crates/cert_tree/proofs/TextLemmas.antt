@@ -1,36 +1,15 @@
--- The texts of ids and locales are UTF-8.
-use Rattle.std.proofs.Common.{◌≡◌, ℕ, ◌<◌, Bool, true, false, ◌&&◌, ◌||◌, cond, nat_lt, List, [], ◌∷◌, ◌++◌, Some, None, is_some, IsUtf8, refl, arith}
+-- The texts of locales are UTF-8.
+use Rattle.std.proofs.Common.{◌≡◌, ℕ, ◌<◌, Bool, true, false, ◌&&◌, ◌||◌, cond, List, [], ◌∷◌, ◌++◌, Some, None, is_some, IsUtf8, refl, arith}
 use Rattle.std.specs.Str.{IsAscii}
-use Rattle.std.specs.List.{list_all}
-use Rattle.std.specs.Int.{w32, to_be_bytes}
-use Rattle.std.proofs.lemmas.Bool.{ltb-true, and_parts}
+use Rattle.std.proofs.lemmas.Bool.{and_parts}
 use Rattle.std.proofs.lemmas.Str.{IsUtf8-from_ascii, IsAscii-append}
 use Rattle.std.proofs.lemmas.Str.Ascii.{IsAscii-nil, IsAscii-cons}
-use Rattle.hex.specs.Hex.{encode_lower, lower_digits}
-use Rattle.hex.proofs.HexLemmas.{IsAscii-encode_with}
+use Rattle.hex.specs.Hex.{encode_lower}
 use Rattle.config_box.specs.config_record.declared.locale.Locale.{Locale}
 use Rattle.config_box.specs.config_record.Locale.{first_letter, first_digit, is_small_letter, is_capital_letter, is_digit, packed, part_of, language_of, region_of, unpacked, is_spelled, language_text, region_text, locale_text}
 use Rattle.config_box.specs.config_record.Zero.{is_zero}
 use Rattle.config_box.proofs.config_record.LocaleLemmas.{of_languages, of_regions}
-use Rattle.res_value.specs.Word.{word_text, eight_digits}
-use Rattle.res_value.specs.ResId.{id_text}
-
-ascii-from_test : (bytes : List ℕ) → list_all (λ b. nat_lt b 128) bytes ≡ true → IsAscii bytes
-ascii-from_test [] e = IsAscii-nil
-ascii-from_test (b ∷ bytes) e =
-    let h = and_parts (nat_lt b 128) (list_all (λ c. nat_lt c 128) bytes) e in
-    IsAscii-cons b bytes (ltb-true b 128 h.0) (ascii-from_test bytes h.1)
-
-digits-ascii : (bytes : List ℕ) → IsAscii (encode_lower bytes)
-digits-ascii bytes = IsAscii-encode_with lower_digits bytes (ascii-from_test lower_digits refl)
-
--- ---- ids
-
-pub id_text-utf8 : (n : ℕ) → IsUtf8 (id_text n)
-unfolding word_text eight_digits
-id_text-utf8 n =
-    IsUtf8-from_ascii (id_text n)
-    (IsAscii-cons 48 (120 ∷ encode_lower (to_be_bytes w32 n)) (omega arith) (IsAscii-cons 120 (encode_lower (to_be_bytes w32 n)) (omega arith) (digits-ascii (to_be_bytes w32 n))))
+use Rattle.res_value.proofs.IdText.{digits-ascii}
 
 -- ---- locales
 

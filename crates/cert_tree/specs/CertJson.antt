@@ -18,7 +18,8 @@ use Rattle.res_value.specs.ResId.{id_of}
 use Rattle.cert_tree.specs.declared.cert_fault.CertFault.{CertFault}
 use Rattle.cert_tree.specs.declared.cert_fault.CertFault.TheVariants.{Syntax, Version, Shape, TooManyNodes}
 use Rattle.config_box.specs.Tests.{ChoiceOf, NumbersOf, LocalesOf, AtMostOf, AmongOf}
-use Rattle.cert_tree.specs.Certificate.{NodeOf, TestAt, ValueAt, BagAt, GoalSeen, IdGoal, AttrGoal, GoalOf, node_count, most_nodes, most_styles, last_layer, most_listed}
+use Rattle.cert_tree.specs.Certificate.{NodeOf, TestAt, ValueAt, BagAt, GoalOf, node_count, most_nodes, last_layer, most_listed}
+use Rattle.res_value.specs.Goal.{GoalSeen, IdGoal, AttrGoal, most_styles}
 use Rattle.cert_tree.specs.ReadOn.{read_on}
 
 -- ---- members, and items of lists; `shape` is the fault of what has none of the shapes

@@ -7,8 +7,7 @@ use Rattle.config_box.specs.config_record.Locale.{IsOfSomeText}
 use Rattle.config_box.specs.Tests.{ChoiceOf, NumbersOf, LocalesOf, TestOf, AtMostOf, AmongOf, test_of}
 use Rattle.res_value.specs.declared.res_id.ResId.{ResId}
 use Rattle.res_value.specs.declared.value.Value.{Value}
-use Rattle.cert_tree.specs.declared.goal.Goal.{Goal}
-use Rattle.cert_tree.specs.declared.goal.Goal.TheVariants as goal
+use Rattle.res_value.specs.Goal.{GoalSeen, IdGoal, AttrGoal, goal_seen, most_styles}
 use Rattle.cert_tree.specs.declared.node.Node.{Node}
 use Rattle.cert_tree.specs.declared.node.Node.TheVariants as node
 use Rattle.cert_tree.specs.declared.cert.Cert.{Cert}
@@ -20,12 +19,7 @@ pub data NodeOf : Type 0 where
   ValueAt : ℕ → Value → NodeOf
   BagAt : ResId → NodeOf
 
--- what is asked of a device: where an id ends, or where an attribute ends under styles, which are
--- applied in their order
-pub data GoalSeen : Type 0 where
-  IdGoal : ResId → GoalSeen
-  AttrGoal : ResId → List ResId → GoalSeen
-
+-- whether it is asked where an id ends
 abbrev pub is_id : GoalSeen → Bool
 is_id (IdGoal id) = true
 is_id (AttrGoal attr styles) = false
@@ -39,10 +33,6 @@ abbrev pub node_of : Node → NodeOf
 node_of (node.Test test) = TestAt (test_of test)
 node_of (node.Value layer value) = ValueAt layer value
 node_of (node.Bag id) = BagAt id
-
-abbrev pub goal_seen : Goal → GoalSeen
-goal_seen (goal.Id id) = IdGoal id
-goal_seen (goal.Attr attr styles) = AttrGoal attr styles.items
 
 abbrev pub goal_of : CertGoal → GoalOf
 goal_of g = record { goal = goal_seen g.goal; nodes = map node_of g.nodes.items }
@@ -60,10 +50,6 @@ node_count (g ∷ goals) = length g.nodes + node_count goals
 -- how many nodes all goals of a certificate can have
 abbrev pub most_nodes : ℕ
 most_nodes = 1000000
-
--- how many styles a goal can have
-abbrev pub most_styles : ℕ
-most_styles = 64
 
 -- the last layer
 abbrev pub last_layer : ℕ

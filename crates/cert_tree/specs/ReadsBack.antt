@@ -7,7 +7,8 @@ use Rattle.res_value.specs.declared.res_id.ResId.{ResId}
 use Rattle.res_value.specs.ResId.{id_of, id_text}
 use Rattle.cert_tree.specs.declared.cert_fault.CertFault.{CertFault}
 use Rattle.config_box.specs.Tests.{ChoiceOf}
-use Rattle.cert_tree.specs.Certificate.{NodeOf, GoalSeen, GoalOf, ChoiceFits, NodeFits, GoalFits, is_id, most_nodes}
+use Rattle.cert_tree.specs.Certificate.{NodeOf, GoalOf, ChoiceFits, NodeFits, GoalFits, is_id, most_nodes}
+use Rattle.res_value.specs.Goal.{GoalSeen}
 use Rattle.cert_tree.specs.CertJson.{number_item, choice_in, node_in, goal_in}
 use Rattle.cert_tree.specs.WrittenJson.{number_data, choice_items, node_data, goal_data}
 

@@ -10,7 +10,8 @@ use Rattle.config_box.specs.config_record.Locale.{locale_text}
 use Rattle.res_value.specs.declared.res_id.ResId.{ResId}
 use Rattle.res_value.specs.ResId.{id_text}
 use Rattle.config_box.specs.Tests.{ChoiceOf, NumbersOf, LocalesOf, TestOf, AtMostOf, AmongOf}
-use Rattle.cert_tree.specs.Certificate.{NodeOf, TestAt, ValueAt, BagAt, GoalSeen, IdGoal, AttrGoal, GoalOf, is_id}
+use Rattle.cert_tree.specs.Certificate.{NodeOf, TestAt, ValueAt, BagAt, GoalOf, is_id}
+use Rattle.res_value.specs.Goal.{GoalSeen, IdGoal, AttrGoal}
 
 abbrev pub number_data : ℕ → Data
 number_data n = number (unsigned n)

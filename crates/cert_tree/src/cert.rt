@@ -6,11 +6,11 @@ ghost use Rattle.serde_json.specs.Written.{compact_text};
 ghost use Rattle.cert_tree.specs.declared.cert_fault.CertFault.TheVariants.{OutOfMemory};
 
 use crate::cert_fault::CertFault;
-use crate::goal::Goal;
 use crate::node::Node;
 use crate::read::goals_in_value;
 use crate::write::cert_value;
 use json_input::read_value;
+use res_value::Goal;
 use std::alloc::{AllocError, Global};
 
 /// What a call answers where memory runs out.

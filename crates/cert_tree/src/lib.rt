@@ -20,7 +20,6 @@
 
 mod cert;
 mod cert_fault;
-mod goal;
 mod members;
 mod node;
 mod progress;
@@ -32,7 +31,6 @@ mod write;
 pub use cert::{Cert, CertGoal, OutOfMemory};
 pub use cert_fault::CertFault;
 pub use config_box::{BoxFault, Choice, ConfigBox, Split, Test, Values};
-pub use goal::{Goal, MOST_STYLES};
 pub use node::Node;
 pub use progress::{Progress, Unwatched};
-pub use res_value::{ChunkFault, ResId};
+pub use res_value::{ChunkFault, Goal, GoalFault, MOST_STYLES, ResId};

@@ -5,18 +5,18 @@ ghost use Rattle.contract_words.specs.Exact.{GivesOr};
 ghost use Rattle.serde_json.specs.View.{view};
 ghost use Rattle.cert_tree.specs.declared.cert_fault.CertFault.TheVariants.{OutOfMemory};
 ghost use Rattle.json_input.specs.Each.{each};
-ghost use Rattle.cert_tree.specs.Certificate.{goal_seen, goal_of, most_nodes};
+ghost use Rattle.cert_tree.specs.Certificate.{goal_of, most_nodes};
+ghost use Rattle.res_value.specs.Goal.{goal_seen};
 ghost use Rattle.cert_tree.specs.ReadOn.{read_on};
 ghost use Rattle.cert_tree.specs.CertJson.{id_item, attr_goal_in, asked_in, goal_in, goal_after, is_version, goal_list, goals_in_value};
 ghost use Rattle.cert_tree.specs.Lent.{items_seen};
 
 use crate::cert::CertGoal;
 use crate::cert_fault::CertFault;
-use crate::goal::{Goal, MOST_STYLES};
 use crate::members::{id_at, id_item, list_at};
 use crate::read_nodes::nodes_in;
 use json_input::has_only;
-use res_value::ResId;
+use res_value::{Goal, MOST_STYLES, ResId};
 use serde_json::Value;
 use std::alloc::Global;
 

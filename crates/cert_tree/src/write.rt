@@ -5,16 +5,16 @@ ghost use Rattle.std.specs.List.{All, list_all};
 ghost use Rattle.serde_json.specs.View.{view};
 ghost use Rattle.cert_tree.specs.WrittenJson.{number_data, id_data, locale_data, choice_items, test_data, node_data, goal_data, is_id_goal, version_of, cert_data};
 ghost use Rattle.config_box.specs.Tests.{choice_of, test_of};
-ghost use Rattle.cert_tree.specs.Certificate.{TestAt, is_id, node_of, goal_seen, goal_of, goals_of, CertFits};
+ghost use Rattle.cert_tree.specs.Certificate.{TestAt, is_id, node_of, goal_of, goals_of, CertFits};
+ghost use Rattle.res_value.specs.Goal.{goal_seen};
 ghost use Rattle.cert_tree.specs.CertJson.{goals_in_value};
 ghost use Rattle.cert_tree.specs.ReadsBack.{NumberReadsBack, IdReadsBack, ChoiceReadsBack, NodeReadsBack, GoalReadsBack};
 
 use crate::cert::{Cert, CertGoal};
-use crate::goal::Goal;
 use crate::node::Node;
 use crate::texts::{id_value, locale_value};
 use config_box::{Choice, Locale, Test};
-use res_value::ResId;
+use res_value::{Goal, ResId};
 use serde_json::{Value, json};
 use std::alloc::{AllocError, Global};
 

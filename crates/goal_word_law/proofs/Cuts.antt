@@ -1,6 +1,6 @@
 -- A list, cut at the first element that passes a test.
 use Rattle.std.proofs.Common.{◌≡◌, ℕ, zero, suc, ◌+◌, Bool, true, false, ◌||◌, List, [], ◌∷◌, ◌++◌, length, get_or, take, drop, refl, sym, ap, ◌∙◌, arith}
-use Rattle.std.proofs.lemmas.List.{take_at, drop_at, drop_all, append_assoc, get_or_append_left, get_or_at, length_push}
+use Rattle.std.proofs.lemmas.List.{take_at, drop_at, append_assoc, get_or_append_left, get_or_at, length_push}
 use Rattle.std.proofs.lemmas.List.Sums.{position_or_len_is}
 use Rattle.std.proofs.lemmas.Grind.{common_steps}
 use Rattle.std.specs.List.{list_any, slice_split, before_first, after_first, position_or_len}
@@ -35,12 +35,6 @@ pub after-at : (p : ℕ → Bool) (xs ys : List ℕ) (c : ℕ) → p 0 ≡ false
 after-at p xs ys c none lacks on =
     ap (λ (n : ℕ). drop (n + 1) (xs ++ c ∷ ys)) (place-at p xs ys c none lacks on)
     ∙ ap (drop (length xs + 1)) (sym (append_assoc xs (c ∷ []) ys)) ∙ drop_at (xs ++ c ∷ []) ys (length xs + 1) (length_push xs c)
-
--- where none passes, nothing stands behind the first
-pub after-none : (p : ℕ → Bool) (xs : List ℕ) → p 0 ≡ false → Lacks p xs → after_first p xs ≡ []
-after-none p xs none lacks =
-    let place = position_or_len_is p xs (length xs) 0 (omega arith) (λ k lt. at-fails p xs k none lacks) (λ lt. absurd (omega (arith, lt))) in
-    drop_all (position_or_len p xs + 1) xs (omega (arith, place))
 
 pub split-at : (p : ℕ → Bool) (xs ys : List ℕ) (c : ℕ) → Lacks p xs → p c ≡ true → slice_split p (xs ++ c ∷ ys) ≡ xs ∷ slice_split p ys
 split-at p [] ys c lacks on = rw on refl

@@ -1,7 +1,6 @@
--- The text of an id has neither an at sign nor a comma, nor a slash, and is no star.
+-- The text of an id has neither an at sign nor a comma.
 use Rattle.std.proofs.Common.{◌≡◌, ℕ, ◌/◌, ◌%◌, Bool, false, ◌||◌, List, [], ◌∷◌, codes, refl}
 use Rattle.std.specs.Int.{w32, to_be_bytes}
-use Rattle.std.specs.Str.{bytes_eq}
 use Rattle.hex.specs.Hex.{encode_with, lower_digits}
 use Rattle.res_value.specs.ResId.{id_text}
 use Rattle.res_value.specs.Word.{word_text, eight_digits}
@@ -20,7 +19,3 @@ id_text-lacks p id none digits front =
     let first = neither (p 48) (p 120 || false) front in
     let second = neither (p 120) false first.1 in
     rw (first.0, second.0) (encoded-lacks p lower_digits (to_be_bytes w32 id) none digits)
-
-pub id_text-no_star : (id : ℕ) → bytes_eq (id_text id) (codes "*") ≡ false
-unfolding word_text
-id_text-no_star id = refl

@@ -1,13 +1,11 @@
 -- The word that is written of a goal is read as that goal.
-use Rattle.std.specs.Prelude.{◌≡◌, ◌^◌, ◌<◌, ◌≤◌, false, List, [], ◌∷◌, map, length, Ok}
+use Rattle.std.specs.Prelude.{◌≡◌, ◌^◌, ◌<◌, ◌≤◌, false, List, [], ◌∷◌, length, Ok}
 use Rattle.std.specs.List.{All}
 use Rattle.answer_text.specs.overlay_map.Layer.{LayerOf}
 use Rattle.answer_text.specs.res_value.declared.res_id.ResId.{ResId}
 use Rattle.answer_text.specs.GoalText.{goal_words}
-use Rattle.name_words.specs.cert_tree.Certificate.{most_styles}
-use Rattle.name_words.specs.Named.{ById}
-use Rattle.name_words.specs.NamedSet.{SetOfOne}
-use Rattle.name_words.specs.NamedGoal.{GoalsOfSet, GoalOfAttr, named_goal_in}
+use Rattle.res_value.specs.Goal.{IdGoal, AttrGoal, most_styles}
+use Rattle.name_words.specs.NamedGoal.{GoalOfIds, named_goal_in}
 
 -- a number of 32 bits
 abbrev pub IsId : ResId → Type 0
@@ -16,10 +14,10 @@ IsId id = id.0 < 2 ^ 32
 -- that of an id asks for this id alone
 abbrev pub IdWordReadsBack : Type 0
 IdWordReadsBack =
-    (stack : List LayerOf) (id : ResId) → IsId id → named_goal_in (goal_words stack id.0 [] false) ≡ Ok (GoalsOfSet (SetOfOne (ById id)))
+    (stack : List LayerOf) (id : ResId) → IsId id → named_goal_in (goal_words stack id.0 [] false) ≡ Ok (GoalOfIds (IdGoal id))
 
 -- that of an attribute under some styles asks for this attribute under these styles, in their order
 abbrev pub AttrWordReadsBack : Type 0
 AttrWordReadsBack =
     (stack : List LayerOf) (attr first : ResId) (others : List ResId) → IsId attr → All IsId (first ∷ others) → length (first ∷ others) ≤ most_styles
-    → named_goal_in (goal_words stack attr.0 (first ∷ others) false) ≡ Ok (GoalOfAttr (ById attr) (map (λ style. ById style) (first ∷ others)))
+    → named_goal_in (goal_words stack attr.0 (first ∷ others) false) ≡ Ok (GoalOfIds (AttrGoal attr (first ∷ others)))

@@ -1,7 +1,7 @@
 //! Words that ask for resources by id or by name.
 
 use name_words::{GoalFault, Named, NamedGoal, NamedSet};
-use res_value::ResId;
+use res_value::{Goal, ResId};
 use std::test::Fail;
 
 const MARGIN: Named<'static> = Named::Name {
@@ -62,10 +62,9 @@ fn reads_goals(rt: HostRuntime) -> Result<(), Fail> {
         NamedGoal::read(alloc, "*")?,
         NamedGoal::Resources(NamedSet::All)
     );
-    let one = NamedSet::One(Named::Id(ResId(0x7f01_000a)));
     assert_eq!(rt;
         NamedGoal::read(alloc, "0x7F01000a")?,
-        NamedGoal::Resources(one)
+        NamedGoal::Ids(Goal::Id(ResId(0x7f01_000a)))
     );
     let attr = Named::Name {
         type_name: "attr",
@@ -102,18 +101,35 @@ fn refuses_goals(rt: HostRuntime) {
         "0x0101000g@0x7f010000",
     ];
     for word in wrong {
-        assert_eq!(rt;
-            NamedGoal::read(rt.alloc(), word).err(),
-            Some(GoalFault::Malformed),
-            "{word}"
-        );
+        let read = NamedGoal::read(rt.alloc(), word);
+        assert_eq!(rt; read.err(), Some(GoalFault::Malformed), "{word}");
+        let of_ids = Goal::read(rt.alloc(), word);
+        assert_eq!(rt; of_ids.err(), Some(GoalFault::Malformed), "{word}");
     }
 }
 
-fn style_count(goal: &NamedGoal<'_>) -> usize {
+#[test]
+fn reads_goals_of_ids(rt: HostRuntime) -> Result<(), Fail> {
+    let alloc = rt.alloc();
+    let styles = vec![in alloc; ResId(0x7f01_0000), ResId(0x7f03_0001)]?;
+    let goal = Goal::Attr {
+        attr: ResId(0x0101_0001),
+        styles,
+    };
+    let word = "0x01010001@0x7f010000,0x7f030001";
+    assert!(rt; Goal::read(alloc, word)?.asks_same(&goal));
+    assert_eq!(rt; NamedGoal::read(alloc, word)?, NamedGoal::Ids(goal));
+    assert_eq!(rt;
+        Goal::read(alloc, "attr/colorAccent@0x7f010000").err(),
+        Some(GoalFault::Malformed)
+    );
+    Ok(())
+}
+
+fn style_count(goal: &Goal) -> usize {
     match goal {
-        NamedGoal::Resources(_) => 0,
-        NamedGoal::Attr { styles, .. } => styles.len(),
+        Goal::Id(_) => 0,
+        Goal::Attr { styles, .. } => styles.len(),
     }
 }
 
@@ -122,11 +138,16 @@ fn reads_goals_of_64_styles_at_most(rt: HostRuntime) -> Result<(), Fail> {
     let alloc = rt.alloc();
     let most = ",0x7f010000".repeat(alloc, 63)?;
     let word = format!(in alloc; "0x01010001@0x7f010000{most}")?;
-    let goal = NamedGoal::read(alloc, word.as_str())?;
+    let goal = Goal::read(alloc, word.as_str())?;
     assert_eq!(rt; style_count(&goal), 64);
     let more = format!(in alloc; "{word},0x7f010000")?;
     assert_eq!(rt;
-        NamedGoal::read(alloc, more.as_str()).err(),
+        Goal::read(alloc, more.as_str()).err(),
+        Some(GoalFault::Malformed)
+    );
+    let named = format!(in alloc; "{more},style/Theme")?;
+    assert_eq!(rt;
+        NamedGoal::read(alloc, named.as_str()).err(),
         Some(GoalFault::Malformed)
     );
     Ok(())

@@ -1,2 +1,1 @@
-mod GoalWordSteps
 pub mod WordFileSteps

@@ -13,16 +13,14 @@
 //! ```
 #![tactic(auto)]
 
-mod goal_fault;
 mod name_parts;
 mod named;
 mod named_goal;
 mod named_set;
 mod word_file;
 
-pub use goal_fault::GoalFault;
 pub use named::Named;
 pub use named_goal::NamedGoal;
 pub use named_set::NamedSet;
-pub use res_value::ResId;
+pub use res_value::{GoalFault, ResId};
 pub use word_file::{file_path, words_in_text};

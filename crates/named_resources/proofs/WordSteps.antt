@@ -5,7 +5,7 @@ use Rattle.contract_words.specs.Sequences.{with_front}
 use Rattle.json_input.specs.Each.{each}
 use Rattle.overlay_map.specs.res_value.declared.res_id.ResId.{ResId}
 use Rattle.overlay_map.specs.Layer.{LayerOf}
-use Rattle.cert_tree.specs.Certificate.{GoalSeen, IdGoal, AttrGoal}
+use Rattle.res_value.specs.Goal.{GoalSeen, IdGoal, AttrGoal}
 use Rattle.name_words.specs.Named.{NamedOf, ById, ByName}
 use Rattle.name_words.specs.NamedSet.{NamedSetOf, SetOfOne, SetOfType, SetOfAll}
 use Rattle.name_words.specs.NamedGoal.{GoalsOfSet, GoalOfAttr}

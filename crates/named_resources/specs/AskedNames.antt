@@ -4,7 +4,7 @@ use Rattle.std.specs.List.{flat_map}
 use Rattle.name_index.specs.Names.{NameOf}
 use Rattle.name_words.specs.Named.{NamedOf, ById, ByName}
 use Rattle.name_words.specs.NamedSet.{NamedSetOf, SetOfOne, SetOfType, SetOfAll}
-use Rattle.name_words.specs.NamedGoal.{NamedGoalOf, GoalsOfSet, GoalOfAttr}
+use Rattle.name_words.specs.NamedGoal.{NamedGoalOf, GoalOfIds, GoalsOfSet, GoalOfAttr}
 
 abbrev pub names_in : NamedOf → List NameOf
 names_in (ById id) = []
@@ -16,5 +16,6 @@ names_in_set (SetOfType type_name) = []
 names_in_set SetOfAll = []
 
 abbrev pub names_in_goal : NamedGoalOf → List NameOf
+names_in_goal (GoalOfIds goal) = []
 names_in_goal (GoalsOfSet set) = names_in_set set
 names_in_goal (GoalOfAttr attr styles) = names_in attr ++ flat_map names_in styles

@@ -4,12 +4,13 @@ use Rattle.contract_words.specs.Faults.{◌>>=◌}
 use Rattle.contract_words.specs.Sequences.{joined_each}
 use Rattle.json_input.specs.Each.{each}
 use Rattle.overlay_map.specs.Layer.{LayerOf}
-use Rattle.cert_tree.specs.Certificate.{GoalSeen, IdGoal, AttrGoal}
-use Rattle.name_words.specs.NamedGoal.{NamedGoalOf, GoalsOfSet, GoalOfAttr}
+use Rattle.res_value.specs.Goal.{GoalSeen, IdGoal, AttrGoal}
+use Rattle.name_words.specs.NamedGoal.{NamedGoalOf, GoalOfIds, GoalsOfSet, GoalOfAttr}
 use Rattle.named_resources.specs.NamedIds.{id_named, ids_of_set}
 
--- a goal for each id of a set; one for an attribute, which is looked up before its styles
+-- a goal of ids as it stands; a goal for each id of a set; one for an attribute, which is looked up before its styles
 unfoldable pub goals_of_word : List LayerOf → NamedGoalOf → Result (List GoalSeen) (List ℕ)
+goals_of_word layers (GoalOfIds goal) = Ok (goal ∷ [])
 goals_of_word layers (GoalsOfSet set) = ids_of_set layers set >>= λ ids. Ok (map (λ id. IdGoal id) ids)
 goals_of_word layers (GoalOfAttr attr styles) = do
   attr ← id_named layers attr

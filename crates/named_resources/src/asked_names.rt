@@ -44,6 +44,7 @@ fn push_names_of_goal<'n>(word: &NamedGoal<'n>, names: &mut Vec<Name<'n>>) -> Re
     ensures { OnOk result (map name_of names.new.items ≡ map name_of names.old.items ++ names_in_goal (named_goal_of word.now)) }
 {
     match word {
+        NamedGoal::Ids(_) => Ok(()),
         NamedGoal::Resources(set) => push_name_of_set(*set, names),
         NamedGoal::Attr { attr, styles } => {
             push_name(*attr, names)?;

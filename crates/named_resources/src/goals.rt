@@ -3,7 +3,7 @@
 ghost use Rattle.std.specs.Prelude.{◌≡◌, ℕ, ◌++◌, List, map, OnOk};
 ghost use Rattle.contract_words.specs.Sequences.{with_front};
 ghost use Rattle.overlay_map.specs.Layer.{LayerOf};
-ghost use Rattle.cert_tree.specs.Certificate.{goal_seen, IdGoal};
+ghost use Rattle.res_value.specs.Goal.{goal_seen, IdGoal};
 ghost use Rattle.name_index.specs.Names.{NameOf};
 ghost use Rattle.name_words.specs.NamedGoal.{named_goal_of};
 ghost use Rattle.named_resources.specs.NameFault.{GivesNamed};
@@ -14,9 +14,9 @@ ghost use Rattle.named_resources.specs.Finder.{Tells};
 use crate::asked_names::names_in_goals;
 use crate::fault::NameFault;
 use crate::finder::Finder;
-use cert_tree::Goal;
 use name_words::NamedGoal;
 use overlay_map::{ResId, Stack};
+use res_value::Goal;
 use std::alloc::{AllocError, Global};
 
 /// The goals that words ask for, one word after the other: one for each id of a set, or for an attribute under styles. All
@@ -48,6 +48,10 @@ fn push_goals(
     ensures found { (layers : List LayerOf) (names : List NameOf) → Tells layers (names_in_goal (named_goal_of word.now) ++ names) finder.old → GivesNamed (λ _. map goal_seen all.new.items) result (with_front (map goal_seen all.old.items) (goals_of_word layers (named_goal_of word.now))) }
 {
     match word {
+        NamedGoal::Ids(goal) => {
+            all.push(goal.clone()?)?;
+            Ok(())
+        }
         NamedGoal::Resources(set) => {
             let ids = finder.ids(alloc, set)?;
             push_ids(&ids, all)?;

@@ -18,7 +18,6 @@ mod ids;
 mod pairs;
 mod word_set;
 
-pub use cert_tree::Goal;
 pub use fault::NameFault;
 pub use goals::goals_named;
 pub use ids::{id_named, ids_named};
@@ -26,3 +25,4 @@ pub use name_pairs::NamePair;
 pub use name_words::{Named, NamedGoal, NamedSet, ResId};
 pub use overlay_map::Stack;
 pub use pairs::pairs_named;
+pub use res_value::Goal;

@@ -1,6 +1,6 @@
 //! Certificates, and words of goals.
 
-use cert_tree::Cert;
+use cert_tree::{Cert, Goal};
 use marked_calls::{begin, end, tell, tell_text};
 use name_words::NamedGoal;
 use std::test::Fail;
@@ -28,6 +28,17 @@ pub fn written(rt: &HostRuntime, json: &str) -> Result<(), Fail> {
     end(rt);
     match bytes {
         Ok(bytes) => tell_text(rt, &bytes)?,
+        Err(fault) => tell(rt, fault)?,
+    }
+    Ok(())
+}
+
+pub fn goal(rt: &HostRuntime, word: &str) -> Result<(), Fail> {
+    begin(rt);
+    let found = Goal::read(rt.alloc(), word);
+    end(rt);
+    match found {
+        Ok(goal) => tell(rt, goal)?,
         Err(fault) => tell(rt, fault)?,
     }
     Ok(())

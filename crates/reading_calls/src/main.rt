@@ -31,6 +31,7 @@ fn call(rt: &HostRuntime, words: &[String]) -> Result<(), Fail> {
         "join_boxes" => devices::joined(rt, words.get(1..).unwrap_or(&[])),
         "Cert::read" => certificates::certificate(rt, given),
         "Cert::write" => certificates::written(rt, given),
+        "Goal::read" => certificates::goal(rt, given),
         "NamedGoal::read" => certificates::named_goal(rt, given),
         "words_in_text" => word_files::text(rt, given),
         "LayerList::read" => inputs::layer_list(rt, given),

@@ -1,2 +1,4 @@
 pub mod IdText
 pub mod MapRowsSteps
+mod GoalEquality
+mod GoalWordSteps

@@ -7,4 +7,5 @@ pub mod Complex
 pub mod ValueText
 pub mod MapRows
 pub mod Cell
+pub mod Goal
 pub use Rattle.chunk_walk.specs as chunk_walk

@@ -7,7 +7,8 @@ use Rattle.cert_maker.specs.config_box.declared.box_fault.BoxFault.{BoxFault}
 use Rattle.cert_maker.specs.config_box.BoxJson.{box_in}
 use Rattle.table_commands.specs.overlay_map.Layer.{LayerOf}
 use Rattle.cert_maker.specs.cert_tree.declared.cert_fault.CertFault.{CertFault}
-use Rattle.cert_maker.specs.cert_tree.Certificate.{GoalSeen, GoalOf}
+use Rattle.cert_maker.specs.cert_tree.Certificate.{GoalOf}
+use Rattle.cert_maker.specs.res_value.Goal.{GoalSeen}
 use Rattle.cert_maker.specs.cert_tree.CertJson.{cert_in}
 use Rattle.table_commands.specs.fault_text.declared.fault.ToolFault.{ToolFault}
 use Rattle.table_commands.specs.fault_text.ToolFault.{fault_of_box, fault_of_certificate}

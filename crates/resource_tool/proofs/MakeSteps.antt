@@ -3,7 +3,8 @@ use Rattle.std.proofs.Common.{◌≡◌, ℕ, ◌≤◌, Bool, List, Option, Res
 use Rattle.std.specs.List.{All}
 use Rattle.std.specs.Io.KnownBytes.{Appends}
 use Rattle.std.proofs.lemmas.List.{get_or-map, length-map}
-use Rattle.cert_maker.specs.cert_tree.Certificate.{GoalSeen, GoalOf, GoalFits, NodeFits, goals_of, most_nodes, node_count}
+use Rattle.cert_maker.specs.cert_tree.Certificate.{GoalOf, GoalFits, NodeFits, goals_of, most_nodes, node_count}
+use Rattle.cert_maker.specs.res_value.Goal.{GoalSeen}
 use Rattle.cert_maker.specs.declared.made.Made.{Made}
 use Rattle.cert_maker.specs.declared.made.Made.TheVariants.{Cert, Counter, NodeLimit}
 use Rattle.cert_maker.specs.Made.{IsMade, CanBeWritten}

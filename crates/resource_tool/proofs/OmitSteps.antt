@@ -1,7 +1,8 @@
 -- What was made is printed where goals are left out, and a certificate reads back.
 use Rattle.std.proofs.Common.{◌≡◌, ℕ, ◌≤◌, inl, inr, List, [], ◌∷◌, Option, Result, Ok, Err, ap, subst, refl}
 use Rattle.std.specs.List.{All}
-use Rattle.cert_maker.specs.cert_tree.Certificate.{GoalSeen, GoalOf, GoalFits, NodeFits, goals_of, most_nodes, node_count}
+use Rattle.cert_maker.specs.cert_tree.Certificate.{GoalOf, GoalFits, NodeFits, goals_of, most_nodes, node_count}
+use Rattle.cert_maker.specs.res_value.Goal.{GoalSeen}
 use Rattle.cert_maker.specs.cert_checker.FirstFault.{IsAccepted}
 use Rattle.cert_maker.specs.declared.omitted.Omitting.{Omitting}
 use Rattle.cert_maker.specs.declared.omitted.Omitting.TheVariants.{Cert, NodeLimit}

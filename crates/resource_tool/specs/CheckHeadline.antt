@@ -4,7 +4,8 @@ use Rattle.std.specs.Io.KnownBytes.{Appends}
 use Rattle.cert_maker.specs.box_answers.NumberSet.{SetOf}
 use Rattle.cert_maker.specs.config_box.BoxJson.{box_in}
 use Rattle.table_commands.specs.overlay_map.Layer.{LayerOf}
-use Rattle.cert_maker.specs.cert_tree.Certificate.{GoalSeen, GoalOf}
+use Rattle.cert_maker.specs.cert_tree.Certificate.{GoalOf}
+use Rattle.cert_maker.specs.res_value.Goal.{GoalSeen}
 use Rattle.cert_maker.specs.cert_tree.CertJson.{cert_in}
 use Rattle.cert_maker.specs.cert_checker.declared.verdict.Verdict.{Verdict}
 use Rattle.cert_maker.specs.cert_checker.Headline.{Headline}

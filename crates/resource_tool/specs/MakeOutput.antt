@@ -9,7 +9,8 @@ use Rattle.cert_maker.specs.box_answers.NumberSet.{SetOf}
 use Rattle.cert_maker.specs.config_box.BoxJson.{box_in}
 use Rattle.table_commands.specs.overlay_map.Layer.{LayerOf}
 use Rattle.table_commands.specs.reference_resolver.declared.end.End.{End}
-use Rattle.cert_maker.specs.cert_tree.Certificate.{GoalSeen, GoalOf, GoalFits, goals_of, most_nodes}
+use Rattle.cert_maker.specs.cert_tree.Certificate.{GoalOf, GoalFits, goals_of, most_nodes}
+use Rattle.cert_maker.specs.res_value.Goal.{GoalSeen}
 use Rattle.cert_maker.specs.cert_tree.CertJson.{cert_in}
 use Rattle.cert_maker.specs.cert_tree.WrittenJson.{cert_data}
 use Rattle.cert_maker.specs.cert_checker.FirstFault.{IsAccepted}

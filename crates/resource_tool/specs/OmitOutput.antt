@@ -4,7 +4,8 @@ use Rattle.std.specs.Io.KnownBytes.{Appends}
 use Rattle.std.specs.List.{All, flat_map}
 use Rattle.table_commands.specs.config_record.DeviceSeen.{device_numbers}
 use Rattle.table_commands.specs.overlay_map.Layer.{LayerOf}
-use Rattle.cert_maker.specs.cert_tree.Certificate.{GoalSeen, GoalOf, GoalFits, goals_of, most_nodes}
+use Rattle.cert_maker.specs.cert_tree.Certificate.{GoalOf, GoalFits, goals_of, most_nodes}
+use Rattle.cert_maker.specs.res_value.Goal.{GoalSeen}
 use Rattle.cert_maker.specs.declared.made.Made.TheVariants as made
 use Rattle.cert_maker.specs.declared.omitted.Omitted.{Omitted}
 use Rattle.cert_maker.specs.declared.omitted.Omitting.{Omitting}

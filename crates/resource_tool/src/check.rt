@@ -3,7 +3,7 @@
 ghost use Rattle.std.specs.Prelude.{◌≡◌, false, map, Ok, IfOk};
 ghost use Rattle.contract_words.specs.Exact.{GivesOr};
 ghost use Rattle.contract_words.specs.Writes.{Writes};
-ghost use Rattle.cert_maker.specs.cert_tree.Certificate.{goal_seen};
+ghost use Rattle.cert_maker.specs.res_value.Goal.{goal_seen};
 ghost use Rattle.table_commands.specs.fault_text.declared.fault.ToolFault.TheVariants.{OutOfMemory};
 ghost use Rattle.table_commands.specs.command_base.Output.{PrintsOneOf, IsOfInput};
 ghost use Rattle.resource_tool.specs.Answered.{PrintsBothOneOf};

@@ -2,7 +2,7 @@
 
 ghost use Rattle.std.specs.Prelude.{◌≡◌, false, map};
 ghost use Rattle.contract_words.specs.Writes.{Writes};
-ghost use Rattle.cert_maker.specs.cert_tree.Certificate.{goal_seen};
+ghost use Rattle.cert_maker.specs.res_value.Goal.{goal_seen};
 ghost use Rattle.resource_tool.specs.GoalTold.{named_words, goal_line, line_about, goal_told};
 
 use cert_maker::Goal;

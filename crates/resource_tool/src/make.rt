@@ -4,7 +4,8 @@ ghost use Rattle.std.specs.Prelude.{◌≡◌, ◌∷◌, ◌++◌, [], false, m
 ghost use Rattle.contract_words.specs.Exact.{GivesOr};
 ghost use Rattle.contract_words.specs.Writes.{Writes};
 ghost use Rattle.serde_json.specs.Written.{compact_text};
-ghost use Rattle.cert_maker.specs.cert_tree.Certificate.{goal_seen, goals_of};
+ghost use Rattle.cert_maker.specs.cert_tree.Certificate.{goals_of};
+ghost use Rattle.cert_maker.specs.res_value.Goal.{goal_seen};
 ghost use Rattle.cert_maker.specs.cert_tree.WrittenJson.{cert_data};
 ghost use Rattle.table_commands.specs.config_record.DeviceSeen.{device_numbers};
 ghost use Rattle.table_commands.specs.fault_text.declared.fault.ToolFault.TheVariants.{OutOfMemory};

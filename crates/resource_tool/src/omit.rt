@@ -3,7 +3,7 @@
 ghost use Rattle.std.specs.Prelude.{ℕ, map, Ok, IfOk};
 ghost use Rattle.contract_words.specs.Writes.{Writes};
 ghost use Rattle.cert_maker.specs.Omitting.{IsOmitting};
-ghost use Rattle.cert_maker.specs.cert_tree.Certificate.{goal_seen};
+ghost use Rattle.cert_maker.specs.res_value.Goal.{goal_seen};
 ghost use Rattle.table_commands.specs.MapOutput.{PrintsBoth};
 ghost use Rattle.table_commands.specs.command_base.StackBytesSeen.{layer_bytes};
 ghost use Rattle.resource_tool.specs.Answered.{PrintsBothOneOf};

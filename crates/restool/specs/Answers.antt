@@ -12,7 +12,7 @@ use Rattle.resource_tool.specs.device_commands.QueryOutput.{query_answer}
 use Rattle.resource_tool.specs.device_commands.ExplainOutput.{explain_answer}
 use Rattle.resource_tool.specs.device_commands.BagOutput.{bag_answer}
 use Rattle.resource_tool.specs.device_commands.AttrOutput.{attr_answer}
-use Rattle.resource_tool.specs.cert_tree.Certificate.{GoalSeen}
+use Rattle.resource_tool.specs.res_value.Goal.{GoalSeen}
 use Rattle.resource_tool.specs.Answered.{PrintsBothOneOf}
 use Rattle.resource_tool.specs.MakeOutput.{MakeInputs, IsMakeOutput, IsMakeAnswer}
 use Rattle.resource_tool.specs.OmitOutput.{IsOmitOutput}

@@ -3,7 +3,7 @@
 use Rattle.std.specs.Prelude.{ℕ, List, Result, Ok}
 use Rattle.contract_words.specs.Faults.{◌>>=◌}
 use Rattle.json_input.specs.Each.{each}
-use Rattle.resource_tool.specs.cert_tree.Certificate.{GoalSeen}
+use Rattle.resource_tool.specs.res_value.Goal.{GoalSeen}
 use Rattle.resource_tool.specs.device_commands.Opened.{OpenedOf, opened_in}
 use Rattle.resource_tool.specs.CheckOutput as check
 use Rattle.resource_tool.specs.MakeOutput.{MakeInputs, make_inputs}

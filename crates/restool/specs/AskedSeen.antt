@@ -1,6 +1,6 @@
 -- How contracts see what a request asks for: by its content, not its address.
 use Rattle.std.specs.Prelude.{map}
-use Rattle.resource_tool.specs.cert_tree.Certificate.{goal_seen}
+use Rattle.resource_tool.specs.res_value.Goal.{goal_seen}
 use Rattle.resource_tool.specs.OpenedSeen.{opened_box, opened_cert}
 use Rattle.resource_tool.specs.device_commands.OpenedSeen.{opened_of}
 use Rattle.diff_command.specs.OpenedSeen.{opened_diff}

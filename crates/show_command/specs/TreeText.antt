@@ -16,7 +16,8 @@ use Rattle.answer_text.specs.NameText.{its_name}
 use Rattle.answer_text.specs.EndText.{end_text, end_with_string}
 use Rattle.answer_text.specs.QueryText.{strings_of_layer}
 use Rattle.cert_tree.specs.config_box.Tests.{ChoiceOf, NumbersOf, LocalesOf, TestOf, AtMostOf, AmongOf}
-use Rattle.cert_tree.specs.Certificate.{NodeOf, TestAt, ValueAt, BagAt, GoalSeen, IdGoal, AttrGoal, GoalOf}
+use Rattle.cert_tree.specs.Certificate.{NodeOf, TestAt, ValueAt, BagAt, GoalOf}
+use Rattle.cert_tree.specs.res_value.Goal.{GoalSeen, IdGoal, AttrGoal}
 use Rattle.show_command.specs.declared.path_end.LastAnswer.{LastAnswer}
 use Rattle.show_command.specs.declared.path_end.LastAnswer.TheVariants.{Nothing, Yes, No}
 use Rattle.show_command.specs.declared.path_end.PathEnd.{PathEnd}

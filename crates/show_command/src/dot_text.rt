@@ -3,7 +3,8 @@
 ghost use Rattle.std.specs.Prelude.{◌≡◌, ◌++◌, map, OnOk, IfOk};
 ghost use Rattle.std.specs.List.{flat_map};
 ghost use Rattle.contract_words.specs.Writes.{Writes};
-ghost use Rattle.cert_tree.specs.Certificate.{node_of, goal_seen, goal_of};
+ghost use Rattle.cert_tree.specs.Certificate.{node_of, goal_of};
+ghost use Rattle.cert_tree.specs.res_value.Goal.{goal_seen};
 ghost use Rattle.show_command.specs.TreeLinesSeen.{line_of};
 ghost use Rattle.show_command.specs.TreeText.{goal_head};
 ghost use Rattle.show_command.specs.DotText.{escaped, quoted, unreached_label, line_label, missing_name, line_name, labeled_arrow, arrow_to, arrow_text, statements_with, statements_text, head_with, dot_text};

@@ -2,7 +2,7 @@
 
 ghost use Rattle.std.specs.List.{flat_map};
 ghost use Rattle.contract_words.specs.Writes.{Writes};
-ghost use Rattle.cert_tree.specs.Certificate.{goal_seen};
+ghost use Rattle.cert_tree.specs.res_value.Goal.{goal_seen};
 ghost use Rattle.show_command.specs.TreeText.{style_text, asked_text, goal_head, goal_line};
 
 use answer_text::{ResId, Stack, write_id, write_its_name};

@@ -2,7 +2,8 @@ use Rattle.std.proofs.Common.{◌≡◌, ℕ, ◌<◌, List, length, map, get_or
 use Rattle.std.specs.Prelude.{slice_get}
 use Rattle.std.proofs.lemmas.List.{length-map}
 use Rattle.cert_tree.specs.declared.cert.CertGoal.{CertGoal}
-use Rattle.cert_tree.specs.Certificate.{goal_seen, goal_of, goals_of}
+use Rattle.cert_tree.specs.Certificate.{goal_of, goals_of}
+use Rattle.cert_tree.specs.res_value.Goal.{goal_seen}
 use Rattle.cert_checker.specs.declared.failure.Failure.{Failure}
 use Rattle.cert_checker.specs.declared.verdict.Verdict.TheVariants.{Accepted}
 use Rattle.cert_checker.specs.FirstFault.{goal_trace, goals_in, IsAccepted}

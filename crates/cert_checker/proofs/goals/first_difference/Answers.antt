@@ -1,7 +1,8 @@
 use Rattle.std.proofs.Common.{length, map, sym, ◌∙◌, arith}
 use Rattle.std.proofs.lemmas.Bool.{MatchBool-at_true, MatchBool-at_false}
 use Rattle.std.proofs.lemmas.List.{length-map}
-use Rattle.cert_tree.specs.Certificate.{goal_seen, goal_of}
+use Rattle.cert_tree.specs.Certificate.{goal_of}
+use Rattle.cert_tree.specs.res_value.Goal.{goal_seen}
 use Rattle.cert_checker.specs.FirstFault.{goals_in}
 use Rattle.cert_checker.proofs.GoalSteps.{goal_at, goals-count, same_more, shorter, same_so_far}
 use Rattle.cert_checker.proofs.goals.first_difference.Goals as goal

@@ -1,6 +1,7 @@
 use Rattle.std.proofs.Common.{◌≡◌, ℕ, ◌<◌, map}
 use Rattle.std.specs.Prelude.{slice_get}
-use Rattle.cert_tree.specs.Certificate.{goal_seen, goal_of}
+use Rattle.cert_tree.specs.Certificate.{goal_of}
+use Rattle.cert_tree.specs.res_value.Goal.{goal_seen}
 use Rattle.cert_checker.specs.FirstFault.{goals_in}
 use Rattle.cert_checker.proofs.goals.first_difference.Given as goal
 

@@ -7,7 +7,8 @@ use Rattle.box_trace.specs.OpenBox.{boxes_of, IsReached}
 use Rattle.box_trace.proofs.OpenBoxes.{boxes-push}
 use Rattle.cert_tree.specs.box_answers.NumberSet.{SetOf}
 use Rattle.cert_tree.specs.box_answers.Members.{IsBox}
-use Rattle.cert_tree.specs.Certificate.{NodeOf, node_of, goal_seen}
+use Rattle.cert_tree.specs.Certificate.{NodeOf, node_of}
+use Rattle.cert_tree.specs.res_value.Goal.{goal_seen}
 use Rattle.cert_checker.specs.declared.failure.Failure.{Failure}
 use Rattle.cert_checker.specs.declared.rule.Rule.TheVariants.{EndsEarly}
 use Rattle.cert_checker.specs.declared.verdict.Shown.TheVariants.{Nothing}

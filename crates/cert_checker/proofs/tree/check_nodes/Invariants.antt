@@ -1,7 +1,8 @@
 use Rattle.std.proofs.Common.{map}
 use Rattle.std.specs.List.{All}
 use Rattle.box_trace.specs.OpenBox.{boxes_of, IsReached}
-use Rattle.cert_tree.specs.Certificate.{node_of, goal_seen}
+use Rattle.cert_tree.specs.Certificate.{node_of}
+use Rattle.cert_tree.specs.res_value.Goal.{goal_seen}
 use Rattle.cert_checker.specs.FirstFault.{goal_trace}
 use Rattle.cert_checker.proofs.TreeSteps.{PassedTo}
 use Rattle.cert_checker.proofs.tree.check_nodes.Given as goal

@@ -1,6 +1,7 @@
 use Rattle.std.proofs.Common.{List, map, IfOk, subst}
 use Rattle.cert_tree.specs.declared.node.Node.{Node}
-use Rattle.cert_tree.specs.Certificate.{node_of, goal_seen}
+use Rattle.cert_tree.specs.Certificate.{node_of}
+use Rattle.cert_tree.specs.res_value.Goal.{goal_seen}
 use Rattle.cert_checker.specs.FirstFault.{goal_trace}
 use Rattle.cert_checker.specs.OpenBoxes.{IsOutcome}
 use Rattle.cert_checker.proofs.tree.check_tree.Goals as goal

@@ -2,8 +2,9 @@ use Rattle.std.proofs.Common.{◌≡◌, ℕ, ◌+◌, ◌<◌, arith, suc, add-
 use Rattle.std.proofs.lemmas.List.{drop_all, length-map}
 use Rattle.cert_checker.specs.overlay_map.Layer.{LayerOf}
 use Rattle.cert_checker.specs.box_answers.NumberSet.{SetOf}
-use Rattle.cert_checker.specs.cert_tree.declared.goal.Goal.{Goal}
-use Rattle.cert_checker.specs.cert_tree.Certificate.{GoalSeen, goal_seen, goal_of}
+use Rattle.cert_checker.specs.res_value.declared.goal.Goal.{Goal}
+use Rattle.cert_checker.specs.cert_tree.Certificate.{goal_of}
+use Rattle.cert_checker.specs.res_value.Goal.{GoalSeen, goal_seen}
 use Rattle.cert_maker.specs.declared.trees.Trees.{Trees}
 use Rattle.cert_maker.specs.declared.made.Made.TheVariants.{Cert, NodeLimit}
 use Rattle.cert_maker.specs.Made.{IsMade, CanBeWritten}

@@ -1,5 +1,5 @@
 use Rattle.std.proofs.Common.{drop, map}
-use Rattle.cert_checker.specs.cert_tree.Certificate.{goal_seen}
+use Rattle.cert_checker.specs.res_value.Goal.{goal_seen}
 use Rattle.cert_maker.specs.Trees.{AreGrown}
 use Rattle.cert_maker.proofs.making.make_watched.Given as goal
 

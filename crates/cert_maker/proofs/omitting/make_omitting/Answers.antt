@@ -2,8 +2,8 @@ use Rattle.std.proofs.Common.{◌≡◌, ℕ, ◌<◌, arith, List, get_or, leng
 use Rattle.std.specs.Prelude.{slice_get}
 use Rattle.std.proofs.lemmas.List.{length-map, get_or-map}
 use Rattle.std.proofs.lemmas.Option.{slice_get-get_or}
-use Rattle.cert_checker.specs.cert_tree.declared.goal.Goal.{Goal}
-use Rattle.cert_checker.specs.cert_tree.Certificate.{GoalSeen, goal_seen}
+use Rattle.cert_checker.specs.res_value.declared.goal.Goal.{Goal}
+use Rattle.cert_checker.specs.res_value.Goal.{GoalSeen, goal_seen}
 use Rattle.cert_maker.specs.Judged.{Judges}
 use Rattle.cert_maker.proofs.JudgedSteps.{certified}
 use Rattle.cert_maker.proofs.omitting.make_omitting.Goals as goal

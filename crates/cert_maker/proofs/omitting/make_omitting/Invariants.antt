@@ -1,5 +1,5 @@
 use Rattle.std.proofs.Common.{map}
-use Rattle.cert_checker.specs.cert_tree.Certificate.{goal_seen}
+use Rattle.cert_checker.specs.res_value.Goal.{goal_seen}
 use Rattle.cert_maker.specs.Judged.{AreJudgedIn}
 use Rattle.cert_maker.proofs.omitting.make_omitting.Given as goal
 

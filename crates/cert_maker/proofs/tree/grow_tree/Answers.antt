@@ -4,7 +4,8 @@ use Rattle.std.proofs.lemmas.List.Elements.{All-nil, All-same, All-push, All-pop
 use Rattle.cert_checker.specs.config_record.DeviceSeen.{device_numbers}
 use Rattle.cert_checker.specs.reference_resolver.Trace.{Trace}
 use Rattle.cert_checker.specs.box_answers.Members.{IsBox}
-use Rattle.cert_checker.specs.cert_tree.Certificate.{node_of, goal_seen}
+use Rattle.cert_checker.specs.cert_tree.Certificate.{node_of}
+use Rattle.cert_checker.specs.res_value.Goal.{goal_seen}
 use Rattle.cert_checker.specs.FirstFault.{goal_trace}
 use Rattle.cert_checker.specs.box_trace.declared.open_box.OpenBox.{OpenBox}
 use Rattle.cert_checker.specs.box_trace.OpenBox.{boxes_of, IsReached}

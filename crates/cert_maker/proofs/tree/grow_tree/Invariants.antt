@@ -1,7 +1,8 @@
 use Rattle.std.proofs.Common.{◌-◌, ◌≤◌, length, map, reverse}
 use Rattle.std.specs.List.{All}
 use Rattle.cert_checker.specs.box_trace.OpenBox.{boxes_of, IsReached}
-use Rattle.cert_checker.specs.cert_tree.Certificate.{node_of, goal_seen}
+use Rattle.cert_checker.specs.cert_tree.Certificate.{node_of}
+use Rattle.cert_checker.specs.res_value.Goal.{goal_seen}
 use Rattle.cert_checker.specs.FirstFault.{goal_trace}
 use Rattle.cert_maker.proofs.Loop.{Going}
 use Rattle.cert_maker.proofs.tree.grow_tree.Given as goal

@@ -3,8 +3,8 @@ use Rattle.std.proofs.lemmas.List.{drop_all}
 use Rattle.std.proofs.lemmas.Result.{err_from_is_err_and}
 use Rattle.contract_words.specs.Sequences.{with_front, joined_each}
 use Rattle.contract_words.proofs.SequenceSteps.{ReadsAllBut-next, ReadsAllBut-stops, ReadsAllBut-end, with_front_nil}
-use Rattle.cert_tree.specs.Certificate.{goal_seen}
-use Rattle.cert_tree.specs.declared.goal.Goal.{Goal}
+use Rattle.res_value.specs.Goal.{goal_seen}
+use Rattle.res_value.specs.declared.goal.Goal.{Goal}
 use Rattle.name_index.specs.declared.name.Name.{Name}
 use Rattle.name_index.specs.Names.{NameOf, name_of}
 use Rattle.name_words.specs.declared.named_goal.NamedGoal.{NamedGoal}

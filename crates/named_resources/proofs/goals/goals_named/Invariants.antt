@@ -1,7 +1,7 @@
 use Rattle.std.proofs.Common.{map, drop}
 use Rattle.std.specs.List.{flat_map}
 use Rattle.contract_words.proofs.SequenceSteps.{ReadsAllBut}
-use Rattle.cert_tree.specs.Certificate.{goal_seen}
+use Rattle.res_value.specs.Goal.{goal_seen}
 use Rattle.name_words.specs.NamedGoal.{named_goal_of}
 use Rattle.named_resources.specs.NamedGoals.{goals_of_word, goals_named}
 use Rattle.named_resources.specs.AskedNames.{names_in_goal}

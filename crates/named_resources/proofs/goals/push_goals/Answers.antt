@@ -5,8 +5,8 @@ use Rattle.std.specs.List.{flat_map}
 use Rattle.contract_words.specs.Sequences.{with_front}
 use Rattle.json_input.specs.Each.{each}
 use Rattle.overlay_map.specs.res_value.declared.res_id.ResId.{ResId}
-use Rattle.cert_tree.specs.Certificate.{GoalSeen, IdGoal, goal_seen}
-use Rattle.cert_tree.specs.declared.goal.Goal.{Goal}
+use Rattle.res_value.specs.Goal.{GoalSeen, IdGoal, goal_seen}
+use Rattle.res_value.specs.declared.goal.Goal.{Goal}
 use Rattle.name_words.specs.declared.named.Named.{Named}
 use Rattle.name_words.specs.declared.named_goal.NamedGoal.{NamedGoal}
 use Rattle.name_words.specs.Named.{named_of}

@@ -1,5 +1,5 @@
 use Rattle.std.proofs.Common.{◌≡◌, ◌++◌, map, take}
-use Rattle.cert_tree.specs.Certificate.{goal_seen, IdGoal}
+use Rattle.res_value.specs.Goal.{goal_seen, IdGoal}
 use Rattle.named_resources.proofs.goals.push_ids.Given as goal
 
 abbrev pub invariant-loop-id : goal.invariant-loop-id

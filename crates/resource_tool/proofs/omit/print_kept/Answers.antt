@@ -3,7 +3,8 @@ use Rattle.std.proofs.KnownBytes.{Appends-nil}
 use Rattle.std.proofs.lemmas.Bool.{eqb-true}
 use Rattle.std.specs.Io.KnownBytes.{Appends}
 use Rattle.cert_maker.specs.cert_tree.declared.cert.CertGoal.{CertGoal}
-use Rattle.cert_maker.specs.cert_tree.Certificate.{goal_of, goal_seen}
+use Rattle.cert_maker.specs.cert_tree.Certificate.{goal_of}
+use Rattle.cert_maker.specs.res_value.Goal.{goal_seen}
 use Rattle.cert_maker.specs.declared.omitted.Omitted.{Omitted}
 use Rattle.cert_maker.specs.declared.omitted.Omitting.{Omitting}
 use Rattle.table_commands.specs.command_base.declared.status.Status.TheVariants.{Negative}

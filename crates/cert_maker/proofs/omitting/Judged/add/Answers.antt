@@ -1,6 +1,7 @@
 use Rattle.std.proofs.Common.{◌≡◌, ℕ, ◌+◌, ◌-◌, arith, List, length, map, refl, sym, subst}
 use Rattle.std.proofs.lemmas.List.{length-map}
-use Rattle.cert_checker.specs.cert_tree.Certificate.{GoalOf, goal_seen, goal_of, node_of}
+use Rattle.cert_checker.specs.cert_tree.Certificate.{GoalOf, goal_of, node_of}
+use Rattle.cert_checker.specs.res_value.Goal.{goal_seen}
 use Rattle.cert_maker.specs.declared.omitted.Omitted.{Omitted}
 use Rattle.cert_maker.specs.Growth.{IsGrown}
 use Rattle.cert_maker.specs.Judged.{AreJudged}

@@ -2,7 +2,8 @@ use Rattle.std.proofs.Common.{◌≡◌, ℕ, ◌+◌, ◌-◌, arith, List, len
 use Rattle.std.specs.Prelude.{slice_get}
 use Rattle.std.proofs.lemmas.List.{length-map}
 use Rattle.cert_checker.specs.config_record.DeviceSeen.{device_numbers}
-use Rattle.cert_checker.specs.cert_tree.Certificate.{GoalSeen, GoalOf, goal_seen, goal_of, node_of}
+use Rattle.cert_checker.specs.cert_tree.Certificate.{GoalOf, goal_of, node_of}
+use Rattle.cert_checker.specs.res_value.Goal.{GoalSeen, goal_seen}
 use Rattle.cert_maker.specs.Growth.{IsGrown}
 use Rattle.cert_maker.specs.Made.{IsCounterexample}
 use Rattle.cert_maker.specs.Trees.{AreDone}

@@ -1,6 +1,6 @@
 use Rattle.std.proofs.Common.{ℕ, List, ◌++◌, IsUtf8, sym, ap, subst, ◌∙◌}
 use Rattle.res_value.specs.ResId.{id_text}
-use Rattle.cert_tree.proofs.TextLemmas.{id_text-utf8}
+use Rattle.res_value.proofs.IdText.{id_text-utf8}
 use Rattle.named_resources.proofs.fault.NameFault.no_id.Goals as goal
 
 pub no_resource-requires : goal.no_resource-requires

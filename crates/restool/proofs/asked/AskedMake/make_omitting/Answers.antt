@@ -1,5 +1,5 @@
 use Rattle.std.proofs.Common.{map, Ok, refl, arith}
-use Rattle.resource_tool.specs.cert_tree.Certificate.{goal_seen}
+use Rattle.resource_tool.specs.res_value.Goal.{goal_seen}
 use Rattle.resource_tool.specs.OmitOutput.{IsOmitOutput}
 use Rattle.resource_tool.specs.OpenedSeen.{opened_box}
 use Rattle.restool.proofs.Told.{told}

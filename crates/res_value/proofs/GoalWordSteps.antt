@@ -1,7 +1,7 @@
 -- Where the parts of a word stand.
 use Rattle.std.proofs.Common.{◌≡◌, ℕ, ◌<◌, Bool, true, false, List, [], ◌∷◌, length, Option, Some, None, MatchOption, Bor, refl, arith}
 use Rattle.std.specs.List.{list_any, position_or_len, before_first, after_first}
-use Rattle.name_words.specs.NamedGoal.{is_at_sign}
+use Rattle.res_value.specs.Goal.{is_at_sign}
 
 -- a list has a first item that passes where one passes
 no_first : (p : ℕ → Bool) (xs : List ℕ) → position_or_len p xs ≡ length xs → list_any p xs ≡ false

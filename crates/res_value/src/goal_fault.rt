@@ -1,7 +1,7 @@
 //! What can go wrong with the word of a goal.
 
 ghost use Rattle.std.specs.Prelude.{◌≡◌};
-ghost use Rattle.name_words.specs.declared.goal_fault.GoalFault.TheVariants.{OutOfMemory};
+ghost use Rattle.res_value.specs.declared.goal_fault.GoalFault.TheVariants.{OutOfMemory};
 
 use std::alloc::{AllocError, AllocFailed};
 use thiserror::Error;

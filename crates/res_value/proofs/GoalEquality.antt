@@ -4,10 +4,10 @@ use Rattle.std.specs.Bool.{Decides}
 use Rattle.std.specs.Cmp.{unsigned_Decides}
 use Rattle.std.specs.Cmp.Lexicographic.{pointwise, pointwise_decides}
 use Rattle.res_value.specs.declared.res_id.ResId.{ResId}
-use Rattle.cert_tree.specs.contracts.goal.GoalPartialEq.TheImpl.{eq-value}
-use Rattle.cert_tree.specs.declared.goal.Goal.{Goal}
-use Rattle.cert_tree.specs.declared.goal.Goal.TheVariants as goals
-use Rattle.cert_tree.specs.Certificate.{IdGoal, goal_seen}
+use Rattle.res_value.specs.contracts.goal.GoalPartialEq.TheImpl.{eq-value}
+use Rattle.res_value.specs.declared.goal.Goal.{Goal}
+use Rattle.res_value.specs.declared.goal.Goal.TheVariants as goals
+use Rattle.res_value.specs.Goal.{IdGoal, goal_seen}
 
 abbrev same_id : ResId → ResId → Bool
 same_id i j = i.0 == j.0
