@@ -605,6 +605,13 @@ check "files come before the words in them" 5 $none "$work/file.err" query absen
 check "an absent file of words" 5 $none "$work/file.err" query $layers $phone @absent
 line word.err 'command: bad id @words'
 check "one resource is not in a file" 2 $none "$work/word.err" explain absent $phone @words
+for ids in @ @0x7f010000 @0x7f010000,0x7F010001; do
+    line word.err "command: bad id $ids"
+    check "ids alone name no file: $ids" 2 $none "$work/word.err" query absent $phone dimen/handle "$ids" 0x7f06
+    check "nor in goals: $ids" 2 $none "$work/word.err" make absent examples/porcelain/phones.json "$ids"
+done
+line file.err 'file: 0x7f010000,'
+check "ids and a comma name a file" 5 $none "$work/file.err" query $layers $phone @0x7f010000,
 cd "$work" || exit 1
 
 # ---- words

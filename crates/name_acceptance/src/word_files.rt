@@ -8,6 +8,16 @@ fn reads_the_path_of_a_file(rt: HostRuntime) {
     assert_eq!(rt; file_path("@ids.txt"), Some("ids.txt"));
     assert_eq!(rt; file_path("@-"), Some("-"));
     assert_eq!(rt; file_path("attr/a@ids.txt"), None);
+    assert_eq!(rt; file_path("@0x7f01000"), Some("0x7f01000"));
+    assert_eq!(rt; file_path("@0x7f010000,"), Some("0x7f010000,"));
+    assert_eq!(rt; file_path("@./0x7f010000"), Some("./0x7f010000"));
+}
+
+#[test]
+fn reads_no_path_from_ids(rt: HostRuntime) {
+    for word in ["@", "@0x7f010000", "@0x7f010000,0x7F010001"] {
+        assert_eq!(rt; file_path(word), None, "{word}");
+    }
 }
 
 #[test]

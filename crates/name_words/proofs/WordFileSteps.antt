@@ -10,19 +10,19 @@ use Rattle.std.specs.Str.Pattern.{FindsCharPrefix, StripsPrefix}
 use Rattle.std.proofs.lemmas.Bool.Decides.{Decides-eqb}
 use Rattle.std.proofs.lemmas.List.{append-nil, drop_more, drop_all, get_or-map, length-map}
 use Rattle.std.proofs.lemmas.Slice.Eq.{starts_is}
-use Rattle.name_words.specs.WordFile.{byte_order_mark, file_path_in, is_line_feed, is_word, without_mark, words_in_text}
+use Rattle.name_words.specs.WordFile.{byte_order_mark, behind_sign, is_line_feed, is_word, without_mark, words_in_text}
 
--- ---- the path of a file
+-- ---- behind the sign
 
-pub path_seen : (word : List ℕ) (path : Option (Bor (List ℕ))) → MatchOption path ((rest : List ℕ) → word ≢ 64 ∷ rest) (λ path. word ≡ 64 ∷ path.now)
-    → option_map (λ path. path.now) path ≡ file_path_in word
-path_seen [] None none = refl
-path_seen (byte ∷ rest) None none = other byte rest (byte == 64) refl none
+pub text_behind : (word : List ℕ) (text : Option (Bor (List ℕ))) → MatchOption text ((rest : List ℕ) → word ≢ 64 ∷ rest) (λ text. word ≡ 64 ∷ text.now)
+    → option_map (λ text. text.now) text ≡ behind_sign word
+text_behind [] None none = refl
+text_behind (byte ∷ rest) None none = other byte rest (byte == 64) refl none
   where
-    other : (byte : ℕ) (rest : List ℕ) (is : Bool) → (byte == 64) ≡ is → ((others : List ℕ) → byte ∷ rest ≢ 64 ∷ others) → None ≡ file_path_in (byte ∷ rest)
+    other : (byte : ℕ) (rest : List ℕ) (is : Bool) → (byte == 64) ≡ is → ((others : List ℕ) → byte ∷ rest ≢ 64 ∷ others) → None ≡ behind_sign (byte ∷ rest)
     other byte rest true is none = absurd (none rest (grind (arith, is)))
     other byte rest false is none = rw is refl
-path_seen word (Some path) found = rw found refl
+text_behind word (Some text) found = rw found refl
 
 -- ---- the byte order mark
 

@@ -1,12 +1,23 @@
--- Files of words. A word `@PATH` where several may stand names a file that has such words, one a line.
-use Rattle.std.specs.Prelude.{ℕ, ◌==◌, Bool, false, not, List, [], ◌∷◌, map, length, drop, nat_eq, Option, Some, None, if◌then◌else◌}
+-- Files of words. A word `@PATH` where several may stand names a file that has such words, one a line. `@` alone, and `@` with
+-- ids behind it, name none.
+use Rattle.std.specs.Prelude.{ℕ, ◌==◌, ◌||◌, Bool, false, not, List, [], ◌∷◌, map, length, drop, nat_eq, Option, Some, None, if◌then◌else◌}
 use Rattle.std.specs.List.{filter, slice_split, starts_with}
+use Rattle.std.specs.Option.{option_and_then}
 use Rattle.std.specs.Str.{trim}
+use Rattle.res_value.specs.Goal.{is_id_list}
 
--- the path behind the `@` that a word begins with
-abbrev pub file_path_in : List ℕ → Option (List ℕ)
-file_path_in [] = None
-file_path_in (byte ∷ path) = if byte == 64 then Some path else None
+-- what stands behind the `@` that a word begins with
+abbrev pub behind_sign : List ℕ → Option (List ℕ)
+behind_sign [] = None
+behind_sign (byte ∷ text) = if byte == 64 then Some text else None
+
+-- a path is neither empty nor a list of ids
+abbrev pub as_path : List ℕ → Option (List ℕ)
+as_path text = if length text == 0 || is_id_list text then None else Some text
+
+-- the path of the file that a word names, behind its `@`
+unfoldable pub file_path_in : List ℕ → Option (List ℕ)
+file_path_in word = option_and_then as_path (behind_sign word)
 
 -- the byte order mark, U+FEFF, as UTF-8 has it
 abbrev pub byte_order_mark : List ℕ

@@ -3,8 +3,9 @@
 ghost use Rattle.std.specs.Prelude.{◌≡◌, map, IfOk};
 ghost use Rattle.std.specs.List.{slice_split};
 ghost use Rattle.std.specs.Option.{option_map};
-ghost use Rattle.name_words.specs.WordFile.{file_path_in, is_line_feed, is_word, without_mark, words_in_text};
+ghost use Rattle.name_words.specs.WordFile.{behind_sign, file_path_in, is_line_feed, is_word, without_mark, words_in_text};
 
+use res_value::is_id_list;
 use std::alloc::{AllocError, Global};
 
 /// Begins a word that names a file.
@@ -19,9 +20,21 @@ const LINE_FEED: char = '\n';
 /// Begins a line that is passed over.
 const COMMENT: u8 = b'#';
 
-/// The path of the file that a word names: `@ids.txt` names `ids.txt`. None where it names none.
+/// The path of the file that a word names: `@ids.txt` names `ids.txt`. None where it names none, as `@` alone, and `@` with
+/// ids behind it, with commas between them.
+#[tactic(auto, unfolding(crate::specs::WordFile::file_path_in))]
 pub fn file_path(word: &str) -> Option<&str>
     ensures { option_map (λ path. path.now) result ≡ file_path_in word.now }
+{
+    let text = behind_sign(word)?;
+    if text.is_empty() || is_id_list(text) {
+        return None;
+    }
+    Some(text)
+}
+
+fn behind_sign(word: &str) -> Option<&str>
+    ensures { option_map (λ text. text.now) result ≡ behind_sign word.now }
 {
     word.strip_prefix(AT_SIGN)
 }
