@@ -1,9 +1,9 @@
 //! What a command is asked of.
 
-use cert_checker::Cert;
 use diff_command::{OpenedDiff, diff_bytes};
 use marked_calls::{Writer, table_of, word};
 use res_value::ResId;
+use resource_text::Cert;
 use resource_tool::{
     Goal, LayerParts, Opened, OpenedBox, OpenedCert, Status, ToolFault, Unwatched, attr_bytes,
     bag_bytes, check_bytes, dump_bytes, explain_bytes, make_bytes, make_omitting_bytes, map_bytes,

@@ -1,11 +1,12 @@
 //! Texts, which are written without memory.
 
-use cert_checker::{Cert, Rule, Shown, Verdict};
 use marked_calls::{begin, end, table_of, tell_text};
 use reference_resolver::resolve;
 use res_value::ResId;
-use resource_text::{dump_text, end_text, explain, rows_text, verdict_text, write_goal_words};
-use resource_tool::{ToolFault, fault_text};
+use resource_text::{
+    Cert, Rule, Shown, ToolFault, Verdict, dump_text, end_text, explain, fault_text, rows_text,
+    verdict_text, write_goal_words,
+};
 use std::test::Fail;
 use test_layers::{LayerFault, device_of};
 use test_stacks::stack_of_base;

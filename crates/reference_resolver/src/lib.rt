@@ -30,5 +30,5 @@ pub use overlay_map::{
     kind, write_string,
 };
 pub use references::{REFERENCES_FOLLOWED, resolve, resolve_within};
-pub use selection::select;
+pub use selection::{Pick, select};
 pub use step::Step;

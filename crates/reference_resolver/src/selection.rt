@@ -12,13 +12,16 @@ use crate::step::Step;
 use config_precedence::Device;
 use overlay_map::{Cand, ResId, Stack};
 
+/// A candidate that is selected.
+pub type Pick<'a> = Cand<'a>;
+
 /// The candidate of an id that a device selects (AOSP: `ResTable::getEntry`): the first that matches, or
 /// the last of those that take over, each from the one before it. It is none where none matches.
 ///
 /// The order of the candidates does not matter where none is of an overlay and, of any two that match,
 /// exactly one is better than the other.
 #[tactic(auto, unfolding(crate::specs::Selection::selected))]
-pub fn select<'a>(stack: &Stack<'a>, id: ResId, device: &Device) -> Option<Cand<'a>>
+pub fn select<'a>(stack: &Stack<'a>, id: ResId, device: &Device) -> Option<Pick<'a>>
     ensures value { option_map cand_of result ≡
         selected stack.now id.0 (device_numbers device.now) }
     ensures takers { IsTheSelected

@@ -1,5 +1,5 @@
 //! The lines that commands print, written straight to a writer: those of verdicts stand here, those of rows,
-//! ends and explanations are handed on.
+//! ends, explanations and faults are handed on.
 //!
 //! For the crates above: what each call appends is the one text of its value, as `specs/` define it,
 //! and nothing else; the only error is the writer's.
@@ -14,4 +14,6 @@
 mod verdict;
 
 pub use answer_text::{dump_text, end_text, explain, rows_text, set_aside_line, write_goal_words};
+pub use cert_checker::{Cert, Rule, Shown, Verdict};
+pub use fault_text::{LayersFault, ToolFault, fault_text};
 pub use verdict::{device_with_end, verdict_text};
