@@ -4,7 +4,8 @@
 # the functions whose proofs took more than twenty of these seconds. Without a crate it measures all, and takes as long as
 # the gate. Each part works from nothing, with one job, on a copy of the repository; those below a named crate are proved
 # too. Where the crates of the fixed proof (README.md) are among them, sums are printed as multiples of that too.
-# The environment may give JOBS, how many tests and edits run side by side.
+# The environment may give JOBS, how many tests and edits run side by side; and COPY, a copy of the repository: what
+# tools/prove.py --jobs 1 proved there from nothing is not proved again, and what is proved stays there.
 here=$(CDPATH='' cd "$(dirname "$0")/.." && pwd) || exit 1
 program=$(basename "$0")
 fixed="contract_words hex_text chunk_walk json_input config_record"
@@ -36,12 +37,12 @@ measure() {
 # libraries, and nothing that the crate's own proof left, so that the tests are proved from nothing, as the gate does it.
 make_room() {
     mkdir -p "$1/rooms/$2/crates" || return 1
-    for below in $(crates_below "$1/copy/crates.txt" "$2"); do
+    for below in $(crates_below "$copy/crates.txt" "$2"); do
         mkdir -p "$1/rooms/$2/crates/$below/out" || return 1
-        grep "^$below:" "$1/copy/crates.txt" >>"$1/rooms/$2/crates.txt" || return 1
+        grep "^$below:" "$copy/crates.txt" >>"$1/rooms/$2/crates.txt" || return 1
         for part in src specs proofs must-fail stdin stdout args status data out/rlib; do
-            if [ -e "$1/copy/crates/$below/$part" ]; then
-                cp -al "$1/copy/crates/$below/$part" "$1/rooms/$2/crates/$below/$part" || return 1
+            if [ -e "$copy/crates/$below/$part" ]; then
+                cp -al "$copy/crates/$below/$part" "$1/rooms/$2/crates/$below/$part" || return 1
             fi
         done
     done
@@ -49,13 +50,14 @@ make_room() {
 
 # measure_rest WORK CRATE: the tests and edits of a crate that is proved.
 measure_rest() {
-    folder=$1/copy/crates/$2
+    folder=$copy/crates/$2
     make_room "$1" "$2" || return 1
     if grep -rq '^ *#\[test\]' "$folder/src"; then measure "$1" "$2" tests rt test --jobs 1; fi
     if [ -d "$folder/must-fail" ]; then measure "$1" "$2" edits sh -c "cd ../.. && rt must-fail $2"; fi
     rm -rf "$1/rooms/$2"
 }
 if [ "$1" = --rest ]; then
+    copy=$COPY
     measure_rest "$2" "$3"
     exit 0
 fi
@@ -71,13 +73,16 @@ needed=$(crates_below "$here/crates.txt" $named)
 work=$(mktemp -d) || exit 1
 trap 'rm -rf "$work"' EXIT
 trap 'exit 130' INT TERM
-mkdir "$work/copy" "$work/rooms" "$work/seconds" "$work/printed" && : >"$work/dear" || exit 1
-(cd "$here" && tar -cf - --exclude=.git --exclude=out .) | tar -xf - -C "$work/copy" || exit 1
+copy=${COPY:-$work/copy}
+mkdir "$work/rooms" "$work/seconds" "$work/printed" && : >"$work/dear" || exit 1
+if [ -z "$COPY" ]; then
+    mkdir "$copy" && (cd "$here" && tar -cf - --exclude=.git --exclude=out .) | tar -xf - -C "$copy" || exit 1
+fi
 
-python3 "$work/copy/tools/prove.py" --jobs 1 $needed || touch "$work/failed"
+python3 "$copy/tools/prove.py" --jobs 1 $needed || touch "$work/failed"
 for crate in $needed; do
-    sed -n '$s/ processor seconds$//p' "$work/copy/out/proofs/$crate.log" >"$work/seconds/$crate.proof"
-    python3 "$here/bench/dear_functions.py" "$work/copy/crates/$crate/out/incremental" "$crate" \
+    sed -n '$s/ processor seconds$//p' "$copy/out/proofs/$crate.log" >"$work/seconds/$crate.proof"
+    python3 "$here/bench/dear_functions.py" "$copy/crates/$crate/out/incremental" "$crate" \
         "$(cat "$work/seconds/$crate.proof")" >>"$work/dear"
 done
 
@@ -86,7 +91,7 @@ free=$(awk '/^MemAvailable:/ { print int($2 / 4000000) }' /proc/meminfo 2>/dev/n
 jobs=$(getconf _NPROCESSORS_ONLN)
 if [ "${free:-1}" -lt "$jobs" ]; then jobs=${free:-1}; fi
 if [ "$jobs" -lt 1 ]; then jobs=1; fi
-[ -e "$work/failed" ] || echo "$named" | tr ' ' '\n' | xargs -r -P "${JOBS:-$jobs}" -n 1 sh "$0" --rest "$work"
+[ -e "$work/failed" ] || echo "$named" | tr ' ' '\n' | COPY=$copy xargs -r -P "${JOBS:-$jobs}" -n 1 sh "$0" --rest "$work"
 
 first_run=" $(crates_below "$here/crates.txt" restool) "
 {
