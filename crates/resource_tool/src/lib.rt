@@ -1,5 +1,5 @@
-//! The commands of restool, over bytes and a writer. Those that are asked for a box of devices stand here, `make`
-//! and `check`; those for one table or one device are handed on.
+//! The commands `make` and `check`, over bytes and a writer. Those that are asked for tables alone or for one device
+//! are handed on; `show`, `survey` and `diff` have crates of their own.
 //!
 //! For the program above: a command prints the text that its input means and nothing else, or it
 //! names the first fault of that input and has printed nothing.
