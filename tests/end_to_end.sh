@@ -488,13 +488,13 @@ else
 fi
 PATH=$path
 
-# ---- the pages: their links, the files that they name, and the page that is made from the definitions; planted bugs
+# ---- the pages: their links, the files that they name, and those that are made from the definitions; planted bugs
 if command -v python3 >/dev/null; then
     ends "links and files that pages name" 0 "python3 '$here/tests/check_pages.py' >&2"
-    ends "DEFINITIONS.md is up to date" 0 "python3 '$here/tools/definitions.py' --check"
+    ends "DEFINITIONS.md and HEADLINE.md are up to date" 0 "python3 '$here/tools/definitions.py' --check"
     ends "planted bugs apply, and are few" 0 "python3 '$here/tests/planted_bugs.py' --apply >&2"
 else
-    echo "not run, since python3 is missing: links and files that pages name, DEFINITIONS.md, planted bugs"
+    echo "not run, since python3 is missing: links and files that pages name, DEFINITIONS.md, HEADLINE.md, planted bugs"
 fi
 
 # ---- files and streams

@@ -1,17 +1,21 @@
 #!/usr/bin/env python3
-"""Writes docs/DEFINITIONS.md, the list of the definitions on which public promises rest.
+"""Writes the pages that are made of the definitions: docs/DEFINITIONS.md, the list of those on which public promises rest,
+and docs/HEADLINE.md, all that one promise rests on (promises.py).
 
-usage: tools/definitions.py            writes the page
-       tools/definitions.py --check    ends with status 1 where the page is not up to date
+usage: tools/definitions.py              writes the pages
+       tools/definitions.py --check      ends with status 1 where a page is not up to date
+       tools/definitions.py --of NAME    prints such a page of a definition, as of cert_checker/Headline.Headline
 
-Of a file it names the definitions that contracts of public functions name, and these functions.
+Of a file DEFINITIONS.md names the definitions that contracts of public functions name, and these functions.
 """
 import os
 import re
 import sys
 
-ROOT = os.path.dirname(os.path.dirname(os.path.realpath(__file__)))
-PAGE = f"{ROOT}/docs/DEFINITIONS.md"
+from promise_pages import Promises, page_of, page_of_name
+from promises import PAGES
+from spec_files import ROOT, SpecFiles, parts_of, text_of, uses_in
+
 # A line names at most so many functions.
 MOST_SHOWN = 2
 HEAD = """# Definitions
@@ -21,21 +25,9 @@ Contracts of public functions cite these definitions. `tools/definitions.py` mak
 Behind a file stand those of its definitions that are cited, and up to two functions that cite one, or types whose own contracts do. A file with nothing behind it has what others are made of. Files that only private contracts need are left out: no public promise rests on them.
 """
 
-USE = re.compile(r"^\s*(?:ghost )?(?:unfoldable )?(pub )?use Rattle\.(\w+)\.specs\.(\w+)(?:\.\{([^}]*)\}| as (\w+))?;?\s*$", re.M)
-# A crate below, as one that stands on it hands it on: Rattle.overlay_map.specs.res_value.ResId is res_value's.
-HANDED_ON = re.compile(r"Rattle\.\w+\.specs\.(?!declared\b|contracts\b)([a-z]\w*)\.")
-DEFINITION = re.compile(r"^(?:(?:abbrev|unfoldable|pub|record|data) )*(?!mod\b|use\b|pub\b|infix)(\S+)(?= :| \(| \{)")
-CONSTRUCTOR = re.compile(r"^ +(\w+) :")
-MODULE = re.compile(r"^pub mod (\w+)")
-WORD = re.compile(r"[^\W\d][\w'-]*(?:\.[^\W\d][\w'-]*)?")
 OWNER = re.compile(r"^(pub )?(impl|trait)\b(?:<.*?>(?= ))? (?:[\w:<>, ']+ for )?(\w+)")
 FUNCTION = re.compile(r"^\s*(pub )?(?:pub\(crate\) )?(?:const )?fn (\w+)")
 CLAUSE = re.compile(r"^\s*(?:ensures\b[^{]*|ghost \w+ = )\{")
-
-
-def text_of(file):
-    with open(file, encoding="utf-8") as it:
-        return it.read()
 
 
 def files_below(folder, ending):
@@ -47,130 +39,20 @@ def files_below(folder, ending):
     return found
 
 
-def crates():
-    """The crates, in the order of crates.txt."""
-    lines = text_of(f"{ROOT}/crates.txt").splitlines()
-    return [line.split(":")[0].split()[0] for line in lines if ":" in line and not line.startswith("#")]
-
-
-def parts_of(name):
-    """The words of a name; an operator's are those between its places."""
-    return [part for part in name.split("◌") if part]
-
-
-class Specs:
-    """A file of definitions: what it says, its names, and which names stand in which definition."""
-
-    def __init__(self, crate, name, text):
-        self.crate, self.name = crate, name
-        self.names = []  # those that are public, in the order of the file
-        self.owners = {}  # the definition of each name, of constructors too
-        self.bodies = {}
-        for block in blocks_of(text):
-            name = block[0][0]
-            if block[0][1]:
-                self.names.append(name)
-            self.owners[name] = name
-            self.bodies[name] = "\n".join(block[1])
-            if "data " in block[1][0]:
-                self.owners.update({found[1]: name for found in map(CONSTRUCTOR.match, block[1]) if found})
-        self.uses = uses_in(text)
-        self.given_on = [use for use in self.uses if use[0]]
-
-
-def blocks_of(text):
-    """Each definition of a file: its name, whether it is public, and its lines without comments."""
-    blocks = []
-    for line in text.splitlines():
-        found = DEFINITION.match(line)
-        is_head = found and (" pub " in f" {line}" or line.startswith(("abbrev ", "unfoldable ", "record ", "data ")))
-        if is_head:
-            blocks.append(((found[1], " pub " in f" {line}"), []))
-        if blocks and not line.lstrip().startswith("--"):
-            blocks[-1][1].append(line)
-    return blocks
-
-
-def uses_in(text):
-    """Each line that names a file of definitions: is it passed on, crate, file, names, alias."""
-    found = []
-    for given_on, crate, name, names, alias in USE.findall(HANDED_ON.sub(r"Rattle.\1.specs.", text)):
-        listed = [it.strip() for it in names.split(",") if it.strip()]
-        found.append((bool(given_on), crate, name, listed, alias))
-    return found
-
-
-class Reader:
+class Reader(SpecFiles):
     """All definitions, and what the contracts of functions say of them."""
 
     def __init__(self):
-        self.crates = crates()
-        self.specs = {}
-        for crate in self.crates:
-            folder = f"{ROOT}/crates/{crate}/specs"
-            for name in modules(folder):
-                self.specs[crate, name] = Specs(crate, name, text_of(f"{folder}/{name}.antt"))
-        self.moved = {}  # modules that a Lib.antt passes on
-        for crate in self.crates:
-            lib = f"{ROOT}/crates/{crate}/specs/Lib.antt"
-            given_on = [use for use in uses_in(text_of(lib)) if use[0]] if os.path.exists(lib) else []
-            self.moved.update({(crate, alias or name): (below, name) for _, below, name, names, alias in given_on if not names})
+        super().__init__()
         self.made_of = {}  # definition: the definitions that are made of it
         for file in self.specs.values():
-            known = self.known(file.uses)
-            known.update({name: (file.crate, file.name, owner) for name, owner in file.owners.items()})
+            known = self.known_in(file)
             for name, body in file.bodies.items():
                 above = (file.crate, file.name, name)
                 self.note(self.made_of, [below for below in self.named_in(body, known) if below != above], above)
         self.public, self.private = {}, {}  # definition: the functions whose contracts name it
         for crate in self.crates:
             self.read_code(crate)
-
-    def home(self, crate, file, name):
-        """Where a name that a file has, or passes on, is defined; None where it is none of ours."""
-        for _ in range(20):
-            crate, file = self.moved.get((crate, file), (crate, file))
-            specs = self.specs.get((crate, file))
-            if specs is None:
-                return None
-            if name in specs.owners:
-                return crate, file, specs.owners[name]
-            for _, below, below_file, names, _ in specs.given_on:
-                if name in names:
-                    crate, file = below, below_file
-                    break
-            else:
-                return None
-        return None
-
-    def known(self, uses):
-        """What the names mean that these lines bring."""
-        known = {}
-        for _, crate, file, names, alias in uses:
-            for name in names:
-                home = self.home(crate, file, name)
-                if home:
-                    known[name] = home
-            if alias:
-                at = self.moved.get((crate, file), (crate, file))
-                for name in self.specs[at].owners if at in self.specs else ():
-                    known[f"{alias}.{name}"] = self.home(crate, file, name)
-        return known
-
-    @staticmethod
-    def named_in(text, known):
-        """The definitions that a text names, in the order of `known`."""
-        words = set()
-        for word in WORD.findall(text):
-            words.add(word)
-            words.add(word.split(".")[0])
-        marks = set(text.split())
-        found = []
-        for name, home in known.items():
-            parts = parts_of(name)
-            if home not in found and (name in words if "◌" not in name else all(part in marks for part in parts)):
-                found.append(home)
-        return found
 
     def read_code(self, crate):
         folder = f"{ROOT}/crates/{crate}/src"
@@ -225,15 +107,6 @@ def functions(found, crate, order):
     return ", ".join(named[:MOST_SHOWN])
 
 
-def modules(folder):
-    """The files of definitions of a crate, in the order of its Lib.antt."""
-    lib = f"{folder}/Lib.antt"
-    if not os.path.exists(lib):
-        return []
-    found = [match[1] for match in map(MODULE.match, text_of(lib).splitlines()) if match]
-    return [name for name in found if os.path.exists(f"{folder}/{name}.antt")]
-
-
 def clauses_in(text):
     """Each clause that promises something: the type that it is of, the function, whether both can be public,
     and the clause."""
@@ -281,8 +154,8 @@ def line(reader, specs):
     return f"{link} {cited}: {functions(found, specs.crate, reader.crates)}"
 
 
-def page():
-    reader = Reader()
+def list_page(reader):
+    """The list of all definitions."""
     lines = [HEAD]
     for crate in reader.crates:
         files = [it for it in reader.specs.values() if it.crate == crate and it.names and not reader.is_private(it)]
@@ -291,19 +164,57 @@ def page():
     return "\n".join(lines).rstrip("\n") + "\n"
 
 
+def made_pages():
+    """The text of each page, by its file, and what is wrong with them."""
+    reader = Reader()
+    promises = Promises(reader)
+    made, faults = {"DEFINITIONS.md": list_page(reader)}, []
+    for page in PAGES:
+        made[page.file], found = page_of(promises, page)
+        faults += [f"docs/{page.file}: {fault}" for fault in found]
+    return made, faults
+
+
+def write(made):
+    for file, text in made.items():
+        with open(f"{ROOT}/docs/{file}", "w", encoding="utf-8") as it:
+            it.write(text)
+
+
+def out_of_date(made):
+    """The pages that are other ones now, or missing."""
+    paths = {f"docs/{file}": text for file, text in made.items()}
+    is_same = {path: os.path.exists(f"{ROOT}/{path}") and text_of(f"{ROOT}/{path}") == text for path, text in paths.items()}
+    return [f"{path} is not up to date: run tools/definitions.py" for path, same in is_same.items() if not same]
+
+
+def print_of(name):
+    """Prints the page of a definition; else says why not, with status 2."""
+    promises = Promises(SpecFiles())
+    homes = promises.homes(name)
+    if len(homes) != 1:
+        named = " ".join(f"{it.crate}/{it.file}.{it.name}" for it in homes)
+        print(f"{name}: {f'one of {named}?' if homes else 'no such definition'}", file=sys.stderr)
+        return 2
+    sys.stdout.write(page_of_name(promises, homes[0]))
+    return 0
+
+
 def main():
-    if sys.argv[1:] not in ([], ["--check"]):
+    words = sys.argv[1:]
+    if len(words) == 2 and words[0] == "--of":
+        return print_of(words[1])
+    if words not in ([], ["--check"]):
         print(__doc__, file=sys.stderr)
         return 2
-    made = page()
-    if sys.argv[1:]:
-        if not os.path.exists(PAGE) or text_of(PAGE) != made:
-            print("docs/DEFINITIONS.md is not up to date: run tools/definitions.py", file=sys.stderr)
-            return 1
-        return 0
-    with open(PAGE, "w", encoding="utf-8") as it:
-        it.write(made)
-    return 0
+    made, faults = made_pages()
+    if words:
+        faults += out_of_date(made)
+    else:
+        write(made)
+    for fault in faults:
+        print(fault, file=sys.stderr)
+    return 1 if faults else 0
 
 
 if __name__ == "__main__":
