@@ -3,11 +3,11 @@ import re
 
 from code_files import CodeFiles, Home, items_of
 from promises import LIBRARY, SIGNS, Page, Part
-from spec_files import ROOT, Passages, modules, uses_in
+from spec_files import ROOT, Passages, modules, uses_in, with_own_crates
 
-HANDED_ON = re.compile(r"Rattle\.\w+\.specs\.([a-z]\w*)\.declared\.")
 TYPE_USE = re.compile(r"use Rattle\.(\w+)\.specs\.declared\.(\w+)\.(\w+)(\.TheVariants)?(?:\.\{([^}]*)\}| as (\w+))")
 LIBRARY_USE = re.compile(r"use Rattle\.(\w+)\.specs\.[\w.]*\.\{([^}]*)\}")
+ANY_USE = re.compile(r"^(?:pub )?use Rattle\.[\w.]*?(?:\.\{([^}]*)\}| as (\w+))$", re.M)
 # What a definition begins with that says nothing of its meaning.
 MODIFIERS = re.compile(r"^(?:abbrev |unfoldable |pub )+", re.M)
 NAME = re.compile(r"[\w.'-]*\w")
@@ -33,7 +33,7 @@ class Promises:
 
     def known_in(self, text):
         """What the names mean that a text brings."""
-        text = HANDED_ON.sub(r"Rattle.\1.specs.declared.", text)
+        text = with_own_crates(text)
         known = {name: Home(*home) for name, home in self.files.known(uses_in(text)).items()}
         for crate, module, name, variants, listed, alias in TYPE_USE.findall(text):
             if crate in self.files.crates:
@@ -46,17 +46,30 @@ class Promises:
                 known.update({called: Home(crate, None, name) for name, called in items_of(listed)})
         return known
 
+    def known_at(self, at):
+        """What the names mean that a file of definitions has or brings."""
+        if at not in self.known:
+            specs = self.files.specs[at]
+            own = {name: Home(*at, owner) for name, owner in specs.owners.items()}
+            self.known[at] = {**self.known_in(specs.text), **own}
+        return self.known[at]
+
+    def unknown_at(self, at):
+        """The names that a file of definitions brings, and of which it is not known what they mean."""
+        known = self.known_at(at)
+        known_aliases = {name.split(".")[0] for name in known if "." in name}
+        uses = ANY_USE.findall(self.files.specs[at].text)
+        names = [called for listed, _ in uses for _, called in items_of(listed) if called not in known]
+        return names + [alias for _, alias in uses if alias and alias not in known_aliases]
+
     def below(self, home):
         """What a definition, or a type, is made of."""
         if home.file is None:
             return []
         if is_type(home):
             return self.code.parts(home)
-        specs = self.files.specs[home.crate, home.file]
-        if specs not in self.known:
-            own = {name: Home(home.crate, home.file, owner) for name, owner in specs.owners.items()}
-            self.known[specs] = {**self.known_in(specs.text), **own}
-        return [it for it in self.named_in(specs.bodies[home.name], self.known[specs]) if it != home]
+        body = self.files.specs[home[:2]].bodies[home.name]
+        return [it for it in self.named_in(body, self.known_at(home[:2])) if it != home]
 
     def named_in(self, text, known):
         empty = [home for name, home in known.items() if name == "[]" and name in text]
@@ -268,6 +281,8 @@ def page_of(promises, page):
     head = [page.head, *made.outline(), "## Signs", "", SIGNS, ""]
     end = ["## Words of the library", "", *library(words), page.tail, "## Index", "", made.index()]
     faults = [f"LIBRARY in tools/promises.py does not say what {word} means" for word in untold(words)]
+    files = [at for at in dict.fromkeys(home[:2] for home in made.anchors) if at in promises.files.specs]
+    faults += [f"{link_of(at)} brings {name} from nowhere" for at in files for name in promises.unknown_at(at)]
     faults += told_late(promises, [it for it in made.anchors if it[:2] != first], named_alone)
     return "\n".join([*head, *body, *end]) + "\n", faults
 

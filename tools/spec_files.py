@@ -5,8 +5,8 @@ from collections import namedtuple
 
 ROOT = os.path.dirname(os.path.dirname(os.path.realpath(__file__)))
 USE = re.compile(r"^\s*(?:ghost )?(?:unfoldable )?(pub )?use Rattle\.(\w+)\.specs\.(\w+)(?:\.\{([^}]*)\}| as (\w+))?;?\s*$", re.M)
-# A crate below, as one that stands on it hands it on: Rattle.overlay_map.specs.res_value.ResId is res_value's.
-HANDED_ON = re.compile(r"Rattle\.\w+\.specs\.(?!declared\b|contracts\b)([a-z]\w*)\.")
+# A crate below, as those that stand on it hand it on: Rattle.overlay_map.specs.res_value.ResId is res_value's.
+HANDED_ON = re.compile(r"Rattle\.\w+\.specs\.(?:(?!declared\b|contracts\b)([a-z]\w*)\.)+(?=[A-Z]|declared\b|contracts\b)")
 DEFINITION = re.compile(r"^(?:(?:abbrev|unfoldable|pub|record|data) )*(?!mod\b|use\b|pub\b|infix)(\S+)(?= :| \(| \{)")
 CONSTRUCTOR = re.compile(r"^ +(\w+) :")
 MODULE = re.compile(r"^pub mod (\w+)")
@@ -65,10 +65,15 @@ def blocks_of(text):
     return blocks
 
 
+def with_own_crates(text):
+    """A text in whose lines each path begins with the crate that defines what it leads to."""
+    return HANDED_ON.sub(r"Rattle.\1.specs.", text)
+
+
 def uses_in(text):
     """Each line that names a file of definitions: is it passed on, crate, file, names, alias."""
     found = []
-    for given_on, crate, name, names, alias in USE.findall(HANDED_ON.sub(r"Rattle.\1.specs.", text)):
+    for given_on, crate, name, names, alias in USE.findall(with_own_crates(text)):
         listed = [it.strip() for it in names.split(",") if it.strip()]
         found.append((bool(given_on), crate, name, listed, alias))
     return found
