@@ -8,7 +8,7 @@ use Rattle.overlay_map.specs.Layer.{LayerOf}
 use Rattle.res_value.specs.Goal.{GoalSeen, IdGoal, AttrGoal}
 use Rattle.name_words.specs.Named.{NamedOf, ById, ByName}
 use Rattle.name_words.specs.NamedSet.{NamedSetOf, SetOfOne, SetOfType, SetOfAll}
-use Rattle.name_words.specs.NamedGoal.{GoalsOfSet, GoalOfAttr}
+use Rattle.name_words.specs.NamedGoal.{GoalOfIds, GoalsOfSet, GoalOfAttr}
 use Rattle.named_resources.specs.declared.fault.NameFault.{NameFault}
 use Rattle.named_resources.specs.NameFault.{GivesNamed}
 use Rattle.named_resources.specs.NamedIds.{name_text, id_of_name, id_named, ids_of_rows, ids_of_set}
@@ -50,6 +50,12 @@ of-type layers type_name = refl
 pub of-all : (layers : List LayerOf) → ids_of_set layers SetOfAll ≡ ids_of_rows layers None
 unfolding ids_of_set
 of-all layers = refl
+
+-- ---- a goal of ids
+
+pub ids-found : (layers : List LayerOf) (goal : GoalSeen) (so_far : List GoalSeen) → with_front so_far (goals_of_word layers (GoalOfIds goal)) ≡ Ok (so_far ++ goal ∷ [])
+unfolding goals_of_word
+ids-found layers goal so_far = refl
 
 -- ---- goals of a set
 

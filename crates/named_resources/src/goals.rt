@@ -1,6 +1,6 @@
 //! The goals of words.
 
-ghost use Rattle.std.specs.Prelude.{◌≡◌, ℕ, ◌++◌, List, map, OnOk};
+ghost use Rattle.std.specs.Prelude.{◌≡◌, ℕ, ◌++◌, List, map, IfOk, OnOk};
 ghost use Rattle.contract_words.specs.Sequences.{with_front};
 ghost use Rattle.overlay_map.specs.Layer.{LayerOf};
 ghost use Rattle.res_value.specs.Goal.{goal_seen, IdGoal};
@@ -49,7 +49,7 @@ fn push_goals(
 {
     match word {
         NamedGoal::Ids(goal) => {
-            all.push(goal.clone()?)?;
+            all.push(copied(goal)?)?;
             Ok(())
         }
         NamedGoal::Resources(set) => {
@@ -64,6 +64,13 @@ fn push_goals(
             Ok(())
         }
     }
+}
+
+// The same goal, with styles of its own.
+fn copied(goal: &Goal) -> Result<Goal, AllocError>
+    ensures { IfOk result (λ copied. goal_seen copied ≡ goal_seen goal.now) }
+{
+    goal.clone()
 }
 
 // Pushes a goal for each id.

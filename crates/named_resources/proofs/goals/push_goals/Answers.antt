@@ -1,4 +1,4 @@
-use Rattle.std.proofs.Common.{◌++◌, List, map, Result, Ok, ℕ, sym, ap, subst, ◌∙◌}
+use Rattle.std.proofs.Common.{◌++◌, List, [], ◌∷◌, map, Result, Ok, ℕ, sym, ap, subst, ◌∙◌}
 use Rattle.std.proofs.lemmas.List.{map-append}
 use Rattle.std.proofs.lemmas.Result.{err_from_is_err_and}
 use Rattle.std.specs.List.{flat_map}
@@ -16,14 +16,23 @@ use Rattle.named_resources.specs.Finder.{Tells}
 use Rattle.named_resources.specs.NamedIds.{id_named}
 use Rattle.named_resources.specs.NamedGoals.{goals_of_word}
 use Rattle.named_resources.proofs.TellsSteps.{Tells-attr}
-use Rattle.named_resources.proofs.WordSteps.{set-found, set-missing, attr-found, attr-missing, style-missing}
+use Rattle.named_resources.proofs.WordSteps.{ids-found, set-found, set-missing, attr-found, attr-missing, style-missing}
 use Rattle.named_resources.proofs.goals.push_goals.Goals as goal
+
+pub returns-in_ok-push-in-Ids-clause-found : goal.returns-in_ok-push-in-Ids-clause-found
+returns-in_ok-push-in-Ids-clause-found c = λ layers names told.
+    let old = c.args.all.now.items in
+    let so_far = map goal_seen old in
+    let wrapped : List GoalSeen → Result (List GoalSeen) (List ℕ) = λ goals. Ok goals in
+    ap (λ (word : NamedGoal). with_front so_far (goals_of_word layers (named_goal_of word))) c.in-Ids.is
+    ∙ ids-found layers (goal_seen c.in-Ids.goal) so_far
+    ∙ ap wrapped (sym (ap (λ (goals : List Goal). map goal_seen goals) c.in_ok-push-in-Ids.ensures.items ∙ map-append goal_seen old _ ∙ ap (λ (goal : GoalSeen). so_far ++ goal ∷ []) c.in_ok-copied-in-Ids.ensures))
 
 pub returns-in_err-ids-in-Resources-clause-found : goal.returns-in_err-ids-in-Resources-clause-found
 returns-in_err-ids-in-Resources-clause-found c = λ layers names told.
     let so_far = map goal_seen c.args.all.now.items in
     let of_set = subst (λ (word : NamedGoal). Tells layers (names_in_goal (named_goal_of word) ++ names) c.args.finder.now) c.in-Resources.is told in
-    let p = err_from_is_err_and c.from_residual.result c.from_residual.ensures.1 in
+    let p = err_from_is_err_and c.from_residual-in_err-ids-in-Resources.result c.from_residual-in_err-ids-in-Resources.ensures.1 in
     rw (p.1, p.2) (λ other.
     ap (λ (word : NamedGoal). with_front so_far (goals_of_word layers (named_goal_of word))) c.in-Resources.is
     ∙ set-missing layers _ so_far _ (c.in_err-ids-in-Resources.ensures.found layers names of_set other))
