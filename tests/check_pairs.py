@@ -3,7 +3,7 @@
 
     check_pairs.py PROGRAM CASES [JOBS [FIRST]]
 
-PROGRAM is `table_calls`, which prints a line for each pair. The tables are those of named_tables.py: many of their names are in
+PROGRAM is `test_calls`, which prints a line for each pair. The tables are those of named_tables.py: many of their names are in
 several tables, twice in one, are no text or cannot be read. The cases are numbered from FIRST on, which is 0 if it is not given.
 The last line counts what was compared."""
 import json
@@ -54,7 +54,7 @@ def check_case(program, number):
     chance = random.Random(number)
     old = random_layers(chance)
     new = chance.choice((random_layers(chance), old, chance.sample(old, len(old))))
-    done = subprocess.run([program, "name_pairs", word_of(old), word_of(new)], capture_output=True)
+    done = subprocess.run([program, "tables", "name_pairs", word_of(old), word_of(new)], capture_output=True)
     said, wanted = done.stdout.decode().splitlines(), list(plain_pairs(old, new))
     if said == wanted and not done.returncode:
         return "", len(wanted)

@@ -124,7 +124,7 @@ def tried_on_crate(edit, copy):
 
 def tried_on_calls(edit, copy):
     """Runs the rows of a call, to which no memory is refused."""
-    named = [({row.words[0], f"{row.words[0]} {row.words[-1]}"}, row) for row in [*rows(), *WITHOUT_MEMORY]]
+    named = [({row.name, f"{row.name} {row.words[-1]}"}, row) for row in [*rows(), *WITHOUT_MEMORY]]
     asked = [row for names, row in named if edit.test in names]
     for row in asked:
         ran = Run([*RT, "try", "--", *row.words], copy / "crates" / row.program)

@@ -12,7 +12,7 @@ import sys
 
 LIST = os.path.join(os.path.dirname(os.path.dirname(os.path.realpath(__file__))), "crates.txt")
 MOST = 1800
-MOST_OF = {"restool": 2600, "command_calls": 2700}
+MOST_OF = {"restool": 2600, "test_calls": 2200, "test_commands": 2700}
 
 
 def counted(lines):

@@ -7,57 +7,50 @@
 LIBRARY is refuse.c, built to be preloaded. The programs are those that are built in crates/, all where none is named;
 --programs prints their names. Each row runs once for each growth of memory in which this one is refused, and once more
 in which all from there on are; what the call is given is made before. Calls that take no memory run with every growth
-refused. No public call that takes memory may be missing. The last line is 'N passed, M failed'."""
+refused. A row is named after the one public call that it makes, or, where that takes no memory, after a crate. Each
+public call that takes memory has a row, or is told to be made in turn by one that has, and is. The last line is 'N passed, M failed'."""
 import os
-import re
 import subprocess
 import sys
 import tempfile
 from concurrent.futures import ThreadPoolExecutor
 from pathlib import Path
 
+from library import Library, full_name
 from worked_calls import REACHED, WITHOUT_MEMORY, rows
 
 HERE = Path(__file__).resolve().parent.parent.parent
 WANTS = ("OutOfMemory", "AllocError")
 """What a call says where memory runs out."""
-OF_THE_PROGRAM = ("command_words", "program_run", "restool")
-"""Crates whose calls refusals.py refuses memory."""
-OF_TESTS = re.compile(r"^test_|_acceptance$|_calls$")
-"""Crates that nothing which is built for users stands on."""
-HEAD = re.compile(
-    r"^impl\b.*?(?P<type>\w+)(?:<[^>]*>)? \{$|^(?P<indent> *)pub fn (?P<name>\w+)(?P<head>.*?)(?=^ *(?:requires|ensures|where)\b|\{)",
-    re.M | re.S,
-)
-"""The head of an impl, or of a public function without its contract."""
-TAKES = re.compile(r"alloc: Global|OutOfMemory|AllocError|NoMemory|StackFault|BagFault")
-"""What says in a function's head that it takes memory."""
 NEVER_MADE = 1 << 40
 MOST_SHOWN = 400
 MOST_SECONDS = 60
 
 
-def taking_memory():
-    """The public functions that take memory, each with its file."""
-    for path in sorted((HERE / "crates").glob("*/src/**/*.rt")):
-        crate = path.relative_to(HERE / "crates").parts[0]
-        if crate in OF_THE_PROGRAM or OF_TESTS.search(crate):
-            continue
-        owner = ""
-        for found in HEAD.finditer(path.read_text()):
-            if found["type"]:
-                owner = f"{found['type']}::"
-            elif TAKES.search(found["head"]):
-                yield f"{owner if found['indent'] else ''}{found['name']}", path.relative_to(HERE)
+def name_of(row):
+    """The call of a row, without how it is made."""
+    return row.name.split()[0]
 
 
-def missing(names):
-    """The functions that take memory, and that no row is named after or reaches."""
-    called = {word for name in names for word in name.split()[:1]}
-    reached = {name for call in REACHED if call in called for name in REACHED[call].split()}
-    for name, path in taking_memory():
-        if not {name, name.rpartition("::")[2]} & called and name not in reached:
-            yield f"{name} in {path}"
+def faults_of_names(library):
+    """What rows are named after that is no public call, or is several; what a call is said to make in turn and does not;
+    and the calls that take memory and are neither."""
+    public, tried = library.public(), set()
+    for name in sorted({name_of(row) for row in rows()} | {name_of(row) for row in WITHOUT_MEMORY} - {*library.below}):
+        if len(public[name]) != 1:
+            yield f"{len(public[name])} public calls are named {name}"
+    for name in {name_of(row) for row in rows()}:
+        tried.update(public[name])
+    for name, in_turn in REACHED.items():
+        reached = library.reached(call for call in public[name] if call in tried)
+        for told in in_turn.split():
+            made = [call for call in public[told] if call in reached]
+            tried.update(made)
+            if not made:
+                yield f"{name} has no row, or does not make {told}"
+    for call in (it for named in public.values() for it in named):
+        if call.takes_memory and call not in tried:
+            yield f"no row for {full_name(call)} of {call.crate}"
 
 
 class Calls:
@@ -126,17 +119,17 @@ def main(words):
         print(*sorted(programs))
         return
     calls, asked = Calls(os.path.abspath(words[0])), {*words[1:]} or programs
-    left_out = [*missing({row.words[0] for row, _ in tried})]
-    for name in left_out:
-        print(f"failed: no row for {name}")
+    wrong_names = [*faults_of_names(Library())]
+    for fault in wrong_names:
+        print(f"failed: {fault}")
     tried = [(row, faults_of) for row, faults_of in tried if row.program in asked]
-    failed = len(left_out)
+    failed = len(wrong_names)
     with ThreadPoolExecutor(os.cpu_count()) as pool:
         for (row, _), found in zip(tried, pool.map(lambda test: list(test[1](calls, test[0])), tried)):
             failed += bool(found)
             if found:
-                print(f"failed: {row.program} {row.words[0]}: {len(found)} faults, the first: {found[0][:MOST_SHOWN]}")
-    print(f"{len(tried) + len(left_out) - failed} passed, {failed} failed")
+                print(f"failed: {row.program} {row.name}: {len(found)} faults, the first: {found[0][:MOST_SHOWN]}")
+    print(f"{len(tried) + len(wrong_names) - failed} passed, {failed} failed")
     sys.exit(failed > 0)
 
 

@@ -1,9 +1,19 @@
 """Calls of the library, each on worked rows with its answer there. For calls.py."""
+import subprocess
+import sys
 from collections import namedtuple
+from pathlib import Path
 
-Row = namedtuple("Row", "program words answer unchanged")
-"""A program of crates/, the words that it is given, the call's name first, the lines that it prints, and those that it
-prints of what the call is to change where it is refused."""
+TESTS = Path(__file__).resolve().parent.parent
+BENCH = TESTS.parent / "bench"
+sys.path.append(str(TESTS))
+
+from made_layers import NamedTable, Resource, ids_of
+from plain_rules import Record
+
+Row = namedtuple("Row", "program name words answer unchanged")
+"""A program of crates/, the name of a call, behind which can stand how it is made, the words that the program is given,
+the lines that it prints, and those that it prints of what the call is to change where it is refused."""
 
 ID = "0x7f010000"
 FIRST, SECOND, NINTH = (f"ResId({0x7F010000 + place})" for place in (0, 1, 9))
@@ -16,8 +26,10 @@ K = 'Name { package: 127, type_name: "s", entry_name: "k" }'
 """The label of the entry of table B."""
 
 
-def row(program, words, answer, unchanged=()):
-    return Row(program, words.split("\0") if isinstance(words, str) else list(words), answer.split("\n"), list(unchanged))
+def row(group, words, answer, unchanged=()):
+    """Of test_commands, or of a group of test_calls."""
+    program, given = ("test_commands", words) if group == "commands" else ("test_calls", [group, *words])
+    return Row(program, words[0], list(given), answer.split("\n"), list(unchanged))
 
 
 def value(meant, layer=0):
@@ -74,11 +86,11 @@ UNSET_GOAL = under("0x01010002", ID)
 MEDIUM = '{"density":160}'
 MEDIUM_BOX = '{"density":[160]}'
 DENSITIES = "0 [density=160] 1\n0 [density=320] 2"
-TO_197, TO_198 = ('{"density":{"from":120,"to":%d}}' % last for last in (197, 198))
+TO_197, TO_198, TO_640 = ('{"density":{"from":120,"to":%d}}' % last for last in (197, 198, 640))
 LOCALES = "0 [locale=fr] 1\n0 [locale=de] 2"
 BOTH_LOCALES = '{"density":[160],"locale":["fr","de"]}'
 MANY = 30
-"""So many rows that sorting them takes memory."""
+"""So many rows that sorting them takes memory, and so many tests in a row that a list of open paths grows."""
 BAGS = """\
 1 [] bag 0x00000000 0x01010001=9 0x01010002=2
 0 [] bag 0x7f010001 0x01010001=1 0x01010003=3"""
@@ -88,13 +100,27 @@ STYLES = """\
 STYLED_DENSITIES = """\
 0 [] bag 0x00000000 0x01010001=1
 0 [density=320] bag 0x00000000 0x01010001=2"""
+SHARED_BAGS = ("shared", "60", "10")
+"""So many entries share a bag of so many rows that opening their table counts rows, which takes memory."""
 
 
-def reading_rows():
+def shared_bags():
+    """The bytes of a table whose entries share a bag."""
+    words = [sys.executable, BENCH / "make_shared_bags.py", *SHARED_BAGS, "/dev/stdout"]
+    return "#" + subprocess.run(words, check=True, capture_output=True).stdout.hex()
+
+
+def named_in_utf16(cell):
+    """The bytes of a table with one entry, whose names are UTF-16: to read them takes memory."""
+    resources = [Resource("s", "k", [(Record({}), cell)])]
+    return "#" + NamedTable(resources, ids_of(resources), is_utf16=True).bytes.hex()
+
+
+def text_rows():
     """Texts, and bytes."""
 
     def read(name, text, answer):
-        return row("reading_calls", [name, text], answer)
+        return row("texts", [name, text], answer)
 
     yield read("Device::read", '{"density":480,"locale":"es-419"}', "locale=es-419 density=480")
     yield read("Device::read", '{"density":32768}', "Density")
@@ -104,7 +130,8 @@ def reading_rows():
     yield read("IdMap::read", f'[["{ID}","{ID}"],["{ID}","0x7f010001"]]', f"Repeated({FIRST})")
     yield read("IdMap::read", f'[["{ID}","{ID}"],["0x01010000","0x7f010001"]]', "OtherPackage(ResId(16842752))")
     yield read("IdMap::read", '[["0x7f01"]]', "Shape")
-    yield read("ConfigBox::read", '{"density":{"from":120,"to":640}}', "Range(120, 640)")
+    yield read("IdMap::read", "[", "Syntax")
+    yield read("ConfigBox::read", TO_640, "Range(120, 640)")
     yield read("ConfigBox::read", '{"density":[480,160,160]}', "Numbers([160, 480])")
     yield read("ConfigBox::read", '{"density":[]}', "Empty(Density)")
     yield read("ConfigBox::read", '{"locale":["fr"]}', "Density")
@@ -112,19 +139,20 @@ def reading_rows():
     yield read("ConfigBox::read", '{"density":[160],"night":[4]}', "FieldRange(Night)")
     many = ",".join(map(str, range(1, 514)))
     yield read("ConfigBox::read", f'{{"density":[{many}]}}', "TooMany(Density)")
-    yield read("split", '{"density":{"from":120,"to":640}}', "Range(120, 197)\nRange(198, 640)")
+    yield row("texts", ["ConfigBox::split", TO_640, "197"], "Range(120, 197)\nRange(198, 640)")
     low, middle, high = (f'{{"density":{{"from":{first},"to":{last}}}}}' for first, last in ((120, 197), (198, 319), (321, 640)))
-    yield row("reading_calls", ["ConfigBox::joined", middle, low], "Range(120, 319)")
-    yield row("reading_calls", ["ConfigBox::joined", '{"density":[160,320]}', '{"density":[240]}'], "Numbers([160, 240, 320])")
+    yield row("texts", ["ConfigBox::joined", middle, low], "Range(120, 319)")
+    yield row("texts", ["ConfigBox::joined", '{"density":[160,320]}', '{"density":[240]}'], "Numbers([160, 240, 320])")
     german, both, english = (f'{{"density":[160],"locale":[{texts}]}}' for texts in ('"de"', '"de","fr"', '"en"'))
-    yield row("reading_calls", ["ConfigBox::joined", both, english], "Numbers([160])")
-    yield row("reading_calls", ["ConfigBox::joined", both, german], '"no one box"')
-    yield row("reading_calls", ["join_boxes", middle, high, low], "Range(120, 319)\nRange(321, 640)")
+    yield row("texts", ["ConfigBox::joined", both, english], "Numbers([160])")
+    yield row("texts", ["ConfigBox::joined", both, german], "no one box")
+    yield row("texts", ["join_boxes", middle, high, low], "Range(120, 319)\nRange(321, 640)")
     one_leaf = written(WRITTEN_STYLED, written_leaf(1), version=2)
     yield read("Cert::read", certificate(leaf(1), goal=STYLED_GOAL, version=2), one_leaf)
     yield read("Cert::read", certificate(leaf(1), version=3), "Version")
     yield read("Cert::read", certificate('{"bag":5}'), "Shape(0, 0)")
     yield read("Cert::write", certificate(leaf(1)), written(WRITTEN_ID, written_leaf(1)))
+    yield read("Cert::write", certificate(leaf(1), goal=STYLED_GOAL, version=2), one_leaf)
     styled = f"Attr {{ attr: {A}, styles: [{FIRST}] }}"
     yield read("Goal::read", STYLED, styled)
     yield read("Goal::read", "0x01010001@", "Malformed")
@@ -137,23 +165,28 @@ def reading_rows():
     yield read("LayerList::read", '[{"table":"a"},{"table":"b","map":"m"}]', '[("a", None), ("b", Some("m"))]')
     yield read("LayerList::read", "{}", "Shape")
     yield read("open_side", "A", "1")
+    yield read("open_side", shared_bags(), "1")
     yield read("read_input", "aaa", "true\nNone")
+    for limit, answer in (("3", "3"), ("2", "TooLarge")):
+        yield row("texts", ["read_input with a limit", "aaa", limit], answer)
     yield read("read_input of many bytes", "", "true")
 
 
 def table_rows():
     """Tables, and the layers of a stack."""
     five = "Plain(Value { kind: 16, word: 5 })"
-    yield row("table_calls", ["Table::open", "A"], f"{FIRST} {five}")
-    yield row("table_calls", ["find_names", "B", "k"], f"[Some({FIRST}), None]")
+    yield row("tables", ["Table::open", "A"], f"({FIRST}, {five})")
+    yield row("tables", ["Table::open", "A 357=1"], f"({FIRST}, {five})")
+    yield row("tables", ["find_names", "B", "k"], f"[Some({FIRST}), None]")
     by_id = f"Id({FIRST}) Removed {{ old: {FIRST} }}"
-    yield row("table_calls", ["name_pairs", "A", "B"], f"{K} Added {{ new: {FIRST} }}\n{by_id}")
-    yield row("table_calls", ["name_pairs", "B", "B"], f"{K} Both {{ old: {FIRST}, new: {FIRST} }}")
+    yield row("tables", ["name_pairs", "A", "B"], f"{K} Added {{ new: {FIRST} }}\n{by_id}")
+    for table in ("B", named_in_utf16((0x10, 5))):
+        yield row("tables", ["name_pairs", table, table], f"{K} Both {{ old: {FIRST}, new: {FIRST} }}")
     base, overlay = "0 [locale=fr] 1", "0 [locale=fr] 2"
-    of_base = f"layer 0 Plain({ONE})"
-    yield row("table_calls", ["push_base", base], f"1 layers\n{of_base}", ["0 layers"])
-    both = f"2 layers\n{of_base}\nlayer 1 Plain({TWO})"
-    yield row("table_calls", ["push_overlay", base, overlay], both, ["1 layers", of_base])
+    of_base = f"(0, Plain({ONE}))"
+    yield row("tables", ["Stack::push_base", base], f"1\n{of_base}", ["0"])
+    both = f"2\n{of_base}\n(1, Plain({TWO}))"
+    yield row("tables", ["Stack::push_overlay", base, overlay], both, ["1", of_base])
 
 
 def named_rows():
@@ -168,7 +201,7 @@ def named_rows():
         ("goals_named", "s/*", f"[Id({FIRST})]"),
         ("goals_named", "0x01010001@s/k", f"[Attr {{ attr: {A}, styles: [{FIRST}] }}]"),
     ):
-        yield row("named_calls", [name, "B", word], answer)
+        yield row("names", [name, "B", word], answer)
     yield from pair_rows()
 
 
@@ -177,7 +210,7 @@ def pair_rows():
     so many ids without names that they fill more than one node of a tree."""
 
     def ask(old, new, words, answer):
-        return row("named_calls", ["pairs_named", old, new, *words], answer)
+        return row("names", ["pairs_named", old, new, *words], answer)
 
     by_name = pair(K, f"Added {{ new: {FIRST} }}")
     by_id = pair(f"Id({FIRST})", f"Removed {{ old: {FIRST} }}")
@@ -197,30 +230,32 @@ def pair_rows():
 def stack_rows():
     """Bags and themes."""
     merged = zip((A, B, C), (1, 2, 3))
-    of_bag = "\n".join(f"{name} layer 0 Value {{ kind: 16, word: {word} }}" for name, word in merged)
-    yield row("stack_calls", ["bag", BAGS], of_bag)
-    yield row("stack_calls", ["content_at", "0 [] string"], "!NoSuch")
+    of_bag = "\n".join(f"({name}, 0, Value {{ kind: 16, word: {word} }})" for name, word in merged)
+    yield row("stacks", ["bag", BAGS], of_bag)
+    yield row("stacks", ["content_at", "0 [] string"], "!NoSuch")
+    yield row("stacks", ["content_at", named_in_utf16("?s/k")], "?s/k")
     numbers = [(f"{0x01010001 + place:#010x}", place) for place in range(MANY)]
     many = " ".join(f"{name}={number}" for name, number in reversed(numbers))
     said = "\n".join(f"{name}\ndecimal {number}" for name, number in numbers)
-    yield row("stack_calls", ["content_at", f"0 [] bag 0x00000000 {many}"], said)
+    yield row("stacks", ["content_at", f"0 [] bag 0x00000000 {many}"], said)
     unset = [absent(C), absent(D)]
     before = [value(ONE), value(EMPTY), *unset]
     after = [value(ONE), value(EMPTY), value(ONE), unset[1]]
     forced = [value(TWO), value(TWO), value(TWO), unset[1]]
-    yield row("stack_calls", ["apply", STYLES], "\n".join(after), before)
-    yield row("stack_calls", ["apply with force", STYLES], "\n".join(forced), before)
-    yield row("stack_calls", ["Theme::of_styles", STYLES], "\n".join(after))
+    yield row("stacks", ["Theme::apply", STYLES], "\n".join(after), before)
+    yield row("stacks", ["Theme::apply with force", STYLES], "\n".join(forced), before)
+    yield row("stacks", ["Theme::apply first", STYLES], "\n".join(before), [absent(A), absent(B), *unset])
+    yield row("stacks", ["Theme::of_styles", STYLES], "\n".join(after))
 
 
 def goal_rows():
     """Goals of both kinds."""
 
     def ask(name, table, members, answer, goal=ID_GOAL, nodes=""):
-        return row("goal_calls", [name, table, members, certificate(goal=goal, version=2), nodes], answer)
+        return row("goals", [name, table, members, certificate(goal=goal, version=2), nodes], answer)
 
     yield ask("Live::new", LOCALES, BOTH_LOCALES, f"(Plain({ONE}), false)\n(Plain({TWO}), false)")
-    yield ask("half", LOCALES, BOTH_LOCALES, f"(Plain({TWO}), true)")
+    yield ask("Live::half", LOCALES, BOTH_LOCALES, f"(Plain({TWO}), true)")
     yield ask("goal_end", STYLED_DENSITIES, MEDIUM_BOX, value(ONE), STYLED_GOAL)
     two_styles = "0 [] bag 0x00000000 0x01010001=1\n1 [] bag 0x00000000 0x01010001=7"
     yield ask("goal_end", two_styles, MEDIUM_BOX, value(SEVEN), under("0x01010001", ID, "0x7f010001"))
@@ -243,12 +278,15 @@ def check_rows(ask):
     valueless = f"Rejected {{ goal: 0, node: 0, rule: NoValue, shown: One({device(120)}, {absent(NINTH)}) }}"
     of_ninth = certificate(leaf(1), goal=ninth, version=2)
     yield ask("check", STYLED_DENSITIES, TO_198, valueless, ninth, of_ninth)
+    unset = f"Rejected {{ goal: 0, node: 0, rule: NoValue, shown: One({device(160)}, {absent(B)}) }}"
+    yield ask("check", STYLED_DENSITIES, MEDIUM_BOX, unset, UNSET_GOAL, certificate(leaf(1), goal=UNSET_GOAL, version=2))
 
 
 def make_rows(ask):
     yield ask("make", "0 [] 1", MEDIUM_BOX, written(WRITTEN_ID, written_leaf(1)))
     at_most = '{"atMost":197,"coord":"density"}'
     yield ask("make", DENSITIES, TO_198, written(WRITTEN_ID, at_most, written_leaf(1), written_leaf(2)))
+    yield ask("make", DENSITIES, TO_198, "NodeLimit", nodes="1")
     german = f"Counter {{ goal: 0, device: {device(160, GERMAN)}, ending: {absent(FIRST)} }}"
     yield ask("make", "0 [locale=fr] 1", BOTH_LOCALES, german)
     of_styled = written(WRITTEN_STYLED, at_most, written_leaf(1), written_leaf(2), version=2)
@@ -264,10 +302,10 @@ def diff_rows(ask):
     other = DENSITIES.replace("] 2", "] 3")
     yield ask("compare_stacks", DENSITIES, TO_197, "0", nodes=other)
     yield ask("compare_stacks", DENSITIES, TO_198, "1\ndecimal 2\ndecimal 3\n1", nodes=other)
-    yield ask("compare_stacks", "0 [locale=fr] 1", BOTH_LOCALES, f'1\n"Absent"\n{ID}\ndecimal 2\n1', nodes=LOCALES)
-    yield ask("compare_with_itself", DENSITIES, TO_198, '0\n"Added"', nodes="0 [] 1\n1 [] 2")
+    yield ask("compare_stacks", "0 [locale=fr] 1", BOTH_LOCALES, f"1\nAbsent\n{ID}\ndecimal 2\n1", nodes=LOCALES)
+    yield ask("compare_with_itself", DENSITIES, TO_198, "0\nAdded", nodes="0 [] 1\n1 [] 2")
     many = "\n".join(f"{entry} [] 1" for entry in range(11))
-    yield ask("compare_with_itself", many, MEDIUM_BOX, '"NodeLimit"', nodes=many)
+    yield ask("compare_with_itself", many, MEDIUM_BOX, "NodeLimit", nodes=many)
 
 
 def omit_rows(ask):
@@ -302,14 +340,14 @@ def command_rows():
     """Commands over bytes and a writer. After a fault the number of writes is told."""
 
     def ask(name, table, answer, of="", goal=ID_GOAL, nodes=""):
-        return row("command_calls", [name, table, of, certificate(goal=goal, version=2), nodes], answer)
+        return row("commands", [name, table, of, certificate(goal=goal, version=2), nodes], answer)
 
     two = f"row {ID} [density=160] decimal 2\nrow {ID} [] decimal 1\nrows 2 set-aside 0\nDone"
     yield ask("rows_bytes", "0 [density=160] 2\n0 [] 1", two)
     dumped = f'package 0x7f ""\n  {ID} !NoSuch/!NoSuch flags 0x00000000 [] decimal 5\nDone'
     yield ask("dump_bytes", "A", dumped)
     yield ask("map_bytes", "B", f'[["{ID}","{ID}"]]\nDone', "B")
-    yield ask("errors of map_bytes", "A", f'unmapped {ID} "s"/"k"\nNegative', "B")
+    yield ask("map_bytes errors", "A", f'unmapped {ID} "s"/"k"\nNegative', "B")
     yield ask("survey_bytes", DENSITIES, "qualifier density rows 2 from 160 to 320\nDone", TO_197)
     lacking = "qualifier night rows 1 from 2 to 2\nwarning box lacks night\nNegative"
     yield ask("survey_bytes", "0 [night=2] 1", lacking, MEDIUM_BOX)
@@ -348,7 +386,7 @@ def check_commands(ask):
     ]
     yield ask("check_bytes", DENSITIES, "\n".join(rejected), TO_198, nodes=certificate(leaf(1)))
     told = f'goal 0 {ID} "s"/"k"\nNegative'
-    yield ask("errors of OpenedCert::check", "B", told, MEDIUM_BOX, nodes=certificate(leaf(1)))
+    yield ask("OpenedCert::check errors", "B", told, MEDIUM_BOX, nodes=certificate(leaf(1)))
     yield ask("check_bytes", DENSITIES, "(Box(Density), 0)", "{}", nodes=certificate(leaf(1)))
     yield ask("check_bytes", DENSITIES, "(Certificate(Syntax), 0)", TO_197, nodes="{")
     two_leaves = certificate(AT_MOST_197, leaf(1), leaf(2), goal=STYLED_GOAL, version=2)
@@ -365,7 +403,8 @@ def make_commands(ask):
     unset = ["counter goal 0", "device density=160", "end absent 0x01010002", "Negative"]
     yield ask("make_bytes", STYLED_DENSITIES, "\n".join(unset), MEDIUM_BOX, UNSET_GOAL)
     told = f'goal 0 0x01010002@{ID} "s"/"k"\nNegative'
-    yield ask("errors of OpenedBox::make", "B", told, MEDIUM_BOX, UNSET_GOAL)
+    yield ask("OpenedBox::make errors", "B", told, MEDIUM_BOX, UNSET_GOAL)
+    yield ask("make_bytes", DENSITIES, "node limit\nNegative", TO_198, nodes="1")
     yield ask("make_bytes", "0 [] 1", "(Box(Density), 0)", "{}")
     yield from omit_commands(ask, one)
 
@@ -376,10 +415,20 @@ def omit_commands(ask, one):
         yield ask(name, "0 [locale=fr] 1", "Negative", BOTH_LOCALES)
     name = "!NoSuch/!NoSuch"
     german = [f"omitted goal 0 {ID} {name}", "device locale=de density=160", f"end absent {ID}", "Negative"]
-    yield ask("errors of make_omitting_bytes", "0 [locale=fr] 1", "\n".join(german), BOTH_LOCALES)
+    yield ask("make_omitting_bytes errors", "0 [locale=fr] 1", "\n".join(german), BOTH_LOCALES)
     unset = [f"omitted goal 0 0x01010002@{ID} {name}", "device density=160", "end absent 0x01010002", "Negative"]
-    yield ask("errors of make_omitting_bytes", STYLED_DENSITIES, "\n".join(unset), MEDIUM_BOX, UNSET_GOAL)
+    yield ask("make_omitting_bytes errors", STYLED_DENSITIES, "\n".join(unset), MEDIUM_BOX, UNSET_GOAL)
     yield ask("make_omitting_bytes", "0 [] 1", "(Box(Density), 0)", "{}")
+
+
+def deep_tree():
+    """A tree so deep that many paths are open at once, and its lines."""
+    tests = [f'{{"coord":"density","atMost":{number}}}' for number in range(MANY, 0, -1)]
+    lines = [f"goal 0 {ID} !NoSuch/!NoSuch nodes {2 * MANY + 1}"]
+    lines += [f"{depth}\t{'  ' * depth}if density at most {MANY - depth}" for depth in range(MANY)]
+    lines += [f"{MANY}\t{'  ' * MANY}value layer 0 decimal 1"]
+    lines += [f"{2 * MANY - depth}\t{'  ' * depth}else value layer 0 decimal 2" for depth in range(MANY - 1, -1, -1)]
+    return certificate(*tests, leaf(1), *[leaf(2)] * MANY), "\n".join([*lines, "goals 1", "Done"])
 
 
 def show_commands(ask):
@@ -393,6 +442,8 @@ def show_commands(ask):
         "Done",
     ]
     yield ask("show_bytes", DENSITIES, "\n".join(lines), nodes=halves)
+    nodes, shown = deep_tree()
+    yield ask("show_bytes", DENSITIES, shown, nodes=nodes)
     yield ask("show_bytes", DENSITIES, "(Certificate(Syntax), 0)", nodes="{")
     picture = [
         "digraph {",
@@ -431,73 +482,90 @@ def diff_commands(ask):
 
 def rows():
     """All that take memory."""
-    for some in (reading_rows, table_rows, named_rows, stack_rows, goal_rows, command_rows):
+    for some in (text_rows, table_rows, named_rows, stack_rows, goal_rows, command_rows):
         yield from some()
 
 
-def without_memory(program, name, answer, *words):
-    return row(program, [name, *words], answer)
+def without_memory(group, name, answer, *words):
+    return row(group, [name, *words], answer)
+
+
+FAULTS_OF_A = (
+    ("A 408=7", "Value(408)"),
+    ("A 336=0", "TypeId(328)"),
+    ("A 368=27", "Config(348)"),
+    ("A 48=0", "PackageId(40)"),
+)
+"""Changes of table A that are refused, and by which fault."""
 
 
 WITHOUT_MEMORY = [
-    without_memory("reading_calls", "look", f"Some({SECOND})", f'[["{ID}","0x7f010001"]]'),
-    without_memory("reading_calls", "open_side", "SideTable(New, 0, Chunk(Oversize(0)))", "cut"),
-    without_memory("table_calls", "Table::open", "Chunk(Oversize(0))", "cut"),
-    without_memory("command_calls", "rows_bytes", "rows 0 set-aside 0\nDone", "no rows", "", certificate()),
-    without_memory("command_calls", "rows_bytes", "(Table(Chunk(Oversize(0))), 0)", "cut", "", certificate()),
+    *(without_memory("tables", "Table::open", fault, changed) for changed, fault in FAULTS_OF_A),
+    *(
+        without_memory("tables", f"Stack::push_{layer} over 64 layers", f"(TooManyLayers, 64, true){map_back}", "A")
+        for layer, map_back in (("base", ""), ("overlay", f"\nSome({FIRST})"))
+    ),
+    without_memory("texts", "ConfigBox::split", "EmptyHalf", TO_640, "640"),
+    without_memory("texts", "ConfigBox::split", "WrongKind", TO_640, "=160"),
+    without_memory("goals", "Live::list", f"(Plain({ONE}), false)\n(Plain({TWO}), false)", LOCALES, BOTH_LOCALES, certificate()),
+    without_memory("texts", "IdMap::look", f"Some({SECOND})", f'[["{ID}","0x7f010001"]]'),
+    without_memory("texts", "open_side", "SideTable(New, 0, Chunk(Oversize(0)))", "cut"),
+    without_memory("tables", "Table::open", "Chunk(Oversize(0))", "cut"),
+    without_memory("commands", "rows_bytes", "rows 0 set-aside 0\nDone", "no rows", "", certificate()),
+    without_memory("commands", "rows_bytes", "(Table(Chunk(Oversize(0))), 0)", "cut", "", certificate()),
     without_memory(
-        "command_calls",
+        "commands",
         "diff_bytes",
         "(SideTable(Old, 0, Chunk(Oversize(0))), 0)",
         *("cut", "cut", certificate(), "{}"),
     ),
     without_memory(
-        "command_calls",
+        "commands",
         "check_bytes",
         "(LayerTable(0, Chunk(Oversize(0))), 0)",
         *("cut", TO_197, certificate(), certificate(leaf(1))),
     ),
-    without_memory("table_calls", "chunk_walk", "(2, 12)\ntrue\n(Some(2), Some(488))"),
+    without_memory("tables", "chunk_walk", "(2, 12)\ntrue\n(Some(2), Some(488))"),
     without_memory(
-        "table_calls",
+        "tables",
         "string_pool",
         '(1, true, 0)\n"Hi"\n(true, Some(NoSuch))\nSpan { name: 0, first: 1, last: 2 }',
     ),
     without_memory(
-        "table_calls",
+        "tables",
         "res_value",
         f"(Some({FIRST}), None)\ndimension 13/2^0 dp\n({A}, Value {{ kind: 16, word: 5 }})",
     ),
-    without_memory("named_calls", "pairs_named", f"[{pair(K, f'Both {{ old: {FIRST}, new: {FIRST} }}')}]", "B", "B"),
-    without_memory("table_calls", "resource_table", f'(1, 0)\ntrue\n"s""k"\n(Some({FIRST}), None)'),
-    without_memory("stack_calls", "overlay_map", "(1, 0)\ntrue\ntrue\ntrue", DENSITIES),
+    without_memory("names", "pairs_named", f"[{pair(K, f'Both {{ old: {FIRST}, new: {FIRST} }}')}]", "B", "B"),
+    without_memory("tables", "resource_table", f'(1, 0)\ntrue\n"s""k"\n(Some({FIRST}), None)'),
+    without_memory("stacks", "overlay_map", "(1, 0)\ntrue\ntrue\ntrue", DENSITIES),
     without_memory(
-        "stack_calls",
+        "stacks",
         "write_change",
         f"changed {ID}\n  0x01010001 decimal 1 -> decimal 7\n  removed 0x01010002 decimal 2\n  added 0x01010003 decimal 3\n",
         "0 [] bag 0x00000000 0x01010001=1 0x01010002=2\n1 [] bag 0x00000000 0x01010001=7 0x01010003=3",
     ),
     without_memory(
-        "stack_calls",
+        "stacks",
         "reference_resolver",
         f"true\n{value(SEVEN)}\nTooLong {{ id: {SECOND} }}",
         "0 [] @0x7f010001\n1 [] 7",
     ),
     without_memory(
-        "stack_calls",
+        "stacks",
         "bags_themes",
         f"{FIRST}\n{value(ONE)}\nEnds({value(ONE)})\nEnds({absent(A)})",
         STYLES,
     ),
     without_memory(
-        "stack_calls",
+        "stacks",
         "config_record",
-        "Some(FieldRange(LayoutDirection))\n(198, Locale { language: [102, 114], region: [0, 0] })\nlocale=fr density=198",
+        "Err(RegionAlone)\nSome(FieldRange(LayoutDirection))\n(198, Locale { language: [102, 114], region: [0, 0] })\nlocale=fr density=198",
         "",
         "locale=fr,density=198",
     ),
     without_memory(
-        "stack_calls",
+        "stacks",
         "config_precedence",
         "(320, Locale { language: [102, 114], region: [0, 0] }, false)\n[locale=fr,density=320]\n(true, None)\n"
         "(true, Some(3))\nfalse",
@@ -505,7 +573,7 @@ WITHOUT_MEMORY = [
         "locale=fr,density=198",
     ),
     without_memory(
-        "goal_calls",
+        "goals",
         "config_box",
         f"Range(120, 198)\n(120, true)\nAlways\nMixed({device(197)}, {device(198)}, Density)",
         "",
@@ -513,7 +581,7 @@ WITHOUT_MEMORY = [
         certificate(),
     ),
     without_memory(
-        "command_calls",
+        "commands",
         "answer_text",
         f"row {ID} [density=160] decimal 1\nrow {ID} [density=320] decimal 2\nrows 2 set-aside 0\n"
         f'package 0x7f ""\n  {ID} !NoSuch/!NoSuch flags 0x00000000 [density=160] decimal 1\n'
@@ -524,12 +592,12 @@ WITHOUT_MEMORY = [
         DENSITIES,
     ),
     without_memory(
-        "command_calls",
+        "commands",
         "resource_text",
         "accepted goals 0 nodes 0\nrejected goal 0 node 0 N6 MixedTrace\nfirst density=198\nsecond density=198",
     ),
     without_memory(
-        "goal_calls",
+        "goals",
         "Goal::attr",
         f"Some(Attr {{ attr: {A}, styles: [{FIRST}] }})",
         "",
@@ -543,29 +611,30 @@ REACHED = {
     "Table::open": "BagChecks::new BagChecks::make_ready types_of_children",
     "Device::read": "read_value",
     "Goal::read": "GoalWord::read",
+    "open_side": "Stack::new",
     "find_names": "Places::new Places::push Passed::new Passed::put",
-    "name_pairs": "name_text Noted::new Noted::note Noted::ids_on Noted::into_pairs",
-    "push_base": "IndexedTable::new",
+    "name_pairs": "name_text Noted::new Noted::note Noted::ids_on Noted::into_pairs Passed::new Passed::put",
+    "Stack::push_base": "IndexedTable::new",
     "map_bytes": "MappedIds::new FirstRows::new FirstRows::in_order open_table",
-    "query_bytes": "open_stack",
-    "Opened::query": "Opened::read",
+    "query_bytes": "open_stack Opened::read",
+    "survey_bytes": "Opened::read",
     "bag": "FoundBag::select FoundBag::of",
+    "Theme::of_styles": "Theme::new",
     "goal_end": "attribute_under CourseStep::end",
     "check": """goal_box OpenBox::whole OpenBox::whole_of_attribute OpenBox::narrowed OpenBox::common_trace
         OpenBoxes::new OpenBoxes::push Course::of_attribute Course::shared Course::after""",
-    "make": "make_watched make_bytes_watched ConfigBox::shared OpenBox::weightiest_parting parting_test",
+    "make": "make_watched ConfigBox::shared OpenBox::weightiest_parting parting_test",
     "compare_stacks": "NamedStack::of NamedStack::label_of_id OpenBox::whole_of_content",
     "ids_named": "Finder::new Finder::id Finder::ids ids_of_type Stack::base_tables",
     "goals_named": "Finder::each_id",
     "pairs_named": "WordSet::of_sets WordSet::of_pairs",
-    "OpenedDiff::diff": "OpenedDiff::read OpenedDiff::pairs",
-    "OpenedBox::make": "OpenedBox::read OpenedBox::make_telling",
-    "OpenedBox::print_omitting": "OpenedBox::make_omitting",
-    "OpenedCert::check": "OpenedCert::read",
+    "diff_bytes": "OpenedDiff::read OpenedDiff::pairs",
+    "make_bytes": "make_bytes_watched OpenedBox::read",
+    "make_omitting_bytes": "OpenedBox::make_omitting",
+    "OpenedBox::make": "OpenedBox::make_telling",
+    "check_bytes": "OpenedCert::read",
     "show_bytes": """OpenedTrees::read OpenedTrees::show NumberedGoal::of OpenPaths::at_start
         OpenPaths::push_answers""",
     "show_dot_bytes": "OpenedTrees::show_dot",
-    "overlay_map": "Stack::new",
-    "bags_themes": "Theme::new",
 }
-"""Public calls that a call makes in turn, and calls of crates whose own take no memory."""
+"""Public calls that take memory and have no row of their own: a call makes them in turn. The sources tell whether it does."""

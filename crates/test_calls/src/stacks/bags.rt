@@ -1,0 +1,20 @@
+//! Bags.
+
+use bags_themes::bag;
+use config_record::Device;
+use overlay_map::{ResId, Stack};
+use test_marks::{begin, end, tell};
+
+pub fn rows(rt: &HostRuntime, stack: &Stack<'_>, device: &Device) {
+    begin(rt);
+    let found = bag(rt.alloc(), stack, ResId(0x7f01_0000), device);
+    end(rt);
+    match found {
+        Ok(rows) => {
+            for row in rows.as_slice() {
+                tell(rt, (row.name, row.layer, row.value));
+            }
+        }
+        Err(fault) => tell(rt, fault),
+    }
+}

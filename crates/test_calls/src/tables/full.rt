@@ -1,0 +1,50 @@
+//! The pushes of layers over as many as there can be.
+
+use overlay_map::{IdMap, MOST_LAYERS, ResId, Stack, Table};
+use std::alloc::Global;
+use std::test::Fail;
+use test_layers::LayerFault;
+use test_marks::{begin, end, table_of, tell};
+use test_stacks::{SAME, push_base};
+
+/// The resource of entry 0.
+const FIRST: ResId = ResId(0x7f01_0000);
+
+fn full_stack(alloc: Global, bytes: &[u8]) -> Option<Stack<'_>> {
+    let mut stack = Stack::new(alloc);
+    for _ in 0..MOST_LAYERS {
+        push_base(alloc, &mut stack, bytes)?;
+    }
+    Some(stack)
+}
+
+/// Puts a base over them, and tells the fault, how many layers there are then, and whether the table is handed back.
+pub fn base(rt: &HostRuntime, word: &str) -> Result<(), Fail> {
+    let bytes = table_of(rt.alloc(), word)?;
+    let table = Table::open(rt.alloc(), &bytes)?;
+    let mut stack = full_stack(rt.alloc(), &bytes).ok_or(LayerFault::Malformed)?;
+    begin(rt);
+    let pushed = stack.push_base(table);
+    end(rt);
+    if let Err((fault, table)) = pushed {
+        tell(rt, (fault, stack.len(), table.rows(FIRST).next().is_some()));
+    }
+    Ok(())
+}
+
+/// Puts an overlay over them, and tells the same, and what the map says that is handed back.
+pub fn overlay(rt: &HostRuntime, word: &str) -> Result<(), Fail> {
+    let bytes = table_of(rt.alloc(), word)?;
+    let table = Table::open(rt.alloc(), &bytes)?;
+    let map = IdMap::read(rt.alloc(), SAME)?;
+    let mut stack = full_stack(rt.alloc(), &bytes).ok_or(LayerFault::Malformed)?;
+    begin(rt);
+    let pushed = stack.push_overlay(table, map);
+    end(rt);
+    if let Err((fault, table, map)) = pushed {
+        let has_row = table.rows(FIRST).next().is_some();
+        tell(rt, (fault, stack.len(), has_row));
+        tell(rt, map.look(FIRST));
+    }
+    Ok(())
+}
