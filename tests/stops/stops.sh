@@ -55,6 +55,14 @@ shell() {
     judge "$1" "$2" $?
 }
 
+# tool NAME WHAT: whether a tool is there. Where it is not, what needs it fails.
+tool() {
+    command -v "$1" >/dev/null && return
+    failed=$((failed + 1))
+    echo "failed: not tried without $1: $2"
+    return 1
+}
+
 line() { printf '%s\n' "$2" >"$work/$1"; }
 cd "$work" || exit 1
 cp "$here/crates/restool/stdin" whole
@@ -308,7 +316,7 @@ unwritten "a closed stream" '&-'
 # An id in which each pair of a locale and an mnc has a trace of its own, so many of each and so many times that a terminal
 # shows a line of the work; more on a fast machine. Behind them an id without a value. With standard error in a file nothing
 # is written there, however long the work: the last is as much as the limit of 1,000,000 nodes lets one run do.
-if command -v python3 >/dev/null; then
+if tool python3 "work of more than a second"; then
     line pairs-layers '[{"table":"table.arsc"}]'
     # works COUNT GOALS: writes the table and its box, and makes $make the words of this work.
     works() {
@@ -326,8 +334,6 @@ if command -v python3 >/dev/null; then
     shell "a line that is taken away before a counterexample" 0 '' "tail -n 1 terminal | grep -qx '$erased'"
     works 200 12
     shell "no line of the work in a file" 0 '' "\"\$0\" $make >made"
-else
-    echo "not run, since python3 is missing: work of more than a second"
 fi
 
 # ---- memory, files and bytes that are refused
@@ -342,20 +348,26 @@ refused_by() {
     failed=$((failed + $(tail -n 1 refusals | sed -n 's/.* passed, \([0-9]*\) failed$/\1/p')))
 }
 
-if command -v cc >/dev/null && command -v python3 >/dev/null; then
+# is_built PROGRAM: whether a program of tests is built of the sources that are there. Where they are newer, it is proved.
+is_built() {
+    built=$here/crates/$1/out/$1
+    if [ -x "$built" ] && [ -z "$(find "$here/crates" -name out -prune -o -name '*.rt' -newer "$built" -print)" ]; then return; fi
+    python3 "$here/tools/prove.py" "$1" >proof 2>&1 && touch "$built" && return
+    failed=$((failed + 1))
+    echo "failed: $1 is not proved: $(tail -n 1 proof)"
+    return 1
+}
+
+if tool python3 "refused memory, files and bytes" && tool cc "refused memory, files and bytes"; then
     cc -shared -fPIC -O2 -o refuse.so "$here/tests/stops/refuse.c" || exit 1
     refused_by refusals.py "$program" ./refuse.so
+    are_built=
     for calls in $(python3 "$here/tests/stops/calls.py" --programs); do
-        built=$here/crates/$calls/out/$calls
-        if [ ! -x "$built" ] || [ "$(find "$here/crates" -name out -prune -o -name '*.rt' -newer "$built" -print)" ]; then
-            python3 "$here/tools/prove.py" "$calls" >/dev/null && touch "$built"
-        fi
+        if is_built "$calls"; then are_built="$are_built $calls"; fi
     done
-    refused_by calls.py ./refuse.so
-    pairs="python3 '$here/tests/check_pairs.py' '$here/crates/table_calls/out/table_calls' 400 4"
-    shell "pairs of random stacks" 0 '' "$pairs >pairs || { cat pairs >&2; exit 1; }"
-else
-    echo "not run, since cc or python3 is missing: refused memory, files and bytes"
+    if [ "$are_built" ]; then refused_by calls.py ./refuse.so $are_built; fi
+    pairs="python3 '$here/tests/check_pairs.py' '$here/crates/test_calls/out/test_calls' 400 4"
+    case $are_built in *test_calls*) shell "pairs of random stacks" 0 '' "$pairs >pairs || { cat pairs >&2; exit 1; }" ;; esac
 fi
 
 echo "$passed passed, $failed failed"
