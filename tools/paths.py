@@ -11,8 +11,7 @@ import os
 import sys
 
 LIST = os.path.join(os.path.dirname(os.path.dirname(os.path.realpath(__file__))), "crates.txt")
-MOST = 1800
-MOST_OF = {"restool": 2600, "test_calls": 2200, "test_commands": 2700}
+MOST = 900
 
 
 def counted(lines):
@@ -32,9 +31,8 @@ def main(words):
     with open(LIST, encoding="utf-8") as lines:
         paths = counted(lines)
     for name, count in sorted(paths.items(), key=lambda it: -it[1]):
-        most = MOST_OF.get(name, MOST)
-        print(f"{count:6} {name}" + (f" (more than {most})" if count > most else ""))
-    return int(bool(words) and any(count > MOST_OF.get(name, MOST) for name, count in paths.items()))
+        print(f"{count:6} {name}" + (f" (more than {MOST})" if count > MOST else ""))
+    return int(bool(words) and any(count > MOST for count in paths.values()))
 
 
 if __name__ == "__main__":

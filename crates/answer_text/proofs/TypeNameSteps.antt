@@ -2,13 +2,13 @@
 use Rattle.std.proofs.Common.{◌≡◌, ℕ, ◌+◌, ◌-◌, Result, refl, sym, ap, ◌∙◌}
 use Rattle.std.specs.Prelude.{slice_get, nat_lt}
 use Rattle.contract_words.specs.Faults.{◌>>=◌, refuse}
-use Rattle.reference_resolver.specs.res_value.ResId.{type_of}
-use Rattle.reference_resolver.specs.string_pool.Text.{TextOf, text_in}
-use Rattle.reference_resolver.specs.string_pool.declared.fault.StringFault.{StringFault}
-use Rattle.reference_resolver.specs.string_pool.declared.fault.StringFault.TheVariants.{NoSuch}
-use Rattle.reference_resolver.specs.type_chunks.Row.{RowOf}
-use Rattle.reference_resolver.specs.resource_table.Table.{TableOf}
-use Rattle.reference_resolver.specs.resource_table.Names.{found_package, type_name_in}
+use Rattle.bags_themes.specs.res_value.ResId.{type_of}
+use Rattle.bags_themes.specs.string_pool.Text.{TextOf, text_in}
+use Rattle.bags_themes.specs.string_pool.declared.fault.StringFault.{StringFault}
+use Rattle.bags_themes.specs.string_pool.declared.fault.StringFault.TheVariants.{NoSuch}
+use Rattle.bags_themes.specs.type_chunks.Row.{RowOf}
+use Rattle.bags_themes.specs.resource_table.Table.{TableOf}
+use Rattle.bags_themes.specs.resource_table.Names.{found_package, type_name_in}
 
 -- the name of the type of an id in a package
 name_at : TableOf → ℕ → ℕ → Result TextOf StringFault

@@ -3,18 +3,18 @@ use Rattle.std.specs.Prelude.{ℕ, List, [], ◌∷◌, ◌++◌, codes, length,
 use Rattle.std.specs.List.{flat_map}
 use Rattle.std.specs.Option.{option_map}
 use Rattle.std.specs.Fmt.{decimal}
-use Rattle.reference_resolver.specs.string_pool.Pool.{PoolOf, pool_of}
-use Rattle.reference_resolver.specs.string_pool.Text.{text_in}
-use Rattle.reference_resolver.specs.string_pool.Shown.{string_text}
-use Rattle.reference_resolver.specs.res_value.Cell.{CellOf, PlainOf, BagOf}
-use Rattle.reference_resolver.specs.res_value.Kind.{string_kind}
-use Rattle.reference_resolver.specs.res_value.declared.res_id.ResId.{ResId}
-use Rattle.reference_resolver.specs.res_value.declared.value.Value.{Value}
-use Rattle.reference_resolver.specs.res_value.ResId.{id_text}
-use Rattle.reference_resolver.specs.res_value.ValueText.{value_text}
-use Rattle.reference_resolver.specs.config_record.Qualifiers.{record_text}
-use Rattle.reference_resolver.specs.type_chunks.Row.{RowOf}
-use Rattle.line_parts.specs.NamedText.{named_id}
+use Rattle.bags_themes.specs.string_pool.Pool.{PoolOf, pool_of}
+use Rattle.bags_themes.specs.string_pool.Text.{text_in}
+use Rattle.bags_themes.specs.string_pool.Shown.{string_text}
+use Rattle.bags_themes.specs.res_value.Cell.{CellOf, PlainOf, BagOf}
+use Rattle.bags_themes.specs.res_value.Kind.{string_kind}
+use Rattle.bags_themes.specs.res_value.declared.res_id.ResId.{ResId}
+use Rattle.bags_themes.specs.res_value.declared.value.Value.{Value}
+use Rattle.bags_themes.specs.res_value.ResId.{id_text}
+use Rattle.bags_themes.specs.res_value.ValueText.{value_text}
+use Rattle.bags_themes.specs.config_record.Qualifiers.{record_text}
+use Rattle.bags_themes.specs.type_chunks.Row.{RowOf}
+use Rattle.answer_text.specs.NamedText.{named_id}
 use Rattle.answer_text.specs.declared.cell.RowFormat.{RowFormat}
 
 -- In what two texts of the same rows differ: what stands before each line of a row of a bag, and the

@@ -2,14 +2,14 @@
 use Rattle.std.specs.Prelude.{ℕ, List, [], ◌∷◌, ◌++◌, codes, Some}
 use Rattle.std.specs.List.{flat_map}
 use Rattle.hex.specs.Hex.{encode_lower}
-use Rattle.reference_resolver.specs.string_pool.Pool.{PoolOf}
-use Rattle.reference_resolver.specs.string_pool.Shown.{shown_text, string_text}
-use Rattle.reference_resolver.specs.res_value.ResId.{id_text}
-use Rattle.reference_resolver.specs.res_value.Word.{word_text}
-use Rattle.reference_resolver.specs.type_chunks.Row.{RowOf}
-use Rattle.reference_resolver.specs.resource_table.Package.{PackageOf}
-use Rattle.reference_resolver.specs.resource_table.Table.{TableOf}
-use Rattle.reference_resolver.specs.resource_table.Names.{type_name_in, key_name_in}
+use Rattle.bags_themes.specs.string_pool.Pool.{PoolOf}
+use Rattle.bags_themes.specs.string_pool.Shown.{shown_text, string_text}
+use Rattle.bags_themes.specs.res_value.ResId.{id_text}
+use Rattle.bags_themes.specs.res_value.Word.{word_text}
+use Rattle.bags_themes.specs.type_chunks.Row.{RowOf}
+use Rattle.bags_themes.specs.resource_table.Package.{PackageOf}
+use Rattle.bags_themes.specs.resource_table.Table.{TableOf}
+use Rattle.bags_themes.specs.resource_table.Names.{type_name_in, key_name_in}
 use Rattle.answer_text.specs.CellText.{RowFormatOf, row_end_text}
 
 -- four spaces before the lines of a bag, and these strings

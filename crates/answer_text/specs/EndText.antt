@@ -1,12 +1,12 @@
 -- Ends of references as text.
 use Rattle.std.specs.Prelude.{ℕ, Bool, List, [], ◌∷◌, ◌++◌, codes, Option, None}
-use Rattle.reference_resolver.specs.string_pool.Pool.{PoolOf}
-use Rattle.reference_resolver.specs.res_value.declared.value.Value.{Value}
-use Rattle.reference_resolver.specs.overlay_map.Layer.{LayerOf}
-use Rattle.reference_resolver.specs.declared.end.End.{End}
-use Rattle.reference_resolver.specs.declared.end.End.TheVariants as of_end
-use Rattle.line_parts.specs.NamedText.{named_id}
-use Rattle.line_parts.specs.LayerText.{layer_text}
+use Rattle.bags_themes.specs.string_pool.Pool.{PoolOf}
+use Rattle.bags_themes.specs.res_value.declared.value.Value.{Value}
+use Rattle.bags_themes.specs.overlay_map.Layer.{LayerOf}
+use Rattle.bags_themes.specs.reference_resolver.declared.end.End.{End}
+use Rattle.bags_themes.specs.reference_resolver.declared.end.End.TheVariants as of_end
+use Rattle.answer_text.specs.NamedText.{named_id}
+use Rattle.answer_text.specs.LayerText.{layer_text}
 use Rattle.answer_text.specs.CellText.{value_with_string}
 use Rattle.answer_text.specs.NameText.{name_beside}
 

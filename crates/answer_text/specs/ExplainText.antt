@@ -3,14 +3,14 @@
 use Rattle.std.specs.Prelude.{ℕ, Bool, List, [], ◌∷◌, ◌++◌, codes, Option, Some, None}
 use Rattle.std.specs.List.{flat_map, enumerate_from}
 use Rattle.std.specs.Fmt.{decimal}
-use Rattle.reference_resolver.specs.config_record.Qualifiers.{record_text}
-use Rattle.reference_resolver.specs.overlay_map.Layer.{LayerOf}
-use Rattle.reference_resolver.specs.declared.decision.Decision.{Decision}
-use Rattle.reference_resolver.specs.declared.decision.Decision.TheVariants.{SetAside, NoMatch, First, TookOver, TookOverEqual, KeptOut}
-use Rattle.reference_resolver.specs.Ends.{references_followed, end_of}
-use Rattle.reference_resolver.specs.Trace.{look_ups_of, TracedCandidateOf, traced, scan_look_up}
-use Rattle.line_parts.specs.NamedText.{named_id, named_coord, named_number}
-use Rattle.line_parts.specs.LayerText.{layer_text}
+use Rattle.bags_themes.specs.config_record.Qualifiers.{record_text}
+use Rattle.bags_themes.specs.overlay_map.Layer.{LayerOf}
+use Rattle.bags_themes.specs.reference_resolver.declared.decision.Decision.{Decision}
+use Rattle.bags_themes.specs.reference_resolver.declared.decision.Decision.TheVariants.{SetAside, NoMatch, First, TookOver, TookOverEqual, KeptOut}
+use Rattle.bags_themes.specs.reference_resolver.Ends.{references_followed, end_of}
+use Rattle.bags_themes.specs.reference_resolver.Trace.{look_ups_of, TracedCandidateOf, traced, scan_look_up}
+use Rattle.answer_text.specs.NamedText.{named_id, named_coord, named_number}
+use Rattle.answer_text.specs.LayerText.{layer_text}
 use Rattle.answer_text.specs.EndText.{named_end_line}
 use Rattle.answer_text.specs.NameText.{name_beside}
 

@@ -1,9 +1,9 @@
 -- Goals as text: an id, or an attribute under styles.
 use Rattle.std.specs.Prelude.{ℕ, Bool, List, [], ◌∷◌, ◌++◌, codes}
 use Rattle.std.specs.List.{flat_map}
-use Rattle.reference_resolver.specs.overlay_map.Layer.{LayerOf}
-use Rattle.reference_resolver.specs.res_value.declared.res_id.ResId.{ResId}
-use Rattle.reference_resolver.specs.res_value.ResId.{id_text}
+use Rattle.bags_themes.specs.overlay_map.Layer.{LayerOf}
+use Rattle.bags_themes.specs.res_value.declared.res_id.ResId.{ResId}
+use Rattle.bags_themes.specs.res_value.ResId.{id_text}
 use Rattle.answer_text.specs.NameText.{name_beside}
 
 -- `,STYLE`

@@ -1,3 +1,5 @@
+pub mod NamedText
+pub mod LayerText
 pub mod CellText
 pub mod RowsText
 pub mod DumpText
@@ -8,10 +10,13 @@ pub mod QueryText
 pub mod ExplainText
 pub mod Line
 pub mod LastTypeName
-pub use Rattle.line_parts.specs as line_parts
-pub use Rattle.reference_resolver.specs as reference_resolver
-pub use Rattle.reference_resolver.specs.config_record
-pub use Rattle.reference_resolver.specs.overlay_map
-pub use Rattle.reference_resolver.specs.res_value
-pub use Rattle.reference_resolver.specs.resource_table
-pub use Rattle.reference_resolver.specs.type_chunks
+pub mod Unfolded
+pub use Rattle.contract_words.specs as contract_words
+pub use Rattle.bags_themes.specs as bags_themes
+pub use Rattle.bags_themes.specs.reference_resolver
+pub use Rattle.bags_themes.specs.config_record
+pub use Rattle.bags_themes.specs.overlay_map
+pub use Rattle.bags_themes.specs.res_value
+pub use Rattle.bags_themes.specs.resource_table
+pub use Rattle.bags_themes.specs.type_chunks
+pub use Rattle.bags_themes.specs.string_pool

@@ -1,9 +1,9 @@
 -- The names of ids as text.
 use Rattle.std.specs.Prelude.{ℕ, Bool, List, [], ◌++◌, codes, Option, Some, None, if◌then◌else◌}
-use Rattle.reference_resolver.specs.overlay_map.Layer.{LayerOf}
-use Rattle.reference_resolver.specs.overlay_map.BaseRow.{BaseRowOf, first_base_row}
-use Rattle.reference_resolver.specs.resource_table.Table.{TableOf}
-use Rattle.reference_resolver.specs.type_chunks.Row.{RowOf}
+use Rattle.bags_themes.specs.overlay_map.Layer.{LayerOf}
+use Rattle.bags_themes.specs.overlay_map.BaseRow.{BaseRowOf, first_base_row}
+use Rattle.bags_themes.specs.resource_table.Table.{TableOf}
+use Rattle.bags_themes.specs.type_chunks.Row.{RowOf}
 use Rattle.answer_text.specs.DumpText.{names_text}
 
 -- ` TYPE/KEY`, as `dump` has the names of a row

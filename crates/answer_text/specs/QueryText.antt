@@ -2,11 +2,11 @@
 use Rattle.std.specs.Prelude.{ℕ, Bool, List, [], ◌∷◌, ◌++◌, codes, slice_get, Option, None}
 use Rattle.std.specs.Option.{option_map}
 use Rattle.std.specs.Fmt.{decimal}
-use Rattle.reference_resolver.specs.string_pool.Pool.{PoolOf}
-use Rattle.reference_resolver.specs.res_value.ResId.{id_text}
-use Rattle.reference_resolver.specs.overlay_map.Layer.{LayerOf}
-use Rattle.reference_resolver.specs.declared.end.End.{End}
-use Rattle.reference_resolver.specs.declared.end.End.TheVariants as of_end
+use Rattle.bags_themes.specs.string_pool.Pool.{PoolOf}
+use Rattle.bags_themes.specs.res_value.ResId.{id_text}
+use Rattle.bags_themes.specs.overlay_map.Layer.{LayerOf}
+use Rattle.bags_themes.specs.reference_resolver.declared.end.End.{End}
+use Rattle.bags_themes.specs.reference_resolver.declared.end.End.TheVariants as of_end
 use Rattle.answer_text.specs.EndText.{end_with_name}
 use Rattle.answer_text.specs.NameText.{name_beside}
 

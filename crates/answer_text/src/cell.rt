@@ -3,15 +3,17 @@
 ghost use Rattle.std.specs.Option.{option_map};
 ghost use Rattle.std.specs.List.{flat_map};
 ghost use Rattle.contract_words.specs.Writes.{Writes};
-ghost use Rattle.reference_resolver.specs.string_pool.Pool.{pool_of};
-ghost use Rattle.reference_resolver.specs.res_value.Cell.{cell_of};
-ghost use Rattle.reference_resolver.specs.res_value.MapRows.{map_rows_of};
-ghost use Rattle.reference_resolver.specs.type_chunks.Row.{row_of};
+ghost use Rattle.bags_themes.specs.string_pool.Pool.{pool_of};
+ghost use Rattle.bags_themes.specs.res_value.Cell.{cell_of};
+ghost use Rattle.bags_themes.specs.res_value.MapRows.{map_rows_of};
+ghost use Rattle.bags_themes.specs.type_chunks.Row.{row_of};
 ghost use Rattle.answer_text.specs.CellText.{format_of, string_behind, value_with_string, bag_text, cell_text, named_value_text, map_row_text, map_rows_text, config_and_cell, row_end_text};
 
 use crate::last_record::LastRecord;
-use line_parts::{write_id, write_named_id, write_value};
-use reference_resolver::{Cell, MapRows, Pool, ResId, Row, Value, kind, write_string};
+use crate::named::write_named_id;
+use bags_themes::reference_resolver::{
+    Cell, MapRows, Pool, ResId, Row, Value, kind, write_id, write_string, write_value,
+};
 use std::io::{self, Write};
 
 /// The two ways in which the texts of rows differ.

@@ -4,8 +4,8 @@ ghost use Rattle.std.specs.Prelude.{◌++◌};
 ghost use Rattle.contract_words.specs.Writes.{Writes};
 ghost use Rattle.answer_text.specs.ExplainText.{rule_text, decision_text};
 
-use line_parts::write_named_coord;
-use reference_resolver::Decision;
+use crate::named::write_named_coord;
+use bags_themes::reference_resolver::Decision;
 use std::io::{self, Write};
 
 /// Writes what a candidate does, and the rule that decided.

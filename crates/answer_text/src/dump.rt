@@ -2,8 +2,8 @@
 
 ghost use Rattle.std.specs.List.{flat_map};
 ghost use Rattle.contract_words.specs.Writes.{Writes};
-ghost use Rattle.reference_resolver.specs.type_chunks.Row.{row_of};
-ghost use Rattle.reference_resolver.specs.resource_table.Package.{package_of};
+ghost use Rattle.bags_themes.specs.type_chunks.Row.{row_of};
+ghost use Rattle.bags_themes.specs.resource_table.Package.{package_of};
 ghost use Rattle.answer_text.specs.LastTypeName.{KeepsNameIn};
 ghost use Rattle.answer_text.specs.DumpText.{package_id_text, package_line, names_text, row_front_text, flags_text, row_text, package_text, dump_text};
 
@@ -11,8 +11,9 @@ use crate::cell::{RowFormat, write_row_end};
 use crate::last_record::LastRecord;
 use crate::last_type_name::LastTypeName;
 use crate::line::Line;
-use line_parts::{write_hex, write_id, write_word};
-use reference_resolver::{Package, PackageRows, Row, Table, write_string};
+use bags_themes::reference_resolver::{
+    Package, PackageRows, Row, Table, write_hex, write_id, write_string, write_word,
+};
 use std::io::{self, Write};
 
 /// Writes a line for each package of a table, in the order of the file, and behind it one for each of

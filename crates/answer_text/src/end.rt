@@ -2,13 +2,14 @@
 
 ghost use Rattle.std.specs.Option.{option_map};
 ghost use Rattle.contract_words.specs.Writes.{Writes};
-ghost use Rattle.reference_resolver.specs.string_pool.Pool.{pool_of};
+ghost use Rattle.bags_themes.specs.string_pool.Pool.{pool_of};
 ghost use Rattle.answer_text.specs.EndText.{value_end_text, end_with_string, end_text, end_name, end_with_name, end_line, named_end_line};
 
 use crate::cell::write_value_with_string;
+use crate::layer::write_layer;
 use crate::name::write_name_beside;
-use line_parts::{write_layer, write_named_id};
-use reference_resolver::{End, Pool, Stack, Value};
+use crate::named::write_named_id;
+use bags_themes::reference_resolver::{End, Pool, Stack, Value};
 use std::io::{self, Write};
 
 /// Writes an end: a value with the place of its layer, counted from 0; the id that selected a bag, or

@@ -4,24 +4,27 @@ ghost use Rattle.std.specs.Prelude.{◌≡◌, IfOk};
 ghost use Rattle.std.specs.List.{flat_map};
 ghost use Rattle.std.specs.Option.{option_map};
 ghost use Rattle.contract_words.specs.Writes.{Writes};
-ghost use Rattle.reference_resolver.specs.config_record.DeviceSeen.{device_numbers};
-ghost use Rattle.reference_resolver.specs.overlay_map.Candidates.{cand_of};
-ghost use Rattle.reference_resolver.specs.Selection.{selected};
-ghost use Rattle.reference_resolver.specs.Ends.{references_followed, end_of};
-ghost use Rattle.reference_resolver.specs.Trace.{look_ups_of, traced, scan_look_up, IsTraced};
+ghost use Rattle.bags_themes.specs.config_record.DeviceSeen.{device_numbers};
+ghost use Rattle.bags_themes.specs.overlay_map.Candidates.{cand_of};
+ghost use Rattle.bags_themes.specs.reference_resolver.Selection.{selected};
+ghost use Rattle.bags_themes.specs.reference_resolver.Ends.{references_followed, end_of};
+ghost use Rattle.bags_themes.specs.reference_resolver.Trace.{look_ups_of, traced, scan_look_up, IsTraced};
 ghost use Rattle.answer_text.specs.ExplainText.{place_text, traced_text, candidate_line, look_up_line, candidate_lines, look_up_text, explain_text};
 
 use crate::decision::write_decision;
 use crate::end::write_named_end_line;
+use crate::layer::write_layer;
 use crate::name::write_name_beside;
-use line_parts::{write_layer, write_named_id, write_named_number};
-use reference_resolver::{Cand, Decision, Device, End, Next, REFERENCES_FOLLOWED, ResId, Stack};
+use crate::named::{write_named_id, write_named_number};
+use bags_themes::reference_resolver::{
+    Cand, Decision, Device, End, Next, REFERENCES_FOLLOWED, ResId, Stack,
+};
 use std::io::{self, Write};
 
 /// Writes how an id comes to its end at a device: a line for each id that is looked up, behind it one for
 /// each of its candidates with what it does and why, and last the end, which is also given. Where names are asked
 /// for, they stand behind the ids that are looked up, and behind that of the end.
-#[tactic(auto, using(reference_resolver::proofs::Traces::is_traced), unfolding(crate::specs::ExplainText::explain_text))]
+#[tactic(auto, using(crate::proofs::Cited::is_traced), unfolding(crate::specs::ExplainText::explain_text))]
 pub fn explain<W: Write + Drop>(
     stack: &Stack<'_>,
     id: ResId,
@@ -81,7 +84,7 @@ fn write_look_up<'a, W: Write + Drop>(
 }
 
 // Writes a line for each candidate of an id, which are counted from 0, and gives the one that is selected.
-#[tactic(auto, using(contract_words::proofs::TextSteps::puts), unfolding(crate::specs::ExplainText::candidate_lines, reference_resolver::specs::Selection::selected))]
+#[tactic(auto, using(contract_words::proofs::TextSteps::puts), unfolding(crate::specs::ExplainText::candidate_lines, crate::specs::Unfolded::selected))]
 fn write_candidates<'a, W: Write + Drop>(
     stack: &Stack<'a>,
     id: ResId,

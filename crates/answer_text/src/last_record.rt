@@ -3,11 +3,11 @@
 ghost use Rattle.std.specs.Prelude.{◌≡◌, OnOk};
 ghost use Rattle.std.specs.Option.{ForSome};
 ghost use Rattle.contract_words.specs.Writes.{Writes};
-ghost use Rattle.reference_resolver.specs.config_record.Record.{record_bytes};
-ghost use Rattle.reference_resolver.specs.config_record.Qualifiers.{record_text};
+ghost use Rattle.bags_themes.specs.config_record.Record.{record_bytes};
+ghost use Rattle.bags_themes.specs.config_record.Qualifiers.{record_text};
 
 use arrayvec::ArrayVec;
-use reference_resolver::Record;
+use bags_themes::reference_resolver::Record;
 use std::io::{self, Write};
 
 /// How many bytes of text are kept; a longer text is written anew each time.

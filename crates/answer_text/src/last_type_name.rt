@@ -2,15 +2,15 @@
 
 ghost use Rattle.std.specs.Prelude.{◌≡◌, true, Some};
 ghost use Rattle.contract_words.specs.Writes.{Writes};
-ghost use Rattle.reference_resolver.specs.string_pool.Shown.{string_text};
-ghost use Rattle.reference_resolver.specs.res_value.ResId.{type_of};
-ghost use Rattle.reference_resolver.specs.type_chunks.Row.{row_of};
-ghost use Rattle.reference_resolver.specs.resource_table.Table.{TableOf};
-ghost use Rattle.reference_resolver.specs.resource_table.Names.{type_name_in};
+ghost use Rattle.bags_themes.specs.string_pool.Shown.{string_text};
+ghost use Rattle.bags_themes.specs.res_value.ResId.{type_of};
+ghost use Rattle.bags_themes.specs.type_chunks.Row.{row_of};
+ghost use Rattle.bags_themes.specs.resource_table.Table.{TableOf};
+ghost use Rattle.bags_themes.specs.resource_table.Names.{type_name_in};
 ghost use Rattle.answer_text.specs.LastTypeName.{KeepsNameIn};
 
 use arrayvec::ArrayVec;
-use reference_resolver::{Row, Table, write_string};
+use bags_themes::reference_resolver::{Row, Table, write_string};
 use std::io::{self, Write};
 
 /// How many bytes of text are kept; a longer text is written anew each time.

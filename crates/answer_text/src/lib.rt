@@ -1,4 +1,5 @@
-//! The lines that commands print of rows, ends and explanations, written straight to a writer.
+//! The lines that commands print of rows, ends and explanations, written straight to a writer, and the pieces that
+//! they share with lines of faults: which layer it is, and a name with an id, a coordinate or a number behind it.
 //!
 //! For the crates above: what each call appends is the one text of its value, as `specs/` define it,
 //! and nothing else; the only error is the writer's.
@@ -25,19 +26,24 @@ mod explanation;
 mod goal;
 mod last_record;
 mod last_type_name;
+mod layer;
 mod line;
 mod name;
+mod named;
 mod query;
 mod rows;
 
+pub use bags_themes;
+pub use bags_themes::reference_resolver::{
+    Cell, Device, End, MapRows, Pool, ResId, Row, Stack, Table, Value, kind, overlay_map,
+    write_hex, write_id, write_string, write_value,
+};
 pub use dump::dump_text;
 pub use end::{end_text, write_end_line, write_end_with_name, write_end_with_string};
 pub use explanation::explain;
 pub use goal::write_goal_words;
-pub use line_parts::{write_id, write_layer, write_value};
+pub use layer::write_layer;
 pub use name::{write_its_name, write_name_beside};
+pub use named::{write_named_coord, write_named_id, write_named_number};
 pub use query::{query_line, set_aside_line, strings_of_layer};
-pub use reference_resolver::{
-    Cell, Device, End, MapRows, Pool, ResId, Row, Stack, Table, Value, kind, write_string,
-};
 pub use rows::rows_text;

@@ -3,13 +3,12 @@
 ghost use Rattle.std.specs.Prelude.{◌≡◌};
 ghost use Rattle.std.specs.Option.{option_map};
 ghost use Rattle.contract_words.specs.Writes.{Writes};
-ghost use Rattle.reference_resolver.specs.string_pool.Pool.{pool_of};
+ghost use Rattle.bags_themes.specs.string_pool.Pool.{pool_of};
 ghost use Rattle.answer_text.specs.QueryText.{strings_of_layer, strings_of_end, query_line, set_aside_line};
 
 use crate::end::write_end_with_name;
 use crate::name::write_name_beside;
-use line_parts::write_id;
-use reference_resolver::{End, Pool, ResId, Stack};
+use bags_themes::reference_resolver::{End, Pool, ResId, Stack, write_id};
 use std::io::{self, Write};
 
 /// Writes the line of an id with its end. A string value is followed by its string, which is one of the

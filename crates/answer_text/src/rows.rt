@@ -1,13 +1,12 @@
 //! The rows of a table, written.
 
 ghost use Rattle.contract_words.specs.Writes.{Writes};
-ghost use Rattle.reference_resolver.specs.type_chunks.Row.{row_of};
+ghost use Rattle.bags_themes.specs.type_chunks.Row.{row_of};
 ghost use Rattle.answer_text.specs.RowsText.{row_text, totals_text, rows_text};
 
 use crate::cell::{RowFormat, write_row_end};
 use crate::last_record::LastRecord;
-use line_parts::write_id;
-use reference_resolver::{Row, Table};
+use bags_themes::reference_resolver::{Row, Table, write_id};
 use std::io::{self, Write};
 
 /// Two spaces before the rows of a bag, and no strings.

@@ -9,3 +9,5 @@ pub mod AttributeEnds
 pub mod KeySteps
 pub mod EndLayers
 pub mod AttributeLayers
+pub use Rattle.reference_resolver.proofs as reference_resolver_proofs
+pub use Rattle.reference_resolver.proofs.config_record

@@ -1,13 +1,13 @@
 -- What one candidate does at the members of a box.
 use Rattle.std.proofs.Common.{◌≡◌, ℕ, Bool, true, false, IsTrue, List, Option, if◌then◌else◌, inl, inr, ◌∙◌, refl}
-use Rattle.reference_resolver.specs.config_record.declared.coord.Coord.{Coord}
-use Rattle.reference_resolver.specs.config_match.Matching.{is_match}
+use Rattle.bags_themes.specs.config_record.declared.coord.Coord.{Coord}
+use Rattle.bags_themes.specs.config_match.Matching.{is_match}
 use Rattle.config_box.specs.box_answers.NumberSet.{SetOf}
 use Rattle.config_box.specs.box_answers.Members.{IsMember}
 use Rattle.config_box.specs.box_answers.Sameness.{Separates}
-use Rattle.reference_resolver.specs.overlay_map.Candidates.{CandOf}
-use Rattle.reference_resolver.specs.declared.step.Step.TheVariants.{NoMatch, KeptOut, TookOver}
-use Rattle.reference_resolver.specs.Selection.{beats_best, step_of}
+use Rattle.bags_themes.specs.overlay_map.Candidates.{CandOf}
+use Rattle.bags_themes.specs.reference_resolver.declared.step.Step.TheVariants.{NoMatch, KeptOut, TookOver}
+use Rattle.bags_themes.specs.reference_resolver.Selection.{beats_best, step_of}
 use Rattle.box_trace.specs.Division.{has_matched, has_taken_over, DividesAt}
 use Rattle.config_box.specs.box_answers.MemberAnswers.{AllAnswer}
 use Rattle.box_trace.specs.Live.{does_match}

@@ -4,8 +4,8 @@ use Rattle.std.proofs.lemmas.List.{map-append, drop-map, drop_more, take_all, le
 use Rattle.std.specs.List.{All}
 use Rattle.std.proofs.lemmas.List.Elements.{All-nil, All-push, All-weaker, All-head, All-drop}
 use Rattle.config_box.specs.box_answers.MemberAnswers.{AllAnswer}
-use Rattle.reference_resolver.specs.overlay_map.declared.candidate.Cand.{Cand}
-use Rattle.reference_resolver.specs.overlay_map.Candidates.{CandOf}
+use Rattle.bags_themes.specs.overlay_map.declared.candidate.Cand.{Cand}
+use Rattle.bags_themes.specs.overlay_map.Candidates.{CandOf}
 use Rattle.box_trace.specs.Live.{LiveOf, live_of, candidates_in, does_match, LeavesOut, MarkedMatchAll, IsLive, AreLive}
 use Rattle.box_trace.proofs.LeftOut.{leave_last, keep_last}
 

@@ -1,6 +1,6 @@
 -- Two members that are divided, for predicates that hold of fewer devices.
 use Rattle.std.proofs.Common.{inl, inr, ℕ, List}
-use Rattle.reference_resolver.specs.declared.step.Step.{Step}
+use Rattle.bags_themes.specs.reference_resolver.declared.step.Step.{Step}
 use Rattle.box_trace.specs.Division.{DividesAt, Divides}
 
 divides_at_over : (members fewer : List ℕ → Type 0) (step : List ℕ → Step) (x y : List ℕ) → ((d : List ℕ) → fewer d → members d) → DividesAt members step x y → DividesAt fewer step x y

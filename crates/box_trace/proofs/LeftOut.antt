@@ -1,6 +1,6 @@
 -- Candidates that are left out of a list.
 use Rattle.std.proofs.Common.{ℕ, false, List, [], ◌∷◌, ◌++◌, inl, inr, sym, ◌∙◌, refl, subst}
-use Rattle.reference_resolver.specs.overlay_map.Candidates.{CandOf}
+use Rattle.bags_themes.specs.overlay_map.Candidates.{CandOf}
 use Rattle.config_box.specs.box_answers.MemberAnswers.{AllAnswer}
 use Rattle.box_trace.specs.Live.{does_match, LeavesOut}
 

@@ -9,5 +9,5 @@ pub mod Told
 pub mod BoxValues
 pub mod OpenBoxes
 pub use Rattle.bags_themes.proofs as bags_themes
-pub use Rattle.reference_resolver.proofs as reference_resolver
-pub use Rattle.reference_resolver.proofs.config_record
+pub use Rattle.bags_themes.proofs.reference_resolver_proofs as reference_resolver
+pub use Rattle.bags_themes.proofs.config_record

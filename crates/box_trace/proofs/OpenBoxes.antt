@@ -1,8 +1,8 @@
 -- The boxes of open paths.
 use Rattle.std.proofs.Common.{◌≡◌, ℕ, List, [], ◌∷◌, ◌++◌, sym, ◌∙◌, ap, refl, subst}
 use Rattle.std.proofs.lemmas.List.{map-append}
-use Rattle.reference_resolver.specs.overlay_map.Layer.{LayerOf}
-use Rattle.reference_resolver.specs.Trace.{Trace}
+use Rattle.bags_themes.specs.overlay_map.Layer.{LayerOf}
+use Rattle.bags_themes.specs.reference_resolver.Trace.{Trace}
 use Rattle.config_box.specs.box_answers.NumberSet.{SetOf}
 use Rattle.box_trace.specs.declared.common.CommonTrace.{CommonTrace}
 use Rattle.box_trace.specs.declared.common.CommonTrace.TheVariants.{Mixed}

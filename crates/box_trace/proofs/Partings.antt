@@ -1,15 +1,15 @@
 -- Where the members of a box part.
 use Rattle.std.proofs.Common.{◌≡◌, ◌≢◌, ℕ, Bool, true, false, List, ◌∷◌, Option, sym, ◌∙◌, ap}
 use Rattle.std.specs.Option.{option_map}
-use Rattle.reference_resolver.specs.config_record.declared.coord.Coord.{Coord}
-use Rattle.reference_resolver.specs.config_record.DeviceSeen.{device_numbers}
+use Rattle.bags_themes.specs.config_record.declared.coord.Coord.{Coord}
+use Rattle.bags_themes.specs.config_record.DeviceSeen.{device_numbers}
 use Rattle.config_box.specs.box_answers.NumberSet.{SetOf}
 use Rattle.config_box.specs.box_answers.Members.{IsMember}
 use Rattle.config_box.specs.box_answers.Sameness.{Separates}
-use Rattle.reference_resolver.specs.overlay_map.Candidates.{CandOf, cand_of}
-use Rattle.reference_resolver.specs.declared.step.Step.{Step}
-use Rattle.reference_resolver.specs.Selection.{step_of, best_after}
-use Rattle.reference_resolver.specs.Trace.{Trace}
+use Rattle.bags_themes.specs.overlay_map.Candidates.{CandOf, cand_of}
+use Rattle.bags_themes.specs.reference_resolver.declared.step.Step.{Step}
+use Rattle.bags_themes.specs.reference_resolver.Selection.{step_of, best_after}
+use Rattle.bags_themes.specs.reference_resolver.Trace.{Trace}
 use Rattle.box_trace.specs.declared.parting.Parting.{Parting}
 use Rattle.box_trace.specs.Division.{DividesAt, Divides}
 use Rattle.box_trace.specs.Walk.{rest_at, HaveCome}

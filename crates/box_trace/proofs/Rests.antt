@@ -6,14 +6,14 @@ use Rattle.bags_themes.specs.Course.{after_course, trace_from}
 use Rattle.bags_themes.specs.declared.course.Course.{Course}
 use Rattle.bags_themes.specs.declared.course.CourseStep.TheVariants.{LookUp}
 use Rattle.bags_themes.proofs.CourseSteps.{same_parts, behind_both}
-use Rattle.reference_resolver.specs.res_value.declared.res_id.ResId.{ResId}
-use Rattle.reference_resolver.specs.overlay_map.Layer.{LayerOf}
-use Rattle.reference_resolver.specs.overlay_map.Candidates.{CandOf, candidates_of}
-use Rattle.reference_resolver.specs.declared.end.End.{End}
-use Rattle.reference_resolver.specs.declared.step.Step.{Step}
-use Rattle.reference_resolver.specs.declared.step.Step.TheVariants.{NoMatch}
-use Rattle.reference_resolver.specs.Selection.{selected, step_of, best_after, scan_candidates, best_of}
-use Rattle.reference_resolver.specs.Trace.{Trace}
+use Rattle.bags_themes.specs.res_value.declared.res_id.ResId.{ResId}
+use Rattle.bags_themes.specs.overlay_map.Layer.{LayerOf}
+use Rattle.bags_themes.specs.overlay_map.Candidates.{CandOf, candidates_of}
+use Rattle.bags_themes.specs.reference_resolver.declared.end.End.{End}
+use Rattle.bags_themes.specs.reference_resolver.declared.step.Step.{Step}
+use Rattle.bags_themes.specs.reference_resolver.declared.step.Step.TheVariants.{NoMatch}
+use Rattle.bags_themes.specs.reference_resolver.Selection.{selected, step_of, best_after, scan_candidates, best_of}
+use Rattle.bags_themes.specs.reference_resolver.Trace.{Trace}
 use Rattle.box_trace.specs.Walk.{rest_at, HaveCome}
 use Rattle.config_box.specs.box_answers.MemberAnswers.{AllAnswer}
 use Rattle.box_trace.specs.Live.{does_match, LeavesOut}

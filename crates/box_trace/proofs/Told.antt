@@ -4,15 +4,15 @@ use Rattle.std.specs.Prelude.{IfSome, unwrap_or}
 use Rattle.std.specs.List.{All}
 use Rattle.std.proofs.lemmas.List.{length-map, get_or-map}
 use Rattle.std.proofs.lemmas.List.Elements.{All-nil, All-cons, All-head, All-tail}
-use Rattle.reference_resolver.specs.overlay_map.Layer.{LayerOf}
-use Rattle.reference_resolver.specs.overlay_map.declared.candidate.Cand.{Cand}
-use Rattle.reference_resolver.specs.overlay_map.Candidates.{CandOf, cand_of}
-use Rattle.reference_resolver.specs.config_record.DeviceSeen.{device_numbers}
+use Rattle.bags_themes.specs.overlay_map.Layer.{LayerOf}
+use Rattle.bags_themes.specs.overlay_map.declared.candidate.Cand.{Cand}
+use Rattle.bags_themes.specs.overlay_map.Candidates.{CandOf, cand_of}
+use Rattle.bags_themes.specs.config_record.DeviceSeen.{device_numbers}
 use Rattle.config_box.specs.box_answers.NumberSet.{SetOf}
 use Rattle.config_box.specs.box_answers.Members.{IsMember}
 use Rattle.config_box.specs.box_answers.Sameness.{Separates}
-use Rattle.reference_resolver.specs.Selection.{step_of, best_after}
-use Rattle.reference_resolver.specs.Trace.{Trace}
+use Rattle.bags_themes.specs.reference_resolver.Selection.{step_of, best_after}
+use Rattle.bags_themes.specs.reference_resolver.Trace.{Trace}
 use Rattle.box_trace.specs.declared.walk.Walk.{Walk}
 use Rattle.box_trace.specs.declared.parting.Parting.{Parting}
 use Rattle.box_trace.specs.Division.{has_matched}

@@ -1,10 +1,10 @@
 -- Walks of all members of a box.
 use Rattle.std.proofs.Common.{◌≡◌, ℕ, List, [], ◌∷◌, Option, sym, ◌∙◌, ap, subst}
-use Rattle.reference_resolver.specs.res_value.declared.res_id.ResId.{ResId}
-use Rattle.reference_resolver.specs.overlay_map.Layer.{LayerOf}
-use Rattle.reference_resolver.specs.overlay_map.Candidates.{CandOf}
-use Rattle.reference_resolver.specs.Selection.{step_of, scan_candidates, best_of}
-use Rattle.reference_resolver.specs.Trace.{Trace}
+use Rattle.bags_themes.specs.res_value.declared.res_id.ResId.{ResId}
+use Rattle.bags_themes.specs.overlay_map.Layer.{LayerOf}
+use Rattle.bags_themes.specs.overlay_map.Candidates.{CandOf}
+use Rattle.bags_themes.specs.reference_resolver.Selection.{step_of, scan_candidates, best_of}
+use Rattle.bags_themes.specs.reference_resolver.Trace.{Trace}
 use Rattle.config_box.specs.box_answers.NumberSet.{SetOf}
 use Rattle.config_box.specs.box_answers.Members.{IsMember}
 use Rattle.bags_themes.specs.AttributeTrace.{behind}

@@ -1,14 +1,14 @@
 -- What do all members of a box do alike at one candidate? (Cited by contracts of this crate alone.)
 use Rattle.std.specs.Prelude.{◌≡◌, List, Option}
 use Rattle.std.specs.Option.{option_map}
-use Rattle.reference_resolver.specs.config_record.DeviceSeen.{device_numbers}
+use Rattle.bags_themes.specs.config_record.DeviceSeen.{device_numbers}
 use Rattle.config_box.specs.box_answers.NumberSet.{SetOf}
 use Rattle.config_box.specs.box_answers.Members.{IsMember}
 use Rattle.config_box.specs.box_answers.MemberAnswers.{AllAnswer}
 use Rattle.config_box.specs.box_answers.Sameness.{Separates}
-use Rattle.reference_resolver.specs.overlay_map.Candidates.{CandOf, cand_of}
-use Rattle.reference_resolver.specs.declared.step.Step.{Step}
-use Rattle.reference_resolver.specs.Selection.{step_of, best_after}
+use Rattle.bags_themes.specs.overlay_map.Candidates.{CandOf, cand_of}
+use Rattle.bags_themes.specs.reference_resolver.declared.step.Step.{Step}
+use Rattle.bags_themes.specs.reference_resolver.Selection.{step_of, best_after}
 use Rattle.box_trace.specs.declared.common.CommonStep.{CommonStep}
 use Rattle.box_trace.specs.declared.common.CommonStep.TheVariants.{One, Mixed}
 use Rattle.box_trace.specs.declared.parting.Parting.{Parting}

@@ -3,8 +3,8 @@ use Rattle.std.specs.Prelude.{ℕ, List}
 use Rattle.config_box.specs.box_answers.NumberSet.{SetOf}
 use Rattle.config_box.specs.box_answers.Members.{IsMember}
 use Rattle.config_box.specs.box_answers.MemberAnswers.{AllAnswer}
-use Rattle.reference_resolver.specs.declared.step.Step.{Step}
-use Rattle.reference_resolver.specs.Trace.{Trace}
+use Rattle.bags_themes.specs.reference_resolver.declared.step.Step.{Step}
+use Rattle.bags_themes.specs.reference_resolver.Trace.{Trace}
 use Rattle.box_trace.specs.declared.common.CommonTrace.{CommonTrace}
 use Rattle.box_trace.specs.declared.common.CommonTrace.TheVariants.{One, Mixed}
 use Rattle.box_trace.specs.Parting.{IsParting}

@@ -3,8 +3,8 @@
 -- a box.
 use Rattle.std.specs.Prelude.{◌≡◌, ◌⊎◌, ℕ, Bool, true, false, IsTrue, List, ◌∷◌, ◌++◌}
 use Rattle.config_box.specs.box_answers.MemberAnswers.{AllAnswer}
-use Rattle.reference_resolver.specs.declared.step.Step.{Step}
-use Rattle.reference_resolver.specs.declared.step.Step.TheVariants.{NoMatch, KeptOut, TookOver}
+use Rattle.bags_themes.specs.reference_resolver.declared.step.Step.{Step}
+use Rattle.bags_themes.specs.reference_resolver.declared.step.Step.TheVariants.{NoMatch, KeptOut, TookOver}
 
 -- whether a candidate matches that does this
 abbrev pub has_matched : Step → Bool

@@ -2,9 +2,9 @@
 use Rattle.std.specs.Prelude.{◌≡◌, ◌⊎◌, ◌↔◌, ℕ, Bool, true, false, IsTrue, List, [], ◌∷◌, map}
 use Rattle.std.specs.List.{All}
 use Rattle.config_box.specs.box_answers.MemberAnswers.{AllAnswer, SomeAnswers}
-use Rattle.reference_resolver.specs.config_match.Matching.{is_match}
-use Rattle.reference_resolver.specs.overlay_map.declared.candidate.Cand.{Cand}
-use Rattle.reference_resolver.specs.overlay_map.Candidates.{CandOf, cand_of}
+use Rattle.bags_themes.specs.config_match.Matching.{is_match}
+use Rattle.bags_themes.specs.overlay_map.declared.candidate.Cand.{Cand}
+use Rattle.bags_themes.specs.overlay_map.Candidates.{CandOf, cand_of}
 
 -- a candidate, and whether it is marked
 pub record LiveOf : Type 0 where

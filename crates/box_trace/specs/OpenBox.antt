@@ -2,8 +2,8 @@
 use Rattle.std.specs.Prelude.{ℕ, List, map}
 use Rattle.config_box.specs.box_answers.NumberSet.{SetOf}
 use Rattle.config_box.specs.box_answers.Members.{IsMember}
-use Rattle.reference_resolver.specs.overlay_map.Layer.{LayerOf}
-use Rattle.reference_resolver.specs.Trace.{Trace}
+use Rattle.bags_themes.specs.overlay_map.Layer.{LayerOf}
+use Rattle.bags_themes.specs.reference_resolver.Trace.{Trace}
 use Rattle.box_trace.specs.declared.open_box.OpenBox.{OpenBox}
 use Rattle.box_trace.specs.Walk.{HaveWalked}
 

@@ -1,8 +1,8 @@
 -- Two devices that stand side by side at a coordinate. (Cited by contracts of this crate alone.)
 use Rattle.std.specs.Prelude.{◌≡◌, ◌≢◌, ℕ, List}
-use Rattle.reference_resolver.specs.config_record.declared.coord.Coord.{Coord}
-use Rattle.reference_resolver.specs.config_record.ComparedNumber.{device_number}
-use Rattle.reference_resolver.specs.config_record.DeviceSeen.{device_numbers}
+use Rattle.bags_themes.specs.config_record.declared.coord.Coord.{Coord}
+use Rattle.bags_themes.specs.config_record.ComparedNumber.{device_number}
+use Rattle.bags_themes.specs.config_record.DeviceSeen.{device_numbers}
 use Rattle.config_box.specs.box_answers.declared.member_pair.MemberPair.{MemberPair}
 
 -- they have the same number at each coordinate but this one

@@ -1,14 +1,14 @@
 -- The question at which the members of a box part.
 use Rattle.std.specs.Prelude.{◌≡◌, ℕ, Bool, List}
 use Rattle.std.specs.Option.{option_map}
-use Rattle.reference_resolver.specs.config_record.DeviceSeen.{device_numbers}
+use Rattle.bags_themes.specs.config_record.DeviceSeen.{device_numbers}
 use Rattle.config_box.specs.box_answers.NumberSet.{SetOf}
 use Rattle.config_box.specs.box_answers.Members.{IsMember}
 use Rattle.config_box.specs.box_answers.Sameness.{Separates}
-use Rattle.reference_resolver.specs.overlay_map.Candidates.{cand_of}
-use Rattle.reference_resolver.specs.declared.step.Step.{Step}
-use Rattle.reference_resolver.specs.Selection.{step_of}
-use Rattle.reference_resolver.specs.Trace.{Trace}
+use Rattle.bags_themes.specs.overlay_map.Candidates.{cand_of}
+use Rattle.bags_themes.specs.reference_resolver.declared.step.Step.{Step}
+use Rattle.bags_themes.specs.reference_resolver.Selection.{step_of}
+use Rattle.bags_themes.specs.reference_resolver.Trace.{Trace}
 use Rattle.box_trace.specs.declared.parting.Asked.{Asked}
 use Rattle.box_trace.specs.declared.parting.Asked.TheVariants.{Matches, TakesOver}
 use Rattle.box_trace.specs.declared.parting.Parting.{Parting}

@@ -4,11 +4,11 @@ use Rattle.std.specs.Option.{option_map}
 use Rattle.std.specs.List.{All}
 use Rattle.bags_themes.specs.AttributeTrace.{behind}
 use Rattle.bags_themes.specs.Course.{after_course}
-use Rattle.reference_resolver.specs.overlay_map.Layer.{LayerOf}
-use Rattle.reference_resolver.specs.overlay_map.Candidates.{CandOf, cand_of}
-use Rattle.reference_resolver.specs.declared.step.Step.{Step}
-use Rattle.reference_resolver.specs.Selection.{step_of, scan_candidates, best_of}
-use Rattle.reference_resolver.specs.Trace.{Trace}
+use Rattle.bags_themes.specs.overlay_map.Layer.{LayerOf}
+use Rattle.bags_themes.specs.overlay_map.Candidates.{CandOf, cand_of}
+use Rattle.bags_themes.specs.reference_resolver.declared.step.Step.{Step}
+use Rattle.bags_themes.specs.reference_resolver.Selection.{step_of, scan_candidates, best_of}
+use Rattle.bags_themes.specs.reference_resolver.Trace.{Trace}
 use Rattle.box_trace.specs.declared.walk.Walk.{Walk}
 use Rattle.box_trace.specs.Live.{LiveOf, candidates_in, does_match, LeavesOut}
 use Rattle.box_trace.specs.Parting.{TraceTells}

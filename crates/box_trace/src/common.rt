@@ -1,7 +1,7 @@
 //! What all members of a box have in common, or where they part.
 
 use crate::parting::Parting;
-use reference_resolver::{Cand, End};
+use bags_themes::{Cand, End};
 
 /// What the traces of all members of a box have in common.
 #[derive(Clone, Copy, Debug)]

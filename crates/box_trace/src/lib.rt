@@ -26,10 +26,10 @@ mod step;
 mod walk;
 mod weight;
 
-pub use bags_themes::{attribute_under, resolve};
+pub use bags_themes::reference_resolver::MOST_LAYERS;
+pub use bags_themes::{Cand, Device, End, ResId, Stack, attribute_under, resolve};
 pub use common::CommonTrace;
-pub use config_box::{ConfigBox, MemberPair, OutOfMemory, Values};
+pub use config_box::{ConfigBox, Coord, Locale, MemberPair, OutOfMemory, Values};
 pub use live::Live;
 pub use open_box::OpenBox;
 pub use parting::{Asked, Parting};
-pub use reference_resolver::{Cand, Coord, Device, End, Locale, MOST_LAYERS, ResId, Stack};

@@ -3,11 +3,11 @@
 ghost use Rattle.std.specs.Prelude.{true, false, IsTrue, MatchOption};
 ghost use Rattle.config_box.specs.box_answers.Members.{IsMember};
 ghost use Rattle.config_box.specs.box_answers.MemberAnswers.{AllAnswer};
-ghost use Rattle.reference_resolver.specs.overlay_map.Candidates.{cand_of};
+ghost use Rattle.bags_themes.specs.overlay_map.Candidates.{cand_of};
 ghost use Rattle.box_trace.specs.Live.{live_of, does_match, IsLive};
 
+use bags_themes::{Cand, ResId, Stack};
 use config_box::{ConfigBox, OutOfMemory, Sameness};
-use reference_resolver::{Cand, ResId, Stack};
 use std::alloc::Global;
 use std::marker::Model;
 
@@ -30,7 +30,7 @@ impl<'a> Model for Live<'a> {
 impl<'a> Live<'a> {
     ghost use Rattle.std.specs.Prelude.{◌≡◌, IfOk, map};
     ghost use Rattle.config_box.specs.box_answers.Members.{IsMember};
-    ghost use Rattle.reference_resolver.specs.overlay_map.Candidates.{candidates_of};
+    ghost use Rattle.bags_themes.specs.overlay_map.Candidates.{candidates_of};
     ghost use Rattle.box_trace.specs.Live.{live_of, candidates_in, MarkedMatchAll, AreLive};
 
     /// Those of an id. Each candidate is asked of all members.

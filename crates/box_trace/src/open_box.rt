@@ -5,9 +5,8 @@ ghost use Rattle.std.specs.Prelude.{ℕ, List};
 use crate::common::CommonTrace;
 use crate::parting::Parting;
 use crate::walk::Walk;
-use bags_themes::{Course, CourseStep};
+use bags_themes::{Course, CourseStep, ResId, Stack};
 use config_box::{ConfigBox, Coord, OutOfMemory, Values};
-use reference_resolver::{ResId, Stack};
 use std::alloc::Global;
 
 /// The box of an open path in a tree, and how far all its members go by the same steps.
@@ -26,9 +25,9 @@ ghost use Rattle.box_trace.specs.Live.{MarkedMatchAll};
 impl<'a, 's> OpenBox<'a, 's> {
     ghost use Rattle.std.specs.Prelude.{◌≡◌, ℕ, List, IfOk};
     ghost use Rattle.config_box.specs.box_answers.Members.{IsMember};
-    ghost use Rattle.reference_resolver.specs.overlay_map.Layer.{LayerOf};
-    ghost use Rattle.reference_resolver.specs.Ends.{references_followed};
-    ghost use Rattle.reference_resolver.specs.Trace.{Trace, trace_of};
+    ghost use Rattle.bags_themes.specs.overlay_map.Layer.{LayerOf};
+    ghost use Rattle.bags_themes.specs.reference_resolver.Ends.{references_followed};
+    ghost use Rattle.bags_themes.specs.reference_resolver.Trace.{Trace, trace_of};
     ghost use Rattle.bags_themes.specs.AttributeTrace.{attribute_trace};
     ghost use Rattle.bags_themes.specs.ContentTrace.{content_trace};
     ghost use Rattle.bags_themes.specs.Course.{trace_from};

@@ -1,13 +1,13 @@
 //! Conditions of candidates that some members of a box meet and others do not.
 
 ghost use Rattle.std.specs.Prelude.{◌≡◌, ℕ, ◌<◌, ◌≤◌, All, length, slice_index, IfSome};
-ghost use Rattle.reference_resolver.specs.config_record.ComparedNumber.{locale_number};
-ghost use Rattle.reference_resolver.specs.config_record.Device.{CanHave};
-ghost use Rattle.reference_resolver.specs.config_record.DeviceSeen.{device_numbers};
+ghost use Rattle.bags_themes.specs.config_record.ComparedNumber.{locale_number};
+ghost use Rattle.bags_themes.specs.config_record.Device.{CanHave};
+ghost use Rattle.bags_themes.specs.config_record.DeviceSeen.{device_numbers};
 ghost use Rattle.box_trace.specs.OpenCondition.{AreAlikeBut, DifferAt};
 
+use bags_themes::{Cand, Device, Step};
 use config_box::{ConfigBox, Coord, Locale, MemberPair, Values};
-use reference_resolver::{Cand, Device, Step};
 
 /// A condition of a candidate that parts two members: the candidate matches the first and not the second.
 #[derive(Clone, Copy)]

@@ -1,8 +1,8 @@
 //! Where the members of a box part.
 
 ghost use Rattle.std.specs.Prelude.{◌≡◌, ℕ, List, IsTrue, IfSome};
-ghost use Rattle.reference_resolver.specs.config_record.DeviceSeen.{device_numbers};
-ghost use Rattle.reference_resolver.specs.overlay_map.Candidates.{cand_of};
+ghost use Rattle.bags_themes.specs.config_record.DeviceSeen.{device_numbers};
+ghost use Rattle.bags_themes.specs.overlay_map.Candidates.{cand_of};
 ghost use Rattle.config_box.specs.box_answers.Members.{set_at};
 ghost use Rattle.config_box.specs.box_answers.Sameness.{AreNeighbours, Separates};
 ghost use Rattle.box_trace.specs.Live.{does_match};
@@ -10,8 +10,8 @@ ghost use Rattle.box_trace.specs.Parting.{answer_of};
 ghost use Rattle.box_trace.specs.OpenCondition.{DifferAt};
 
 use crate::open_condition::open_condition;
+use bags_themes::{Cand, Device, Step};
 use config_box::{ConfigBox, Coord, MemberPair, Sameness, Values};
-use reference_resolver::{Cand, Device, Step};
 
 /// What is asked of a candidate.
 #[derive(Clone, Copy, Debug, PartialEq, Eq)]
@@ -35,7 +35,7 @@ pub struct Parting<'a> {
 
 impl<'a> Parting<'a> {
     ghost use Rattle.std.specs.Prelude.{◌≡◌};
-    ghost use Rattle.reference_resolver.specs.config_record.DeviceSeen.{device_numbers};
+    ghost use Rattle.bags_themes.specs.config_record.DeviceSeen.{device_numbers};
     ghost use Rattle.box_trace.specs.Parting.{answer_of};
 
     /// What a device answers to the question.

@@ -5,15 +5,16 @@ ghost use Rattle.std.specs.Option.{option_map};
 ghost use Rattle.config_box.specs.box_answers.Members.{IsMember};
 ghost use Rattle.config_box.specs.box_answers.MemberAnswers.{AllAnswer};
 ghost use Rattle.config_box.specs.box_answers.Sameness.{IsExact};
-ghost use Rattle.reference_resolver.specs.overlay_map.Candidates.{cand_of};
-ghost use Rattle.reference_resolver.specs.Selection.{beats, beats_best};
+ghost use Rattle.bags_themes.specs.overlay_map.Candidates.{cand_of};
+ghost use Rattle.bags_themes.specs.reference_resolver.Selection.{beats, beats_best};
 ghost use Rattle.box_trace.specs.Live.{does_match};
 ghost use Rattle.box_trace.specs.CommonStep.{IsCommonStep};
 
 use crate::common::CommonStep;
 use crate::parting::{Asked, Parting};
+use bags_themes::Cand;
+use bags_themes::reference_resolver::same;
 use config_box::{ConfigBox, MemberPair, Sameness};
-use reference_resolver::{Cand, same};
 
 /// The best after the next candidate, for all members. Whether the candidate matches is asked first; of
 /// a marked one it is known. Whether it takes over is asked where it matches all.
@@ -65,7 +66,7 @@ fn is_best_beaten(best: &Option<Cand<'_>>, candidate: &Cand<'_>, members: &Confi
 }
 
 // One of an overlay with an equal record beats the best at each device, whatever is better there.
-#[tactic(auto, unfolding(reference_resolver::specs::Selection::beats))]
+#[tactic(auto, unfolding(crate::specs::Unfolded::beats))]
 fn beats(candidate: &Cand<'_>, best: &Cand<'_>, members: &ConfigBox) -> Sameness
     ensures { IsExact result members.now (beats (cand_of candidate.now) (cand_of best.now)) }
 {

@@ -7,9 +7,8 @@ use crate::live::Live;
 use crate::parting::{Parting, parting_at};
 use crate::step::best_after;
 use crate::weight::{Waiting, are_of_one_coordinate, open_conditions, weightiest};
-use bags_themes::{Course, CourseStep};
+use bags_themes::{Cand, Course, CourseStep, ResId, Stack};
 use config_box::{ConfigBox, OutOfMemory};
-use reference_resolver::{Cand, ResId, Stack};
 use std::alloc::Global;
 use std::rc::Rc;
 
@@ -35,8 +34,8 @@ impl<'a, 's> Walk<'a, 's> {
     ghost use Rattle.std.specs.Prelude.{◌≡◌, ℕ, List, IfOk, IfSome, IfNone, [], length, map};
     ghost use Rattle.config_box.specs.box_answers.NumberSet.{SetOf};
     ghost use Rattle.config_box.specs.box_answers.Members.{IsMember};
-    ghost use Rattle.reference_resolver.specs.overlay_map.Layer.{LayerOf};
-    ghost use Rattle.reference_resolver.specs.Trace.{Trace};
+    ghost use Rattle.bags_themes.specs.overlay_map.Layer.{LayerOf};
+    ghost use Rattle.bags_themes.specs.reference_resolver.Trace.{Trace};
     ghost use Rattle.bags_themes.specs.Course.{trace_from};
     ghost use Rattle.bags_themes.specs.declared.course.CourseStep.TheVariants.{LookUp};
     ghost use Rattle.box_trace.specs.Live.{live_of, MarkedMatchAll};

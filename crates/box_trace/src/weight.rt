@@ -1,8 +1,8 @@
 //! Which of the open conditions of candidates is asked next. No promise depends on it: it is a guess at the smallest tree.
 
 use crate::open_condition::open_condition;
+use bags_themes::Cand;
 use config_box::{ConfigBox, Coord, OutOfMemory, Sameness};
-use reference_resolver::Cand;
 use std::alloc::Global;
 
 /// An open condition of one of several candidates.

@@ -19,3 +19,4 @@ pub mod Without
 pub mod JudgedSteps
 pub mod Listings
 pub use Rattle.cert_checker.proofs.cert_tree
+pub use Rattle.cert_checker.proofs as cert_checker

@@ -29,7 +29,10 @@ mod parting;
 mod tree;
 mod trees;
 
-pub use cert_checker::{Cert, ConfigBox, Goal, Progress, ResId, Unwatched, Verdict, check};
+pub use cert_checker::{
+    Cert, CommonTrace, ConfigBox, Goal, OpenBox, OutOfMemory, Parting, Progress, ResId, Rule,
+    Shown, Split, Stack, Test, Unwatched, Verdict, check,
+};
 pub use laws::{least_tree, trace_equality};
 pub use made::Made;
 pub use making::{make, make_watched};

@@ -6,3 +6,4 @@ pub mod ReadsBackLemmas
 pub mod WrittenSteps
 pub use Rattle.config_box.proofs as config_box
 pub use Rattle.config_box.proofs.box_answers
+pub use Rattle.json_input.proofs as json_input_proofs

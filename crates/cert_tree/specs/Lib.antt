@@ -9,3 +9,4 @@ pub use Rattle.config_box.specs as config_box
 pub use Rattle.config_box.specs.box_answers
 pub use Rattle.res_value.specs as res_value
 pub use Rattle.res_value.specs.chunk_walk
+pub use Rattle.json_input.specs as json_input

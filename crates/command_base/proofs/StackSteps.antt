@@ -2,8 +2,8 @@
 use Rattle.std.proofs.Common.{◌≡◌, ℕ, ◌+◌, ◌<◌, ◌≤◌, List, [], ◌∷◌, ◌++◌, map, length, drop, get_or, Option, Result, Ok, Err, refl, sym, ap, ◌∙◌, append_assoc, length-append, arith}
 use Rattle.std.proofs.lemmas.List.{append-nil, drop_more, drop_all}
 use Rattle.std.specs.Borrow.{Bor}
-use Rattle.contract_words.specs.Faults.{◌>>=◌}
-use Rattle.contract_words.specs.Sequences.{with_front}
+use Rattle.fault_text.specs.contract_words.Faults.{◌>>=◌}
+use Rattle.fault_text.specs.contract_words.Sequences.{with_front}
 use Rattle.fault_text.specs.overlay_map.Layer.{LayerOf}
 use Rattle.fault_text.specs.declared.fault.ToolFault.{ToolFault}
 use Rattle.command_base.specs.StackBytes.{LayerBytes, layer_in, layers_from}

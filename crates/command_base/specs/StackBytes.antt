@@ -1,7 +1,7 @@
 -- Stacks, read from the bytes of their layers.
 use Rattle.std.specs.Prelude.{ℕ, ◌+◌, List, [], ◌∷◌, length, nat_lt, Option, Some, None, Result, Ok}
-use Rattle.contract_words.specs.Faults.{◌>>=◌, refuse}
-use Rattle.contract_words.specs.Sequences.{with_front}
+use Rattle.fault_text.specs.contract_words.Faults.{◌>>=◌, refuse}
+use Rattle.fault_text.specs.contract_words.Sequences.{with_front}
 use Rattle.fault_text.specs.resource_table.Table.{TableOf, table_in}
 use Rattle.fault_text.specs.overlay_map.IdMap.{MapOf, map_in}
 use Rattle.fault_text.specs.overlay_map.Layer.{LayerOf, most_layers}

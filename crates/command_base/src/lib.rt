@@ -21,7 +21,7 @@ mod layer_parts;
 mod stack;
 mod status;
 
-pub use fault_text::{LayersFault, Progress, Side, ToolFault, fault_text};
+pub use fault_text::{LayersFault, Progress, Side, ToolFault, answer_text, cert_tree, fault_text};
 pub use input::{InputFault, read_input};
 pub use layer_list::LayerList;
 pub use layer_parts::LayerParts;

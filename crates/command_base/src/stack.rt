@@ -2,7 +2,7 @@
 
 ghost use Rattle.std.specs.Prelude.{◌≡◌, ◌<◌, ◌≤◌, ◌∷◌, ◌++◌, [], map, length, Ok};
 ghost use Rattle.std.specs.Option.{option_map};
-ghost use Rattle.contract_words.specs.Exact.{GivesOr};
+ghost use Rattle.fault_text.specs.contract_words.Exact.{GivesOr};
 ghost use Rattle.fault_text.specs.overlay_map.Layer.{most_layers};
 ghost use Rattle.fault_text.specs.declared.fault.ToolFault.TheVariants.{OutOfMemory};
 ghost use Rattle.fault_text.specs.ToolFault.{fault_of_layer_table, fault_of_layer_map};

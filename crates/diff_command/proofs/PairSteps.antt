@@ -3,12 +3,12 @@ use Rattle.std.proofs.Common.{◌≡◌, ◌⊎◌, inl, inr, ℕ, List, [], ◌
 use Rattle.std.specs.List.{zip}
 use Rattle.std.specs.Io.KnownBytes.{Appends}
 use Rattle.contract_words.proofs.TextSteps.{PutsAllBut, PutsAllBut-next, PutsAllBut-done}
-use Rattle.config_box.specs.box_answers.NumberSet.{SetOf}
-use Rattle.stack_diff.specs.declared.outcome.Outcome.{Outcome}
-use Rattle.stack_diff.specs.name_pairs.Label.{label_of}
-use Rattle.stack_diff.specs.name_pairs.Pairs.{PairOf, pair_of}
-use Rattle.stack_diff.specs.name_pairs.declared.pair.NamePair.{NamePair}
-use Rattle.stack_diff.specs.Outcomes.{OutcomeOf, outcome_of}
+use Rattle.diff_text.specs.config_box.box_answers.NumberSet.{SetOf}
+use Rattle.diff_text.specs.stack_diff.declared.outcome.Outcome.{Outcome}
+use Rattle.diff_text.specs.name_pairs.Label.{label_of}
+use Rattle.diff_text.specs.name_pairs.Pairs.{PairOf, pair_of}
+use Rattle.diff_text.specs.name_pairs.declared.pair.NamePair.{NamePair}
+use Rattle.diff_text.specs.stack_diff.Outcomes.{OutcomeOf, outcome_of}
 use Rattle.diff_command.specs.DiffLines.{outcome_lines, pair_lines, label_lines}
 
 abbrev pub told_pairs : List NamePair → List Outcome → List (PairOf × OutcomeOf)

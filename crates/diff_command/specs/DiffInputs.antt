@@ -1,9 +1,9 @@
 -- What two stacks of layers and a box are compared by.
 use Rattle.std.specs.Prelude.{ℕ, List, Result, Ok}
 use Rattle.contract_words.specs.Faults.{◌>>=◌}
-use Rattle.config_box.specs.box_answers.NumberSet.{SetOf}
-use Rattle.config_box.specs.BoxJson.{box_in}
-use Rattle.command_base.specs.fault_text.overlay_map.Layer.{LayerOf}
+use Rattle.diff_text.specs.config_box.box_answers.NumberSet.{SetOf}
+use Rattle.diff_text.specs.config_box.BoxJson.{box_in}
+use Rattle.command_base.specs.overlay_map.Layer.{LayerOf}
 use Rattle.command_base.specs.fault_text.declared.fault.ToolFault.{ToolFault}
 use Rattle.command_base.specs.fault_text.declared.side.Side.TheVariants.{Old, New}
 use Rattle.command_base.specs.fault_text.ToolFault.{fault_of_box}

@@ -1,11 +1,11 @@
 -- What two stacks say differently, as lines.
 use Rattle.std.specs.Prelude.{ℕ, Bool, true, false, nat_lt, List, [], ◌∷◌, ◌++◌, length}
 use Rattle.std.specs.List.{flat_map, count_by, zip}
-use Rattle.config_box.specs.box_answers.NumberSet.{SetOf}
-use Rattle.stack_diff.specs.name_pairs.Label.{LabelOf}
-use Rattle.stack_diff.specs.name_pairs.Pairs.{PairOf}
-use Rattle.stack_diff.specs.Changes.{ChangeOf}
-use Rattle.stack_diff.specs.Outcomes.{OutcomeOf, RemovedOf, AddedOf, BothOf}
+use Rattle.diff_text.specs.config_box.box_answers.NumberSet.{SetOf}
+use Rattle.diff_text.specs.name_pairs.Label.{LabelOf}
+use Rattle.diff_text.specs.name_pairs.Pairs.{PairOf}
+use Rattle.diff_text.specs.stack_diff.Changes.{ChangeOf}
+use Rattle.diff_text.specs.stack_diff.Outcomes.{OutcomeOf, RemovedOf, AddedOf, BothOf}
 use Rattle.diff_text.specs.ChangeText.{change_text}
 use Rattle.diff_text.specs.NameLines.{added_line, removed_line, same_line}
 

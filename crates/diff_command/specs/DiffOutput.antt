@@ -1,12 +1,12 @@
 -- What the command `diff` prints.
 use Rattle.std.specs.Prelude.{◌≡◌, ℕ, List, [], ◌∷◌, ◌++◌, map, codes}
-use Rattle.config_box.specs.box_answers.NumberSet.{SetOf}
+use Rattle.diff_text.specs.config_box.box_answers.NumberSet.{SetOf}
 use Rattle.command_base.specs.declared.status.Status.TheVariants.{Negative}
 use Rattle.command_base.specs.Output.{Output, negative_if}
-use Rattle.stack_diff.specs.name_pairs.Pairs.{PairOf, name_pairs}
-use Rattle.stack_diff.specs.declared.outcome.Outcomes.{Outcomes}
-use Rattle.stack_diff.specs.declared.outcome.Outcomes.TheVariants.{All, NodeLimit}
-use Rattle.stack_diff.specs.Outcomes.{OutcomeOf, outcome_of, AreOutcomes}
+use Rattle.diff_text.specs.name_pairs.Pairs.{PairOf, name_pairs}
+use Rattle.diff_text.specs.stack_diff.declared.outcome.Outcomes.{Outcomes}
+use Rattle.diff_text.specs.stack_diff.declared.outcome.Outcomes.TheVariants.{All, NodeLimit}
+use Rattle.diff_text.specs.stack_diff.Outcomes.{OutcomeOf, outcome_of, AreOutcomes}
 use Rattle.diff_command.specs.DiffInputs.{DiffInputs}
 use Rattle.diff_command.specs.DiffLines.{some_differ, diff_lines}
 

@@ -2,4 +2,4 @@ pub mod DiffInputs
 pub mod DiffLines
 pub mod DiffOutput
 pub mod OpenedSeen
-pub use Rattle.stack_diff.specs.name_pairs
+pub use Rattle.diff_text.specs.name_pairs

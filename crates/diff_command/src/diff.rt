@@ -3,8 +3,8 @@
 ghost use Rattle.std.specs.Prelude.{map, Ok, IfOk};
 ghost use Rattle.command_base.specs.Output.{Prints, PrintsOneOf};
 ghost use Rattle.command_base.specs.StackBytesSeen.{layer_bytes};
-ghost use Rattle.stack_diff.specs.name_pairs.Pairs.{pair_of};
-ghost use Rattle.stack_diff.specs.Outcomes.{AreOutcomes, outcome_of};
+ghost use Rattle.diff_text.specs.name_pairs.Pairs.{pair_of};
+ghost use Rattle.diff_text.specs.stack_diff.Outcomes.{AreOutcomes, outcome_of};
 ghost use Rattle.diff_command.specs.DiffInputs.{diff_inputs};
 ghost use Rattle.diff_command.specs.DiffOutput.{told_output, outcomes_output, IsDiffOutput, IsWholeDiff};
 ghost use Rattle.diff_command.specs.OpenedSeen.{opened_diff};
@@ -12,7 +12,9 @@ ghost use Rattle.diff_command.specs.OpenedSeen.{opened_diff};
 use crate::lines::{diff_lines, some_differ};
 use crate::opened::OpenedDiff;
 use command_base::{LayerParts, Status, ToolFault};
-use stack_diff::{ConfigBox, NamePair, Outcome, Outcomes, compare_stacks, compare_with_itself};
+use diff_text::stack_diff::{
+    ConfigBox, NamePair, Outcome, Outcomes, compare_stacks, compare_with_itself,
+};
 use std::alloc::{AllocError, Global};
 use std::io::Write;
 

@@ -18,5 +18,5 @@ mod same_bytes;
 
 pub use command_base::{LayerParts, Status, ToolFault};
 pub use diff::diff_bytes;
+pub use diff_text::stack_diff::{Label, NamePair, Sides};
 pub use opened::OpenedDiff;
-pub use stack_diff::{Label, NamePair, Sides};

@@ -3,14 +3,14 @@
 ghost use Rattle.std.specs.Prelude.{◌≡◌, map, IfOk};
 ghost use Rattle.std.specs.List.{flat_map};
 ghost use Rattle.contract_words.specs.Writes.{Writes};
-ghost use Rattle.stack_diff.specs.name_pairs.Label.{label_of};
-ghost use Rattle.stack_diff.specs.name_pairs.Pairs.{pair_of};
-ghost use Rattle.stack_diff.specs.ChangeSeen.{change_of};
-ghost use Rattle.stack_diff.specs.Outcomes.{outcome_of};
+ghost use Rattle.diff_text.specs.name_pairs.Label.{label_of};
+ghost use Rattle.diff_text.specs.name_pairs.Pairs.{pair_of};
+ghost use Rattle.diff_text.specs.stack_diff.ChangeSeen.{change_of};
+ghost use Rattle.diff_text.specs.stack_diff.Outcomes.{outcome_of};
 ghost use Rattle.diff_command.specs.DiffLines.{change_lines, outcome_lines, label_lines, says_same, same_count, some_differ, diff_lines};
 
+use diff_text::stack_diff::{Change, ConfigBox, Label, NamePair, Outcome};
 use diff_text::{write_added, write_change, write_removed, write_same};
-use stack_diff::{Change, ConfigBox, Label, NamePair, Outcome};
 use std::alloc::{AllocError, Global};
 use std::io::{self, Write};
 

@@ -11,7 +11,7 @@ ghost use Rattle.diff_command.specs.DiffInputs.{diff_inputs};
 
 use crate::same_bytes::have_same_bytes;
 use command_base::{LayerParts, Side, ToolFault, open_side};
-use stack_diff::{ConfigBox, NamePair, Stack, name_pairs};
+use diff_text::stack_diff::{ConfigBox, NamePair, Stack, name_pairs};
 use std::alloc::{AllocError, Global};
 
 /// The layers before a change and those after it, and the box.
@@ -24,7 +24,7 @@ pub struct OpenedDiff<'a> {
 }
 
 impl<'a> OpenedDiff<'a> {
-    ghost use Rattle.stack_diff.specs.name_pairs.Pairs.{pair_of, name_pairs};
+    ghost use Rattle.diff_text.specs.name_pairs.Pairs.{pair_of, name_pairs};
     ghost use Rattle.diff_command.specs.OpenedSeen.{opened_diff};
 
     /// Opens the old layers, then the new ones, and then reads the box.

@@ -14,17 +14,17 @@ use Rattle.std.proofs.lemmas.List.Kept.{AllPairs-from_increasing}
 use Rattle.std.proofs.lemmas.Map.Keys.{IsDistinct-push}
 use Rattle.std.proofs.lemmas.Map.Made.{IsDistinct-from_AllPairs, length-le_from_is_member}
 use Rattle.std.proofs.lemmas.Map.Views.{Contains-from_any}
-use Rattle.config_box.specs.config_record.declared.coord.Coord.{Coord}
-use Rattle.config_box.specs.config_record.declared.coord.Coord.TheVariants as coords
-use Rattle.config_box.specs.config_record.Coord.{all_coords, place_of}
-use Rattle.config_box.specs.config_record.ComparedNumber.{device_number}
-use Rattle.config_box.proofs.config_record.ChangedNumber.{number_at-set_same, number_at-set_other}
-use Rattle.config_box.proofs.config_record.DeviceLemmas.{coordinate-at_place, place_of-within}
-use Rattle.config_box.proofs.box_answers.Coords.{all_coords-count}
-use Rattle.config_box.proofs.box_answers.Sets.{member-changed}
-use Rattle.config_box.proofs.box_answers.SomeMember.{some_member}
-use Rattle.config_box.specs.box_answers.NumberSet.{SetOf, RangeOf, NumbersOf, LocalesOf, IsIn, IsProper}
-use Rattle.config_box.specs.box_answers.Members.{set_at, IsMember, IsBox}
+use Rattle.stack_diff.specs.config_box.config_record.declared.coord.Coord.{Coord}
+use Rattle.stack_diff.specs.config_box.config_record.declared.coord.Coord.TheVariants as coords
+use Rattle.stack_diff.specs.config_box.config_record.Coord.{all_coords, place_of}
+use Rattle.stack_diff.specs.config_box.config_record.ComparedNumber.{device_number}
+use Rattle.stack_diff.proofs.config_record.ChangedNumber.{number_at-set_same, number_at-set_other}
+use Rattle.stack_diff.proofs.config_record.DeviceLemmas.{coordinate-at_place, place_of-within}
+use Rattle.stack_diff.proofs.box_answers.Coords.{all_coords-count}
+use Rattle.stack_diff.proofs.box_answers.Sets.{member-changed}
+use Rattle.stack_diff.proofs.box_answers.SomeMember.{some_member}
+use Rattle.stack_diff.specs.config_box.box_answers.NumberSet.{SetOf, RangeOf, NumbersOf, LocalesOf, IsIn, IsProper}
+use Rattle.stack_diff.specs.config_box.box_answers.Members.{set_at, IsMember, IsBox}
 use Rattle.diff_text.specs.DevicesText.{number_count, is_narrower}
 use Rattle.diff_text.specs.DevicesLaw.{DevicesAreNamed}
 

@@ -7,10 +7,10 @@ use Rattle.std.proofs.KnownBytes.{Appends-trans}
 use Rattle.std.proofs.lemmas.List.{nil_from_length}
 use Rattle.contract_words.specs.Writes.{Writes}
 use Rattle.string_pool.proofs.WriteSteps.{WroteAllBut, WroteAllBut-next}
-use Rattle.resource_content.specs.declared.content.RowContent.{RowContent}
-use Rattle.resource_content.specs.Content.{RowContentOf}
-use Rattle.resource_content.specs.ContentSeen.{row_content_of}
-use Rattle.resource_content.specs.ByName.{is_named_before}
+use Rattle.stack_diff.specs.resource_content.declared.content.RowContent.{RowContent}
+use Rattle.stack_diff.specs.resource_content.Content.{RowContentOf}
+use Rattle.stack_diff.specs.resource_content.ContentSeen.{row_content_of}
+use Rattle.stack_diff.specs.resource_content.ByName.{is_named_before}
 use Rattle.diff_text.specs.RowsText.{changed_row, removed_row, added_row, rows_text}
 
 -- all that is left

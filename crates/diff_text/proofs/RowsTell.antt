@@ -9,8 +9,8 @@ use Rattle.std.specs.declared.cmp.Ordering.TheVariants.{Less, Equal, Greater}
 use Rattle.std.proofs.lemmas.Bool.{cases_Bool}
 use Rattle.std.proofs.lemmas.Map.Lookups.{exact_bytes}
 use Rattle.std.proofs.lemmas.Slice.Eq.{bytes_eq-Decides}
-use Rattle.resource_content.specs.Content.{RowContentOf}
-use Rattle.resource_content.specs.ByName.{is_named_before}
+use Rattle.stack_diff.specs.resource_content.Content.{RowContentOf}
+use Rattle.stack_diff.specs.resource_content.ByName.{is_named_before}
 use Rattle.diff_text.specs.RowsText.{changed_row, removed_row, added_row, rows_text}
 use Rattle.diff_text.specs.RowsLaw.{RowsTell}
 use Rattle.diff_text.proofs.RowSteps.{removed_first, added_first, both_first}

@@ -1,9 +1,9 @@
 -- What a resource says before and after, where that differs, as text.
 use Rattle.std.specs.Prelude.{ℕ, ◌&&◌, List, [], ◌∷◌, ◌++◌, codes, if◌then◌else◌}
-use Rattle.config_box.specs.box_answers.NumberSet.{SetOf}
-use Rattle.name_pairs.specs.Label.{LabelOf}
-use Rattle.resource_content.specs.Content.{RowContentOf, ContentOf, ValueOf, BagOf, AbsentOf, TooManyReferencesOf, TooManyParentsOf}
-use Rattle.resource_content.specs.LabelText.{label_text}
+use Rattle.stack_diff.specs.config_box.box_answers.NumberSet.{SetOf}
+use Rattle.stack_diff.specs.name_pairs.Label.{LabelOf}
+use Rattle.stack_diff.specs.resource_content.Content.{RowContentOf, ContentOf, ValueOf, BagOf, AbsentOf, TooManyReferencesOf, TooManyParentsOf}
+use Rattle.stack_diff.specs.resource_content.LabelText.{label_text}
 use Rattle.diff_text.specs.DevicesText.{devices_text}
 use Rattle.diff_text.specs.ContentText.{is_bag, content_text}
 use Rattle.diff_text.specs.RowsText.{rows_text}

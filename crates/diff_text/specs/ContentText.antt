@@ -1,6 +1,6 @@
 -- What a resource says, as it stands on one side of an arrow.
 use Rattle.std.specs.Prelude.{ℕ, Bool, true, false, List, ◌++◌, codes}
-use Rattle.resource_content.specs.Content.{ContentOf, ValueOf, BagOf, AbsentOf, TooManyReferencesOf, TooManyParentsOf}
+use Rattle.stack_diff.specs.resource_content.Content.{ContentOf, ValueOf, BagOf, AbsentOf, TooManyReferencesOf, TooManyParentsOf}
 
 abbrev pub is_bag : ContentOf → Bool
 is_bag (ValueOf text) = false

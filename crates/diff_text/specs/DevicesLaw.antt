@@ -1,9 +1,9 @@
 -- Which devices a line names.
 use Rattle.std.specs.Prelude.{◌≡◌, ◌↔◌, ℕ, true, List}
-use Rattle.config_box.specs.config_record.declared.coord.Coord.{Coord}
-use Rattle.config_box.specs.config_record.ComparedNumber.{device_number}
-use Rattle.config_box.specs.box_answers.NumberSet.{SetOf, IsIn}
-use Rattle.config_box.specs.box_answers.Members.{set_at, IsMember, IsBox}
+use Rattle.stack_diff.specs.config_box.config_record.declared.coord.Coord.{Coord}
+use Rattle.stack_diff.specs.config_box.config_record.ComparedNumber.{device_number}
+use Rattle.stack_diff.specs.config_box.box_answers.NumberSet.{SetOf, IsIn}
+use Rattle.stack_diff.specs.config_box.box_answers.Members.{set_at, IsMember, IsBox}
 use Rattle.diff_text.specs.DevicesText.{is_narrower}
 
 -- a device of the whole box that has one of the part's numbers wherever the part is narrower, which is all that a line tells

@@ -2,12 +2,12 @@
 use Rattle.std.specs.Prelude.{ℕ, ◌+◌, ◌-◌, ◌==◌, nat_lt, Bool, List, [], ◌∷◌, ◌++◌, length, codes, if◌then◌else◌}
 use Rattle.std.specs.List.{flat_map, list_any}
 use Rattle.std.specs.Fmt.{decimal}
-use Rattle.config_box.specs.config_record.declared.coord.Coord.{Coord}
-use Rattle.config_box.specs.config_record.Coord.{all_coords, name_of}
-use Rattle.config_box.specs.config_record.ComparedNumber.{locale_of_number}
-use Rattle.config_box.specs.config_record.Locale.{locale_text}
-use Rattle.config_box.specs.box_answers.NumberSet.{SetOf, RangeOf, NumbersOf, LocalesOf}
-use Rattle.config_box.specs.box_answers.Members.{set_at}
+use Rattle.stack_diff.specs.config_box.config_record.declared.coord.Coord.{Coord}
+use Rattle.stack_diff.specs.config_box.config_record.Coord.{all_coords, name_of}
+use Rattle.stack_diff.specs.config_box.config_record.ComparedNumber.{locale_of_number}
+use Rattle.stack_diff.specs.config_box.config_record.Locale.{locale_text}
+use Rattle.stack_diff.specs.config_box.box_answers.NumberSet.{SetOf, RangeOf, NumbersOf, LocalesOf}
+use Rattle.stack_diff.specs.config_box.box_answers.Members.{set_at}
 
 -- ---- the values of a coordinate
 

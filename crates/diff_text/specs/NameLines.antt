@@ -1,8 +1,8 @@
 -- The lines of names that one stack alone has, and of those that say the same in both.
 use Rattle.std.specs.Prelude.{ℕ, List, [], ◌∷◌, ◌++◌, codes}
 use Rattle.std.specs.Fmt.{decimal}
-use Rattle.name_pairs.specs.Label.{LabelOf}
-use Rattle.resource_content.specs.LabelText.{label_text}
+use Rattle.stack_diff.specs.name_pairs.Label.{LabelOf}
+use Rattle.stack_diff.specs.resource_content.LabelText.{label_text}
 
 -- the line `added LABEL`
 unfoldable pub added_line : LabelOf → List ℕ

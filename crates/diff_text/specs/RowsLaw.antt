@@ -1,6 +1,6 @@
 -- Why no row that differs is left out.
 use Rattle.std.specs.Prelude.{◌≡◌, List, []}
-use Rattle.resource_content.specs.Content.{RowContentOf}
+use Rattle.stack_diff.specs.resource_content.Content.{RowContentOf}
 use Rattle.diff_text.specs.RowsText.{rows_text}
 
 -- Rows of which nothing is told are the same.

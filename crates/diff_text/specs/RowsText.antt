@@ -2,8 +2,8 @@
 use Rattle.std.specs.Prelude.{ℕ, List, [], ◌∷◌, ◌++◌, codes, if◌then◌else◌}
 use Rattle.std.specs.List.{flat_map}
 use Rattle.std.specs.Str.{bytes_eq}
-use Rattle.resource_content.specs.Content.{RowContentOf}
-use Rattle.resource_content.specs.ByName.{is_named_before}
+use Rattle.stack_diff.specs.resource_content.Content.{RowContentOf}
+use Rattle.stack_diff.specs.resource_content.ByName.{is_named_before}
 
 -- the line `  removed NAME VALUE`
 unfoldable pub removed_row : RowContentOf → List ℕ

@@ -1,2 +1,2 @@
 -- Definitions of the crates below that functions of this crate unfold.
-unfoldable pub use Rattle.config_box.specs.config_record.Coord.{all_coords}
+unfoldable pub use Rattle.stack_diff.specs.config_box.config_record.Coord.{all_coords}

@@ -2,15 +2,14 @@
 
 ghost use Rattle.std.specs.Prelude.{◌≡◌, map};
 ghost use Rattle.contract_words.specs.Writes.{Writes};
-ghost use Rattle.name_pairs.specs.Label.{label_of};
-ghost use Rattle.resource_content.specs.ContentSeen.{row_content_of, content_of};
+ghost use Rattle.stack_diff.specs.name_pairs.Label.{label_of};
+ghost use Rattle.stack_diff.specs.resource_content.ContentSeen.{row_content_of, content_of};
 ghost use Rattle.diff_text.specs.ChangeText.{contents_text, changed_line, rows_in, change_text};
 
 use crate::content_text::{is_bag, write_content};
 use crate::devices_text::write_devices;
 use crate::rows_text::write_rows;
-use config_box::ConfigBox;
-use resource_content::{Content, Label, RowContent, write_label};
+use stack_diff::{ConfigBox, Content, Label, RowContent, write_label};
 use std::io::{self, Write};
 
 /// Writes what a resource says before and after on the devices of a part of the whole box, and a line for each row of a

@@ -2,10 +2,10 @@
 
 ghost use Rattle.std.specs.Prelude.{◌≡◌};
 ghost use Rattle.contract_words.specs.Writes.{Writes};
-ghost use Rattle.resource_content.specs.ContentSeen.{content_of};
+ghost use Rattle.stack_diff.specs.resource_content.ContentSeen.{content_of};
 ghost use Rattle.diff_text.specs.ContentText.{is_bag, content_text};
 
-use resource_content::Content;
+use stack_diff::Content;
 use std::io::{self, Write};
 
 pub(crate) fn is_bag(content: &Content) -> bool

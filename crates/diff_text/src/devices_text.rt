@@ -4,13 +4,13 @@ ghost use Rattle.std.specs.Prelude.{◌≡◌};
 ghost use Rattle.std.specs.List.{flat_map, list_any};
 ghost use Rattle.std.specs.Fmt.{decimal};
 ghost use Rattle.contract_words.specs.Writes.{Writes};
-ghost use Rattle.config_box.specs.BoxSeen.{values_seen};
-ghost use Rattle.config_box.specs.box_answers.NumberSet.{locale_numbers};
-ghost use Rattle.config_box.specs.box_answers.Members.{set_at};
-ghost use Rattle.config_box.specs.config_record.ComparedNumber.{locale_number};
+ghost use Rattle.stack_diff.specs.config_box.BoxSeen.{values_seen};
+ghost use Rattle.stack_diff.specs.config_box.box_answers.NumberSet.{locale_numbers};
+ghost use Rattle.stack_diff.specs.config_box.box_answers.Members.{set_at};
+ghost use Rattle.stack_diff.specs.config_box.config_record.ComparedNumber.{locale_number};
 ghost use Rattle.diff_text.specs.DevicesText.{range_text, locale_value, next_value, listed, values_text, number_count, is_narrower, coord_text, narrower_text, on_text, devices_text};
 
-use config_box::{ConfigBox, Coord, Locale, Values, write_locale};
+use stack_diff::{ConfigBox, Coord, Locale, Values, write_locale};
 use std::io::{self, Write};
 
 /// Writes which devices a part of a box has: the values of each coordinate at which it has fewer numbers than the

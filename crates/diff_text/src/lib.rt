@@ -25,8 +25,8 @@ mod name_lines;
 mod rows_text;
 
 pub use change_text::write_change;
-pub use config_box::ConfigBox;
 pub use devices_text::write_devices;
 pub use laws::{devices_are_named, rows_tell};
 pub use name_lines::{write_added, write_removed, write_same};
-pub use resource_content::{Content, Label, RowContent, write_label};
+pub use stack_diff;
+pub use stack_diff::{ConfigBox, Content, Label, RowContent, write_label};

@@ -1,10 +1,10 @@
 //! The lines of names that one stack alone has, and of those that say the same in both.
 
 ghost use Rattle.contract_words.specs.Writes.{Writes};
-ghost use Rattle.name_pairs.specs.Label.{label_of};
+ghost use Rattle.stack_diff.specs.name_pairs.Label.{label_of};
 ghost use Rattle.diff_text.specs.NameLines.{added_line, removed_line, same_line};
 
-use resource_content::{Label, write_label};
+use stack_diff::{Label, write_label};
 use std::io::{self, Write};
 
 /// Writes the line of a name that the new stack alone has.

@@ -3,11 +3,11 @@
 ghost use Rattle.std.specs.Prelude.{◌≡◌, [], ◌∷◌, ◌++◌, codes, map};
 ghost use Rattle.std.specs.List.{flat_map};
 ghost use Rattle.contract_words.specs.Writes.{Writes};
-ghost use Rattle.resource_content.specs.ByName.{is_named_before};
-ghost use Rattle.resource_content.specs.ContentSeen.{row_content_of};
+ghost use Rattle.stack_diff.specs.resource_content.ByName.{is_named_before};
+ghost use Rattle.stack_diff.specs.resource_content.ContentSeen.{row_content_of};
 ghost use Rattle.diff_text.specs.RowsText.{changed_row, removed_row, added_row, rows_text};
 
-use resource_content::RowContent;
+use stack_diff::RowContent;
 use std::io::{self, Write};
 
 /// Writes a line for each row in which two bags differ. Both have their rows in the order of names.

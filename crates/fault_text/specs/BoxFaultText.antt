@@ -2,7 +2,7 @@
 use Rattle.std.specs.Prelude.{ℕ, List, codes}
 use Rattle.cert_tree.specs.config_box.declared.box_fault.BoxFault.{BoxFault}
 use Rattle.cert_tree.specs.config_box.declared.box_fault.BoxFault.TheVariants.{Syntax, Shape, Empty, TooMany, FieldRange, RegionAlone, Density, OutOfMemory}
-use Rattle.line_parts.specs.NamedText.{named_coord}
+use Rattle.answer_text.specs.NamedText.{named_coord}
 
 unfoldable pub box_fault_text : BoxFault → List ℕ
 box_fault_text Syntax = codes "Syntax"

@@ -1,8 +1,8 @@
 -- The name of a device's fault, and the coordinate that has it.
 use Rattle.std.specs.Prelude.{ℕ, List, codes}
-use Rattle.overlay_map.specs.config_record.declared.fields.DeviceFault.{DeviceFault}
-use Rattle.overlay_map.specs.config_record.declared.fields.DeviceFault.TheVariants.{Syntax, Shape, FieldRange, RegionAlone, Density, OutOfMemory}
-use Rattle.line_parts.specs.NamedText.{named_coord}
+use Rattle.answer_text.specs.config_record.declared.fields.DeviceFault.{DeviceFault}
+use Rattle.answer_text.specs.config_record.declared.fields.DeviceFault.TheVariants.{Syntax, Shape, FieldRange, RegionAlone, Density, OutOfMemory}
+use Rattle.answer_text.specs.NamedText.{named_coord}
 
 unfoldable pub device_fault_text : DeviceFault → List ℕ
 device_fault_text Syntax = codes "Syntax"

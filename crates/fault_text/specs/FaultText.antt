@@ -2,7 +2,7 @@
 use Rattle.std.specs.Prelude.{ℕ, List, [], ◌∷◌, ◌++◌, codes}
 use Rattle.fault_text.specs.declared.fault.ToolFault.{ToolFault}
 use Rattle.fault_text.specs.declared.fault.ToolFault.TheVariants.{Table, Layers, LayerTable, LayerMap, SideLayers, SideTable, SideMap, Device, Box, Certificate, OutOfMemory, Write}
-use Rattle.line_parts.specs.LayerText.{layer_text}
+use Rattle.answer_text.specs.LayerText.{layer_text}
 use Rattle.fault_text.specs.SideName.{side_name}
 use Rattle.fault_text.specs.TableFaultText.{table_fault_text}
 use Rattle.fault_text.specs.LayersFaultText.{layers_fault_text}

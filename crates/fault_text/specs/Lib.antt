@@ -7,5 +7,9 @@ pub mod BoxFaultText
 pub mod CertFaultText
 pub mod SideName
 pub mod FaultText
-pub use Rattle.overlay_map.specs as overlay_map
-pub use Rattle.overlay_map.specs.resource_table
+pub use Rattle.answer_text.specs as answer_text
+pub use Rattle.answer_text.specs.contract_words
+pub use Rattle.answer_text.specs.overlay_map
+pub use Rattle.answer_text.specs.resource_table
+pub use Rattle.cert_tree.specs as cert_tree
+pub use Rattle.cert_tree.specs.json_input

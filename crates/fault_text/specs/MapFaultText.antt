@@ -1,8 +1,8 @@
 -- The name of a fault of an id map, and the id that has it.
 use Rattle.std.specs.Prelude.{ℕ, List, codes}
-use Rattle.overlay_map.specs.declared.map_fault.MapFault.{MapFault}
-use Rattle.overlay_map.specs.declared.map_fault.MapFault.TheVariants.{Syntax, Shape, Repeated, OtherPackage, OutOfMemory}
-use Rattle.line_parts.specs.NamedText.{named_id}
+use Rattle.answer_text.specs.overlay_map.declared.map_fault.MapFault.{MapFault}
+use Rattle.answer_text.specs.overlay_map.declared.map_fault.MapFault.TheVariants.{Syntax, Shape, Repeated, OtherPackage, OutOfMemory}
+use Rattle.answer_text.specs.NamedText.{named_id}
 
 unfoldable pub map_fault_text : MapFault → List ℕ
 map_fault_text Syntax = codes "Syntax"

@@ -2,11 +2,11 @@
 use Rattle.std.specs.Prelude.{ℕ, List, ◌++◌, codes}
 use Rattle.cert_tree.specs.chunk_walk.declared.chunk.ChunkFault.{ChunkFault}
 use Rattle.cert_tree.specs.chunk_walk.declared.chunk.ChunkFault.TheVariants.{Truncated, HeaderShort, HeaderLong, Misaligned, Oversize}
-use Rattle.overlay_map.specs.string_pool.declared.fault.PoolFault.{PoolFault}
-use Rattle.overlay_map.specs.string_pool.declared.fault.PoolFault.TheVariants as of_pool
-use Rattle.overlay_map.specs.type_chunks.declared.fault.TableFault.{TableFault}
-use Rattle.overlay_map.specs.type_chunks.declared.fault.TableFault.TheVariants as of_table
-use Rattle.line_parts.specs.NamedText.{named_number}
+use Rattle.answer_text.specs.string_pool.declared.fault.PoolFault.{PoolFault}
+use Rattle.answer_text.specs.string_pool.declared.fault.PoolFault.TheVariants as of_pool
+use Rattle.answer_text.specs.type_chunks.declared.fault.TableFault.{TableFault}
+use Rattle.answer_text.specs.type_chunks.declared.fault.TableFault.TheVariants as of_table
+use Rattle.answer_text.specs.NamedText.{named_number}
 
 -- the name of a chunk's fault, and its place
 unfoldable pub inner_chunk_fault_text : ChunkFault → List ℕ

@@ -1,17 +1,17 @@
 -- The faults of the parts of an input, as faults of the command. Want of memory is the command's own.
 use Rattle.std.specs.Prelude.{ℕ}
-use Rattle.overlay_map.specs.config_record.declared.fields.DeviceFault.{DeviceFault}
-use Rattle.overlay_map.specs.config_record.declared.fields.DeviceFault.TheVariants as of_device
+use Rattle.answer_text.specs.config_record.declared.fields.DeviceFault.{DeviceFault}
+use Rattle.answer_text.specs.config_record.declared.fields.DeviceFault.TheVariants as of_device
 use Rattle.cert_tree.specs.config_box.declared.box_fault.BoxFault.{BoxFault}
 use Rattle.cert_tree.specs.config_box.declared.box_fault.BoxFault.TheVariants as of_box
 use Rattle.cert_tree.specs.declared.cert_fault.CertFault.{CertFault}
 use Rattle.cert_tree.specs.declared.cert_fault.CertFault.TheVariants as of_certificate
-use Rattle.overlay_map.specs.type_chunks.declared.fault.TableFault.{TableFault}
-use Rattle.overlay_map.specs.type_chunks.declared.fault.TableFault.TheVariants as of_table
-use Rattle.overlay_map.specs.declared.map_fault.MapFault.{MapFault}
-use Rattle.overlay_map.specs.declared.map_fault.MapFault.TheVariants as of_map
-use Rattle.overlay_map.specs.declared.stack_fault.StackFault.{StackFault}
-use Rattle.overlay_map.specs.declared.stack_fault.StackFault.TheVariants as of_stack
+use Rattle.answer_text.specs.type_chunks.declared.fault.TableFault.{TableFault}
+use Rattle.answer_text.specs.type_chunks.declared.fault.TableFault.TheVariants as of_table
+use Rattle.answer_text.specs.overlay_map.declared.map_fault.MapFault.{MapFault}
+use Rattle.answer_text.specs.overlay_map.declared.map_fault.MapFault.TheVariants as of_map
+use Rattle.answer_text.specs.overlay_map.declared.stack_fault.StackFault.{StackFault}
+use Rattle.answer_text.specs.overlay_map.declared.stack_fault.StackFault.TheVariants as of_stack
 use Rattle.fault_text.specs.declared.layers_fault.LayersFault.{LayersFault}
 use Rattle.fault_text.specs.declared.layers_fault.LayersFault.TheVariants as of_layers
 use Rattle.fault_text.specs.declared.side.Side.{Side}

@@ -1,10 +1,10 @@
 //! Faults of a box, written.
 
-ghost use Rattle.contract_words.specs.Writes.{Writes};
+ghost use Rattle.answer_text.specs.contract_words.Writes.{Writes};
 ghost use Rattle.fault_text.specs.BoxFaultText.{box_fault_text};
 
+use answer_text::write_named_coord;
 use cert_tree::BoxFault;
-use line_parts::write_named_coord;
 use std::io::{self, Write};
 
 /// Writes the name of a box's fault, and the coordinate that has it.

@@ -1,6 +1,6 @@
 //! Faults of a certificate, written.
 
-ghost use Rattle.contract_words.specs.Writes.{Writes};
+ghost use Rattle.answer_text.specs.contract_words.Writes.{Writes};
 ghost use Rattle.fault_text.specs.CertFaultText.{node_shape_text, cert_fault_text};
 
 use cert_tree::CertFault;

@@ -1,10 +1,10 @@
 //! Faults of a device, written.
 
-ghost use Rattle.contract_words.specs.Writes.{Writes};
+ghost use Rattle.answer_text.specs.contract_words.Writes.{Writes};
 ghost use Rattle.fault_text.specs.DeviceFaultText.{device_fault_text};
 
-use line_parts::write_named_coord;
-use overlay_map::DeviceFault;
+use answer_text::overlay_map::DeviceFault;
+use answer_text::write_named_coord;
 use std::io::{self, Write};
 
 /// Writes the name of a device's fault, and the coordinate that has it.

@@ -1,8 +1,8 @@
 //! Why a command was not carried out, and the line that says so.
 
 ghost use Rattle.std.specs.Prelude.{◌≡◌, ◌++◌, if◌then◌else◌, codes};
-ghost use Rattle.contract_words.specs.Writes.{Writes};
-ghost use Rattle.line_parts.specs.LayerText.{layer_text};
+ghost use Rattle.answer_text.specs.contract_words.Writes.{Writes};
+ghost use Rattle.answer_text.specs.LayerText.{layer_text};
 ghost use Rattle.fault_text.specs.FaultText.{part_text, reason_text, fault_line};
 ghost use Rattle.fault_text.specs.SideName.{side_name};
 ghost use Rattle.fault_text.specs.ToolFault.{fault_of_layer_table, fault_of_layer_map, fault_on_side};
@@ -15,9 +15,9 @@ use crate::layers_fault::{LayersFault, write_layers_fault};
 use crate::map_fault::write_map_fault;
 use crate::side::Side;
 use crate::table_fault::write_table_fault;
+use answer_text::overlay_map::{DeviceFault, MapFault, StackFault, TableFault};
+use answer_text::write_layer;
 use cert_tree::{BoxFault, CertFault};
-use line_parts::write_layer;
-use overlay_map::{DeviceFault, MapFault, StackFault, TableFault};
 use std::alloc::AllocError;
 use std::io::{self, Write};
 use thiserror::Error;

@@ -1,12 +1,12 @@
 //! Why a list of layers is refused, and the name that says so.
 
 ghost use Rattle.std.specs.Prelude.{◌≡◌};
-ghost use Rattle.contract_words.specs.Writes.{Writes};
-ghost use Rattle.json_input.specs.Fault.{fault_of_text};
+ghost use Rattle.answer_text.specs.contract_words.Writes.{Writes};
+ghost use Rattle.cert_tree.specs.json_input.Fault.{fault_of_text};
 ghost use Rattle.fault_text.specs.declared.layers_fault.LayersFault.TheVariants.{Syntax, OutOfMemory};
 ghost use Rattle.fault_text.specs.LayersFaultText.{layers_fault_text};
 
-use json_input::JsonFault;
+use cert_tree::json_input::JsonFault;
 use std::alloc::{AllocError, AllocFailed};
 use std::io::{self, Write};
 use thiserror::Error;

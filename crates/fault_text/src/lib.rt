@@ -22,8 +22,10 @@ mod map_fault;
 mod side;
 mod table_fault;
 
-pub use cert_tree::Progress;
+pub use answer_text;
+pub use answer_text::overlay_map::{IdMap, MOST_LAYERS, MapFault, Stack, Table, TableFault};
+pub use cert_tree;
+pub use cert_tree::{Progress, json_input};
 pub use fault::{ToolFault, fault_text};
 pub use layers_fault::LayersFault;
-pub use overlay_map::{IdMap, MOST_LAYERS, MapFault, Stack, Table, TableFault};
 pub use side::Side;

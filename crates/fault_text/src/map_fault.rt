@@ -1,10 +1,10 @@
 //! Faults of an id map, written.
 
-ghost use Rattle.contract_words.specs.Writes.{Writes};
+ghost use Rattle.answer_text.specs.contract_words.Writes.{Writes};
 ghost use Rattle.fault_text.specs.MapFaultText.{map_fault_text};
 
-use line_parts::write_named_id;
-use overlay_map::MapFault;
+use answer_text::overlay_map::MapFault;
+use answer_text::write_named_id;
 use std::io::{self, Write};
 
 /// Writes the name of a fault of an id map, and the id that has it.

@@ -1,12 +1,12 @@
 //! Faults of a table, written.
 
 ghost use Rattle.std.specs.Prelude.{◌≡◌};
-ghost use Rattle.contract_words.specs.Writes.{Writes};
+ghost use Rattle.answer_text.specs.contract_words.Writes.{Writes};
 ghost use Rattle.fault_text.specs.TableFaultText.{inner_chunk_fault_text, chunk_fault_text, pool_fault_name, pool_fault_text, table_fault_text};
 
+use answer_text::overlay_map::{PoolFault, TableFault};
+use answer_text::write_named_number;
 use cert_tree::ChunkFault;
-use line_parts::write_named_number;
-use overlay_map::{PoolFault, TableFault};
 use std::io::{self, Write};
 
 /// Writes the names of a table's fault from outside in, and its place.

@@ -13,5 +13,5 @@
 
 mod join;
 
-pub use config_box::{ConfigBox, OutOfMemory};
+pub use config_box::{ConfigBox, Coord, Locale, OutOfMemory, Values, write_locale};
 pub use join::join_boxes;

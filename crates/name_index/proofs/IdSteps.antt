@@ -5,8 +5,8 @@ use Rattle.std.proofs.lemmas.List.Sums.{fold-append}
 use Rattle.std.specs.BTreeSet.{insert_key}
 use Rattle.std.specs.List.{flat_map}
 use Rattle.std.specs.Ordering.{nat_cmp}
-use Rattle.resource_table.specs.Table.{TableOf, rows_of}
-use Rattle.type_chunks.specs.Row.{RowOf}
+use Rattle.overlay_map.specs.resource_table.Table.{TableOf, rows_of}
+use Rattle.overlay_map.specs.type_chunks.Row.{RowOf}
 use Rattle.name_index.specs.IdsOfType.{is_of_type, numbers_of_type, put_each}
 
 pub put_each-none : (keys : List ℕ) → put_each keys [] ≡ keys

@@ -1,13 +1,13 @@
 -- Rows that were noted.
 use Rattle.std.proofs.Common.{◌≡◌, ℕ, ◌+◌, ◌-◌, Bool, true, false, ◌&&◌, Option, Some, None, Result, List, [], ◌∷◌, ◌⊎◌, map, slice_get, nat_lt, refl, sym, ap, ◌∙◌, ⊎_elim}
 use Rattle.contract_words.specs.Faults.{◌>>=◌, refuse}
-use Rattle.resource_table.specs.Names.{type_name_in, key_name_in, is_name, found_package}
-use Rattle.resource_table.specs.Table.{TableOf}
-use Rattle.type_chunks.specs.res_value.declared.res_id.ResId.{ResId}
-use Rattle.type_chunks.specs.Row.{RowOf}
-use Rattle.type_chunks.specs.string_pool.Text.{TextOf, text_in}
-use Rattle.type_chunks.specs.string_pool.declared.fault.StringFault.{StringFault}
-use Rattle.type_chunks.specs.string_pool.declared.fault.StringFault.TheVariants.{NoSuch}
+use Rattle.overlay_map.specs.resource_table.Names.{type_name_in, key_name_in, is_name, found_package}
+use Rattle.overlay_map.specs.resource_table.Table.{TableOf}
+use Rattle.overlay_map.specs.res_value.declared.res_id.ResId.{ResId}
+use Rattle.overlay_map.specs.type_chunks.Row.{RowOf}
+use Rattle.string_pool.specs.Text.{TextOf, text_in}
+use Rattle.string_pool.specs.declared.fault.StringFault.{StringFault}
+use Rattle.string_pool.specs.declared.fault.StringFault.TheVariants.{NoSuch}
 use Rattle.name_index.specs.declared.passed.Passed.{Passed}
 use Rattle.name_index.specs.declared.sought.Sought.{Sought}
 use Rattle.name_index.specs.Passed.{type_of_row, was_passed, HaveSameNames, AreNoted}

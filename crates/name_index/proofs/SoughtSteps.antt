@@ -8,10 +8,10 @@ use Rattle.std.specs.List.{Contains}
 use Rattle.std.specs.Option.{option_map, option_or}
 use Rattle.std.specs.Str.{IsUtf8, is_utf8}
 use Rattle.std.proofs.lemmas.Str.{IsUtf8-from_is_utf8}
-use Rattle.resource_table.specs.Names.{key_name_in, type_name_in, is_name}
-use Rattle.resource_table.specs.Table.{TableOf, rows_of}
-use Rattle.type_chunks.specs.res_value.declared.res_id.ResId.{ResId}
-use Rattle.type_chunks.specs.Row.{RowOf}
+use Rattle.overlay_map.specs.resource_table.Names.{key_name_in, type_name_in, is_name}
+use Rattle.overlay_map.specs.resource_table.Table.{TableOf, rows_of}
+use Rattle.overlay_map.specs.res_value.declared.res_id.ResId.{ResId}
+use Rattle.overlay_map.specs.type_chunks.Row.{RowOf}
 use Rattle.name_index.specs.declared.places.Places.{Places}
 use Rattle.name_index.specs.declared.name.Name.{Name}
 use Rattle.name_index.specs.declared.sought.Sought.{Sought}

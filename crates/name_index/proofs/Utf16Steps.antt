@@ -10,7 +10,7 @@ use Rattle.std.specs.Char.Escape.{encode_utf16}
 use Rattle.std.specs.Char.Utf16.{utf16_chars, lone_unit_char, surrogate_pair_char, utf16_lossy_chars, has_unpaired_surrogate}
 use Rattle.std.specs.List.{flat_map, list_any}
 use Rattle.std.specs.Str.{IsUtf8, chars}
-use Rattle.resource_table.specs.Names.{is_name}
+use Rattle.overlay_map.specs.resource_table.Names.{is_name}
 use Rattle.string_pool.specs.Text.{TextOf, is_text_of}
 use Rattle.string_pool.specs.Units.{units_in, units_of}
 use Rattle.string_pool.specs.declared.fault.StringFault.{StringFault}

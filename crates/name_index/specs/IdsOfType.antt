@@ -3,10 +3,10 @@ use Rattle.std.specs.Prelude.{ℕ, Bool, true, List, [], map, filter, Option, So
 use Rattle.std.specs.List.{flat_map, fold}
 use Rattle.std.specs.BTreeSet.{insert_key}
 use Rattle.std.specs.Ordering.{nat_cmp}
-use Rattle.resource_table.specs.Names.{type_name_in, is_name}
-use Rattle.resource_table.specs.Table.{TableOf, rows_of}
-use Rattle.type_chunks.specs.res_value.declared.res_id.ResId.{ResId}
-use Rattle.type_chunks.specs.Row.{RowOf}
+use Rattle.overlay_map.specs.resource_table.Names.{type_name_in, is_name}
+use Rattle.overlay_map.specs.resource_table.Table.{TableOf, rows_of}
+use Rattle.overlay_map.specs.res_value.declared.res_id.ResId.{ResId}
+use Rattle.overlay_map.specs.type_chunks.Row.{RowOf}
 
 -- a row whose type has this name; every row where no name is asked for
 abbrev pub is_of_type : Option (List ℕ) → TableOf → RowOf → Bool

@@ -4,3 +4,4 @@ pub mod Places
 pub mod IdsOfType
 pub mod Passed
 pub mod NameText
+pub use Rattle.overlay_map.specs as overlay_map

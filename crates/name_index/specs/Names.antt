@@ -1,8 +1,8 @@
 -- Names of resources, and the first resource of a name.
 use Rattle.std.specs.Prelude.{ℕ, List, [], ◌∷◌, Option, None}
 use Rattle.std.specs.Option.{option_or}
-use Rattle.resource_table.specs.Names.{found_in}
-use Rattle.resource_table.specs.Table.{TableOf}
+use Rattle.overlay_map.specs.resource_table.Names.{found_in}
+use Rattle.overlay_map.specs.resource_table.Table.{TableOf}
 use Rattle.name_index.specs.declared.name.Name.{Name}
 
 -- A name, by its content, not its address.

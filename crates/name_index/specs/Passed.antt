@@ -1,8 +1,8 @@
 -- Rows that were noted. Contracts within the crate alone speak of this.
 use Rattle.std.specs.Prelude.{◌≡◌, ℕ, ◌==◌, ◌&&◌, Bool, true, not, List, map, slice_index_or}
-use Rattle.resource_table.specs.Table.{TableOf}
-use Rattle.type_chunks.specs.res_value.ResId.{type_of}
-use Rattle.type_chunks.specs.Row.{RowOf}
+use Rattle.overlay_map.specs.resource_table.Table.{TableOf}
+use Rattle.overlay_map.specs.res_value.ResId.{type_of}
+use Rattle.overlay_map.specs.type_chunks.Row.{RowOf}
 use Rattle.name_index.specs.declared.passed.Passed.{Passed}
 use Rattle.name_index.specs.declared.sought.Sought.{Sought}
 use Rattle.name_index.specs.Sought.{noted}

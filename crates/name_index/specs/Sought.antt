@@ -3,10 +3,10 @@ use Rattle.std.specs.Prelude.{◌≡◌, ℕ, ◌<◌, Bool, true, false, ◌⊎
 use Rattle.std.specs.List.{Contains}
 use Rattle.std.specs.Option.{option_map, option_or}
 use Rattle.std.specs.Str.{is_utf8}
-use Rattle.resource_table.specs.Names.{has_names}
-use Rattle.resource_table.specs.Table.{TableOf, rows_of}
-use Rattle.type_chunks.specs.res_value.declared.res_id.ResId.{ResId}
-use Rattle.type_chunks.specs.Row.{RowOf}
+use Rattle.overlay_map.specs.resource_table.Names.{has_names}
+use Rattle.overlay_map.specs.resource_table.Table.{TableOf, rows_of}
+use Rattle.overlay_map.specs.res_value.declared.res_id.ResId.{ResId}
+use Rattle.overlay_map.specs.type_chunks.Row.{RowOf}
 use Rattle.name_index.specs.declared.name.Name.{Name}
 use Rattle.name_index.specs.declared.places.Places.{Places}
 use Rattle.name_index.specs.declared.sought.Sought.{Sought}

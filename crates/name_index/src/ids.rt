@@ -3,12 +3,12 @@
 ghost use Rattle.std.specs.Prelude.{◌≡◌, map, IfOk, OnOk};
 ghost use Rattle.std.specs.List.{flat_map};
 ghost use Rattle.std.specs.Option.{option_map};
-ghost use Rattle.type_chunks.specs.Row.{row_of};
-ghost use Rattle.resource_table.specs.Table.{rows_of};
+ghost use Rattle.overlay_map.specs.type_chunks.Row.{row_of};
+ghost use Rattle.overlay_map.specs.resource_table.Table.{rows_of};
 ghost use Rattle.name_index.specs.IdsOfType.{is_of_type, numbers_of_type, put_each, id_of_number, ids_of_type};
 
 use crate::sought::is_text;
-use resource_table::{ResId, Row, Table};
+use overlay_map::{ResId, Row, Table};
 use std::alloc::{AllocError, Global};
 use std::collections::BTreeSet;
 

@@ -19,5 +19,7 @@ mod text;
 
 pub use ids::ids_of_type;
 pub use name::Name;
+pub use overlay_map::{ResId, Row, Stack, Table};
 pub use search::find_names;
+pub use string_pool::Text;
 pub use text::name_text;

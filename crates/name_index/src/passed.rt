@@ -2,10 +2,10 @@
 
 ghost use Rattle.std.specs.Prelude.{◌≡◌, ℕ, ◌==◌, true, [], OnOk, if◌then◌else◌};
 ghost use Rattle.std.specs.Prelude.{slice_index_or, ◌⊎◌};
-ghost use Rattle.type_chunks.specs.Row.{RowOf, row_of};
+ghost use Rattle.overlay_map.specs.type_chunks.Row.{RowOf, row_of};
 ghost use Rattle.name_index.specs.Passed.{was_passed, last_type, HaveSameNames};
 
-use resource_table::Row;
+use overlay_map::Row;
 use std::alloc::{AllocError, Global};
 
 /// The entries' names of a package, each with the type of the row that was noted last. The rows of a type that have one name

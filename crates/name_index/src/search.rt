@@ -2,8 +2,8 @@
 
 ghost use Rattle.std.specs.Prelude.{◌≡◌, map, IfOk, OnOk};
 ghost use Rattle.std.specs.Option.{option_map};
-ghost use Rattle.type_chunks.specs.Row.{row_of};
-ghost use Rattle.resource_table.specs.Table.{rows_of};
+ghost use Rattle.overlay_map.specs.type_chunks.Row.{row_of};
+ghost use Rattle.overlay_map.specs.resource_table.Table.{rows_of};
 ghost use Rattle.name_index.specs.Names.{name_of, found_in_tables};
 ghost use Rattle.name_index.specs.Passed.{AreNoted};
 ghost use Rattle.name_index.specs.Sought.{unfound, noted, noted_each, noted_in, entry_names, ArePlacesOf, IsNotedAt};
@@ -13,7 +13,7 @@ use crate::passed::Passed;
 use crate::places::Places;
 use crate::sought::Sought;
 use crate::text::name_text;
-use resource_table::{ResId, Row, Table};
+use overlay_map::{ResId, Row, Table};
 use std::alloc::{AllocError, Global};
 
 /// The resource of each name: that of the first row which has it, in the first of the tables that has one. It walks

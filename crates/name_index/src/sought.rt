@@ -1,15 +1,15 @@
 //! A name that is looked for.
 
 ghost use Rattle.std.specs.Prelude.{◌≡◌};
-ghost use Rattle.type_chunks.specs.Row.{row_of};
-ghost use Rattle.type_chunks.specs.string_pool.Text.{seen_text};
-ghost use Rattle.resource_table.specs.Names.{is_name, has_names};
+ghost use Rattle.overlay_map.specs.type_chunks.Row.{row_of};
+ghost use Rattle.string_pool.specs.Text.{seen_text};
+ghost use Rattle.overlay_map.specs.resource_table.Names.{is_name, has_names};
 ghost use Rattle.name_index.specs.Names.{name_of};
 ghost use Rattle.name_index.specs.Sought.{noted};
 
 use crate::name::Name;
-use resource_table::{ResId, Row, Table};
-use type_chunks::{StringFault, Text};
+use overlay_map::{ResId, Row, Table};
+use string_pool::{StringFault, Text};
 
 /// A name, with the resource that was found first.
 #[derive(Clone, Copy, Debug)]

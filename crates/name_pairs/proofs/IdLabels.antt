@@ -1,7 +1,7 @@
 -- What is called the same in a stack is one id.
 use Rattle.std.proofs.Common.{◌≡◌, ℕ, Bool, true, false, cond, List, Option, Some, None, refl, sym, ap, subst, ◌∙◌}
-use Rattle.overlay_map.specs.Layer.{LayerOf}
-use Rattle.overlay_map.specs.res_value.declared.res_id.ResId.{ResId}
+use Rattle.name_index.specs.overlay_map.Layer.{LayerOf}
+use Rattle.name_index.specs.overlay_map.res_value.declared.res_id.ResId.{ResId}
 use Rattle.name_pairs.specs.Label.{LabelOf, ByName, ById}
 use Rattle.name_pairs.specs.StackLabels.{first_with, names_in, is_id}
 use Rattle.name_pairs.specs.IdLabel.{first_name, own_label, label_of_id}

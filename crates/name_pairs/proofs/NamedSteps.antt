@@ -1,8 +1,8 @@
 -- What the names of a stack stand for, once they are noted.
 use Rattle.std.proofs.Common.{◌≡◌, List, None, option_and_then, sym, ap, subst, ◌∙◌}
 use Rattle.std.specs.List.{flat_map}
-use Rattle.overlay_map.specs.Layer.{LayerOf, base_tables}
-use Rattle.overlay_map.specs.resource_table.Table.{TableOf}
+use Rattle.name_index.specs.overlay_map.Layer.{LayerOf, base_tables}
+use Rattle.name_index.specs.overlay_map.resource_table.Table.{TableOf}
 use Rattle.name_pairs.specs.declared.noted.Noted.{Noted}
 use Rattle.name_pairs.specs.declared.pair.Side.TheVariants.{Old}
 use Rattle.name_pairs.specs.Label.{LabelOf}

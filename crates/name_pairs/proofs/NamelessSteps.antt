@@ -8,9 +8,9 @@ use Rattle.std.specs.Ordering.{is_eq, match_ordering, nat_cmp}
 use Rattle.std.specs.declared.cmp.Ordering.{Ordering}
 use Rattle.std.specs.declared.cmp.Ordering.TheVariants.{Less, Equal, Greater}
 use Rattle.name_index.specs.IdsOfType.{ids_of_type}
-use Rattle.overlay_map.specs.Layer.{LayerOf, base_tables}
-use Rattle.overlay_map.specs.res_value.declared.res_id.ResId.{ResId}
-use Rattle.overlay_map.specs.resource_table.Table.{TableOf}
+use Rattle.name_index.specs.overlay_map.Layer.{LayerOf, base_tables}
+use Rattle.name_index.specs.overlay_map.res_value.declared.res_id.ResId.{ResId}
+use Rattle.name_index.specs.overlay_map.resource_table.Table.{TableOf}
 use Rattle.name_pairs.specs.declared.noted.Noted.{Noted}
 use Rattle.name_pairs.specs.declared.pair.Side.{Side}
 use Rattle.name_pairs.specs.declared.pair.Side.TheVariants.{Old, New}

@@ -15,7 +15,7 @@ use Rattle.std.specs.Ordering.{is_eq, match_ordering}
 use Rattle.std.specs.declared.borrow.CowStr.TheVariants.{Borrowed}
 use Rattle.std.specs.declared.cmp.Ordering.{Ordering}
 use Rattle.std.specs.declared.cmp.Ordering.TheVariants.{Less, Equal, Greater}
-use Rattle.overlay_map.specs.res_value.declared.res_id.ResId.{ResId}
+use Rattle.name_index.specs.overlay_map.res_value.declared.res_id.ResId.{ResId}
 use Rattle.name_pairs.specs.contracts.label.LabelOrd.TheImpl.{cmp-value}
 use Rattle.name_pairs.specs.declared.label.Label.{Label}
 use Rattle.name_pairs.specs.declared.label.Label.TheVariants.{Name, Id}

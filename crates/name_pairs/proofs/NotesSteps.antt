@@ -6,8 +6,8 @@ use Rattle.std.proofs.lemmas.List.Sums.{fold-append}
 use Rattle.std.specs.BTreeSet.{insert_key}
 use Rattle.std.specs.List.{filter_map, find, flat_map, fold}
 use Rattle.std.specs.Option.{option_map, option_or}
-use Rattle.overlay_map.specs.Layer.{LayerOf}
-use Rattle.overlay_map.specs.res_value.declared.res_id.ResId.{ResId}
+use Rattle.name_index.specs.overlay_map.Layer.{LayerOf}
+use Rattle.name_index.specs.overlay_map.res_value.declared.res_id.ResId.{ResId}
 use Rattle.name_pairs.specs.declared.noted.Noted.{Noted}
 use Rattle.name_pairs.specs.declared.pair.Side.{Side}
 use Rattle.name_pairs.specs.declared.pair.Side.TheVariants.{Old, New}

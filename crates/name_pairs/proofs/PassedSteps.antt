@@ -10,13 +10,13 @@ use Rattle.std.specs.declared.cmp.Ordering.TheVariants.{Less, Equal, Greater}
 use Rattle.contract_words.specs.Faults.{◌>>=◌, refuse}
 use Rattle.name_index.specs.IdsOfType.{id_of_number}
 use Rattle.name_index.specs.NameText.{name_text}
-use Rattle.overlay_map.specs.res_value.declared.res_id.ResId.{ResId}
-use Rattle.overlay_map.specs.resource_table.Names.{type_name_in, key_name_in, found_package}
-use Rattle.overlay_map.specs.resource_table.Table.{TableOf}
-use Rattle.overlay_map.specs.type_chunks.Row.{RowOf}
-use Rattle.overlay_map.specs.type_chunks.string_pool.Text.{TextOf, text_in}
-use Rattle.overlay_map.specs.type_chunks.string_pool.declared.fault.StringFault.{StringFault}
-use Rattle.overlay_map.specs.type_chunks.string_pool.declared.fault.StringFault.TheVariants.{NoSuch}
+use Rattle.name_index.specs.overlay_map.res_value.declared.res_id.ResId.{ResId}
+use Rattle.name_index.specs.overlay_map.resource_table.Names.{type_name_in, key_name_in, found_package}
+use Rattle.name_index.specs.overlay_map.resource_table.Table.{TableOf}
+use Rattle.name_index.specs.overlay_map.type_chunks.Row.{RowOf}
+use Rattle.name_index.specs.overlay_map.string_pool.Text.{TextOf, text_in}
+use Rattle.name_index.specs.overlay_map.string_pool.declared.fault.StringFault.{StringFault}
+use Rattle.name_index.specs.overlay_map.string_pool.declared.fault.StringFault.TheVariants.{NoSuch}
 use Rattle.name_pairs.specs.declared.noted.Noted.{Noted}
 use Rattle.name_pairs.specs.declared.pair.Side.{Side}
 use Rattle.name_pairs.specs.declared.pair.Sides.{Sides}

@@ -15,12 +15,12 @@ use Rattle.std.specs.declared.cmp.Ordering.{Ordering}
 use Rattle.std.specs.declared.cmp.Ordering.TheVariants.{Less, Equal, Greater}
 use Rattle.name_index.specs.IdsOfType.{id_of_number, ids_of_type}
 use Rattle.name_index.specs.NameText.{name_text}
-use Rattle.overlay_map.specs.Layer.{LayerOf, base_tables}
-use Rattle.overlay_map.specs.res_value.ResId.{package_of}
-use Rattle.overlay_map.specs.res_value.declared.res_id.ResId.{ResId}
-use Rattle.overlay_map.specs.resource_table.Names.{type_name_in, key_name_in}
-use Rattle.overlay_map.specs.resource_table.Table.{rows_of}
-use Rattle.overlay_map.specs.type_chunks.Row.{RowOf}
+use Rattle.name_index.specs.overlay_map.Layer.{LayerOf, base_tables}
+use Rattle.name_index.specs.overlay_map.res_value.ResId.{package_of}
+use Rattle.name_index.specs.overlay_map.res_value.declared.res_id.ResId.{ResId}
+use Rattle.name_index.specs.overlay_map.resource_table.Names.{type_name_in, key_name_in}
+use Rattle.name_index.specs.overlay_map.resource_table.Table.{rows_of}
+use Rattle.name_index.specs.overlay_map.type_chunks.Row.{RowOf}
 use Rattle.name_pairs.specs.declared.pair.Sides.{Sides}
 use Rattle.name_pairs.specs.Label.{LabelOf, ById, label_cmp, is_same}
 use Rattle.name_pairs.specs.StackLabels.{Labelled, first_with, labels_of, labelled, is_id, stands_for, name_of_parts, name_of_row, named, named_rows, names_in, nameless, by_id}

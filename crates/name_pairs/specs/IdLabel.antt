@@ -1,8 +1,8 @@
 -- What an id is called where something refers to it.
 use Rattle.std.specs.Prelude.{ℕ, List, Option, Some, None, option_and_then, if◌then◌else◌}
-use Rattle.overlay_map.specs.Layer.{LayerOf}
-use Rattle.overlay_map.specs.BaseRow.{first_base_row}
-use Rattle.overlay_map.specs.res_value.declared.res_id.ResId.{ResId}
+use Rattle.name_index.specs.overlay_map.Layer.{LayerOf}
+use Rattle.name_index.specs.overlay_map.BaseRow.{first_base_row}
+use Rattle.name_index.specs.overlay_map.res_value.declared.res_id.ResId.{ResId}
 use Rattle.name_pairs.specs.Label.{LabelOf, ById}
 use Rattle.name_pairs.specs.StackLabels.{name_of_row, names_in, first_with, is_id}
 

@@ -5,7 +5,7 @@ use Rattle.std.specs.Cow.{cow_str_bytes}
 use Rattle.std.specs.Ordering.{is_eq, nat_cmp, ordering_then}
 use Rattle.std.specs.declared.cmp.Ordering.{Ordering}
 use Rattle.std.specs.declared.cmp.Ordering.TheVariants.{Less, Greater}
-use Rattle.overlay_map.specs.res_value.declared.res_id.ResId.{ResId}
+use Rattle.name_index.specs.overlay_map.res_value.declared.res_id.ResId.{ResId}
 use Rattle.name_pairs.specs.declared.label.Label.{Label}
 use Rattle.name_pairs.specs.declared.label.Label.TheVariants.{Name, Id}
 

@@ -3,8 +3,8 @@ use Rattle.std.specs.Prelude.{◌≡◌, ℕ, ◌==◌, true, List, map, Option,
 use Rattle.std.specs.List.{All, list_any}
 use Rattle.std.specs.List.Sorted.{IsStrictlySortedBy}
 use Rattle.name_index.specs.IdsOfType.{ids_of_type}
-use Rattle.overlay_map.specs.Layer.{LayerOf, base_tables}
-use Rattle.overlay_map.specs.res_value.declared.res_id.ResId.{ResId}
+use Rattle.name_index.specs.overlay_map.Layer.{LayerOf, base_tables}
+use Rattle.name_index.specs.overlay_map.res_value.declared.res_id.ResId.{ResId}
 use Rattle.name_pairs.specs.Label.{LabelOf, label_cmp, is_same}
 use Rattle.name_pairs.specs.StackLabels.{first_with, labelled}
 use Rattle.name_pairs.specs.IdLabel.{label_of_id}

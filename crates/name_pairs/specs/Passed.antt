@@ -1,9 +1,9 @@
 -- Rows that were noted. Contracts within the crate alone speak of this.
 use Rattle.std.specs.Prelude.{◌≡◌, ℕ, ◌==◌, ◌&&◌, Bool, true, not, slice_index_or}
 use Rattle.name_index.specs.IdsOfType.{id_of_number}
-use Rattle.overlay_map.specs.res_value.ResId.{package_of, type_of}
-use Rattle.overlay_map.specs.resource_table.Table.{TableOf}
-use Rattle.overlay_map.specs.type_chunks.Row.{RowOf}
+use Rattle.name_index.specs.overlay_map.res_value.ResId.{package_of, type_of}
+use Rattle.name_index.specs.overlay_map.resource_table.Table.{TableOf}
+use Rattle.name_index.specs.overlay_map.type_chunks.Row.{RowOf}
 use Rattle.name_pairs.specs.declared.noted.Noted.{Noted}
 use Rattle.name_pairs.specs.declared.pair.Side.{Side}
 use Rattle.name_pairs.specs.declared.passed.Passed.{Passed}

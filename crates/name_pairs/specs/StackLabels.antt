@@ -4,12 +4,12 @@ use Rattle.std.specs.List.{flat_map, list_any}
 use Rattle.std.specs.Option.{option_map, option_map_or}
 use Rattle.name_index.specs.IdsOfType.{id_of_number, ids_of_type}
 use Rattle.name_index.specs.NameText.{name_text}
-use Rattle.overlay_map.specs.Layer.{LayerOf, base_tables}
-use Rattle.overlay_map.specs.res_value.ResId.{package_of}
-use Rattle.overlay_map.specs.res_value.declared.res_id.ResId.{ResId}
-use Rattle.overlay_map.specs.resource_table.Names.{type_name_in, key_name_in}
-use Rattle.overlay_map.specs.resource_table.Table.{TableOf, rows_of}
-use Rattle.overlay_map.specs.type_chunks.Row.{RowOf}
+use Rattle.name_index.specs.overlay_map.Layer.{LayerOf, base_tables}
+use Rattle.name_index.specs.overlay_map.res_value.ResId.{package_of}
+use Rattle.name_index.specs.overlay_map.res_value.declared.res_id.ResId.{ResId}
+use Rattle.name_index.specs.overlay_map.resource_table.Names.{type_name_in, key_name_in}
+use Rattle.name_index.specs.overlay_map.resource_table.Table.{TableOf, rows_of}
+use Rattle.name_index.specs.overlay_map.type_chunks.Row.{RowOf}
 use Rattle.name_pairs.specs.Label.{LabelOf, ByName, ById, is_same}
 
 -- A label, with an id that is called so.

@@ -1,6 +1,6 @@
 //! What a resource is called.
 
-use overlay_map::ResId;
+use name_index::ResId;
 use std::alloc::Global;
 use std::borrow::CowStr;
 

@@ -26,6 +26,6 @@ mod stack_labels;
 
 pub use label::Label;
 pub use laws::label_tells_id;
+pub use name_index::{Name, ResId, Stack, Table, Text, find_names, ids_of_type};
 pub use named_stack::NamedStack;
-pub use overlay_map::{ResId, Stack};
 pub use pair::{NamePair, Sides, name_pairs};

@@ -9,7 +9,7 @@ use crate::label::Label;
 use crate::noted::Noted;
 use crate::pair::Side;
 use crate::stack_labels::{name_of_row, note_names};
-use overlay_map::{ResId, Stack};
+use name_index::{ResId, Stack};
 use std::alloc::{AllocError, Global};
 use std::marker::Model;
 
@@ -23,7 +23,7 @@ pub struct NamedStack<'s, 'a> {
 
 impl<'s, 'a> Model for NamedStack<'s, 'a> {
     ghost use Rattle.std.specs.Prelude.{List};
-    ghost use Rattle.overlay_map.specs.Layer.{LayerOf};
+    ghost use Rattle.name_index.specs.overlay_map.Layer.{LayerOf};
 
     ghost Value = { List LayerOf };
 

@@ -2,7 +2,7 @@
 
 use crate::label::Label;
 use crate::pair::{NamePair, Side, Sides};
-use overlay_map::ResId;
+use name_index::ResId;
 use std::alloc::{AllocError, Global};
 use std::collections::{BTreeMap, BTreeSet};
 
@@ -18,7 +18,7 @@ impl<'a> Noted<'a> {
     ghost use Rattle.std.specs.List.{list_any, filter_map};
     ghost use Rattle.std.specs.Option.{option_map};
     ghost use Rattle.std.specs.Ordering.{nat_cmp};
-    ghost use Rattle.overlay_map.specs.res_value.declared.res_id.ResId.{ResId};
+    ghost use Rattle.name_index.specs.overlay_map.res_value.declared.res_id.ResId.{ResId};
     ghost use Rattle.name_pairs.specs.Label.{LabelOf, label_of};
     ghost use Rattle.name_pairs.specs.StackLabels.{called, is_id};
     ghost use Rattle.name_pairs.specs.Pairs.{pair_of};

@@ -7,7 +7,7 @@ ghost use Rattle.name_pairs.specs.Laws.{AreSideBySide};
 use crate::label::Label;
 use crate::noted::Noted;
 use crate::stack_labels::note_stack;
-use overlay_map::{ResId, Stack};
+use name_index::{ResId, Stack};
 use std::alloc::{AllocError, Global};
 
 /// One of two stacks.

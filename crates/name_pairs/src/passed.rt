@@ -1,10 +1,10 @@
 //! Which names of a table were noted.
 
 ghost use Rattle.std.specs.Prelude.{◌≡◌, ℕ, ◌==◌, ◌&&◌, true, OnOk, if◌then◌else◌, ◌⊎◌};
-ghost use Rattle.overlay_map.specs.type_chunks.Row.{RowOf, row_of};
+ghost use Rattle.name_index.specs.overlay_map.type_chunks.Row.{RowOf, row_of};
 ghost use Rattle.name_pairs.specs.Passed.{was_passed, last_type, HaveSameNames};
 
-use overlay_map::Row;
+use name_index::Row;
 use std::alloc::{AllocError, Global};
 
 /// The names of entries in a package, each with the type of the row that was noted last. A resource has one name and a

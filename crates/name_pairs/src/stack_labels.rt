@@ -5,7 +5,7 @@ ghost use Rattle.std.specs.BTreeSet.{contains};
 ghost use Rattle.std.specs.List.{flat_map};
 ghost use Rattle.std.specs.Option.{option_map};
 ghost use Rattle.std.specs.Ordering.{nat_cmp};
-ghost use Rattle.overlay_map.specs.type_chunks.Row.{row_of};
+ghost use Rattle.name_index.specs.overlay_map.type_chunks.Row.{row_of};
 ghost use Rattle.name_pairs.specs.Label.{label_of};
 ghost use Rattle.name_pairs.specs.StackLabels.{name_of_row, named, named_rows, by_id, labelled};
 ghost use Rattle.name_pairs.specs.Noted.{Notes, HasNone};
@@ -15,8 +15,7 @@ use crate::label::Label;
 use crate::noted::Noted;
 use crate::pair::Side;
 use crate::passed::Passed;
-use name_index::{ids_of_type, name_text};
-use overlay_map::{ResId, Row, Stack, Table};
+use name_index::{ResId, Row, Stack, Table, ids_of_type, name_text};
 use std::alloc::{AllocError, Global};
 use std::collections::BTreeSet;
 

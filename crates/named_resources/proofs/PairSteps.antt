@@ -17,7 +17,7 @@ use Rattle.name_pairs.specs.declared.pair.Sides.{Sides}
 use Rattle.name_pairs.specs.declared.pair.Sides.TheVariants.{Removed, Added, Both}
 use Rattle.name_pairs.specs.Label.{LabelOf, ByName, ById}
 use Rattle.name_pairs.specs.Pairs.{PairOf, pair_of}
-use Rattle.overlay_map.specs.res_value.declared.res_id.ResId.{ResId}
+use Rattle.name_pairs.specs.res_value.declared.res_id.ResId.{ResId}
 use Rattle.named_resources.specs.declared.word_set.WordSet.{WordSet}
 use Rattle.named_resources.specs.NamedPairs.{is_on_a_side, is_named, is_of_type, asks_for, text_of_set, first_missing, unless_missing, is_asked, pairs_named}
 use Rattle.named_resources.specs.WordSet.{has_word, is_same, by_id, by_name, words_for, words_for_sides, words_for_label}

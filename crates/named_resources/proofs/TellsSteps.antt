@@ -5,12 +5,12 @@ use Rattle.std.proofs.lemmas.List.Folds.{flat_map-map}
 use Rattle.std.specs.List.{flat_map}
 use Rattle.std.specs.Option.{option_flatten, option_map}
 use Rattle.std.specs.Vec.Iter.{into_iter_items, into_iter_steps}
-use Rattle.overlay_map.specs.res_value.declared.res_id.ResId.{ResId}
-use Rattle.overlay_map.specs.resource_table.Table.{TableOf}
-use Rattle.overlay_map.specs.Layer.{LayerOf, base_tables}
-use Rattle.name_index.specs.declared.name.Name.{Name}
-use Rattle.name_index.specs.Names.{NameOf, name_of, found_in_tables}
-use Rattle.name_index.specs.IdsOfType.{id_of_number}
+use Rattle.name_pairs.specs.res_value.declared.res_id.ResId.{ResId}
+use Rattle.name_pairs.specs.overlay_map.resource_table.Table.{TableOf}
+use Rattle.name_pairs.specs.overlay_map.Layer.{LayerOf, base_tables}
+use Rattle.name_pairs.specs.name_index.declared.name.Name.{Name}
+use Rattle.name_pairs.specs.name_index.Names.{NameOf, name_of, found_in_tables}
+use Rattle.name_pairs.specs.name_index.IdsOfType.{id_of_number}
 use Rattle.name_words.specs.declared.named.Named.{Named}
 use Rattle.name_words.specs.Named.{named_of}
 use Rattle.named_resources.specs.declared.finder.Finder.{Finder}

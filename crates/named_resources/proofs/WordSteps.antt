@@ -3,8 +3,8 @@ use Rattle.std.proofs.Common.{Option, Some, None, ok_or, subst, sym, ◌≡◌, 
 use Rattle.contract_words.specs.Faults.{◌>>=◌}
 use Rattle.contract_words.specs.Sequences.{with_front}
 use Rattle.json_input.specs.Each.{each}
-use Rattle.overlay_map.specs.res_value.declared.res_id.ResId.{ResId}
-use Rattle.overlay_map.specs.Layer.{LayerOf}
+use Rattle.name_pairs.specs.res_value.declared.res_id.ResId.{ResId}
+use Rattle.name_pairs.specs.overlay_map.Layer.{LayerOf}
 use Rattle.res_value.specs.Goal.{GoalSeen, IdGoal, AttrGoal}
 use Rattle.name_words.specs.Named.{NamedOf, ById, ByName}
 use Rattle.name_words.specs.NamedSet.{NamedSetOf, SetOfOne, SetOfType, SetOfAll}

@@ -1,7 +1,7 @@
 -- The names in words, in their order. Contracts within the crate alone speak of this.
 use Rattle.std.specs.Prelude.{List, [], ◌∷◌, ◌++◌}
 use Rattle.std.specs.List.{flat_map}
-use Rattle.name_index.specs.Names.{NameOf}
+use Rattle.name_pairs.specs.name_index.Names.{NameOf}
 use Rattle.name_words.specs.Named.{NamedOf, ById, ByName}
 use Rattle.name_words.specs.NamedSet.{NamedSetOf, SetOfOne, SetOfType, SetOfAll}
 use Rattle.name_words.specs.NamedGoal.{NamedGoalOf, GoalOfIds, GoalsOfSet, GoalOfAttr}

@@ -1,8 +1,8 @@
 -- What names stand for, told name by name. Contracts within the crate alone speak of this.
 use Rattle.std.specs.Prelude.{◌≡◌, List, map}
 use Rattle.std.specs.Vec.Iter.{into_iter_items}
-use Rattle.overlay_map.specs.Layer.{LayerOf, base_tables}
-use Rattle.name_index.specs.Names.{NameOf}
+use Rattle.name_pairs.specs.overlay_map.Layer.{LayerOf, base_tables}
+use Rattle.name_pairs.specs.name_index.Names.{NameOf}
 use Rattle.named_resources.specs.declared.finder.Finder.{Finder}
 use Rattle.named_resources.specs.NamedIds.{id_of_name}
 

@@ -3,7 +3,7 @@ use Rattle.std.specs.Prelude.{ℕ, List, [], ◌∷◌, map, Result, Ok}
 use Rattle.contract_words.specs.Faults.{◌>>=◌}
 use Rattle.contract_words.specs.Sequences.{joined_each}
 use Rattle.json_input.specs.Each.{each}
-use Rattle.overlay_map.specs.Layer.{LayerOf}
+use Rattle.name_pairs.specs.overlay_map.Layer.{LayerOf}
 use Rattle.res_value.specs.Goal.{GoalSeen, IdGoal, AttrGoal}
 use Rattle.name_words.specs.NamedGoal.{NamedGoalOf, GoalOfIds, GoalsOfSet, GoalOfAttr}
 use Rattle.named_resources.specs.NamedIds.{id_named, ids_of_set}

@@ -4,10 +4,10 @@ use Rattle.std.specs.Prelude.{ℕ, ◌++◌, List, [], ◌∷◌, codes, Option,
 use Rattle.std.specs.Option.{option_map}
 use Rattle.contract_words.specs.Faults.{◌>>=◌}
 use Rattle.contract_words.specs.Sequences.{joined_each}
-use Rattle.overlay_map.specs.res_value.declared.res_id.ResId.{ResId}
-use Rattle.overlay_map.specs.Layer.{LayerOf, base_tables}
-use Rattle.name_index.specs.Names.{NameOf, found_in_tables}
-use Rattle.name_index.specs.IdsOfType.{id_of_number, ids_of_type}
+use Rattle.name_pairs.specs.res_value.declared.res_id.ResId.{ResId}
+use Rattle.name_pairs.specs.overlay_map.Layer.{LayerOf, base_tables}
+use Rattle.name_pairs.specs.name_index.Names.{NameOf, found_in_tables}
+use Rattle.name_pairs.specs.name_index.IdsOfType.{id_of_number, ids_of_type}
 use Rattle.name_words.specs.Named.{NamedOf, ById, ByName}
 use Rattle.name_words.specs.NamedSet.{NamedSetOf, SetOfOne, SetOfType, SetOfAll}
 

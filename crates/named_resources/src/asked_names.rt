@@ -5,10 +5,10 @@ ghost use Rattle.std.specs.List.{flat_map};
 ghost use Rattle.name_words.specs.Named.{named_of};
 ghost use Rattle.name_words.specs.NamedSet.{named_set_of};
 ghost use Rattle.name_words.specs.NamedGoal.{named_goal_of};
-ghost use Rattle.name_index.specs.Names.{name_of};
+ghost use Rattle.name_pairs.specs.name_index.Names.{name_of};
 ghost use Rattle.named_resources.specs.AskedNames.{names_in, names_in_set, names_in_goal};
 
-use name_index::Name;
+use name_pairs::Name;
 use name_words::{Named, NamedGoal, NamedSet};
 use std::alloc::{AllocError, Global};
 

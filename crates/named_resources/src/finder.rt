@@ -4,19 +4,18 @@ ghost use Rattle.std.specs.Prelude.{◌≡◌, ℕ, ◌++◌, List, map, IfOk, O
 ghost use Rattle.std.specs.List.{flat_map};
 ghost use Rattle.std.specs.Option.{option_map};
 ghost use Rattle.json_input.specs.Each.{each};
-ghost use Rattle.overlay_map.specs.Layer.{LayerOf};
+ghost use Rattle.name_pairs.specs.overlay_map.Layer.{LayerOf};
 ghost use Rattle.name_words.specs.Named.{named_of};
 ghost use Rattle.name_words.specs.NamedSet.{named_set_of};
-ghost use Rattle.name_index.specs.Names.{NameOf, name_of};
+ghost use Rattle.name_pairs.specs.name_index.Names.{NameOf, name_of};
 ghost use Rattle.named_resources.specs.NameFault.{GivesNamed};
 ghost use Rattle.named_resources.specs.NamedIds.{id_named, ids_of_rows, ids_of_set};
 ghost use Rattle.named_resources.specs.AskedNames.{names_in, names_in_set};
 ghost use Rattle.named_resources.specs.Finder.{Tells};
 
 use crate::fault::NameFault;
-use name_index::{Name, find_names, ids_of_type};
+use name_pairs::{Name, ResId, Stack, Table, find_names, ids_of_type};
 use name_words::{Named, NamedSet};
-use overlay_map::{ResId, Stack, Table};
 use std::alloc::{AllocError, Global};
 use std::vec::IntoIter;
 

@@ -2,9 +2,9 @@
 
 ghost use Rattle.std.specs.Prelude.{◌≡◌, ℕ, ◌++◌, List, map, IfOk, OnOk};
 ghost use Rattle.contract_words.specs.Sequences.{with_front};
-ghost use Rattle.overlay_map.specs.Layer.{LayerOf};
+ghost use Rattle.name_pairs.specs.overlay_map.Layer.{LayerOf};
 ghost use Rattle.res_value.specs.Goal.{goal_seen, IdGoal};
-ghost use Rattle.name_index.specs.Names.{NameOf};
+ghost use Rattle.name_pairs.specs.name_index.Names.{NameOf};
 ghost use Rattle.name_words.specs.NamedGoal.{named_goal_of};
 ghost use Rattle.named_resources.specs.NameFault.{GivesNamed};
 ghost use Rattle.named_resources.specs.NamedGoals.{goals_of_word, goals_named};
@@ -14,8 +14,8 @@ ghost use Rattle.named_resources.specs.Finder.{Tells};
 use crate::asked_names::names_in_goals;
 use crate::fault::NameFault;
 use crate::finder::Finder;
+use name_pairs::{ResId, Stack};
 use name_words::NamedGoal;
-use overlay_map::{ResId, Stack};
 use res_value::Goal;
 use std::alloc::{AllocError, Global};
 

@@ -9,8 +9,8 @@ ghost use Rattle.named_resources.specs.NamedIds.{id_named, ids_named};
 use crate::asked_names::{names_in_sets, push_name};
 use crate::fault::NameFault;
 use crate::finder::Finder;
+use name_pairs::{ResId, Stack};
 use name_words::{Named, NamedSet};
-use overlay_map::{ResId, Stack};
 use std::alloc::Global;
 
 /// The id that a word asks for.

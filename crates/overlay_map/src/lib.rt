@@ -37,7 +37,7 @@ pub use id_map::IdMap;
 pub use map_fault::MapFault;
 pub use row_index::{
     Cell, DeviceFault, MapRows, Package, PackageRows, Pool, PoolFault, ResId, Row, Table,
-    TableFault, Value, kind, write_string,
+    TableFault, Value, kind, write_hex, write_id, write_string, write_value, write_word,
 };
 pub use stack::{MOST_LAYERS, Stack};
 pub use stack_fault::StackFault;

@@ -4,26 +4,26 @@ use Rattle.std.specs.Prelude.{Option, Result, Ok, Err}
 use Rattle.std.proofs.lemmas.Bool.{cases_Bool}
 use Rattle.contract_words.specs.Faults.{◌>>=◌}
 use Rattle.contract_words.specs.Sequences.{with_front}
-use Rattle.bags_themes.specs.reference_resolver.res_value.declared.res_id.ResId.{ResId}
-use Rattle.bags_themes.specs.overlay_map.Layer.{LayerOf}
-use Rattle.bags_themes.specs.overlay_map.Candidates.{CandOf, candidates_of}
-use Rattle.bags_themes.specs.reference_resolver.declared.step.Step.{Step}
-use Rattle.bags_themes.specs.reference_resolver.declared.end.End.{End}
-use Rattle.bags_themes.specs.reference_resolver.declared.end.End.TheVariants as ends
-use Rattle.bags_themes.specs.reference_resolver.declared.next.Next.{Next}
-use Rattle.bags_themes.specs.reference_resolver.declared.next.Next.TheVariants as nexts
-use Rattle.bags_themes.specs.reference_resolver.Selection.{selected, step_of, best_after, best_of, scan_candidates}
-use Rattle.bags_themes.specs.reference_resolver.Ends.{references_followed, next_of, cut_off, next_within, end_of}
-use Rattle.bags_themes.specs.reference_resolver.Trace.{Trace, scan_look_up, scan_chain, look_ups_of}
-use Rattle.bags_themes.specs.declared.bag_row.BagRow.{BagRow}
-use Rattle.bags_themes.specs.declared.bag_fault.BagFault.{BagFault}
-use Rattle.bags_themes.specs.Bag.{FoundBagOf, bag_in, parent_of, chain_of, most_parents, merged, bag_of}
-use Rattle.bags_themes.specs.BagIds.{most_bags, ids_after}
-use Rattle.bags_themes.specs.AttributeTrace.{steps_of_ids}
-use Rattle.bags_themes.specs.ContentTrace.{ids_behind, content_trace}
-use Rattle.bags_themes.proofs.ChainSteps.{chain_of-top, chain_of-deep, chain_of-next}
-use Rattle.bags_themes.proofs.ContentCourses.{bag_here, bag_before}
-use Rattle.reference_resolver.proofs.Chains.{ends_within, goes_on_within}
+use Rattle.answer_text.specs.res_value.declared.res_id.ResId.{ResId}
+use Rattle.answer_text.specs.overlay_map.Layer.{LayerOf}
+use Rattle.answer_text.specs.overlay_map.Candidates.{CandOf, candidates_of}
+use Rattle.answer_text.specs.reference_resolver.declared.step.Step.{Step}
+use Rattle.answer_text.specs.reference_resolver.declared.end.End.{End}
+use Rattle.answer_text.specs.reference_resolver.declared.end.End.TheVariants as ends
+use Rattle.answer_text.specs.reference_resolver.declared.next.Next.{Next}
+use Rattle.answer_text.specs.reference_resolver.declared.next.Next.TheVariants as nexts
+use Rattle.answer_text.specs.reference_resolver.Selection.{selected, step_of, best_after, best_of, scan_candidates}
+use Rattle.answer_text.specs.reference_resolver.Ends.{references_followed, next_of, cut_off, next_within, end_of}
+use Rattle.answer_text.specs.reference_resolver.Trace.{Trace, scan_look_up, scan_chain, look_ups_of}
+use Rattle.answer_text.specs.bags_themes.declared.bag_row.BagRow.{BagRow}
+use Rattle.answer_text.specs.bags_themes.declared.bag_fault.BagFault.{BagFault}
+use Rattle.answer_text.specs.bags_themes.Bag.{FoundBagOf, bag_in, parent_of, chain_of, most_parents, merged, bag_of}
+use Rattle.answer_text.specs.bags_themes.BagIds.{most_bags, ids_after}
+use Rattle.answer_text.specs.bags_themes.AttributeTrace.{steps_of_ids}
+use Rattle.answer_text.specs.bags_themes.ContentTrace.{ids_behind, content_trace}
+use Rattle.answer_text.proofs.bags_themes_proofs.ChainSteps.{chain_of-top, chain_of-deep, chain_of-next}
+use Rattle.answer_text.proofs.bags_themes_proofs.ContentCourses.{bag_here, bag_before}
+use Rattle.answer_text.proofs.reference_resolver.Chains.{ends_within, goes_on_within}
 use Rattle.resource_content.specs.ContentAt.{bag_content, end_content, content_at}
 use Rattle.resource_content.specs.TraceLaw.{TraceTellsContent}
 

@@ -1,12 +1,12 @@
 -- What a resource says at a device, which is the list of its numbers.
 use Rattle.std.specs.Prelude.{ℕ, List, map, Result, Ok, Err}
-use Rattle.bags_themes.specs.overlay_map.Layer.{LayerOf}
-use Rattle.bags_themes.specs.reference_resolver.declared.end.End.{End}
-use Rattle.bags_themes.specs.reference_resolver.declared.end.End.TheVariants as of_end
-use Rattle.bags_themes.specs.reference_resolver.Ends.{references_followed, end_of}
-use Rattle.bags_themes.specs.declared.bag_row.BagRow.{BagRow}
-use Rattle.bags_themes.specs.declared.bag_fault.BagFault.{BagFault}
-use Rattle.bags_themes.specs.Bag.{bag_of}
+use Rattle.answer_text.specs.overlay_map.Layer.{LayerOf}
+use Rattle.answer_text.specs.reference_resolver.declared.end.End.{End}
+use Rattle.answer_text.specs.reference_resolver.declared.end.End.TheVariants as of_end
+use Rattle.answer_text.specs.reference_resolver.Ends.{references_followed, end_of}
+use Rattle.answer_text.specs.bags_themes.declared.bag_row.BagRow.{BagRow}
+use Rattle.answer_text.specs.bags_themes.declared.bag_fault.BagFault.{BagFault}
+use Rattle.answer_text.specs.bags_themes.Bag.{bag_of}
 use Rattle.resource_content.specs.Content.{RowContentOf, ContentOf, ValueOf, BagOf, AbsentOf, TooManyReferencesOf, TooManyParentsOf}
 use Rattle.resource_content.specs.ValueContent.{id_content, value_content}
 use Rattle.resource_content.specs.ByName.{by_name}

@@ -1,7 +1,7 @@
 -- What a resource is called, as text.
 use Rattle.std.specs.Prelude.{ℕ, ◌==◌, ◌&&◌, ◌||◌, not, Bool, true, List, ◌++◌, length, codes, if◌then◌else◌}
 use Rattle.std.specs.List.{list_any}
-use Rattle.string_pool.specs.Shown.{takes_backslash, is_control, shown_text}
+use Rattle.answer_text.specs.string_pool.Shown.{takes_backslash, is_control, shown_text}
 use Rattle.name_pairs.specs.Label.{FullNameOf, LabelOf, ByName, ById}
 use Rattle.answer_text.specs.res_value.ResId.{id_text}
 use Rattle.resource_content.specs.PackageText.{package_text}

@@ -6,3 +6,4 @@ pub mod ValueContent
 pub mod ByName
 pub mod ContentAt
 pub mod TraceLaw
+pub use Rattle.name_pairs.specs as name_pairs

@@ -1,7 +1,7 @@
 -- Why look-ups that are alike at two devices are enough.
 use Rattle.std.specs.Prelude.{ℕ, ◌≡◌, List}
-use Rattle.bags_themes.specs.overlay_map.Layer.{LayerOf}
-use Rattle.bags_themes.specs.ContentTrace.{content_trace}
+use Rattle.answer_text.specs.overlay_map.Layer.{LayerOf}
+use Rattle.answer_text.specs.bags_themes.ContentTrace.{content_trace}
 use Rattle.resource_content.specs.ContentAt.{content_at}
 
 -- At devices that have one trace an id says the same.

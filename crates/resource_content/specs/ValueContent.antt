@@ -1,9 +1,9 @@
 -- What a value says, as text: as values are printed, but a string by its text, and an id by its name, where that stands for
 -- the id.
 use Rattle.std.specs.Prelude.{ℕ, ◌==◌, List, ◌++◌, codes, if◌then◌else◌, Option, Some, None}
-use Rattle.answer_text.specs.reference_resolver.string_pool.Pool.{PoolOf}
-use Rattle.answer_text.specs.reference_resolver.string_pool.Text.{text_in}
-use Rattle.answer_text.specs.reference_resolver.string_pool.Shown.{string_text}
+use Rattle.answer_text.specs.string_pool.Pool.{PoolOf}
+use Rattle.answer_text.specs.string_pool.Text.{text_in}
+use Rattle.answer_text.specs.string_pool.Shown.{string_text}
 use Rattle.answer_text.specs.res_value.Kind.{string_kind, reference_kind, attribute_kind}
 use Rattle.answer_text.specs.res_value.ValueText.{value_text}
 use Rattle.answer_text.specs.res_value.declared.value.Value.{Value}

@@ -8,9 +8,8 @@ ghost use Rattle.resource_content.specs.LabelText.{is_misread, is_bare, bare_or_
 
 use crate::package::write_package;
 use answer_text::write_id;
-use name_pairs::Label;
+use name_pairs::{Label, Text};
 use std::io::{self, Write};
-use string_pool::Text;
 
 /// Writes what a resource is called: the names of its type and its entry behind its package, or its id. A name stands
 /// between quotes, as strings are shown, where it is empty or the line could be read otherwise.

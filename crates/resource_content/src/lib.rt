@@ -21,11 +21,10 @@ mod laws;
 mod package;
 mod value_content;
 
-pub use answer_text::ResId;
-pub use bags_themes::{Device, Stack};
+pub use answer_text::{Device, ResId, Stack};
 pub use content::{Content, RowContent};
 pub use device_content::content_at;
 pub use label_text::write_label;
 pub use laws::trace_tells_content;
-pub use name_pairs::{Label, NamedStack};
+pub use name_pairs::{Label, NamePair, NamedStack, Sides, name_pairs};
 pub use package::write_package;

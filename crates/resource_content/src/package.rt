@@ -3,7 +3,7 @@
 ghost use Rattle.contract_words.specs.Writes.{Writes};
 ghost use Rattle.resource_content.specs.PackageText.{package_text};
 
-use line_parts::write_hex;
+use answer_text::write_hex;
 use std::io::{self, Write};
 
 /// The package of an app's own resources.

@@ -3,7 +3,7 @@
 ghost use Rattle.std.specs.Prelude.{◌≡◌, IfOk};
 ghost use Rattle.std.specs.Option.{option_map};
 ghost use Rattle.contract_words.specs.Writes.{Writes};
-ghost use Rattle.answer_text.specs.reference_resolver.string_pool.Pool.{pool_of};
+ghost use Rattle.answer_text.specs.string_pool.Pool.{pool_of};
 ghost use Rattle.resource_content.specs.ValueContent.{id_content, string_content, value_content};
 
 use crate::label_text::write_label;

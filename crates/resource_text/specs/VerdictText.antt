@@ -1,16 +1,16 @@
 -- The verdict on a certificate as text.
 use Rattle.std.specs.Prelude.{ℕ, List, [], ◌∷◌, ◌++◌, codes, length}
 use Rattle.std.specs.Fmt.{decimal}
-use Rattle.answer_text.specs.config_record.DeviceSeen.{device_numbers}
-use Rattle.answer_text.specs.config_record.Qualifiers.{device_text}
-use Rattle.answer_text.specs.reference_resolver.declared.end.End.{End}
-use Rattle.cert_checker.specs.cert_tree.Certificate.{GoalOf, node_count}
-use Rattle.cert_checker.specs.declared.verdict.Shown.{Shown}
-use Rattle.cert_checker.specs.declared.verdict.Shown.TheVariants.{Nothing, Two, One}
-use Rattle.cert_checker.specs.declared.verdict.Verdict.{Verdict}
-use Rattle.cert_checker.specs.declared.verdict.Verdict.TheVariants.{Accepted, Rejected}
-use Rattle.cert_checker.specs.Rule.{number_of, name_of}
-use Rattle.answer_text.specs.EndText.{end_line}
+use Rattle.fault_text.specs.answer_text.config_record.DeviceSeen.{device_numbers}
+use Rattle.fault_text.specs.answer_text.config_record.Qualifiers.{device_text}
+use Rattle.fault_text.specs.answer_text.reference_resolver.declared.end.End.{End}
+use Rattle.cert_maker.specs.cert_tree.Certificate.{GoalOf, node_count}
+use Rattle.cert_maker.specs.cert_checker.declared.verdict.Shown.{Shown}
+use Rattle.cert_maker.specs.cert_checker.declared.verdict.Shown.TheVariants.{Nothing, Two, One}
+use Rattle.cert_maker.specs.cert_checker.declared.verdict.Verdict.{Verdict}
+use Rattle.cert_maker.specs.cert_checker.declared.verdict.Verdict.TheVariants.{Accepted, Rejected}
+use Rattle.cert_maker.specs.cert_checker.Rule.{number_of, name_of}
+use Rattle.fault_text.specs.answer_text.EndText.{end_line}
 
 -- the line `accepted goals G nodes N`
 unfoldable pub accepted_line : ℕ → ℕ → List ℕ

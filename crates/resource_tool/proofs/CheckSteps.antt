@@ -2,23 +2,23 @@
 use Rattle.std.proofs.Common.{◌≡◌, ℕ, Bool, List, Option, Result, Ok, Err, refl, ap, subst, ◌∙◌}
 use Rattle.std.specs.Io.KnownBytes.{Appends}
 use Rattle.contract_words.specs.Faults.{◌>>=◌}
-use Rattle.cert_maker.specs.box_answers.NumberSet.{SetOf}
-use Rattle.cert_maker.specs.config_box.declared.box_fault.BoxFault.{BoxFault}
-use Rattle.cert_maker.specs.config_box.BoxJson.{box_in}
+use Rattle.resource_text.specs.cert_maker.box_answers.NumberSet.{SetOf}
+use Rattle.resource_text.specs.cert_maker.config_box.declared.box_fault.BoxFault.{BoxFault}
+use Rattle.resource_text.specs.cert_maker.config_box.BoxJson.{box_in}
 use Rattle.table_commands.specs.overlay_map.Layer.{LayerOf}
-use Rattle.cert_maker.specs.cert_tree.declared.cert_fault.CertFault.{CertFault}
-use Rattle.cert_maker.specs.cert_tree.Certificate.{GoalOf}
-use Rattle.cert_maker.specs.res_value.Goal.{GoalSeen}
-use Rattle.cert_maker.specs.cert_tree.CertJson.{cert_in}
+use Rattle.resource_text.specs.cert_maker.cert_tree.declared.cert_fault.CertFault.{CertFault}
+use Rattle.resource_text.specs.cert_maker.cert_tree.Certificate.{GoalOf}
+use Rattle.resource_text.specs.cert_maker.res_value.Goal.{GoalSeen}
+use Rattle.resource_text.specs.cert_maker.cert_tree.CertJson.{cert_in}
 use Rattle.table_commands.specs.fault_text.declared.fault.ToolFault.{ToolFault}
 use Rattle.table_commands.specs.fault_text.ToolFault.{fault_of_box, fault_of_certificate}
 use Rattle.table_commands.specs.command_base.declared.status.Status.{Status}
 use Rattle.table_commands.specs.command_base.Output.{PrintsOneOf}
 use Rattle.table_commands.specs.command_base.StackBytes.{LayerBytes, stack_in}
 use Rattle.table_commands.specs.command_base.MapErr.{map_err}
-use Rattle.cert_maker.specs.cert_checker.declared.verdict.Verdict.{Verdict}
-use Rattle.cert_maker.specs.cert_checker.Verdict.{IsVerdict}
-use Rattle.cert_maker.specs.cert_checker.Headline.{Headline}
+use Rattle.resource_text.specs.cert_maker.cert_checker.declared.verdict.Verdict.{Verdict}
+use Rattle.resource_text.specs.cert_maker.cert_checker.Verdict.{IsVerdict}
+use Rattle.resource_text.specs.cert_maker.cert_checker.Headline.{Headline}
 use Rattle.resource_tool.specs.Answered.{PrintsBothOneOf}
 use Rattle.resource_tool.specs.GoalTold.{goal_told}
 use Rattle.resource_tool.specs.CheckOutput.{CheckInputs, check_inputs, IsCheckOutput, IsCheckAnswer, check_text, status_of_verdict, goal_of_verdict}

@@ -3,13 +3,13 @@ use Rattle.std.proofs.Common.{◌≡◌, ℕ, ◌≤◌, Bool, List, Option, Res
 use Rattle.std.specs.List.{All}
 use Rattle.std.specs.Io.KnownBytes.{Appends}
 use Rattle.std.proofs.lemmas.List.{get_or-map, length-map}
-use Rattle.cert_maker.specs.cert_tree.Certificate.{GoalOf, GoalFits, NodeFits, goals_of, most_nodes, node_count}
-use Rattle.cert_maker.specs.res_value.Goal.{GoalSeen}
-use Rattle.cert_maker.specs.declared.made.Made.{Made}
-use Rattle.cert_maker.specs.declared.made.Made.TheVariants.{Cert, Counter, NodeLimit}
-use Rattle.cert_maker.specs.Made.{IsMade, CanBeWritten}
-use Rattle.cert_maker.specs.cert_checker.FirstFault.{goals_in, IsAccepted}
-use Rattle.cert_maker.specs.Least.{IsLeast}
+use Rattle.resource_text.specs.cert_maker.cert_tree.Certificate.{GoalOf, GoalFits, NodeFits, goals_of, most_nodes, node_count}
+use Rattle.resource_text.specs.cert_maker.res_value.Goal.{GoalSeen}
+use Rattle.resource_text.specs.cert_maker.declared.made.Made.{Made}
+use Rattle.resource_text.specs.cert_maker.declared.made.Made.TheVariants.{Cert, Counter, NodeLimit}
+use Rattle.resource_text.specs.cert_maker.Made.{IsMade, CanBeWritten}
+use Rattle.resource_text.specs.cert_maker.cert_checker.FirstFault.{goals_in, IsAccepted}
+use Rattle.resource_text.specs.cert_maker.Least.{IsLeast}
 use Rattle.table_commands.specs.fault_text.declared.fault.ToolFault.{ToolFault}
 use Rattle.table_commands.specs.command_base.declared.status.Status.{Status}
 use Rattle.table_commands.specs.command_base.declared.status.Status.TheVariants.{Done, Negative}

@@ -1,12 +1,12 @@
 -- What was made is printed where goals are left out, and a certificate reads back.
 use Rattle.std.proofs.Common.{◌≡◌, ℕ, ◌≤◌, inl, inr, List, [], ◌∷◌, Option, Result, Ok, Err, ap, subst, refl}
 use Rattle.std.specs.List.{All}
-use Rattle.cert_maker.specs.cert_tree.Certificate.{GoalOf, GoalFits, NodeFits, goals_of, most_nodes, node_count}
-use Rattle.cert_maker.specs.res_value.Goal.{GoalSeen}
-use Rattle.cert_maker.specs.cert_checker.FirstFault.{IsAccepted}
-use Rattle.cert_maker.specs.declared.omitted.Omitting.{Omitting}
-use Rattle.cert_maker.specs.declared.omitted.Omitting.TheVariants.{Cert, NodeLimit}
-use Rattle.cert_maker.specs.Omitting.{IsOmitting}
+use Rattle.resource_text.specs.cert_maker.cert_tree.Certificate.{GoalOf, GoalFits, NodeFits, goals_of, most_nodes, node_count}
+use Rattle.resource_text.specs.cert_maker.res_value.Goal.{GoalSeen}
+use Rattle.resource_text.specs.cert_maker.cert_checker.FirstFault.{IsAccepted}
+use Rattle.resource_text.specs.cert_maker.declared.omitted.Omitting.{Omitting}
+use Rattle.resource_text.specs.cert_maker.declared.omitted.Omitting.TheVariants.{Cert, NodeLimit}
+use Rattle.resource_text.specs.cert_maker.Omitting.{IsOmitting}
 use Rattle.table_commands.specs.fault_text.declared.fault.ToolFault.{ToolFault}
 use Rattle.table_commands.specs.fault_text.declared.fault.ToolFault.TheVariants as faults
 use Rattle.table_commands.specs.command_base.declared.status.Status.{Status}

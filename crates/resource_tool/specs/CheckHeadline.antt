@@ -1,14 +1,14 @@
 -- What a verdict on a certificate promises, from the bytes of all inputs.
 use Rattle.std.specs.Prelude.{◌≡◌, ℕ, List, Option, Ok}
 use Rattle.std.specs.Io.KnownBytes.{Appends}
-use Rattle.cert_maker.specs.box_answers.NumberSet.{SetOf}
-use Rattle.cert_maker.specs.config_box.BoxJson.{box_in}
+use Rattle.resource_text.specs.cert_maker.box_answers.NumberSet.{SetOf}
+use Rattle.resource_text.specs.cert_maker.config_box.BoxJson.{box_in}
 use Rattle.table_commands.specs.overlay_map.Layer.{LayerOf}
-use Rattle.cert_maker.specs.cert_tree.Certificate.{GoalOf}
-use Rattle.cert_maker.specs.res_value.Goal.{GoalSeen}
-use Rattle.cert_maker.specs.cert_tree.CertJson.{cert_in}
-use Rattle.cert_maker.specs.cert_checker.declared.verdict.Verdict.{Verdict}
-use Rattle.cert_maker.specs.cert_checker.Headline.{Headline}
+use Rattle.resource_text.specs.cert_maker.cert_tree.Certificate.{GoalOf}
+use Rattle.resource_text.specs.cert_maker.res_value.Goal.{GoalSeen}
+use Rattle.resource_text.specs.cert_maker.cert_tree.CertJson.{cert_in}
+use Rattle.resource_text.specs.cert_maker.cert_checker.declared.verdict.Verdict.{Verdict}
+use Rattle.resource_text.specs.cert_maker.cert_checker.Headline.{Headline}
 use Rattle.table_commands.specs.command_base.declared.status.Status.{Status}
 use Rattle.table_commands.specs.command_base.StackBytes.{LayerBytes, stack_in}
 use Rattle.resource_tool.specs.CheckOutput.{status_of_verdict, check_text}

@@ -1,17 +1,17 @@
 -- What the command `check` prints.
 use Rattle.std.specs.Prelude.{◌≡◌, ℕ, ◌++◌, Bool, List, Option, Some, None, Result, Ok}
 use Rattle.contract_words.specs.Faults.{◌>>=◌}
-use Rattle.cert_maker.specs.box_answers.NumberSet.{SetOf}
-use Rattle.cert_maker.specs.config_box.BoxJson.{box_in}
+use Rattle.resource_text.specs.cert_maker.box_answers.NumberSet.{SetOf}
+use Rattle.resource_text.specs.cert_maker.config_box.BoxJson.{box_in}
 use Rattle.table_commands.specs.overlay_map.Layer.{LayerOf}
 use Rattle.table_commands.specs.overlay_map.SetAside.{set_aside_in_stack}
-use Rattle.cert_maker.specs.cert_tree.Certificate.{GoalOf}
-use Rattle.cert_maker.specs.res_value.Goal.{GoalSeen}
-use Rattle.cert_maker.specs.cert_tree.CertJson.{cert_in}
-use Rattle.cert_maker.specs.cert_checker.declared.verdict.Verdict.{Verdict}
-use Rattle.cert_maker.specs.cert_checker.declared.verdict.Verdict.TheVariants.{Accepted, Rejected}
-use Rattle.cert_maker.specs.cert_checker.Verdict.{IsVerdict}
-use Rattle.cert_maker.specs.cert_checker.Headline.{Headline}
+use Rattle.resource_text.specs.cert_maker.cert_tree.Certificate.{GoalOf}
+use Rattle.resource_text.specs.cert_maker.res_value.Goal.{GoalSeen}
+use Rattle.resource_text.specs.cert_maker.cert_tree.CertJson.{cert_in}
+use Rattle.resource_text.specs.cert_maker.cert_checker.declared.verdict.Verdict.{Verdict}
+use Rattle.resource_text.specs.cert_maker.cert_checker.declared.verdict.Verdict.TheVariants.{Accepted, Rejected}
+use Rattle.resource_text.specs.cert_maker.cert_checker.Verdict.{IsVerdict}
+use Rattle.resource_text.specs.cert_maker.cert_checker.Headline.{Headline}
 use Rattle.table_commands.specs.fault_text.declared.fault.ToolFault.{ToolFault}
 use Rattle.table_commands.specs.fault_text.ToolFault.{fault_of_box, fault_of_certificate}
 use Rattle.table_commands.specs.answer_text.QueryText.{set_aside_line}

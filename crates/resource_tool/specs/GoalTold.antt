@@ -1,7 +1,7 @@
 -- The goal that an answer is about, in words.
 use Rattle.std.specs.Prelude.{ℕ, Bool, true, List, [], ◌∷◌, ◌++◌, codes, slice_get, Option, Some, None, if◌then◌else◌}
 use Rattle.std.specs.Fmt.{decimal}
-use Rattle.cert_maker.specs.res_value.Goal.{GoalSeen, IdGoal, AttrGoal}
+use Rattle.resource_text.specs.cert_maker.res_value.Goal.{GoalSeen, IdGoal, AttrGoal}
 use Rattle.table_commands.specs.overlay_map.Layer.{LayerOf}
 use Rattle.table_commands.specs.answer_text.GoalText as text
 

@@ -1,11 +1,11 @@
 -- The line of a certificate, read again. (Cited by contracts of this crate alone.)
 use Rattle.std.specs.Prelude.{◌≡◌, List, Result, Ok, Err}
-use Rattle.cert_maker.specs.cert_tree.Certificate.{GoalOf, CertFits, goals_of}
-use Rattle.cert_maker.specs.cert_tree.CertJson.{cert_in}
-use Rattle.cert_maker.specs.declared.made.Made.{Made}
-use Rattle.cert_maker.specs.declared.made.Made.TheVariants.{Cert, Counter, NodeLimit}
-use Rattle.cert_maker.specs.declared.omitted.Omitting.{Omitting}
-use Rattle.cert_maker.specs.declared.omitted.Omitting.TheVariants as omitting
+use Rattle.resource_text.specs.cert_maker.cert_tree.Certificate.{GoalOf, CertFits, goals_of}
+use Rattle.resource_text.specs.cert_maker.cert_tree.CertJson.{cert_in}
+use Rattle.resource_text.specs.cert_maker.declared.made.Made.{Made}
+use Rattle.resource_text.specs.cert_maker.declared.made.Made.TheVariants.{Cert, Counter, NodeLimit}
+use Rattle.resource_text.specs.cert_maker.declared.omitted.Omitting.{Omitting}
+use Rattle.resource_text.specs.cert_maker.declared.omitted.Omitting.TheVariants as omitting
 use Rattle.table_commands.specs.command_base.declared.status.Status.{Status}
 use Rattle.table_commands.specs.fault_text.declared.fault.ToolFault.{ToolFault}
 use Rattle.table_commands.specs.fault_text.declared.fault.ToolFault.TheVariants.{OutOfMemory}

@@ -5,19 +5,19 @@ use Rattle.std.specs.List.{All}
 use Rattle.serde_json.specs.Written.{compact_text}
 use Rattle.contract_words.specs.Faults.{◌>>=◌}
 use Rattle.table_commands.specs.config_record.DeviceSeen.{device_numbers}
-use Rattle.cert_maker.specs.box_answers.NumberSet.{SetOf}
-use Rattle.cert_maker.specs.config_box.BoxJson.{box_in}
+use Rattle.resource_text.specs.cert_maker.box_answers.NumberSet.{SetOf}
+use Rattle.resource_text.specs.cert_maker.config_box.BoxJson.{box_in}
 use Rattle.table_commands.specs.overlay_map.Layer.{LayerOf}
 use Rattle.table_commands.specs.reference_resolver.declared.end.End.{End}
-use Rattle.cert_maker.specs.cert_tree.Certificate.{GoalOf, GoalFits, goals_of, most_nodes}
-use Rattle.cert_maker.specs.res_value.Goal.{GoalSeen}
-use Rattle.cert_maker.specs.cert_tree.CertJson.{cert_in}
-use Rattle.cert_maker.specs.cert_tree.WrittenJson.{cert_data}
-use Rattle.cert_maker.specs.cert_checker.FirstFault.{IsAccepted}
-use Rattle.cert_maker.specs.declared.made.Made.{Made}
-use Rattle.cert_maker.specs.declared.made.Made.TheVariants.{Cert, Counter, NodeLimit}
-use Rattle.cert_maker.specs.Made.{IsMade}
-use Rattle.cert_maker.specs.Least.{IsLeast}
+use Rattle.resource_text.specs.cert_maker.cert_tree.Certificate.{GoalOf, GoalFits, goals_of, most_nodes}
+use Rattle.resource_text.specs.cert_maker.res_value.Goal.{GoalSeen}
+use Rattle.resource_text.specs.cert_maker.cert_tree.CertJson.{cert_in}
+use Rattle.resource_text.specs.cert_maker.cert_tree.WrittenJson.{cert_data}
+use Rattle.resource_text.specs.cert_maker.cert_checker.FirstFault.{IsAccepted}
+use Rattle.resource_text.specs.cert_maker.declared.made.Made.{Made}
+use Rattle.resource_text.specs.cert_maker.declared.made.Made.TheVariants.{Cert, Counter, NodeLimit}
+use Rattle.resource_text.specs.cert_maker.Made.{IsMade}
+use Rattle.resource_text.specs.cert_maker.Least.{IsLeast}
 use Rattle.table_commands.specs.fault_text.declared.fault.ToolFault.{ToolFault}
 use Rattle.table_commands.specs.fault_text.ToolFault.{fault_of_box}
 use Rattle.resource_text.specs.VerdictText.{device_with_end}

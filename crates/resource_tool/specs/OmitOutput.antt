@@ -4,13 +4,13 @@ use Rattle.std.specs.Io.KnownBytes.{Appends}
 use Rattle.std.specs.List.{All, flat_map}
 use Rattle.table_commands.specs.config_record.DeviceSeen.{device_numbers}
 use Rattle.table_commands.specs.overlay_map.Layer.{LayerOf}
-use Rattle.cert_maker.specs.cert_tree.Certificate.{GoalOf, GoalFits, goals_of, most_nodes}
-use Rattle.cert_maker.specs.res_value.Goal.{GoalSeen}
-use Rattle.cert_maker.specs.declared.made.Made.TheVariants as made
-use Rattle.cert_maker.specs.declared.omitted.Omitted.{Omitted}
-use Rattle.cert_maker.specs.declared.omitted.Omitting.{Omitting}
-use Rattle.cert_maker.specs.declared.omitted.Omitting.TheVariants.{Cert, NodeLimit}
-use Rattle.cert_maker.specs.Omitting.{IsOmitting, places_of, without}
+use Rattle.resource_text.specs.cert_maker.cert_tree.Certificate.{GoalOf, GoalFits, goals_of, most_nodes}
+use Rattle.resource_text.specs.cert_maker.res_value.Goal.{GoalSeen}
+use Rattle.resource_text.specs.cert_maker.declared.made.Made.TheVariants as made
+use Rattle.resource_text.specs.cert_maker.declared.omitted.Omitted.{Omitted}
+use Rattle.resource_text.specs.cert_maker.declared.omitted.Omitting.{Omitting}
+use Rattle.resource_text.specs.cert_maker.declared.omitted.Omitting.TheVariants.{Cert, NodeLimit}
+use Rattle.resource_text.specs.cert_maker.Omitting.{IsOmitting, places_of, without}
 use Rattle.resource_text.specs.VerdictText.{device_with_end}
 use Rattle.table_commands.specs.fault_text.declared.fault.ToolFault.{ToolFault}
 use Rattle.table_commands.specs.command_base.declared.status.Status.TheVariants.{Done, Negative}

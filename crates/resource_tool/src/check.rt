@@ -3,7 +3,7 @@
 ghost use Rattle.std.specs.Prelude.{◌≡◌, false, map, Ok, IfOk};
 ghost use Rattle.contract_words.specs.Exact.{GivesOr};
 ghost use Rattle.contract_words.specs.Writes.{Writes};
-ghost use Rattle.cert_maker.specs.res_value.Goal.{goal_seen};
+ghost use Rattle.resource_text.specs.cert_maker.res_value.Goal.{goal_seen};
 ghost use Rattle.table_commands.specs.fault_text.declared.fault.ToolFault.TheVariants.{OutOfMemory};
 ghost use Rattle.table_commands.specs.command_base.Output.{PrintsOneOf, IsOfInput};
 ghost use Rattle.resource_tool.specs.Answered.{PrintsBothOneOf};
@@ -13,7 +13,7 @@ ghost use Rattle.resource_tool.specs.CheckHeadline.{HeadlineHolds};
 ghost use Rattle.resource_tool.specs.OpenedSeen.{opened_cert};
 
 use crate::goal_told::write_goal_told;
-use cert_maker::{Cert, ConfigBox, Goal, Verdict, check};
+use resource_text::cert_maker::{Cert, ConfigBox, Goal, Verdict, check};
 use resource_text::{set_aside_line, verdict_text};
 use std::alloc::Global;
 use std::io::{self, Write, sink};

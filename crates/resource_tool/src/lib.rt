@@ -25,13 +25,14 @@ mod make;
 mod omit;
 
 pub use answered::Answered;
-pub use cert_maker::{Goal, Omitted, Omitting, Progress, Unwatched};
 pub use check::{OpenedCert, check_bytes};
-pub use device_commands::{Opened, attr_bytes, bag_bytes, explain_bytes, query_bytes};
 pub use goal_told::write_goal_told;
 pub use make::{OpenedBox, make_bytes, make_bytes_watched};
 pub use omit::make_omitting_bytes;
+pub use resource_text;
+pub use resource_text::cert_maker::{Goal, Omitted, Omitting, Progress, Unwatched};
 pub use table_commands::{
-    InputFault, LayerList, LayerParts, LayersFault, Status, ToolFault, dump_bytes, fault_text,
-    map_bytes, read_input, rows_bytes,
+    InputFault, LayerList, LayerParts, LayersFault, Opened, Status, ToolFault, attr_bytes,
+    bag_bytes, dump_bytes, explain_bytes, fault_text, map_bytes, query_bytes, read_input,
+    rows_bytes,
 };

@@ -4,9 +4,9 @@ ghost use Rattle.std.specs.Prelude.{◌≡◌, ◌∷◌, ◌++◌, [], false, m
 ghost use Rattle.contract_words.specs.Exact.{GivesOr};
 ghost use Rattle.contract_words.specs.Writes.{Writes};
 ghost use Rattle.serde_json.specs.Written.{compact_text};
-ghost use Rattle.cert_maker.specs.cert_tree.Certificate.{goals_of};
-ghost use Rattle.cert_maker.specs.res_value.Goal.{goal_seen};
-ghost use Rattle.cert_maker.specs.cert_tree.WrittenJson.{cert_data};
+ghost use Rattle.resource_text.specs.cert_maker.cert_tree.Certificate.{goals_of};
+ghost use Rattle.resource_text.specs.cert_maker.res_value.Goal.{goal_seen};
+ghost use Rattle.resource_text.specs.cert_maker.cert_tree.WrittenJson.{cert_data};
 ghost use Rattle.table_commands.specs.config_record.DeviceSeen.{device_numbers};
 ghost use Rattle.table_commands.specs.fault_text.declared.fault.ToolFault.TheVariants.{OutOfMemory};
 ghost use Rattle.table_commands.specs.command_base.Output.{IsOfInput, Prints, PrintsOneOf};
@@ -18,7 +18,7 @@ ghost use Rattle.resource_tool.specs.OpenedSeen.{opened_box};
 
 use crate::answered::Answered;
 use crate::goal_told::write_goal_told;
-use cert_maker::{Cert, ConfigBox, Goal, Made, Progress, Unwatched, make_watched};
+use resource_text::cert_maker::{Cert, ConfigBox, Goal, Made, Progress, Unwatched, make_watched};
 use resource_text::device_with_end;
 use std::alloc::{AllocError, Global};
 use std::io::{self, Write, sink};

@@ -2,8 +2,8 @@
 
 ghost use Rattle.std.specs.Prelude.{ℕ, map, Ok, IfOk};
 ghost use Rattle.contract_words.specs.Writes.{Writes};
-ghost use Rattle.cert_maker.specs.Omitting.{IsOmitting};
-ghost use Rattle.cert_maker.specs.res_value.Goal.{goal_seen};
+ghost use Rattle.resource_text.specs.cert_maker.Omitting.{IsOmitting};
+ghost use Rattle.resource_text.specs.cert_maker.res_value.Goal.{goal_seen};
 ghost use Rattle.table_commands.specs.MapOutput.{PrintsBoth};
 ghost use Rattle.table_commands.specs.command_base.StackBytesSeen.{layer_bytes};
 ghost use Rattle.resource_tool.specs.Answered.{PrintsBothOneOf};
@@ -14,7 +14,7 @@ ghost use Rattle.resource_tool.specs.OpenedSeen.{opened_box};
 
 use crate::goal_told::write_goal_told;
 use crate::make::{OpenedBox, certificate_text, write_line};
-use cert_maker::{Goal, Omitted, Omitting, Progress, Unwatched, make_omitting};
+use resource_text::cert_maker::{Goal, Omitted, Omitting, Progress, Unwatched, make_omitting};
 use resource_text::device_with_end;
 use std::alloc::{AllocError, Global};
 use std::io::{self, Write};

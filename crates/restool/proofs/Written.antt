@@ -12,10 +12,10 @@ use Rattle.program_run.specs.command_base.declared.status.Status.{Status}
 use Rattle.program_run.specs.command_base.Output.{Output, Prints, PrintsOneOf}
 use Rattle.resource_tool.specs.table_commands.TableOutput.{rows_output, dump_output}
 use Rattle.resource_tool.specs.table_commands.MapOutput.{MapOutput, PrintsBoth, map_output}
-use Rattle.resource_tool.specs.device_commands.QueryOutput.{query_answer}
-use Rattle.resource_tool.specs.device_commands.ExplainOutput.{explain_answer}
-use Rattle.resource_tool.specs.device_commands.BagOutput.{bag_answer}
-use Rattle.resource_tool.specs.device_commands.AttrOutput.{attr_answer}
+use Rattle.resource_tool.specs.table_commands.QueryOutput.{query_answer}
+use Rattle.resource_tool.specs.table_commands.ExplainOutput.{explain_answer}
+use Rattle.resource_tool.specs.table_commands.BagOutput.{bag_answer}
+use Rattle.resource_tool.specs.table_commands.AttrOutput.{attr_answer}
 use Rattle.resource_tool.specs.Answered.{PrintsBothOneOf}
 use Rattle.resource_tool.specs.MakeOutput.{IsMakeOutput, IsMakeAnswer}
 use Rattle.resource_tool.specs.CheckOutput.{IsCheckAnswer}

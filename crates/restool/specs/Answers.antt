@@ -8,10 +8,10 @@ use Rattle.survey_command.specs.SurveyOutput.{survey_output}
 use Rattle.show_command.specs.ShowOutput.{show_output, show_dot_output}
 use Rattle.resource_tool.specs.table_commands.TableOutput.{rows_output, dump_output}
 use Rattle.resource_tool.specs.table_commands.MapOutput.{PrintsBoth, map_output}
-use Rattle.resource_tool.specs.device_commands.QueryOutput.{query_answer}
-use Rattle.resource_tool.specs.device_commands.ExplainOutput.{explain_answer}
-use Rattle.resource_tool.specs.device_commands.BagOutput.{bag_answer}
-use Rattle.resource_tool.specs.device_commands.AttrOutput.{attr_answer}
+use Rattle.resource_tool.specs.table_commands.QueryOutput.{query_answer}
+use Rattle.resource_tool.specs.table_commands.ExplainOutput.{explain_answer}
+use Rattle.resource_tool.specs.table_commands.BagOutput.{bag_answer}
+use Rattle.resource_tool.specs.table_commands.AttrOutput.{attr_answer}
 use Rattle.resource_tool.specs.res_value.Goal.{GoalSeen}
 use Rattle.resource_tool.specs.Answered.{PrintsBothOneOf}
 use Rattle.resource_tool.specs.MakeOutput.{MakeInputs, IsMakeOutput, IsMakeAnswer}

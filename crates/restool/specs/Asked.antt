@@ -4,7 +4,7 @@ use Rattle.std.specs.Prelude.{ℕ, List, Result, Ok}
 use Rattle.contract_words.specs.Faults.{◌>>=◌}
 use Rattle.json_input.specs.Each.{each}
 use Rattle.resource_tool.specs.res_value.Goal.{GoalSeen}
-use Rattle.resource_tool.specs.device_commands.Opened.{OpenedOf, opened_in}
+use Rattle.resource_tool.specs.table_commands.Opened.{OpenedOf, opened_in}
 use Rattle.resource_tool.specs.CheckOutput as check
 use Rattle.resource_tool.specs.MakeOutput.{MakeInputs, make_inputs}
 use Rattle.resource_tool.specs.table_commands.overlay_map.Layer.{LayerOf}
@@ -17,7 +17,7 @@ use Rattle.program_run.specs.command_words.name_words.Named.{NamedOf}
 use Rattle.program_run.specs.FileWords.{set_asked, goal_asked}
 use Rattle.program_run.specs.Inputs.{or_stop}
 use Rattle.program_run.specs.Stop.{StopOf, no_resource, tool}
-use Rattle.resource_tool.specs.cert_tree.res_value.declared.res_id.ResId.{ResId}
+use Rattle.resource_tool.specs.res_value.declared.res_id.ResId.{ResId}
 use Rattle.diff_command.specs.DiffInputs.{DiffInputs, diff_inputs}
 use Rattle.diff_command.specs.name_pairs.Pairs.{PairOf, name_pairs}
 

@@ -2,7 +2,7 @@
 use Rattle.std.specs.Prelude.{map}
 use Rattle.resource_tool.specs.res_value.Goal.{goal_seen}
 use Rattle.resource_tool.specs.OpenedSeen.{opened_box, opened_cert}
-use Rattle.resource_tool.specs.device_commands.OpenedSeen.{opened_of}
+use Rattle.resource_tool.specs.table_commands.OpenedSeen.{opened_of}
 use Rattle.diff_command.specs.OpenedSeen.{opened_diff}
 use Rattle.diff_command.specs.name_pairs.Pairs.{pair_of}
 use Rattle.restool.specs.declared.asked.AskedId.{AskedId}

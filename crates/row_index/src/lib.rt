@@ -23,5 +23,5 @@ pub use indexed_rows::IndexedRows;
 pub use indexed_table::IndexedTable;
 pub use resource_table::{
     Cell, DeviceFault, MapRows, Package, PackageRows, Pool, PoolFault, ResId, Row, Table,
-    TableFault, Value, kind, write_string,
+    TableFault, Value, kind, write_hex, write_id, write_string, write_value, write_word,
 };

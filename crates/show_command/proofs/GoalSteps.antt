@@ -2,8 +2,8 @@
 use Rattle.std.proofs.Common.{◌≡◌, ℕ, ◌+◌, ◌<◌, ◌≤◌, List, [], ◌∷◌, ◌++◌, map, length, drop, get_or, refl, sym, ap, ◌∙◌}
 use Rattle.std.specs.List.{enumerate_from}
 use Rattle.std.proofs.lemmas.List.{drop_more, drop_all, append-nil}
-use Rattle.cert_tree.specs.declared.cert.CertGoal.{CertGoal}
-use Rattle.cert_tree.specs.Certificate.{GoalOf, goal_of}
+use Rattle.command_base.specs.cert_tree.declared.cert.CertGoal.{CertGoal}
+use Rattle.command_base.specs.cert_tree.Certificate.{GoalOf, goal_of}
 use Rattle.show_command.specs.declared.numbered_goal.NumberedGoal.{NumberedGoal}
 use Rattle.show_command.specs.NumberedGoal.{numbered_of}
 use Rattle.show_command.proofs.LineSteps.{one_more}

@@ -1,8 +1,8 @@
 -- How a loop makes the lines of a tree, one after the other.
 use Rattle.std.proofs.Common.{◌≡◌, ℕ, ◌+◌, ◌<◌, ◌≤◌, List, [], ◌∷◌, ◌++◌, map, length, drop, get_or, refl, sym, ap, ◌∙◌, append_assoc}
 use Rattle.std.proofs.lemmas.List.{drop_more, drop_all, map-append, append-nil}
-use Rattle.cert_tree.specs.declared.node.Node.{Node}
-use Rattle.cert_tree.specs.Certificate.{NodeOf, node_of}
+use Rattle.command_base.specs.cert_tree.declared.node.Node.{Node}
+use Rattle.command_base.specs.cert_tree.Certificate.{NodeOf, node_of}
 use Rattle.show_command.specs.declared.path_end.PathEnd.{PathEnd}
 use Rattle.show_command.specs.declared.tree_lines.TreeLine.{TreeLine}
 use Rattle.show_command.specs.TreeLines.{LineOf, Missing, start, line_at, open_behind, lines_from, tree_lines}

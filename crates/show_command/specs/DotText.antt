@@ -2,8 +2,8 @@
 use Rattle.std.specs.Prelude.{ℕ, ◌==◌, ◌||◌, if◌then◌else◌, List, [], ◌∷◌, ◌++◌, codes}
 use Rattle.std.specs.List.{flat_map}
 use Rattle.std.specs.Fmt.{decimal}
-use Rattle.answer_text.specs.overlay_map.Layer.{LayerOf}
-use Rattle.cert_tree.specs.Certificate.{NodeOf, GoalOf}
+use Rattle.command_base.specs.overlay_map.Layer.{LayerOf}
+use Rattle.command_base.specs.cert_tree.Certificate.{NodeOf, GoalOf}
 use Rattle.show_command.specs.declared.path_end.LastAnswer.{LastAnswer}
 use Rattle.show_command.specs.declared.path_end.LastAnswer.TheVariants.{Nothing, Yes, No}
 use Rattle.show_command.specs.TreeLines.{LineOf, NodeAt, Unreached, Missing, tree_lines}

@@ -1,6 +1,6 @@
 -- How contracts see a goal with its number.
 use Rattle.std.specs.Prelude.{ℕ}
-use Rattle.cert_tree.specs.Certificate.{GoalOf, goal_of}
+use Rattle.command_base.specs.cert_tree.Certificate.{GoalOf, goal_of}
 use Rattle.show_command.specs.declared.numbered_goal.NumberedGoal.{NumberedGoal}
 
 -- by its content, not its address

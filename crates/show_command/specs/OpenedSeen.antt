@@ -1,5 +1,5 @@
 -- How contracts see layers and a certificate that were opened.
-use Rattle.cert_tree.specs.Certificate.{goals_of}
+use Rattle.command_base.specs.cert_tree.Certificate.{goals_of}
 use Rattle.show_command.specs.declared.show.OpenedTrees.{OpenedTrees}
 use Rattle.show_command.specs.ShowOutput.{ShowInputs}
 

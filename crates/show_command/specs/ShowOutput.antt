@@ -1,15 +1,15 @@
 -- What the command `show` prints.
 use Rattle.std.specs.Prelude.{ℕ, List, slice_get, Option, Some, None, Result, Ok}
 use Rattle.contract_words.specs.Faults.{◌>>=◌}
-use Rattle.command_base.specs.fault_text.overlay_map.Layer.{LayerOf}
+use Rattle.command_base.specs.overlay_map.Layer.{LayerOf}
 use Rattle.command_base.specs.fault_text.declared.fault.ToolFault.{ToolFault}
 use Rattle.command_base.specs.fault_text.ToolFault.{fault_of_certificate}
 use Rattle.command_base.specs.declared.status.Status.TheVariants.{Done, Negative}
 use Rattle.command_base.specs.Output.{Output}
 use Rattle.command_base.specs.StackBytes.{LayerBytes, stack_in}
 use Rattle.command_base.specs.MapErr.{map_err}
-use Rattle.cert_tree.specs.Certificate.{GoalOf}
-use Rattle.cert_tree.specs.CertJson.{cert_in}
+use Rattle.command_base.specs.cert_tree.Certificate.{GoalOf}
+use Rattle.command_base.specs.cert_tree.CertJson.{cert_in}
 use Rattle.show_command.specs.TreeText.{certificate_text}
 use Rattle.show_command.specs.DotText.{dot_text, no_goal_line}
 

@@ -1,6 +1,6 @@
 -- The lines of a tree. The next node of the list stands at the end of the first path that is open.
 use Rattle.std.specs.Prelude.{ℕ, ◌+◌, nat_lt, if◌then◌else◌, List, [], ◌∷◌, map}
-use Rattle.cert_tree.specs.Certificate.{NodeOf, TestAt, ValueAt, BagAt}
+use Rattle.command_base.specs.cert_tree.Certificate.{NodeOf, TestAt, ValueAt, BagAt}
 use Rattle.show_command.specs.declared.path_end.PathEnd.{PathEnd}
 use Rattle.show_command.specs.declared.path_end.LastAnswer.TheVariants.{Nothing, Yes, No}
 

@@ -1,5 +1,5 @@
 -- How contracts see the lines of a tree.
-use Rattle.cert_tree.specs.Certificate.{node_of}
+use Rattle.command_base.specs.cert_tree.Certificate.{node_of}
 use Rattle.show_command.specs.declared.tree_lines.TreeLine.{TreeLine}
 use Rattle.show_command.specs.declared.tree_lines.TreeLine.TheVariants as of_line
 use Rattle.show_command.specs.TreeLines.{LineOf, NodeAt, Unreached, Missing}

@@ -2,22 +2,22 @@
 use Rattle.std.specs.Prelude.{ℕ, ◌*◌, ◌==◌, nat_lt, if◌then◌else◌, List, [], ◌∷◌, ◌++◌, codes, length, take, Option, Some, None}
 use Rattle.std.specs.List.{flat_map, enumerate_from}
 use Rattle.std.specs.Fmt.{decimal}
-use Rattle.answer_text.specs.config_record.declared.locale.Locale.{Locale}
-use Rattle.answer_text.specs.config_record.Coord.{name_of}
-use Rattle.answer_text.specs.config_record.Locale.{locale_text}
-use Rattle.answer_text.specs.config_record.ComparedNumber.{locale_number}
-use Rattle.answer_text.specs.res_value.declared.res_id.ResId.{ResId}
-use Rattle.answer_text.specs.res_value.declared.value.Value.{Value}
-use Rattle.answer_text.specs.res_value.ResId.{id_text}
-use Rattle.answer_text.specs.overlay_map.Layer.{LayerOf}
-use Rattle.answer_text.specs.reference_resolver.string_pool.Pool.{PoolOf}
-use Rattle.answer_text.specs.reference_resolver.declared.end.End.TheVariants as of_end
-use Rattle.answer_text.specs.NameText.{its_name}
-use Rattle.answer_text.specs.EndText.{end_text, end_with_string}
-use Rattle.answer_text.specs.QueryText.{strings_of_layer}
-use Rattle.cert_tree.specs.config_box.Tests.{ChoiceOf, NumbersOf, LocalesOf, TestOf, AtMostOf, AmongOf}
-use Rattle.cert_tree.specs.Certificate.{NodeOf, TestAt, ValueAt, BagAt, GoalOf}
-use Rattle.cert_tree.specs.res_value.Goal.{GoalSeen, IdGoal, AttrGoal}
+use Rattle.command_base.specs.answer_text.config_record.declared.locale.Locale.{Locale}
+use Rattle.command_base.specs.answer_text.config_record.Coord.{name_of}
+use Rattle.command_base.specs.answer_text.config_record.Locale.{locale_text}
+use Rattle.command_base.specs.answer_text.config_record.ComparedNumber.{locale_number}
+use Rattle.command_base.specs.answer_text.res_value.declared.res_id.ResId.{ResId}
+use Rattle.command_base.specs.answer_text.res_value.declared.value.Value.{Value}
+use Rattle.command_base.specs.answer_text.res_value.ResId.{id_text}
+use Rattle.command_base.specs.overlay_map.Layer.{LayerOf}
+use Rattle.command_base.specs.answer_text.string_pool.Pool.{PoolOf}
+use Rattle.command_base.specs.answer_text.reference_resolver.declared.end.End.TheVariants as of_end
+use Rattle.command_base.specs.answer_text.NameText.{its_name}
+use Rattle.command_base.specs.answer_text.EndText.{end_text, end_with_string}
+use Rattle.command_base.specs.answer_text.QueryText.{strings_of_layer}
+use Rattle.command_base.specs.cert_tree.config_box.Tests.{ChoiceOf, NumbersOf, LocalesOf, TestOf, AtMostOf, AmongOf}
+use Rattle.command_base.specs.cert_tree.Certificate.{NodeOf, TestAt, ValueAt, BagAt, GoalOf}
+use Rattle.command_base.specs.cert_tree.res_value.Goal.{GoalSeen, IdGoal, AttrGoal}
 use Rattle.show_command.specs.declared.path_end.LastAnswer.{LastAnswer}
 use Rattle.show_command.specs.declared.path_end.LastAnswer.TheVariants.{Nothing, Yes, No}
 use Rattle.show_command.specs.declared.path_end.PathEnd.{PathEnd}

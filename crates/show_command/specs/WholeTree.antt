@@ -1,9 +1,9 @@
 -- What is shown of a list of nodes that is a whole tree.
 use Rattle.std.specs.Prelude.{◌≡◌, ℕ, ◌+◌, List, [], ◌∷◌, ◌++◌, length}
-use Rattle.cert_tree.specs.config_box.Tests.{TestOf}
-use Rattle.cert_tree.specs.res_value.declared.res_id.ResId.{ResId}
-use Rattle.cert_tree.specs.res_value.declared.value.Value.{Value}
-use Rattle.cert_tree.specs.Certificate.{NodeOf, TestAt, ValueAt, BagAt}
+use Rattle.command_base.specs.cert_tree.config_box.Tests.{TestOf}
+use Rattle.command_base.specs.cert_tree.res_value.declared.res_id.ResId.{ResId}
+use Rattle.command_base.specs.cert_tree.res_value.declared.value.Value.{Value}
+use Rattle.command_base.specs.cert_tree.Certificate.{NodeOf, TestAt, ValueAt, BagAt}
 use Rattle.show_command.specs.declared.path_end.PathEnd.{PathEnd}
 use Rattle.show_command.specs.TreeLines.{LineOf, NodeAt, start, behind_yes, behind_no, tree_lines}
 

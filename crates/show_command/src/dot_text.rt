@@ -3,8 +3,8 @@
 ghost use Rattle.std.specs.Prelude.{◌≡◌, ◌++◌, map, OnOk, IfOk};
 ghost use Rattle.std.specs.List.{flat_map};
 ghost use Rattle.contract_words.specs.Writes.{Writes};
-ghost use Rattle.cert_tree.specs.Certificate.{node_of, goal_of};
-ghost use Rattle.cert_tree.specs.res_value.Goal.{goal_seen};
+ghost use Rattle.command_base.specs.cert_tree.Certificate.{node_of, goal_of};
+ghost use Rattle.command_base.specs.cert_tree.res_value.Goal.{goal_seen};
 ghost use Rattle.show_command.specs.TreeLinesSeen.{line_of};
 ghost use Rattle.show_command.specs.TreeText.{goal_head};
 ghost use Rattle.show_command.specs.DotText.{escaped, quoted, unreached_label, line_label, missing_name, line_name, labeled_arrow, arrow_to, arrow_text, statements_with, statements_text, head_with, dot_text};
@@ -13,8 +13,8 @@ use crate::goal_text::write_goal_head;
 use crate::node_text::write_node_label;
 use crate::path_end::LastAnswer;
 use crate::tree_lines::{TreeLine, tree_lines};
-use answer_text::Stack;
-use cert_tree::{CertGoal, Goal, Node};
+use command_base::answer_text::Stack;
+use command_base::cert_tree::{CertGoal, Goal, Node};
 use std::alloc::{AllocError, Global};
 use std::io::{self, Write};
 

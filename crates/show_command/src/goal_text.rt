@@ -2,11 +2,11 @@
 
 ghost use Rattle.std.specs.List.{flat_map};
 ghost use Rattle.contract_words.specs.Writes.{Writes};
-ghost use Rattle.cert_tree.specs.res_value.Goal.{goal_seen};
+ghost use Rattle.command_base.specs.cert_tree.res_value.Goal.{goal_seen};
 ghost use Rattle.show_command.specs.TreeText.{style_text, asked_text, goal_head, goal_line};
 
-use answer_text::{ResId, Stack, write_id, write_its_name};
-use cert_tree::Goal;
+use command_base::answer_text::{ResId, Stack, write_id, write_its_name};
+use command_base::cert_tree::Goal;
 use std::io::{self, Write};
 
 /// Writes the line of a goal: its number, what it asks and how many nodes it has.

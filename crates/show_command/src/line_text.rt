@@ -3,15 +3,15 @@
 ghost use Rattle.std.specs.List.{flat_map};
 ghost use Rattle.std.specs.Prelude.{map};
 ghost use Rattle.contract_words.specs.Writes.{Writes};
-ghost use Rattle.cert_tree.specs.Certificate.{node_of};
+ghost use Rattle.command_base.specs.cert_tree.Certificate.{node_of};
 ghost use Rattle.show_command.specs.TreeLinesSeen.{line_of};
 ghost use Rattle.show_command.specs.TreeText.{else_text, behind_text, path_text, node_line, unreached_line, missing_line, line_text};
 
 use crate::node_text::write_node;
 use crate::path_end::{LastAnswer, MOST_DEPTH, PathEnd};
 use crate::tree_lines::TreeLine;
-use answer_text::Stack;
-use cert_tree::Node;
+use command_base::answer_text::Stack;
+use command_base::cert_tree::Node;
 use std::io::{self, Write};
 
 /// Two spaces for each answer yes.

@@ -2,16 +2,16 @@
 
 ghost use Rattle.std.specs.Option.{option_map};
 ghost use Rattle.contract_words.specs.Writes.{Writes};
-ghost use Rattle.answer_text.specs.reference_resolver.string_pool.Pool.{pool_of};
-ghost use Rattle.cert_tree.specs.Certificate.{node_of};
+ghost use Rattle.command_base.specs.answer_text.string_pool.Pool.{pool_of};
+ghost use Rattle.command_base.specs.cert_tree.Certificate.{node_of};
 ghost use Rattle.show_command.specs.TreeText.{no_layer, value_text, bag_text, node_label, if_text, node_text};
 
 use crate::test_text::write_test;
-use answer_text::{
+use command_base::answer_text::{
     End, Pool, ResId, Stack, Value, end_text, strings_of_layer, write_end_with_string,
     write_its_name,
 };
-use cert_tree::Node;
+use command_base::cert_tree::Node;
 use std::io::{self, Write};
 
 /// Writes a node for a line of a tree.

@@ -1,12 +1,12 @@
 //! A goal with its number and the lines of its tree.
 
 ghost use Rattle.std.specs.Prelude.{◌≡◌, map};
-ghost use Rattle.cert_tree.specs.Certificate.{node_of};
+ghost use Rattle.command_base.specs.cert_tree.Certificate.{node_of};
 ghost use Rattle.show_command.specs.TreeLines.{tree_lines};
 ghost use Rattle.show_command.specs.TreeLinesSeen.{line_of};
 
 use crate::tree_lines::{TreeLine, tree_lines};
-use cert_tree::CertGoal;
+use command_base::cert_tree::CertGoal;
 use std::alloc::{AllocError, Global};
 
 /// A goal of a certificate, by its number from 0.
@@ -21,7 +21,7 @@ pub(crate) struct NumberedGoal<'c> {
 
 impl<'c> NumberedGoal<'c> {
     ghost use Rattle.std.specs.Prelude.{◌≡◌, IfOk};
-    ghost use Rattle.cert_tree.specs.Certificate.{goal_of};
+    ghost use Rattle.command_base.specs.cert_tree.Certificate.{goal_of};
     ghost use Rattle.show_command.specs.NumberedGoal.{numbered_of};
 
     pub fn of(

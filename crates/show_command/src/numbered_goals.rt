@@ -2,11 +2,11 @@
 
 ghost use Rattle.std.specs.Prelude.{◌≡◌, map, IfOk};
 ghost use Rattle.std.specs.List.{enumerate_from};
-ghost use Rattle.cert_tree.specs.Certificate.{goal_of};
+ghost use Rattle.command_base.specs.cert_tree.Certificate.{goal_of};
 ghost use Rattle.show_command.specs.NumberedGoal.{numbered_of};
 
 use crate::numbered_goal::NumberedGoal;
-use cert_tree::CertGoal;
+use command_base::cert_tree::CertGoal;
 use std::alloc::{AllocError, Global};
 
 /// The goals, numbered from 0, with the lines of their trees.

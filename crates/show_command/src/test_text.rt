@@ -2,11 +2,10 @@
 
 ghost use Rattle.std.specs.List.{flat_map};
 ghost use Rattle.contract_words.specs.Writes.{Writes};
-ghost use Rattle.cert_tree.specs.config_box.Tests.{choice_of, test_of};
+ghost use Rattle.command_base.specs.cert_tree.config_box.Tests.{choice_of, test_of};
 ghost use Rattle.show_command.specs.TreeText.{number_item, locale_item, choice_text, test_text};
 
-use cert_tree::{Choice, Test};
-use config_box::{Locale, write_locale};
+use command_base::cert_tree::{Choice, Locale, Test, write_locale};
 use std::io::{self, Write};
 
 /// Writes a test: `density at most 197`, `locale one of de-AT de-DE`.

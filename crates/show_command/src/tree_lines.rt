@@ -1,14 +1,14 @@
 //! The lines of a tree.
 
 ghost use Rattle.std.specs.Prelude.{◌≡◌, ◌++◌, map, OnOk, IfOk};
-ghost use Rattle.cert_tree.specs.Certificate.{node_of};
+ghost use Rattle.command_base.specs.cert_tree.Certificate.{node_of};
 ghost use Rattle.show_command.specs.TreeLines.{line_at, open_behind, tree_lines};
 ghost use Rattle.show_command.specs.TreeLines.{Missing};
 ghost use Rattle.show_command.specs.TreeLinesSeen.{line_of};
 
 use crate::open_paths::OpenPaths;
 use crate::path_end::PathEnd;
-use cert_tree::Node;
+use command_base::cert_tree::Node;
 use std::alloc::{AllocError, Global};
 
 /// What a line of a tree shows.

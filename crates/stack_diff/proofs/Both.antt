@@ -1,14 +1,14 @@
 -- What members do alike in two stacks.
 use Rattle.std.proofs.Common.{◌≡◌, List, Option, Some, None, true, false, ap, refl, subst}
 use Rattle.std.specs.Prelude.{MatchOption}
-use Rattle.cert_checker.specs.box_answers.NumberSet.{SetOf}
-use Rattle.cert_checker.specs.box_answers.Members.{IsMember}
-use Rattle.cert_checker.specs.box_trace.Parting.{answer_of, IsToldApart}
-use Rattle.cert_checker.specs.box_trace.declared.parting.Parting.{Parting}
+use Rattle.cert_maker.specs.box_answers.NumberSet.{SetOf}
+use Rattle.cert_maker.specs.box_answers.Members.{IsMember}
+use Rattle.cert_maker.specs.cert_checker.box_trace.Parting.{answer_of, IsToldApart}
+use Rattle.cert_maker.specs.cert_checker.box_trace.declared.parting.Parting.{Parting}
 use Rattle.stack_diff.specs.declared.resource.Resource.{Resource}
 use Rattle.stack_diff.specs.Sides.{trace_in, both_traces}
-use Rattle.cert_checker.specs.config_box.Tests.{TestOf}
-use Rattle.cert_checker.specs.config_box.Halves.{IsHalf}
+use Rattle.cert_maker.specs.config_box.Tests.{TestOf}
+use Rattle.cert_maker.specs.config_box.Halves.{IsHalf}
 use Rattle.cert_maker.specs.Needed.{IsNeededTest}
 use Rattle.cert_maker.proofs.Cut.{needed-by-trace}
 use Rattle.stack_diff.specs.declared.pair_box.PairBox.{PairBox}

@@ -3,14 +3,14 @@ use Rattle.std.proofs.Common.{◌≡◌, ℕ, ◌+◌, ◌-◌, ◌<◌, ◌≤�
 use Rattle.std.specs.List.{AllZip, sum}
 use Rattle.std.proofs.lemmas.List.{map-append, take_more, drop_more, take-append-drop}
 use Rattle.std.proofs.lemmas.List.Sums.{sum_by-append, sum_by-cons}
-use Rattle.cert_checker.specs.overlay_map.Layer.{LayerOf}
-use Rattle.cert_checker.specs.reference_resolver.Trace.{Trace}
-use Rattle.cert_checker.specs.box_answers.NumberSet.{SetOf}
-use Rattle.cert_checker.specs.cert_tree.Certificate.{BagAt}
-use Rattle.name_pairs.specs.Pairs.{PairOf, pair_of}
-use Rattle.name_pairs.specs.declared.pair.NamePair.{NamePair}
-use Rattle.name_pairs.specs.declared.pair.Sides.{Sides}
-use Rattle.name_pairs.specs.declared.pair.Sides.TheVariants as of_sides
+use Rattle.cert_maker.specs.cert_checker.overlay_map.Layer.{LayerOf}
+use Rattle.cert_maker.specs.cert_checker.reference_resolver.Trace.{Trace}
+use Rattle.cert_maker.specs.box_answers.NumberSet.{SetOf}
+use Rattle.cert_maker.specs.cert_tree.Certificate.{BagAt}
+use Rattle.resource_content.specs.name_pairs.Pairs.{PairOf, pair_of}
+use Rattle.resource_content.specs.name_pairs.declared.pair.NamePair.{NamePair}
+use Rattle.resource_content.specs.name_pairs.declared.pair.Sides.{Sides}
+use Rattle.resource_content.specs.name_pairs.declared.pair.Sides.TheVariants as of_sides
 use Rattle.stack_diff.specs.NeededTree.{HasNeededTree}
 use Rattle.stack_diff.specs.Outcomes.{pair_traces, HasTree, HaveTrees}
 

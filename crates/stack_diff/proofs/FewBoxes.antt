@@ -4,15 +4,15 @@ use Rattle.std.specs.List.{All, AllPairs}
 use Rattle.std.proofs.lemmas.Bool.{cases_lt}
 use Rattle.std.proofs.lemmas.List.Elements.{All-cons}
 use Rattle.std.proofs.lemmas.List.Sums.{sum_by-append}
-use Rattle.cert_checker.specs.config_record.declared.coord.Coord.{Coord}
-use Rattle.cert_checker.specs.box_answers.NumberSet.{SetOf, RangeOf, NumbersOf, LocalesOf, IsProper}
-use Rattle.cert_checker.specs.box_answers.Members.{set_at, IsMember, SomeMember, IsBox}
+use Rattle.cert_maker.specs.cert_checker.config_record.declared.coord.Coord.{Coord}
+use Rattle.cert_maker.specs.box_answers.NumberSet.{SetOf, RangeOf, NumbersOf, LocalesOf, IsProper}
+use Rattle.cert_maker.specs.box_answers.Members.{set_at, IsMember, SomeMember, IsBox}
 use Rattle.cert_maker.proofs.OneMember.{has-member}
 use Rattle.joined_boxes.specs.Devices.{HasNone, HasOnce}
 use Rattle.joined_boxes.specs.Counts.{counted, box_count}
 use Rattle.joined_boxes.specs.Kinds.{IsOfKinds}
 use Rattle.joined_boxes.specs.Least.{IsRange, IsChoice, IsLeast}
-use Rattle.cert_checker.specs.config_box.Joined.{CannotJoin}
+use Rattle.cert_maker.specs.config_box.Joined.{CannotJoin}
 use Rattle.joined_boxes.proofs.CountSteps.{once-count, count-none, count-once}
 use Rattle.joined_boxes.proofs.LineSteps.{IsLine, IsPart, by-ranges, by-choices}
 use Rattle.joined_boxes.proofs.FewestSteps.{SayOne, some-box, fewest-choices, fewest-ranges}

@@ -3,9 +3,9 @@ use Rattle.std.proofs.Common.{◌≡◌, ℕ, arith, List, [], ◌∷◌, ◌++�
 use Rattle.std.proofs.lemmas.List.{map-append, append-nil}
 use Rattle.std.proofs.lemmas.List.Concat.{flat_map-append}
 use Rattle.std.proofs.lemmas.List.Elements.{All-nil, All-cons, All-same, All-push, All-pop}
-use Rattle.cert_checker.specs.box_answers.NumberSet.{SetOf}
-use Rattle.cert_checker.specs.box_answers.Members.{IsMember, SomeMember}
-use Rattle.cert_checker.proofs.box_answers.SomeMember.{some_member}
+use Rattle.cert_maker.specs.box_answers.NumberSet.{SetOf}
+use Rattle.cert_maker.specs.box_answers.Members.{IsMember, SomeMember}
+use Rattle.cert_maker.proofs.cert_checker.box_answers.SomeMember.{some_member}
 use Rattle.joined_boxes.specs.Kinds.{IsOfKinds}
 use Rattle.resource_content.specs.Content.{ContentOf}
 use Rattle.resource_content.specs.declared.content.Content.{Content}

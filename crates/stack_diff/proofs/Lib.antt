@@ -9,3 +9,5 @@ pub mod FewBoxes
 pub mod Joining
 pub mod Counts
 pub mod Unchanged
+pub use Rattle.cert_maker.proofs.cert_checker.box_answers
+pub use Rattle.cert_maker.proofs.cert_checker.config_record

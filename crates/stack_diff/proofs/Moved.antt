@@ -6,8 +6,8 @@ use Rattle.std.proofs.lemmas.Bool.{cases_eq}
 use Rattle.std.proofs.lemmas.List.Edits.{Swapped, swapped_from_swap}
 use Rattle.std.proofs.lemmas.List.Elements.{All-from_recursion, recursion_from_All}
 use Rattle.std.proofs.lemmas.List.Sorted.{IsPermutation-keeps, IsPermutation-swap, length_permutation, All-permutation}
-use Rattle.cert_checker.specs.box_answers.NumberSet.{SetOf}
-use Rattle.cert_checker.specs.box_answers.Members.{IsMember}
+use Rattle.cert_maker.specs.box_answers.NumberSet.{SetOf}
+use Rattle.cert_maker.specs.box_answers.Members.{IsMember}
 use Rattle.joined_boxes.specs.Devices.{HasNone, HasOnce}
 use Rattle.stack_diff.specs.Once.{KeepsEach}
 

@@ -1,10 +1,10 @@
 -- Which of some boxes has a device, where boxes are put together, parted or moved.
 use Rattle.std.proofs.Common.{◌≡◌, ℕ, ◌⊎◌, inl, inr, Bool, true, false, List, [], ◌∷◌, ◌++◌, sym, ◌∙◌, subst}
 use Rattle.std.proofs.lemmas.Bool.{cases_Bool}
-use Rattle.cert_checker.specs.box_answers.NumberSet.{SetOf}
-use Rattle.cert_checker.specs.box_answers.Members.{IsMember}
-use Rattle.cert_checker.specs.config_box.Tests.{TestOf, answers}
-use Rattle.cert_checker.specs.config_box.Halves.{IsHalf}
+use Rattle.cert_maker.specs.box_answers.NumberSet.{SetOf}
+use Rattle.cert_maker.specs.box_answers.Members.{IsMember}
+use Rattle.cert_maker.specs.config_box.Tests.{TestOf, answers}
+use Rattle.cert_maker.specs.config_box.Halves.{IsHalf}
 use Rattle.joined_boxes.specs.Devices.{HasNone, HasOnce}
 use Rattle.stack_diff.specs.Once.{KeepsEach}
 

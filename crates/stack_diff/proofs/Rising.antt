@@ -13,7 +13,7 @@ use Rattle.std.proofs.lemmas.List.Elements.{All-nil, All-push, All-map}
 use Rattle.std.proofs.lemmas.List.Kept.{AllPairs-cons}
 use Rattle.std.proofs.lemmas.List.Quantifiers.{all_pairs_push}
 use Rattle.std.proofs.lemmas.List.Sorted.{ranks_by, sorted_far, IsStrictWeakOrder-flip}
-use Rattle.cert_checker.proofs.BoxSteps.{reverse-push}
+use Rattle.cert_maker.proofs.cert_checker.BoxSteps.{reverse-push}
 use Rattle.joined_boxes.proofs.PairSteps.{pairs-head, pairs-tail}
 use Rattle.joined_boxes.proofs.RangeSteps.{All-front, All-last, pairs-front, pairs-last}
 use Rattle.resource_content.specs.declared.content.Content.{Content}

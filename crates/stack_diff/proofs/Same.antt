@@ -1,8 +1,8 @@
 -- Where all that differs is told, what is not told is the same.
 use Rattle.std.proofs.Common.{◌≡◌, ◌≢◌, ℕ, List, inl, inr, sym, ◌∙◌}
 use Rattle.std.specs.List.{All}
-use Rattle.cert_checker.specs.box_answers.NumberSet.{SetOf}
-use Rattle.cert_checker.specs.box_answers.Members.{IsMember}
+use Rattle.cert_maker.specs.box_answers.NumberSet.{SetOf}
+use Rattle.cert_maker.specs.box_answers.Members.{IsMember}
 use Rattle.joined_boxes.specs.Devices.{HasNone, HasOnce}
 use Rattle.joined_boxes.proofs.CountSteps.{none-count, once-count}
 use Rattle.resource_content.specs.Content.{ContentOf}

@@ -1,10 +1,10 @@
 -- A resource beside itself.
 use Rattle.std.proofs.Common.{◌≡◌, ℕ, arith, List, [], Option, refl, sym, subst}
 use Rattle.std.proofs.lemmas.List.Elements.{All-nil}
-use Rattle.cert_checker.specs.overlay_map.Layer.{LayerOf}
-use Rattle.cert_checker.specs.res_value.declared.res_id.ResId.{ResId}
-use Rattle.cert_checker.specs.box_answers.NumberSet.{SetOf}
-use Rattle.name_pairs.specs.declared.pair.Sides.TheVariants.{Both}
+use Rattle.cert_maker.specs.cert_checker.overlay_map.Layer.{LayerOf}
+use Rattle.cert_maker.specs.res_value.declared.res_id.ResId.{ResId}
+use Rattle.cert_maker.specs.box_answers.NumberSet.{SetOf}
+use Rattle.resource_content.specs.name_pairs.declared.pair.Sides.TheVariants.{Both}
 use Rattle.resource_content.specs.Content.{ContentOf}
 use Rattle.stack_diff.specs.declared.outcome.Judged.{Judged}
 use Rattle.joined_boxes.specs.Kinds.{IsOfKinds}

@@ -3,13 +3,13 @@ use Rattle.std.proofs.Common.{◌≡◌, ◌≢◌, ℕ, ◌+◌, ◌<◌, inl, 
 use Rattle.std.specs.List.{All}
 use Rattle.std.proofs.lemmas.List.{map-append, length-reverse, length-map, append-nil}
 use Rattle.std.proofs.lemmas.List.Elements.{All-nil, All-cons, All-same, All-push}
-use Rattle.cert_checker.specs.box_answers.NumberSet.{SetOf}
-use Rattle.cert_checker.specs.box_answers.Members.{IsMember, IsBox}
-use Rattle.cert_checker.specs.cert_tree.Certificate.{NodeOf, TestAt, BagAt}
-use Rattle.cert_checker.specs.Paths.{Path, after, root}
-use Rattle.cert_checker.specs.OpenBoxes.{IsBoxAt, Stand}
+use Rattle.cert_maker.specs.box_answers.NumberSet.{SetOf}
+use Rattle.cert_maker.specs.box_answers.Members.{IsMember, IsBox}
+use Rattle.cert_maker.specs.cert_tree.Certificate.{NodeOf, TestAt, BagAt}
+use Rattle.cert_maker.specs.cert_checker.Paths.{Path, after, root}
+use Rattle.cert_maker.specs.cert_checker.OpenBoxes.{IsBoxAt, Stand}
 use Rattle.cert_maker.specs.Needed.{IsNeededAt}
-use Rattle.cert_checker.proofs.BoxSteps.{whole, half, reverse-push}
+use Rattle.cert_maker.proofs.cert_checker.BoxSteps.{whole, half, reverse-push}
 use Rattle.cert_maker.proofs.Parts.{Part, part-more, part-walk, leaves, length-leaves, part-leaves, stand-length}
 use Rattle.cert_maker.proofs.Steps.{moved}
 use Rattle.stack_diff.specs.declared.resource.Resource.{Resource}

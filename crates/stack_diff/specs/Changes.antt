@@ -1,8 +1,8 @@
 -- What a resource says differently in two stacks, and on which devices of a box.
 use Rattle.std.specs.Prelude.{◌≡◌, ◌≢◌, ℕ, ◌<◌, List, length}
 use Rattle.std.specs.List.{All, flat_map}
-use Rattle.cert_checker.specs.box_answers.NumberSet.{SetOf}
-use Rattle.cert_checker.specs.box_answers.Members.{IsMember, SomeMember}
+use Rattle.cert_maker.specs.box_answers.NumberSet.{SetOf}
+use Rattle.cert_maker.specs.box_answers.Members.{IsMember, SomeMember}
 use Rattle.resource_content.specs.Content.{ContentOf}
 use Rattle.joined_boxes.specs.Devices.{HasNone, HasOnce}
 

@@ -1,6 +1,6 @@
 -- What a comparison of a resource in two stacks promises.
 use Rattle.std.specs.Prelude.{◌≡◌, ℕ, ◌<◌, ◌≤◌, List, map}
-use Rattle.cert_checker.specs.box_answers.NumberSet.{SetOf}
+use Rattle.cert_maker.specs.box_answers.NumberSet.{SetOf}
 use Rattle.stack_diff.specs.declared.change.Compared.{Compared}
 use Rattle.stack_diff.specs.declared.change.Compared.TheVariants.{Changes, NodeLimit}
 use Rattle.stack_diff.specs.declared.resource.Resource.{Resource}

@@ -1,8 +1,8 @@
 -- How few boxes tell all changes.
 use Rattle.std.specs.Prelude.{◌≡◌, ℕ, ◌≤◌, List, length}
 use Rattle.std.specs.List.{All, AllPairs}
-use Rattle.cert_checker.specs.config_record.declared.coord.Coord.{Coord}
-use Rattle.cert_checker.specs.box_answers.NumberSet.{SetOf}
+use Rattle.cert_maker.specs.cert_checker.config_record.declared.coord.Coord.{Coord}
+use Rattle.cert_maker.specs.box_answers.NumberSet.{SetOf}
 use Rattle.cert_maker.specs.Runs.{VariesAlone}
 use Rattle.joined_boxes.specs.Kinds.{IsOfKinds}
 use Rattle.resource_content.specs.Content.{ContentOf}

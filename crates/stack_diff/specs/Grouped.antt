@@ -3,8 +3,8 @@ use Rattle.std.specs.Prelude.{◌≡◌, ◌⊎◌, ◌<◌, List, [], map, leng
 use Rattle.std.specs.List.{All, AllPairs, AllZip}
 use Rattle.std.specs.Ordering.{ordering_then}
 use Rattle.std.specs.declared.cmp.Ordering.{Ordering}
-use Rattle.cert_checker.specs.box_answers.NumberSet.{SetOf}
-use Rattle.cert_checker.specs.box_answers.Members.{SomeMember}
+use Rattle.cert_maker.specs.box_answers.NumberSet.{SetOf}
+use Rattle.cert_maker.specs.box_answers.Members.{SomeMember}
 use Rattle.joined_boxes.specs.Devices.{KeepDevices}
 use Rattle.joined_boxes.specs.Kinds.{IsOfKinds, KeepKinds}
 use Rattle.joined_boxes.specs.Least.{IsLeast}

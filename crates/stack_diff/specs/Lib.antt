@@ -10,8 +10,9 @@ pub mod Tree
 pub mod Grouped
 pub mod Compared
 pub mod Outcomes
-pub use Rattle.cert_checker.specs as cert_checker
+pub use Rattle.cert_maker.specs.cert_checker
 pub use Rattle.joined_boxes.specs as joined_boxes
-pub use Rattle.name_pairs.specs as name_pairs
+pub use Rattle.resource_content.specs.name_pairs
 pub use Rattle.cert_maker.specs as cert_maker
 pub use Rattle.resource_content.specs as resource_content
+pub use Rattle.cert_maker.specs.config_box

@@ -1,14 +1,14 @@
 -- What two stacks say differently of each of their labels.
 use Rattle.std.specs.Prelude.{◌≡◌, ℕ, ◌<◌, ◌≤◌, List, map, Option, Some, None}
 use Rattle.std.specs.List.{AllZip, sum}
-use Rattle.cert_checker.specs.overlay_map.Layer.{LayerOf}
-use Rattle.cert_checker.specs.bags_themes.ContentTrace.{content_trace}
-use Rattle.cert_checker.specs.reference_resolver.Trace.{Trace}
-use Rattle.cert_checker.specs.res_value.declared.res_id.ResId.{ResId}
-use Rattle.cert_checker.specs.box_answers.NumberSet.{SetOf}
-use Rattle.name_pairs.specs.Pairs.{PairOf}
-use Rattle.name_pairs.specs.declared.pair.Sides.{Sides}
-use Rattle.name_pairs.specs.declared.pair.Sides.TheVariants as of_sides
+use Rattle.cert_maker.specs.cert_checker.overlay_map.Layer.{LayerOf}
+use Rattle.cert_maker.specs.cert_checker.bags_themes.ContentTrace.{content_trace}
+use Rattle.cert_maker.specs.cert_checker.reference_resolver.Trace.{Trace}
+use Rattle.cert_maker.specs.res_value.declared.res_id.ResId.{ResId}
+use Rattle.cert_maker.specs.box_answers.NumberSet.{SetOf}
+use Rattle.resource_content.specs.name_pairs.Pairs.{PairOf}
+use Rattle.resource_content.specs.name_pairs.declared.pair.Sides.{Sides}
+use Rattle.resource_content.specs.name_pairs.declared.pair.Sides.TheVariants as of_sides
 use Rattle.resource_content.specs.ContentAt.{content_at}
 use Rattle.stack_diff.specs.declared.outcome.Outcome.{Outcome}
 use Rattle.stack_diff.specs.declared.outcome.Outcome.TheVariants.{Removed, Added, Both}

@@ -1,14 +1,14 @@
 -- The boxes of open paths, where two stacks are asked. (Cited by contracts of this crate alone.)
 use Rattle.std.specs.Prelude.{◌≡◌, ℕ, true, false, List, [], ◌∷◌, ◌++◌}
-use Rattle.cert_checker.specs.config_record.DeviceSeen.{device_numbers}
-use Rattle.cert_checker.specs.box_answers.NumberSet.{SetOf}
-use Rattle.cert_checker.specs.box_answers.Members.{IsMember}
-use Rattle.cert_checker.specs.box_answers.Sameness.{Separates}
-use Rattle.cert_checker.specs.box_trace.OpenBox.{IsReached}
-use Rattle.cert_checker.specs.box_trace.Parting.{answer_of, TraceTells}
-use Rattle.cert_checker.specs.box_trace.declared.parting.Parting.{Parting}
-use Rattle.cert_checker.specs.config_box.Tests.{TestOf}
-use Rattle.cert_checker.specs.config_box.Halves.{IsHalf}
+use Rattle.cert_maker.specs.cert_checker.config_record.DeviceSeen.{device_numbers}
+use Rattle.cert_maker.specs.box_answers.NumberSet.{SetOf}
+use Rattle.cert_maker.specs.box_answers.Members.{IsMember}
+use Rattle.cert_maker.specs.box_answers.Sameness.{Separates}
+use Rattle.cert_maker.specs.cert_checker.box_trace.OpenBox.{IsReached}
+use Rattle.cert_maker.specs.cert_checker.box_trace.Parting.{answer_of, TraceTells}
+use Rattle.cert_maker.specs.cert_checker.box_trace.declared.parting.Parting.{Parting}
+use Rattle.cert_maker.specs.config_box.Tests.{TestOf}
+use Rattle.cert_maker.specs.config_box.Halves.{IsHalf}
 use Rattle.stack_diff.specs.declared.resource.Resource.{Resource}
 use Rattle.stack_diff.specs.declared.pair_box.PairBox.{PairBox}
 use Rattle.stack_diff.specs.Sides.{trace_in, both_traces}

@@ -1,7 +1,7 @@
 -- A resource in two stacks: what it says at a device, which is the list of its numbers, and the traces there.
 use Rattle.std.specs.Prelude.{ℕ, List}
-use Rattle.cert_checker.specs.reference_resolver.Trace.{Trace}
-use Rattle.cert_checker.specs.bags_themes.ContentTrace.{content_trace}
+use Rattle.cert_maker.specs.cert_checker.reference_resolver.Trace.{Trace}
+use Rattle.cert_maker.specs.cert_checker.bags_themes.ContentTrace.{content_trace}
 use Rattle.resource_content.specs.Content.{ContentOf}
 use Rattle.resource_content.specs.ContentAt.{content_at}
 use Rattle.stack_diff.specs.declared.resource.Resource.{Resource}

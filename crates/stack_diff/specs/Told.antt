@@ -1,7 +1,7 @@
 -- What members load in two stacks. (Cited by contracts of this crate alone.)
 use Rattle.std.specs.Prelude.{◌≡◌, ◌≢◌, ℕ, List}
-use Rattle.cert_checker.specs.box_answers.NumberSet.{SetOf}
-use Rattle.cert_checker.specs.box_answers.Members.{IsMember}
+use Rattle.cert_maker.specs.box_answers.NumberSet.{SetOf}
+use Rattle.cert_maker.specs.box_answers.Members.{IsMember}
 use Rattle.resource_content.specs.Content.{ContentOf}
 use Rattle.resource_content.specs.ContentSeen.{content_of}
 use Rattle.stack_diff.specs.declared.told.Told.{Told}

@@ -1,10 +1,10 @@
 -- How the tree of a resource in two stacks grows: node by node, with its open boxes. (Cited by contracts of this crate alone.)
 use Rattle.std.specs.Prelude.{◌≡◌, ◌≢◌, ◌⊎◌, ℕ, ◌<◌, ◌≤◌, true, false, List, [], ◌∷◌, ◌++◌, map, Option, Some, None}
 use Rattle.std.specs.List.{All}
-use Rattle.cert_checker.specs.box_answers.NumberSet.{SetOf}
-use Rattle.cert_checker.specs.box_answers.Members.{IsMember, IsBox}
-use Rattle.cert_checker.specs.config_box.Tests.{TestOf}
-use Rattle.cert_checker.specs.config_box.Halves.{IsHalf}
+use Rattle.cert_maker.specs.box_answers.NumberSet.{SetOf}
+use Rattle.cert_maker.specs.box_answers.Members.{IsMember, IsBox}
+use Rattle.cert_maker.specs.config_box.Tests.{TestOf}
+use Rattle.cert_maker.specs.config_box.Halves.{IsHalf}
 use Rattle.cert_maker.specs.Needed.{IsNeededTest}
 use Rattle.resource_content.specs.ContentSeen.{content_of}
 use Rattle.stack_diff.specs.declared.resource.Resource.{Resource}

@@ -1,6 +1,6 @@
 //! What a resource says differently in two stacks.
 
-use cert_checker::ConfigBox;
+use cert_maker::ConfigBox;
 use resource_content::Content;
 
 /// Two contents that differ, and on which devices.

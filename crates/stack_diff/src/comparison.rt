@@ -7,7 +7,7 @@ use crate::change::Compared;
 use crate::grouped::grouped;
 use crate::resource::Resource;
 use crate::tree::grow_tree;
-use cert_checker::{ConfigBox, OutOfMemory};
+use cert_maker::{ConfigBox, OutOfMemory};
 use std::alloc::Global;
 
 /// What a resource says differently in the stack before and in the one after, for all devices of a box; or that the

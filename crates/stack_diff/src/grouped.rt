@@ -2,12 +2,12 @@
 
 ghost use Rattle.std.specs.Prelude.{◌≡◌, [], ◌∷◌, ◌++◌, IfOk, MatchBool};
 ghost use Rattle.std.specs.List.{All, AllZip};
-ghost use Rattle.cert_checker.specs.box_answers.Members.{SomeMember};
+ghost use Rattle.cert_maker.specs.box_answers.Members.{SomeMember};
 ghost use Rattle.stack_diff.specs.Grouped.{HaveOneContent, AddsLeafTo, GatherLeaves, JoinsBoxes, Groups};
 
 use crate::change::Change;
 use crate::told::Told;
-use cert_checker::{ConfigBox, OutOfMemory};
+use cert_maker::{ConfigBox, OutOfMemory};
 use joined_boxes::join_boxes;
 use std::alloc::Global;
 

@@ -1,13 +1,12 @@
 //! What a stack says differently from itself.
 
 ghost use Rattle.std.specs.Prelude.{map, IfOk};
-ghost use Rattle.name_pairs.specs.Pairs.{pair_of};
+ghost use Rattle.resource_content.specs.name_pairs.Pairs.{pair_of};
 ghost use Rattle.stack_diff.specs.Outcomes.{AreOutcomes};
 
 use crate::outcome::{Outcomes, Stacks, outcomes_in};
-use cert_checker::{ConfigBox, OutOfMemory};
-use name_pairs::NamePair;
-use resource_content::{NamedStack, Stack};
+use cert_maker::{ConfigBox, OutOfMemory};
+use resource_content::{NamePair, NamedStack, Stack};
 use std::alloc::Global;
 
 /// What a stack says differently from itself: nothing of a label that stands for one id. No device is asked then, and

@@ -24,9 +24,11 @@ mod resource;
 mod told;
 mod tree;
 
-pub use cert_checker::ConfigBox;
+pub use cert_maker::ConfigBox;
 pub use change::Change;
 pub use itself::compare_with_itself;
-pub use name_pairs::{Label, NamePair, Sides, name_pairs};
+pub use joined_boxes::{Coord, Locale, Values, write_locale};
 pub use outcome::{Outcome, Outcomes, compare_stacks};
-pub use resource_content::{Content, ResId, RowContent, Stack};
+pub use resource_content::{
+    Content, Label, NamePair, ResId, RowContent, Sides, Stack, name_pairs, write_label,
+};

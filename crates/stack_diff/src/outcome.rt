@@ -1,16 +1,15 @@
 //! What two stacks say differently of each label.
 
 ghost use Rattle.std.specs.Prelude.{◌≡◌, true, map, IfOk};
-ghost use Rattle.name_pairs.specs.Pairs.{pair_of};
-ghost use Rattle.name_pairs.specs.declared.pair.Sides.TheVariants as of_sides;
+ghost use Rattle.resource_content.specs.name_pairs.Pairs.{pair_of};
+ghost use Rattle.resource_content.specs.name_pairs.declared.pair.Sides.TheVariants as of_sides;
 ghost use Rattle.stack_diff.specs.Outcomes.{AreOutcomes, IsJudged};
 
 use crate::change::{Change, Compared};
 use crate::comparison::compare;
 use crate::resource::Resource;
-use cert_checker::{ConfigBox, OutOfMemory};
-use name_pairs::{NamePair, Sides};
-use resource_content::{NamedStack, Stack};
+use cert_maker::{ConfigBox, OutOfMemory};
+use resource_content::{NamePair, NamedStack, Sides, Stack};
 use std::alloc::Global;
 
 /// What becomes of a label.
@@ -146,10 +145,10 @@ fn judge_both<'a>(
 
 impl Judged {
     ghost use Rattle.std.specs.Prelude.{◌≡◌, List};
-    ghost use Rattle.cert_checker.specs.overlay_map.Layer.{LayerOf};
-    ghost use Rattle.cert_checker.specs.res_value.declared.res_id.ResId.{ResId};
-    ghost use Rattle.cert_checker.specs.box_answers.NumberSet.{SetOf};
-    ghost use Rattle.name_pairs.specs.declared.pair.Sides.TheVariants as of_sides;
+    ghost use Rattle.cert_maker.specs.cert_checker.overlay_map.Layer.{LayerOf};
+    ghost use Rattle.cert_maker.specs.res_value.declared.res_id.ResId.{ResId};
+    ghost use Rattle.cert_maker.specs.box_answers.NumberSet.{SetOf};
+    ghost use Rattle.resource_content.specs.name_pairs.declared.pair.Sides.TheVariants as of_sides;
     ghost use Rattle.stack_diff.specs.Outcomes.{IsJudged};
 
     // Without a tree.

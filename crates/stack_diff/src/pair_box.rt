@@ -1,19 +1,19 @@
 //! The boxes of open paths, where two stacks are asked.
 
 ghost use Rattle.std.specs.Prelude.{◌≡◌, ℕ, List, [], ◌∷◌, ◌++◌, IfOk, MatchOption};
-ghost use Rattle.cert_checker.specs.config_record.DeviceSeen.{device_numbers};
-ghost use Rattle.cert_checker.specs.overlay_map.Layer.{LayerOf};
-ghost use Rattle.cert_checker.specs.reference_resolver.Trace.{Trace};
-ghost use Rattle.cert_checker.specs.box_answers.Members.{IsMember, IsBox};
-ghost use Rattle.cert_checker.specs.box_trace.OpenBox.{IsReached};
-ghost use Rattle.cert_checker.specs.box_trace.Parting.{IsToldApart};
-ghost use Rattle.cert_checker.specs.config_box.Tests.{test_of};
+ghost use Rattle.cert_maker.specs.cert_checker.config_record.DeviceSeen.{device_numbers};
+ghost use Rattle.cert_maker.specs.cert_checker.overlay_map.Layer.{LayerOf};
+ghost use Rattle.cert_maker.specs.cert_checker.reference_resolver.Trace.{Trace};
+ghost use Rattle.cert_maker.specs.box_answers.Members.{IsMember, IsBox};
+ghost use Rattle.cert_maker.specs.cert_checker.box_trace.OpenBox.{IsReached};
+ghost use Rattle.cert_maker.specs.cert_checker.box_trace.Parting.{IsToldApart};
+ghost use Rattle.cert_maker.specs.config_box.Tests.{test_of};
 ghost use Rattle.cert_maker.specs.Growth.{CanBeAsked};
 ghost use Rattle.stack_diff.specs.Sides.{both_traces};
 ghost use Rattle.stack_diff.specs.PairBox.{members_of, HaveOneTrace, IsOpen, PartsBoth, OpensHalves};
 
 use crate::resource::Resource;
-use cert_checker::{CommonTrace, ConfigBox, OpenBox, OutOfMemory, Parting, Split, Stack, Test};
+use cert_maker::{CommonTrace, ConfigBox, OpenBox, OutOfMemory, Parting, Split, Stack, Test};
 use std::alloc::Global;
 
 /// The box of an open path, and how far all its members go by the same steps in either stack.

@@ -1,13 +1,13 @@
 //! What the members of a box load in two stacks, where they have one trace in either.
 
 ghost use Rattle.std.specs.Prelude.{IfOk, MatchOption};
-ghost use Rattle.cert_checker.specs.box_answers.Members.{IsMember};
+ghost use Rattle.cert_maker.specs.box_answers.Members.{IsMember};
 ghost use Rattle.stack_diff.specs.Sides.{says, both_traces};
 ghost use Rattle.stack_diff.specs.PairBox.{HaveOneTrace};
 ghost use Rattle.stack_diff.specs.Told.{SaySame, IsTold};
 
 use crate::resource::Resource;
-use cert_checker::{ConfigBox, OutOfMemory};
+use cert_maker::{ConfigBox, OutOfMemory};
 use resource_content::{Content, content_at};
 use std::alloc::Global;
 use std::cmp::Ordering;

@@ -7,8 +7,7 @@ ghost use Rattle.stack_diff.specs.Tree.{AddsNode, IsGrown};
 use crate::pair_box::PairBox;
 use crate::resource::Resource;
 use crate::told::Told;
-use cert_checker::{ConfigBox, OutOfMemory};
-use cert_maker::parting_test;
+use cert_maker::{ConfigBox, OutOfMemory, parting_test};
 use std::alloc::Global;
 
 /// What the leaves of a tree say where the two stacks differ, and how many nodes it has.

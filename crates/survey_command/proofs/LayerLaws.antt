@@ -2,9 +2,9 @@
 use Rattle.std.proofs.Common.{◌≡◌, ℕ, List, [], ◌∷◌, ◌++◌, refl, sym, ap, subst, ◌∙◌}
 use Rattle.std.specs.Prelude.{◌||◌}
 use Rattle.std.specs.List.{flat_map}
-use Rattle.overlay_map.specs.type_chunks.Row.{RowOf}
-use Rattle.overlay_map.specs.Layer.{LayerOf}
-use Rattle.config_box.specs.config_record.Record.{is_set_aside}
+use Rattle.command_base.specs.overlay_map.type_chunks.Row.{RowOf}
+use Rattle.command_base.specs.overlay_map.Layer.{LayerOf}
+use Rattle.command_base.specs.cert_tree.config_box.config_record.Record.{is_set_aside}
 use Rattle.command_base.specs.StackBytes.{LayerBytes}
 use Rattle.table_survey.specs.declared.finding.Finding.{Finding}
 use Rattle.table_survey.specs.declared.finding.Finding.TheVariants.{DynamicReference, DynamicAttribute, SetAside, Locale, BoxLocale}

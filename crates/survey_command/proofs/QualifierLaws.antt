@@ -6,13 +6,13 @@ use Rattle.std.proofs.lemmas.Bool.{eqb-true, eq-eqb}
 use Rattle.std.proofs.lemmas.Bool.Decides.{nat_tests}
 use Rattle.std.proofs.lemmas.Grind.{get_or-set_at}
 use Rattle.std.proofs.lemmas.List.{get_or-replicate, length-set}
-use Rattle.config_box.specs.config_record.declared.coord.Coord.{Coord}
-use Rattle.config_box.specs.config_record.declared.coord.Coord.TheVariants as coords
-use Rattle.config_box.specs.config_record.Coord.{all_coords, place_of}
-use Rattle.config_box.specs.config_record.ComparedNumber.{record_number}
-use Rattle.overlay_map.specs.type_chunks.Row.{RowOf}
-use Rattle.overlay_map.specs.resource_table.Table.{rows_of}
-use Rattle.overlay_map.specs.Layer.{LayerOf}
+use Rattle.command_base.specs.cert_tree.config_box.config_record.declared.coord.Coord.{Coord}
+use Rattle.command_base.specs.cert_tree.config_box.config_record.declared.coord.Coord.TheVariants as coords
+use Rattle.command_base.specs.cert_tree.config_box.config_record.Coord.{all_coords, place_of}
+use Rattle.command_base.specs.cert_tree.config_box.config_record.ComparedNumber.{record_number}
+use Rattle.command_base.specs.overlay_map.type_chunks.Row.{RowOf}
+use Rattle.command_base.specs.overlay_map.resource_table.Table.{rows_of}
+use Rattle.command_base.specs.overlay_map.Layer.{LayerOf}
 use Rattle.survey_command.specs.declared.qualifiers.Qualifiers.{Qualifiers}
 use Rattle.survey_command.specs.declared.qualifiers.Spread.{Spread}
 use Rattle.survey_command.specs.SurveyText.{qualifier_line}

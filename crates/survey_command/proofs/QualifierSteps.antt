@@ -3,8 +3,8 @@ use Rattle.std.proofs.Common.{◌≡◌, ℕ, ◌+◌, ◌-◌, ◌<◌, ◌≤�
 use Rattle.std.specs.Prelude.{slice_get, Some, None}
 use Rattle.std.specs.List.{flat_map}
 use Rattle.std.proofs.lemmas.List.{drop_more, drop_all}
-use Rattle.overlay_map.specs.string_pool.Pool.{empty_pool}
-use Rattle.overlay_map.specs.Layer.{LayerOf}
+use Rattle.command_base.specs.overlay_map.string_pool.Pool.{empty_pool}
+use Rattle.command_base.specs.overlay_map.Layer.{LayerOf}
 use Rattle.survey_command.specs.declared.qualifiers.Qualifiers.{Qualifiers}
 use Rattle.survey_command.specs.LayerNotes.{rows_at}
 use Rattle.survey_command.specs.Counting.{Said, with_number, counted, said_by, said_by_layer}

@@ -1,11 +1,11 @@
 -- What a box has to say, and does not.
 use Rattle.std.specs.Prelude.{ℕ, ◌==◌, ◌&&◌, not, Bool, false, List, [], Option, Some, None, length}
 use Rattle.std.specs.List.{list_all}
-use Rattle.config_box.specs.config_record.declared.coord.Coord as coord
-use Rattle.config_box.specs.config_record.declared.coord.Coord.TheVariants as coords
-use Rattle.config_box.specs.box_answers.NumberSet.{SetOf, RangeOf, NumbersOf, LocalesOf, named_numbers}
-use Rattle.config_box.specs.box_answers.Members.{set_at}
-use Rattle.overlay_map.specs.type_chunks.Row.{RowOf}
+use Rattle.command_base.specs.cert_tree.config_box.config_record.declared.coord.Coord as coord
+use Rattle.command_base.specs.cert_tree.config_box.config_record.declared.coord.Coord.TheVariants as coords
+use Rattle.command_base.specs.cert_tree.box_answers.NumberSet.{SetOf, RangeOf, NumbersOf, LocalesOf, named_numbers}
+use Rattle.command_base.specs.cert_tree.box_answers.Members.{set_at}
+use Rattle.command_base.specs.overlay_map.type_chunks.Row.{RowOf}
 use Rattle.survey_command.specs.Qualifiers.{numbers_at}
 
 -- the locales of a set, by their numbers

@@ -1,12 +1,12 @@
 -- How qualifiers are counted, one number after the other. Contracts within the crate alone speak of this.
 use Rattle.std.specs.Prelude.{ℕ, ◌+◌, ◌-◌, ◌^◌, ◌==◌, List, [], ◌∷◌, min, max, slice_index_or, slice_set, replicate, if◌then◌else◌}
 use Rattle.std.specs.List.{flat_map}
-use Rattle.config_box.specs.config_record.declared.coord.Coord.{Coord}
-use Rattle.config_box.specs.config_record.Coord.{all_coords, place_of}
-use Rattle.config_box.specs.config_record.ComparedNumber.{record_number}
-use Rattle.overlay_map.specs.type_chunks.Row.{RowOf}
-use Rattle.overlay_map.specs.resource_table.Table.{rows_of}
-use Rattle.overlay_map.specs.Layer.{LayerOf}
+use Rattle.command_base.specs.cert_tree.config_box.config_record.declared.coord.Coord.{Coord}
+use Rattle.command_base.specs.cert_tree.config_box.config_record.Coord.{all_coords, place_of}
+use Rattle.command_base.specs.cert_tree.config_box.config_record.ComparedNumber.{record_number}
+use Rattle.command_base.specs.overlay_map.type_chunks.Row.{RowOf}
+use Rattle.command_base.specs.overlay_map.resource_table.Table.{rows_of}
+use Rattle.command_base.specs.overlay_map.Layer.{LayerOf}
 use Rattle.survey_command.specs.declared.qualifiers.Qualifiers.{Qualifiers}
 use Rattle.survey_command.specs.declared.qualifiers.Spread.{Spread}
 use Rattle.survey_command.specs.Qualifiers.{no_spread}

@@ -2,9 +2,9 @@
 use Rattle.std.specs.Prelude.{ℕ, ◌||◌, Bool, List, [], ◌++◌, Option, Some, None, slice_get}
 use Rattle.std.specs.List.{flat_map, list_any}
 use Rattle.std.specs.Option.{option_map}
-use Rattle.overlay_map.specs.type_chunks.Row.{RowOf}
-use Rattle.overlay_map.specs.resource_table.Table.{TableOf, rows_of}
-use Rattle.overlay_map.specs.Layer.{LayerOf}
+use Rattle.command_base.specs.overlay_map.type_chunks.Row.{RowOf}
+use Rattle.command_base.specs.overlay_map.resource_table.Table.{TableOf, rows_of}
+use Rattle.command_base.specs.overlay_map.Layer.{LayerOf}
 use Rattle.command_base.specs.StackBytes.{LayerBytes}
 use Rattle.table_survey.specs.Survey.{Note}
 use Rattle.table_survey.specs.Chunks.{notes_of_chunks}

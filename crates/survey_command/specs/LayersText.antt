@@ -1,7 +1,7 @@
 -- What is found in the layers of a stack, as text.
 use Rattle.std.specs.Prelude.{ℕ, List}
 use Rattle.std.specs.List.{flat_map, enumerate_from}
-use Rattle.overlay_map.specs.Layer.{LayerOf}
+use Rattle.command_base.specs.overlay_map.Layer.{LayerOf}
 use Rattle.command_base.specs.StackBytes.{LayerBytes}
 use Rattle.survey_command.specs.LayerNotes.{notes_of_layer}
 use Rattle.survey_command.specs.SurveyText.{notes_text}

@@ -1,7 +1,7 @@
 -- Locales that AOSP compares otherwise. A locale is the number of its four bytes, the two of its language first.
 use Rattle.std.specs.Prelude.{ℕ, ◌+◌, ◌*◌, ◌/◌, ◌%◌, ◌==◌, ◌&&◌, ◌||◌, not, Bool, List, [], ◌∷◌, map, codes, slice_index, unwrap_or, if◌then◌else◌}
 use Rattle.std.specs.List.{list_any}
-use Rattle.config_box.specs.config_record.Locale.{language_of, no_part}
+use Rattle.command_base.specs.cert_tree.config_box.config_record.Locale.{language_of, no_part}
 
 abbrev pub language_in : ℕ → ℕ
 language_in locale = locale / 65536

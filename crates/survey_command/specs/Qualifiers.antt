@@ -1,11 +1,11 @@
 -- The qualifiers that rows have.
 use Rattle.std.specs.Prelude.{ℕ, ◌-◌, ◌^◌, ◌==◌, not, List, [], ◌∷◌, filter, map, length, min, max}
 use Rattle.std.specs.List.{flat_map}
-use Rattle.config_box.specs.config_record.declared.coord.Coord.{Coord}
-use Rattle.config_box.specs.config_record.ComparedNumber.{record_number}
-use Rattle.overlay_map.specs.type_chunks.Row.{RowOf}
-use Rattle.overlay_map.specs.resource_table.Table.{rows_of}
-use Rattle.overlay_map.specs.Layer.{LayerOf}
+use Rattle.command_base.specs.cert_tree.config_box.config_record.declared.coord.Coord.{Coord}
+use Rattle.command_base.specs.cert_tree.config_box.config_record.ComparedNumber.{record_number}
+use Rattle.command_base.specs.overlay_map.type_chunks.Row.{RowOf}
+use Rattle.command_base.specs.overlay_map.resource_table.Table.{rows_of}
+use Rattle.command_base.specs.overlay_map.Layer.{LayerOf}
 use Rattle.survey_command.specs.declared.qualifiers.Spread.{Spread}
 
 -- the rows of all layers

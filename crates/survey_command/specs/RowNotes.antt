@@ -1,13 +1,13 @@
 -- What rows have that a device may read otherwise.
 use Rattle.std.specs.Prelude.{ℕ, ◌==◌, ◌||◌, Bool, List, ◌++◌}
 use Rattle.std.specs.List.{list_any}
-use Rattle.config_box.specs.config_record.declared.coord.Coord.TheVariants as coords
-use Rattle.config_box.specs.config_record.ComparedNumber.{record_number}
-use Rattle.config_box.specs.config_record.Record.{is_set_aside}
-use Rattle.overlay_map.specs.res_value.Cell.{CellOf, PlainOf, BagOf}
-use Rattle.overlay_map.specs.res_value.declared.res_id.ResId.{ResId}
-use Rattle.overlay_map.specs.res_value.declared.value.Value.{Value}
-use Rattle.overlay_map.specs.type_chunks.Row.{RowOf}
+use Rattle.command_base.specs.cert_tree.config_box.config_record.declared.coord.Coord.TheVariants as coords
+use Rattle.command_base.specs.cert_tree.config_box.config_record.ComparedNumber.{record_number}
+use Rattle.command_base.specs.cert_tree.config_box.config_record.Record.{is_set_aside}
+use Rattle.command_base.specs.overlay_map.res_value.Cell.{CellOf, PlainOf, BagOf}
+use Rattle.command_base.specs.overlay_map.res_value.declared.res_id.ResId.{ResId}
+use Rattle.command_base.specs.overlay_map.res_value.declared.value.Value.{Value}
+use Rattle.command_base.specs.overlay_map.type_chunks.Row.{RowOf}
 use Rattle.table_survey.specs.declared.finding.Finding.{Finding}
 use Rattle.table_survey.specs.declared.finding.Finding.TheVariants.{DynamicReference, DynamicAttribute, SetAside, Locale, BoxLocale}
 use Rattle.table_survey.specs.declared.site.Site.TheVariants.{Row}

@@ -2,11 +2,11 @@
 use Rattle.std.specs.Prelude.{ℕ, ◌||◌, Bool, List, ◌++◌, Option, Some, None, Result, Ok, Err}
 use Rattle.std.specs.List.{flat_map, list_any, enumerate_from}
 use Rattle.contract_words.specs.Faults.{◌>>=◌}
-use Rattle.config_box.specs.config_record.declared.coord.Coord as coord
-use Rattle.config_box.specs.config_record.Coord.{all_coords}
-use Rattle.config_box.specs.box_answers.NumberSet.{SetOf}
-use Rattle.config_box.specs.BoxJson.{box_in}
-use Rattle.overlay_map.specs.Layer.{LayerOf}
+use Rattle.command_base.specs.cert_tree.config_box.config_record.declared.coord.Coord as coord
+use Rattle.command_base.specs.cert_tree.config_box.config_record.Coord.{all_coords}
+use Rattle.command_base.specs.cert_tree.box_answers.NumberSet.{SetOf}
+use Rattle.command_base.specs.cert_tree.config_box.BoxJson.{box_in}
+use Rattle.command_base.specs.overlay_map.Layer.{LayerOf}
 use Rattle.command_base.specs.fault_text.declared.fault.ToolFault.{ToolFault}
 use Rattle.command_base.specs.fault_text.declared.fault.ToolFault.TheVariants.{LayerTable}
 use Rattle.command_base.specs.fault_text.ToolFault.{fault_of_box}

@@ -2,13 +2,13 @@
 use Rattle.std.specs.Prelude.{ℕ, ◌==◌, Bool, List, [], ◌∷◌, ◌++◌, codes, if◌then◌else◌}
 use Rattle.std.specs.List.{flat_map}
 use Rattle.std.specs.Fmt.{decimal}
-use Rattle.config_box.specs.config_record.declared.coord.Coord as coord
-use Rattle.config_box.specs.config_record.declared.coord.Coord.TheVariants as coords
-use Rattle.config_box.specs.config_record.ComparedNumber.{locale_of_number}
-use Rattle.config_box.specs.config_record.Locale.{locale_text}
-use Rattle.overlay_map.specs.res_value.ResId.{id_text}
-use Rattle.line_parts.specs.LayerText.{layer_text}
-use Rattle.line_parts.specs.NamedText.{named_number, named_coord}
+use Rattle.command_base.specs.cert_tree.config_box.config_record.declared.coord.Coord as coord
+use Rattle.command_base.specs.cert_tree.config_box.config_record.declared.coord.Coord.TheVariants as coords
+use Rattle.command_base.specs.cert_tree.config_box.config_record.ComparedNumber.{locale_of_number}
+use Rattle.command_base.specs.cert_tree.config_box.config_record.Locale.{locale_text}
+use Rattle.command_base.specs.overlay_map.res_value.ResId.{id_text}
+use Rattle.command_base.specs.answer_text.LayerText.{layer_text}
+use Rattle.command_base.specs.answer_text.NamedText.{named_number, named_coord}
 use Rattle.table_survey.specs.declared.finding.Finding.{Finding}
 use Rattle.table_survey.specs.declared.site.Site.{Site}
 use Rattle.table_survey.specs.declared.site.Site.TheVariants.{Chunk, Row}

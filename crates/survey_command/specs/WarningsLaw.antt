@@ -1,7 +1,7 @@
 -- Why the lines of a survey tell its status.
 use Rattle.std.specs.Prelude.{◌≡◌, ℕ, ◌==◌, ◌&&◌, not, Bool, List}
 use Rattle.std.specs.List.{list_any}
-use Rattle.overlay_map.specs.Layer.{LayerOf}
+use Rattle.command_base.specs.overlay_map.Layer.{LayerOf}
 use Rattle.command_base.specs.StackBytes.{LayerBytes}
 use Rattle.table_survey.specs.declared.finding.Finding.{Finding}
 use Rattle.table_survey.specs.Finding.{all_findings, differs}

@@ -2,11 +2,11 @@
 
 ghost use Rattle.std.specs.Prelude.{◌≡◌, ◌==◌};
 ghost use Rattle.std.specs.List.{list_all};
-ghost use Rattle.config_box.specs.BoxSeen.{values_seen};
-ghost use Rattle.config_box.specs.box_answers.NumberSet.{locale_numbers};
+ghost use Rattle.command_base.specs.cert_tree.config_box.BoxSeen.{values_seen};
+ghost use Rattle.command_base.specs.cert_tree.box_answers.NumberSet.{locale_numbers};
 ghost use Rattle.survey_command.specs.BoxGaps.{locales_of_set, is_unknown};
 
-use config_box::{Locale, Values};
+use command_base::cert_tree::{Locale, Values};
 
 /// The locales of a coordinate that has some.
 pub(crate) fn locales_of(values: Values<'_>) -> &[Locale]

@@ -3,7 +3,7 @@
 ghost use Rattle.std.specs.Prelude.{◌≡◌, map, IfOk};
 ghost use Rattle.std.specs.List.{flat_map};
 ghost use Rattle.contract_words.specs.Writes.{Writes};
-ghost use Rattle.config_box.specs.box_answers.NumberSet.{locale_numbers};
+ghost use Rattle.command_base.specs.cert_tree.box_answers.NumberSet.{locale_numbers};
 ghost use Rattle.command_base.specs.StackBytesSeen.{layer_bytes};
 ghost use Rattle.table_survey.specs.Survey.{noted};
 ghost use Rattle.table_survey.specs.Counted.{Counts};
@@ -15,8 +15,8 @@ ghost use Rattle.survey_command.specs.LayersText.{layer_lines, layers_text};
 use crate::rows::note_rows;
 use crate::text::write_survey;
 use command_base::LayerParts;
-use config_box::Locale;
-use overlay_map::Stack;
+use command_base::answer_text::Stack;
+use command_base::cert_tree::Locale;
 use std::io::{self, Write};
 use table_survey::Survey;
 

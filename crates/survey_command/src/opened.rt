@@ -3,8 +3,8 @@
 ghost use Rattle.std.specs.Prelude.{◌≡◌, map};
 ghost use Rattle.std.specs.Option.{option_map};
 ghost use Rattle.contract_words.specs.Exact.{GivesOr};
-ghost use Rattle.config_box.specs.config_record.declared.coord.Coord as coord;
-ghost use Rattle.config_box.specs.box_answers.NumberSet.{locale_numbers};
+ghost use Rattle.command_base.specs.cert_tree.config_box.config_record.declared.coord.Coord as coord;
+ghost use Rattle.command_base.specs.cert_tree.box_answers.NumberSet.{locale_numbers};
 ghost use Rattle.command_base.specs.fault_text.declared.fault.ToolFault.TheVariants.{OutOfMemory};
 ghost use Rattle.command_base.specs.Output.{IsOfInput};
 ghost use Rattle.command_base.specs.StackBytesSeen.{layer_bytes};
@@ -14,9 +14,9 @@ ghost use Rattle.survey_command.specs.SurveyOutput.{sets_in, survey_inputs};
 
 use crate::box_gaps::{is_unknown, locales_of};
 use crate::qualifiers::Spread;
+use command_base::answer_text::Stack;
+use command_base::cert_tree::{ConfigBox, Coord, Locale};
 use command_base::{LayerParts, ToolFault, open_stack};
-use config_box::{ConfigBox, Coord, Locale};
-use overlay_map::Stack;
 use std::alloc::Global;
 
 /// The layers and the box that a survey is asked of.

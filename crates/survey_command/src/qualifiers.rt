@@ -2,15 +2,15 @@
 
 ghost use Rattle.std.specs.Prelude.{◌≡◌};
 ghost use Rattle.std.specs.List.{flat_map};
-ghost use Rattle.config_box.specs.config_record.declared.coord.Coord as coord;
-ghost use Rattle.overlay_map.specs.type_chunks.Row.{row_of};
-ghost use Rattle.overlay_map.specs.resource_table.Table.{rows_of};
+ghost use Rattle.command_base.specs.cert_tree.config_box.config_record.declared.coord.Coord as coord;
+ghost use Rattle.command_base.specs.overlay_map.type_chunks.Row.{row_of};
+ghost use Rattle.command_base.specs.overlay_map.resource_table.Table.{rows_of};
 ghost use Rattle.survey_command.specs.LayerNotes.{rows_at};
 ghost use Rattle.survey_command.specs.Qualifiers.{rows_in_stack, numbers_at, spread_of};
 ghost use Rattle.survey_command.specs.Counting.{and_number, spread_in, no_qualifiers, with_number, counted, said_at, said_by, said_by_layer};
 
-use config_box::Coord;
-use overlay_map::{Row, Stack, Table};
+use command_base::answer_text::{Row, Stack, Table};
+use command_base::cert_tree::Coord;
 
 /// How many coordinates there are.
 const COORD_COUNT: usize = Coord::ALL.len();

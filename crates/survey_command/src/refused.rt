@@ -9,8 +9,8 @@ ghost use Rattle.command_base.specs.StackBytesSeen.{layer_bytes};
 ghost use Rattle.survey_command.specs.Refused.{chunks_differ, refused_text, refused_output};
 
 use crate::layers::write_layers;
+use command_base::answer_text::Stack;
 use command_base::{LayerParts, Status, ToolFault, fault_text};
-use overlay_map::Stack;
 use std::alloc::Global;
 use std::io::{self, Write};
 use table_survey::Survey;

@@ -2,18 +2,18 @@
 
 ghost use Rattle.std.specs.Prelude.{◌≡◌};
 ghost use Rattle.std.specs.List.{flat_map, list_any};
-ghost use Rattle.config_box.specs.box_answers.NumberSet.{locale_numbers};
-ghost use Rattle.overlay_map.specs.res_value.Cell.{cell_of};
-ghost use Rattle.overlay_map.specs.res_value.MapRows.{map_rows_of};
-ghost use Rattle.overlay_map.specs.type_chunks.Row.{row_of};
-ghost use Rattle.overlay_map.specs.resource_table.Table.{rows_of};
+ghost use Rattle.command_base.specs.cert_tree.box_answers.NumberSet.{locale_numbers};
+ghost use Rattle.command_base.specs.overlay_map.res_value.Cell.{cell_of};
+ghost use Rattle.command_base.specs.overlay_map.res_value.MapRows.{map_rows_of};
+ghost use Rattle.command_base.specs.overlay_map.type_chunks.Row.{row_of};
+ghost use Rattle.command_base.specs.overlay_map.resource_table.Table.{rows_of};
 ghost use Rattle.table_survey.specs.Survey.{noted};
 ghost use Rattle.survey_command.specs.Locales.{differs_at};
 ghost use Rattle.survey_command.specs.RowNotes.{has_kind, is_bag_row_of_kind, row_locale, is_for_other_locales, is_for_one_of, notes_of_values, notes_of_locale, notes_of_row};
 
 use crate::locales::{differs_at, differs_somewhere};
-use config_box::{Coord, Locale};
-use overlay_map::{Cell, MapRows, Row, Table, kind};
+use command_base::answer_text::{Cell, MapRows, Row, Table, kind};
+use command_base::cert_tree::{Coord, Locale};
 use table_survey::{Finding, Site, Survey};
 
 /// A value that is an attribute of a shared library (AOSP: `Res_value::TYPE_DYNAMIC_ATTRIBUTE`).

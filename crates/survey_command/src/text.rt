@@ -7,8 +7,8 @@ ghost use Rattle.table_survey.specs.Survey.{tally_in};
 ghost use Rattle.survey_command.specs.SurveyText.{site_text, weight_text, tally_text, found_line, range_text, number_text, qualifier_line, gap_text, lacks_line};
 
 use crate::qualifiers::Spread;
-use config_box::{Coord, Locale, write_locale};
-use line_parts::{write_id, write_layer, write_named_coord, write_named_number};
+use command_base::answer_text::{write_id, write_layer, write_named_coord, write_named_number};
+use command_base::cert_tree::{Coord, Locale, write_locale};
 use std::io::{self, Write};
 use table_survey::{Finding, Site, Survey};
 

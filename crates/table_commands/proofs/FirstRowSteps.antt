@@ -14,8 +14,8 @@ use Rattle.std.specs.Option.{option_map, option_or}
 use Rattle.std.specs.Ordering.{is_eq, match_ordering, nat_cmp}
 use Rattle.std.specs.declared.cmp.Ordering.{Ordering}
 use Rattle.std.specs.declared.cmp.Ordering.TheVariants.{Less, Equal, Greater}
-use Rattle.answer_text.specs.type_chunks.Row.{RowOf, row_of}
-use Rattle.answer_text.specs.type_chunks.declared.row.Row.{Row}
+use Rattle.command_base.specs.answer_text.type_chunks.Row.{RowOf, row_of}
+use Rattle.command_base.specs.answer_text.type_chunks.declared.row.Row.{Row}
 use Rattle.table_commands.specs.FirstRows.{rising, first_row, first_rows}
 use Rattle.table_commands.specs.FirstRowsSeen.{AreFirstOf, AreIdsOf, row_at, row_for}
 

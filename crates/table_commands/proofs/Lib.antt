@@ -6,3 +6,5 @@ pub mod MapJson
 pub mod RisingSteps
 pub mod MapReadSteps
 pub mod NamedSteps
+pub mod QuerySteps
+pub mod Cited

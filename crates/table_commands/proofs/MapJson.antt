@@ -22,9 +22,9 @@ use Rattle.serde_json.specs.Data.{Data, string, array, Items, no_items, item}
 use Rattle.serde_json.specs.Read.{of_json, of_items, max_depth, read}
 use Rattle.json_input.specs.Json.{value_of}
 use Rattle.json_input.proofs.LineFeed.{line-means}
-use Rattle.answer_text.specs.overlay_map.IdMap.{MapOf}
-use Rattle.answer_text.specs.res_value.Word.{word_text, eight_digits}
-use Rattle.answer_text.specs.res_value.ResId.{id_text}
+use Rattle.command_base.specs.overlay_map.IdMap.{MapOf}
+use Rattle.command_base.specs.answer_text.res_value.Word.{word_text, eight_digits}
+use Rattle.command_base.specs.answer_text.res_value.ResId.{id_text}
 use Rattle.table_commands.specs.MapOutput.{pair_text, next_pair_text, map_text}
 
 -- ---- an id stands in a text as it is

@@ -8,9 +8,9 @@ use Rattle.contract_words.specs.Sequences.{joined, joined_each, with_before, wit
 use Rattle.serde_json.specs.Data.{array}
 use Rattle.json_input.specs.Each.{each, list_items}
 use Rattle.json_input.proofs.EachSteps.{each-ok}
-use Rattle.answer_text.specs.res_value.ResId.{package_of}
-use Rattle.answer_text.specs.resource_table.Table.{TableOf, table_in}
-use Rattle.answer_text.specs.overlay_map.IdMap.{IdPair, MapOf, check_target, checked_pair, checked_pairs, map_in, pair_item, pairs_in, pairs_of, targets_of}
+use Rattle.command_base.specs.answer_text.res_value.ResId.{package_of}
+use Rattle.command_base.specs.answer_text.resource_table.Table.{TableOf, table_in}
+use Rattle.command_base.specs.overlay_map.IdMap.{IdPair, MapOf, check_target, checked_pair, checked_pairs, map_in, pair_item, pairs_in, pairs_of, targets_of}
 use Rattle.command_base.specs.fault_text.ToolFault.{fault_of_layer_table}
 use Rattle.command_base.specs.MapErr.{map_err}
 use Rattle.command_base.specs.StackBytes.{table_of_layer}

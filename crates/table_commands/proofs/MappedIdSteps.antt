@@ -6,7 +6,7 @@ use Rattle.std.specs.BTreeSet.{BTreeSet, contains, Updates}
 use Rattle.std.specs.Cmp.{unsigned_tied}
 use Rattle.std.specs.List.{list_any}
 use Rattle.std.specs.Ordering.{nat_cmp}
-use Rattle.answer_text.specs.overlay_map.IdMap.{MapOf, IdPair, pairs_of}
+use Rattle.command_base.specs.overlay_map.IdMap.{MapOf, IdPair, pairs_of}
 use Rattle.table_commands.specs.PairSeen.{pair_seen}
 
 -- the set has the ids that pass with some pair, but for pairs that are left

@@ -6,11 +6,11 @@ use Rattle.std.proofs.lemmas.List.{drop_all, drop_more, get_or-map, length-map}
 use Rattle.std.proofs.lemmas.List.Elements.{filter_map-append}
 use Rattle.std.proofs.lemmas.Simd.{map-map}
 use Rattle.std.proofs.lemmas.Slice.Zip.{get_or-zip, length-zip}
-use Rattle.answer_text.specs.overlay_map.IdMap.{IdPair, MapOf, pairs_of}
-use Rattle.answer_text.specs.res_value.declared.res_id.ResId.{ResId}
-use Rattle.answer_text.specs.resource_table.Names.{found_in, key_name_in, type_name_in}
-use Rattle.answer_text.specs.resource_table.Table.{TableOf, rows_of}
-use Rattle.answer_text.specs.type_chunks.Row.{RowOf}
+use Rattle.command_base.specs.overlay_map.IdMap.{IdPair, MapOf, pairs_of}
+use Rattle.command_base.specs.answer_text.res_value.declared.res_id.ResId.{ResId}
+use Rattle.command_base.specs.answer_text.resource_table.Names.{found_in, key_name_in, type_name_in}
+use Rattle.command_base.specs.answer_text.resource_table.Table.{TableOf, rows_of}
+use Rattle.command_base.specs.answer_text.type_chunks.Row.{RowOf}
 use Rattle.name_index.specs.Names.{NameOf, found_in_tables, name_of}
 use Rattle.name_index.specs.declared.name.Name.{Name}
 use Rattle.name_index.specs.NameText.{name_text}

@@ -3,7 +3,7 @@ use Rattle.std.proofs.Common.{ℕ, ◌+◌, ◌<◌, List, Option, ap, length, d
 use Rattle.std.specs.Io.KnownBytes.{Appends}
 use Rattle.std.proofs.lemmas.List.{drop_more}
 use Rattle.contract_words.proofs.TextSteps.{PutsAllBut, PutsAllBut-next}
-use Rattle.answer_text.specs.overlay_map.IdMap.{IdPair, pairs_of}
+use Rattle.command_base.specs.overlay_map.IdMap.{IdPair, pairs_of}
 use Rattle.table_commands.specs.MapOutput.{next_pair_text}
 use Rattle.table_commands.specs.PairSeen.{pair_seen}
 

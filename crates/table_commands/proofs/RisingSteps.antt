@@ -8,9 +8,9 @@ use Rattle.std.specs.Ordering.{MatchOrdering, match_ordering, nat_cmp}
 use Rattle.std.proofs.lemmas.Bool.{eqb-true}
 use Rattle.std.proofs.lemmas.List.{map-id}
 use Rattle.std.proofs.lemmas.List.Elements.{All-cons, All-nil}
-use Rattle.answer_text.specs.res_value.ResId.{package_of}
-use Rattle.answer_text.specs.resource_table.Table.{TableOf, rows_of}
-use Rattle.answer_text.specs.type_chunks.Row.{RowOf}
+use Rattle.command_base.specs.answer_text.res_value.ResId.{package_of}
+use Rattle.command_base.specs.answer_text.resource_table.Table.{TableOf, rows_of}
+use Rattle.command_base.specs.answer_text.type_chunks.Row.{RowOf}
 use Rattle.table_commands.specs.FirstRows.{first_row, first_rows, rising}
 use Rattle.table_commands.specs.MadeMap.{made_map, own_of, package_of_row, pair_of, pairs_in}
 

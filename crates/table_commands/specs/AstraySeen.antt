@@ -1,7 +1,7 @@
 -- How contracts see references that go astray, and the search for them. (Cited by contracts of this crate alone.)
-use Rattle.answer_text.specs.overlay_map.IdMap.{MapOf, pairs_of}
-use Rattle.answer_text.specs.resource_table.Table.{TableOf}
-use Rattle.answer_text.specs.type_chunks.Row.{row_of}
+use Rattle.command_base.specs.overlay_map.IdMap.{MapOf, pairs_of}
+use Rattle.command_base.specs.answer_text.resource_table.Table.{TableOf}
+use Rattle.command_base.specs.answer_text.type_chunks.Row.{row_of}
 use Rattle.table_commands.specs.declared.astray.Astray.{Astray}
 use Rattle.table_commands.specs.declared.astray.AstraySearch.{AstraySearch}
 use Rattle.table_commands.specs.MadeMap.{AstrayOf}

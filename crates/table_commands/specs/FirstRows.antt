@@ -3,7 +3,7 @@ use Rattle.std.specs.Prelude.{ℕ, List, [], map, find, ◌==◌, Option}
 use Rattle.std.specs.List.{fold, filter_map}
 use Rattle.std.specs.Ordering.{nat_cmp}
 use Rattle.std.specs.BTreeSet.{insert_key}
-use Rattle.answer_text.specs.type_chunks.Row.{RowOf}
+use Rattle.command_base.specs.answer_text.type_chunks.Row.{RowOf}
 
 -- the numbers in rising order, each once
 abbrev pub rising : List ℕ → List ℕ

@@ -3,8 +3,8 @@ use Rattle.std.specs.Prelude.{◌≡◌, ℕ, List, [], ◌∷◌, map, Option}
 use Rattle.std.specs.BTreeMap.{BTreeMap, get, keys}
 use Rattle.std.specs.Option.{option_map}
 use Rattle.std.specs.Ordering.{nat_cmp}
-use Rattle.answer_text.specs.type_chunks.Row.{RowOf, row_of}
-use Rattle.answer_text.specs.type_chunks.declared.row.Row.{Row}
+use Rattle.command_base.specs.answer_text.type_chunks.Row.{RowOf, row_of}
+use Rattle.command_base.specs.answer_text.type_chunks.declared.row.Row.{Row}
 use Rattle.table_commands.specs.FirstRows.{rising, first_row}
 
 -- the row of an id

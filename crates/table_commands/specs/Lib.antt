@@ -7,9 +7,17 @@ pub mod PairSeen
 pub mod NamedTarget
 pub mod AstraySeen
 pub mod MapOutput
-pub use Rattle.answer_text.specs as answer_text
-pub use Rattle.answer_text.specs.config_record
-pub use Rattle.answer_text.specs.overlay_map
-pub use Rattle.answer_text.specs.reference_resolver
+pub mod Opened
+pub mod OpenedSeen
+pub mod EndStatus
+pub mod QueryOutput
+pub mod ExplainOutput
+pub mod BagOutput
+pub mod AttrOutput
+pub mod Unfolded
 pub use Rattle.command_base.specs as command_base
+pub use Rattle.command_base.specs.answer_text
 pub use Rattle.command_base.specs.fault_text
+pub use Rattle.command_base.specs.answer_text.config_record
+pub use Rattle.command_base.specs.answer_text.reference_resolver
+pub use Rattle.command_base.specs.overlay_map

@@ -2,15 +2,15 @@
 use Rattle.std.specs.Prelude.{ℕ, Bool, ◌&&◌, ◌||◌, ◌==◌, List, [], ◌∷◌, ◌++◌, slice_get, Option, Some, None, if◌then◌else◌}
 use Rattle.std.specs.List.{filter_map, flat_map, list_any}
 use Rattle.std.specs.Option.{option_map, option_map_or}
-use Rattle.answer_text.specs.overlay_map.IdMap.{MapOf}
-use Rattle.answer_text.specs.res_value.Cell.{CellOf, PlainOf, BagOf}
-use Rattle.answer_text.specs.res_value.Kind.{reference_kind, attribute_kind}
-use Rattle.answer_text.specs.res_value.ResId.{package_of}
-use Rattle.answer_text.specs.res_value.declared.res_id.ResId.{ResId}
-use Rattle.answer_text.specs.res_value.declared.value.Value.{Value}
-use Rattle.answer_text.specs.resource_table.Names.{type_name_in, key_name_in, found_in}
-use Rattle.answer_text.specs.resource_table.Table.{TableOf, rows_of}
-use Rattle.answer_text.specs.type_chunks.Row.{RowOf}
+use Rattle.command_base.specs.overlay_map.IdMap.{MapOf}
+use Rattle.command_base.specs.answer_text.res_value.Cell.{CellOf, PlainOf, BagOf}
+use Rattle.command_base.specs.answer_text.res_value.Kind.{reference_kind, attribute_kind}
+use Rattle.command_base.specs.answer_text.res_value.ResId.{package_of}
+use Rattle.command_base.specs.answer_text.res_value.declared.res_id.ResId.{ResId}
+use Rattle.command_base.specs.answer_text.res_value.declared.value.Value.{Value}
+use Rattle.command_base.specs.answer_text.resource_table.Names.{type_name_in, key_name_in, found_in}
+use Rattle.command_base.specs.answer_text.resource_table.Table.{TableOf, rows_of}
+use Rattle.command_base.specs.answer_text.type_chunks.Row.{RowOf}
 use Rattle.name_index.specs.NameText.{name_text}
 use Rattle.table_commands.specs.FirstRows.{first_row, first_rows}
 

@@ -3,11 +3,11 @@ use Rattle.std.specs.Prelude.{◌≡◌, ℕ, ◌==◌, ◌||◌, not, List, [],
 use Rattle.std.specs.Io.KnownBytes.{Appends}
 use Rattle.std.specs.List.{flat_map}
 use Rattle.contract_words.specs.Faults.{◌>>=◌}
-use Rattle.answer_text.specs.DumpText.{names_text}
-use Rattle.answer_text.specs.overlay_map.IdMap.{MapOf, map_in}
-use Rattle.answer_text.specs.res_value.ResId.{id_text}
-use Rattle.answer_text.specs.resource_table.Table.{TableOf, table_in}
-use Rattle.answer_text.specs.type_chunks.Row.{RowOf}
+use Rattle.command_base.specs.answer_text.DumpText.{names_text}
+use Rattle.command_base.specs.overlay_map.IdMap.{MapOf, map_in}
+use Rattle.command_base.specs.answer_text.res_value.ResId.{id_text}
+use Rattle.command_base.specs.answer_text.resource_table.Table.{TableOf, table_in}
+use Rattle.command_base.specs.answer_text.type_chunks.Row.{RowOf}
 use Rattle.command_base.specs.fault_text.declared.fault.ToolFault.{ToolFault}
 use Rattle.command_base.specs.fault_text.declared.fault.ToolFault.TheVariants.{OutOfMemory, Write}
 use Rattle.command_base.specs.StackBytes.{table_of_layer}

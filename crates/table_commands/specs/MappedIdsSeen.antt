@@ -2,7 +2,7 @@
 use Rattle.std.specs.Prelude.{◌≡◌, ℕ}
 use Rattle.std.specs.BTreeSet.{BTreeSet, contains}
 use Rattle.std.specs.Ordering.{nat_cmp}
-use Rattle.answer_text.specs.overlay_map.IdMap.{MapOf}
+use Rattle.command_base.specs.overlay_map.IdMap.{MapOf}
 use Rattle.table_commands.specs.MadeMap.{carries, keeps}
 
 -- the ids that stand for some target

@@ -3,11 +3,11 @@ use Rattle.std.specs.Prelude.{ℕ, ◌==◌, List, [], ◌∷◌, Option, Some, 
 use Rattle.std.specs.Cow.{cow_str_bytes}
 use Rattle.std.specs.List.{filter_map, zip}
 use Rattle.std.specs.Option.{option_map}
-use Rattle.answer_text.specs.overlay_map.IdMap.{MapOf}
-use Rattle.answer_text.specs.res_value.declared.res_id.ResId.{ResId}
-use Rattle.answer_text.specs.resource_table.Names.{found_in, key_name_in, type_name_in}
-use Rattle.answer_text.specs.resource_table.Table.{TableOf}
-use Rattle.answer_text.specs.type_chunks.Row.{RowOf}
+use Rattle.command_base.specs.overlay_map.IdMap.{MapOf}
+use Rattle.command_base.specs.answer_text.res_value.declared.res_id.ResId.{ResId}
+use Rattle.command_base.specs.answer_text.resource_table.Names.{found_in, key_name_in, type_name_in}
+use Rattle.command_base.specs.answer_text.resource_table.Table.{TableOf}
+use Rattle.command_base.specs.answer_text.type_chunks.Row.{RowOf}
 use Rattle.name_index.specs.Names.{NameOf}
 use Rattle.table_commands.specs.declared.pairs.NamedTarget.{NamedTarget}
 use Rattle.table_commands.specs.MadeMap.{package_of_row}

@@ -1,7 +1,7 @@
 -- How contracts see a pair of ids. (Cited by contracts of this crate alone.)
 use Rattle.std.specs.Prelude.{◌≡◌, ℕ, Some}
-use Rattle.answer_text.specs.overlay_map.IdMap.{IdPair}
-use Rattle.answer_text.specs.res_value.ResId.{id_of, id_text}
+use Rattle.command_base.specs.overlay_map.IdMap.{IdPair}
+use Rattle.command_base.specs.answer_text.res_value.ResId.{id_of, id_text}
 
 abbrev pub pair_seen : IdPair → (ℕ × ℕ)
 pair_seen pair = (pair.0.0, pair.1.0)

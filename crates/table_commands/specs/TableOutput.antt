@@ -1,9 +1,9 @@
 -- What the commands print that are asked for one table: `rows` and `dump`.
 use Rattle.std.specs.Prelude.{ℕ, List, Result, Ok, Err}
-use Rattle.answer_text.specs.type_chunks.declared.fault.TableFault.{TableFault}
-use Rattle.answer_text.specs.resource_table.Table.{TableOf, table_in}
-use Rattle.answer_text.specs.RowsText.{rows_text}
-use Rattle.answer_text.specs.DumpText.{dump_text}
+use Rattle.command_base.specs.answer_text.type_chunks.declared.fault.TableFault.{TableFault}
+use Rattle.command_base.specs.answer_text.resource_table.Table.{TableOf, table_in}
+use Rattle.command_base.specs.answer_text.RowsText.{rows_text}
+use Rattle.command_base.specs.answer_text.DumpText.{dump_text}
 use Rattle.command_base.specs.fault_text.declared.fault.ToolFault.{ToolFault}
 use Rattle.command_base.specs.fault_text.ToolFault.{fault_of_table}
 use Rattle.command_base.specs.declared.status.Status.TheVariants.{Done}

@@ -2,16 +2,16 @@
 
 ghost use Rattle.std.specs.Prelude.{◌≡◌, ◌++◌, map, IfOk, OnOk};
 ghost use Rattle.std.specs.List.{flat_map};
-ghost use Rattle.answer_text.specs.overlay_map.IdMap.{pairs_of};
-ghost use Rattle.answer_text.specs.res_value.Cell.{cell_of};
-ghost use Rattle.answer_text.specs.res_value.MapRows.{map_rows_of};
-ghost use Rattle.answer_text.specs.type_chunks.Row.{row_of};
+ghost use Rattle.command_base.specs.overlay_map.IdMap.{pairs_of};
+ghost use Rattle.command_base.specs.answer_text.res_value.Cell.{cell_of};
+ghost use Rattle.command_base.specs.answer_text.res_value.MapRows.{map_rows_of};
+ghost use Rattle.command_base.specs.answer_text.type_chunks.Row.{row_of};
 ghost use Rattle.table_commands.specs.MadeMap.{astray_to, astray_by, astray_by_bag_row, astray_by_cell, astray_in, astray};
 ghost use Rattle.table_commands.specs.AstraySeen.{astray_of, map_of, overlay_of};
 
 use crate::first_rows::FirstRows;
 use crate::mapped_ids::MappedIds;
-use answer_text::{Cell, MapRows, ResId, Row, Table, Value, kind};
+use command_base::answer_text::{Cell, MapRows, ResId, Row, Table, Value, kind};
 use std::alloc::{AllocError, Global};
 
 /// A row of an overlay that refers to an id of the overlay which the map does not keep.

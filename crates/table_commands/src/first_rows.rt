@@ -5,12 +5,12 @@ ghost use Rattle.std.specs.BTreeMap.{keys, IsOrdered};
 ghost use Rattle.std.specs.BTreeSet.{insert_key};
 ghost use Rattle.std.specs.Option.{option_map, option_or};
 ghost use Rattle.std.specs.Ordering.{nat_cmp};
-ghost use Rattle.answer_text.specs.resource_table.Table.{rows_of};
-ghost use Rattle.answer_text.specs.type_chunks.Row.{row_of};
+ghost use Rattle.command_base.specs.answer_text.resource_table.Table.{rows_of};
+ghost use Rattle.command_base.specs.answer_text.type_chunks.Row.{row_of};
 ghost use Rattle.table_commands.specs.FirstRows.{first_row, first_rows};
 ghost use Rattle.table_commands.specs.FirstRowsSeen.{AreFirstOf, AreIdsOf, row_at, row_for};
 
-use answer_text::{ResId, Row, Table};
+use command_base::answer_text::{ResId, Row, Table};
 use std::alloc::{AllocError, Global};
 use std::collections::BTreeMap;
 

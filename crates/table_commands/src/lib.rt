@@ -1,8 +1,8 @@
-//! The commands that are asked for tables alone, over their bytes and a writer: `rows` and `dump` for one, and `map`
-//! for a target and an overlay.
+//! The commands that answer from tables, over their bytes and a writer: `rows` and `dump` of one table, `map` of a
+//! target and an overlay; and for one device and the layers of a stack `query`, `explain`, `bag` and `attr`.
 //!
-//! For the crates above: a command prints the text that its tables mean and nothing else, or it names the first
-//! fault of these and has printed nothing.
+//! For the crates above: a command prints the text that its input means and nothing else, or it names the first
+//! fault of that input and has printed nothing.
 //!
 //! ```text
 //! rows_bytes(alloc, &table, &mut out)?; // row 0x7f010000 [] decimal 5
@@ -10,24 +10,51 @@
 //! dump_bytes(alloc, &table, &mut out)?; // package 0x7f "app"
 //!                                       //   0x7f010000 "integer"/"five" flags 0x00000000 [] decimal 5
 //! map_bytes(alloc, &target, &overlay, &mut out, &mut errors)?; // [["0x7f010000","0x7f020000"]]
+//!
+//! let layers = [(base.as_slice(), None), (overlay.as_slice(), Some(map.as_slice()))];
+//! query_bytes(alloc, &layers, &device, &ids, &mut out)?; // 0x7f010000 value layer 1 decimal 5
+//!                                                        // set-aside 0
+//! explain_bytes(alloc, &layers, &device, id, &mut out)?; // lookup 0x7f010000
+//!                                                        // candidate 0 layer 0 [] first
+//!                                                        // candidate 1 layer 1 [] took over equal
+//!                                                        // end value layer 1 decimal 5
+//! bag_bytes(alloc, &layers, &device, id, &mut out)?; // 0x01010000 layer 0 decimal 5
+//! attr_bytes(alloc, &layers, &device, attr, &styles, true, &mut out)?; // 0x01010000 value layer 0 decimal 5
+//!
+//! let opened = Opened::read(alloc, &layers, &device)?; // for several commands, or to look into the stack first
+//! opened.query(&ids, false, &mut out)?; // as `query_bytes`; so `explain`, `bag` and `attr`
+//! opened.query(&ids, true, &mut out)?; // 0x7f010000 "integer"/"five" value layer 1 decimal 5
+//!                                      // set-aside 0
 //! ```
 #![tactic(auto)]
 
 mod astray;
+mod attr;
+mod bag;
 mod dump;
+mod end_status;
+mod explain;
 mod first_rows;
 mod map;
 mod map_text;
 mod mapped_ids;
+mod no_bag;
+mod opened;
 mod pairs;
+mod query;
 mod rows;
 mod unmapped;
 
-pub use answer_text::{Device, End, Stack};
+pub use attr::attr_bytes;
+pub use bag::bag_bytes;
+pub use command_base::answer_text::{Device, End, Stack};
 pub use command_base::{
     InputFault, LayerList, LayerParts, LayersFault, Status, ToolFault, fault_text, open_stack,
     read_input,
 };
 pub use dump::dump_bytes;
+pub use explain::explain_bytes;
 pub use map::map_bytes;
+pub use opened::Opened;
+pub use query::query_bytes;
 pub use rows::rows_bytes;

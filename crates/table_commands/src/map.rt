@@ -1,7 +1,7 @@
 //! The command `map`.
 
 ghost use Rattle.std.specs.Prelude.{◌≡◌, map, Ok, OnOk};
-ghost use Rattle.answer_text.specs.type_chunks.Row.{row_of};
+ghost use Rattle.command_base.specs.answer_text.type_chunks.Row.{row_of};
 ghost use Rattle.table_commands.specs.AstraySeen.{astray_of};
 ghost use Rattle.table_commands.specs.MadeMap.{made_map};
 ghost use Rattle.table_commands.specs.MapOutput.{MadeMapReadsBack, PrintsBoth, ReadsBack, map_output, output_of_map, status_of_map};
@@ -12,7 +12,7 @@ use crate::map_text::{write_left, write_map};
 use crate::mapped_ids::MappedIds;
 use crate::pairs::made_pairs;
 use crate::unmapped::unmapped_rows;
-use answer_text::{Row, Table};
+use command_base::answer_text::{Row, Table};
 use command_base::{Status, ToolFault, open_table};
 use std::alloc::Global;
 use std::io::Write;

@@ -3,15 +3,15 @@
 ghost use Rattle.std.specs.Prelude.{map, OnOk};
 ghost use Rattle.std.specs.List.{All, flat_map};
 ghost use Rattle.contract_words.specs.Writes.{Writes};
-ghost use Rattle.answer_text.specs.DumpText.{names_text};
-ghost use Rattle.answer_text.specs.overlay_map.IdMap.{pairs_of};
-ghost use Rattle.answer_text.specs.type_chunks.Row.{row_of};
+ghost use Rattle.command_base.specs.answer_text.DumpText.{names_text};
+ghost use Rattle.command_base.specs.overlay_map.IdMap.{pairs_of};
+ghost use Rattle.command_base.specs.answer_text.type_chunks.Row.{row_of};
 ghost use Rattle.table_commands.specs.AstraySeen.{astray_of};
 ghost use Rattle.table_commands.specs.MapOutput.{pair_text, next_pair_text, map_text, named_text, unmapped_line, astray_line, left_lines};
 ghost use Rattle.table_commands.specs.PairSeen.{IdsReadBack, pair_seen};
 
 use crate::astray::Astray;
-use answer_text::{ResId, Row, Table, write_id, write_string};
+use command_base::answer_text::{ResId, Row, Table, write_id, write_string};
 use std::io::{self, Write};
 
 /// Writes a map as a JSON list, with a line for each pair.
@@ -141,7 +141,7 @@ fn write_named<W: Write + Drop>(table: &Table<'_>, row: &Row<'_>, out: &mut W) -
     write_names(table, row, out)
 }
 
-#[tactic(auto, unfolding(answer_text::specs::DumpText::names_text))]
+#[tactic(auto, unfolding(crate::specs::Unfolded::names_text))]
 fn write_names<W: Write + Drop>(table: &Table<'_>, row: &Row<'_>, out: &mut W) -> io::Result<()>
     ensures { Writes W.contents out.old out.new result (names_text table.now (row_of row.now)) }
 {

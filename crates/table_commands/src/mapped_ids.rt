@@ -1,11 +1,11 @@
 //! Which ids of an overlay a map carries over.
 
 ghost use Rattle.std.specs.Prelude.{◌≡◌, IfOk};
-ghost use Rattle.answer_text.specs.overlay_map.IdMap.{pairs_of};
+ghost use Rattle.command_base.specs.overlay_map.IdMap.{pairs_of};
 ghost use Rattle.table_commands.specs.MappedIdsSeen.{AreCarried, AreKept};
 ghost use Rattle.table_commands.specs.MadeMap.{carries, keeps};
 
-use answer_text::ResId;
+use command_base::answer_text::ResId;
 use std::alloc::{AllocError, Global};
 use std::collections::BTreeSet;
 

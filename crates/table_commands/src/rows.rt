@@ -3,7 +3,7 @@
 ghost use Rattle.command_base.specs.Output.{Prints};
 ghost use Rattle.table_commands.specs.TableOutput.{rows_output};
 
-use answer_text::{Table, rows_text};
+use command_base::answer_text::{Table, rows_text};
 use command_base::{Status, ToolFault};
 use std::alloc::Global;
 use std::io::Write;

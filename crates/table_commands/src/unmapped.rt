@@ -1,13 +1,13 @@
 //! Ids of an overlay that stand for no target.
 
 ghost use Rattle.std.specs.Prelude.{◌≡◌, map, IfOk};
-ghost use Rattle.answer_text.specs.overlay_map.IdMap.{pairs_of};
-ghost use Rattle.answer_text.specs.type_chunks.Row.{row_of};
+ghost use Rattle.command_base.specs.overlay_map.IdMap.{pairs_of};
+ghost use Rattle.command_base.specs.answer_text.type_chunks.Row.{row_of};
 ghost use Rattle.table_commands.specs.MadeMap.{unmapped};
 
 use crate::first_rows::FirstRows;
 use crate::mapped_ids::MappedIds;
-use answer_text::Row;
+use command_base::answer_text::Row;
 use std::alloc::{AllocError, Global};
 
 /// The first row of each id of an overlay that stands for no target, in the order of the ids.

@@ -2,7 +2,7 @@
 
 use diff_command::{OpenedDiff, diff_bytes};
 use res_value::ResId;
-use resource_text::Cert;
+use resource_tool::resource_text::Cert;
 use resource_tool::{
     Goal, LayerParts, Opened, OpenedBox, OpenedCert, Status, ToolFault, Unwatched, attr_bytes,
     bag_bytes, check_bytes, dump_bytes, explain_bytes, make_bytes, make_omitting_bytes, map_bytes,

@@ -2,7 +2,7 @@
 
 use reference_resolver::resolve;
 use res_value::ResId;
-use resource_text::{
+use resource_tool::resource_text::{
     Cert, Rule, Shown, ToolFault, Verdict, dump_text, end_text, explain, fault_text, rows_text,
     verdict_text, write_goal_words,
 };

@@ -1,7 +1,7 @@
 //! What two stacks say differently.
 
 use crate::goals::trees::Asked;
-use stack_diff::{
+use diff_text::stack_diff::{
     Change, Content, Outcome, Outcomes, compare_stacks, compare_with_itself, name_pairs,
 };
 use std::test::Fail;

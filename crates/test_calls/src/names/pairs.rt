@@ -1,7 +1,7 @@
 //! Which pairs words ask for.
 
+use diff_text::stack_diff::name_pairs;
 use named_resources::{NamedSet, pairs_named};
-use stack_diff::name_pairs;
 use std::alloc::{AllocError, Global};
 use std::test::Fail;
 use test_layers::LayerFault;

@@ -1,7 +1,7 @@
 //! The labels of two stacks.
 
+use diff_text::stack_diff::{NamePair, name_pairs};
 use overlay_map::Stack;
-use stack_diff::{NamePair, name_pairs};
 use std::alloc::Global;
 use std::test::Fail;
 use test_layers::LayerFault;

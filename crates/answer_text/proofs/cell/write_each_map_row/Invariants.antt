@@ -1,5 +1,5 @@
 use Rattle.contract_words.proofs.TextSteps.{PutsAllBut}
-use Rattle.reference_resolver.specs.res_value.MapRows.{map_rows_of}
+use Rattle.bags_themes.specs.res_value.MapRows.{map_rows_of}
 use Rattle.answer_text.specs.CellText.{format_of, map_row_text}
 use Rattle.answer_text.proofs.cell.write_each_map_row.Given as goal
 

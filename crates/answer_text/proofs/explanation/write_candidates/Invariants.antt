@@ -2,10 +2,10 @@ use Rattle.std.proofs.Common.{◌≡◌, ◌+◌, ◌^◌, ◌<◌, length}
 use Rattle.std.specs.List.{enumerate_from}
 use Rattle.std.specs.Option.{option_map}
 use Rattle.contract_words.proofs.TextSteps.{PutsAllBut}
-use Rattle.reference_resolver.specs.config_record.DeviceSeen.{device_numbers}
-use Rattle.reference_resolver.specs.overlay_map.Candidates.{cand_of}
-use Rattle.reference_resolver.specs.Selection.{scan_candidates, best_of, selected}
-use Rattle.reference_resolver.specs.Trace.{traced, scan_look_up}
+use Rattle.bags_themes.specs.config_record.DeviceSeen.{device_numbers}
+use Rattle.bags_themes.specs.overlay_map.Candidates.{cand_of}
+use Rattle.bags_themes.specs.reference_resolver.Selection.{scan_candidates, best_of, selected}
+use Rattle.bags_themes.specs.reference_resolver.Trace.{traced, scan_look_up}
 use Rattle.answer_text.specs.ExplainText.{candidate_line}
 use Rattle.answer_text.proofs.explanation.write_candidates.Given as goal
 

@@ -1,9 +1,9 @@
 use Rattle.std.proofs.Common.{sym, ◌∙◌, ap, Option}
 use Rattle.contract_words.proofs.TextSteps.{PutsAllBut-next}
-use Rattle.reference_resolver.specs.config_record.DeviceSeen.{device_numbers}
-use Rattle.reference_resolver.specs.overlay_map.Candidates.{CandOf}
-use Rattle.reference_resolver.specs.Ends.{next_of, cut_off}
-use Rattle.reference_resolver.proofs.Chains.{goes_on_within}
+use Rattle.bags_themes.specs.config_record.DeviceSeen.{device_numbers}
+use Rattle.bags_themes.specs.overlay_map.Candidates.{CandOf}
+use Rattle.bags_themes.specs.reference_resolver.Ends.{next_of, cut_off}
+use Rattle.bags_themes.proofs.reference_resolver_proofs.Chains.{goes_on_within}
 use Rattle.answer_text.proofs.explanation.write_look_ups.Goals as goal
 use Rattle.answer_text.proofs.explanation.write_look_ups.Goals.{In-EndsAt, In-LookUp}
 

@@ -1,8 +1,8 @@
 use Rattle.std.proofs.Common.{◌≡◌}
 use Rattle.contract_words.proofs.TextSteps.{PutsAllBut}
-use Rattle.reference_resolver.specs.config_record.DeviceSeen.{device_numbers}
-use Rattle.reference_resolver.specs.Ends.{end_of}
-use Rattle.reference_resolver.specs.Trace.{look_ups_of}
+use Rattle.bags_themes.specs.config_record.DeviceSeen.{device_numbers}
+use Rattle.bags_themes.specs.reference_resolver.Ends.{end_of}
+use Rattle.bags_themes.specs.reference_resolver.Trace.{look_ups_of}
 use Rattle.answer_text.specs.ExplainText.{look_up_text}
 use Rattle.answer_text.proofs.explanation.write_look_ups.Given as goal
 

@@ -1,5 +1,5 @@
 use Rattle.std.proofs.Common.{None}
-use Rattle.reference_resolver.specs.overlay_map.Candidates.{cand_of}
+use Rattle.bags_themes.specs.overlay_map.Candidates.{cand_of}
 use Rattle.box_trace.specs.Parting.{answer_of}
 use Rattle.box_trace.proofs.AtCandidate.{matched}
 use Rattle.box_trace.proofs.parting.parting_at.Goals as goal

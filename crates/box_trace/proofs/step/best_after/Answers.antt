@@ -1,7 +1,7 @@
 use Rattle.std.proofs.Common.{◌≡◌, refl, sym, ◌∙◌, ap, subst}
 use Rattle.std.specs.Option.{option_map}
-use Rattle.reference_resolver.specs.overlay_map.Candidates.{cand_of}
-use Rattle.reference_resolver.specs.Selection.{beats_best}
+use Rattle.bags_themes.specs.overlay_map.Candidates.{cand_of}
+use Rattle.bags_themes.specs.reference_resolver.Selection.{beats_best}
 use Rattle.config_box.specs.box_answers.declared.sameness.Sameness.{Sameness}
 use Rattle.config_box.specs.box_answers.declared.sameness.Sameness.TheVariants.{Mixed}
 use Rattle.config_box.specs.box_answers.Sameness.{IsExact}

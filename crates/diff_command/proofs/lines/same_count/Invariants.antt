@@ -1,5 +1,5 @@
 use Rattle.std.proofs.Common.{◌≡◌, ◌+◌, ◌≤◌, map, drop}
-use Rattle.stack_diff.specs.Outcomes.{outcome_of}
+use Rattle.diff_text.specs.stack_diff.Outcomes.{outcome_of}
 use Rattle.diff_command.specs.DiffLines.{same_count}
 use Rattle.diff_command.proofs.lines.same_count.Given as goal
 

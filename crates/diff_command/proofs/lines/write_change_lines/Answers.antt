@@ -1,6 +1,6 @@
 use Rattle.std.proofs.Common.{◌∙◌, ◌+◌, ◌∷◌, List, arith, ap, sym, drop}
 use Rattle.std.proofs.lemmas.List.{drop_more}
-use Rattle.config_box.specs.box_answers.NumberSet.{SetOf}
+use Rattle.diff_text.specs.config_box.box_answers.NumberSet.{SetOf}
 use Rattle.contract_words.proofs.TextSteps.{PutsAllBut-next}
 use Rattle.diff_command.proofs.lines.write_change_lines.Goals as goal
 

@@ -1,8 +1,8 @@
 use Rattle.std.proofs.Common.{drop}
 use Rattle.contract_words.proofs.TextSteps.{PutsAllBut}
 use Rattle.diff_text.specs.ChangeText.{change_text}
-use Rattle.stack_diff.specs.resource_content.ContentSeen.{content_of}
-use Rattle.stack_diff.specs.name_pairs.Label.{label_of}
+use Rattle.diff_text.specs.stack_diff.resource_content.ContentSeen.{content_of}
+use Rattle.diff_text.specs.name_pairs.Label.{label_of}
 use Rattle.diff_command.proofs.lines.write_change_lines.Given as goal
 
 abbrev pub invariant-loop-part : goal.invariant-loop-part

@@ -1,7 +1,7 @@
 use Rattle.std.proofs.Common.{drop, map}
 use Rattle.contract_words.proofs.TextSteps.{PutsAllBut}
-use Rattle.stack_diff.specs.name_pairs.Label.{label_of}
-use Rattle.stack_diff.specs.ChangeSeen.{change_of}
+use Rattle.diff_text.specs.name_pairs.Label.{label_of}
+use Rattle.diff_text.specs.stack_diff.ChangeSeen.{change_of}
 use Rattle.diff_command.specs.DiffLines.{change_lines}
 use Rattle.diff_command.proofs.lines.write_changes.Given as goal
 

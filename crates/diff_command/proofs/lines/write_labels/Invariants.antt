@@ -1,8 +1,8 @@
 use Rattle.std.proofs.Common.{map}
 use Rattle.std.specs.List.{zip}
 use Rattle.contract_words.proofs.TextSteps.{PutsAllBut}
-use Rattle.stack_diff.specs.name_pairs.Pairs.{pair_of}
-use Rattle.stack_diff.specs.Outcomes.{outcome_of}
+use Rattle.diff_text.specs.name_pairs.Pairs.{pair_of}
+use Rattle.diff_text.specs.stack_diff.Outcomes.{outcome_of}
 use Rattle.diff_command.specs.DiffLines.{pair_lines}
 use Rattle.diff_command.proofs.lines.write_labels.Given as goal
 

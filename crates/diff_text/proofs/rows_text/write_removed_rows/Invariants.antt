@@ -1,6 +1,6 @@
 use Rattle.std.proofs.Common.{drop, map}
 use Rattle.contract_words.proofs.TextSteps.{PutsAllBut}
-use Rattle.resource_content.specs.ContentSeen.{row_content_of}
+use Rattle.stack_diff.specs.resource_content.ContentSeen.{row_content_of}
 use Rattle.diff_text.specs.RowsText.{removed_row}
 use Rattle.diff_text.proofs.rows_text.write_removed_rows.Given as goal
 

@@ -1,6 +1,6 @@
 use Rattle.std.proofs.Common.{◌+◌, length, map}
 use Rattle.string_pool.proofs.WriteSteps.{WroteAllBut}
-use Rattle.resource_content.specs.ContentSeen.{row_content_of}
+use Rattle.stack_diff.specs.resource_content.ContentSeen.{row_content_of}
 use Rattle.diff_text.specs.RowsText.{rows_text}
 use Rattle.diff_text.proofs.rows_text.write_rows.Given as goal
 

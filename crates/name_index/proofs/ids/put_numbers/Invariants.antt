@@ -1,5 +1,5 @@
 use Rattle.std.specs.Option.{option_map}
-use Rattle.resource_table.specs.Table.{rows_of}
+use Rattle.overlay_map.specs.resource_table.Table.{rows_of}
 use Rattle.name_index.specs.IdsOfType.{numbers_of_type, put_each}
 use Rattle.name_index.proofs.IdSteps.{PutsAllBut}
 use Rattle.name_index.proofs.ids.put_numbers.Given as goal

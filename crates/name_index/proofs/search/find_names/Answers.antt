@@ -1,7 +1,7 @@
 use Rattle.std.proofs.Common.{◌≡◌, ℕ, List, map, Option, subst, sym, ap, ◌∙◌, arith}
 use Rattle.std.proofs.lemmas.Grind.{common_steps}
 use Rattle.std.specs.Option.{option_map}
-use Rattle.type_chunks.specs.res_value.declared.res_id.ResId.{ResId}
+use Rattle.overlay_map.specs.res_value.declared.res_id.ResId.{ResId}
 use Rattle.name_index.specs.declared.sought.Sought.{Sought}
 use Rattle.name_index.specs.Sought.{entry_names, noted_in, ArePlacesOf}
 use Rattle.name_index.proofs.SoughtSteps.{entry_names-unfound, found-all-mapped}

@@ -1,5 +1,5 @@
 use Rattle.std.proofs.Common.{ℕ, List, map, subst, sym, ap, ◌∙◌}
-use Rattle.type_chunks.specs.Row.{RowOf, row_of}
+use Rattle.overlay_map.specs.type_chunks.Row.{RowOf, row_of}
 use Rattle.name_index.specs.declared.sought.Sought.{Sought}
 use Rattle.name_index.specs.Sought.{noted_each, entry_names, ArePlacesOf}
 use Rattle.name_index.proofs.SoughtSteps.{entry_names-noted, map-noted_each-next, map-noted_each-none}

@@ -1,5 +1,5 @@
 use Rattle.std.proofs.Common.{◌≡◌, map}
-use Rattle.resource_table.specs.Table.{rows_of}
+use Rattle.overlay_map.specs.resource_table.Table.{rows_of}
 use Rattle.name_index.specs.Passed.{AreNoted}
 use Rattle.name_index.specs.Sought.{noted_each, entry_names, ArePlacesOf}
 use Rattle.name_index.proofs.search.look_in.Given as goal

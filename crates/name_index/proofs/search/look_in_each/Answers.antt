@@ -1,6 +1,6 @@
 use Rattle.std.proofs.Common.{◌+◌, ◌∷◌, ℕ, List, map, drop, subst, sym, ap, ◌∙◌}
 use Rattle.std.proofs.lemmas.List.{drop_more, drop_all}
-use Rattle.resource_table.specs.Table.{rows_of}
+use Rattle.overlay_map.specs.resource_table.Table.{rows_of}
 use Rattle.name_index.specs.declared.sought.Sought.{Sought}
 use Rattle.name_index.specs.Sought.{entry_names, noted_in, ArePlacesOf}
 use Rattle.name_index.proofs.SoughtSteps.{entry_names-noted_each, map-noted_in-next, map-noted_in-none}

@@ -1,6 +1,6 @@
 use Rattle.std.proofs.Common.{ℕ, List, ◌+◌, take, get_or, set, subst, sym}
 use Rattle.std.proofs.lemmas.List.{take_all, take_more}
-use Rattle.type_chunks.specs.Row.{row_of}
+use Rattle.overlay_map.specs.type_chunks.Row.{row_of}
 use Rattle.name_index.specs.declared.sought.Sought.{Sought}
 use Rattle.name_index.specs.Sought.{IsNotedAt}
 use Rattle.name_index.proofs.SoughtSteps.{IsNotedAt-next, IsNotedAt-past}

@@ -1,5 +1,5 @@
 use Rattle.std.proofs.Common.{take}
-use Rattle.type_chunks.specs.Row.{row_of}
+use Rattle.overlay_map.specs.type_chunks.Row.{row_of}
 use Rattle.name_index.specs.Sought.{IsNotedAt}
 use Rattle.name_index.proofs.search.note_at.Given as goal
 

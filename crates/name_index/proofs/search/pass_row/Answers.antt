@@ -1,7 +1,7 @@
 use Rattle.std.proofs.Common.{ℕ, List, Some, Result, subst, sym, ap, ◌∙◌}
 use Rattle.std.specs.Cow.{cow_str_bytes}
 use Rattle.std.specs.Option.{option_map}
-use Rattle.type_chunks.specs.Row.{row_of}
+use Rattle.overlay_map.specs.type_chunks.Row.{row_of}
 use Rattle.string_pool.specs.Text.{TextOf}
 use Rattle.string_pool.specs.declared.fault.StringFault.{StringFault}
 use Rattle.name_index.specs.declared.sought.Sought.{Sought}

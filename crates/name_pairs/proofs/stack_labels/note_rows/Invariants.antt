@@ -1,4 +1,4 @@
-use Rattle.overlay_map.specs.resource_table.Table.{rows_of}
+use Rattle.name_index.specs.overlay_map.resource_table.Table.{rows_of}
 use Rattle.name_pairs.specs.Passed.{AreNoted}
 use Rattle.name_pairs.specs.StackLabels.{name_of_row, named}
 use Rattle.name_pairs.proofs.NotesSteps.{NotesAllBut}

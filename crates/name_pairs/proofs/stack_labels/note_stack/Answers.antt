@@ -1,8 +1,8 @@
 use Rattle.std.proofs.Common.{List, map, ap, ◌∙◌, None}
 use Rattle.std.specs.Borrow.{Bor}
 use Rattle.name_index.specs.IdsOfType.{ids_of_type}
-use Rattle.overlay_map.specs.resource_table.Table.{TableOf}
-use Rattle.overlay_map.specs.resource_table.declared.table.Table.{Table}
+use Rattle.name_index.specs.overlay_map.resource_table.Table.{TableOf}
+use Rattle.name_index.specs.overlay_map.resource_table.declared.table.Table.{Table}
 use Rattle.name_pairs.proofs.NamelessSteps.{labelled-noted}
 use Rattle.name_pairs.proofs.stack_labels.note_stack.Goals as goal
 

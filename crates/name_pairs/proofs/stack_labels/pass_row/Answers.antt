@@ -1,6 +1,6 @@
 use Rattle.std.proofs.Common.{Option, subst, sym, ap, ◌∙◌}
 use Rattle.std.specs.Option.{option_map}
-use Rattle.overlay_map.specs.type_chunks.Row.{row_of}
+use Rattle.name_index.specs.overlay_map.type_chunks.Row.{row_of}
 use Rattle.name_pairs.specs.Label.{LabelOf, label_of}
 use Rattle.name_pairs.specs.StackLabels.{named}
 use Rattle.name_pairs.specs.Noted.{Notes}

@@ -1,6 +1,6 @@
 use Rattle.std.proofs.Common.{map, drop}
 use Rattle.std.specs.List.{flat_map}
-use Rattle.name_index.specs.Names.{name_of}
+use Rattle.name_pairs.specs.name_index.Names.{name_of}
 use Rattle.name_words.specs.NamedSet.{named_set_of}
 use Rattle.named_resources.specs.AskedNames.{names_in_set}
 use Rattle.named_resources.proofs.AskedSteps.{JoinsBut}

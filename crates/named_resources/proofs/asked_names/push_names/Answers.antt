@@ -1,6 +1,6 @@
 use Rattle.std.proofs.Common.{◌++◌, List, map, sym, ap, ◌∙◌}
 use Rattle.std.proofs.lemmas.List.Folds.{flat_map-map}
-use Rattle.name_index.specs.Names.{NameOf, name_of}
+use Rattle.name_pairs.specs.name_index.Names.{NameOf, name_of}
 use Rattle.name_words.specs.declared.named.Named.{Named}
 use Rattle.name_words.specs.Named.{named_of}
 use Rattle.named_resources.specs.AskedNames.{names_in}

@@ -5,8 +5,8 @@ use Rattle.contract_words.specs.Sequences.{with_front, joined_each}
 use Rattle.contract_words.proofs.SequenceSteps.{ReadsAllBut-next, ReadsAllBut-stops, ReadsAllBut-end, with_front_nil}
 use Rattle.res_value.specs.Goal.{goal_seen}
 use Rattle.res_value.specs.declared.goal.Goal.{Goal}
-use Rattle.name_index.specs.declared.name.Name.{Name}
-use Rattle.name_index.specs.Names.{NameOf, name_of}
+use Rattle.name_pairs.specs.name_index.declared.name.Name.{Name}
+use Rattle.name_pairs.specs.name_index.Names.{NameOf, name_of}
 use Rattle.name_words.specs.declared.named_goal.NamedGoal.{NamedGoal}
 use Rattle.name_words.specs.NamedGoal.{named_goal_of}
 use Rattle.named_resources.specs.AskedNames.{names_in_goal}

@@ -4,7 +4,7 @@ use Rattle.std.proofs.lemmas.Result.{err_from_is_err_and}
 use Rattle.std.specs.List.{flat_map}
 use Rattle.contract_words.specs.Sequences.{with_front}
 use Rattle.json_input.specs.Each.{each}
-use Rattle.overlay_map.specs.res_value.declared.res_id.ResId.{ResId}
+use Rattle.name_pairs.specs.res_value.declared.res_id.ResId.{ResId}
 use Rattle.res_value.specs.Goal.{GoalSeen, IdGoal, goal_seen}
 use Rattle.res_value.specs.declared.goal.Goal.{Goal}
 use Rattle.name_words.specs.declared.named.Named.{Named}

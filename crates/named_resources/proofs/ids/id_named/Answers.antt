@@ -1,8 +1,8 @@
 use Rattle.std.proofs.Common.{◌++◌, [], List, map, sym, ap, subst, ◌∙◌}
 use Rattle.std.proofs.lemmas.List.{append-nil}
 use Rattle.std.proofs.lemmas.Result.{err_from_is_err_and}
-use Rattle.name_index.specs.declared.name.Name.{Name}
-use Rattle.name_index.specs.Names.{NameOf, name_of}
+use Rattle.name_pairs.specs.name_index.declared.name.Name.{Name}
+use Rattle.name_pairs.specs.name_index.Names.{NameOf, name_of}
 use Rattle.name_words.specs.Named.{named_of}
 use Rattle.named_resources.specs.AskedNames.{names_in}
 use Rattle.named_resources.specs.Finder.{Tells}

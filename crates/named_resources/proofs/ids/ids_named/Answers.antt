@@ -4,9 +4,9 @@ use Rattle.std.specs.List.{flat_map}
 use Rattle.std.proofs.lemmas.Result.{err_from_is_err_and}
 use Rattle.contract_words.specs.Sequences.{with_front, joined_each}
 use Rattle.contract_words.proofs.SequenceSteps.{ReadsAllBut-next, ReadsAllBut-stops, ReadsAllBut-end, with_front_nil}
-use Rattle.overlay_map.specs.res_value.declared.res_id.ResId.{ResId}
-use Rattle.name_index.specs.declared.name.Name.{Name}
-use Rattle.name_index.specs.Names.{NameOf, name_of}
+use Rattle.name_pairs.specs.res_value.declared.res_id.ResId.{ResId}
+use Rattle.name_pairs.specs.name_index.declared.name.Name.{Name}
+use Rattle.name_pairs.specs.name_index.Names.{NameOf, name_of}
 use Rattle.name_words.specs.declared.named_set.NamedSet.{NamedSet}
 use Rattle.name_words.specs.NamedSet.{named_set_of}
 use Rattle.named_resources.specs.AskedNames.{names_in_set}

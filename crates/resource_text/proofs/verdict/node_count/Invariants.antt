@@ -1,5 +1,5 @@
 use Rattle.std.proofs.Common.{◌≡◌, ◌+◌, ◌*◌, ◌^◌, ◌≤◌, map, drop}
-use Rattle.cert_checker.specs.cert_tree.Certificate.{goal_of, node_count}
+use Rattle.cert_maker.specs.cert_tree.Certificate.{goal_of, node_count}
 use Rattle.resource_text.proofs.verdict.node_count.Given as goal
 
 -- the count so far and that of the goals that are left are the whole

@@ -1,6 +1,6 @@
 use Rattle.std.proofs.Common.{◌∷◌, ◌++◌, [], ap, ◌∙◌, sym}
-use Rattle.cert_maker.specs.cert_tree.CertJson.{cert_in}
-use Rattle.cert_maker.proofs.cert_tree.LineLemmas.{cert_in-line}
+use Rattle.resource_text.specs.cert_maker.cert_tree.CertJson.{cert_in}
+use Rattle.resource_text.proofs.cert_tree.LineLemmas.{cert_in-line}
 use Rattle.resource_tool.specs.MakeOutput.{certificate_line}
 use Rattle.resource_tool.specs.LineReadsBack.{TreesReadBack}
 use Rattle.resource_tool.proofs.make.certificate_text.Goals as goal

@@ -1,5 +1,5 @@
 use Rattle.std.proofs.Common.{Result, map, subst, sym}
-use Rattle.cert_maker.specs.res_value.Goal.{goal_seen}
+use Rattle.resource_text.specs.cert_maker.res_value.Goal.{goal_seen}
 use Rattle.table_commands.specs.fault_text.declared.fault.ToolFault.{ToolFault}
 use Rattle.resource_tool.specs.MakeOutput.{MakeInputs}
 use Rattle.resource_tool.specs.OmitOutput.{IsOmitOutput, LinesFirst}

@@ -2,11 +2,11 @@ use Rattle.std.proofs.Common.{◌≡◌, arith, List, [], ◌∷◌, length, map
 use Rattle.std.proofs.KnownBytes.{Appends-nil}
 use Rattle.std.proofs.lemmas.Bool.{eqb-true}
 use Rattle.std.specs.Io.KnownBytes.{Appends}
-use Rattle.cert_maker.specs.cert_tree.declared.cert.CertGoal.{CertGoal}
-use Rattle.cert_maker.specs.cert_tree.Certificate.{goal_of}
-use Rattle.cert_maker.specs.res_value.Goal.{goal_seen}
-use Rattle.cert_maker.specs.declared.omitted.Omitted.{Omitted}
-use Rattle.cert_maker.specs.declared.omitted.Omitting.{Omitting}
+use Rattle.resource_text.specs.cert_maker.cert_tree.declared.cert.CertGoal.{CertGoal}
+use Rattle.resource_text.specs.cert_maker.cert_tree.Certificate.{goal_of}
+use Rattle.resource_text.specs.cert_maker.res_value.Goal.{goal_seen}
+use Rattle.resource_text.specs.cert_maker.declared.omitted.Omitted.{Omitted}
+use Rattle.resource_text.specs.cert_maker.declared.omitted.Omitting.{Omitting}
 use Rattle.table_commands.specs.command_base.declared.status.Status.TheVariants.{Negative}
 use Rattle.table_commands.specs.command_base.Output.{Output}
 use Rattle.table_commands.specs.fault_text.declared.fault.ToolFault.{ToolFault}

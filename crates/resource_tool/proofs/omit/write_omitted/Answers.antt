@@ -1,7 +1,7 @@
 use Rattle.std.proofs.Common.{◌+◌, arith, ◌∷◌, drop, sym, ◌∙◌, ap}
 use Rattle.std.proofs.lemmas.List.{drop_more}
 use Rattle.contract_words.proofs.TextSteps.{PutsAllBut-next}
-use Rattle.cert_maker.specs.declared.omitted.Omitted.{Omitted}
+use Rattle.resource_text.specs.cert_maker.declared.omitted.Omitted.{Omitted}
 use Rattle.resource_tool.proofs.omit.write_omitted.Goals as goal
 
 pub loop-left_out-preserved : goal.loop-left_out-preserved

@@ -1,6 +1,6 @@
 use Rattle.std.proofs.Common.{drop, map}
 use Rattle.contract_words.proofs.TextSteps.{PutsAllBut}
-use Rattle.cert_maker.specs.res_value.Goal.{goal_seen}
+use Rattle.resource_text.specs.cert_maker.res_value.Goal.{goal_seen}
 use Rattle.resource_tool.specs.OmitOutput.{omitted_text}
 use Rattle.resource_tool.proofs.omit.write_omitted.Given as goal
 

@@ -1,6 +1,6 @@
 use Rattle.std.proofs.Common.{List, ◌++◌, map, length}
 use Rattle.std.specs.List.{All}
-use Rattle.cert_checker.specs.box_answers.NumberSet.{SetOf}
+use Rattle.cert_maker.specs.box_answers.NumberSet.{SetOf}
 use Rattle.stack_diff.specs.declared.resource.Resource.{Resource}
 use Rattle.stack_diff.specs.Once.{KeepsEach}
 use Rattle.stack_diff.specs.Changes.{boxes_in}

@@ -2,7 +2,7 @@ use Rattle.std.proofs.Common.{arith, subst}
 use Rattle.std.specs.List.{All}
 use Rattle.std.proofs.lemmas.List.{take_all}
 use Rattle.std.proofs.lemmas.List.Elements.{All-more}
-use Rattle.cert_checker.specs.box_answers.Members.{SomeMember}
+use Rattle.cert_maker.specs.box_answers.Members.{SomeMember}
 use Rattle.stack_diff.proofs.grouped.have_devices.Goals as goal
 
 pub loop-part-preserved : goal.loop-part-preserved

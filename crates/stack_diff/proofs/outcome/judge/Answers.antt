@@ -1,6 +1,6 @@
 use Rattle.std.proofs.Common.{◌≡◌, ℕ, eqb-true, sym, ap, subst}
-use Rattle.cert_checker.specs.res_value.declared.res_id.ResId.{ResId}
-use Rattle.name_pairs.specs.declared.pair.Sides.{Sides}
+use Rattle.cert_maker.specs.res_value.declared.res_id.ResId.{ResId}
+use Rattle.resource_content.specs.name_pairs.declared.pair.Sides.{Sides}
 use Rattle.stack_diff.specs.Outcomes.{IsJudged}
 use Rattle.stack_diff.proofs.Unchanged.{judged-alike}
 use Rattle.stack_diff.proofs.outcome.judge.Goals as goal

@@ -1,7 +1,7 @@
 use Rattle.std.proofs.Common.{◌≡◌, ◌+◌, List, [], ◌∷◌, ◌++◌, Option, map, take, drop, sym, ◌∙◌, ap, subst}
 use Rattle.std.specs.List.{AllZip}
 use Rattle.std.proofs.lemmas.List.{map-append}
-use Rattle.name_pairs.specs.Pairs.{PairOf, pair_of}
+use Rattle.resource_content.specs.name_pairs.Pairs.{PairOf, pair_of}
 use Rattle.stack_diff.specs.declared.outcome.Judged.{Judged}
 use Rattle.stack_diff.specs.Outcomes.{OutcomeOf, outcome_of, IsOutcome, IsJudged}
 use Rattle.stack_diff.proofs.Counts.{zip-push, above, one-more, pairs-up-to, pairs-around}

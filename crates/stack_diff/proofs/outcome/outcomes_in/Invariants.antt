@@ -1,6 +1,6 @@
 use Rattle.std.proofs.Common.{◌≡◌, ◌+◌, map, take}
 use Rattle.std.specs.List.{AllZip}
-use Rattle.name_pairs.specs.Pairs.{pair_of}
+use Rattle.resource_content.specs.name_pairs.Pairs.{pair_of}
 use Rattle.stack_diff.specs.Outcomes.{outcome_of, IsOutcome, HaveTrees}
 use Rattle.stack_diff.proofs.outcome.outcomes_in.Given as goal
 

@@ -1,7 +1,7 @@
 use Rattle.std.proofs.Common.{sym, ◌∙◌, subst}
-use Rattle.cert_checker.specs.box_trace.declared.common.CommonTrace.{CommonTrace}
-use Rattle.cert_checker.specs.box_trace.CommonTrace.{IsCommonTrace}
-use Rattle.cert_checker.proofs.box_trace.OpenBoxes.{told_in_place}
+use Rattle.cert_maker.specs.cert_checker.box_trace.declared.common.CommonTrace.{CommonTrace}
+use Rattle.cert_maker.specs.cert_checker.box_trace.CommonTrace.{IsCommonTrace}
+use Rattle.cert_maker.proofs.cert_checker.box_trace.OpenBoxes.{told_in_place}
 use Rattle.stack_diff.proofs.pair_box.parting_in.Goals as goal
 
 pub returns-in-One-clause-parts : goal.returns-in-One-clause-parts

@@ -1,9 +1,9 @@
 use Rattle.std.proofs.Common.{List, inl, subst}
-use Rattle.cert_checker.specs.box_answers.NumberSet.{SetOf}
-use Rattle.cert_checker.specs.box_answers.Members.{IsMember}
-use Rattle.cert_checker.specs.box_trace.Parting.{answer_of}
+use Rattle.cert_maker.specs.box_answers.NumberSet.{SetOf}
+use Rattle.cert_maker.specs.box_answers.Members.{IsMember}
+use Rattle.cert_maker.specs.cert_checker.box_trace.Parting.{answer_of}
 use Rattle.cert_maker.specs.Needed.{IsNeededTest}
-use Rattle.cert_checker.specs.config_box.Tests.{test_of}
+use Rattle.cert_maker.specs.config_box.Tests.{test_of}
 use Rattle.stack_diff.specs.PairBox.{members_of}
 use Rattle.stack_diff.proofs.Both.{adds-test, parted}
 use Rattle.stack_diff.proofs.tree.add_node.Goals as goal

@@ -1,7 +1,7 @@
 use Rattle.std.proofs.Common.{◌≡◌, drop}
 use Rattle.std.specs.Prelude.{◌==◌}
 use Rattle.std.specs.List.{list_all}
-use Rattle.config_box.specs.box_answers.NumberSet.{locale_numbers}
+use Rattle.command_base.specs.cert_tree.box_answers.NumberSet.{locale_numbers}
 use Rattle.survey_command.proofs.box_gaps.are_unknown.Given as goal
 
 -- all of those that are left say nothing where all do

@@ -1,5 +1,5 @@
 use Rattle.command_base.specs.StackBytesSeen.{layer_bytes}
-use Rattle.config_box.specs.box_answers.NumberSet.{locale_numbers}
+use Rattle.command_base.specs.cert_tree.box_answers.NumberSet.{locale_numbers}
 use Rattle.survey_command.proofs.LayerLaws.{layer-counts, layer-tells}
 use Rattle.survey_command.proofs.layers.layer_survey.Goals as goal
 

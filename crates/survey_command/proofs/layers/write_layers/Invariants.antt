@@ -1,5 +1,5 @@
 use Rattle.contract_words.proofs.TextSteps.{PutsAllBut}
-use Rattle.config_box.specs.box_answers.NumberSet.{locale_numbers}
+use Rattle.command_base.specs.cert_tree.box_answers.NumberSet.{locale_numbers}
 use Rattle.survey_command.specs.LayerNotes.{layer_differs}
 use Rattle.survey_command.specs.LayersText.{layer_lines}
 use Rattle.survey_command.proofs.AnySteps.{FindsAllBut, layers_from}

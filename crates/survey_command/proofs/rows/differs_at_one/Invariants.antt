@@ -1,6 +1,6 @@
 use Rattle.std.proofs.Common.{◌≡◌, drop}
 use Rattle.std.specs.List.{list_any}
-use Rattle.config_box.specs.box_answers.NumberSet.{locale_numbers}
+use Rattle.command_base.specs.cert_tree.box_answers.NumberSet.{locale_numbers}
 use Rattle.survey_command.specs.Locales.{differs_at}
 use Rattle.survey_command.proofs.rows.differs_at_one.Given as goal
 

@@ -1,6 +1,6 @@
 use Rattle.std.proofs.Common.{◌≡◌}
 use Rattle.std.specs.List.{list_any}
-use Rattle.overlay_map.specs.res_value.MapRows.{map_rows_of}
+use Rattle.command_base.specs.overlay_map.res_value.MapRows.{map_rows_of}
 use Rattle.survey_command.specs.RowNotes.{is_bag_row_of_kind}
 use Rattle.survey_command.proofs.rows.has_row_of_kind.Given as goal
 

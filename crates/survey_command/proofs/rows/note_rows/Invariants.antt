@@ -1,7 +1,7 @@
 use Rattle.std.proofs.Common.{◌≡◌}
 use Rattle.std.specs.List.{flat_map}
-use Rattle.config_box.specs.box_answers.NumberSet.{locale_numbers}
-use Rattle.overlay_map.specs.resource_table.Table.{rows_of}
+use Rattle.command_base.specs.cert_tree.box_answers.NumberSet.{locale_numbers}
+use Rattle.command_base.specs.overlay_map.resource_table.Table.{rows_of}
 use Rattle.table_survey.specs.Survey.{noted}
 use Rattle.survey_command.specs.RowNotes.{notes_of_row}
 use Rattle.survey_command.proofs.rows.note_rows.Given as goal

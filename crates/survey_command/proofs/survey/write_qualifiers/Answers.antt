@@ -1,5 +1,5 @@
-use Rattle.config_box.specs.config_record.declared.coord.Coord.{Coord}
-use Rattle.config_box.specs.config_record.Coord.{all_coords}
+use Rattle.command_base.specs.cert_tree.config_box.config_record.declared.coord.Coord.{Coord}
+use Rattle.command_base.specs.cert_tree.config_box.config_record.Coord.{all_coords}
 use Rattle.survey_command.specs.Qualifiers.{rows_in_stack, numbers_at, spread_of}
 use Rattle.survey_command.specs.SurveyOutput.{qualifiers_text}
 use Rattle.survey_command.proofs.QualifierLaws.{lines-of_spreads}

@@ -1,4 +1,4 @@
-use Rattle.answer_text.specs.resource_table.Table.{rows_of}
+use Rattle.command_base.specs.answer_text.resource_table.Table.{rows_of}
 use Rattle.table_commands.proofs.FirstRowSteps.{FindsAllBut}
 use Rattle.table_commands.proofs.first_rows.first_rows.Given as goal
 

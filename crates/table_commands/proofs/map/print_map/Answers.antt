@@ -1,6 +1,6 @@
 use Rattle.std.proofs.Common.{List, subst}
 use Rattle.std.specs.List.{All}
-use Rattle.answer_text.specs.overlay_map.IdMap.{IdPair}
+use Rattle.command_base.specs.overlay_map.IdMap.{IdPair}
 use Rattle.table_commands.specs.PairSeen.{IdsReadBack}
 use Rattle.table_commands.proofs.MapReadSteps.{made-reads_back}
 use Rattle.table_commands.proofs.map.print_map.Goals as goal

@@ -2,7 +2,7 @@ use Rattle.std.proofs.Common.{List, subst, arith}
 use Rattle.std.specs.List.{All}
 use Rattle.std.proofs.lemmas.List.{take_all}
 use Rattle.std.proofs.lemmas.List.Elements.{All-more}
-use Rattle.answer_text.specs.overlay_map.IdMap.{IdPair}
+use Rattle.command_base.specs.overlay_map.IdMap.{IdPair}
 use Rattle.table_commands.specs.PairSeen.{IdsReadBack}
 use Rattle.table_commands.proofs.PairSteps.{pair-next}
 use Rattle.table_commands.proofs.map_text.write_others.Goals as goal

@@ -1,7 +1,7 @@
 use Rattle.std.proofs.Common.{drop, take}
 use Rattle.std.specs.List.{All}
 use Rattle.contract_words.proofs.TextSteps.{PutsAllBut}
-use Rattle.answer_text.specs.overlay_map.IdMap.{pairs_of}
+use Rattle.command_base.specs.overlay_map.IdMap.{pairs_of}
 use Rattle.table_commands.specs.MapOutput.{next_pair_text}
 use Rattle.table_commands.specs.PairSeen.{IdsReadBack}
 use Rattle.table_commands.proofs.map_text.write_others.Given as goal

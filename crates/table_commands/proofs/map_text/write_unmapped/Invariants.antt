@@ -1,6 +1,6 @@
 use Rattle.std.proofs.Common.{drop, map}
 use Rattle.contract_words.proofs.TextSteps.{PutsAllBut}
-use Rattle.answer_text.specs.type_chunks.Row.{row_of}
+use Rattle.command_base.specs.answer_text.type_chunks.Row.{row_of}
 use Rattle.table_commands.specs.MapOutput.{unmapped_line}
 use Rattle.table_commands.proofs.map_text.write_unmapped.Given as goal
 

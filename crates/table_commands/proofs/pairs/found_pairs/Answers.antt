@@ -1,5 +1,5 @@
 use Rattle.std.proofs.Common.{◌≡◌, [], ◌∷◌, ◌++◌, Option, None, Some, get_or, refl, ap, ◌∙◌}
-use Rattle.answer_text.specs.res_value.declared.res_id.ResId.{ResId}
+use Rattle.command_base.specs.answer_text.res_value.declared.res_id.ResId.{ResId}
 use Rattle.table_commands.specs.declared.pairs.NamedTarget.{NamedTarget}
 use Rattle.table_commands.proofs.NamedSteps.{PairedAllBut-put, PairedAllBut-skip}
 use Rattle.table_commands.proofs.pairs.found_pairs.Goals.{in-Some+in_ok-push, in_default}

@@ -1,5 +1,5 @@
 use Rattle.std.proofs.Common.{drop}
-use Rattle.answer_text.specs.overlay_map.IdMap.{pairs_of}
+use Rattle.command_base.specs.overlay_map.IdMap.{pairs_of}
 use Rattle.table_commands.specs.NamedTarget.{pair_with}
 use Rattle.table_commands.proofs.LoopSteps.{GivesAllBut}
 use Rattle.table_commands.proofs.NamedSteps.{both_of}

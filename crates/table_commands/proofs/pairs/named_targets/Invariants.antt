@@ -1,7 +1,7 @@
 use Rattle.std.proofs.Common.{drop, map}
 use Rattle.std.specs.List.{flat_map}
-use Rattle.answer_text.specs.resource_table.Table.{rows_of}
-use Rattle.answer_text.specs.type_chunks.Row.{row_of}
+use Rattle.command_base.specs.answer_text.resource_table.Table.{rows_of}
+use Rattle.command_base.specs.answer_text.type_chunks.Row.{row_of}
 use Rattle.table_commands.specs.FirstRows.{first_rows}
 use Rattle.table_commands.specs.NamedTarget.{named_in, named_seen}
 use Rattle.table_commands.proofs.LoopSteps.{JoinsAllBut}

@@ -1,7 +1,7 @@
 use Rattle.std.proofs.Common.{List, map, ap}
 use Rattle.std.specs.Borrow.{Bor}
 use Rattle.std.proofs.lemmas.Result.{IfOk-weaker}
-use Rattle.answer_text.specs.resource_table.declared.table.Table.{Table}
+use Rattle.command_base.specs.answer_text.resource_table.declared.table.Table.{Table}
 use Rattle.table_commands.proofs.NamedSteps.{pairs_in-found}
 use Rattle.table_commands.proofs.pairs.pairs_in.Goals as goal
 

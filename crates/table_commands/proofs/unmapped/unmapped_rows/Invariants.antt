@@ -1,6 +1,6 @@
 use Rattle.std.proofs.Common.{drop, map}
-use Rattle.answer_text.specs.overlay_map.IdMap.{pairs_of}
-use Rattle.answer_text.specs.type_chunks.Row.{row_of}
+use Rattle.command_base.specs.overlay_map.IdMap.{pairs_of}
+use Rattle.command_base.specs.answer_text.type_chunks.Row.{row_of}
 use Rattle.table_commands.specs.MadeMap.{if_unmapped}
 use Rattle.table_commands.proofs.LoopSteps.{GivesAllBut}
 use Rattle.table_commands.proofs.unmapped.unmapped_rows.Given as goal

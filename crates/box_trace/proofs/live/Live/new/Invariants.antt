@@ -1,6 +1,6 @@
 use Rattle.std.proofs.Common.{map}
 use Rattle.config_box.specs.box_answers.Members.{IsMember}
-use Rattle.reference_resolver.specs.overlay_map.Candidates.{candidates_of}
+use Rattle.bags_themes.specs.overlay_map.Candidates.{candidates_of}
 use Rattle.box_trace.specs.Live.{live_of}
 use Rattle.box_trace.proofs.Candidates.{JudgedTo}
 use Rattle.box_trace.proofs.live.Live.new.Given as goal

@@ -1,6 +1,6 @@
 use Rattle.std.proofs.Common.{List, sym, subst}
 use Rattle.config_box.specs.box_answers.Members.{IsMember}
-use Rattle.reference_resolver.specs.overlay_map.Candidates.{candidates_of}
+use Rattle.bags_themes.specs.overlay_map.Candidates.{candidates_of}
 use Rattle.box_trace.specs.Live.{LiveOf, candidates_in, LeavesOut}
 use Rattle.box_trace.proofs.Rests.{begins, come_nowhere}
 use Rattle.box_trace.proofs.walk.Walk.at_look_up.Goals as goal

@@ -1,6 +1,6 @@
 use Rattle.std.proofs.Common.{ℕ, List}
 use Rattle.config_box.specs.box_answers.Members.{IsMember}
-use Rattle.reference_resolver.specs.Trace.{Trace}
+use Rattle.bags_themes.specs.reference_resolver.Trace.{Trace}
 use Rattle.bags_themes.specs.Course.{look_ups_after}
 use Rattle.box_trace.specs.Live.{MarkedMatchAll}
 use Rattle.box_trace.specs.Walk.{HaveWalked}

@@ -1,7 +1,7 @@
 use Rattle.std.proofs.Common.{◌≡◌, ◌-◌, ℕ, List, length}
 use Rattle.config_box.specs.box_answers.Members.{IsMember}
-use Rattle.reference_resolver.specs.overlay_map.Layer.{LayerOf}
-use Rattle.reference_resolver.specs.Trace.{Trace}
+use Rattle.bags_themes.specs.overlay_map.Layer.{LayerOf}
+use Rattle.bags_themes.specs.reference_resolver.Trace.{Trace}
 use Rattle.box_trace.specs.Walk.{HaveWalked}
 use Rattle.box_trace.proofs.walk.Walk.pass_candidates.Given as goal
 

@@ -1,7 +1,7 @@
 use Rattle.std.proofs.Common.{List, map, ap, ◌∙◌}
 use Rattle.std.specs.Borrow.{Bor}
-use Rattle.overlay_map.specs.resource_table.Table.{TableOf}
-use Rattle.overlay_map.specs.resource_table.declared.table.Table.{Table}
+use Rattle.name_index.specs.overlay_map.resource_table.Table.{TableOf}
+use Rattle.name_index.specs.overlay_map.resource_table.declared.table.Table.{Table}
 use Rattle.name_pairs.proofs.NamedSteps.{has_names}
 use Rattle.name_pairs.proofs.named_stack.NamedStack.of.Goals as goal
 

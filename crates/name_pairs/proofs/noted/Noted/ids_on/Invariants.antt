@@ -3,7 +3,7 @@ use Rattle.std.specs.BTreeMap.{values}
 use Rattle.std.specs.BTreeSet.{contains}
 use Rattle.std.specs.List.{list_any}
 use Rattle.std.specs.Ordering.{nat_cmp}
-use Rattle.overlay_map.specs.res_value.declared.res_id.ResId.{ResId}
+use Rattle.name_index.specs.overlay_map.res_value.declared.res_id.ResId.{ResId}
 use Rattle.name_pairs.specs.StackLabels.{is_id}
 use Rattle.name_pairs.specs.Noted.{id_on}
 use Rattle.name_pairs.proofs.noted.Noted.ids_on.Given as goal

@@ -3,7 +3,7 @@ use Rattle.std.proofs.lemmas.List.{drop_more}
 use Rattle.std.proofs.lemmas.Result.{err_from_is_err_and}
 use Rattle.std.specs.List.{flat_map}
 use Rattle.json_input.proofs.EachSteps.{EachAllBut, EachAllBut-next_item, EachAllBut-stops_item, EachAllBut-end_item}
-use Rattle.overlay_map.specs.res_value.declared.res_id.ResId.{ResId}
+use Rattle.name_pairs.specs.res_value.declared.res_id.ResId.{ResId}
 use Rattle.name_words.specs.declared.named.Named.{Named}
 use Rattle.name_words.specs.Named.{named_of}
 use Rattle.named_resources.specs.AskedNames.{names_in}

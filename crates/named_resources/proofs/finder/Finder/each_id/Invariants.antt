@@ -1,8 +1,8 @@
 use Rattle.std.proofs.Common.{List, ◌++◌, map, drop}
 use Rattle.std.specs.List.{flat_map}
 use Rattle.json_input.proofs.EachSteps.{EachAllBut}
-use Rattle.overlay_map.specs.Layer.{LayerOf}
-use Rattle.name_index.specs.Names.{NameOf}
+use Rattle.name_pairs.specs.overlay_map.Layer.{LayerOf}
+use Rattle.name_pairs.specs.name_index.Names.{NameOf}
 use Rattle.name_words.specs.Named.{named_of}
 use Rattle.named_resources.specs.NamedIds.{id_named}
 use Rattle.named_resources.specs.AskedNames.{names_in}

@@ -1,5 +1,5 @@
 use Rattle.std.proofs.Common.{◌++◌, refl, List, Result, Err, ℕ, sym, ap, subst, ◌∙◌}
-use Rattle.overlay_map.specs.res_value.declared.res_id.ResId.{ResId}
+use Rattle.name_pairs.specs.res_value.declared.res_id.ResId.{ResId}
 use Rattle.name_words.specs.declared.named.Named.{Named}
 use Rattle.name_words.specs.Named.{named_of}
 use Rattle.named_resources.specs.AskedNames.{names_in}

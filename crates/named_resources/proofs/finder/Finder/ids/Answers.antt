@@ -1,6 +1,6 @@
 use Rattle.std.proofs.Common.{◌++◌, List, Result, Ok, ℕ, sym, ap, subst, ◌∙◌}
 use Rattle.std.proofs.lemmas.Result.{err_from_is_err_and}
-use Rattle.overlay_map.specs.res_value.declared.res_id.ResId.{ResId}
+use Rattle.name_pairs.specs.res_value.declared.res_id.ResId.{ResId}
 use Rattle.name_words.specs.declared.named_set.NamedSet.{NamedSet}
 use Rattle.name_words.specs.NamedSet.{named_set_of}
 use Rattle.named_resources.specs.AskedNames.{names_in_set}

@@ -1,5 +1,5 @@
 use Rattle.std.proofs.Common.{List, Bor, map, ap, ◌∙◌}
-use Rattle.overlay_map.specs.resource_table.declared.table.Table.{Table}
+use Rattle.name_pairs.specs.overlay_map.resource_table.declared.table.Table.{Table}
 use Rattle.named_resources.proofs.TellsSteps.{found-told}
 use Rattle.named_resources.proofs.finder.Finder.new.Goals as goal
 

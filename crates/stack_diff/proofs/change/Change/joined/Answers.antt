@@ -1,6 +1,6 @@
 use Rattle.std.proofs.Common.{refl, subst}
 use Rattle.std.specs.List.{All}
-use Rattle.cert_checker.specs.box_answers.Members.{SomeMember}
+use Rattle.cert_maker.specs.box_answers.Members.{SomeMember}
 use Rattle.stack_diff.proofs.change.Change.joined.Goals as goal
 
 pub returns : goal.returns

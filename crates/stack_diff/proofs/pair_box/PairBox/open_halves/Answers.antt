@@ -1,9 +1,9 @@
 use Rattle.std.proofs.Common.{List, ◌∷◌, ◌++◌, [], append_assoc, true, false, sym, ◌∙◌, ap, subst}
-use Rattle.cert_checker.specs.box_answers.NumberSet.{SetOf}
-use Rattle.cert_checker.specs.config_box.declared.split.Split.{Split}
-use Rattle.cert_checker.specs.config_box.Tests.{test_of}
-use Rattle.cert_checker.specs.config_box.Halves.{IsHalf, IsSplit}
-use Rattle.cert_checker.specs.declared.rule.Rule.TheVariants.{TestKind, EmptyHalf}
+use Rattle.cert_maker.specs.box_answers.NumberSet.{SetOf}
+use Rattle.cert_maker.specs.config_box.declared.split.Split.{Split}
+use Rattle.cert_maker.specs.config_box.Tests.{test_of}
+use Rattle.cert_maker.specs.config_box.Halves.{IsHalf, IsSplit}
+use Rattle.cert_maker.specs.cert_checker.declared.rule.Rule.TheVariants.{TestKind, EmptyHalf}
 use Rattle.stack_diff.specs.declared.pair_box.PairBox.{PairBox}
 use Rattle.stack_diff.specs.PairBox.{members_of}
 use Rattle.stack_diff.proofs.pair_box.PairBox.open_halves.Goals as goal

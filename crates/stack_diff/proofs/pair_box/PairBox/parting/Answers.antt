@@ -1,10 +1,10 @@
 use Rattle.std.proofs.Common.{List, sym, subst}
 use Rattle.std.specs.Prelude.{MatchOption}
-use Rattle.cert_checker.specs.box_answers.NumberSet.{SetOf}
-use Rattle.cert_checker.specs.box_answers.Members.{IsMember}
-use Rattle.cert_checker.specs.box_trace.Parting.{IsToldApart}
-use Rattle.cert_checker.specs.overlay_map.Layer.{LayerOf}
-use Rattle.cert_checker.specs.box_trace.OpenBox.{IsReached}
+use Rattle.cert_maker.specs.box_answers.NumberSet.{SetOf}
+use Rattle.cert_maker.specs.box_answers.Members.{IsMember}
+use Rattle.cert_maker.specs.cert_checker.box_trace.Parting.{IsToldApart}
+use Rattle.cert_maker.specs.cert_checker.overlay_map.Layer.{LayerOf}
+use Rattle.cert_maker.specs.cert_checker.box_trace.OpenBox.{IsReached}
 use Rattle.stack_diff.specs.Sides.{trace_in}
 use Rattle.stack_diff.specs.PairBox.{members_of, HaveOneTrace}
 use Rattle.stack_diff.proofs.Both.{parts-before, one-before, parts-after}

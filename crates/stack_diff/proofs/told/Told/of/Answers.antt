@@ -1,5 +1,5 @@
 use Rattle.std.proofs.Common.{refl, sym, ◌∙◌, ap}
-use Rattle.cert_checker.specs.config_record.DeviceSeen.{device_numbers}
+use Rattle.cert_maker.specs.cert_checker.config_record.DeviceSeen.{device_numbers}
 use Rattle.resource_content.proofs.TraceSteps.{trace_tells_content}
 use Rattle.stack_diff.proofs.told.Told.of.Goals as goal
 

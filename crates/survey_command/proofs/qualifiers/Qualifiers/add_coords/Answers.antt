@@ -1,5 +1,5 @@
 use Rattle.std.proofs.Common.{sym, ◌∙◌}
-use Rattle.overlay_map.specs.type_chunks.Row.{row_of}
+use Rattle.command_base.specs.overlay_map.type_chunks.Row.{row_of}
 use Rattle.survey_command.specs.Counting.{said_at}
 use Rattle.survey_command.proofs.QualifierSteps.{counted-next_at, counted-end_at}
 use Rattle.survey_command.proofs.qualifiers.Qualifiers.add_coords.Goals as goal

@@ -1,6 +1,6 @@
 use Rattle.std.proofs.Common.{◌≡◌, drop}
 use Rattle.std.specs.List.{flat_map}
-use Rattle.overlay_map.specs.type_chunks.Row.{row_of}
+use Rattle.command_base.specs.overlay_map.type_chunks.Row.{row_of}
 use Rattle.survey_command.specs.Counting.{counted, said_at}
 use Rattle.survey_command.proofs.qualifiers.Qualifiers.add_coords.Given as goal
 

@@ -1,6 +1,6 @@
 use Rattle.std.proofs.Common.{◌≡◌}
 use Rattle.std.specs.List.{flat_map}
-use Rattle.overlay_map.specs.resource_table.Table.{rows_of}
+use Rattle.command_base.specs.overlay_map.resource_table.Table.{rows_of}
 use Rattle.survey_command.specs.Counting.{counted, said_by}
 use Rattle.survey_command.proofs.qualifiers.Qualifiers.add_table.Given as goal
 

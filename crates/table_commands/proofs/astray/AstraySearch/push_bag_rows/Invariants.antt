@@ -1,7 +1,7 @@
 use Rattle.std.proofs.Common.{◌++◌, map}
 use Rattle.std.specs.List.{flat_map}
-use Rattle.answer_text.specs.res_value.MapRows.{map_rows_of}
-use Rattle.answer_text.specs.type_chunks.Row.{row_of}
+use Rattle.command_base.specs.answer_text.res_value.MapRows.{map_rows_of}
+use Rattle.command_base.specs.answer_text.type_chunks.Row.{row_of}
 use Rattle.table_commands.specs.AstraySeen.{astray_of, map_of, overlay_of}
 use Rattle.table_commands.specs.MadeMap.{astray_by_bag_row}
 use Rattle.table_commands.proofs.LoopSteps.{JoinsAllBut}

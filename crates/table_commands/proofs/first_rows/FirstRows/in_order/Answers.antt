@@ -1,4 +1,4 @@
-use Rattle.answer_text.specs.resource_table.Table.{rows_of}
+use Rattle.command_base.specs.answer_text.resource_table.Table.{rows_of}
 use Rattle.table_commands.proofs.FirstRowSteps.{first_rows-end}
 use Rattle.table_commands.proofs.first_rows.FirstRows.in_order.Goals as goal
 

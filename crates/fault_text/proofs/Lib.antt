@@ -1,0 +1,2 @@
+pub use Rattle.answer_text.proofs as answer_text_proofs
+pub use Rattle.cert_tree.proofs.json_input_proofs

@@ -1,2 +1,0 @@
-pub mod NamedText
-pub mod LayerText

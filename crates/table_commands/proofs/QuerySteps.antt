@@ -1,0 +1,61 @@
+-- How a loop writes the line of one id after the other, and finds the status.
+use Rattle.std.proofs.Common.{◌≡◌, ℕ, ◌+◌, ◌<◌, ◌≤◌, Bool, true, false, List, ◌∷◌, Option, refl, sym, ap, subst, ◌∙◌, arith, length, drop, get_or, if◌then◌else◌}
+use Rattle.std.proofs.lemmas.List.{drop_more, drop_all}
+use Rattle.std.specs.List.{list_any}
+use Rattle.std.specs.Io.KnownBytes.{Appends}
+use Rattle.contract_words.proofs.TextSteps.{PutsAllBut, PutsAllBut-none, PutsAllBut-end}
+use Rattle.command_base.specs.answer_text.res_value.declared.res_id.ResId.{ResId}
+use Rattle.command_base.specs.overlay_map.Layer.{LayerOf}
+use Rattle.command_base.specs.answer_text.reference_resolver.declared.end.End.{End}
+use Rattle.command_base.specs.answer_text.QueryText.{query_line}
+use Rattle.command_base.specs.declared.status.Status.{Status}
+use Rattle.command_base.specs.declared.status.Status.TheVariants.{Done, Negative}
+use Rattle.table_commands.specs.EndStatus.{is_unresolved}
+use Rattle.table_commands.specs.QueryOutput.{end_for, is_unresolved_for, line_of}
+use Rattle.command_base.proofs.answer_text_proofs.ItemSteps.{item-next}
+
+-- ---- lines
+
+pub end-line-next : (stack : List LayerOf) (device : List ℕ) (names : Bool) (old mid new : Option (List ℕ)) (ids : List ResId) (i : ℕ) (d : ResId) (end : End)
+    → PutsAllBut (line_of stack device names) old mid ids (drop i ids) → i < length ids → end ≡ end_for stack device (get_or ids i d)
+    → Appends mid new (query_line stack (get_or ids i d).0 end names) → PutsAllBut (line_of stack device names) old new ids (drop (i + 1) ids)
+end-line-next stack device names old mid new ids i d end before on is put =
+    item-next (line_of stack device names) old mid new ids i d before on (subst (λ (e : End). Appends mid new (query_line stack (get_or ids i d).0 e names)) is put)
+
+-- ---- status
+
+-- this is the status so far, and with the ids from a place on it is that of all
+pub record StatusAllBut (stack : List LayerOf) (device : List ℕ) (status : Status) (place : ℕ) (ids : List ResId) : Type 0 where
+  pub others : (if list_any (is_unresolved_for stack device) (drop place ids) then Negative else status) ≡ (if list_any (is_unresolved_for stack device) ids then Negative else Done)
+
+pub StatusAllBut-none : (stack : List LayerOf) (device : List ℕ) (ids : List ResId) → StatusAllBut stack device Done 0 ids
+StatusAllBut-none stack device ids = record { others = refl }
+
+-- the status behind an id
+abbrev pub status_after : Bool → Status → Status
+status_after missing status = if missing then Negative else status
+
+first-id : (test : ResId → Bool) (id : ResId) (ids : List ResId) (status : Status) (missing : Bool) → test id ≡ missing
+    → (if list_any test ids then Negative else status_after missing status) ≡ (if list_any test (id ∷ ids) then Negative else status)
+first-id test id ids status true given = grind (arith, given)
+first-id test id ids status false given = grind (arith, given)
+
+pub status-next : (stack : List LayerOf) (device : List ℕ) (status new : Status) (i : ℕ) (ids : List ResId) (d : ResId) (end : End) (missing : Bool)
+    → StatusAllBut stack device status i ids → i < length ids → end ≡ end_for stack device (get_or ids i d) → missing ≡ is_unresolved end
+    → new ≡ status_after missing status → StatusAllBut stack device new (i + 1) ids
+status-next stack device status new i ids d end missing before on is told after =
+    let given : is_unresolved_for stack device (get_or ids i d) ≡ missing = ap is_unresolved (sym is) ∙ sym told in
+    record {
+      others =
+          ap (λ (s : Status). if list_any (is_unresolved_for stack device) (drop (i + 1) ids) then Negative else s) after
+          ∙ first-id (is_unresolved_for stack device) (get_or ids i d) (drop (i + 1) ids) status missing given
+          ∙ ap (λ (left : List ResId). if list_any (is_unresolved_for stack device) left then Negative else status) (sym (drop_more ids i d on))
+          ∙ before.others;
+    }
+
+pub StatusAllBut-end : (stack : List LayerOf) (device : List ℕ) (status : Status) (i : ℕ) (ids : List ResId) → StatusAllBut stack device status i ids → length ids ≤ i
+    → status ≡ (if list_any (is_unresolved_for stack device) ids then Negative else Done)
+StatusAllBut-end stack device status i ids before past =
+    sym (ap (λ (left : List ResId). if list_any (is_unresolved_for stack device) left then Negative else status) (drop_all i ids past)) ∙ before.others
+
+pub ruleset query_steps = (PutsAllBut-none, PutsAllBut-end, StatusAllBut-none, StatusAllBut-end, drop_all)

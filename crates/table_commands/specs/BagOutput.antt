@@ -1,0 +1,55 @@
+-- What the command `bag` prints.
+use Rattle.std.specs.Prelude.{ℕ, Bool, false, List, [], ◌∷◌, ◌++◌, codes, Result, Ok, Err}
+use Rattle.std.specs.List.{flat_map}
+use Rattle.contract_words.specs.Faults.{◌>>=◌}
+use Rattle.command_base.specs.overlay_map.Layer.{LayerOf}
+use Rattle.command_base.specs.answer_text.NameText.{name_beside}
+use Rattle.command_base.specs.answer_text.res_value.ResId.{id_text}
+use Rattle.command_base.specs.answer_text.res_value.ValueText.{value_text}
+use Rattle.command_base.specs.answer_text.bags_themes.declared.bag_row.BagRow.{BagRow}
+use Rattle.command_base.specs.answer_text.bags_themes.declared.bag_fault.BagFault.{BagFault}
+use Rattle.command_base.specs.answer_text.bags_themes.declared.bag_fault.BagFault.TheVariants as of_bag
+use Rattle.command_base.specs.answer_text.bags_themes.Bag.{bag_of}
+use Rattle.command_base.specs.answer_text.LayerText.{layer_text}
+use Rattle.command_base.specs.fault_text.declared.fault.ToolFault.{ToolFault}
+use Rattle.command_base.specs.declared.status.Status.TheVariants.{Done, Negative}
+use Rattle.command_base.specs.Output.{Output}
+use Rattle.command_base.specs.StackBytes.{LayerBytes}
+use Rattle.table_commands.specs.Opened.{OpenedOf, opened_in}
+
+-- `ID layer L`; the id is followed by its name, where names are asked for
+unfoldable pub id_and_layer : List LayerOf → Bool → ℕ → ℕ → List ℕ
+id_and_layer stack names id layer = id_text id ++ name_beside stack id names ++ codes " " ++ layer_text layer
+
+-- the line of a row, `ID layer L VALUE`
+unfoldable pub bag_row_line : List LayerOf → Bool → BagRow → List ℕ
+bag_row_line stack names row = id_and_layer stack names row.name.0 row.layer ++ codes " " ++ value_text row.value ++ 10 ∷ []
+
+-- the line `no bag FAULT`
+unfoldable pub no_bag_line : List ℕ → List ℕ
+no_bag_line fault = codes "no bag " ++ fault ++ 10 ∷ []
+
+-- why there is no bag; want of memory is the command's own fault and has no line
+abbrev pub reason_of : BagFault → List ℕ
+reason_of of_bag.Absent = no_bag_line (codes "Absent")
+reason_of of_bag.Plain = no_bag_line (codes "Plain")
+reason_of of_bag.BagDepth = no_bag_line (codes "BagDepth")
+reason_of of_bag.OutOfMemory = []
+
+abbrev pub no_bag : BagFault → Output
+no_bag fault = record { status = Negative; text = reason_of fault }
+
+-- a line for each row, or why there are none
+abbrev pub rows_or_reason : List LayerOf → Bool → Result (List BagRow) BagFault → Output
+rows_or_reason stack names (Ok rows) = record { status = Done; text = flat_map (bag_row_line stack names) rows }
+rows_or_reason stack names (Err fault) = no_bag fault
+
+-- What `bag` prints of layers and a device that were opened. Where names are asked for, they stand beside the ids.
+abbrev pub bag_answer : OpenedOf → ℕ → Bool → Output
+bag_answer asked id names = rows_or_reason asked.stack names (bag_of asked.stack id asked.device)
+
+-- What `bag` prints of these layers, a device's text and this id, without names.
+unfoldable pub bag_output : List LayerBytes → List ℕ → ℕ → Result Output ToolFault
+bag_output layers device_json id = do
+  asked ← opened_in layers device_json
+  Ok (bag_answer asked id false)

@@ -1,0 +1,8 @@
+-- How contracts see layers and a device that were opened.
+use Rattle.command_base.specs.answer_text.config_record.DeviceSeen.{device_numbers}
+use Rattle.table_commands.specs.declared.opened.Opened.{Opened}
+use Rattle.table_commands.specs.Opened.{OpenedOf}
+
+-- by their content, not their address
+abbrev pub opened_of : Opened → OpenedOf
+opened_of opened = record { stack = opened.stack; device = device_numbers opened.device }

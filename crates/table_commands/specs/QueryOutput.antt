@@ -1,0 +1,47 @@
+-- What the command `query` prints.
+use Rattle.std.specs.Prelude.{ℕ, ◌++◌, Bool, false, List, Result, Ok, if◌then◌else◌}
+use Rattle.std.specs.List.{flat_map, list_any}
+use Rattle.contract_words.specs.Faults.{◌>>=◌}
+use Rattle.command_base.specs.answer_text.res_value.declared.res_id.ResId.{ResId}
+use Rattle.command_base.specs.overlay_map.Layer.{LayerOf}
+use Rattle.command_base.specs.overlay_map.SetAside.{set_aside_in_stack}
+use Rattle.command_base.specs.answer_text.reference_resolver.declared.end.End.{End}
+use Rattle.command_base.specs.answer_text.reference_resolver.Ends.{references_followed, end_of}
+use Rattle.command_base.specs.answer_text.QueryText.{query_line, set_aside_line}
+use Rattle.command_base.specs.fault_text.declared.fault.ToolFault.{ToolFault}
+use Rattle.command_base.specs.declared.status.Status.{Status}
+use Rattle.command_base.specs.declared.status.Status.TheVariants.{Done, Negative}
+use Rattle.command_base.specs.Output.{Output}
+use Rattle.command_base.specs.StackBytes.{LayerBytes}
+use Rattle.table_commands.specs.Opened.{OpenedOf, opened_in}
+use Rattle.table_commands.specs.EndStatus.{is_unresolved}
+
+-- where an id ends
+abbrev pub end_for : List LayerOf → List ℕ → ResId → End
+end_for stack device id = end_of stack references_followed id.0 device
+
+-- at no value and no bag
+abbrev pub is_unresolved_for : List LayerOf → List ℕ → ResId → Bool
+is_unresolved_for stack device id = is_unresolved (end_for stack device id)
+
+-- it is done where no id does
+abbrev pub query_status : List LayerOf → List ℕ → List ResId → Status
+query_status stack device ids = if list_any (is_unresolved_for stack device) ids then Negative else Done
+
+-- the line of an id
+abbrev pub line_of : List LayerOf → List ℕ → Bool → ResId → List ℕ
+line_of stack device names id = query_line stack id.0 (end_for stack device id) names
+
+-- a line for each id in the order asked, and one with the number of rows of all layers that are set aside
+unfoldable pub query_text : List LayerOf → List ℕ → List ResId → Bool → List ℕ
+query_text stack device ids names = flat_map (line_of stack device names) ids ++ set_aside_line (set_aside_in_stack stack)
+
+-- What `query` prints of layers and a device that were opened. Where names are asked for, they stand beside the ids.
+abbrev pub query_answer : OpenedOf → List ResId → Bool → Output
+query_answer asked ids names = record { status = query_status asked.stack asked.device ids; text = query_text asked.stack asked.device ids names }
+
+-- What `query` prints of these layers, a device's text and these ids, without names.
+unfoldable pub query_output : List LayerBytes → List ℕ → List ResId → Result Output ToolFault
+query_output layers device_json ids = do
+  asked ← opened_in layers device_json
+  Ok (query_answer asked ids false)

@@ -1,0 +1,102 @@
+//! The command `bag`.
+
+ghost use Rattle.std.specs.Prelude.{map, Ok};
+ghost use Rattle.std.specs.List.{flat_map};
+ghost use Rattle.contract_words.specs.Writes.{Writes};
+ghost use Rattle.command_base.specs.Output.{Prints};
+ghost use Rattle.command_base.specs.StackBytesSeen.{layer_bytes};
+ghost use Rattle.table_commands.specs.OpenedSeen.{opened_of};
+ghost use Rattle.table_commands.specs.BagOutput.{id_and_layer, bag_row_line, bag_answer, bag_output};
+
+use crate::no_bag::print_no_bag;
+use crate::opened::Opened;
+use command_base::answer_text::bags_themes::{BagRow, bag};
+use command_base::answer_text::{
+    ResId, Stack, write_id, write_layer, write_name_beside, write_value,
+};
+use command_base::{LayerParts, Status, ToolFault};
+use std::alloc::Global;
+use std::io::{self, Write};
+
+/// Prints a line for each row of the bag that an id selects for a device, those that it inherits among them, or
+/// one that says why there is no such bag; then the status is Negative.
+#[tactic(auto, unfolding(crate::specs::BagOutput::bag_output))]
+pub fn bag_bytes<W: Write + Drop>(
+    alloc: Global,
+    layers: &[LayerParts<&[u8]>],
+    device: &[u8],
+    id: ResId,
+    out: &mut W,
+) -> Result<Status, ToolFault>
+    ensures { Prints W.contents out.old out.new result (bag_output (map layer_bytes layers.now) device.now id.0) }
+{
+    let opened = Opened::read(alloc, layers, device)?;
+    opened.bag(alloc, id, false, out)
+}
+
+impl Opened<'_> {
+    /// What `bag_bytes` prints of the same layers and device. Where names are asked for, that of each id stands beside it.
+    pub fn bag<W: Write + Drop>(
+        &self,
+        alloc: Global,
+        id: ResId,
+        names: bool,
+        out: &mut W,
+    ) -> Result<Status, ToolFault>
+        ensures { Prints W.contents out.old out.new result (Ok (bag_answer (opened_of self.now) id.0 names)) }
+    {
+        match bag(alloc, &self.stack, id, &self.device) {
+            Ok(rows) => {
+                write_rows(&self.stack, names, rows.as_slice(), out)?;
+                Ok(Status::Done)
+            }
+            Err(fault) => print_no_bag(fault, out),
+        }
+    }
+}
+
+#[tactic(auto, using(crate::proofs::Cited::item_steps))]
+fn write_rows<W: Write + Drop>(
+    stack: &Stack<'_>,
+    names: bool,
+    rows: &[BagRow],
+    out: &mut W,
+) -> io::Result<()>
+    ensures { Writes W.contents out.old out.new result (flat_map (bag_row_line stack.now names) rows.now) }
+{
+    for row in rows {
+        write_row(stack, names, *row, out)?;
+    }
+    Ok(())
+}
+
+#[tactic(auto, unfolding(crate::specs::BagOutput::bag_row_line))]
+fn write_row<W: Write + Drop>(
+    stack: &Stack<'_>,
+    names: bool,
+    row: BagRow,
+    out: &mut W,
+) -> io::Result<()>
+    ensures { Writes W.contents out.old out.new result (bag_row_line stack.now names row) }
+{
+    write_id_and_layer(stack, names, row.name, row.layer, out)?;
+    out.write_all(b" ")?;
+    write_value(row.value, out)?;
+    out.write_all(b"\n")
+}
+
+#[tactic(auto, unfolding(crate::specs::BagOutput::id_and_layer))]
+fn write_id_and_layer<W: Write + Drop>(
+    stack: &Stack<'_>,
+    names: bool,
+    id: ResId,
+    layer: usize,
+    out: &mut W,
+) -> io::Result<()>
+    ensures { Writes W.contents out.old out.new result (id_and_layer stack.now names id.0 layer) }
+{
+    write_id(id, out)?;
+    write_name_beside(stack, id, names, out)?;
+    out.write_all(b" ")?;
+    write_layer(layer, out)
+}
