@@ -21,13 +21,17 @@ fn full_stack(alloc: Global, bytes: &[u8]) -> Option<Stack<'_>> {
 /// Puts a base over them, and tells the fault, how many layers there are then, and whether the table is handed back.
 pub fn base(rt: &HostRuntime, word: &str) -> Result<(), Fail> {
     let bytes = table_of(rt.alloc(), word)?;
-    let table = Table::open(rt.alloc(), &bytes)?;
-    let mut stack = full_stack(rt.alloc(), &bytes).ok_or(LayerFault::Malformed)?;
+    base_of(rt, &bytes)
+}
+
+fn base_of(rt: &HostRuntime, bytes: &[u8]) -> Result<(), Fail> {
+    let mut stack = full_stack(rt.alloc(), bytes).ok_or(LayerFault::Malformed)?;
+    let table = Table::open(rt.alloc(), bytes)?;
     begin(rt);
     let pushed = stack.push_base(table);
     end(rt);
     if let Err((fault, table)) = pushed {
-        tell(rt, (fault, stack.len(), table.rows(FIRST).next().is_some()));
+        tell(rt, (fault, stack.len(), has_row(&table)));
     }
     Ok(())
 }
@@ -35,16 +39,27 @@ pub fn base(rt: &HostRuntime, word: &str) -> Result<(), Fail> {
 /// Puts an overlay over them, and tells the same, and what the map says that is handed back.
 pub fn overlay(rt: &HostRuntime, word: &str) -> Result<(), Fail> {
     let bytes = table_of(rt.alloc(), word)?;
-    let table = Table::open(rt.alloc(), &bytes)?;
+    overlay_of(rt, &bytes)
+}
+
+fn overlay_of(rt: &HostRuntime, bytes: &[u8]) -> Result<(), Fail> {
+    let stack = full_stack(rt.alloc(), bytes).ok_or(LayerFault::Malformed)?;
+    let table = Table::open(rt.alloc(), bytes)?;
     let map = IdMap::read(rt.alloc(), SAME)?;
-    let mut stack = full_stack(rt.alloc(), &bytes).ok_or(LayerFault::Malformed)?;
+    push_overlay(rt, stack, table, map);
+    Ok(())
+}
+
+fn push_overlay<'a>(rt: &HostRuntime, mut stack: Stack<'a>, table: Table<'a>, map: IdMap) {
     begin(rt);
     let pushed = stack.push_overlay(table, map);
     end(rt);
     if let Err((fault, table, map)) = pushed {
-        let has_row = table.rows(FIRST).next().is_some();
-        tell(rt, (fault, stack.len(), has_row));
+        tell(rt, (fault, stack.len(), has_row(&table)));
         tell(rt, map.look(FIRST));
     }
-    Ok(())
+}
+
+fn has_row(table: &Table<'_>) -> bool {
+    table.rows(FIRST).next().is_some()
 }
