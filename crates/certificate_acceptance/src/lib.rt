@@ -4,5 +4,6 @@
 
 #[cfg(test)]
 mod commands;
+pub mod names;
 #[cfg(test)]
 mod texts;

@@ -7,5 +7,6 @@
 
 #[cfg(test)]
 mod boxes;
+pub mod names;
 #[cfg(test)]
 mod records;

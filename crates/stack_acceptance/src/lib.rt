@@ -6,5 +6,6 @@
 mod bags;
 #[cfg(test)]
 mod ids;
+pub mod names;
 #[cfg(test)]
 mod stacks;

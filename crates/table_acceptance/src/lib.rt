@@ -4,5 +4,6 @@
 
 #[cfg(test)]
 mod faults;
+pub mod names;
 #[cfg(test)]
 mod tables;
