@@ -1,4 +1,5 @@
 """Calls of the library, each on worked rows with its answer there. For calls.py."""
+import json
 import subprocess
 import sys
 from collections import namedtuple
@@ -9,6 +10,7 @@ BENCH = TESTS.parent / "bench"
 sys.path.append(str(TESTS))
 
 from made_layers import NamedTable, Resource, ids_of
+from plain_bags import Bag
 from plain_rules import Record
 
 Row = namedtuple("Row", "program name words answer unchanged")
@@ -89,14 +91,22 @@ DENSITIES = "0 [density=160] 1\n0 [density=320] 2"
 TO_197, TO_198, TO_640 = ('{"density":{"from":120,"to":%d}}' % last for last in (197, 198, 640))
 LOCALES = "0 [locale=fr] 1\n0 [locale=de] 2"
 BOTH_LOCALES = '{"density":[160],"locale":["fr","de"]}'
+FIVE = ("de", "es", "fr", "it", "nl")
+"""So many locales that a list of their boxes grows."""
 MANY = 30
-"""So many rows that sorting them takes memory, and so many tests in a row that a list of open paths grows."""
+"""So many rows that sorting them takes memory."""
+DEEP = 6
+"""So many tests in a row that the list of open paths grows."""
 BAGS = """\
 1 [] bag 0x00000000 0x01010001=9 0x01010002=2
 0 [] bag 0x7f010001 0x01010001=1 0x01010003=3"""
 STYLES = """\
 0 [] bag 0x00000000 0x01010001=1 0x01010002=empty
 1 [] bag 0x00000000 0x01010001=2 0x01010002=2 0x01010003=?0x01010001"""
+LONG = 12
+"""So many bags, each the parent of the one before it, that their list takes memory."""
+PARENTS = [f"0x{0x7F010001 + place:08x}" for place in range(LONG - 1)] + ["0x00000000"]
+CHAIN = "\n".join(f"{place} [] bag {parent} 0x0101{place:04x}={place}" for place, parent in enumerate(PARENTS))
 STYLED_DENSITIES = """\
 0 [] bag 0x00000000 0x01010001=1
 0 [density=320] bag 0x00000000 0x01010001=2"""
@@ -110,10 +120,22 @@ def shared_bags():
     return "#" + subprocess.run(words, check=True, capture_output=True).stdout.hex()
 
 
+def table_named(cells, **kind):
+    """The bytes of a table of the type s, whose entries have these names and cells."""
+    resources = [Resource("s", name, [(Record({}), cell)]) for name, cell in cells.items()]
+    return "#" + NamedTable(resources, ids_of(resources), **kind).bytes.hex()
+
+
 def named_in_utf16(cell):
-    """The bytes of a table with one entry, whose names are UTF-16: to read them takes memory."""
-    resources = [Resource("s", "k", [(Record({}), cell)])]
-    return "#" + NamedTable(resources, ids_of(resources), is_utf16=True).bytes.hex()
+    """One with one entry, whose names are UTF-16: to read them takes memory."""
+    return table_named({"k": cell}, is_utf16=True)
+
+
+def bag_of_names():
+    """One with a bag, the names of whose rows stand in another order than their ids, and what it says."""
+    rows = {f"n{place * 7 % MANY:02}": (0x10, place) for place in range(MANY)}
+    table = table_named({"k": Bag(0, [(f"s/{name}", value) for name, value in rows.items()]), **rows})
+    return table, "\n".join(f"s/{name}\ndecimal {number}" for name, (_, number) in sorted(rows.items()))
 
 
 def text_rows():
@@ -153,6 +175,10 @@ def text_rows():
     yield read("Cert::read", certificate('{"bag":5}'), "Shape(0, 0)")
     yield read("Cert::write", certificate(leaf(1)), written(WRITTEN_ID, written_leaf(1)))
     yield read("Cert::write", certificate(leaf(1), goal=STYLED_GOAL, version=2), one_leaf)
+    tests = '{"coord":"density","in":[160,320]}', '{"coord":"locale","in":["","fr-CA"]}', '{"atMost":26,"coord":"sdk"}'
+    tested = [*tests, *map(written_leaf, (1, 2, 3)), '{"bag":"0x7f010001"}']
+    for name in ("Cert::read", "Cert::write"):
+        yield read(name, certificate(*tested), written(WRITTEN_ID, *tested))
     styled = f"Attr {{ attr: {A}, styles: [{FIRST}] }}"
     yield read("Goal::read", STYLED, styled)
     yield read("Goal::read", "0x01010001@", "Malformed")
@@ -200,6 +226,7 @@ def named_rows():
         ("ids_named", "k/*", 'NoResource("k/*")'),
         ("goals_named", "s/*", f"[Id({FIRST})]"),
         ("goals_named", "0x01010001@s/k", f"[Attr {{ attr: {A}, styles: [{FIRST}] }}]"),
+        ("goals_named", STYLED, f"[Attr {{ attr: {A}, styles: [{FIRST}] }}]"),
     ):
         yield row("names", [name, "B", word], answer)
     yield from pair_rows()
@@ -225,6 +252,10 @@ def pair_rows():
     many = "\n".join(f"{entry} [] {entry}" for entry in range(MANY))
     pairs = [pair(f"Id(ResId({id}))", f"Both {{ old: ResId({id}), new: ResId({id}) }}") for id in entries]
     yield ask(many, many, [f"{id:#010x}" for id in entries], f"[{', '.join(pairs)}]")
+    named = {f"n{place:02}": (0x10, place) for place in range(MANY)}
+    labels = [f'Name {{ package: 127, type_name: "s", entry_name: "{name}" }}' for name in named]
+    pairs = [pair(label, f"Both {{ old: ResId({id}), new: ResId({id}) }}") for label, id in zip(labels, entries)]
+    yield ask(table_named(named), table_named(named), ["s/*"], f"[{', '.join(pairs)}]")
 
 
 def stack_rows():
@@ -232,12 +263,15 @@ def stack_rows():
     merged = zip((A, B, C), (1, 2, 3))
     of_bag = "\n".join(f"({name}, 0, Value {{ kind: 16, word: {word} }})" for name, word in merged)
     yield row("stacks", ["bag", BAGS], of_bag)
+    of_chain = [f"(ResId({0x01010000 + place}), 0, Value {{ kind: 16, word: {place} }})" for place in range(LONG)]
+    yield row("stacks", ["bag", CHAIN], "\n".join(of_chain))
     yield row("stacks", ["content_at", "0 [] string"], "!NoSuch")
     yield row("stacks", ["content_at", named_in_utf16("?s/k")], "?s/k")
     numbers = [(f"{0x01010001 + place:#010x}", place) for place in range(MANY)]
     many = " ".join(f"{name}={number}" for name, number in reversed(numbers))
     said = "\n".join(f"{name}\ndecimal {number}" for name, number in numbers)
     yield row("stacks", ["content_at", f"0 [] bag 0x00000000 {many}"], said)
+    yield row("stacks", ["content_at", bag_of_names()[0]], bag_of_names()[1])
     unset = [absent(C), absent(D)]
     before = [value(ONE), value(EMPTY), *unset]
     after = [value(ONE), value(EMPTY), value(ONE), unset[1]]
@@ -260,6 +294,7 @@ def goal_rows():
     two_styles = "0 [] bag 0x00000000 0x01010001=1\n1 [] bag 0x00000000 0x01010001=7"
     yield ask("goal_end", two_styles, MEDIUM_BOX, value(SEVEN), under("0x01010001", ID, "0x7f010001"))
     yield ask("goal_end", two_styles, MEDIUM_BOX, absent(B), UNSET_GOAL)
+    yield ask("goal_end", CHAIN, MEDIUM_BOX, value(ONE), STYLED_GOAL)
     yield from check_rows(ask)
     yield from make_rows(ask)
     yield from diff_rows(ask)
@@ -303,6 +338,12 @@ def diff_rows(ask):
     yield ask("compare_stacks", DENSITIES, TO_197, "0", nodes=other)
     yield ask("compare_stacks", DENSITIES, TO_198, "1\ndecimal 2\ndecimal 3\n1", nodes=other)
     yield ask("compare_stacks", "0 [locale=fr] 1", BOTH_LOCALES, f"1\nAbsent\n{ID}\ndecimal 2\n1", nodes=LOCALES)
+    three = [f"0 [locale=fr] {one}\n0 [locale=de] {two}\n0 [locale=it] {one}" for one, two in ((1, 2), (3, 4))]
+    in_three = '{"density":[160],"locale":["fr","de","it"]}'
+    yield ask("compare_stacks", three[0], in_three, "2\ndecimal 1\ndecimal 3\n1\ndecimal 2\ndecimal 4\n1", nodes=three[1])
+    five = ["\n".join(f"0 [locale={locale}] {number}" for locale in FIVE) for number in (1, 3)]
+    in_five = f'{{"density":[160],"locale":{json.dumps(FIVE)}}}'
+    yield ask("compare_stacks", five[0], in_five, "1\ndecimal 1\ndecimal 3\n1", nodes=five[1])
     yield ask("compare_with_itself", DENSITIES, TO_198, "0\nAdded", nodes="0 [] 1\n1 [] 2")
     many = "\n".join(f"{entry} [] 1" for entry in range(11))
     yield ask("compare_with_itself", many, MEDIUM_BOX, "NodeLimit", nodes=many)
@@ -348,6 +389,9 @@ def command_rows():
     yield ask("dump_bytes", "A", dumped)
     yield ask("map_bytes", "B", f'[["{ID}","{ID}"]]\nDone', "B")
     yield ask("map_bytes errors", "A", f'unmapped {ID} "s"/"k"\nNegative', "B")
+    astray = f'unmapped 0x7f010001 "s"/"m"\nastray {ID} "s"/"k" to 0x7f010001 "s"/"m"\nNegative'
+    for cell in ("@s/m", Bag(0, [(0x01010001, "@s/m")])):
+        yield ask("map_bytes errors", "B", astray, table_named({"k": cell, "m": (0x10, 5)}))
     yield ask("survey_bytes", DENSITIES, "qualifier density rows 2 from 160 to 320\nDone", TO_197)
     lacking = "qualifier night rows 1 from 2 to 2\nwarning box lacks night\nNegative"
     yield ask("survey_bytes", "0 [night=2] 1", lacking, MEDIUM_BOX)
@@ -421,14 +465,17 @@ def omit_commands(ask, one):
     yield ask("make_omitting_bytes", "0 [] 1", "(Box(Density), 0)", "{}")
 
 
-def deep_tree():
-    """A tree so deep that many paths are open at once, and its lines."""
-    tests = [f'{{"coord":"density","atMost":{number}}}' for number in range(MANY, 0, -1)]
-    lines = [f"goal 0 {ID} !NoSuch/!NoSuch nodes {2 * MANY + 1}"]
-    lines += [f"{depth}\t{'  ' * depth}if density at most {MANY - depth}" for depth in range(MANY)]
-    lines += [f"{MANY}\t{'  ' * MANY}value layer 0 decimal 1"]
-    lines += [f"{2 * MANY - depth}\t{'  ' * depth}else value layer 0 decimal 2" for depth in range(MANY - 1, -1, -1)]
-    return certificate(*tests, leaf(1), *[leaf(2)] * MANY), "\n".join([*lines, "goals 1", "Done"])
+def deep_tree(is_whole):
+    """A tree so deep that many paths are open at once, and its lines. Where it is not whole it ends behind the first leaf."""
+    tests = [f'{{"coord":"density","atMost":{number}}}' for number in range(DEEP, 0, -1)]
+    leaves = [leaf(1), *[leaf(2)] * DEEP * is_whole]
+    lines = [f"goal 0 {ID} !NoSuch/!NoSuch nodes {DEEP + len(leaves)}"]
+    lines += [f"{depth}\t{'  ' * depth}if density at most {DEEP - depth}" for depth in range(DEEP)]
+    lines += [f"{DEEP}\t{'  ' * DEEP}value layer 0 decimal 1"]
+    for depth in range(DEEP - 1, -1, -1):
+        place, meant = (2 * DEEP - depth, "value layer 0 decimal 2") if is_whole else ("", "ends early")
+        lines.append(f"{place}\t{'  ' * depth}else {meant}")
+    return certificate(*tests, *leaves), "\n".join([*lines, "goals 1", "Done"])
 
 
 def show_commands(ask):
@@ -442,8 +489,8 @@ def show_commands(ask):
         "Done",
     ]
     yield ask("show_bytes", DENSITIES, "\n".join(lines), nodes=halves)
-    nodes, shown = deep_tree()
-    yield ask("show_bytes", DENSITIES, shown, nodes=nodes)
+    for nodes, shown in (deep_tree(is_whole) for is_whole in (True, False)):
+        yield ask("show_bytes", DENSITIES, shown, nodes=nodes)
     yield ask("show_bytes", DENSITIES, "(Certificate(Syntax), 0)", nodes="{")
     picture = [
         "digraph {",
@@ -495,6 +542,7 @@ FAULTS_OF_A = (
     ("A 336=0", "TypeId(328)"),
     ("A 368=27", "Config(348)"),
     ("A 48=0", "PackageId(40)"),
+    ("A 5=255", "Chunk(Oversize(0))"),
 )
 """Changes of table A that are refused, and by which fault."""
 
