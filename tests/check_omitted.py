@@ -6,7 +6,8 @@
 for the random cases of check_made.py, some with goals that have no value. The goals that are left out have to be those
 that have none at some device; each is told once, in their order, with its place, its word and such a device. The
 certificate has to be for the others: all is asked of it that check_made.py asks. Where none is left, nothing may be
-printed.
+printed. With a limit of as many nodes, or another, the same has to be made, or there have to be trees of needed tests
+that pass it: those of goals that are kept, and behind them at most that of one goal that is left out.
 
 The cases are numbered from FIRST on, which is 0 if it is not given. The last line counts what was made."""
 import copy
@@ -34,6 +35,13 @@ def size_of(text):
     return sum(len(goal["nodes"]) for goal in json.loads(text)["goals"]) if text else 0
 
 
+def with_goals(case, places):
+    """The same case, where the goals at these places alone are asked for."""
+    some = copy.copy(case)
+    some.asked = [case.asked[place] for place in places]
+    return some
+
+
 def is_without_value(case, goal):
     """Whether a goal has no value at some device."""
     traces = Traces(case.layers, goal)
@@ -55,14 +63,23 @@ def faults_of_told(files, case, places, said):
     ]
 
 
-def faults_of_limit(files, case, made):
+def may_be_passed(case, places, limit):
+    """Whether needed trees pass a limit where the goals at these places are left out: of the goals that are kept, or of those
+    before a goal that is left out and of this goal, whose tree can grow so large before it comes to a device without a value."""
+    kept = [place for place in range(len(case.asked)) if place not in places]
+    tried = [kept, *([before for before in kept if before < place] + [place] for place in places)]
+    return any(may_pass(with_goals(case, some), limit) for some in tried)
+
+
+def faults_of_limit(files, case, places, made):
     """The faults of what is made with a limit."""
-    limit = case.chance.randint(1, 12)
+    size = size_of(made[0])
+    limit = case.chance.choice((size or 1, case.chance.randint(1, 12)))
     told = make(files, case, "--max-nodes", str(limit))
     if told == (NODE_LIMIT[0], "", NODE_LIMIT[1]):
-        is_due = may_pass(case, limit)
+        is_due = may_be_passed(case, places, limit)
         return [] if is_due else [f"a limit of {limit} nodes, which no needed trees pass"]
-    return [] if told == made and size_of(told[0]) <= limit else [f"with a limit of {limit} nodes: {told}"]
+    return [] if told == made and size <= limit else [f"with a limit of {limit} nodes: {told}"]
 
 
 def check_case(program, number):
@@ -71,14 +88,13 @@ def check_case(program, number):
         files = Files(program, folder, case)
         text, said, status = made = make(files, case)
         places = [place for place, goal in enumerate(case.asked) if is_without_value(case, goal)]
-        kept = copy.copy(case)
-        kept.asked = [goal for place, goal in enumerate(case.asked) if place not in places]
+        kept = with_goals(case, [place for place in range(len(case.asked)) if place not in places])
         faults = faults_of_told(files, case, places, said)
         if kept.asked and status == 0:
             faults += faults_of_certificate(files, kept, text)
         elif kept.asked or (text, status) != ("", 1):
             faults.append(f"made: {text}, status {status}")
-        faults += faults_of_limit(files, case, made)
+        faults += faults_of_limit(files, case, places, made)
     told = "all kept" if not places else "some kept" if kept.asked else "none kept"
     return [f"case {number}: {fault}" for fault in faults], told
 

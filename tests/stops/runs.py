@@ -206,11 +206,11 @@ def box_runs():
     yield Run("check --names", ["check", "--names", LAYERS, PHONES, WRONG, *GOALS], [*of_box, WRONG], 1, REJECTED, goal)
     yield Run("make", ["make", LAYERS, PHONES, *GOALS], of_box, out=MADE)
     yield Run("counter", ["make", LAYERS, PHONES, "0x7f050009"], of_box, 1, COUNTER)
-    omitted = COUNTER.replace("counter goal 0", "omitted goal 0 0x7f050009")
-    omit = ["make", "--omit", LAYERS, PHONES, "0x7f050009"]
-    yield Run("make --omit", [*omit, *GOALS], of_box, out=MADE, err=omitted)
-    yield Run("no goal is left", omit, of_box, 1, err=omitted, answers=True)
-    yield Run("make --names", ["make", "--names", *omit[2:]], of_box, 1, COUNTER, "goal 0 0x7f050009\n")
+    omit, absent = ["make", "--omit", "--max-nodes", "6", LAYERS, PHONES], "0x7f050009"
+    omitted = [COUNTER.replace("counter goal 0", f"omitted goal {place} {absent}") for place in range(5)]
+    yield Run("make --omit", [*omit, *[absent] * 5, *GOALS], of_box, out=MADE, err="".join(omitted))
+    yield Run("no goal is left", [*omit, absent], of_box, 1, err=omitted[0], answers=True)
+    yield Run("make --names", ["make", "--names", *omit[4:], absent], of_box, 1, COUNTER, f"goal 0 {absent}\n")
     yield Run("node limit", ["make", "--max-nodes", "1", LAYERS, PHONES, GOALS[0]], of_box, 1, "node limit\n")
 
 
@@ -220,8 +220,8 @@ def change_runs():
     yield Run("diff", ["diff", *change], of_change, 1, DIFFERENT)
     title = [line for line in DIFFERENT.splitlines() if "/title" in line]
     yield Run("diff of names", ["diff", *change, "string/title", "dimen/*"], of_change, 1, lines(*title, "same 4"))
-    same = ["diff", LAYERS, LAYERS, PHONES, "string/title"]
-    yield Run("diff of the same", same, [*LAYER_FILES, *LAYER_FILES, PHONES], out="same 1\n")
+    of_same = ["diff", "--max-nodes", "3", LAYERS, LAYERS, PHONES, "string/*"]
+    yield Run("diff of the same", of_same, [*LAYER_FILES, *LAYER_FILES, PHONES], out="same 3\n")
     limited = ["diff", "--max-nodes", "1", *change, "string/title"]
     yield Run("node limit of a change", limited, of_change, 1, "node limit\n")
 
@@ -247,27 +247,27 @@ def claiming_runs(folder):
 
 
 def made_runs(folder):
-    """Runs on files that are made here."""
+    """Runs on files that are made here. Some have blanks at the ends of their names."""
     whole, target, overlay = (bytes_of(path) for path in ("crates/restool/stdin", TEAPOT, PORCELAIN))
     files = {
-        "long": whole + bytes(LONG - len(whole)),
-        "layers": b'[{"table":"long"},{"table":"long","map":"empty"}]',
-        "old": b'[{"table":"long"}]',
-        "empty": b"",
+        " long ": whole + bytes(LONG - len(whole)),
+        "layers": b'[{"table":" long "},{"table":" long ","map":" empty "}]',
+        "old": b'[{"table":" long "}]',
+        " empty ": b"",
         "device": b'{"density":160}',
         "target": target,
         "misspelled": overlay.replace(b"handle", b"handel"),
     }
     write_files(folder, files)
-    yield Run("long file", ["rows", "long"], ["long"], out="rows 0 set-aside 0\n", folder=folder)
-    read = ["layers", "long", "long", "empty", "device"]
+    yield Run("long file", ["rows", " long "], [" long "], out="rows 0 set-aside 0\n", folder=folder)
+    read = ["layers", " long ", " long ", " empty ", "device"]
     line = "refused: layer 1 map: Syntax\n"
     words = ["map", "target", "misspelled"]
     unmapped = 'unmapped 0x7f040000 "dimen"/"handel"\n'
     yield Run("lines of map", words, words[1:], 1, WITHOUT_HANDLE, unmapped, folder)
-    blank = ["query", "layers", "device", "@empty"]
-    yield Run("a file without words", blank, [*read, "empty"], 2, err="command: no words in empty\n", folder=folder)
-    of_change = ["old", "long", *read]
+    blank = ["query", "layers", "device", "@ empty "]
+    yield Run("a file without words", blank, [*read, " empty "], 2, err="command: no words in  empty \n", folder=folder)
+    of_change = ["old", " long ", *read]
     words = ["diff", "old", "layers", "device"]
     yield Run("refused after a change", words, of_change, 3, err=line.replace("layer", "new layer"), folder=folder)
     yield Run("refused", ["query", "layers", "device", "0x7f010000"], read, 3, err=line, folder=folder)

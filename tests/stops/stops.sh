@@ -314,39 +314,54 @@ unwritten "a closed stream" '&-'
 
 # ---- work of more than a second
 # An id in which each pair of a locale and an mnc has a trace of its own, so many of each and so many times that a terminal
-# shows a line of the work; more on a fast machine. Behind them an id without a value. With standard error in a file nothing
-# is written there, however long the work: the last is as much as the limit of 1,000,000 nodes lets one run do.
+# shows two lines of the work; more on a fast machine. Behind them an id without a value, or before them a thousand that are
+# left out. With standard error in a file nothing is written there, however long the work: the last is as much as the limit
+# of 1,000,000 nodes lets one run do.
 if tool python3 "work of more than a second"; then
     line pairs-layers '[{"table":"table.arsc"}]'
-    # works COUNT GOALS: writes the table and its box, and makes $make the words of this work.
+    # works COUNT GOALS: writes the table and its box, and makes $make the words of this work, and $omit those of it behind
+    # goals that are left out.
     works() {
         goals=$2
         python3 "$here/bench/make_list.py" "$1" table.arsc pairs locale mnc
-        make="make --max-nodes 1000000 pairs-layers pairs $(yes 0x7f010000 | head -n "$2" | tr '\n' ' ')"
+        of_pairs='--max-nodes 1000000 pairs-layers pairs'
+        worked=$(yes 0x7f010000 | head -n "$2" | tr '\n' ' ')
+        make="make $of_pairs $worked"
+        omit="make --omit $of_pairs $(yes 0x7f010001 | head -n 1000 | tr '\n' ' ') $worked"
     }
+    on_terminal="python3 '$here/tests/on_terminal.py'"
     for work_of in "60 30" "60 130" "200 12"; do
         works $work_of
-        python3 "$here/tests/on_terminal.py" "$program" $make 0x7f010001 >terminal
-        grep -q "^[0-9]* of $((goals + 1)) goals done" terminal && break
+        python3 "$here/tests/on_terminal.py" "$program" $make 0x7f010001 >terminal 2>soon
+        [ "$(grep -c "^[0-9]* of $((goals + 1)) goals done" terminal)" -gt 1 ] && break
     done
     shell "a line of the work on a terminal" 0 '' "grep -q '^[0-9]* of $((goals + 1)) goals done' terminal"
+    shell "its first after a second, and four times in one" 0 '' 'cat soon >&2'
     erased=$(printf '\033\\[K')
     shell "a line that is taken away before a counterexample" 0 '' "tail -n 1 terminal | grep -qx '$erased'"
+    shell "no line of the work in a file where the output is on a terminal" 1 '' "$on_terminal --output \"\$0\" $make 0x7f010001 >made"
+    python3 "$here/tests/on_terminal.py" "$program" $omit | grep ' goals done' >terminal
+    shell "a line of the work that leaves goals out" 0 '' '[ -s terminal ]'
+    shell "goals that are left out are done" 0 '' "! grep -v '^1[0-9][0-9][0-9] of $((goals + 1000)) goals done' terminal >&2"
     works 200 12
     shell "no line of the work in a file" 0 '' "\"\$0\" $make >made"
 fi
 
-# ---- memory, files and bytes that are refused
-# refused_by SCRIPT WORD..: counts what a script says that refuses memory and more.
-refused_by() {
+# counts SCRIPT WORD..: counts what passed and failed in a script.
+counts() {
     script=$1
     shift
-    python3 "$here/tests/stops/$script" "$@" >refusals
-    tail -n 1 refusals | grep -q ' failed$' || echo '0 passed, 1 failed' >>refusals
-    sed '$d' refusals
-    passed=$((passed + $(tail -n 1 refusals | sed -n 's/^\([0-9]*\) passed, .*/\1/p')))
-    failed=$((failed + $(tail -n 1 refusals | sed -n 's/.* passed, \([0-9]*\) failed$/\1/p')))
+    python3 "$here/tests/stops/$script" "$@" >counted
+    tail -n 1 counted | grep -q ' failed$' || echo '0 passed, 1 failed' >>counted
+    sed '$d' counted
+    passed=$((passed + $(tail -n 1 counted | sed -n 's/^\([0-9]*\) passed, .*/\1/p')))
+    failed=$((failed + $(tail -n 1 counted | sed -n 's/.* passed, \([0-9]*\) failed$/\1/p')))
 }
+
+# ---- large changes
+if tool python3 "large changes"; then counts changes.py "$program"; fi
+
+# ---- memory, files and bytes that are refused
 
 # is_built PROGRAM: whether a program of tests is built of the sources that are there. Where they are newer, it is proved.
 is_built() {
@@ -360,12 +375,12 @@ is_built() {
 
 if tool python3 "refused memory, files and bytes" && tool cc "refused memory, files and bytes"; then
     cc -shared -fPIC -O2 -o refuse.so "$here/tests/stops/refuse.c" || exit 1
-    refused_by refusals.py "$program" ./refuse.so
+    counts refusals.py "$program" ./refuse.so
     are_built=
     for calls in $(python3 "$here/tests/stops/calls.py" --programs); do
         if is_built "$calls"; then are_built="$are_built $calls"; fi
     done
-    if [ "$are_built" ]; then refused_by calls.py ./refuse.so $are_built; fi
+    if [ "$are_built" ]; then counts calls.py ./refuse.so $are_built; fi
     pairs="python3 '$here/tests/check_pairs.py' '$here/crates/test_calls/out/test_calls' 400 4"
     case $are_built in *test_calls*) shell "pairs of random stacks" 0 '' "$pairs >pairs || { cat pairs >&2; exit 1; }" ;; esac
 fi
