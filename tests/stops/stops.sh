@@ -336,7 +336,7 @@ if tool python3 "work of more than a second"; then
         [ "$(grep -c "^[0-9]* of $((goals + 1)) goals done" terminal)" -gt 1 ] && break
     done
     shell "a line of the work on a terminal" 0 '' "grep -q '^[0-9]* of $((goals + 1)) goals done' terminal"
-    shell "its first after a second, and four times in one" 0 '' 'cat soon >&2'
+    shell "no line of the work too soon" 0 '' 'cat soon >&2'
     erased=$(printf '\033\\[K')
     shell "a line that is taken away before a counterexample" 0 '' "tail -n 1 terminal | grep -qx '$erased'"
     shell "no line of the work in a file where the output is on a terminal" 1 '' "$on_terminal --output \"\$0\" $make 0x7f010001 >made"
