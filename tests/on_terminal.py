@@ -16,13 +16,13 @@ BEFORE_THE_FIRST, BETWEEN_TWO = 1.0, 0.25
 
 
 def written_to(terminal, started):
-    """What is written until no program has the terminal's other end any more."""
+    """What is written until no program has the terminal's other end any more. A terminal ends a line by two bytes."""
     parts, lines = [], 0
     while True:
         try:
             parts.append(os.read(terminal, 65536))
         except OSError:
-            return b"".join(parts).decode()
+            return b"".join(parts).decode().replace("\r\n", "\n")
         passed, shown = time.monotonic() - started, parts[-1].count(LINE_OF_THE_WORK)
         lines += shown
         if shown and passed < BEFORE_THE_FIRST + (lines - 1) * BETWEEN_TWO:

@@ -343,6 +343,16 @@ if tool python3 "work of more than a second"; then
     python3 "$here/tests/on_terminal.py" "$program" $omit | grep ' goals done' >terminal
     shell "a line of the work that leaves goals out" 0 '' '[ -s terminal ]'
     shell "goals that are left out are done" 0 '' "! grep -v '^1[0-9][0-9][0-9] of $((goals + 1000)) goals done' terminal >&2"
+    # told NAME OPTION LINE: a terminal shows behind the line of the work what standard error gets in a file, this line first.
+    told() {
+        words="make $2 $of_pairs $worked 0x7f010001"
+        python3 "$here/tests/on_terminal.py" "$program" $words >terminal 2>soon
+        "$program" $words >made 2>told
+        sed "/^[0-9]* of [0-9]* goals done\$/d; s/^$erased//" terminal >behind
+        shell "$1" 0 '' "head -n 1 told | grep -qx '$3' && cmp told behind"
+    }
+    told "a goal that is told behind the line of the work" --names "goal $goals 0x7f010001"
+    told "what is left out, told behind the line of the work" --omit "omitted goal $goals 0x7f010001"
     works 200 12
     shell "no line of the work in a file" 0 '' "\"\$0\" $make >made"
 fi
