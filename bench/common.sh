@@ -1,4 +1,4 @@
-# For the scripts beside it: $program is the built restool, $work a folder that is removed at the end.
+# For the scripts beside it: $program is the built restool, unless it is set before, $work a folder that is removed at the end.
 here=$(CDPATH='' cd "$(dirname "$0")" && pwd) || exit 1
 work=$(mktemp -d) || exit 1
 trap 'rm -rf "$work"' EXIT
@@ -6,7 +6,11 @@ if ! /usr/bin/time -f '%e %M' -o "$work/time" true; then
     echo "$(basename "$0"): GNU time is needed (Debian's package time)" >&2
     exit 1
 fi
-program=$(here=$(dirname "$here") && . "$here/tools/program.sh" && build_program && echo "$program") || exit 1
+if [ -n "$program" ]; then
+    program=$(realpath "$program") || exit 1
+else
+    program=$(here=$(dirname "$here") && . "$here/tools/program.sh" && build_program && echo "$program") || exit 1
+fi
 
 # table_of_apk FILE: the table in a package, which is a zip file.
 table_of_apk() {

@@ -1,7 +1,7 @@
 #!/bin/sh
 # Times `restool diff` of two builds of the table of Android's framework that differ in ten rows, for the devices of a phone
 # maker, beside `restool make` of all ids that have a value: it is to take four times as long at most. Then of two files of the
-# same build, beside a query that opens both: twice as long at most.
+# same build, beside a query that opens both: one and a half times as long at most.
 # Each command runs three times, and those of one build ten times; the least time counts, and the greatest peak of memory.
 #
 # The framework's table is found as in make.sh. Needs GNU time (Debian's package time) and python3.

@@ -19,10 +19,11 @@ def device_of(words):
 
 
 class Files:
-    """The layers and the box of a case, in a folder of their own."""
+    """The layers and the box of a case, in a folder of their own. What is asked of a device is asked with these options."""
 
-    def __init__(self, program, folder, case):
+    def __init__(self, program, folder, case, options=()):
         self.program = program
+        self.options = options
         self.folder = folder
         self.write("box", case.box.json())
         layers = []
@@ -49,10 +50,14 @@ class Files:
         printed, status = self.printed(*words)
         return printed.splitlines(), status
 
-    def ask(self, command, device, *names):
-        """The lines that a command prints of a device."""
+    def answer(self, command, device, *names):
+        """The lines that a command prints of a device, and the status."""
         self.write("device", {coord: value for coord, value in device.items() if value})
-        return self.run(command, "layers", "device", *map(id_text, names))[0]
+        return self.run(command, *self.options, "layers", "device", *map(id_text, names))
+
+    def ask(self, command, device, *names):
+        """The lines alone."""
+        return self.answer(command, device, *names)[0]
 
     def explain(self, name, device):
         return self.ask("explain", device, name)

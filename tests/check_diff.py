@@ -5,8 +5,8 @@
 
 Two stacks of layers are drawn, mostly an app with overlays before a few changes and after them (random_apps.py), else tables with
 odd names (named_tables.py); a box; and now and then words that ask for some resources, or a limit of nodes. Each label is to be
-told as removed, added or the same, or with lines that say what each device of the box loads from either stack, where that
-differs, once and in order.
+told as removed, added or the same, or with lines that say how what each device of the box loads from either stack differs, once
+and in order; and then what the stacks count.
 
 The cases are numbered from FIRST on, which is 0 if it is not given. The last line counts what was compared."""
 import json
@@ -23,7 +23,7 @@ from itertools import groupby
 from check_names import Missing, Words, written
 from named_tables import Table
 from plain_certificates import id_text
-from plain_diff import Both, Stack, asks_for, change_text, devices_text, label_text, pairs_of
+from plain_diff import Both, Stack, asks_for, devices_text, label_text, pairs_of
 from plain_trees import Traces, have_larger_trees, varying
 from random_apps import SIZES, Apps, layers_of
 from random_cases import Focus
@@ -105,6 +105,7 @@ class Line:
     """A line of a change: how it goes on behind the label, its devices as text, and the rows below."""
 
     def __init__(self, text, rows):
+        self.bytes = "".join(f"{line}\n" for line in [text, *rows]).encode()
         self.devices = DEVICES.search(text)[0]
         self.change = text[: len(text) - len(self.devices)], tuple(rows)
 
@@ -124,17 +125,17 @@ def values_of(box, name, text):
 
 def lines_needed(case, changes):
     """How many lines are enough, where at most one coordinate varies."""
-    due = [change for change in changes if change]
     names = varying(case.members)
     if names and case.box.is_range(names[0]):
         return sum(change is not None for change, _ in groupby(changes))
-    return len(set(due))
+    return len(set(changes) - {None})
 
 
 def faults_of_lines(case, lines, changes):
     """The faults of the lines of a label, where these are the changes of the devices, None where there is none."""
     told = [False] * len(changes)
-    due = [change and change_text(*change) for change in changes]
+    if lines != sorted(lines, key=lambda line: line.bytes):
+        yield "lines in another order"
     for line in lines:
         part = line.part(case.box)
         if devices_text(case.box, part) != line.devices or not all(is_rising(case.box, *named) for named in part.items()):
@@ -143,11 +144,12 @@ def faults_of_lines(case, lines, changes):
         if not here:
             yield f"no device{line.devices}"
         for place in here:
-            if told[place] or due[place] != line.change:
-                yield f"{line.change}{line.devices}, where {case.members[place]} has {due[place]}{', told before' * told[place]}"
+            if told[place] or changes[place] != line.change:
+                due = f"{case.members[place]} has {changes[place]}{', told before' * told[place]}"
+                yield f"{line.change}{line.devices}, where {due}"
                 return
             told[place] = True
-    for place, change in enumerate(due):
+    for place, change in enumerate(changes):
         if change and not told[place]:
             yield f"{case.members[place]} is missed, which has {change}"
             return
@@ -164,8 +166,7 @@ def is_rising(box, name, values):
 
 def changes_of(case, ids):
     """The change of each device, None where both stacks say the same."""
-    contents = [case.stacks.contents(ids, device) for device in case.members]
-    return [None if before == after else (before, after) for before, after in contents]
+    return [case.stacks.difference(ids, device) for device in case.members]
 
 
 def with_rows(text):
@@ -196,7 +197,7 @@ def faults_of_text(case, pairs, text):
             faults = [f"{label}: {fault}" for fault in faults_of_lines(case, told, changes)]
         if faults:
             return faults
-    rest = [(f"same {same}", []), ("", [])]
+    rest = [(line, []) for line in [*case.stacks.counts(), f"same {same}", ""]]
     return [] if lines[place:] == rest else [f"at the end {lines[place:]}, where {rest} is due"]
 
 
@@ -216,7 +217,7 @@ def faults_of(case, said):
         return [] if case.limit and is_above_limit(case, pairs) else ["no trees are that large"], "node limit"
     text, messages, status = said
     faults = faults_of_text(case, pairs, text) + ([messages] if messages else [])
-    is_same = text.startswith("same ")
+    is_same = not text.startswith(("changed ", "added ", "removed "))
     faults += [] if status == int(not is_same) else [f"status {status}"]
     if case.limit and sum(None not in ids for _, ids in pairs) > case.limit:
         faults.append("fewer nodes than labels")

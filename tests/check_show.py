@@ -26,7 +26,7 @@ from plain_rules import Record
 from plain_show import Shown, tree_lines
 from random_cases import ATTRIBUTES, ENTRIES, FIRST_ATTRIBUTE, FIRST_ID, CertifiedCase
 
-TEXTS = ("Teapot", "", 'say "no"', "a\\b \\N", "salt & &lt;", "tea\npot", "Kännchen", "x")
+TEXTS = ("Teapot", "", 'say "no"', "a\\b \\N", "salt & &lt;", "tea\npot", "Kännchen", "x", "ä" * 1200, "€&" * 700)
 KINDS = (0, 1, 2, 3, 3, 3, 3, 4, 5, 5, 6, 7, 8, 0x10, 0x11, 0x12, 0x1C, 0x1D, 0x1E, 0x1F, 0x20)
 NODE = re.compile(r'  (n\w+) \[label="((?:[^"\\]|\\.)*)"\];')
 ARROW = re.compile(r"  (n\d+) -> (n\w+) \[label=(yes|no)\];")

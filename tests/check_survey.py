@@ -19,12 +19,13 @@ from concurrent.futures import ProcessPoolExecutor
 
 from case_files import id_text
 from check_sparse import Twins, table_bytes
-from made_layers import chunk, record_bytes, type_spec
+from made_layers import Pool, chunk, type_header, type_spec
+from named_tables import Table as Named
 from plain_survey import NO_ENTRY, SHORT, survey_of, survey_of_refused
 from random_cases import Case
 
 NEWER = os.path.join(os.path.dirname(os.path.abspath(__file__)), "newer_format.py")
-LOCALES = ("de", "de-DE", "en", "en-US", "en-GB", "fil", "fil-PH", "tl", "zh", "zh-TW", "sr", "sr-ME", "es-419", "es-MX", "yue", "yue-CN")
+LOCALES = ("de", "de-DE", "en", "en-US", "en-GB", "en-XA", "ar", "ar-XB", "fil", "fil-PH", "tl", "zh", "zh-TW", "sr", "sr-ME", "es-419", "es-MX", "yue", "yue-CN")
 
 
 def chunks_in(table, start, end):
@@ -69,7 +70,7 @@ def changed(chance, table):
         elif draw < 0.6 and types:
             size = struct.unpack_from("<I", table, place + 4)[0]
             at = place + chance.randrange(min(72, size), size) if size > 72 else place + 9
-            table[at] = chance.choice((0, 1, 7, 8, 9, 0x10, 0x18))
+            table[at] = chance.choice((0, 1, 3, 7, 8, 9, 0x10, 0x18))
         elif draw < 0.8:
             at, kind = chance.choice(chunks)
             if kind in (0x0001, 0x0202):
@@ -77,6 +78,14 @@ def changed(chance, table):
         elif types:
             table[place + 20 + chance.randrange(28, 52)] = chance.choice((0, 1, 2))
     return bytes(table)
+
+
+def with_strings(chance, table):
+    """The table with another pool in front, of which some strings cannot be read."""
+    pool = bytearray(Pool(["a", "bc", "d" * 200], chance.random() < 0.5).bytes)
+    for _ in range(chance.choice((0, 1, 2))):
+        pool[chance.randrange(28, len(pool))] = chance.choice((0, 1, 0x80, 0xFF))
+    return table[:4] + struct.pack("<I", len(table) + len(pool)) + table[8:12] + bytes(pool) + table[12:]
 
 
 def newer_type(chance, case, type_id):
@@ -88,7 +97,7 @@ def newer_type(chance, case, type_id):
         entries += struct.pack("<HHI", 0, 8 | 0x10 << 8, chance.randrange(9)) if is_there else b""
     listed = struct.pack(f"<{len(offsets)}{'H' if is_short else 'I'}", *offsets)
     listed += b"\xff" * (-len(listed) % 4)
-    header = struct.pack("<BBHII", type_id, SHORT * is_short, 0, len(offsets), 72 + len(listed)) + record_bytes(case.record())
+    header = type_header(type_id, SHORT * is_short, case.record(), len(offsets), len(listed))
     return type_spec(type_id, len(offsets)) + chunk(0x0201, header, listed + entries)
 
 
@@ -103,17 +112,23 @@ class Run:
         self.box = case.box.json()
         if chance.random() < 0.7:
             self.box["locale"] = chance.sample(LOCALES, chance.randint(1, 3))
-        self.tables, self.refused, layers = [], [], []
+        self.tables, self.are_bases, self.refused, layers = [], [], [], []
         for place, own_of in enumerate(case.maps):
             twins = Twins(chance, case)
             table = newer_table(chance, case) if chance.random() < 0.2 else chance.choice((twins.dense, twins.sparse))
             table = changed(chance, table)
+            draw = chance.random()
+            if draw < 0.3:
+                table = with_strings(chance, table)
+            elif draw < 0.4:
+                table = Named(chance).bytes
             self.write(f"table{place}", table)
             printed, status = self.run("rows", f"table{place}")
             if status != 0:
                 self.refused.append((table, printed.strip().replace("refused: ", "refused: layer 0 ")))
                 continue
             self.tables.append(table)
+            self.are_bases.append(own_of is None)
             layers.append({"table": f"table{place}"})
             if own_of is not None:
                 layers[-1]["map"] = f"map{place}"
@@ -172,13 +187,23 @@ def check_refused(run, number):
         check_newer(run, number, [table], got[0])
 
 
+def check_no_table(run):
+    """A file whose first chunk is no table is not surveyed, whatever is in it."""
+    table = newer_table(run.chance, Case(run.chance))
+    run.write("alone", b'[{"table":"table"}]')
+    run.write("table", b"\0\2" + table[2:])
+    done = subprocess.run([run.program, "survey", "alone"], cwd=run.folder, capture_output=True, text=True)
+    if (done.stdout, done.stderr, done.returncode) != ("", "refused: layer 0 table: NotTable\n", 3):
+        sys.exit(f"no table: {done}")
+
+
 def check(program, number):
     chance = random.Random(number)
     warned = 0
     with tempfile.TemporaryDirectory() as folder:
         run = Run(program, folder, chance)
         for words, box in ((("layers",), None), (("layers", "box"), run.box)):
-            lines, status = survey_of(run.tables, box)
+            lines, status = survey_of(run.tables, box, run.are_bases)
             want = "".join(line + "\n" for line in lines), status
             got = run.run("survey", *words)
             if got != want:
@@ -186,6 +211,7 @@ def check(program, number):
             warned += status
         check_newer(run, number, run.tables, run.run("survey", "layers")[0])
         check_refused(run, number)
+        check_no_table(run)
     return warned, len(run.refused)
 
 

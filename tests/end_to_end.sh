@@ -98,9 +98,10 @@ fi
 ends "a table that aapt2 wrote with sparse types" 0 "sh '$here/tests/same_tables.sh' \"\$0\" '$tables/dense.arsc' '$tables/sparse.arsc'"
 if command -v python3 >/dev/null; then
     ends "random tables with sparse types" 0 "python3 '$here/tests/check_sparse.py' \"\$0\" 40 4"
-    ends "hostile bytes of a sparse type" 0 "python3 '$here/tests/hostile_bytes.py' \"\$0\" 4"
+    ends "hostile bytes of small tables" 0 "python3 '$here/tests/hostile_bytes.py' \"\$0\" 4"
+    ends "worked rows of small tables and texts" 0 "python3 '$here/tests/worked_rows.py' \"\$0\" 4"
 else
-    echo "not run, since python3 is missing: random tables with sparse types, hostile bytes of one"
+    echo "not run, since python3 is missing: random tables with sparse types, hostile bytes, worked rows"
 fi
 
 # ---- map
@@ -141,6 +142,23 @@ if command -v python3 >/dev/null; then
     ends "random names" 0 "python3 '$here/tests/check_names.py' \"\$0\" 200 4"
 else
     echo "not run, since python3 is missing: random maps"
+fi
+
+# ---- ids: the names of a dump, each once
+sed -n 's/^  \(0x[0-9a-f]* [^ ]*\) .*/\1/p' "$tables/rich.dump.txt" | sort -u >rich.ids
+cd "$tables" || exit 1
+check "ids of real layers" 0 "$work/rich.ids" $none ids rich.layers.json
+check "ids of real layers with an overlay" 0 "$work/rich.ids" $none ids rich-overlay.layers.json
+cd "$work" || exit 1
+of_porcelain="cd '$here' && \"\$0\" ids examples/porcelain/layers.json"
+if [ -w /dev/full ]; then
+    ends "ids to a full output" 5 "$of_porcelain >/dev/full"
+fi
+ends "ids to a closed output" 5 "$of_porcelain >&-"
+if command -v python3 >/dev/null; then
+    ends "random ids" 0 "python3 '$here/tests/check_ids.py' \"\$0\" 400 4"
+else
+    echo "not run, since python3 is missing: random ids"
 fi
 
 # ---- query, explain, bag and attr
@@ -363,7 +381,8 @@ line old '[{"table":"base"}]'
 line new '[{"table":"whole"}]'
 line none.out 'same 0'
 check "a change of nothing" 0 none.out $none diff new new box
-line all.out "same $(awk '$1 == "row" { print $2 }' "$tables/rich.rows.txt" | sort -u | wc -l)"
+line all.out 'set-aside 2 2'
+echo "same $(awk '$1 == "row" { print $2 }' "$tables/rich.rows.txt" | sort -u | wc -l)" >>all.out
 check "the same layers" 0 all.out $none diff old old box
 check "the most nodes for a change" 0 none.out $none diff --max-nodes 1000000 new new box
 check "the limit after the box" 0 none.out $none diff new new box --max-nodes 1
@@ -409,7 +428,7 @@ printf '%s\n' 'changed bool/whistles true -> false' \
     'changed string/brand "Teapot" -> "Porcelain teapot" on locale=en-GB,en-US' \
     'changed string/brand "Teekanne" -> "Porzellankanne" on locale=de-AT,de-CH,de-DE' \
     'changed string/title "Teapot" -> "Porcelain teapot" on locale=en-GB,en-US' \
-    'changed string/title "Teekanne" -> "Porzellankanne" on locale=de-AT,de-CH,de-DE' 'same 14' >changed.out
+    'changed string/title "Teekanne" -> "Porzellankanne" on locale=de-AT,de-CH,de-DE' 'set-aside 1 1' 'same 14' >changed.out
 cd "$here" || exit 1
 check "what the porcelain changes" 1 "$work/changed.out" $none \
     diff "$work/plain" examples/porcelain/layers.json examples/porcelain/phones.json
@@ -488,13 +507,15 @@ else
 fi
 PATH=$path
 
-# ---- the pages: their links, the files that they name, and those that are made from the definitions; planted bugs
+# ---- the pages: their links, the files that they name, and those that are made from the definitions; tables and rows of locales; planted bugs
 if command -v python3 >/dev/null; then
     ends "links and files that pages name" 0 "python3 '$here/tests/check_pages.py' >&2"
     ends "DEFINITIONS.md and HEADLINE.md are up to date" 0 "python3 '$here/tools/definitions.py' --check"
+    ends "the tables of locale_data are those of its lists" 0 "python3 '$here/tools/locale_tables.py' --check"
+    ends "known rows of a phone's locales" 0 "python3 '$here/tests/plain_locales.py' >&2"
     ends "planted bugs apply, and are few" 0 "python3 '$here/tests/planted_bugs.py' --apply >&2"
 else
-    echo "not run, since python3 is missing: links and files that pages name, DEFINITIONS.md, HEADLINE.md, planted bugs"
+    echo "not run, since python3 is missing: links and files that pages name, DEFINITIONS.md, HEADLINE.md, tables and rows of locales, planted bugs"
 fi
 
 # ---- files and streams
@@ -511,6 +532,9 @@ line large.err 'file: large'
 check "a file that is too large" 5 $none large.err rows large
 if [ -w /dev/full ]; then
     ends "a full output" 5 "\"\$0\" rows '$tables/plain.arsc' >/dev/full"
+    omitting="cd '$here' && \"\$0\" make --omit examples/porcelain/layers.json examples/porcelain/phones.json 0x7f050009 0x7f030000"
+    ends "what is left out is told to a full stream" 5 "$omitting 2>/dev/full"
+    ends "where it is not told nothing is printed" 0 "[ -z \"\$($omitting 2>/dev/full)\" ]"
     ends "a full output prints no line" 0 "[ -z \"\$(\"\$0\" rows '$tables/plain.arsc' 2>&1 >/dev/full)\" ]"
 fi
 ends "a closed output" 5 "\"\$0\" rows '$tables/plain.arsc' >&-"
@@ -590,6 +614,19 @@ missing attr/none check $layers examples/porcelain/phones.json examples/porcelai
 line word.err 'command: bad id @others'
 printf '%s\n' 'dimen/handle' '@others' >"$work/words"
 check "a file of words names no other" 2 $none "$work/word.err" query $layers $phone "@$work/words"
+# A file forges no line: what it has with control characters stands between quotes.
+line word.err 'command: bad id "0x7f\x1b[2Kaccepted"'
+printf '0x7f\033[2Kaccepted\n' >"$work/forged"
+check "a word of a file that would erase its line" 2 $none "$work/word.err" query $layers $phone "@$work/forged"
+line missing.err 'no resource "string/a\x0dset-aside 0"'
+printf 'string/a\rset-aside 0\n' >"$work/forged"
+check "a name of a file that would hide its line" 1 $none "$work/missing.err" query $layers $phone "@$work/forged"
+printf '[{"table":"no\\nwhere\\u001b"}]\n' >"$work/forged"
+line file.err 'file: "no\x0awhere\x1b"'
+check "a path of a list that would make two lines" 5 $none "$work/file.err" query "$work/forged" $phone dimen/handle
+line file.err 'file: absent"\'
+printf '[{"table":"absent\\"\\\\"}]\n' >"$work/forged"
+check "a path of a list that makes one line stands as it is" 5 $none "$work/file.err" query "$work/forged" $phone dimen/handle
 printf 'dimen/handle\n\377\n' >"$work/words"
 line text.err 'command: a word is not UTF-8'
 check "a file of words that is no text" 2 $none "$work/text.err" query $layers $phone "@$work/words"
@@ -615,7 +652,7 @@ check "ids and a comma name a file" 5 $none "$work/file.err" query $layers $phon
 cd "$work" || exit 1
 
 # ---- words
-for command in rows dump map survey show query explain bag attr make check diff; do
+for command in rows dump map ids survey show query explain bag attr make check diff; do
     check "help of $command" 0 "$here/tests/helps/$command.txt" $none "$command" --help
 done
 check "help" 0 "$here/tests/helps/restool.txt" $none --help
@@ -641,6 +678,8 @@ check "a style that is no id" 2 $none style.err attr layers device --keep 0x0101
 ends "dump of two tables" 2 '"$0" dump a b'
 ends "map of one table" 2 '"$0" map a'
 ends "map of three tables" 2 '"$0" map a b c'
+ends "ids without layers" 2 '"$0" ids'
+ends "ids of two lists of layers" 2 '"$0" ids layers layers'
 ends "survey without layers" 2 '"$0" survey'
 ends "survey with two boxes" 2 '"$0" survey layers box box'
 ends "show without a certificate" 2 '"$0" show layers'

@@ -17,13 +17,14 @@ PACKAGE_HEADER = 284
 
 
 def record_bytes(record):
-    """A configuration as a type holds it."""
+    """A configuration as a type holds it: of 52 bytes, or of 56 where byte 52 is not 0."""
     numbers = record.numbers
+    rest = struct.pack("<B3x", record.computed) if record.computed else b""
     layout = numbers["layoutDirection"] << 6 | numbers["long"] << 4 | numbers["screenSize"]
     script, variant = record.script.ljust(4, b"\0"), record.variant.ljust(8, b"\0")
-    return struct.pack(
+    fields = struct.pack(
         "<IHH4sBBHBBBBHHHHBBHHH4s8sBBxx",
-        52,
+        52 + len(rest),
         numbers["mcc"],
         numbers["mnc"],
         order_of(record.locale),
@@ -48,6 +49,7 @@ def record_bytes(record):
         numbers["round"],
         numbers["hdr"] << 2 | numbers["wideColor"],
     )
+    return fields + rest
 
 
 def value_bytes(kind, word):
@@ -64,26 +66,64 @@ def entry_bytes(cell, key=0):
 
 def type_chunk(count, entry, record, cell):
     """A type with one row: all its entries but this one are missing."""
-    header = struct.pack("<BBHII", 1, 0, 0, count, 72 + 4 * count) + record_bytes(record)
     offsets = [0 if place == entry else NO_ENTRY for place in range(count)]
-    return chunk(0x0201, header, struct.pack(f"<{count}I", *offsets) + entry_bytes(cell))
+    return chunk(0x0201, type_header(1, 0, record, count, 4 * count), struct.pack(f"<{count}I", *offsets) + entry_bytes(cell))
+
+
+def type_header(type_id, flags, record, count, size):
+    """The header of a type, behind the first eight bytes. It has so many entries, and so many bytes say where they are."""
+    config = record_bytes(record)
+    return struct.pack("<BBHII", type_id, flags, 0, count, 20 + len(config) + size) + config
+
+
+class Broken(namedtuple("Broken", "fault mark")):
+    """A string of a pool that cannot be read, for this fault, `Cut` or `NotEnded`. Of one fault several are told apart by a mark."""
 
 
 class Pool:
-    """A pool of these texts, in UTF-8 or UTF-16."""
+    """A pool of these texts, in UTF-8 or UTF-16. Two surrogates are a pair, also in UTF-8, where each has three bytes."""
 
     def __init__(self, texts, is_utf16=False):
         self.texts = list(texts)
         self.is_utf16 = is_utf16
-        self.bytes = make_strings.pool_chunk(self.texts, is_utf16)
+        self.bytes = make_strings.pool_chunk(["x" if isinstance(text, Broken) else text for text in self.texts], is_utf16)
+        for index, text in enumerate(self.texts):
+            if isinstance(text, Broken):
+                self.bytes = with_fault(self.bytes, index, text.fault, 4 if is_utf16 else 3)
 
     def get(self, index):
         """The text of an index, None where it is no text, and how it is printed."""
-        if not 0 <= index < len(self.texts):
-            return None, "!NoSuch"
+        fault = self.fault(index)
+        if fault:
+            return None, f"!{fault}"
         text = self.texts[index]
-        is_text = not any(0xD800 <= ord(character) <= 0xDFFF for character in text)
-        return text if is_text else None, shown(text, self.is_utf16)
+        whole = joined_pairs(text)
+        return None if has_surrogate(whole) else whole, shown(whole if self.is_utf16 else text, self.is_utf16)
+
+    def fault(self, index):
+        """Why a string cannot be read, None where it can."""
+        if not 0 <= index < len(self.texts):
+            return "NoSuch"
+        return getattr(self.texts[index], "fault", None)
+
+
+def with_fault(pool, index, fault, end):
+    """A pool of which one string stands outside, or is not closed by the zero that many bytes behind its beginning."""
+    at = 28 + 4 * index
+    offset = struct.unpack_from("<I", pool, at)[0]
+    if fault == "Cut":
+        return pool[:at] + struct.pack("<I", len(pool)) + pool[at + 4 :]
+    zero = struct.unpack_from("<I", pool, 20)[0] + offset + end
+    return pool[:zero] + b"x" + pool[zero + 1 :]
+
+
+def joined_pairs(text):
+    """A text in which two surrogates that make a pair are one character."""
+    return text.encode("utf-16-le", "surrogatepass").decode("utf-16-le", "surrogatepass")
+
+
+def has_surrogate(text):
+    return any(0xD800 <= ord(character) <= 0xDFFF for character in text)
 
 
 def entries_chunk(type_id, record, entries, is_sparse):
@@ -98,18 +138,24 @@ def entries_chunk(type_id, record, entries, is_sparse):
     else:
         dense = [starts[entries[index]] if index in entries else NO_ENTRY for index in range(1 + max(entries, default=-1))]
         offsets = struct.pack(f"<{len(dense)}I", *dense)
-    header = struct.pack("<BBHII", type_id, is_sparse, 0, len(offsets) // 4, 72 + len(offsets))
-    return chunk(0x0201, header + record_bytes(record), offsets + stored)
+    header = type_header(type_id, is_sparse, record, len(offsets) // 4, len(offsets))
+    return chunk(0x0201, header, offsets + stored)
+
+
+NO_STRINGS = chunk(0x0001, b"\0" * 20, b"")
+
+
+def table_of(children, package_id=0x7F, strings=NO_STRINGS):
+    """A table of one package without names."""
+    package = chunk(0x0200, struct.pack("<I", package_id) + b"\0" * 276, children)
+    return chunk(0x0002, struct.pack("<I", 1), strings + package)
 
 
 def table_bytes(rows):
     """A table of one package and one type. A row is an id, a configuration and a cell."""
     count = 1 + max((name & 0xFFFF for name, _, _ in rows), default=0)
-    package_id = rows[0][0] >> 24 if rows else 0x7F
     children = type_spec(1, count) + b"".join(type_chunk(count, name & 0xFFFF, *row) for name, *row in rows)
-    package = chunk(0x0200, struct.pack("<I", package_id) + b"\0" * 276, children)
-    pool = chunk(0x0001, b"\0" * 20, b"")
-    return chunk(0x0002, struct.pack("<I", 1), pool + package)
+    return table_of(children, rows[0][0] >> 24 if rows else 0x7F)
 
 
 # ---- tables with names

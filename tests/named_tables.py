@@ -9,7 +9,7 @@ from plain_rules import Record
 PACKAGES = (0x7F, 0x7F, 0x7F, 0x7F, 0x01, 0x02)
 TYPE_NAMES = ("color", "dimen", "style")
 ENTRY_NAMES = ("handle", "títle", "clay", 'a "b"')
-ODD_NAMES = ("é", "x\n", "", "half \ud83d")
+ODD_NAMES = ("é", "x\n", "", "half \ud83d", "\ud83d\ude00", "😀")
 TYPES, ENTRIES, MOST_ROWS = len(TYPE_NAMES), len(ENTRY_NAMES), 3
 
 

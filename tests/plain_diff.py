@@ -1,42 +1,52 @@
 """A plain reading of what two stacks of layers say differently, for one device at a time. For the scripts beside it.
 
-A label is a name, `(package, type, entry)`, or an id. A content is a text, or, of a bag, the texts of its rows, each a name and
-a value. A change is the content before and the one after."""
+A label is a name, `(package, type, entry)`, or an id. A content is `Said`, or, of a bag, its rows, each a `Row`. The difference of
+two contents is what a line of a change says behind its label, and the lines of rows below it; None where they say the same."""
+from collections import namedtuple
 from itertools import zip_longest
 
-from made_layers import shown
+from made_layers import joined_pairs
+from make_strings import shown_character
 from plain_map import first_rows
 from plain_rules import COORDS, Layers, by_id, step_of, value_text
 
-REFERENCE, ATTRIBUTE, STRING = 1, 2, 3
+REFERENCE, ATTRIBUTE, STRING, BOOLEAN = 1, 2, 3, 0x12
+NUMBERS = range(0x10, 0x20)
+QUANTITIES = dict(zip(range(0x01000004, 0x0100000A), ("other", "zero", "one", "two", "few", "many")))
+ESCAPED = {0x85, 0x2028, 0x2029, *range(0x202A, 0x202F), *range(0x2066, 0x206A)}
+"""Characters that end lines or turn the direction of a text."""
+
+Said = namedtuple("Said", "text read")
+"""What is no bag: how it is printed, and what a device reads of it."""
+Row = namedtuple("Row", "key name said")
+"""A row of a bag: its key, by which rows are in order, how that is printed, and what its value says."""
 
 
-# ---- labels
+# ---- texts
 
 
-def names_and_others(rows):
-    """What each name of a package stands for, and the ids of rows for which no name does."""
-    names, ids = {}, set()
-    for row in rows:
-        ids.add(row.id)
-        if None not in row.names:
-            names.setdefault((row.id >> 24, *row.names), row.id)
-    return names, ids - set(names.values())
+def said_character(character, is_utf16):
+    if ord(character) in ESCAPED:
+        return f"\\u{ord(character):04x}"
+    return shown_character(character, is_utf16)
 
 
-def in_order(label):
-    """Names by package, then by type and entry, byte by byte, and ids behind them."""
-    return (1, label) if isinstance(label, int) else (0, label[0], [text.encode() for text in label[1:]])
+def said_text(text, is_utf16):
+    """A text in quotes. Two surrogates that make a pair are the character."""
+    return f'"{"".join(said_character(character, is_utf16) for character in joined_pairs(text))}"'
 
 
 def package_text(package):
     return {0x7F: "", 0x01: "android:"}.get(package, f"0x{package:02x}:")
 
 
+def is_misread(letter):
+    return letter in ' /:"\\\x7f' or letter < " " or ord(letter) in ESCAPED
+
+
 def name_text(name):
     """A name as it stands, or between quotes where it could be read otherwise."""
-    is_misread = any(letter in ' /:"\\\x7f' or letter < " " for letter in name)
-    return shown(name, False) if is_misread or not name else name
+    return said_text(name, False) if name in ("", "*") or any(map(is_misread, name)) else name
 
 
 def label_text(label):
@@ -44,6 +54,24 @@ def label_text(label):
         return f"0x{label:08x}"
     package, type_name, entry_name = label
     return f"{package_text(package)}{name_text(type_name)}/{name_text(entry_name)}"
+
+
+# ---- labels
+
+
+def labels_of(rows):
+    """The names of each id that are text, by the ids in the order of the rows."""
+    labels = {}
+    for row in rows:
+        of_id = labels.setdefault(row.id, [])
+        if None not in row.names:
+            of_id.append((row.id >> 24, *row.names))
+    return labels
+
+
+def in_order(label):
+    """Names by package, then by type and entry, byte by byte, and ids behind them."""
+    return (1, label) if isinstance(label, int) else (0, label[0], *(text.encode() for text in label[1:]))
 
 
 # ---- what a resource says
@@ -57,38 +85,75 @@ class Stack:
         self.strings = [table.strings for table, _ in layers]
         rows = [row for table, own in layers if own is None for row in table.rows]
         self.first = first_rows(rows)
-        names, others = names_and_others(rows)
-        self.ids = {**names, **{name: name for name in others}}
+        self.names = {}
+        """What each name stands for."""
+        for row in rows:
+            for label in labels_of([row])[row.id]:
+                self.names.setdefault(label, row.id)
+        self.labels = labels_of(rows)
+        others = self.labels.keys() - self.names.values()
+        self.ids = {**self.names, **{name: name for name in others}}
         """What each label stands for."""
 
-    def id_content(self, name):
-        """An id by the name of its first row, if that stands for the id."""
+    def shared_names(self):
+        """How many ids have a name that stands for another."""
+        return sum(any(self.names[label] != name for label in labels) for name, labels in self.labels.items())
+
+    def label(self, name):
+        """What an id is called: by the name of its first row, if that stands for the id."""
         row = self.first.get(name)
         label = row and (name >> 24, *row.names)
-        return label_text(label if self.ids.get(label) == name else name)
+        return label if self.ids.get(label) == name else name
+
+    def id_content(self, name):
+        return label_text(self.label(name))
+
+    def string_content(self, layer, index):
+        strings = self.strings[layer]
+        fault = strings.fault(index)
+        return f"!{fault} {index}" if fault else said_text(strings.texts[index], strings.is_utf16)
 
     def value_content(self, layer, kind, word):
         if kind == STRING:
-            return self.strings[layer].get(word)[1]
-        if kind in (REFERENCE, ATTRIBUTE):
-            return f"{'@' if kind == REFERENCE else '?'}{self.id_content(word)}"
-        return value_text(kind, word)
+            text = self.string_content(layer, word)
+        elif kind in (REFERENCE, ATTRIBUTE):
+            text = f"{'@' if kind == REFERENCE else '?'}{self.id_content(word)}"
+        else:
+            text = value_text(kind, word)
+        return Said(text, read_of(kind, word, text))
 
     def content(self, name, device):
         """What an id says at a device."""
         end = self.layers.way(name, device)[1]
         if end[0] == "value":
             return self.value_content(*end[1:])
-        if end[0] == "absent":
-            return f"absent {self.id_content(end[1])}"
-        return self.bag_content(end[1], device) if end[0] == "bag" else "too many references"
+        if end[0] == "bag":
+            return self.bag_content(end[1], device)
+        return self.no_content("absent" if end[0] == "absent" else "too many references", end[1])
+
+    def no_content(self, why, name):
+        text = f"{why} {self.id_content(name)}"
+        return Said(text, text)
 
     def bag_content(self, name, device):
         rows = self.layers.way_of_bag(name, device)[1]
         if rows == "too long":
-            return "too many parents"
-        said = [(self.id_content(row), self.value_content(layer, *value)) for row, layer, value in rows]
-        return tuple(sorted(said, key=lambda row: row[0].encode()))
+            return self.no_content("too many parents", name)
+        first = self.first.get(name)
+        type_name = first and first.names[0]
+        said = [
+            Row(*self.key(type_name, place, row), self.value_content(layer, *value)) for place, (row, layer, value) in enumerate(rows)
+        ]
+        return tuple(sorted(said, key=lambda row: row.key))
+
+    def key(self, type_name, place, name):
+        """The key of a row in a bag of a type, and how it is printed."""
+        if type_name == "array":
+            return (0, place), f"[{place}]"
+        if type_name == "plurals" and name in QUANTITIES:
+            return (1, name), QUANTITIES[name]
+        label = self.label(name)
+        return (2, in_order(label)), label_text(label)
 
     def trace(self, name, device):
         """What the candidates of an id do, and those of its references and, of a bag, of its parents; and the end."""
@@ -96,6 +161,43 @@ class Stack:
         if end[0] == "bag":
             look_ups = look_ups + self.layers.way_of_bag(end[1], device)[0]
         return tuple(step_of(decided) for _, told in look_ups for _, decided in told), end
+
+
+def read_of(kind, word, text):
+    """What a device reads of a value: of numbers the word, of a boolean whether it is 0, of others what is printed."""
+    if kind == BOOLEAN:
+        return BOOLEAN, word != 0
+    return ("number", word) if kind in NUMBERS else text
+
+
+# ---- what two contents say differently
+
+
+def rows_of(content):
+    return () if isinstance(content, Said) else content
+
+
+def row_lines(before, after):
+    """What becomes of the rows of each key, in the order of keys: the first before with the first after, and so on."""
+    for key in sorted({row.key for row in before + after}):
+        of_key = ([row for row in rows if row.key == key] for rows in (before, after))
+        for old, new in zip_longest(*of_key):
+            if new is None:
+                yield f"  removed {old.name} {old.said.text}"
+            elif old is None:
+                yield f"  added {new.name} {new.said.text}"
+            elif old.said.read != new.said.read:
+                yield f"  {new.name} {old.said.text} -> {new.said.text}"
+
+
+def difference(before, after):
+    lines = tuple(row_lines(rows_of(before), rows_of(after)))
+    if not isinstance(before, Said) and not isinstance(after, Said):
+        return ("", lines) if lines else None
+    if isinstance(before, Said) and isinstance(after, Said) and before.read == after.read:
+        return None
+    texts = (content.text if isinstance(content, Said) else "bag" for content in (before, after))
+    return f" {' -> '.join(texts)}", lines
 
 
 # ---- two stacks
@@ -107,11 +209,19 @@ class Both:
     def __init__(self, old, new):
         self.stacks = old, new
 
-    def contents(self, ids, device):
-        return tuple(stack.content(name, device) for stack, name in zip(self.stacks, ids))
+    def difference(self, ids, device):
+        return difference(*(stack.content(name, device) for stack, name in zip(self.stacks, ids)))
 
     def trace(self, ids, device):
         return tuple(stack.trace(name, device) for stack, name in zip(self.stacks, ids))
+
+    def counts(self):
+        """The lines of what both stacks count, where they count some."""
+        shared = [stack.shared_names() for stack in self.stacks]
+        set_aside = [stack.layers.set_aside() for stack in self.stacks]
+        for words, counts in (("warning shared-names", shared), ("set-aside", set_aside)):
+            if any(counts):
+                yield f"{words} {counts[0]} {counts[1]}"
 
 
 def pairs_of(old, new):
@@ -129,37 +239,7 @@ def asks_for(word, pair):
     return not isinstance(label, int) and label[1] == type_name and entry_name in ("*", label[2])
 
 
-# ---- texts
-
-
-def content_text(content):
-    return content if isinstance(content, str) else "bag"
-
-
-def rows_of(content):
-    return () if isinstance(content, str) else content
-
-
-def row_lines(before, after):
-    """What becomes of the rows of each name, in the order of names: the first before with the first after, and so on."""
-    for name in sorted({name for name, _ in before + after}, key=str.encode):
-        of_name = ([value for other, value in rows if other == name] for rows in (before, after))
-        for old, new in zip_longest(*of_name):
-            if new is None:
-                yield f"  removed {name} {old}"
-            elif old is None:
-                yield f"  added {name} {new}"
-            elif old != new:
-                yield f"  {name} {old} -> {new}"
-
-
-def change_text(before, after):
-    """How a line of a change goes on behind its label, but for its devices, and the lines of rows behind it."""
-    if isinstance(before, str) or isinstance(after, str):
-        said = f" {content_text(before)} -> {content_text(after)}"
-    else:
-        said = ""
-    return said, tuple(row_lines(rows_of(before), rows_of(after)))
+# ---- devices
 
 
 def values_text(box, name, values):

@@ -41,20 +41,22 @@ SIZES = ("smallestWidthDp", "widthDp", "heightDp", "screenSize", "width", "heigh
 class Record:
     """The configuration of a row."""
 
-    def __init__(self, given, script=b"", variant=b"", spare=0):
+    def __init__(self, given, script=b"", variant=b"", spare=0, computed=0):
         self.numbers = {name: given.get(name, 0) for name in COORDS if name != "locale"}
         self.locale = given.get("locale", "")
-        self.script = script
-        self.variant = variant
+        self.script = script.ljust(4, b"\0") if any(script) else b""
+        self.variant = variant.ljust(8, b"\0") if any(variant) else b""
         self.spare = spare
         """Byte 19, which is compared in equal records alone."""
+        self.computed = computed
+        """Byte 52, not 0 where the script was computed. Only a phone looks at it, and in equal records it does not count."""
         self.named = [name for name, _ in given_of(self.numbers, self.locale)]
 
     def __getitem__(self, name):
         return self.numbers[name]
 
     def is_same(self, other):
-        return vars(self) == vars(other)
+        return {**vars(self), "computed": 0} == {**vars(other), "computed": 0}
 
     def text(self):
         names = [f"{name}={value}" for name, value in given_of(self.numbers, self.locale)]
@@ -97,11 +99,14 @@ def suits(name, record, device):
     return a == d or (name == "keysHidden" and a == 1 and d == 3)
 
 
+def first_mismatch(record, device, suits=suits):
+    """The first number of a row that does not suit the device, None where all do."""
+    return next((f"no match {name}" for name in record.named if not suits(name, record, device)), None)
+
+
 def mismatch(record, device):
     """Why a row does not match, None where it does."""
-    if record.script or record.variant:
-        return "set aside"
-    return next((f"no match {name}" for name in record.named if not suits(name, record, device)), None)
+    return "set aside" if record.script or record.variant else first_mismatch(record, device)
 
 
 # ---- which of two rows is better; a rule that does not decide answers None
@@ -203,9 +208,9 @@ RULES = [
 """P1 to P23."""
 
 
-def better(a, b, device):
+def better(a, b, device, rules=RULES):
     """Whether the first row is better, and the number of the rule that decides, None where none does."""
-    for number, rule in enumerate(RULES, 1):
+    for number, rule in enumerate(rules, 1):
         answer = rule(a, b, device)
         if answer is not None:
             return answer, number
@@ -223,21 +228,6 @@ class Candidate:
         self.is_overlay = is_overlay
         self.record = record
         self.cell = cell
-
-
-def decision(candidate, best, device):
-    """What a candidate does to the best so far, as an explanation says it."""
-    reason = mismatch(candidate.record, device)
-    if reason is not None:
-        return reason
-    if best is None:
-        return "first"
-    is_better, rule = better(candidate.record, best.record, device)
-    if is_better:
-        return f"took over P{rule}"
-    if candidate.is_overlay and candidate.record.is_same(best.record):
-        return "took over equal"
-    return f"kept out P{rule}" if rule else "kept out"
 
 
 def takes_over(decided):
@@ -261,6 +251,9 @@ def by_id(rows):
 
 class Layers:
     """The layers of a stack: each has the rows of its ids, and, for an overlay, which own id stands for a target."""
+
+    mismatch = staticmethod(mismatch)
+    better = staticmethod(better)
 
     def __init__(self, layers):
         self.layers = layers
@@ -290,10 +283,24 @@ class Layers:
     def selection(self, name, device):
         best, decided = None, []
         for candidate in self.candidates(name):
-            decided.append((candidate, decision(candidate, best, device)))
+            decided.append((candidate, self.decision(candidate, best, device)))
             if takes_over(decided[-1][1]):
                 best = candidate
         return decided, best
+
+    def decision(self, candidate, best, device):
+        """What a candidate does to the best so far, as an explanation says it."""
+        reason = self.mismatch(candidate.record, device)
+        if reason is not None:
+            return reason
+        if best is None:
+            return "first"
+        is_better, rule = self.better(candidate.record, best.record, device)
+        if is_better:
+            return f"took over P{rule}"
+        if candidate.is_overlay and candidate.record.is_same(best.record):
+            return "took over equal"
+        return f"kept out P{rule}" if rule else "kept out"
 
     def way(self, name, device, references=REFERENCES):
         """The look-ups of an id, each with its candidates and what they do, and the end."""

@@ -9,6 +9,7 @@ from plain_certificates import id_text
 from plain_rules import end_text
 
 MOST_DEPTH = 32
+MOST_OF_A_LABEL = 2000
 STRING = 3
 
 
@@ -52,7 +53,14 @@ def front_text(line):
     return "  " * MOST_DEPTH + f"{'then' if line.answer == 'yes' else 'else'} of {line.test}: "
 
 
+def cut(text):
+    """What is shown of a label: whole characters, and two dots where some are cut off."""
+    shown = text.encode()[:MOST_OF_A_LABEL].decode(errors="ignore")
+    return shown if shown == text else f"{shown}.."
+
+
 def quoted(text):
+    text = cut(text)
     for symbol, written in (("\\", "\\\\"), ('"', '\\"'), ("&", "&amp;")):
         text = text.replace(symbol, written)
     return f'"{text}"'

@@ -5,16 +5,17 @@ import struct
 
 from plain_rules import COORDS
 
-POOL, PACKAGE, TYPE, SPEC, LIBRARY, OVERLAYABLE, STAGED = 1, 0x200, 0x201, 0x202, 0x203, 0x204, 0x206
+POOL, TABLE, PACKAGE, TYPE, SPEC, LIBRARY, OVERLAYABLE, STAGED = 1, 2, 0x200, 0x201, 0x202, 0x203, 0x204, 0x206
 SPARSE, SHORT = 1, 2
 NO_ENTRY = 0xFFFFFFFF
 
 FILIPINO = ("tl", "fil")
+PSEUDO = {"en": "XA", "ar": "XB"}
 OF_SCRIPTS = "az ha kk ku ky man mn ms pa rif sd sr tg ug unr uz yue zh".split()
 
 NAMES = (
     "16-bit-offsets type-flags gender newer-qualifier compact-entry entry-flags library overlayable staged-alias "
-    "unknown-chunk dynamic-reference dynamic-attribute set-aside locale box-locale"
+    "unknown-chunk dynamic-reference dynamic-attribute broken-string set-aside locale box-locale"
 ).split()
 INFORM = ("overlayable", "set-aside", "locale")
 
@@ -38,6 +39,48 @@ class Chunk:
             child = Chunk(table, at)
             yield child
             at += len(child.whole)
+
+
+class Strings:
+    """The strings of a pool, of which some cannot be read; none without a pool."""
+
+    def __init__(self, chunk):
+        self.count, self.is_utf8 = 0, False
+        if chunk is not None:
+            self.count, styles, flags, start, styles_start = struct.unpack_from("<5I", chunk.header, 8)
+            self.is_utf8, self.offsets = bool(flags & 0x100), chunk.body
+            self.bytes = (chunk.whole[:styles_start] if styles else chunk.whole)[start:]
+
+    def length(self, at, unit):
+        """The length at a place, or none where the bytes end before; and the place behind it."""
+        form, bits = ("B", 7) if unit == 1 else ("H", 15)
+        first, second = number(form, self.bytes, at), number(form, self.bytes, at + unit)
+        if first is None or not first >> bits:
+            return first, at + unit
+        return (None if second is None else (first - (1 << bits) << bits + 1) + second), at + 2 * unit
+
+    def get(self, index):
+        """The bytes of a string, or none where it cannot be read."""
+        if index >= self.count:
+            return None
+        at, unit = number("I", self.offsets, 4 * index), 1 if self.is_utf8 else 2
+        count, at = self.length(at, unit)
+        if self.is_utf8 and count is not None:
+            count, at = self.length(at, unit)
+        if count is None or at + unit * count + unit > len(self.bytes):
+            return None
+        end = at + unit * count
+        return None if any(self.bytes[end : end + unit]) else self.bytes[at:end]
+
+    def name(self, index):
+        """The text of a string, where it is one; in UTF-8 two surrogates may be a character."""
+        found = None if index < 0 else self.get(index)
+        try:
+            if found is not None and self.is_utf8:
+                found = found.decode("utf-8", "surrogatepass").encode("utf-16-le", "surrogatepass")
+            return None if found is None else found.decode("utf-16-le")
+        except UnicodeError:
+            return None
 
 
 def part(bytes_, base):
@@ -106,10 +149,10 @@ class Config:
             return True
         if self.region:
             return self.region != region
-        return region != "" and language in OF_SCRIPTS
+        return region != "" and (language in OF_SCRIPTS or PSEUDO.get(language) == region)
 
     def differs_somewhere(self):
-        return self.set_aside or (self.language != "" and (self.region != "" or self.language in FILIPINO or self.language in OF_SCRIPTS))
+        return self.set_aside or (self.language != "" and (self.region != "" or self.language in (*FILIPINO, *OF_SCRIPTS, *PSEUDO)))
 
 
 def offset_of(chunk, position, short_ones):
@@ -125,39 +168,53 @@ def offset_of(chunk, position, short_ones):
     return position, None if offset == NO_ENTRY else offset
 
 
-def kinds_of(chunk, at):
-    """The kinds of the values of the entry at a place."""
+def values_of(chunk, at):
+    """The kinds and words of the values of the entry at a place."""
     size, flags = struct.unpack_from("<HH", chunk.whole, at)
-    if not flags & 1:
-        return [chunk.whole[at + size + 3]]
-    count = number("I", chunk.whole, at + 12)
-    return [chunk.whole[at + size + 12 * n + 7] for n in range(count)]
+    places = [at + size + 12 * n + 4 for n in range(number("I", chunk.whole, at + 12))] if flags & 1 else [at + size]
+    return [(chunk.whole[place + 3], number("I", chunk.whole, place + 4)) for place in places]
+
+
+class Names:
+    """The names of the types and entries of a package."""
+
+    def __init__(self, bytes_, package):
+        types, _, keys = struct.unpack_from("<3I", package.header, 268)
+        self.offset = number("I", package.header, 284) if len(package.header) == 288 else 0
+        self.types, self.keys = (Strings(Chunk(bytes_, package.place + at) if at else None) for at in (types, keys))
+
+    def of(self, type_id, key):
+        return self.types.name(type_id - 1 - self.offset), self.keys.name(key)
 
 
 class Table:
-    """The notes of a table, each a name and where it is, and the configurations of its rows, which it has where it opens."""
+    """The notes of a table, each a name and where it is, and the configurations and names of its rows, which it has where it
+    opens."""
 
     def __init__(self, bytes_, locales, opens=True):
         self.notes, self.configs, self.locales, self.opens = [], [], locales, opens
-        self.row_notes = []
-        for child in Chunk(bytes_, 0).children(bytes_):
+        self.row_notes, self.names = [], []
+        first = Chunk(bytes_, 0)
+        children = list(first.children(bytes_)) if first.kind == TABLE else []
+        self.strings = Strings(next((child for child in children if child.kind == POOL), None))
+        for child in children:
             if child.kind == PACKAGE:
                 self.read_package(bytes_, child)
             elif child.kind != POOL:
                 self.notes.append(("unknown-chunk", child.place))
 
     def read_package(self, bytes_, package):
-        counts = {}
+        counts, names = {}, Names(bytes_, package)
         for child in package.children(bytes_):
             if child.kind == TYPE:
-                self.read_type(child, number("I", package.header, 8), counts)
+                self.read_type(child, number("I", package.header, 8), counts, names)
             elif child.kind == SPEC:
                 counts[child.header[8]] = number("I", child.header, 12)
             elif child.kind != POOL:
                 name = {LIBRARY: "library", OVERLAYABLE: "overlayable", STAGED: "staged-alias"}.get(child.kind, "unknown-chunk")
                 self.notes.append((name, child.place))
 
-    def read_type(self, chunk, package_id, counts):
+    def read_type(self, chunk, package_id, counts, names):
         flags, config = chunk.header[9], Config(chunk)
         self.notes += [("16-bit-offsets", chunk.place)] * bool(flags & SHORT) + [("type-flags", chunk.place)] * bool(flags & ~3)
         self.notes += [("gender", chunk.place)] * config.gender + [("newer-qualifier", chunk.place)] * config.newer
@@ -171,13 +228,18 @@ class Table:
                 self.notes.append(("entry-flags", chunk.place))
             index, offset = offset_of(chunk, position, False) if self.opens else (None, None)
             if offset is not None and index < min(counts[type_id], 65536):
-                self.read_row(package_id << 24 | type_id << 16 | index, config, kinds_of(chunk, start + offset))
+                id_ = package_id << 24 | type_id << 16 | index
+                self.read_row(id_, config, values_of(chunk, start + offset))
+                name = names.of(type_id, number("I", chunk.whole, start + offset + 4))
+                self.names += [((package_id, *name), id_)] * (None not in name)
 
-    def read_row(self, id_, config, kinds):
+    def read_row(self, id_, config, values):
         self.configs.append(config)
+        kinds = [kind for kind, _ in values]
         found = {
             "dynamic-reference": 7 in kinds,
             "dynamic-attribute": 8 in kinds,
+            "broken-string": any(kind == 3 and self.strings.get(word) is None for kind, word in values),
             "set-aside": config.set_aside,
             "locale": config.differs_somewhere(),
             "box-locale": any(config.differs_at(locale) for locale in self.locales),
@@ -198,11 +260,22 @@ def is_unknown(said):
     return said == {"from": 0, "to": 0} or (isinstance(said, list) and not any(said))
 
 
-def survey_of(tables, box):
-    """The lines of a survey of the bytes of tables, with a box as it is written, or without one; and the status."""
+def shared_lines(bases):
+    """The line of the ids that have a name which stands for another one, of tables that give names."""
+    names, stands = [named for table in bases for named in table.names], {}
+    for name, id_ in names:
+        stands.setdefault(name, id_)
+    shared = {id_ for name, id_ in names if stands[name] != id_}
+    return [f"warning shared-names {len(shared)} first 0x{min(shared):08x}"] if shared else []
+
+
+def survey_of(tables, box, are_bases):
+    """The lines of a survey of the bytes of tables, with a box as it is written, or without one; and the status. Some of the
+    tables are overlays."""
     locales = [] if box is None else box.get("locale", [""])
     read = [Table(table, locales) for table in tables]
     lines = [line for layer, table in enumerate(read) for line in table.lines(layer)]
+    lines += shared_lines([table for table, is_base in zip(read, are_bases) if is_base])
     lacking = []
     for name in COORDS:
         given = [config for table in read for config in table.configs if config.numbers[name]]

@@ -5,8 +5,8 @@
     planted_bugs.py --control [CRATE | CRATE/BUG ..]
     planted_bugs.py --apply [CRATE | CRATE/BUG ..]
 
-Without a name it takes all. An edit has a line 'seen by: TESTS: NAME'. TESTS is tests/stops, for which the program is
-proved and built with the bug; or a crate of tests, which is built with it and not proved; or tests/stops/calls.py, for
+Without a name it takes all. An edit has a line 'seen by: TESTS: NAME'. TESTS is tests/stops or tests/worked_rows.py, for which the
+program is proved and built with the bug; or a crate of tests, which is built with it and not proved; or tests/stops/calls.py, for
 whose rows of the call NAME the same is done of their programs; a row's last word may stand behind its name. NAME is the
 test that has to fail there. The last line is 'N seen or refused, M let through'; refused is a bug that the prover does
 not let through.
@@ -36,7 +36,8 @@ from worked_calls import WITHOUT_MEMORY, rows
 HERE = Path(__file__).resolve().parent.parent
 RT = os.environ.get("RT", "rt").split()
 PROGRAM = "restool"
-PROGRAM_TESTS = "tests/stops"
+PROGRAM_TESTS = {"tests/stops": ["sh", "tests/stops/stops.sh"], "tests/worked_rows.py": ["python3", "tests/worked_rows.py"]}
+"""The tests of the built program, which print a line `failed: NAME ..`, and how they are run."""
 CALLS = "tests/stops/calls.py"
 RAN = "run=ended status=0"
 """What rt says of a program that has run without a proof."""
@@ -112,7 +113,7 @@ def tried_on_program(edit, copy):
     built = Run([*RT, "run"], crate)
     if not program.exists():
         return "refused" if any("not-proved" in line for line in built.lines) else f"NOT BUILT: {built.lines[-1:]}"
-    ran = Run(["sh", f"{PROGRAM_TESTS}/stops.sh", str(program)], copy)
+    ran = Run([*PROGRAM_TESTS[edit.tests], str(program)], copy)
     return seen(edit, [line for line in ran.lines if line.startswith("failed: ")], f"failed: {edit.test}")
 
 
@@ -167,7 +168,7 @@ def tried(edit, base, work):
 def edit_tried(edit, copy):
     if not edit.tests:
         return tried_by_prover(edit, copy)
-    by_tests = {PROGRAM_TESTS: tried_on_program, CALLS: tried_on_calls}
+    by_tests = {**dict.fromkeys(PROGRAM_TESTS, tried_on_program), CALLS: tried_on_calls}
     return by_tests.get(edit.tests, tried_on_crate)(edit, copy)
 
 

@@ -99,7 +99,7 @@ changes "a new folder" 'cp -r crates/table/proofs crates/text' 'rm -r crates/tex
 changes "two sources changed into each other" \
     'mv crates/text/src/lib.rt "$work"; mv crates/table/src/lib.rt crates/text/src; mv "$work/lib.rt" crates/table/src' \
     'mv crates/text/src/lib.rt "$work"; mv crates/table/src/lib.rt crates/text/src; mv "$work/lib.rt" crates/table/src'
-changes "the list of crates" 'echo "more:" >>crates.txt' "printf '%s\n' '# lowest first' 'text:' 'table: text std' 'restool: table' 'other: text' >crates.txt"
+changes "what a crate stands on" "printf '%s\n' '# lowest first' 'text:' 'table: text' 'restool: table' 'other: text' >crates.txt" "printf '%s\n' '# lowest first' 'text:' 'table: text std' 'restool: table' 'other: text' >crates.txt"
 changes "another prebuilt program's sum" 'echo "a toolchain" >prebuilt/proved-with' 'cp "$work/proved-with" prebuilt'
 chmod -x prebuilt/restool
 proves "a prebuilt program that cannot be run" 'there is no prebuilt/restool'
@@ -113,6 +113,7 @@ stays() {
 stays "a planted bug" 'echo >crates/text/must-fail/bug.edit'
 stays "what a build left" 'mkdir -p crates/text/out && echo >crates/text/out/log'
 stays "a crate that the program does not stand on" 'echo >crates/other/src/lib.rt'
+stays "a crate that is new" 'echo "more:" >>crates.txt'
 stays "a source that is written anew" 'echo text >crates/text/src/lib.rt'
 
 # ---- where out/ cannot be written

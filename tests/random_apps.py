@@ -2,7 +2,7 @@
 import math
 from collections import namedtuple
 
-from made_layers import NamedTable, Resource, Text, ids_of
+from made_layers import Broken, NamedTable, Resource, Text, ids_of
 from plain_bags import Bag
 from plain_certificates import Box
 from plain_map import made_map
@@ -12,11 +12,15 @@ from random_cases import NUMBERS, Focus
 FRAMEWORK, APP = 0x01, 0x7F
 COUNTS = {"string": 3, "color": 2, "dimen": 2, "attr": 3, "style": 3, "array": 1, "plurals": 1}
 """How many resources of each type an app has, at most."""
-ENTRY_NAMES = ("title", "card", "größe", "a b", "Theme.Dark")
-TEXTS = ("Cancel", "Cancel!", "OK", "日本", "", 'say "hi"', "one\ntwo", "😀", "half \ud83d", " on sdk=26", "a -> b")
-VALUES = ((5, 0x401), (5, 0x301), (5, 0x101), (0x1C, 0xFF402000), (0x1D, 0xFF102030), (0x10, 1), (0x10, 2), (0x12, 1))
-OTHERS = ((1, 0), (0, 0), (0, 1), (3, 99), (7, 0x7F010000), (1, 0x7F090000), (2, 0x01010001))
-FIRST_OF = {"array": 0x02000000, "plurals": 0x01000004}
+ENTRY_NAMES = ("title", "card", "größe", "a b", "Theme.Dark", "*", "a\u2028b", "\ud83d\ude00")
+TEXTS = ("Cancel", "Cancel!", "OK", "日本", "", 'say "hi"', "one\ntwo", "😀", "\ud83d\ude00", "half \ud83d", "\udc00", " on sdk=26")
+TEXTS += ("a -> b", "a\u0085", "\u202e\u2069", Broken("Cut", 0), Broken("NotEnded", 0), Broken("NotEnded", 1))
+VALUES = ((5, 0x401), (5, 0x301), (5, 0x101), (0x1C, 0xFF402000), (0x1D, 0xFF402000), (0x1D, 0xFF102030), (0x10, 1), (0x11, 1))
+VALUES += ((0x10, 2), (0x12, 1), (0x12, 1), (0x12, 0xFFFFFFFF), (0x12, 0))
+"""Some of which are told apart, though a device reads them alike."""
+OTHERS = ((1, 0), (0, 0), (0, 1), (3, 99), (3, 98), (7, 0x7F010000), (1, 0x7F090000), (2, 0x01010001))
+FIRST_OF = {"array": (0x02000000, 0x01000001), "plurals": (0x01000004, 0x01000006, 0x01000003)}
+"""The first keys of rows: of an array as either packaging tool writes them."""
 SIZES = (1, 4, 12, 12, 30, 60, 100)
 MOST_MEMBERS = 200
 
@@ -100,6 +104,7 @@ class Apps(Focus):
         for type_name in self.chance.sample(list(COUNTS), len(COUNTS)):
             count = self.chance.randint(0, COUNTS[type_name]) if is_overlay or package_id == FRAMEWORK else COUNTS[type_name]
             names = self.chance.sample(ENTRY_NAMES, count)
+            names += self.chance.sample(names, min(count, self.chance.random() < 0.03))
             resources += [self.resource(type_name, name, is_overlay) for name in names]
         return App(
             resources,
@@ -138,14 +143,17 @@ class Apps(Focus):
             return self.value(type_name)
         if self.chance.random() < 0.05:
             return f"@{self.name(type_name)}"
-        is_style = type_name == "style"
-        names = sorted({self.row_name(is_style) for _ in range(self.chance.randint(0, 3))}) if is_style else None
-        names = names or [FIRST_OF.get(type_name, 0x01010000) + place for place in range(self.chance.randint(0, 3))]
+        is_style, count = type_name == "style", self.chance.randint(0, 3)
+        if is_style:
+            names = sorted({self.row_name(True) for _ in range(count)})
+        else:
+            first = self.chance.choice(FIRST_OF[type_name])
+            names = [first + place for place in range(count)]
         parent = self.name("style") if is_style and self.chance.random() < 0.4 else 0
         return Bag(parent, [(name, self.value(self.chance.choice(list(COUNTS)[:4]))) for name in names])
 
     def row_name(self, is_style):
-        return self.name("attr") if is_style else self.chance.choice(list(FIRST_OF.values())) + self.chance.randrange(4)
+        return self.name("attr") if is_style else self.chance.choice(sum(FIRST_OF.values(), ())) + self.chance.randrange(4)
 
     def value(self, type_name):
         draw = self.chance.random()

@@ -51,6 +51,8 @@ class Focus:
 
     often = 0.6
     numbers = NUMBERS
+    box_of = Box
+    layers_of = Layers
 
     def __init__(self, chance):
         self.chance = chance
@@ -100,7 +102,7 @@ class Focus:
             if name not in said and (name == "density" or self.chance.random() < 0.15):
                 single = name == "locale" or self.chance.random() < 0.5
                 said[name] = self.random_choice(name, 1) if single else self.random_range(name, 1)
-        return Box(said)
+        return self.box_of(said)
 
     def narrowed(self, box, size):
         """The box with one value of each coordinate but one, of which it has so many at most."""
@@ -111,7 +113,7 @@ class Focus:
         name = self.chance.choice(self.focus)
         is_choice = name == "locale" or self.chance.random() < 0.4
         said[name] = self.random_choice(name, min(size, 8)) if is_choice else self.random_range(name, size)
-        return Box(said)
+        return self.box_of(said)
 
 
 class Case(Focus):
@@ -122,7 +124,7 @@ class Case(Focus):
         self.has_styles = has_styles
         self.tables = [self.rows() for _ in range(chance.randint(1, 3))]
         self.maps = [None] + [self.id_map() for _ in self.tables[1:]]
-        self.layers = Layers([(by_id(rows), own) for rows, own in zip(self.tables, self.maps)])
+        self.layers = self.layers_of([(by_id(rows), own) for rows, own in zip(self.tables, self.maps)])
         self.box = self.random_box((2, 30, 100, 300) if has_styles else (2, 30, 300, MOST_MEMBERS))
         self.members = self.box.members()
         self.asked = [self.goal() for _ in range(chance.randint(1, 3))]

@@ -3,24 +3,25 @@
 
     worked_diff.py PROGRAM
 
-Each case has the layers before and after, words that ask for some resources, and the lines that are due. Those of one label
-may stand in any order. The last line is the number of cases."""
+Each case has the layers after a change, words that ask for some resources, and the lines that are due; and, where they are not
+those of one app, the layers before it. The last line is the number of cases."""
 import os
 import subprocess
 import sys
 import tempfile
 
-from check_diff import with_rows, write_inputs
-from made_layers import NamedTable, Resource, Text, ids_of
+from check_diff import write_inputs
+from made_layers import Broken, NamedTable, Resource, Text, ids_of
 from plain_bags import Bag
 from plain_map import made_map
 from plain_rules import Record
 
-ANY, GERMAN, LAND, WIDE, NIGHT, DENSE, NEWER = (
+ANY, GERMAN, GREEK, LAND, WIDE, NIGHT, DENSE, NEWER = (
     Record(given)
     for given in (
         {},
         {"locale": "de"},
+        {"locale": "el"},
         {"orientation": 2},
         {"smallestWidthDp": 600},
         {"night": 2},
@@ -89,6 +90,50 @@ def changed(*others):
     return app([rows.get(each.name, each) for each in APP])
 
 
+def one(name, cell):
+    """An app of one resource."""
+    return app([resource(name, (ANY, cell))])
+
+
+def array(first, *texts):
+    """An array as a packaging tool numbers it."""
+    return one("array/x", Bag(0, [(first + place, Text(text)) for place, text in enumerate(texts)]))
+
+
+def tinted(size, tint):
+    return Bag(0, [("attr/size", dp(size)), ("attr/tint", tint)])
+
+
+def shared(name):
+    """Two dimensions, of which one is called `same`."""
+    return app([resource("dimen/same", (ANY, dp(1))), resource(f"dimen/{name}", (ANY, dp(2)))])
+
+
+def scripted(count):
+    """A string with so many rows for a script."""
+    latin = Record({"locale": "sr"}, script=b"Latn")
+    return app([resource("string/s", (ANY, dp(1)), *[(latin, dp(2))] * count)])
+
+
+QUANTITIES = ("other", "zero", "one", "two", "few", "many", "0x01000003", "0x0100000a")
+
+
+def packages(number):
+    """Attributes of a framework, a library and an app, and a style with rows for them and for ids that have no name."""
+    layers = []
+    for package in (0x01, 0x02, 0x7F):
+        of_package = [resource("attr/b", (ANY, dp(1))), resource("attr/é", (ANY, dp(1))), resource("attr/a", (ANY, dp(1)))]
+        layers.append((NamedTable(of_package, ids_of(of_package, package), package), None))
+    names = [package << 24 | type_id << 16 | entry for package in (0x01, 0x02, 0x7F) for type_id in (1, 9) for entry in range(3)]
+    styled = [Resource("attr", "a", []), resource("style/s", (ANY, Bag(0, [(name, dp(number)) for name in names])))]
+    return [*layers, (NamedTable(styled, {}), None)]
+
+
+KEYS = ("android:attr/a", "android:attr/b", "android:attr/é", "0x02:attr/a", "0x02:attr/b", "0x02:attr/é", "attr/a", "attr/b", "attr/é")
+KEYS += tuple(f"0x{package}09000{entry}" for package in ("01", "02", "7f") for entry in range(3))
+PACKAGES_CHANGED = "changed style/s\n" + "".join(f"  {key} dimension 1/2^0 dp -> dimension 2/2^0 dp\n" for key in KEYS) + "same 9"
+
+
 CASES = [
     (app(APP), (), "same 12"),
     (changed(resource("string/title", (ANY, Text("Tea pot")))), (), 'changed string/title "Teapot" -> "Tea pot"\nsame 11'),
@@ -113,12 +158,12 @@ CASES = [
     (
         changed(resource("array/steps", (ANY, Bag(0, [(0x02000000, Text("Fill")), (0x02000001, Text("Pour"))])))),
         (),
-        'changed array/steps\n  0x02000001 "Boil" -> "Pour"\nsame 11',
+        'changed array/steps\n  [1] "Boil" -> "Pour"\nsame 11',
     ),
     (
         changed(resource("plurals/cups", (ANY, Bag(0, [(OTHER, Text("%d cups")), (ONE, Text("a cup"))])))),
         (),
-        'changed plurals/cups\n  0x01000006 "%d cup" -> "a cup"\nsame 11',
+        'changed plurals/cups\n  one "%d cup" -> "a cup"\nsame 11',
     ),
     # A row for wide devices is better than one for wide screens.
     (
@@ -171,16 +216,113 @@ CASES = [
     (app(APP[1:]), ("attr/size", "dimen/*", "dimen/margin"), "removed attr/size\nsame 2"),
     (app(APP[1:]), ("0x7f010000",), "removed attr/size\nsame 1"),
     (app(APP[1:]), ("dimen/margin", "dimen/none", "none/*"), "no resource dimen/none"),
+    # ---- values that a device reads alike, and strings that cannot be read
+    (changed(resource("color/ink", (ANY, (0x1D, 0xFF000000)), (NIGHT, WHITE))), (), "same 12"),
+    (one("bool/b", (0x12, 0xFFFFFFFF)), (), "same 1", one("bool/b", (0x12, 1))),
+    (one("bool/b", (0x10, 1)), (), "changed bool/b true -> decimal 1\nsame 0", one("bool/b", (0x12, 1))),
+    # Two values that are read alike make one line.
+    (
+        app([resource("bool/b", (ANY, (0x12, 1)), (DENSE, (0x12, 0xFFFFFFFF)))]),
+        (),
+        "changed bool/b false -> true\nsame 0",
+        one("bool/b", (0x12, 0)),
+    ),
+    (
+        app([resource("dimen/d", (ANY, dp(4)), (DENSE, (5, 4 << 8 | 0xC1)))]),
+        (),
+        "changed dimen/d dimension 1/2^0 dp -> dimension 4/2^0 dp\nsame 0",
+        one("dimen/d", dp(1)),
+    ),
+    (one("id/i", (0x11, 10)), (), "same 1", one("id/i", (0x10, 10))),
+    (one("id/i", (0x11, 10)), (), "changed id/i float 0x0000000a -> hex 0x0000000a\nsame 0", one("id/i", (4, 10))),
+    (one("string/s", (3, 9)), (), "changed string/s !NoSuch 8 -> !NoSuch 9\nsame 0", one("string/s", (3, 8))),
+    (one("string/s", (3, 8)), (), "same 1", one("string/s", (3, 8))),
+    (
+        one("string/s", Text(Broken("Cut", 0))),
+        (),
+        "changed string/s !NotEnded 0 -> !Cut 0\nsame 0",
+        one("string/s", Text(Broken("NotEnded", 0))),
+    ),
+    # aapt2 writes a character above U+FFFF as two surrogates of three bytes.
+    (one("string/s", Text("\ud83d\ude00")), (), "same 1", one("string/s", Text("😀"))),
+    (one("string/\ud83d\ude00", dp(1)), ("string/😀",), "same 1", one("string/😀", dp(1))),
+    (
+        one("string/s", Text("a\u2028b\u202e")),
+        (),
+        'changed string/s "\\u0085" -> "a\\u2028b\\u202e"\nsame 0',
+        one("string/s", Text("\x85")),
+    ),
+    (one("string/a\u2066", dp(1)), (), 'added string/"a\\u2066"\nsame 0', []),
+    (app([resource("dimen/*", (ANY, dp(1))), resource("*/a", (ANY, dp(1)))]), (), 'added "*"/a\nadded dimen/"*"\nsame 0', []),
+    # ---- references and parents without an end, by the id that is one too many, or has them
+    (one("color/a", "@color/a"), (), "changed color/a dimension 1/2^0 dp -> too many references color/a\nsame 0", one("color/a", dp(1))),
+    (
+        app([resource("color/a", (ANY, "@color/b")), resource("color/b", (ANY, "@color/c")), resource("color/c", (ANY, "@color/b"))]),
+        ("color/a",),
+        "changed color/a too many references color/a -> too many references color/b\nsame 0",
+        app([resource("color/a", (ANY, "@color/a")), resource("color/b", (ANY, dp(1))), resource("color/c", (ANY, dp(1)))]),
+    ),
+    (
+        app([resource("style/a", (ANY, "@style/b")), resource("style/b", (ANY, Bag("style/b", [])))]),
+        ("style/a",),
+        "changed style/a absent style/b -> too many parents style/b\nsame 0",
+        app([resource("style/a", (ANY, "@style/b")), resource("style/b", (GREEK, Bag(0, [])))]),
+    ),
+    # ---- rows by their keys: places, quantities, names by package, ids
+    (array(0x01000001, "b", "a"), (), 'changed array/x\n  [0] "a" -> "b"\n  [1] "b" -> "a"\nsame 0', array(0x02000000, "a", "b")),
+    (array(0x01000001, "a", "b"), (), "same 1", array(0x02000000, "a", "b")),
+    (array(0x01000001, *"abcdefghijkl"), (), 'changed array/x\n  removed [12] "m"\nsame 0', array(0x02000000, *"abcdefghijklm")),
+    (
+        one("plurals/p", Bag(0, [(place, dp(2)) for place in range(0x01000003, 0x0100000B)])),
+        (),
+        "changed plurals/p\n" + "".join(f"  {name} dimension 1/2^0 dp -> dimension 2/2^0 dp\n" for name in QUANTITIES) + "same 0",
+        one("plurals/p", Bag(0, [(place, dp(1)) for place in range(0x01000003, 0x0100000B)])),
+    ),
+    # An array behind a reference, and one that a style replaces.
+    (
+        app([resource("string/x", (ANY, "@array/y")), resource("array/y", (ANY, Bag(0, [(0x02000000, dp(2))])))]),
+        ("string/x",),
+        "changed string/x\n  [0] dimension 1/2^0 dp -> dimension 2/2^0 dp\nsame 0",
+        app([resource("string/x", (ANY, "@array/y")), resource("array/y", (ANY, Bag(0, [(0x02000000, dp(1))])))]),
+    ),
+    (
+        one("array/x", dp(1)),
+        (),
+        "changed array/x bag -> dimension 1/2^0 dp\n  removed [0] decimal 0\nsame 0",
+        one("array/x", Bag(0, [(7, (0x10, 0))])),
+    ),
+    (packages(2), (), PACKAGES_CHANGED, packages(1)),
+    # ---- one change, whatever else is in the bags
+    (
+        app([*APP[:2], resource("style/s", (ANY, tinted(1, WHITE)), (LAND, tinted(2, WHITE)))]),
+        (),
+        "changed style/s\n  attr/tint argb8 #ff000000 -> argb8 #ffffffff\nsame 2",
+        app([*APP[:2], resource("style/s", (ANY, tinted(1, BLACK)), (LAND, tinted(2, BLACK)))]),
+    ),
+    (
+        app([*APP[:2], resource("style/s", (ANY, tinted(1, WHITE)), (LAND, tinted(3, WHITE)))]),
+        (),
+        "changed style/s on orientation=1\n  attr/tint argb8 #ff000000 -> argb8 #ffffffff\n"
+        "changed style/s on orientation=2\n  attr/size dimension 2/2^0 dp -> dimension 3/2^0 dp\n"
+        "  attr/tint argb8 #ff000000 -> argb8 #ffffffff\nsame 2",
+        app([*APP[:2], resource("style/s", (ANY, tinted(1, BLACK)), (LAND, tinted(2, BLACK)))]),
+    ),
+    # ---- what the stacks count
+    (shared("other"), (), "added dimen/other\nremoved 0x7f010001\nwarning shared-names 1 0\nsame 1", shared("same")),
+    (shared("same"), (), "warning shared-names 1 1\nsame 2", shared("same")),
+    (one("string/s", dp(1)), (), "set-aside 2 0\nsame 1", scripted(2)),
+    (scripted(2), (), "set-aside 1 2\nsame 1", scripted(1)),
+    (scripted(1), ("string/s",), "set-aside 0 1\nsame 1", one("string/s", dp(1))),
 ]
 
 
 def check_case(program, folder, place):
     """The fault of a case."""
-    after, words, due = CASES[place]
-    write_inputs(folder, app(APP), after, BOX)
+    after, words, due, *before = CASES[place]
+    write_inputs(folder, before[0] if before else app(APP), after, BOX)
     done = subprocess.run([program, "diff", "old", "new", "box", *words], cwd=folder, capture_output=True, text=True)
-    lines, status = done.stdout + done.stderr, int(not due.startswith("same"))
-    if done.returncode == status and sorted(with_rows(lines)) == sorted(with_rows(f"{due}\n")):
+    lines, status = done.stdout + done.stderr, int(due.startswith(("changed ", "added ", "removed ", "no resource ")))
+    if (lines, done.returncode) == (f"{due}\n", status):
         return ""
     return f"case {place}: status {done.returncode}\n{lines}where this is due, with {status}\n{due}\n"
 

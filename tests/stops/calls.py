@@ -8,7 +8,8 @@ LIBRARY is refuse.c, built to be preloaded. The programs are those that are buil
 --programs prints their names. Each row runs once for each growth of memory in which this one is refused, and once more
 in which all from there on are; what the call is given is made before. Calls that take no memory run with every growth
 refused. A row is named after the one public call that it makes, or, where that takes no memory, after a crate. Each
-public call that takes memory has a row, or is told to be made in turn by one that has, and is. The last line is 'N passed, M failed'."""
+public call that takes memory has a row, or is one that the program makes, of which refusals.py refuses memory in each
+command; or it is told to be made in turn by such a one, and is. The last line is 'N passed, M failed'."""
 import os
 import subprocess
 import sys
@@ -17,7 +18,7 @@ from concurrent.futures import ThreadPoolExecutor
 from pathlib import Path
 
 from library import Library, full_name
-from worked_calls import REACHED, WITHOUT_MEMORY, rows
+from worked_calls import BY_PROGRAM, REACHED, WITHOUT_MEMORY, rows
 
 HERE = Path(__file__).resolve().parent.parent.parent
 WANTS = ("OutOfMemory", "AllocError")
@@ -33,21 +34,27 @@ def name_of(row):
 
 
 def faults_of_names(library):
-    """What rows are named after that is no public call, or is several; what a call is said to make in turn and does not;
-    and the calls that take memory and are neither."""
+    """What rows are named after that is no public call, or is several; what the program is said to make and does not, and
+    what a call is said to make in turn; and the calls that take memory and are none of these."""
     public, tried = library.public(), set()
     for name in sorted({name_of(row) for row in rows()} | {name_of(row) for row in WITHOUT_MEMORY} - {*library.below}):
         if len(public[name]) != 1:
             yield f"{len(public[name])} public calls are named {name}"
     for name in {name_of(row) for row in rows()}:
         tried.update(public[name])
+    of_program = library.reached(library.of_program())
+    for name in BY_PROGRAM.split():
+        made = [call for call in public[name] if call in of_program]
+        tried.update(made)
+        if not made:
+            yield f"the program does not make {name}"
     for name, in_turn in REACHED.items():
         reached = library.reached(call for call in public[name] if call in tried)
         for told in in_turn.split():
             made = [call for call in public[told] if call in reached]
             tried.update(made)
             if not made:
-                yield f"{name} has no row, or does not make {told}"
+                yield f"{name} is not tried, or does not make {told}"
     for call in (it for named in public.values() for it in named):
         if call.takes_memory and call not in tried:
             yield f"no row for {full_name(call)} of {call.crate}"

@@ -38,7 +38,7 @@ def table(rise):
     return NamedTable(resources, ids_of(resources))
 
 
-BY_CARRIER = [f"changed integer/carrier decimal {code} -> decimal {code + RISE} on mnc={code}" for code in CARRIERS]
+BY_CARRIER = sorted(f"changed integer/carrier decimal {code} -> decimal {code + RISE} on mnc={code}" for code in CARRIERS)
 OF_LEVELS = [f"changed integer/level{place:05} decimal {place} -> decimal {place + RISE}" for place in range(CHANGED)]
 TESTS = [
     ("301 changes of a name", ["integer/carrier"], [*BY_CARRIER, "same 0"]),

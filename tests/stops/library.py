@@ -1,4 +1,5 @@
-"""The functions of the library as their sources have them: which take memory, and which call which. For calls.py.
+"""The functions of the library as their sources have them, and those of the program: which take memory, and which call
+which. For calls.py.
 
 A call is read from its words alone: `Table::open(..)` and `Self::open(..)` tell the type, `open_table(..)` a function that
 the file names or that stands in the same crate, and `.push(..)` is a method of that name of a type that the file names,
@@ -8,9 +9,9 @@ from collections import defaultdict, namedtuple
 from pathlib import Path
 
 HERE = Path(__file__).resolve().parent.parent.parent
-OF_THE_PROGRAM = ("command_words", "program_run", "restool")
-"""Crates whose calls refusals.py refuses memory."""
-OF_TESTS = re.compile(r"^test_|_acceptance$")
+OF_THE_PROGRAM = ("restool",)
+"""Crates of which refusals.py runs the whole: their functions need no rows."""
+OF_TESTS = re.compile(r"^test_")
 """Crates that nothing which is built for users stands on."""
 HEAD = re.compile(
     r"^impl\b(?:<[^>]*>)?[^{]*?(?P<type>\w+)(?:<[^{}]*>)? \{$"
@@ -18,7 +19,7 @@ HEAD = re.compile(
     re.M | re.S,
 )
 """The head of an impl, or of a function without its contract."""
-TAKES = re.compile(r"alloc: Global|OutOfMemory|AllocError|NoMemory|StackFault|BagFault")
+TAKES = re.compile(r"alloc: Global|OutOfMemory|AllocError|NoMemory|StackFault|BagFault|Stop<")
 """What says in a function's head that it takes memory."""
 COMMENT = re.compile(r"//[^\n]*")
 CALL = re.compile(r"(?P<dot>\.)?(?:\b(?P<path>\w+)::(?:<[^<>]*>::)?)?\b(?P<name>[a-z_]\w*)(?:::<[^<>]*>)?\(")
@@ -48,18 +49,18 @@ def functions_of(crate, path):
 
 
 def crates_below():
-    """Of each crate of the library, itself and all that it stands on."""
+    """Of each crate of the library and of the program, itself and all that it stands on."""
     below = {}
     for line in (HERE / "crates.txt").read_text().splitlines():
         name, _, uses = line.partition("#")[0].partition(":")
         name = name.strip()
-        if name and name not in OF_THE_PROGRAM and not OF_TESTS.search(name):
+        if name and not OF_TESTS.search(name):
             below[name] = {name}.union(*(below.get(use, ()) for use in uses.split()))
     return below
 
 
 class Library:
-    """All functions of the library, and which call which."""
+    """All functions of the library and of the program, and which call which."""
 
     def __init__(self):
         self.below = crates_below()
@@ -74,12 +75,16 @@ class Library:
             self.by_name[function.name].append(function)
 
     def public(self):
-        """The public functions by their names."""
+        """The public functions of the library by their names."""
         found = defaultdict(list)
         for function in self.functions:
-            if function.is_public:
+            if function.is_public and function.crate not in OF_THE_PROGRAM:
                 found[full_name(function)].append(function)
         return found
+
+    def of_program(self):
+        """The functions of the program."""
+        return [function for function in self.functions if function.crate in OF_THE_PROGRAM]
 
     def called_by(self, caller):
         """The functions whose calls stand in a function."""

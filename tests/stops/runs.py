@@ -85,6 +85,27 @@ DUMP = lines(
 )
 MADE_MAP = text_of("examples", "porcelain", "map.json")
 WITHOUT_HANDLE = MADE_MAP.replace(' ["0x7f030000","0x7f040000"],\n', "")
+LISTED = lines(
+    '0x7f020000 "color"/"steam"',
+    '0x7f020001 "color"/"clay"',
+    '0x7f020002 "color"/"glaze"',
+    '0x7f020003 "color"/"ink"',
+    '0x7f030000 "dimen"/"handle"',
+    '0x7f030001 "dimen"/"label"',
+    '0x7f030002 "dimen"/"hairline"',
+    '0x7f030003 "dimen"/"drip"',
+    '0x7f040000 "fraction"/"share"',
+    '0x7f040001 "fraction"/"half_of_parent"',
+    '0x7f050000 "string"/"title"',
+    '0x7f050001 "string"/"pour"',
+    '0x7f050002 "string"/"brand"',
+    '0x7f060000 "bool"/"whistles"',
+    '0x7f060001 "bool"/"electric"',
+    '0x7f070000 "integer"/"cups"',
+    '0x7f070001 "integer"/"frost"',
+    '0x7f070002 "integer"/"mask"',
+    '0x7f070003 "integer"/"pi"',
+)
 EXPLAINED = lines(
     "lookup 0x7f050002",
     "candidate 0 layer 0 [] first",
@@ -142,11 +163,13 @@ SHOWN = lines(
     "2\telse value layer 0 dimension 13/2^0 dp",
     "goals 2",
 )
+ASIDE = "set-aside 1 1"
 DIFFERENT = lines(
     "changed color/clay argb8 #fff8f4ec -> argb8 #ffb87333 on night=1",
     "changed color/clay rgb8 #ff402000 -> argb8 #ff7a4a20 on night=2",
     'changed string/brand "Porcelain teapot" -> "Copper teapot" on locale=en-GB,en-US',
     'changed string/title "Porcelain teapot" -> "Copper teapot" on locale=en-GB,en-US',
+    ASIDE,
     "same 16",
 )
 TABLELESS = lines(
@@ -154,6 +177,14 @@ TABLELESS = lines(
     "  <TABLE>",
     "",
     "Usage: restool rows <TABLE>",
+    "",
+    "For more information, try '--help'.",
+)
+LAYERLESS = TABLELESS.replace("TABLE", "LAYERS").replace("rows", "ids")
+TWO_LISTS = lines(
+    f"error: unexpected argument '{COPPER}' found",
+    "",
+    "Usage: restool ids <LAYERS>",
     "",
     "For more information, try '--help'.",
 )
@@ -190,6 +221,7 @@ def device_runs():
 
 def layers_runs():
     """Runs of the commands that ask about layers alone."""
+    yield Run("ids", ["ids", LAYERS], LAYER_FILES, out=LISTED)
     yield Run("survey", ["survey", LAYERS, PHONES], [*LAYER_FILES, PHONES], out=SURVEYED)
     yield Run("survey without a box", ["survey", LAYERS], LAYER_FILES, out=SURVEYED)
     yield Run("show", ["show", LAYERS, CERTIFICATE], [*LAYER_FILES, CERTIFICATE], out=SHOWN)
@@ -219,9 +251,9 @@ def change_runs():
     change, of_change = [LAYERS, COPPER, PHONES], [*LAYER_FILES, *COPPER_FILES, PHONES]
     yield Run("diff", ["diff", *change], of_change, 1, DIFFERENT)
     title = [line for line in DIFFERENT.splitlines() if "/title" in line]
-    yield Run("diff of names", ["diff", *change, "string/title", "dimen/*"], of_change, 1, lines(*title, "same 4"))
+    yield Run("diff of names", ["diff", *change, "string/title", "dimen/*"], of_change, 1, lines(*title, ASIDE, "same 4"))
     of_same = ["diff", "--max-nodes", "3", LAYERS, LAYERS, PHONES, "string/*"]
-    yield Run("diff of the same", of_same, [*LAYER_FILES, *LAYER_FILES, PHONES], out="same 3\n")
+    yield Run("diff of the same", of_same, [*LAYER_FILES, *LAYER_FILES, PHONES], out=lines(ASIDE, "same 3"))
     limited = ["diff", "--max-nodes", "1", *change, "string/title"]
     yield Run("node limit of a change", limited, of_change, 1, "node limit\n")
 
@@ -229,6 +261,8 @@ def change_runs():
 def stopped_runs():
     """Runs that end with a message."""
     yield Run("no TABLE", ["rows"], status=2, err=TABLELESS)
+    yield Run("no LAYERS", ["ids"], status=2, err=LAYERLESS)
+    yield Run("two lists of layers", ["ids", LAYERS, COPPER], status=2, err=TWO_LISTS)
     yield Run("bad id", ["explain", LAYERS, PHONE, "7"], status=2, err="command: bad id 7\n")
     yield Run("absent file", ["dump", "absent"], ["absent"], 5, err="file: absent\n")
 
@@ -244,6 +278,11 @@ def claiming_runs(folder):
     write_files(folder, {"claiming": claiming_table(), "of-claiming": b'[{"table":"claiming"}]'})
     surveyed = lines("warning layer 0 16-bit-offsets 334 first 396", "refused: layer 0 table: TypeWithoutSpec 300")
     yield Run("claimed entries", ["survey", "of-claiming"], ["of-claiming", "claiming"], 1, surveyed, folder=folder)
+    other = b'[{"table":"other"},{"table":"claiming"}]'
+    write_files(folder, {"other": b"PK", "of-other": other})
+    message = "refused: layer 0 table: Chunk Truncated 0\n"
+    files = ["of-other", "other", "claiming"]
+    yield Run("a warning of another layer", ["survey", "of-other"], files, 3, err=message, folder=folder)
 
 
 def made_runs(folder):

@@ -124,6 +124,7 @@ line of-table '[{"table":"-"}]'
 line of-map '[{"table":"whole","map":"-"}]'
 input=layers
 asks - device box "no list of layers named -" 5 'file: -'
+stops "ids: no list of layers named -" 5 'file: -' ids -
 input=device
 asks layers - '' "no device named -" 5 'file: -'
 input=box
@@ -181,6 +182,8 @@ stops "no certificate" 5 'file: no-certificate' check layers box no-certificate 
 head -c 4 whole >cut
 line of-cut '[{"table":"cut"}]'
 asks of-cut no-device no-device "a file comes before what is in a table" 5 'file: no-device'
+line of-order '[{"table":"cut","map":"no-map"}]'
+stops "ids: a file comes before what is in a table" 5 'file: no-map' ids of-order
 line not-a-box '{"density":[]}'
 stops "a file comes before what is in a box" 5 'file: no-certificate' check layers not-a-box no-certificate $id
 

@@ -28,6 +28,9 @@ K = 'Name { package: 127, type_name: "s", entry_name: "k" }'
 """The label of the entry of table B."""
 
 
+DIFFERENT_BAGS = "0 [] bag 0x00000000 0x01010001=1 0x01010002=2\n1 [] bag 0x00000000 0x01010001=7 0x01010003=3"
+
+
 def row(group, words, answer, unchanged=()):
     """Of test_commands, or of a group of test_calls."""
     program, given = ("test_commands", words) if group == "commands" else ("test_calls", [group, *words])
@@ -265,13 +268,13 @@ def stack_rows():
     yield row("stacks", ["bag", BAGS], of_bag)
     of_chain = [f"(ResId({0x01010000 + place}), 0, Value {{ kind: 16, word: {place} }})" for place in range(LONG)]
     yield row("stacks", ["bag", CHAIN], "\n".join(of_chain))
-    yield row("stacks", ["content_at", "0 [] string"], "!NoSuch")
     yield row("stacks", ["content_at", named_in_utf16("?s/k")], "?s/k")
     numbers = [(f"{0x01010001 + place:#010x}", place) for place in range(MANY)]
     many = " ".join(f"{name}={number}" for name, number in reversed(numbers))
     said = "\n".join(f"{name}\ndecimal {number}" for name, number in numbers)
     yield row("stacks", ["content_at", f"0 [] bag 0x00000000 {many}"], said)
     yield row("stacks", ["content_at", bag_of_names()[0]], bag_of_names()[1])
+    yield from difference_rows()
     unset = [absent(C), absent(D)]
     before = [value(ONE), value(EMPTY), *unset]
     after = [value(ONE), value(EMPTY), value(ONE), unset[1]]
@@ -280,6 +283,18 @@ def stack_rows():
     yield row("stacks", ["Theme::apply with force", STYLES], "\n".join(forced), before)
     yield row("stacks", ["Theme::apply first", STYLES], "\n".join(before), [absent(A), absent(B), *unset])
     yield row("stacks", ["Theme::of_styles", STYLES], "\n".join(after))
+
+
+def difference_rows():
+    """How entry 1 differs from entry 0."""
+
+    def other(word):
+        return f"Other {{ kind: 16, word: {word} }}"
+
+    changed = f"Changed {{ key: Called(Id({A})), before: {other(1)}, after: {other(7)} }}"
+    removed, added = (f"RowContent {{ key: Called(Id({id})), value: {other(word)} }}" for id, word in ((B, 2), (C, 3)))
+    rows = f"Rows([{changed}, Removed({removed}), Added({added})])"
+    yield row("stacks", ["difference_at", DIFFERENT_BAGS], f"Some({rows})")
 
 
 def goal_rows():
@@ -333,20 +348,17 @@ def make_rows(ask):
 
 
 def diff_rows(ask):
-    """Two stacks side by side: how many changes a label has; and of each the contents before and after, and its boxes."""
+    """Two stacks side by side: how many changes a resource has; and of each what is said before and after, and its boxes."""
     other = DENSITIES.replace("] 2", "] 3")
-    yield ask("compare_stacks", DENSITIES, TO_197, "0", nodes=other)
-    yield ask("compare_stacks", DENSITIES, TO_198, "1\ndecimal 2\ndecimal 3\n1", nodes=other)
-    yield ask("compare_stacks", "0 [locale=fr] 1", BOTH_LOCALES, f"1\nAbsent\n{ID}\ndecimal 2\n1", nodes=LOCALES)
+    yield ask("compare", DENSITIES, TO_197, "0", nodes=other)
+    yield ask("compare", DENSITIES, TO_198, "1\ndecimal 2\ndecimal 3\n1", nodes=other)
+    yield ask("compare", "0 [locale=fr] 1", BOTH_LOCALES, f"1\nAbsent\n{ID}\ndecimal 2\n1", nodes=LOCALES)
     three = [f"0 [locale=fr] {one}\n0 [locale=de] {two}\n0 [locale=it] {one}" for one, two in ((1, 2), (3, 4))]
     in_three = '{"density":[160],"locale":["fr","de","it"]}'
-    yield ask("compare_stacks", three[0], in_three, "2\ndecimal 1\ndecimal 3\n1\ndecimal 2\ndecimal 4\n1", nodes=three[1])
+    yield ask("compare", three[0], in_three, "2\ndecimal 1\ndecimal 3\n1\ndecimal 2\ndecimal 4\n1", nodes=three[1])
     five = ["\n".join(f"0 [locale={locale}] {number}" for locale in FIVE) for number in (1, 3)]
     in_five = f'{{"density":[160],"locale":{json.dumps(FIVE)}}}'
-    yield ask("compare_stacks", five[0], in_five, "1\ndecimal 1\ndecimal 3\n1", nodes=five[1])
-    yield ask("compare_with_itself", DENSITIES, TO_198, "0\nAdded", nodes="0 [] 1\n1 [] 2")
-    many = "\n".join(f"{entry} [] 1" for entry in range(11))
-    yield ask("compare_with_itself", many, MEDIUM_BOX, "NodeLimit", nodes=many)
+    yield ask("compare", five[0], in_five, "1\ndecimal 1\ndecimal 3\n1", nodes=five[1])
 
 
 def omit_rows(ask):
@@ -385,6 +397,8 @@ def command_rows():
 
     two = f"row {ID} [density=160] decimal 2\nrow {ID} [] decimal 1\nrows 2 set-aside 0\nDone"
     yield ask("rows_bytes", "0 [density=160] 2\n0 [] 1", two)
+    yield ask("ids_bytes", "0 [] 1\n1 [night=2] 2\n1 [] 3", f"{ID} !NoSuch/!NoSuch\n0x7f010001 !NoSuch/!NoSuch\nDone")
+    yield ask("ids_bytes", "B", f'{ID} "s"/"k"\nDone')
     dumped = f'package 0x7f ""\n  {ID} !NoSuch/!NoSuch flags 0x00000000 [] decimal 5\nDone'
     yield ask("dump_bytes", "A", dumped)
     yield ask("map_bytes", "B", f'[["{ID}","{ID}"]]\nDone', "B")
@@ -512,7 +526,7 @@ def diff_commands(ask):
     """Two tables, and a box in place of a certificate."""
 
     def compare(old, new, answer, box=MEDIUM_BOX):
-        for name in ("diff_bytes", "OpenedDiff::diff"):
+        for name in ("diff_bytes", "NamedDiff::diff"):
             yield ask(name, old, answer, new, nodes=box)
 
     other = DENSITIES.replace("] 2", "] 3")
@@ -587,11 +601,20 @@ WITHOUT_MEMORY = [
     without_memory("names", "pairs_named", f"[{pair(K, f'Both {{ old: {FIRST}, new: {FIRST} }}')}]", "B", "B"),
     without_memory("tables", "resource_table", f'(1, 0)\ntrue\n"s""k"\n(Some({FIRST}), None)'),
     without_memory("stacks", "overlay_map", "(1, 0)\ntrue\ntrue\ntrue", DENSITIES),
+    without_memory("stacks", "content_at", "!NoSuch 0", "0 [] string"),
     without_memory(
         "stacks",
-        "write_change",
-        f"changed {ID}\n  0x01010001 decimal 1 -> decimal 7\n  removed 0x01010002 decimal 2\n  added 0x01010003 decimal 3\n",
-        "0 [] bag 0x00000000 0x01010001=1 0x01010002=2\n1 [] bag 0x00000000 0x01010001=7 0x01010003=3",
+        "difference_at",
+        "Some(Contents { before: Value(Other { kind: 16, word: 1 }), after: Value(Other { kind: 16, word: 2 }) })",
+        "0 [] 1\n1 [] 2",
+    ),
+    without_memory("goals", "compare one stack", "0", DENSITIES, TO_198, certificate(goal=ID_GOAL, version=2), "1"),
+    without_memory("goals", "compare one stack", "NodeLimit", DENSITIES, TO_198, certificate(goal=ID_GOAL, version=2), ""),
+    without_memory(
+        "stacks",
+        "write_difference",
+        "\n  0x01010001 decimal 1 -> decimal 7\n  removed 0x01010002 decimal 2\n  added 0x01010003 decimal 3\n",
+        DIFFERENT_BAGS,
     ),
     without_memory(
         "stacks",
@@ -655,34 +678,45 @@ WITHOUT_MEMORY = [
 ]
 """Calls that take no memory: of a table without rows, where the table is refused at once, and those of a crate together."""
 
+BY_PROGRAM = """Rows::answer Dump::answer Map::answer Ids::answer Survey::answer Show::answer Query::answer Explain::answer
+    Bag::answer Attr::answer Make::answer Check::answer Diff::answer"""
+"""Public calls that read what the words of a command name, and answer it. They have no rows: the program makes them, and
+refusals.py refuses it memory in each command."""
+
 REACHED = {
+    "Rows::answer": "table_bytes",
+    "Survey::answer": "LayerFiles::read LayerFiles::layers file_bytes layer_file_bytes",
+    "Explain::answer": "DeviceFiles::read OpenId::open",
+    "Query::answer": "AskedFiles::read asked_words asked_sets",
+    "Make::answer": "asked_goals",
+    "Diff::answer": "LayerFiles::read_side",
     "Table::open": "BagChecks::new BagChecks::make_ready types_of_children",
     "Device::read": "read_value",
     "Goal::read": "GoalWord::read",
     "open_side": "Stack::new",
-    "find_names": "Places::new Places::push Passed::new Passed::put",
-    "name_pairs": "name_text Noted::new Noted::note Noted::ids_on Noted::into_pairs Passed::new Passed::put",
+    "find_names": "Places::new Places::push Passed::new Passed::put Sought::note",
     "Stack::push_base": "IndexedTable::new",
     "map_bytes": "MappedIds::new FirstRows::new FirstRows::in_order open_table",
     "query_bytes": "open_stack Opened::read",
-    "survey_bytes": "Opened::read",
+    "survey_bytes": """Opened::read NamedStack::of name_text with_pairs Noted::new Noted::note_id Noted::note
+        Noted::into_labels Passed::new Passed::put""",
     "bag": "FoundBag::select FoundBag::of",
     "Theme::of_styles": "Theme::new",
     "goal_end": "attribute_under CourseStep::end",
     "check": """goal_box OpenBox::whole OpenBox::whole_of_attribute OpenBox::narrowed OpenBox::common_trace
         OpenBoxes::new OpenBoxes::push Course::of_attribute Course::shared Course::after""",
     "make": "make_watched ConfigBox::shared OpenBox::weightiest_parting parting_test",
-    "compare_stacks": "NamedStack::of NamedStack::label_of_id OpenBox::whole_of_content",
+    "compare": "NamedStack::label_of_id OpenBox::whole_of_content difference_of_ends",
     "ids_named": "Finder::new Finder::id Finder::ids ids_of_type Stack::base_tables",
-    "goals_named": "Finder::each_id",
+    "goals_named": "Finder::each_id first_goals",
     "pairs_named": "WordSet::of_sets WordSet::of_pairs",
-    "diff_bytes": "OpenedDiff::read OpenedDiff::pairs",
+    "diff_bytes": "OpenedDiff::read OpenedDiff::named NamedDiff::pairs Told::of Told::shared",
     "make_bytes": "make_bytes_watched OpenedBox::read",
     "make_omitting_bytes": "OpenedBox::make_omitting",
-    "OpenedBox::make": "OpenedBox::make_telling",
     "check_bytes": "OpenedCert::read",
     "show_bytes": """OpenedTrees::read OpenedTrees::show NumberedGoal::of OpenPaths::at_start
         OpenPaths::push_answers""",
     "show_dot_bytes": "OpenedTrees::show_dot",
 }
-"""Public calls that take memory and have no row of their own: a call makes them in turn. The sources tell whether it does."""
+"""Public calls that take memory and have no row of their own: a call makes them in turn that has one, or that the program
+makes. The sources tell whether it does."""

@@ -1,5 +1,6 @@
 pub mod TypeNameSteps
 pub mod ItemSteps
+pub mod LineSteps
 pub mod Cited
 pub use Rattle.bags_themes.proofs as bags_themes_proofs
 pub use Rattle.bags_themes.proofs.reference_resolver_proofs as reference_resolver

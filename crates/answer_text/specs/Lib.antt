@@ -3,6 +3,7 @@ pub mod LayerText
 pub mod CellText
 pub mod RowsText
 pub mod DumpText
+pub mod OnLine
 pub mod NameText
 pub mod GoalText
 pub mod EndText

@@ -30,6 +30,7 @@ mod layer;
 mod line;
 mod name;
 mod named;
+mod on_line;
 mod query;
 mod rows;
 
@@ -45,5 +46,6 @@ pub use goal::write_goal_words;
 pub use layer::write_layer;
 pub use name::{write_its_name, write_name_beside};
 pub use named::{write_named_coord, write_named_id, write_named_number};
+pub use on_line::{breaks_line, write_on_line};
 pub use query::{query_line, set_aside_line, strings_of_layer};
 pub use rows::rows_text;

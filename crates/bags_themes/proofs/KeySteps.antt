@@ -9,7 +9,7 @@ use Rattle.std.specs.Map.{keys_of, lookup}
 use Rattle.indexmap.specs.IndexMap.{IndexMap, insert_entry}
 use Rattle.indexmap.proofs.CallerLemmas.{insert_entry-new}
 use Rattle.indexmap.proofs.MapLemmas.{absent_before}
-use Rattle.content_keys.specs.declared.content_keys.ContentKeys.{ContentKeys}
+use Rattle.reference_resolver.specs.overlay_map.declared.content_keys.ContentKeys.{ContentKeys}
 use Rattle.reference_resolver.specs.res_value.declared.res_id.ResId.{ResId}
 use Rattle.bags_themes.specs.declared.theme_value.ThemeValue.{ThemeValue}
 use Rattle.bags_themes.specs.Theme.{ThemeOf}

@@ -2,14 +2,14 @@
 
 ghost use Rattle.std.specs.Prelude.{◌≡◌, [], ◌∷◌, IfOk, OnOk};
 ghost use Rattle.indexmap.specs.IndexMap.{hasher_of};
-ghost use Rattle.content_keys.specs.ContentKeys.{keys_of};
+ghost use Rattle.reference_resolver.specs.overlay_map.ContentKeys.{keys_of};
 ghost use Rattle.bags_themes.specs.Theme.{value_of, is_undefined, AppliesRows, attributes_of};
 
 use crate::bag_row::BagRow;
 use crate::theme_value::ThemeValue;
-use content_keys::{ContentKeys, Contents};
 use indexmap::IndexMap;
 use reference_resolver::ResId;
+use reference_resolver::overlay_map::{ContentKeys, Contents};
 use std::alloc::{AllocError, Global};
 
 /// The values of attributes.

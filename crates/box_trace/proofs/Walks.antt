@@ -8,8 +8,9 @@ use Rattle.bags_themes.specs.reference_resolver.Trace.{Trace}
 use Rattle.config_box.specs.box_answers.NumberSet.{SetOf}
 use Rattle.config_box.specs.box_answers.Members.{IsMember}
 use Rattle.bags_themes.specs.AttributeTrace.{behind}
-use Rattle.bags_themes.specs.Course.{after_course, SameCourse}
+use Rattle.bags_themes.specs.Course.{trace_from, after_course, SameCourse}
 use Rattle.bags_themes.specs.declared.course.Course.{Course}
+use Rattle.bags_themes.specs.declared.course.CourseStep.{CourseStep}
 use Rattle.box_trace.specs.declared.walk.Walk.{Walk}
 use Rattle.box_trace.specs.declared.parting.Parting.{Parting}
 use Rattle.box_trace.specs.Live.{LiveOf, candidates_in, LeavesOut}
@@ -82,3 +83,10 @@ walk_past_all stack members trace walk none walked =
 -- another trace that is the same
 pub walk_of_same : (stack : List LayerOf) (members : List ℕ → Type 0) (trace other : List ℕ → Trace) (walk : Walk) → ((d : List ℕ) → other d ≡ trace d) → HaveWalked stack members trace walk → HaveWalked stack members other walk
 walk_of_same stack members trace other walk same walked = walk_over stack members other trace walk (come_nowhere members other trace same) walked
+
+-- none is ahead, and what comes then is known
+pub walk_next : (stack : List LayerOf) (members : List ℕ → Type 0) (trace : List ℕ → Trace) (walk next : Walk) (step due : CourseStep) → live_ahead walk ≡ [] → ((d : List ℕ) → trace_from stack step d ≡ after_walk stack walk (best_at walk) d) → step ≡ due
+    → HaveWalked stack members trace walk → HaveWalked stack members (trace_from stack due) next → HaveWalked stack members trace next
+walk_next stack members trace walk next step due none same is passed walked =
+    walk_over stack members trace (trace_from stack due) next
+    (come_same members trace (after_walk stack walk (best_at walk)) (trace_from stack due) (λ d. sym (same d) ∙ ap (λ (s : CourseStep). trace_from stack s d) is) (walk_past_all stack members trace walk none passed)) walked

@@ -18,11 +18,13 @@
 #![tactic(auto)]
 
 mod common;
+mod known;
 mod live;
 mod open_box;
 mod open_condition;
 mod parting;
 mod step;
+mod waiting;
 mod walk;
 mod weight;
 

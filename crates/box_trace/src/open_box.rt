@@ -103,7 +103,7 @@ impl<'a, 's> OpenBox<'a, 's> {
         let is_stale = is_much_smaller(&members, &self.members, at);
         Ok(OpenBox {
             members,
-            walk: self.walk.shared()?,
+            walk: self.walk.shared(at, is_stale)?,
             is_stale,
         })
     }

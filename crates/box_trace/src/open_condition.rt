@@ -13,8 +13,15 @@ use config_box::{ConfigBox, Coord, Locale, MemberPair, Values};
 #[derive(Clone, Copy)]
 pub(crate) struct OpenCondition {
     pub(crate) pair: MemberPair,
-    /// Whether it asks for one number inside a range, which takes two tests to part off.
-    pub(crate) is_inside: bool,
+    pub(crate) unmet: Unmet,
+}
+
+/// On which sides of the number that a condition asks for it is not met by the number beside it. In a choice no number stands
+/// beside another one.
+#[derive(Clone, Copy, Default)]
+pub(crate) struct Unmet {
+    pub(crate) below: bool,
+    pub(crate) above: bool,
 }
 
 /// The condition of a candidate at a coordinate, where it is open. The candidate matches this member. That the
@@ -61,11 +68,14 @@ fn open_in_range(
     if number < high {
         above = unmatched(candidate, &yes, at, number + 1);
     }
-    let is_inside = below.is_some() && above.is_some();
+    let unmet = Unmet {
+        below: below.is_some(),
+        above: above.is_some(),
+    };
     let no = below.or(above)?;
     Some(OpenCondition {
         pair: MemberPair { yes, no, coord: at },
-        is_inside,
+        unmet,
     })
 }
 
@@ -116,7 +126,7 @@ fn in_choice(matching: &Device, no: Device, at: Coord) -> OpenCondition
             no,
             coord: at,
         },
-        is_inside: false,
+        unmet: Unmet::default(),
     }
 }
 

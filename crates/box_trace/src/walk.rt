@@ -3,12 +3,14 @@
 ghost use Rattle.std.specs.Prelude.{◌≤◌, length};
 
 use crate::common::{CommonStep, CommonTrace};
+use crate::known::Known;
 use crate::live::Live;
 use crate::parting::{Parting, parting_at};
 use crate::step::best_after;
-use crate::weight::{Waiting, are_of_one_coordinate, open_conditions, weightiest};
+use crate::waiting::{Part, Waiting, open_conditions, still_open};
+use crate::weight::weightiest;
 use bags_themes::{Cand, Course, CourseStep, ResId, Stack};
-use config_box::{ConfigBox, OutOfMemory};
+use config_box::{ConfigBox, Coord, OutOfMemory};
 use std::alloc::Global;
 use std::rc::Rc;
 
@@ -25,8 +27,7 @@ pub(crate) struct Walk<'a, 's> {
     passed: usize,
     /// The best of those.
     best: Option<Cand<'a>>,
-    /// Whether what is open of the candidates ahead is known to be conditions of one coordinate alone. No promise depends on it.
-    is_along_one: bool,
+    known: Known,
     ghost within: { passed ≤ length live.value },
 }
 
@@ -63,7 +64,7 @@ impl<'a, 's> Walk<'a, 's> {
                     live: Rc::new(alloc, none)?,
                     passed: 0,
                     best: None,
-                    is_along_one: false,
+                    known: Known::Nothing,
                 })
             }
         }
@@ -88,12 +89,13 @@ impl<'a, 's> Walk<'a, 's> {
             live: Rc::new(alloc, live)?,
             passed: 0,
             best: None,
-            is_along_one: false,
+            known: Known::Nothing,
         })
     }
 
-    /// The same walk. Its list is not copied.
-    pub(crate) fn shared(&self) -> Result<Walk<'a, 's>, OutOfMemory>
+    /// The same walk for a part of the members by a test of a coordinate, before it is judged where that is due. Its list is
+    /// not copied.
+    pub(crate) fn shared(&self, at: Coord, is_stale: bool) -> Result<Walk<'a, 's>, OutOfMemory>
         ensures walked { IfOk result (λ walk. (stack : List LayerOf) (sets : List SetOf) (trace : List ℕ → Trace) → HaveWalked stack (IsMember sets) trace self.now → HaveWalked stack (IsMember sets) trace walk) }
         ensures live { IfOk result (λ walk. walk.live.value ≡ self.now.live.value) }
     {
@@ -103,7 +105,7 @@ impl<'a, 's> Walk<'a, 's> {
             live: self.live.clone()?,
             passed: self.passed,
             best: self.best,
-            is_along_one: self.is_along_one,
+            known: self.known.of_part(at, is_stale)?,
         })
     }
 
@@ -124,7 +126,7 @@ impl<'a, 's> Walk<'a, 's> {
             live: Rc::new(alloc, live)?,
             passed: 0,
             best: self.best,
-            is_along_one: self.is_along_one,
+            known: self.known.moved(),
         })
     }
 
@@ -174,20 +176,28 @@ impl<'a, 's> Walk<'a, 's> {
         ensures walked { (stack : List LayerOf) (trace : List ℕ → Trace) → HaveWalked stack (IsMember members.now) trace self.old → HaveWalked stack (IsMember members.now) trace self.new }
         ensures told { IfOk result (λ parting. (stack : List LayerOf) (trace : List ℕ → Trace) → HaveWalked stack (IsMember members.now) trace self.old → IsToldApart first.entry members.now trace → IsToldApart parting members.now trace) }
     {
-        if self.is_along_one {
-            return Ok(first);
-        }
-        let waiting = open_conditions(alloc, self.ahead(), members)?;
-        self.is_along_one = are_of_one_coordinate(&waiting);
-        Ok(self.parting_of(&waiting, members).unwrap_or(first))
+        let waiting = match &self.known {
+            Known::OfOneCoordinate => return Ok(first),
+            Known::Were(known, at) => {
+                let part = Part { members, at: *at };
+                still_open(alloc, known.as_ref(), self.ahead(), self.passed, part)?
+            }
+            Known::Nothing | Known::Are(_) => {
+                open_conditions(alloc, self.ahead(), self.passed, members)?
+            }
+        };
+        let parting = self.parting_of(weightiest(alloc, &waiting)?, members);
+        self.known = Known::are(alloc, waiting)?;
+        Ok(parting.unwrap_or(first))
     }
 
-    /// Where the weightiest of some conditions of the candidates ahead parts the members.
-    fn parting_of(&self, waiting: &[Waiting], members: &ConfigBox) -> Option<Parting<'a>>
+    /// Where a condition of one of the candidates ahead parts the members.
+    fn parting_of(&self, condition: Option<Waiting>, members: &ConfigBox) -> Option<Parting<'a>>
         ensures { IfSome result (λ parting. (stack : List LayerOf) (trace : List ℕ → Trace) → HaveWalked stack (IsMember members.now) trace self.now → IsToldApart parting members.now trace) }
     {
-        let condition = weightiest(waiting)?;
-        let live = self.ahead().get(condition.place)?;
+        let condition = condition?;
+        let place = condition.place.checked_sub(self.passed)?;
+        let live = self.ahead().get(place)?;
         parting_at(members, &live.0, condition.coord)
     }
 

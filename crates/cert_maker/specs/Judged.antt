@@ -2,22 +2,25 @@
 -- alone.)
 use Rattle.std.specs.Prelude.{◌≡◌, ℕ, ◌+◌, ◌<◌, Bool, true, false, List, map, take, Some, slice_get}
 use Rattle.std.specs.List.{All}
+use Rattle.std.specs.List.Sorted.{IsStrictlyIncreasing}
+use Rattle.cert_checker.specs.config_record.DeviceSeen.{device_numbers}
 use Rattle.cert_checker.specs.overlay_map.Layer.{LayerOf}
 use Rattle.cert_checker.specs.box_answers.NumberSet.{SetOf}
 use Rattle.cert_checker.specs.cert_tree.Certificate.{GoalOf, goal_of, node_count}
 use Rattle.cert_checker.specs.res_value.Goal.{GoalSeen}
 use Rattle.cert_checker.specs.FirstFault.{goals_in}
-use Rattle.cert_maker.specs.declared.made.Made.TheVariants as made
 use Rattle.cert_maker.specs.declared.omitted.Omitted.{Omitted}
 use Rattle.cert_maker.specs.declared.omitting.Judged.{Judged}
 use Rattle.cert_maker.specs.Trees.{IsGoodTree}
-use Rattle.cert_maker.specs.Omitting.{places_of, without, AreLeftOut, IsMadeWithout}
+use Rattle.cert_maker.specs.Made.{HasNoValue}
+use Rattle.cert_maker.specs.Omitting.{places_of, without, PassesLimit}
 
 -- The goals up to a place have their trees, or are left out. There are so many nodes to spare.
 pub record AreJudged (stack : List LayerOf) (sets : List SetOf) (asked : List GoalSeen) (place most : ℕ) (trees : List GoalOf) (omitted : List Omitted) (spare : ℕ) : Type 0 where
   pub goals : goals_in trees ≡ without (places_of omitted) (take place asked)
   pub good : All (IsGoodTree stack sets) trees
-  pub left_out : AreLeftOut stack sets asked omitted
+  pub rise : IsStrictlyIncreasing (places_of omitted)
+  pub each : All (λ o. HasNoValue stack sets asked o.goal (device_numbers o.device) o.ending) omitted
   pub before : All (λ n. n < place) (places_of omitted)
   pub room : node_count trees + spare ≡ most
 
@@ -32,4 +35,4 @@ Judges stack sets place goal old new true =
     → AreJudgedIn stack sets asked (place + 1) most new
 Judges stack sets place goal old new false =
     (asked : List GoalSeen) (most : ℕ) → slice_get asked place ≡ Some goal → AreJudgedIn stack sets asked place most old
-    → IsMadeWithout stack sets asked most old.omitted.items made.NodeLimit
+    → PassesLimit stack sets asked most

@@ -21,7 +21,7 @@ pub enum Omitting {
         certificate: Cert,
         omitted: Vec<Omitted>,
     },
-    /// Some goals being left out, there are trees of needed tests for the others that have more nodes, all together,
-    /// than the limit.
+    /// The limit is passed at a goal: there are trees of needed tests for it and for those before it that have a value at
+    /// all devices, with more nodes all together. It may itself have no value at some device.
     NodeLimit,
 }

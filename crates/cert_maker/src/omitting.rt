@@ -13,7 +13,7 @@ use std::alloc::Global;
 
 /// A certificate for the goals that end at a value or a bag at all devices of a box, with at most so many nodes in
 /// all, and for each other goal a device that shows it; or that there would be more nodes. A goal that is left out
-/// counts no node. Where a goal has such a device and its tree is too large as well, either may be the answer.
+/// counts no node, but where its tree passes the limit before such a device is found.
 pub fn make_omitting<P: Progress>(
     alloc: Global,
     stack: &Stack<'_>,

@@ -1,13 +1,13 @@
 -- What comes of the items of a list of layers.
 use Rattle.std.proofs.Common.{◌≡◌, ℕ, List, map, length, nat_lt, Bool, Option, Some, ok_or, Result, Ok, Err, sym, ap, ◌∙◌}
-use Rattle.fault_text.specs.contract_words.Faults.{◌>>=◌, refuse}
+use Rattle.command_base.specs.contract_words.Faults.{◌>>=◌, refuse}
 use Rattle.serde_json.specs.Data.{Data}
 use Rattle.serde_json.specs.View.{view}
 use Rattle.serde_json.specs.declared.value.Value.{Value}
-use Rattle.fault_text.specs.json_input.Each.{list_of, each}
-use Rattle.fault_text.specs.overlay_map.Layer.{most_layers}
-use Rattle.fault_text.specs.declared.layers_fault.LayersFault.{LayersFault}
-use Rattle.fault_text.specs.declared.layers_fault.LayersFault.TheVariants.{Shape, TooManyLayers}
+use Rattle.command_base.specs.json_input.Each.{list_of, each}
+use Rattle.command_base.specs.overlay_map.Layer.{most_layers}
+use Rattle.command_base.specs.declared.layers_fault.LayersFault.{LayersFault}
+use Rattle.command_base.specs.declared.layers_fault.LayersFault.TheVariants.{Shape, TooManyLayers}
 use Rattle.command_base.specs.LayerList.{LayerPaths, layer_paths_in, layers_in_value}
 
 -- layers, where there are not too many

@@ -2,10 +2,10 @@
 use Rattle.std.proofs.Common.{◌≡◌, ℕ, ◌+◌, ◌<◌, ◌≤◌, List, [], ◌∷◌, ◌++◌, map, length, drop, get_or, Option, Result, Ok, Err, refl, sym, ap, ◌∙◌, append_assoc, length-append, arith}
 use Rattle.std.proofs.lemmas.List.{append-nil, drop_more, drop_all}
 use Rattle.std.specs.Borrow.{Bor}
-use Rattle.fault_text.specs.contract_words.Faults.{◌>>=◌}
-use Rattle.fault_text.specs.contract_words.Sequences.{with_front}
-use Rattle.fault_text.specs.overlay_map.Layer.{LayerOf}
-use Rattle.fault_text.specs.declared.fault.ToolFault.{ToolFault}
+use Rattle.command_base.specs.contract_words.Faults.{◌>>=◌}
+use Rattle.command_base.specs.contract_words.Sequences.{with_front}
+use Rattle.command_base.specs.overlay_map.Layer.{LayerOf}
+use Rattle.command_base.specs.declared.fault.ToolFault.{ToolFault}
 use Rattle.command_base.specs.StackBytes.{LayerBytes, layer_in, layers_from}
 use Rattle.command_base.specs.StackBytesSeen.{layer_bytes, with_layer}
 

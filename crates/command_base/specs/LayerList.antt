@@ -1,15 +1,15 @@
 -- Lists of layers: which files the layers of a stack are.
 use Rattle.std.specs.Prelude.{ℕ, List, [], ◌∷◌, codes, length, nat_lt, not, Option, Some, None, option_and_then, ok_or, Result, Ok}
 use Rattle.std.specs.Option.{option_map}
-use Rattle.fault_text.specs.contract_words.Faults.{◌>>=◌, refuse}
+use Rattle.command_base.specs.contract_words.Faults.{◌>>=◌, refuse}
 use Rattle.serde_json.specs.Data.{Data}
 use Rattle.serde_json.specs.Find.{get}
-use Rattle.fault_text.specs.json_input.Each.{list_of, each}
-use Rattle.fault_text.specs.json_input.Json.{value_of}
-use Rattle.fault_text.specs.json_input.Shape.{has_only, text_of}
-use Rattle.fault_text.specs.overlay_map.Layer.{most_layers}
-use Rattle.fault_text.specs.declared.layers_fault.LayersFault.{LayersFault}
-use Rattle.fault_text.specs.declared.layers_fault.LayersFault.TheVariants.{Syntax, Shape, TooManyLayers}
+use Rattle.command_base.specs.json_input.Each.{list_of, each}
+use Rattle.command_base.specs.json_input.Json.{value_of}
+use Rattle.command_base.specs.json_input.Shape.{has_only, text_of}
+use Rattle.command_base.specs.overlay_map.Layer.{most_layers}
+use Rattle.command_base.specs.declared.layers_fault.LayersFault.{LayersFault}
+use Rattle.command_base.specs.declared.layers_fault.LayersFault.TheVariants.{Syntax, Shape, TooManyLayers}
 
 -- the files of a layer: that of its table and, at an overlay, that of its id map
 pub record LayerPaths : Type 0 where

@@ -3,7 +3,7 @@ use Rattle.std.specs.Prelude.{ℕ, List, map, Option, Result, Ok, Err, String, s
 use Rattle.std.specs.Borrow.{Bor}
 use Rattle.std.specs.Option.{option_map}
 use Rattle.std.specs.declared.alloc.Global.{Global}
-use Rattle.fault_text.specs.declared.layers_fault.LayersFault.{LayersFault}
+use Rattle.command_base.specs.declared.layers_fault.LayersFault.{LayersFault}
 use Rattle.command_base.specs.declared.layer_list.LayerList as layer_list
 use Rattle.command_base.specs.LayerList.{LayerPaths}
 

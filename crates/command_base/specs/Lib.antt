@@ -5,7 +5,28 @@ pub mod MapErr
 pub mod StackBytes
 pub mod StackBytesSeen
 pub mod Output
-pub use Rattle.fault_text.specs as fault_text
-pub use Rattle.fault_text.specs.answer_text
-pub use Rattle.fault_text.specs.cert_tree
-pub use Rattle.fault_text.specs.overlay_map
+pub mod ToolFault
+pub mod TableFaultText
+pub mod LayersFaultText
+pub mod MapFaultText
+pub mod DeviceFaultText
+pub mod BoxFaultText
+pub mod CertFaultText
+pub mod SideName
+pub mod FaultText
+pub mod ExitStatus
+pub mod OneLine
+pub mod Stop
+pub mod Place
+pub mod Inputs
+pub mod FilesSeen
+pub mod FileWords
+pub mod DeviceFiles
+pub mod CarriesOut
+pub use Rattle.answer_text.specs as answer_text
+pub use Rattle.answer_text.specs.contract_words
+pub use Rattle.answer_text.specs.overlay_map
+pub use Rattle.answer_text.specs.resource_table
+pub use Rattle.cert_tree.specs as cert_tree
+pub use Rattle.cert_tree.specs.json_input
+pub use Rattle.names.specs as names

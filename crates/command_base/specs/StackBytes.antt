@@ -1,15 +1,15 @@
 -- Stacks, read from the bytes of their layers.
 use Rattle.std.specs.Prelude.{ℕ, ◌+◌, List, [], ◌∷◌, length, nat_lt, Option, Some, None, Result, Ok}
-use Rattle.fault_text.specs.contract_words.Faults.{◌>>=◌, refuse}
-use Rattle.fault_text.specs.contract_words.Sequences.{with_front}
-use Rattle.fault_text.specs.resource_table.Table.{TableOf, table_in}
-use Rattle.fault_text.specs.overlay_map.IdMap.{MapOf, map_in}
-use Rattle.fault_text.specs.overlay_map.Layer.{LayerOf, most_layers}
-use Rattle.fault_text.specs.declared.layers_fault.LayersFault.TheVariants.{TooManyLayers}
-use Rattle.fault_text.specs.declared.fault.ToolFault.{ToolFault}
-use Rattle.fault_text.specs.declared.fault.ToolFault.TheVariants.{Layers}
-use Rattle.fault_text.specs.declared.side.Side.{Side}
-use Rattle.fault_text.specs.ToolFault.{fault_of_layer_table, fault_of_layer_map, fault_on_side}
+use Rattle.command_base.specs.contract_words.Faults.{◌>>=◌, refuse}
+use Rattle.command_base.specs.contract_words.Sequences.{with_front}
+use Rattle.command_base.specs.resource_table.Table.{TableOf, table_in}
+use Rattle.command_base.specs.overlay_map.IdMap.{MapOf, map_in}
+use Rattle.command_base.specs.overlay_map.Layer.{LayerOf, most_layers}
+use Rattle.command_base.specs.declared.layers_fault.LayersFault.TheVariants.{TooManyLayers}
+use Rattle.command_base.specs.declared.fault.ToolFault.{ToolFault}
+use Rattle.command_base.specs.declared.fault.ToolFault.TheVariants.{Layers}
+use Rattle.command_base.specs.declared.side.Side.{Side}
+use Rattle.command_base.specs.ToolFault.{fault_of_layer_table, fault_of_layer_map, fault_on_side}
 use Rattle.command_base.specs.MapErr.{map_err}
 
 -- the bytes of a layer: those of its table and, at an overlay, those of its id map

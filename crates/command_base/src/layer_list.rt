@@ -1,19 +1,20 @@
 //! Lists of layers: which files the layers of a stack are.
 
 ghost use Rattle.std.specs.Prelude.{◌≡◌, map, length, nat_lt, IfOk};
-ghost use Rattle.fault_text.specs.contract_words.Faults.{refuse};
-ghost use Rattle.fault_text.specs.contract_words.Exact.{GivesOr};
-ghost use Rattle.fault_text.specs.contract_words.FillsIn.{FillsIn};
+ghost use Rattle.command_base.specs.contract_words.Faults.{refuse};
+ghost use Rattle.command_base.specs.contract_words.Exact.{GivesOr};
+ghost use Rattle.command_base.specs.contract_words.FillsIn.{FillsIn};
 ghost use Rattle.serde_json.specs.View.{view};
-ghost use Rattle.fault_text.specs.json_input.Each.{each};
-ghost use Rattle.fault_text.specs.overlay_map.Layer.{most_layers};
-ghost use Rattle.fault_text.specs.declared.layers_fault.LayersFault.TheVariants.{TooManyLayers, OutOfMemory};
+ghost use Rattle.command_base.specs.json_input.Each.{each};
+ghost use Rattle.command_base.specs.overlay_map.Layer.{most_layers};
+ghost use Rattle.command_base.specs.declared.layers_fault.LayersFault.TheVariants.{TooManyLayers, OutOfMemory};
 ghost use Rattle.command_base.specs.LayerList.{table_path, map_path, layer_paths_in, layers_in_value};
 ghost use Rattle.command_base.specs.LayerListSeen.{path_seen, optional_path_seen, lent_paths_of, lent_paths_seen, paths_of, all_paths_of, listed};
 
 use crate::layer_parts::LayerParts;
-use fault_text::json_input::{has_only, list_of, read_value};
-use fault_text::{LayersFault, MOST_LAYERS};
+use crate::layers_fault::LayersFault;
+use answer_text::overlay_map::MOST_LAYERS;
+use cert_tree::json_input::{has_only, list_of, read_value};
 use serde_json::Value;
 use std::alloc::{AllocError, Global};
 

@@ -1,29 +1,73 @@
-//! What the commands share: the bytes of an input, lists of layers, layers opened from bytes, how a command
-//! ends, and the words of contracts about what it prints.
+//! What the commands share: places and the bytes of what lies there, the files of layers, of devices and of words, layers
+//! opened from bytes; how a command ends, why it stops, the line and the exit status that say so; and the words of
+//! contracts about what it prints.
 //!
-//! For the crates above: an input, a list of layers and a stack are what their bytes mean, or the first fault in
+//! For the crates above: files are read in the order in which words name them, and the first that is not read is the
+//! `Stop`. An input, a list of layers and a stack are what their bytes mean, or the first fault in
 //! the order of the definitions; `Prints` says that a command wrote the text that its input means and nothing
-//! else, or named the first fault of that input and wrote nothing.
+//! else, or named the first fault of that input and wrote nothing. The fault of a part is a `ToolFault` that names
+//! the part, but want of memory, which is the command's own; what `fault_text` appends is the one line of it.
 //!
 //! ```text
+//! let files = AskedFiles::read(alloc, &inputs, "layers.json", "device.json", &["@ids.txt", "dimen/*"])?; // or Stop::File(path)
+//! let sets = asked_sets(alloc, &files.words)?; // what the words ask for, with those of ids.txt
+//! stop.write_line(&mut errors)?; // file: layers.json
+//! stop.status(); // ExitStatus::Failed
+//!
 //! let json = read_input(alloc, &mut file, 268_435_456)?; // all bytes, if there are not more
 //! let list = LayerList::read(alloc, &json)?; // which files the layers are
 //! let layers = [(base.as_slice(), None), (overlay.as_slice(), Some(map.as_slice()))];
 //! let stack = open_stack(alloc, &layers)?; // the base and the overlay, opened
 //! let old = open_side(alloc, Side::Old, &layers)?; // the same of one of two; its faults name the side
 //! let status = Status::negative_if(!missing.is_empty()); // Negative where something is missing
+//!
+//! fault_text(&ToolFault::from(TableFault::NotTable), &mut out)?; // refused: table: NotTable
+//! fault_text(&ToolFault::of_layer_table(2, TableFault::Entry(64)), &mut out)?; // refused: layer 2 table: Entry 64
+//! let fault = ToolFault::from(LayersFault::Shape).on_side(Side::New); // one of two stacks that are compared
+//! fault_text(&fault, &mut out)?; // refused: new layers: Shape
 //! ```
 #![tactic(auto)]
 
+mod box_fault;
+mod cert_fault;
+mod device_fault;
+mod device_files;
+mod exit_status;
+mod fault;
+mod file_words;
 mod input;
+mod inputs;
+mod layer_files;
 mod layer_list;
 mod layer_parts;
+mod layers_fault;
+mod map_fault;
+mod one_line;
+mod place;
+mod side;
 mod stack;
 mod status;
+mod stop;
+mod table_fault;
 
-pub use fault_text::{LayersFault, Progress, Side, ToolFault, answer_text, cert_tree, fault_text};
+pub use answer_text;
+pub use cert_tree;
+pub use cert_tree::Progress;
+pub use device_files::{AskedFiles, DeviceFiles};
+pub use exit_status::ExitStatus;
+pub use fault::{ToolFault, fault_text};
+pub use file_words::{asked_goals, asked_sets, asked_words};
 pub use input::{InputFault, read_input};
+pub use inputs::{Inputs, ProcessInputs, file_bytes, table_bytes};
+pub use layer_files::LayerFiles;
 pub use layer_list::LayerList;
 pub use layer_parts::LayerParts;
+pub use layers_fault::LayersFault;
+pub use names::{
+    Named, NamedGoal, NamedSet, first_goals, goals_named, id_named, ids_named, pairs_named,
+};
+pub use place::{Place, STANDARD_INPUT};
+pub use side::Side;
 pub use stack::{open_side, open_stack, open_table};
 pub use status::Status;
+pub use stop::Stop;

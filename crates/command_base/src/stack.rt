@@ -2,19 +2,20 @@
 
 ghost use Rattle.std.specs.Prelude.{◌≡◌, ◌<◌, ◌≤◌, ◌∷◌, ◌++◌, [], map, length, Ok};
 ghost use Rattle.std.specs.Option.{option_map};
-ghost use Rattle.fault_text.specs.contract_words.Exact.{GivesOr};
-ghost use Rattle.fault_text.specs.overlay_map.Layer.{most_layers};
-ghost use Rattle.fault_text.specs.declared.fault.ToolFault.TheVariants.{OutOfMemory};
-ghost use Rattle.fault_text.specs.ToolFault.{fault_of_layer_table, fault_of_layer_map};
+ghost use Rattle.command_base.specs.contract_words.Exact.{GivesOr};
+ghost use Rattle.command_base.specs.overlay_map.Layer.{most_layers};
+ghost use Rattle.command_base.specs.declared.fault.ToolFault.TheVariants.{OutOfMemory};
+ghost use Rattle.command_base.specs.ToolFault.{fault_of_layer_table, fault_of_layer_map};
 ghost use Rattle.command_base.specs.MapErr.{map_err};
 ghost use Rattle.command_base.specs.Output.{IsOfInput};
 ghost use Rattle.command_base.specs.StackBytes.{table_of_layer, map_of_layer, layer_in, layers_from, stack_in, stack_on_side};
 ghost use Rattle.command_base.specs.StackBytesSeen.{layer_bytes, with_layer};
 
+use crate::fault::ToolFault;
 use crate::layer_parts::LayerParts;
-use fault_text::{
-    IdMap, LayersFault, MOST_LAYERS, MapFault, Side, Stack, Table, TableFault, ToolFault,
-};
+use crate::layers_fault::LayersFault;
+use crate::side::Side;
+use answer_text::overlay_map::{IdMap, MOST_LAYERS, MapFault, Stack, Table, TableFault};
 use std::alloc::Global;
 
 /// The stack of layers of which each is the bytes of a table and, at an overlay, those of an id map. More

@@ -9,5 +9,11 @@ pub mod Halves
 pub mod Joined
 pub mod Order
 pub mod Unfolded
+pub mod Devices
+pub mod Kinds
+pub mod Counts
+pub mod Least
+pub mod Ranges
+pub mod OneChoice
 pub use Rattle.box_answers.specs as box_answers
 pub use Rattle.box_answers.specs.config_record

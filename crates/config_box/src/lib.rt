@@ -6,7 +6,10 @@
 //! For the crates above: a box is the list of its 25 sets, none of them empty and each in its
 //! coordinate's range; a device is a member where each of its numbers lies in the set at its
 //! coordinate (`IsMember` of `box_answers`). The halves of a split share with the box what did not
-//! change.
+//! change. No box of a list that was joined has a device that none of the list had, and exactly one has it where
+//! exactly one had it (`HasNone` and `HasOnce`), and there are no more boxes than before. Where boxes without a
+//! common device differ by ranges of one coordinate alone, no two of the result make one; where by choices of at
+//! most 512 values together, the result is one box (`IsLeast`).
 //!
 //! ```text
 //! let phones = ConfigBox::read(alloc, b"{\"density\":{\"from\":120,\"to\":640}}")?;
@@ -15,6 +18,8 @@
 //!     Sameness::Never => ..,
 //!     Sameness::Mixed(yes, no, coord) => .., // two densities side by side
 //! }
+//! // three boxes, alike but at two coordinates: de, sdk 26 to 30; de, sdk 31 to 34; fr, sdk 26 to 34
+//! join_boxes(alloc, boxes)? // one: de and fr, sdk 26 to 34
 //! ```
 #![tactic(auto)]
 
@@ -22,6 +27,7 @@ mod box_fault;
 mod choice;
 mod config_box;
 mod half;
+mod join;
 mod joined;
 mod order;
 mod read;
@@ -33,6 +39,7 @@ mod written;
 pub use box_answers::{Coord, Locale, MemberPair, Sameness, write_locale};
 pub use box_fault::BoxFault;
 pub use config_box::ConfigBox;
+pub use join::join_boxes;
 pub use split::{OutOfMemory, Split};
 pub use test::{Choice, Test};
 pub use values::Values;

@@ -6,7 +6,7 @@ ghost use Rattle.config_record.specs.Locale.{dash, is_small_letter, is_capital_l
 ghost use Rattle.config_record.specs.ComparedNumber.{locale_number, locale_of_number};
 
 use crate::zero::is_zero;
-use hex_text::write_hex;
+use chunk_walk::write_hex;
 use std::io::{self, Write};
 use thiserror::Error;
 

@@ -16,7 +16,7 @@ use crate::locale::{Locale, write_locale};
 use crate::record::Record;
 use crate::separator::Separator;
 use crate::zero::is_zero;
-use hex_text::write_hex;
+use chunk_walk::write_hex;
 use std::io::{self, Write};
 
 impl Record<'_> {

@@ -1,47 +1,67 @@
 -- What two stacks say differently, as lines.
-use Rattle.std.specs.Prelude.{ℕ, Bool, true, false, nat_lt, List, [], ◌∷◌, ◌++◌, length}
+use Rattle.std.specs.Prelude.{ℕ, ◌+◌, ◌==◌, Bool, true, false, nat_lt, List, [], ◌∷◌, ◌++◌, length, codes, if◌then◌else◌}
+use Rattle.std.specs.Fmt.{decimal}
 use Rattle.std.specs.List.{flat_map, count_by, zip}
-use Rattle.diff_text.specs.config_box.box_answers.NumberSet.{SetOf}
-use Rattle.diff_text.specs.name_pairs.Label.{LabelOf}
-use Rattle.diff_text.specs.name_pairs.Pairs.{PairOf}
-use Rattle.diff_text.specs.stack_diff.Changes.{ChangeOf}
-use Rattle.diff_text.specs.stack_diff.Outcomes.{OutcomeOf, RemovedOf, AddedOf, BothOf}
-use Rattle.diff_text.specs.ChangeText.{change_text}
-use Rattle.diff_text.specs.NameLines.{added_line, removed_line, same_line}
+use Rattle.command_base.specs.overlay_map.SetAside.{set_aside_in_stack}
+use Rattle.stack_diff.specs.names.Label.{LabelOf}
+use Rattle.stack_diff.specs.names.Pairs.{PairOf}
+use Rattle.stack_diff.specs.names.Shared.{shared_ids}
+use Rattle.stack_diff.specs.Stacks.{StacksOf}
+use Rattle.stack_diff.specs.LabelText.{label_text}
+use Rattle.diff_command.specs.NameLines.{added_line, removed_line, same_line}
+use Rattle.diff_command.specs.Telling.{ToldOf, RemovedTold, AddedTold, SameTold, ChangedTold}
 
--- those of a change, for each of its boxes
-unfoldable pub change_lines : List SetOf → LabelOf → ChangeOf → List ℕ
-change_lines whole label change = flat_map (change_text label change.before change.after whole) change.boxes
+-- ---- a label
 
--- those of a label: none where it says the same in both stacks
-unfoldable pub outcome_lines : List SetOf → LabelOf → OutcomeOf → List ℕ
-outcome_lines whole label RemovedOf = removed_line label
-outcome_lines whole label AddedOf = added_line label
-outcome_lines whole label (BothOf changes) = flat_map (change_lines whole label) changes
+-- `changed LABEL`, and a block behind it
+unfoldable pub changed_block : LabelOf → List ℕ → List ℕ
+changed_block label block = codes "changed " ++ label_text label ++ block
 
--- the same of a pair, with what became of its label
-abbrev pub pair_lines : List SetOf → PairOf × OutcomeOf → List ℕ
-pair_lines whole told = outcome_lines whole told.0.label told.1
+-- the lines of a label: none where it says the same in both stacks
+unfoldable pub told_lines : LabelOf → ToldOf → List ℕ
+told_lines label RemovedTold = removed_line label
+told_lines label AddedTold = added_line label
+told_lines label SameTold = []
+told_lines label (ChangedTold blocks) = flat_map (changed_block label) blocks
+
+-- the same of a pair, with what is told of its label
+abbrev pub pair_lines : PairOf × ToldOf → List ℕ
+pair_lines one = told_lines one.0.label one.1
 
 -- those of all labels, one label after the other
-unfoldable pub label_lines : List SetOf → List PairOf → List OutcomeOf → List ℕ
-label_lines whole pairs outcomes = flat_map (pair_lines whole) (zip pairs outcomes)
+unfoldable pub label_lines : List PairOf → List ToldOf → List ℕ
+label_lines pairs told = flat_map pair_lines (zip pairs told)
 
--- both stacks have the label, and it says the same in both
-abbrev pub says_same : OutcomeOf → Bool
-says_same RemovedOf = false
-says_same AddedOf = false
-says_same (BothOf []) = true
-says_same (BothOf (change ∷ changes)) = false
+-- ---- labels that say the same
+
+abbrev pub says_same : ToldOf → Bool
+says_same RemovedTold = false
+says_same AddedTold = false
+says_same SameTold = true
+says_same (ChangedTold blocks) = false
 
 -- how many labels do
-abbrev pub same_count : List OutcomeOf → ℕ
-same_count outcomes = count_by says_same outcomes
+abbrev pub same_count : List ToldOf → ℕ
+same_count told = count_by says_same told
 
 -- some label does not: fewer do than there are
-abbrev pub some_differ : List OutcomeOf → Bool
-some_differ outcomes = nat_lt (same_count outcomes) (length outcomes)
+abbrev pub some_differ : List ToldOf → Bool
+some_differ told = nat_lt (same_count told) (length told)
 
--- the lines of labels, and then how many say the same
-unfoldable pub diff_lines : List SetOf → List PairOf → List OutcomeOf → List ℕ
-diff_lines whole pairs outcomes = label_lines whole pairs outcomes ++ same_line (same_count outcomes)
+-- ---- all lines
+
+-- the line `WORDS OLD NEW`, where one of the two is not 0
+unfoldable pub counts_line : List ℕ → ℕ → ℕ → List ℕ
+counts_line words old new = if old + new == 0 then [] else words ++ codes " " ++ decimal old ++ codes " " ++ decimal new ++ 10 ∷ []
+
+-- how many ids of either stack have a name that stands for another id, so that they are compared by themselves
+unfoldable pub shared_names_line : StacksOf → List ℕ
+shared_names_line stacks = counts_line (codes "warning shared-names") (length (shared_ids stacks.old)) (length (shared_ids stacks.new))
+
+-- how many rows of either stack have a script or a variant in their locale, and match no device
+unfoldable pub set_aside_line : StacksOf → List ℕ
+set_aside_line stacks = counts_line (codes "set-aside") (set_aside_in_stack stacks.old) (set_aside_in_stack stacks.new)
+
+-- the lines of labels, then what holds of the stacks, and then how many labels say the same
+unfoldable pub diff_lines : StacksOf → List PairOf → List ToldOf → List ℕ
+diff_lines stacks pairs told = label_lines pairs told ++ shared_names_line stacks ++ set_aside_line stacks ++ same_line (same_count told)

@@ -1,5 +1,17 @@
 pub mod DiffInputs
+pub mod Telling
+pub mod Judged
 pub mod DiffLines
 pub mod DiffOutput
 pub mod OpenedSeen
-pub use Rattle.diff_text.specs.name_pairs
+pub mod Diff
+pub mod NameLines
+pub mod DevicesText
+pub mod DevicesLaw
+pub mod ContentText
+pub mod RowsText
+pub mod DifferenceText
+pub mod Unfolded
+pub use Rattle.stack_diff.specs as stack_diff
+pub use Rattle.stack_diff.specs.config_box
+pub use Rattle.stack_diff.specs.names

@@ -1,22 +1,149 @@
 //! The command `diff`.
 
-ghost use Rattle.std.specs.Prelude.{map, Ok, IfOk};
+ghost use Rattle.std.specs.Prelude.{◌≡◌, map, option_map, string_bytes, Ok, IfSome};
 ghost use Rattle.command_base.specs.Output.{Prints, PrintsOneOf};
 ghost use Rattle.command_base.specs.StackBytesSeen.{layer_bytes};
-ghost use Rattle.diff_text.specs.name_pairs.Pairs.{pair_of};
-ghost use Rattle.diff_text.specs.stack_diff.Outcomes.{AreOutcomes, outcome_of};
+ghost use Rattle.command_base.specs.Stop.{GivesOrStops};
+ghost use Rattle.command_base.specs.declared.fault.ToolFault.TheVariants.{Write};
+ghost use Rattle.stack_diff.specs.names.Pairs.{pair_of};
+ghost use Rattle.stack_diff.specs.Stacks.{stacks_of};
+ghost use Rattle.diff_command.specs.Diff.{Diffs, DiffsFiles, DiffsOpened, diff_files, diff_held, diff_opened};
 ghost use Rattle.diff_command.specs.DiffInputs.{diff_inputs};
-ghost use Rattle.diff_command.specs.DiffOutput.{told_output, outcomes_output, IsDiffOutput, IsWholeDiff};
-ghost use Rattle.diff_command.specs.OpenedSeen.{opened_diff};
+ghost use Rattle.diff_command.specs.DiffOutput.{told_output, IsDiffOutput, IsWholeDiff};
+ghost use Rattle.diff_command.specs.Judged.{told_of};
+ghost use Rattle.diff_command.specs.OpenedSeen.{named_diff};
+ghost use Rattle.command_base.specs.CarriesOut.{IsKept};
 
-use crate::lines::{diff_lines, some_differ};
-use crate::opened::OpenedDiff;
-use command_base::{LayerParts, Status, ToolFault};
-use diff_text::stack_diff::{
-    ConfigBox, NamePair, Outcome, Outcomes, compare_stacks, compare_with_itself,
+use crate::judged::tell_all;
+use crate::lines::{some_differ, write_lines};
+use crate::opened::{NamedDiff, OpenedDiff};
+use crate::told::Told;
+use command_base::{
+    Inputs, LayerFiles, LayerParts, Side, Status, Stop, ToolFault, asked_sets, asked_words,
+    file_bytes, pairs_named,
 };
-use std::alloc::{AllocError, Global};
+use stack_diff::{NamePair, Stacks};
+use std::alloc::Global;
 use std::io::Write;
+
+/// What the words of `diff` ask: what a change of layers alters of some resources, for every device of a box.
+#[derive(Drop)]
+pub struct Diff<'a> {
+    /// Where the list of the layers before the change lies.
+    pub old: &'a str,
+    /// Where that of the layers after it lies.
+    pub new: &'a str,
+    /// Where the box lies.
+    pub box_path: &'a str,
+    /// How many nodes the trees that part the devices have together at most.
+    pub max_nodes: u32,
+    /// The words that ask for resources, or name a file of such words.
+    pub words: Vec<&'a str>,
+}
+
+impl<'a> Diff<'a> {
+    /// Reads what the words name, and answers them. Where it is not answered, nothing is written, unless a write fails.
+    pub fn answer<I: Inputs, W: Write + Drop>(
+        &self,
+        alloc: Global,
+        inputs: &I,
+        out: &mut W,
+    ) -> Result<Status, Stop<'a>>
+        ensures answers { IfSome (I.places inputs.now) (λ places. Diffs W.contents out.old out.new places self.now result) }
+        ensures unwritten { IsKept out.old out.new result }
+    {
+        let files = DiffFiles::read(
+            alloc,
+            inputs,
+            self.old,
+            self.new,
+            self.box_path,
+            &self.words,
+        )?;
+        self.answer_of(alloc, &files, out)
+    }
+
+    fn answer_of<W: Write + Drop>(
+        &self,
+        alloc: Global,
+        files: &DiffFiles,
+        out: &mut W,
+    ) -> Result<Status, Stop<'static>>
+        ensures answers { DiffsFiles W.contents out.old out.new self.now.max_nodes (Ok (diff_held files.now)) result }
+        ensures unwritten { IsKept out.old out.new result }
+    {
+        let old = files.old.layers(alloc)?;
+        let new = files.new.layers(alloc)?;
+        diff_of(
+            alloc,
+            &old,
+            &new,
+            &files.box_json,
+            &files.words,
+            self.max_nodes,
+            out,
+        )
+    }
+}
+
+// Reads the words, opens the layers, reads the box, finds what the words ask for, and then prints what becomes of it.
+#[tactic(auto, unfolding(crate::specs::Diff::diff_opened))]
+fn diff_of<W: Write + Drop>(
+    alloc: Global,
+    old: &[LayerParts<&[u8]>],
+    new: &[LayerParts<&[u8]>],
+    box_json: &[u8],
+    words: &[String],
+    max_nodes: u32,
+    out: &mut W,
+) -> Result<Status, Stop<'static>>
+    ensures answers { DiffsOpened W.contents out.old out.new max_nodes (diff_opened (map layer_bytes old.now) (map layer_bytes new.now) box_json.now (map string_bytes words.now)) result }
+    ensures unwritten { IsKept out.old out.new result }
+{
+    let sets = asked_sets(alloc, words)?;
+    let opened = OpenedDiff::read(alloc, old, new, box_json)?;
+    let named = opened.named(alloc)?;
+    let all = named.pairs(alloc)?;
+    let pairs = pairs_named(alloc, all, &sets)?;
+    Ok(named.diff(alloc, &pairs, max_nodes, out)?)
+}
+
+/// The bytes of two stacks of layers that are compared, and of a box, and the words of the argument that takes several.
+#[derive(Drop)]
+struct DiffFiles {
+    old: LayerFiles,
+    new: LayerFiles,
+    box_json: Vec<u8>,
+    words: Vec<String>,
+}
+
+impl DiffFiles {
+    /// Reads the list of the layers before a change with the files that it names, the same of those after it, then a box,
+    /// and the files of words.
+    #[tactic(auto, unfolding(crate::specs::Diff::diff_files))]
+    fn read<'a, I: Inputs>(
+        alloc: Global,
+        inputs: &I,
+        old_path: &'a str,
+        new_path: &'a str,
+        box_path: &'a str,
+        words: &[&'a str],
+    ) -> Result<DiffFiles, Stop<'a>>
+        ensures { IfSome (I.places inputs.now) (λ places. GivesOrStops diff_held result
+            (diff_files places old_path.entry.now new_path.entry.now box_path.entry.now (map (λ word. word.now) words.now))) }
+    {
+        let old = LayerFiles::read_side(alloc, inputs, Side::Old, old_path)?;
+        let new = LayerFiles::read_side(alloc, inputs, Side::New, new_path)?;
+        let box_json = file_bytes(inputs, box_path)?;
+        let words = asked_words(alloc, inputs, words)?;
+        Ok(DiffFiles {
+            old,
+            new,
+            box_json,
+            words,
+        })
+    }
+}
 
 /// Prints what the new layers say otherwise than the old ones, for all labels of both and all devices of the box; the status
 /// is Done where nothing differs. Or it prints `node limit`, where the trees that part the devices can have more than
@@ -33,12 +160,13 @@ pub fn diff_bytes<W: Write + Drop>(
         (diff_inputs (map layer_bytes old.now) (map layer_bytes new.now) box_json.now) }
 {
     let opened = OpenedDiff::read(alloc, old, new, box_json)?;
-    let pairs = opened.pairs(alloc)?;
-    opened.diff(alloc, &pairs, max_nodes, out)
+    let named = opened.named(alloc)?;
+    let pairs = named.pairs(alloc)?;
+    named.diff(alloc, &pairs, max_nodes, out)
 }
 
-impl<'a> OpenedDiff<'a> {
-    /// The same of some labels.
+impl<'o, 'a> NamedDiff<'o, 'a> {
+    /// The same of some labels. All memory is taken before the first line is written.
     pub fn diff<W: Write + Drop>(
         &self,
         alloc: Global,
@@ -46,57 +174,26 @@ impl<'a> OpenedDiff<'a> {
         max_nodes: u32,
         out: &mut W,
     ) -> Result<Status, ToolFault>
-        ensures { PrintsOneOf (IsDiffOutput (map pair_of pairs.now) max_nodes) W.contents out.old out.new result (Ok (opened_diff self.now)) }
+        ensures { PrintsOneOf (IsDiffOutput (map pair_of pairs.now) max_nodes) W.contents out.old out.new result (Ok (named_diff self.now)) }
     {
-        let outcomes = self.outcomes(alloc, pairs, max_nodes)?;
-        print_outcomes(alloc, &self.members, pairs, &outcomes, out)
-    }
-
-    // What becomes of the labels.
-    fn outcomes(
-        &self,
-        alloc: Global,
-        pairs: &[NamePair<'a>],
-        max_nodes: u32,
-    ) -> Result<Outcomes, AllocError>
-        ensures { IfOk result (AreOutcomes (opened_diff self.now).old (opened_diff self.now).new (map pair_of pairs.now) self.now.members max_nodes) }
-    {
-        match &self.changed {
-            Some(new) => compare_stacks(alloc, &self.old, new, pairs, &self.members, max_nodes),
-            None => compare_with_itself(alloc, &self.old, pairs, &self.members, max_nodes),
-        }
+        let stacks = self.stacks();
+        let told = tell_all(alloc, stacks, pairs, self.members, max_nodes)?;
+        print_told(stacks, pairs, told, out)
     }
 }
 
-fn print_outcomes<W: Write + Drop>(
-    alloc: Global,
-    whole: &ConfigBox,
+fn print_told<W: Write + Drop>(
+    stacks: Stacks<'_, '_>,
     pairs: &[NamePair<'_>],
-    outcomes: &Outcomes,
+    told: Option<Vec<Told>>,
     out: &mut W,
 ) -> Result<Status, ToolFault>
-    ensures { Prints W.contents out.old out.new result (Ok (outcomes_output whole.now (map pair_of pairs.now) outcomes.now)) }
+    ensures { Prints W.contents out.old out.new result (Ok (told_output (stacks_of stacks.entry) (map pair_of pairs.now) (option_map (λ all. map told_of all.items) told))) }
 {
-    match outcomes {
-        Outcomes::All(outcomes) => print_lines(alloc, whole, pairs, outcomes, out),
-        Outcomes::NodeLimit => {
-            out.write_all(b"node limit\n")?;
-            Ok(Status::Negative)
-        }
-    }
-}
-
-// All memory is taken before the first line is written.
-fn print_lines<W: Write + Drop>(
-    alloc: Global,
-    whole: &ConfigBox,
-    pairs: &[NamePair<'_>],
-    outcomes: &[Outcome],
-    out: &mut W,
-) -> Result<Status, ToolFault>
-    ensures { Prints W.contents out.old out.new result (Ok (told_output whole.now (map pair_of pairs.now) (map outcome_of outcomes.now))) }
-{
-    let text = diff_lines(alloc, whole, pairs, outcomes)?;
-    out.write_all(&text)?;
-    Ok(Status::negative_if(some_differ(outcomes)))
+    let Some(told) = told else {
+        out.write_all(b"node limit\n")?;
+        return Ok(Status::Negative);
+    };
+    write_lines(stacks, pairs, &told, out)?;
+    Ok(Status::negative_if(some_differ(&told)))
 }

@@ -1,22 +1,47 @@
 //! The command `diff`: what a change of layers alters, for every device of a box.
 //!
-//! For the program: `OpenedDiff::diff` prints exactly the lines of what becomes of some labels, or `node limit`, and is done where
+//! For the program: `NamedDiff::diff` prints exactly the lines of what becomes of some labels, or `node limit`, and is done where
 //! nothing differs; `diff_bytes` prints those of all labels, from the bytes of both stacks and of the box, or names the first
-//! fault of these and prints nothing.
+//! fault of these and prints nothing. `Diff::answer` reads the files that its words name, and prints those of the labels that
+//! they ask for; where a file is not read, has a fault, or a name is not there, it stops and prints nothing. A line names
+//! exactly the devices of its part (`devices_are_named`).
 //!
 //! ```text
+//! let words = vec![in alloc; "dimen/*"]?;
+//! let diff = Diff { old: "old.json", new: "new.json", box_path: "box.json", max_nodes: 100_000, words };
+//! diff.answer(alloc, &inputs, &mut out)?; // reads the files first
+//!
 //! let opened = OpenedDiff::read(alloc, &old_layers, &new_layers, &box_json)?;
-//! let pairs = opened.pairs(alloc)?;
-//! let status = opened.diff(alloc, &pairs, 100_000, &mut out)?; // changed dimen/margin .. on smallestWidthDp=320..599
+//! let named = opened.named(alloc)?; // walks once over the rows of each stack
+//! let status = named.diff(alloc, &named.pairs(alloc)?, 100_000, &mut out)?;
+//!
+//! changed string/cancel "Cancel" -> "Cancel!" on locale=de-AT,de-CH,de-DE
+//! changed dimen/margin dimension 4/2^0 dp -> absent dimen/margin on smallestWidthDp=320..599 orientation=2
+//! changed style/Card on sdk=26..30
+//!   android:attr/padding dimension 4/2^0 dp -> dimension 3/2^0 dp
+//!   added attr/accent ?android:attr/colorAccent
+//!   removed attr/shadow true
+//! added string/welcome
+//! removed color/old
+//! same 40
 //! ```
 #![tactic(auto)]
 
+mod content_text;
+mod devices_text;
 mod diff;
+mod difference_text;
+mod judged;
+mod laws;
 mod lines;
+mod name_lines;
 mod opened;
-mod same_bytes;
+mod rows_text;
+mod told;
 
 pub use command_base::{LayerParts, Status, ToolFault};
-pub use diff::diff_bytes;
-pub use diff_text::stack_diff::{Label, NamePair, Sides};
-pub use opened::OpenedDiff;
+pub use diff::{Diff, diff_bytes};
+pub use difference_text::write_difference;
+pub use laws::devices_are_named;
+pub use opened::{NamedDiff, OpenedDiff};
+pub use stack_diff::{ConfigBox, Label, NamePair, Sides};

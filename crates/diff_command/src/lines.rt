@@ -1,119 +1,137 @@
 //! What two stacks say differently, written.
 
-ghost use Rattle.std.specs.Prelude.{◌≡◌, map, IfOk};
+ghost use Rattle.std.specs.Prelude.{◌≡◌, length, map};
 ghost use Rattle.std.specs.List.{flat_map};
 ghost use Rattle.contract_words.specs.Writes.{Writes};
-ghost use Rattle.diff_text.specs.name_pairs.Label.{label_of};
-ghost use Rattle.diff_text.specs.name_pairs.Pairs.{pair_of};
-ghost use Rattle.diff_text.specs.stack_diff.ChangeSeen.{change_of};
-ghost use Rattle.diff_text.specs.stack_diff.Outcomes.{outcome_of};
-ghost use Rattle.diff_command.specs.DiffLines.{change_lines, outcome_lines, label_lines, says_same, same_count, some_differ, diff_lines};
+ghost use Rattle.stack_diff.specs.names.Label.{label_of};
+ghost use Rattle.stack_diff.specs.names.Pairs.{pair_of};
+ghost use Rattle.stack_diff.specs.names.Shared.{shared_ids};
+ghost use Rattle.stack_diff.specs.Stacks.{stacks_of};
+ghost use Rattle.diff_command.specs.Judged.{told_of};
+ghost use Rattle.diff_command.specs.DiffLines.{changed_block, told_lines, label_lines, says_same, same_count, some_differ, counts_line, shared_names_line, set_aside_line, diff_lines};
 
-use diff_text::stack_diff::{Change, ConfigBox, Label, NamePair, Outcome};
-use diff_text::{write_added, write_change, write_removed, write_same};
-use std::alloc::{AllocError, Global};
+use crate::name_lines::{write_added, write_removed, write_same};
+use crate::told::Told;
+use stack_diff::{Label, NamePair, NamedStack, Stacks, write_label};
 use std::io::{self, Write};
 
-/// The lines of labels, of which this became.
-pub(crate) fn diff_lines(
-    alloc: Global,
-    whole: &ConfigBox,
-    pairs: &[NamePair<'_>],
-    outcomes: &[Outcome],
-) -> Result<Vec<u8>, AllocError>
-    ensures { IfOk result (λ text. text.items ≡ diff_lines whole.now (map pair_of pairs.now) (map outcome_of outcomes.now)) }
-{
-    let mut text = Vec::new(alloc);
-    match write_diff_lines(whole, pairs, outcomes, &mut text) {
-        Ok(()) => Ok(text),
-        // To a `Vec` only a want of memory is a fault.
-        Err(_) => Err(AllocError),
-    }
-}
-
+/// Writes the lines of labels, of which this is told, and those of the stacks.
 #[tactic(auto, unfolding(crate::specs::DiffLines::diff_lines))]
-fn write_diff_lines<W: Write + Drop>(
-    whole: &ConfigBox,
+pub(crate) fn write_lines<W: Write + Drop>(
+    stacks: Stacks<'_, '_>,
     pairs: &[NamePair<'_>],
-    outcomes: &[Outcome],
+    told: &[Told],
     out: &mut W,
 ) -> io::Result<()>
-    ensures { Writes W.contents out.old out.new result (diff_lines whole.now (map pair_of pairs.now) (map outcome_of outcomes.now)) }
+    ensures { Writes W.contents out.old out.new result (diff_lines (stacks_of stacks.entry) (map pair_of pairs.now) (map told_of told.now)) }
 {
-    write_labels(whole, pairs, outcomes, out)?;
-    write_same(same_count(outcomes), out)
+    write_labels(pairs, told, out)?;
+    write_shared_names(stacks, out)?;
+    write_set_aside(stacks, out)?;
+    write_same(same_count(told), out)
 }
+
+// ---- labels
 
 #[tactic(auto, unfolding(crate::specs::DiffLines::label_lines), using(contract_words::proofs::TextSteps::puts))]
 fn write_labels<W: Write + Drop>(
-    whole: &ConfigBox,
     pairs: &[NamePair<'_>],
-    outcomes: &[Outcome],
+    told: &[Told],
     out: &mut W,
 ) -> io::Result<()>
-    ensures { Writes W.contents out.old out.new result (label_lines whole.now (map pair_of pairs.now) (map outcome_of outcomes.now)) }
+    ensures { Writes W.contents out.old out.new result (label_lines (map pair_of pairs.now) (map told_of told.now)) }
 {
-    for (pair, outcome) in pairs.iter().zip(outcomes) {
-        write_outcome(whole, &pair.label, outcome, out)?;
+    for (pair, one) in pairs.iter().zip(told) {
+        write_told(&pair.label, one, out)?;
     }
     Ok(())
 }
 
-#[tactic(auto, unfolding(crate::specs::DiffLines::outcome_lines))]
-fn write_outcome<W: Write + Drop>(
-    whole: &ConfigBox,
-    label: &Label<'_>,
-    outcome: &Outcome,
-    out: &mut W,
-) -> io::Result<()>
-    ensures { Writes W.contents out.old out.new result (outcome_lines whole.now (label_of label.now) (outcome_of outcome.now)) }
+#[tactic(auto, unfolding(crate::specs::DiffLines::told_lines))]
+fn write_told<W: Write + Drop>(label: &Label<'_>, told: &Told, out: &mut W) -> io::Result<()>
+    ensures { Writes W.contents out.old out.new result (told_lines (label_of label.now) (told_of told.now)) }
 {
-    match outcome {
-        Outcome::Removed => write_removed(label, out),
-        Outcome::Added => write_added(label, out),
-        Outcome::Both(changes) => write_changes(whole, label, changes, out),
+    match told {
+        Told::Removed => write_removed(label, out),
+        Told::Added => write_added(label, out),
+        Told::Same => Ok(()),
+        Told::Changed(blocks) => write_blocks(label, blocks, out),
     }
 }
 
 #[tactic(auto, using(contract_words::proofs::TextSteps::puts_slice))]
-fn write_changes<W: Write + Drop>(
-    whole: &ConfigBox,
+fn write_blocks<W: Write + Drop>(
     label: &Label<'_>,
-    changes: &[Change],
+    blocks: &[Vec<u8>],
     out: &mut W,
 ) -> io::Result<()>
-    ensures { Writes W.contents out.old out.new result (flat_map (change_lines whole.now (label_of label.now)) (map change_of changes.now)) }
+    ensures { Writes W.contents out.old out.new result (flat_map (changed_block (label_of label.now)) (map (λ block. block.items) blocks.now)) }
 {
-    for change in changes {
-        write_change_lines(whole, label, change, out)?;
+    for block in blocks {
+        write_block(label, block, out)?;
     }
     Ok(())
 }
 
-#[tactic(auto, unfolding(crate::specs::DiffLines::change_lines), using(contract_words::proofs::TextSteps::puts))]
-fn write_change_lines<W: Write + Drop>(
-    whole: &ConfigBox,
-    label: &Label<'_>,
-    change: &Change,
-    out: &mut W,
-) -> io::Result<()>
-    ensures { Writes W.contents out.old out.new result (change_lines whole.now (label_of label.now) (change_of change.now)) }
+#[tactic(auto, unfolding(crate::specs::DiffLines::changed_block))]
+fn write_block<W: Write + Drop>(label: &Label<'_>, block: &[u8], out: &mut W) -> io::Result<()>
+    ensures { Writes W.contents out.old out.new result (changed_block (label_of label.now) block.now) }
 {
-    for part in &change.boxes {
-        write_change(label, &change.before, &change.after, whole, part, out)?;
+    out.write_all(b"changed ")?;
+    write_label(label, out)?;
+    out.write_all(block)
+}
+
+// ---- stacks
+
+#[tactic(auto, unfolding(crate::specs::DiffLines::shared_names_line))]
+fn write_shared_names<W: Write + Drop>(stacks: Stacks<'_, '_>, out: &mut W) -> io::Result<()>
+    ensures { Writes W.contents out.old out.new result (shared_names_line (stacks_of stacks.entry)) }
+{
+    let old = shared_count(stacks.old_stack());
+    let new = shared_count(stacks.new_stack());
+    write_counts(b"warning shared-names", old as u128, new as u128, out)
+}
+
+fn shared_count(stack: &NamedStack<'_, '_>) -> usize
+    ensures { result ≡ length (shared_ids stack.now) }
+{
+    match stack.shared_names() {
+        Some(shared) => shared.count,
+        None => 0,
     }
-    Ok(())
+}
+
+#[tactic(auto, unfolding(crate::specs::DiffLines::set_aside_line))]
+fn write_set_aside<W: Write + Drop>(stacks: Stacks<'_, '_>, out: &mut W) -> io::Result<()>
+    ensures { Writes W.contents out.old out.new result (set_aside_line (stacks_of stacks.entry)) }
+{
+    let old = stacks.old_stack().stack().set_aside();
+    let new = stacks.new_stack().stack().set_aside();
+    write_counts(b"set-aside", old, new, out)
+}
+
+// Writes a count of either stack, if one of them is not 0.
+#[tactic(auto, unfolding(crate::specs::DiffLines::counts_line))]
+fn write_counts<W: Write + Drop>(words: &[u8], old: u128, new: u128, out: &mut W) -> io::Result<()>
+    ensures { Writes W.contents out.old out.new result (counts_line words.now old new) }
+{
+    if old == 0 && new == 0 {
+        return Ok(());
+    }
+    out.write_all(words)?;
+    writeln!(out, " {old} {new}")
 }
 
 // ---- labels that say the same
 
 // How many there are.
-fn same_count(outcomes: &[Outcome]) -> usize
-    ensures { result ≡ same_count (map outcome_of outcomes.now) }
+fn same_count(told: &[Told]) -> usize
+    ensures { result ≡ same_count (map told_of told.now) }
 {
     let mut count: usize = 0;
-    for outcome in outcomes {
-        if says_same(outcome) {
+    for one in told {
+        if says_same(one) {
             count += 1;
         }
     }
@@ -121,18 +139,14 @@ fn same_count(outcomes: &[Outcome]) -> usize
 }
 
 /// Whether some label says something else, or stands in one stack alone.
-pub(crate) fn some_differ(outcomes: &[Outcome]) -> bool
-    ensures { result ≡ some_differ (map outcome_of outcomes.now) }
+pub(crate) fn some_differ(told: &[Told]) -> bool
+    ensures { result ≡ some_differ (map told_of told.now) }
 {
-    same_count(outcomes) < outcomes.len()
+    same_count(told) < told.len()
 }
 
-fn says_same(outcome: &Outcome) -> bool
-    ensures { result ≡ says_same (outcome_of outcome.now) }
+fn says_same(told: &Told) -> bool
+    ensures { result ≡ says_same (told_of told.now) }
 {
-    match outcome {
-        Outcome::Removed => false,
-        Outcome::Added => false,
-        Outcome::Both(changes) => changes.is_empty(),
-    }
+    matches!(told, Told::Same)
 }

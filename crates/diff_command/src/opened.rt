@@ -1,31 +1,37 @@
 //! What a comparison is asked of: two stacks and a box, opened from their bytes.
 
-ghost use Rattle.std.specs.Prelude.{◌≡◌, ◌≢◌, map, Ok, Err, IfOk, IfErr, MatchOption};
+ghost use Rattle.std.specs.Prelude.{◌≡◌, ◌≢◌, true, false, map, Ok, Err, IfOk, IfErr, MatchOption};
 ghost use Rattle.contract_words.specs.Exact.{GivesOr};
-ghost use Rattle.command_base.specs.fault_text.declared.fault.ToolFault.TheVariants.{OutOfMemory};
+ghost use Rattle.command_base.specs.declared.fault.ToolFault.TheVariants.{OutOfMemory};
 ghost use Rattle.command_base.specs.Output.{IsOfInput};
 ghost use Rattle.command_base.specs.StackBytes.{stack_on_side};
 ghost use Rattle.command_base.specs.StackBytesSeen.{layer_bytes};
-ghost use Rattle.command_base.specs.fault_text.declared.side.Side.TheVariants.{New};
-ghost use Rattle.diff_command.specs.DiffInputs.{diff_inputs};
+ghost use Rattle.command_base.specs.declared.side.Side.TheVariants.{New};
+ghost use Rattle.diff_command.specs.DiffInputs.{have_same_bytes, diff_inputs};
 
-use crate::same_bytes::have_same_bytes;
 use command_base::{LayerParts, Side, ToolFault, open_side};
-use diff_text::stack_diff::{ConfigBox, NamePair, Stack, name_pairs};
+use stack_diff::{ConfigBox, NamePair, NamedStack, Stack, Stacks, name_pairs};
 use std::alloc::{AllocError, Global};
 
 /// The layers before a change and those after it, and the box.
 #[derive(Drop)]
 pub struct OpenedDiff<'a> {
-    pub(crate) old: Stack<'a>,
+    old: Stack<'a>,
     /// The new stack; none where its layers have the same bytes as the old ones, so that the old stack serves for both.
-    pub(crate) changed: Option<Stack<'a>>,
-    pub(crate) members: ConfigBox,
+    changed: Option<Stack<'a>>,
+    members: ConfigBox,
+}
+
+/// The same, with the names of both stacks.
+#[derive(Drop)]
+pub struct NamedDiff<'o, 'a> {
+    old: NamedStack<'o, 'a>,
+    changed: Option<NamedStack<'o, 'a>>,
+    pub(crate) members: &'o ConfigBox,
 }
 
 impl<'a> OpenedDiff<'a> {
-    ghost use Rattle.diff_text.specs.name_pairs.Pairs.{pair_of, name_pairs};
-    ghost use Rattle.diff_command.specs.OpenedSeen.{opened_diff};
+    ghost use Rattle.diff_command.specs.OpenedSeen.{named_diff, opened_diff};
 
     /// Opens the old layers, then the new ones, and then reads the box.
     #[tactic(auto, unfolding(crate::specs::DiffInputs::diff_inputs))]
@@ -48,21 +54,44 @@ impl<'a> OpenedDiff<'a> {
         })
     }
 
-    /// The stack after the change.
-    pub(crate) fn new_stack(&self) -> &Stack<'a>
-        ensures { result.now ≡ (opened_diff self.now).new }
+    /// Notes the names of both stacks, in one walk over the rows of each.
+    pub fn named(&self, alloc: Global) -> Result<NamedDiff<'_, 'a>, AllocError>
+        ensures { IfOk result (λ named. named_diff named ≡ opened_diff self.now) }
+    {
+        let old = NamedStack::of(alloc, &self.old)?;
+        let changed = match &self.changed {
+            Some(stack) => Some(NamedStack::of(alloc, stack)?),
+            None => None,
+        };
+        Ok(NamedDiff {
+            old,
+            changed,
+            members: &self.members,
+        })
+    }
+}
+
+impl<'o, 'a> NamedDiff<'o, 'a> {
+    ghost use Rattle.stack_diff.specs.names.Pairs.{pair_of, name_pairs};
+    ghost use Rattle.stack_diff.specs.Stacks.{stacks_of};
+    ghost use Rattle.diff_command.specs.OpenedSeen.{named_diff};
+
+    /// Both stacks.
+    pub(crate) fn stacks(&self) -> Stacks<'_, 'a>
+        ensures { stacks_of result ≡ (named_diff self.now).stacks }
     {
         match &self.changed {
-            Some(stack) => stack,
-            None => &self.old,
+            Some(changed) => Stacks::two(&self.old, changed),
+            None => Stacks::one(&self.old),
         }
     }
 
     /// All labels of both stacks, in rising order.
     pub fn pairs(&self, alloc: Global) -> Result<Vec<NamePair<'a>>, AllocError>
-        ensures { IfOk result (λ pairs. map pair_of pairs.items ≡ name_pairs (opened_diff self.now).old (opened_diff self.now).new) }
+        ensures { IfOk result (λ pairs. map pair_of pairs.items ≡ name_pairs (named_diff self.now).stacks.old (named_diff self.now).stacks.new) }
     {
-        let pairs = name_pairs(alloc, &self.old, self.new_stack())?;
+        let stacks = self.stacks();
+        let pairs = name_pairs(alloc, stacks.old_stack(), stacks.new_stack())?;
         Ok(pairs)
     }
 }
@@ -73,6 +102,7 @@ fn open_changed<'a>(
     old: &[LayerParts<&'a [u8]>],
     new: &[LayerParts<&'a [u8]>],
 ) -> Result<Option<Stack<'a>>, ToolFault>
+    ensures same { IfOk result (λ changed. MatchOption changed (have_same_bytes (map layer_bytes old.now) (map layer_bytes new.now) ≡ true) (λ stack. have_same_bytes (map layer_bytes old.now) (map layer_bytes new.now) ≡ false)) }
     ensures read { IfOk result (λ changed. MatchOption changed (map layer_bytes new.now ≡ map layer_bytes old.now) (λ stack. stack_on_side New (map layer_bytes new.now) ≡ Ok stack)) }
     ensures fault { IfErr result (λ fault. fault ≢ OutOfMemory → stack_on_side New (map layer_bytes new.now) ≡ Err fault) }
     ensures of_input { IsOfInput result }
@@ -82,4 +112,11 @@ fn open_changed<'a>(
     }
     let stack = open_side(alloc, Side::New, new)?;
     Ok(Some(stack))
+}
+
+// Whether both lists of layers have the same bytes. Then they are the same stack, since a stack is what its bytes mean.
+fn have_same_bytes(old: &[LayerParts<&[u8]>], new: &[LayerParts<&[u8]>]) -> bool
+    ensures { result ≡ have_same_bytes (map layer_bytes old.now) (map layer_bytes new.now) }
+{
+    old == new
 }

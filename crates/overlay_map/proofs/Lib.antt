@@ -3,3 +3,4 @@ pub mod CheckSteps
 pub mod FewRows
 pub mod SetAsideSteps
 pub mod BaseSteps
+pub mod IdBytes

@@ -4,8 +4,9 @@ pub mod Candidates
 pub mod BaseRow
 pub mod Pushing
 pub mod SetAside
-pub use Rattle.row_index.specs.config_record
-pub use Rattle.row_index.specs.res_value
-pub use Rattle.row_index.specs.resource_table
-pub use Rattle.row_index.specs.string_pool
-pub use Rattle.row_index.specs.type_chunks
+pub mod ContentKeys
+pub use Rattle.resource_table.specs.config_record
+pub use Rattle.resource_table.specs.res_value
+pub use Rattle.resource_table.specs as resource_table
+pub use Rattle.resource_table.specs.string_pool
+pub use Rattle.resource_table.specs.type_chunks

@@ -1,6 +1,6 @@
 //! The row that gives an id its name.
 
-use row_index::{Row, Table};
+use resource_table::{Row, Table};
 
 /// A row of a base layer, with the table that it is of.
 #[derive(Clone, Copy, Debug)]

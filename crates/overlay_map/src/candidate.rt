@@ -1,6 +1,6 @@
 //! Candidates.
 
-use row_index::Row;
+use resource_table::Row;
 
 /// A row that may stand for an id, and the layer that it is of.
 #[derive(Clone, Copy, Debug)]

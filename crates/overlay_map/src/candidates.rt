@@ -7,7 +7,7 @@ ghost use Rattle.overlay_map.specs.Candidates.{candidates_from};
 
 use crate::candidate::Cand;
 use crate::layer::Layer;
-use row_index::{IndexedRows, ResId};
+use resource_table::{IndexedRows, ResId};
 use std::marker::Model;
 use std::slice::Iter;
 

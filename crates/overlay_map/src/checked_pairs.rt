@@ -4,13 +4,14 @@ ghost use Rattle.std.specs.Prelude.{◌≡◌, ◌+◌, ◌<◌, ◌≤◌, [], 
 ghost use Rattle.contract_words.specs.FillsIn.{FillsIn};
 ghost use Rattle.contract_words.specs.Sequences.{joined_each, with_before};
 ghost use Rattle.indexmap.specs.IndexMap.{IsEmpty, spare, hasher_of};
-ghost use Rattle.content_keys.specs.ContentKeys.{keys_of};
+ghost use Rattle.overlay_map.specs.ContentKeys.{keys_of};
 ghost use Rattle.overlay_map.specs.IdMap.{targets_of, check_target, checked_pair, checked_pairs};
 
+use crate::content_keys::ContentKeys;
+use crate::contents::Contents;
 use crate::map_fault::MapFault;
-use content_keys::{ContentKeys, Contents};
 use indexmap::IndexMap;
-use row_index::ResId;
+use resource_table::ResId;
 
 /// The keys that the targets of these pairs make.
 pub(crate) fn keys_of_targets(list: &[(ResId, ResId)]) -> ContentKeys

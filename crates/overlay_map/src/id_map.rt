@@ -4,17 +4,17 @@ ghost use Rattle.std.specs.Prelude.{◌≡◌};
 ghost use Rattle.std.specs.Option.{option_map};
 ghost use Rattle.contract_words.specs.Exact.{GivesOr};
 ghost use Rattle.indexmap.specs.IndexMap.{hasher_of};
-ghost use Rattle.content_keys.specs.ContentKeys.{keys_of};
+ghost use Rattle.overlay_map.specs.ContentKeys.{keys_of};
 ghost use Rattle.overlay_map.specs.IdMap.{targets_of, look_of, map_in};
 ghost use Rattle.overlay_map.specs.declared.map_fault.MapFault.TheVariants.{OutOfMemory};
 
 use crate::checked_pairs::{keys_of_targets, put_pairs};
+use crate::content_keys::ContentKeys;
 use crate::map_fault::MapFault;
 use crate::pairs::pairs_in;
-use content_keys::ContentKeys;
 use indexmap::IndexMap;
 use json_input::read_value;
-use row_index::ResId;
+use resource_table::ResId;
 use std::alloc::Global;
 use std::marker::Model;
 

@@ -8,7 +8,7 @@ ghost use Rattle.overlay_map.specs.SetAside.{set_aside_in_layer};
 
 use crate::base_row::BaseRow;
 use crate::id_map::IdMap;
-use row_index::{IndexedRows, IndexedTable, ResId};
+use resource_table::{IndexedRows, IndexedTable, ResId};
 use std::marker::Model;
 
 /// A table in a stack, as a base or as an overlay.

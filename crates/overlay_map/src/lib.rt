@@ -5,6 +5,10 @@
 //! `candidates(id)` are the rows that may stand for an id, layer by layer and in the order of each file;
 //! an `IdMap` is the list of pairs that its JSON text means, and `look` gives the id of a target.
 //!
+//! A file chooses the ids of a map. So the keys for its hashes are made of all of them, by a digest that goes one way:
+//! `Contents` takes the ids one by one, and `ContentKeys` makes the hashers. Whoever writes the file cannot foresee where
+//! an id is looked for, nothing is asked of the system, and the same ids have the same keys.
+//!
 //! ```text
 //! let mut stack = Stack::new(alloc);
 //! if let Err((fault, table)) = stack.push_base(table) {
@@ -23,6 +27,8 @@ mod base_row;
 mod candidate;
 mod candidates;
 mod checked_pairs;
+mod content_keys;
+mod contents;
 mod id_map;
 mod layer;
 mod map_fault;
@@ -33,9 +39,11 @@ mod stack_fault;
 pub use base_row::BaseRow;
 pub use candidate::Cand;
 pub use candidates::Cands;
+pub use content_keys::ContentKeys;
+pub use contents::Contents;
 pub use id_map::IdMap;
 pub use map_fault::MapFault;
-pub use row_index::{
+pub use resource_table::{
     Cell, DeviceFault, MapRows, Package, PackageRows, Pool, PoolFault, ResId, Row, Table,
     TableFault, Value, kind, write_hex, write_id, write_string, write_value, write_word,
 };

@@ -5,7 +5,7 @@ ghost use Rattle.json_input.specs.Fault.{fault_of_text};
 ghost use Rattle.overlay_map.specs.declared.map_fault.MapFault.TheVariants.{Syntax, OutOfMemory};
 
 use json_input::JsonFault;
-use row_index::ResId;
+use resource_table::ResId;
 use std::alloc::AllocError;
 use thiserror::Error;
 

@@ -10,7 +10,7 @@ ghost use Rattle.overlay_map.specs.declared.map_fault.MapFault.TheVariants.{OutO
 
 use crate::map_fault::MapFault;
 use json_input::list_of;
-use row_index::ResId;
+use resource_table::ResId;
 use serde_json::Value;
 use std::alloc::Global;
 

@@ -1,7 +1,7 @@
 //! Stacks.
 
 ghost use Rattle.std.specs.Prelude.{◌≡◌, ◌≤◌, ◌<◌, ◌^◌, [], ◌∷◌, ◌++◌, All, length, map, slice_get, vec_len, vec_capacity, nat_eq, OnOk, IfOk, IfErr};
-ghost use Rattle.row_index.specs.resource_table.Table.{rows_of};
+ghost use Rattle.resource_table.specs.Table.{rows_of};
 ghost use Rattle.std.specs.Option.{option_map};
 ghost use Rattle.overlay_map.specs.Layer.{most_layers, base_tables, HasFewRows};
 ghost use Rattle.overlay_map.specs.Pushing.{RefusesLayer, PushesLayer, base_of, overlay_of};
@@ -14,7 +14,7 @@ use crate::candidates::Cands;
 use crate::id_map::IdMap;
 use crate::layer::Layer;
 use crate::stack_fault::StackFault;
-use row_index::{IndexedTable, ResId, Table};
+use resource_table::{IndexedTable, ResId, Table};
 use std::alloc::{AllocError, Global};
 use std::marker::Model;
 

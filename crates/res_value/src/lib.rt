@@ -28,11 +28,10 @@ mod value_text;
 mod word;
 
 pub use cell::Cell;
-pub use chunk_walk::ChunkFault;
+pub use chunk_walk::{ChunkFault, write_hex};
 pub use goal::{Goal, MOST_STYLES};
 pub use goal_fault::GoalFault;
 pub use goal_word::{GoalWord, is_id_list};
-pub use hex_text::write_hex;
 pub use map_rows::{MapRows, MapRowsFault, ROW_SIZE};
 pub use res_id::{ResId, write_id};
 pub use value::Value;

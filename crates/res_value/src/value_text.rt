@@ -10,7 +10,7 @@ use crate::complex::{DIMENSION_UNITS, FRACTION_UNITS, write_complex};
 use crate::kind;
 use crate::value::Value;
 use crate::word::write_digits;
-use hex_text::write_hex;
+use chunk_walk::write_hex;
 use itoa::Buffer;
 use std::io::{self, Write};
 

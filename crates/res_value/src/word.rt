@@ -4,7 +4,7 @@ ghost use Rattle.std.specs.Prelude.{◌++◌, OnOk};
 ghost use Rattle.contract_words.specs.Writes.{Writes};
 ghost use Rattle.res_value.specs.Word.{eight_digits, word_text};
 
-use hex_text::word_digits;
+use chunk_walk::word_digits;
 use std::io::{self, Write};
 
 /// How many bytes stand before the digits of a word.

@@ -94,7 +94,7 @@ impl<'a> Table<'a> {
     }
 
     /// The rows of an id, in the order of the file: for one look-up, since it walks over all rows and takes no
-    /// memory. An `IndexedTable` of `row_index` is for many.
+    /// memory. An `IndexedTable` is for many.
     ///
     /// ```text
     /// for row in table.rows(ResId(0x7f01_0000)) {

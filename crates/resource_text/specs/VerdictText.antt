@@ -1,16 +1,16 @@
 -- The verdict on a certificate as text.
 use Rattle.std.specs.Prelude.{ℕ, List, [], ◌∷◌, ◌++◌, codes, length}
 use Rattle.std.specs.Fmt.{decimal}
-use Rattle.fault_text.specs.answer_text.config_record.DeviceSeen.{device_numbers}
-use Rattle.fault_text.specs.answer_text.config_record.Qualifiers.{device_text}
-use Rattle.fault_text.specs.answer_text.reference_resolver.declared.end.End.{End}
+use Rattle.command_base.specs.answer_text.config_record.DeviceSeen.{device_numbers}
+use Rattle.command_base.specs.answer_text.config_record.Qualifiers.{device_text}
+use Rattle.command_base.specs.answer_text.reference_resolver.declared.end.End.{End}
 use Rattle.cert_maker.specs.cert_tree.Certificate.{GoalOf, node_count}
 use Rattle.cert_maker.specs.cert_checker.declared.verdict.Shown.{Shown}
 use Rattle.cert_maker.specs.cert_checker.declared.verdict.Shown.TheVariants.{Nothing, Two, One}
 use Rattle.cert_maker.specs.cert_checker.declared.verdict.Verdict.{Verdict}
 use Rattle.cert_maker.specs.cert_checker.declared.verdict.Verdict.TheVariants.{Accepted, Rejected}
 use Rattle.cert_maker.specs.cert_checker.Rule.{number_of, name_of}
-use Rattle.fault_text.specs.answer_text.EndText.{end_line}
+use Rattle.command_base.specs.answer_text.EndText.{end_line}
 
 -- the line `accepted goals G nodes N`
 unfoldable pub accepted_line : ℕ → ℕ → List ℕ

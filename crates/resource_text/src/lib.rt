@@ -15,8 +15,8 @@ mod verdict;
 
 pub use cert_maker;
 pub use cert_maker::{Cert, Rule, Shown, Verdict};
-pub use fault_text::answer_text::{
+pub use command_base::answer_text::{
     dump_text, end_text, explain, rows_text, set_aside_line, write_goal_words,
 };
-pub use fault_text::{LayersFault, ToolFault, fault_text};
+pub use command_base::{LayersFault, ToolFault, fault_text};
 pub use verdict::{device_with_end, verdict_text};

@@ -2,12 +2,12 @@
 
 ghost use Rattle.std.specs.Prelude.{◌≡◌};
 ghost use Rattle.contract_words.specs.Writes.{Writes};
-ghost use Rattle.fault_text.specs.answer_text.config_record.DeviceSeen.{device_numbers};
+ghost use Rattle.command_base.specs.answer_text.config_record.DeviceSeen.{device_numbers};
 ghost use Rattle.cert_maker.specs.cert_tree.Certificate.{goals_of, node_count};
 ghost use Rattle.resource_text.specs.VerdictText.{accepted_line, accepted_text, rejected_line, named_device_line, device_with_end, shown_text, verdict_text};
 
 use cert_maker::{Cert, Shown, Verdict};
-use fault_text::answer_text::{Device, End, write_end_line};
+use command_base::answer_text::{Device, End, write_end_line};
 use std::io::{self, Write};
 
 /// Writes whether a certificate is accepted, with the number of its goals and nodes; or the first node that

@@ -10,8 +10,8 @@ use Rattle.resource_text.specs.cert_maker.cert_tree.declared.cert_fault.CertFaul
 use Rattle.resource_text.specs.cert_maker.cert_tree.Certificate.{GoalOf}
 use Rattle.resource_text.specs.cert_maker.res_value.Goal.{GoalSeen}
 use Rattle.resource_text.specs.cert_maker.cert_tree.CertJson.{cert_in}
-use Rattle.table_commands.specs.fault_text.declared.fault.ToolFault.{ToolFault}
-use Rattle.table_commands.specs.fault_text.ToolFault.{fault_of_box, fault_of_certificate}
+use Rattle.table_commands.specs.command_base.declared.fault.ToolFault.{ToolFault}
+use Rattle.table_commands.specs.command_base.ToolFault.{fault_of_box, fault_of_certificate}
 use Rattle.table_commands.specs.command_base.declared.status.Status.{Status}
 use Rattle.table_commands.specs.command_base.Output.{PrintsOneOf}
 use Rattle.table_commands.specs.command_base.StackBytes.{LayerBytes, stack_in}

@@ -1,3 +1,4 @@
 pub mod CheckSteps
 pub mod MakeSteps
 pub mod OmitSteps
+pub mod Told

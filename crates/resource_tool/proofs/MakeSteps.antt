@@ -10,7 +10,7 @@ use Rattle.resource_text.specs.cert_maker.declared.made.Made.TheVariants.{Cert, 
 use Rattle.resource_text.specs.cert_maker.Made.{IsMade, CanBeWritten}
 use Rattle.resource_text.specs.cert_maker.cert_checker.FirstFault.{goals_in, IsAccepted}
 use Rattle.resource_text.specs.cert_maker.Least.{IsLeast}
-use Rattle.table_commands.specs.fault_text.declared.fault.ToolFault.{ToolFault}
+use Rattle.table_commands.specs.command_base.declared.fault.ToolFault.{ToolFault}
 use Rattle.table_commands.specs.command_base.declared.status.Status.{Status}
 use Rattle.table_commands.specs.command_base.declared.status.Status.TheVariants.{Done, Negative}
 use Rattle.table_commands.specs.command_base.Output.{Output, Prints, PrintsOneOf}

@@ -7,8 +7,8 @@ use Rattle.resource_text.specs.cert_maker.cert_checker.FirstFault.{IsAccepted}
 use Rattle.resource_text.specs.cert_maker.declared.omitted.Omitting.{Omitting}
 use Rattle.resource_text.specs.cert_maker.declared.omitted.Omitting.TheVariants.{Cert, NodeLimit}
 use Rattle.resource_text.specs.cert_maker.Omitting.{IsOmitting}
-use Rattle.table_commands.specs.fault_text.declared.fault.ToolFault.{ToolFault}
-use Rattle.table_commands.specs.fault_text.declared.fault.ToolFault.TheVariants as faults
+use Rattle.table_commands.specs.command_base.declared.fault.ToolFault.{ToolFault}
+use Rattle.table_commands.specs.command_base.declared.fault.ToolFault.TheVariants as faults
 use Rattle.table_commands.specs.command_base.declared.status.Status.{Status}
 use Rattle.table_commands.specs.command_base.declared.status.Status.TheVariants.{Done}
 use Rattle.table_commands.specs.MapOutput.{MapOutput, PrintsBoth}

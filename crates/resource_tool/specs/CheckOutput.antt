@@ -12,8 +12,8 @@ use Rattle.resource_text.specs.cert_maker.cert_checker.declared.verdict.Verdict.
 use Rattle.resource_text.specs.cert_maker.cert_checker.declared.verdict.Verdict.TheVariants.{Accepted, Rejected}
 use Rattle.resource_text.specs.cert_maker.cert_checker.Verdict.{IsVerdict}
 use Rattle.resource_text.specs.cert_maker.cert_checker.Headline.{Headline}
-use Rattle.table_commands.specs.fault_text.declared.fault.ToolFault.{ToolFault}
-use Rattle.table_commands.specs.fault_text.ToolFault.{fault_of_box, fault_of_certificate}
+use Rattle.table_commands.specs.command_base.declared.fault.ToolFault.{ToolFault}
+use Rattle.table_commands.specs.command_base.ToolFault.{fault_of_box, fault_of_certificate}
 use Rattle.table_commands.specs.answer_text.QueryText.{set_aside_line}
 use Rattle.resource_text.specs.VerdictText.{verdict_text}
 use Rattle.table_commands.specs.command_base.declared.status.Status.{Status}

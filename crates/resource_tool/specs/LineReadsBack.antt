@@ -7,8 +7,8 @@ use Rattle.resource_text.specs.cert_maker.declared.made.Made.TheVariants.{Cert, 
 use Rattle.resource_text.specs.cert_maker.declared.omitted.Omitting.{Omitting}
 use Rattle.resource_text.specs.cert_maker.declared.omitted.Omitting.TheVariants as omitting
 use Rattle.table_commands.specs.command_base.declared.status.Status.{Status}
-use Rattle.table_commands.specs.fault_text.declared.fault.ToolFault.{ToolFault}
-use Rattle.table_commands.specs.fault_text.declared.fault.ToolFault.TheVariants.{OutOfMemory}
+use Rattle.table_commands.specs.command_base.declared.fault.ToolFault.{ToolFault}
+use Rattle.table_commands.specs.command_base.declared.fault.ToolFault.TheVariants.{OutOfMemory}
 use Rattle.resource_tool.specs.MakeOutput.{certificate_line}
 
 -- what is printed of trees within the limits is read as the same

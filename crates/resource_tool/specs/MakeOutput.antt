@@ -18,8 +18,8 @@ use Rattle.resource_text.specs.cert_maker.declared.made.Made.{Made}
 use Rattle.resource_text.specs.cert_maker.declared.made.Made.TheVariants.{Cert, Counter, NodeLimit}
 use Rattle.resource_text.specs.cert_maker.Made.{IsMade}
 use Rattle.resource_text.specs.cert_maker.Least.{IsLeast}
-use Rattle.table_commands.specs.fault_text.declared.fault.ToolFault.{ToolFault}
-use Rattle.table_commands.specs.fault_text.ToolFault.{fault_of_box}
+use Rattle.table_commands.specs.command_base.declared.fault.ToolFault.{ToolFault}
+use Rattle.table_commands.specs.command_base.ToolFault.{fault_of_box}
 use Rattle.resource_text.specs.VerdictText.{device_with_end}
 use Rattle.table_commands.specs.command_base.declared.status.Status.{Status}
 use Rattle.table_commands.specs.command_base.declared.status.Status.TheVariants.{Done, Negative}

@@ -12,7 +12,7 @@ use Rattle.resource_text.specs.cert_maker.declared.omitted.Omitting.{Omitting}
 use Rattle.resource_text.specs.cert_maker.declared.omitted.Omitting.TheVariants.{Cert, NodeLimit}
 use Rattle.resource_text.specs.cert_maker.Omitting.{IsOmitting, places_of, without}
 use Rattle.resource_text.specs.VerdictText.{device_with_end}
-use Rattle.table_commands.specs.fault_text.declared.fault.ToolFault.{ToolFault}
+use Rattle.table_commands.specs.command_base.declared.fault.ToolFault.{ToolFault}
 use Rattle.table_commands.specs.command_base.declared.status.Status.TheVariants.{Done, Negative}
 use Rattle.table_commands.specs.command_base.Output.{Output}
 use Rattle.table_commands.specs.MapOutput.{MapOutput}

@@ -1,23 +1,167 @@
 //! The command `check`.
 
-ghost use Rattle.std.specs.Prelude.{◌≡◌, false, map, Ok, IfOk};
+ghost use Rattle.std.specs.Prelude.{◌≡◌, false, map, string_bytes, Ok, IfOk, IfSome};
 ghost use Rattle.contract_words.specs.Exact.{GivesOr};
 ghost use Rattle.contract_words.specs.Writes.{Writes};
-ghost use Rattle.resource_text.specs.cert_maker.res_value.Goal.{goal_seen};
-ghost use Rattle.table_commands.specs.fault_text.declared.fault.ToolFault.TheVariants.{OutOfMemory};
+ghost use Rattle.table_commands.specs.command_base.declared.fault.ToolFault.TheVariants.{OutOfMemory, Write};
 ghost use Rattle.table_commands.specs.command_base.Output.{PrintsOneOf, IsOfInput};
-ghost use Rattle.resource_tool.specs.Answered.{PrintsBothOneOf};
 ghost use Rattle.table_commands.specs.command_base.StackBytesSeen.{layer_bytes};
+ghost use Rattle.table_commands.specs.command_base.Stop.{GivesOrStops};
+ghost use Rattle.resource_text.specs.cert_maker.res_value.Goal.{goal_seen};
+ghost use Rattle.resource_tool.specs.Answered.{PrintsBothOneOf};
+ghost use Rattle.resource_tool.specs.Check.{Checks, ChecksFiles, check_files, check_held, check_opened, check_seen};
 ghost use Rattle.resource_tool.specs.CheckOutput.{IsCheckOutput, IsCheckAnswer, check_inputs, check_text, status_of_verdict, goal_of_verdict};
 ghost use Rattle.resource_tool.specs.CheckHeadline.{HeadlineHolds};
 ghost use Rattle.resource_tool.specs.OpenedSeen.{opened_cert};
+ghost use Rattle.table_commands.specs.command_base.CarriesOut.{IsKept};
 
 use crate::goal_told::write_goal_told;
 use resource_text::cert_maker::{Cert, ConfigBox, Goal, Verdict, check};
 use resource_text::{set_aside_line, verdict_text};
 use std::alloc::Global;
 use std::io::{self, Write, sink};
-use table_commands::{LayerParts, Stack, Status, ToolFault, open_stack};
+use table_commands::Stack;
+use table_commands::command_base::{
+    DeviceFiles, Inputs, LayerFiles, LayerParts, Status, Stop, ToolFault, asked_goals, asked_words,
+    file_bytes, goals_named, open_stack,
+};
+
+/// What the words of `check` ask: whether a certificate is true of some goals for a box of devices.
+#[derive(Drop)]
+pub struct Check<'a> {
+    /// Where the list of layers lies.
+    pub layers: &'a str,
+    /// Where the box lies.
+    pub box_path: &'a str,
+    /// Where the certificate lies.
+    pub certificate: &'a str,
+    /// Whether the goal at which it is rejected is told with its names.
+    pub names: bool,
+    /// The words that ask for goals, or name a file of such words.
+    pub goals: Vec<&'a str>,
+}
+
+impl<'a> Check<'a> {
+    /// Reads what the words name, and checks the certificate. Where it is not answered, nothing is written or told, unless
+    /// a write fails.
+    pub fn answer<I: Inputs, O: Write + Drop, E: Write + Drop>(
+        &self,
+        alloc: Global,
+        inputs: &I,
+        out: &mut O,
+        errors: &mut E,
+    ) -> Result<Status, Stop<'a>>
+        ensures answers { IfSome (I.places inputs.now) (λ places. Checks O.contents E.contents out.old out.new errors.old errors.new
+            places self.now result) }
+        ensures unwritten { IsKept out.old out.new result }
+        ensures quiet { self.now.names ≡ false → errors.new ≡ errors.old }
+        ensures unsaid { IsKept errors.old errors.new result }
+    {
+        let files = CheckFiles::read(
+            alloc,
+            inputs,
+            self.layers,
+            self.box_path,
+            self.certificate,
+            &self.goals,
+        )?;
+        self.answer_of(alloc, &files, out, errors)
+    }
+
+    fn answer_of<O: Write + Drop, E: Write + Drop>(
+        &self,
+        alloc: Global,
+        files: &CheckFiles,
+        out: &mut O,
+        errors: &mut E,
+    ) -> Result<Status, Stop<'static>>
+        ensures answers { ChecksFiles O.contents E.contents out.old out.new errors.old errors.new self.now.names
+            (Ok (check_held files.now)) result }
+        ensures unwritten { IsKept out.old out.new result }
+        ensures quiet { self.now.names ≡ false → errors.new ≡ errors.old }
+        ensures unsaid { IsKept errors.old errors.new result }
+    {
+        let layers = files.layers.layers(alloc)?;
+        let check = OpenCheck::open(
+            alloc,
+            &layers,
+            &files.box_json,
+            &files.certificate,
+            &files.words,
+        )?;
+        Ok(
+            check
+                .opened
+                .check(alloc, &check.goals, self.names, out, errors)?,
+        )
+    }
+}
+
+/// The bytes of layers, of a box and of a certificate, and the words of goals.
+#[derive(Drop)]
+struct CheckFiles {
+    layers: LayerFiles,
+    box_json: Vec<u8>,
+    certificate: Vec<u8>,
+    words: Vec<String>,
+}
+
+impl CheckFiles {
+    /// Reads a list of layers with the files that it names, then a box, a certificate, and the files of words.
+    #[tactic(auto, unfolding(crate::specs::Check::check_files))]
+    fn read<'a, I: Inputs>(
+        alloc: Global,
+        inputs: &I,
+        layers_path: &'a str,
+        box_path: &'a str,
+        certificate_path: &'a str,
+        words: &[&'a str],
+    ) -> Result<CheckFiles, Stop<'a>>
+        ensures { IfSome (I.places inputs.now) (λ places. GivesOrStops check_held result
+            (check_files places layers_path.entry.now box_path.entry.now certificate_path.entry.now (map (λ word. word.now) words.now))) }
+    {
+        let DeviceFiles { layers, devices } = DeviceFiles::read(
+            alloc,
+            inputs,
+            layers_path,
+            box_path,
+        )?;
+        let certificate = file_bytes(inputs, certificate_path)?;
+        let words = asked_words(alloc, inputs, words)?;
+        Ok(CheckFiles {
+            layers,
+            box_json: devices,
+            certificate,
+            words,
+        })
+    }
+}
+
+/// Layers, a box and a certificate that were opened, and the goals that are asked for.
+#[derive(Drop)]
+struct OpenCheck<'a> {
+    opened: OpenedCert<'a>,
+    goals: Vec<Goal>,
+}
+
+impl<'a> OpenCheck<'a> {
+    /// Reads the words, opens the layers, reads the box and the certificate, and then finds what the words ask for.
+    #[tactic(auto, unfolding(crate::specs::Check::check_opened))]
+    fn open(
+        alloc: Global,
+        layers: &[LayerParts<&'a [u8]>],
+        box_json: &[u8],
+        certificate: &[u8],
+        words: &[String],
+    ) -> Result<OpenCheck<'a>, Stop<'static>>
+        ensures { GivesOrStops check_seen result (check_opened (map layer_bytes layers.now) box_json.now certificate.now (map string_bytes words.now)) }
+    {
+        let named = asked_goals(alloc, words)?;
+        let opened = OpenedCert::read(alloc, layers, box_json, certificate)?;
+        let goals = goals_named(alloc, &opened.stack, &named)?;
+        Ok(OpenCheck { opened, goals })
+    }
+}
 
 /// Prints whether a certificate is true of some goals for every device of a box, or the first of its nodes that
 /// fails with the devices that show it; and a line with the number of rows of all layers that are set aside.

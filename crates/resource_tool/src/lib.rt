@@ -2,9 +2,13 @@
 //! are handed on; `show`, `survey` and `diff` have crates of their own.
 //!
 //! For the program above: a command prints the text that its input means and nothing else, or it
-//! names the first fault of that input and has printed nothing.
+//! names the first fault of that input and has printed nothing. `answer` reads what the words of a command name, in the
+//! order of the definitions, and then does so, or it says the first that is not read or not found.
 //!
 //! ```text
+//! let make = Make { layers: "layers.json", box_path: "box.json", names: false, omit: false, max_nodes: 100_000, goals };
+//! make.answer(alloc, &inputs, Watch { clock: &rt, is_terminal: true }, &mut out, &mut errors)?; // with a line of the work
+//!
 //! make_bytes(alloc, &layers, &box_json, &goals, 100_000, &mut out)?; // {"goals":[{"id":"0x7f010000","nodes":[{"kind":16, ..
 //! check_bytes(alloc, &layers, &box_json, &certificate, &goals, &mut out)?; // accepted goals 1 nodes 3
 //!                                                                        // set-aside 0
@@ -23,14 +27,17 @@ mod check;
 mod goal_told;
 mod make;
 mod omit;
+mod progress;
 
 pub use answered::Answered;
-pub use check::{OpenedCert, check_bytes};
+pub use check::{Check, OpenedCert, check_bytes};
 pub use goal_told::write_goal_told;
-pub use make::{OpenedBox, make_bytes, make_bytes_watched};
+pub use make::{Make, OpenedBox, make_bytes, make_bytes_watched};
 pub use omit::make_omitting_bytes;
+pub use progress::Watch;
 pub use resource_text;
 pub use resource_text::cert_maker::{Goal, Omitted, Omitting, Progress, Unwatched};
+pub use table_commands;
 pub use table_commands::{
     InputFault, LayerList, LayerParts, LayersFault, Opened, Status, ToolFault, attr_bytes,
     bag_bytes, dump_bytes, explain_bytes, fault_text, map_bytes, query_bytes, read_input,

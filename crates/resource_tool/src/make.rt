@@ -1,28 +1,178 @@
 //! The command `make`.
 
-ghost use Rattle.std.specs.Prelude.{◌≡◌, ◌∷◌, ◌++◌, [], false, map, Ok, OnOk, IfOk};
+ghost use Rattle.std.specs.Prelude.{◌≡◌, ◌∷◌, ◌++◌, ◌||◌, [], false, map, string_bytes, Ok, OnOk, IfOk, IfSome};
 ghost use Rattle.contract_words.specs.Exact.{GivesOr};
 ghost use Rattle.contract_words.specs.Writes.{Writes};
 ghost use Rattle.serde_json.specs.Written.{compact_text};
+ghost use Rattle.table_commands.specs.command_base.declared.fault.ToolFault.TheVariants.{OutOfMemory, Write};
+ghost use Rattle.table_commands.specs.command_base.FilesSeen.{asked_held};
+ghost use Rattle.table_commands.specs.command_base.Output.{IsOfInput, Prints, PrintsOneOf};
+ghost use Rattle.table_commands.specs.command_base.StackBytesSeen.{layer_bytes};
+ghost use Rattle.table_commands.specs.command_base.Stop.{GivesOrStops};
 ghost use Rattle.resource_text.specs.cert_maker.cert_tree.Certificate.{goals_of};
 ghost use Rattle.resource_text.specs.cert_maker.res_value.Goal.{goal_seen};
 ghost use Rattle.resource_text.specs.cert_maker.cert_tree.WrittenJson.{cert_data};
 ghost use Rattle.table_commands.specs.config_record.DeviceSeen.{device_numbers};
-ghost use Rattle.table_commands.specs.fault_text.declared.fault.ToolFault.TheVariants.{OutOfMemory};
-ghost use Rattle.table_commands.specs.command_base.Output.{IsOfInput, Prints, PrintsOneOf};
 ghost use Rattle.resource_tool.specs.Answered.{PrintsBothOneOf, status_in, goal_in};
-ghost use Rattle.table_commands.specs.command_base.StackBytesSeen.{layer_bytes};
+ghost use Rattle.resource_tool.specs.Make.{Makes, MakesFiles, PrintsTold, PrintsToldFirst, make_opened, make_seen};
 ghost use Rattle.resource_tool.specs.MakeOutput.{IsMakeOutput, IsMakeOutputAbout, IsMakeAnswer, make_inputs, counterexample_line, counterexample_text, status_of_made, goal_of_made, made_output};
+ghost use Rattle.resource_tool.specs.OmitOutput.{IsOmitOutput};
 ghost use Rattle.resource_tool.specs.LineReadsBack.{LineReadsBack, TreesReadBack};
 ghost use Rattle.resource_tool.specs.OpenedSeen.{opened_box};
+ghost use Rattle.table_commands.specs.command_base.CarriesOut.{IsKept};
 
 use crate::answered::Answered;
 use crate::goal_told::write_goal_told;
+use crate::progress::{ProgressLine, Watch};
 use resource_text::cert_maker::{Cert, ConfigBox, Goal, Made, Progress, Unwatched, make_watched};
 use resource_text::device_with_end;
 use std::alloc::{AllocError, Global};
 use std::io::{self, Write, sink};
-use table_commands::{Device, End, LayerParts, Stack, Status, ToolFault, open_stack};
+use std::time::Clock;
+use table_commands::command_base::{
+    AskedFiles, Inputs, LayerParts, Status, Stop, ToolFault, asked_goals, goals_named, open_stack,
+};
+use table_commands::{Device, End, Stack};
+
+/// What the words of `make` ask: a certificate of some goals for a box of devices.
+#[derive(Drop)]
+pub struct Make<'a> {
+    /// Where the list of layers lies.
+    pub layers: &'a str,
+    /// Where the box lies.
+    pub box_path: &'a str,
+    /// Whether the goal of a counterexample is told with its names.
+    pub names: bool,
+    /// Whether goals without a value are left out.
+    pub omit: bool,
+    /// How many nodes the trees of all goals have together at most.
+    pub max_nodes: u32,
+    /// The words that ask for goals, or name a file of such words.
+    pub goals: Vec<&'a str>,
+}
+
+impl<'a> Make<'a> {
+    /// Reads what the words name, and makes a certificate of it. Where it is not answered, nothing is written, unless a
+    /// write fails; nor is anything told then, but on a terminal the line of the work.
+    pub fn answer<I: Inputs, C: Clock, O: Write + Drop, E: Write + Drop>(
+        &self,
+        alloc: Global,
+        inputs: &I,
+        watch: Watch<'_, C>,
+        out: &mut O,
+        errors: &mut E,
+    ) -> Result<Status, Stop<'a>>
+        ensures answers { IfSome (I.places inputs.now) (λ places. Makes watch.entry.is_terminal O.contents E.contents out.old out.new
+            errors.old errors.new places self.now result) }
+        ensures unwritten { IsKept out.old out.new result }
+        ensures quiet { watch.entry.is_terminal ≡ false → (self.now.names || self.now.omit) ≡ false → errors.new ≡ errors.old }
+        ensures unsaid { watch.entry.is_terminal ≡ false → IsKept errors.old errors.new result }
+    {
+        let files = AskedFiles::read(alloc, inputs, self.layers, self.box_path, &self.goals)?;
+        self.answer_of(alloc, &files, watch, out, errors)
+    }
+
+    fn answer_of<C: Clock, O: Write + Drop, E: Write + Drop>(
+        &self,
+        alloc: Global,
+        files: &AskedFiles,
+        watch: Watch<'_, C>,
+        out: &mut O,
+        errors: &mut E,
+    ) -> Result<Status, Stop<'static>>
+        ensures answers { MakesFiles watch.entry.is_terminal self.now.omit self.now.names self.now.max_nodes O.contents E.contents
+            out.old out.new errors.old errors.new (Ok (asked_held files.now)) result }
+        ensures unwritten { IsKept out.old out.new result }
+        ensures quiet { watch.entry.is_terminal ≡ false → (self.now.names || self.now.omit) ≡ false → errors.new ≡ errors.old }
+        ensures unsaid { watch.entry.is_terminal ≡ false → IsKept errors.old errors.new result }
+    {
+        let layers = files.layers.layers(alloc)?;
+        let make = OpenMake::open(alloc, &layers, &files.devices, &files.words)?;
+        if self.omit {
+            Ok(make.make_omitting(alloc, self.max_nodes, watch, out, errors)?)
+        } else {
+            Ok(make.make(alloc, self.names, self.max_nodes, watch, out, errors)?)
+        }
+    }
+}
+
+/// Layers and a box that were opened, and the goals that are asked for.
+#[derive(Drop)]
+pub(crate) struct OpenMake<'a> {
+    opened: OpenedBox<'a>,
+    goals: Vec<Goal>,
+}
+
+impl<'a> OpenMake<'a> {
+    /// Reads the words, opens the layers, reads the box, and then finds what the words ask for.
+    #[tactic(auto, unfolding(crate::specs::Make::make_opened))]
+    fn open(
+        alloc: Global,
+        layers: &[LayerParts<&'a [u8]>],
+        box_json: &[u8],
+        words: &[String],
+    ) -> Result<OpenMake<'a>, Stop<'static>>
+        ensures { GivesOrStops make_seen result (make_opened (map layer_bytes layers.now) box_json.now (map string_bytes words.now)) }
+    {
+        let named = asked_goals(alloc, words)?;
+        let opened = OpenedBox::read(alloc, layers, box_json)?;
+        let goals = goals_named(alloc, &opened.stack, &named)?;
+        Ok(OpenMake { opened, goals })
+    }
+
+    /// Makes a certificate. On a terminal a line says how far that is, and is gone before anything else is said.
+    fn make<C: Clock, W: Write + Drop, E: Write + Drop>(
+        &self,
+        alloc: Global,
+        names: bool,
+        max_nodes: u32,
+        watch: Watch<'_, C>,
+        out: &mut W,
+        errors: &mut E,
+    ) -> Result<Status, ToolFault>
+        ensures told { PrintsTold watch.entry.is_terminal (IsMakeAnswer (make_seen self.now).goals max_nodes names)
+            W.contents E.contents out.old out.new errors.old errors.new result (Ok (make_seen self.now).opened) }
+        ensures quiet { watch.entry.is_terminal ≡ false → names ≡ false → errors.new ≡ errors.old }
+    {
+        let opened = &self.opened;
+        let goals = self.goals.as_slice();
+        let answered = if watch.is_terminal {
+            let mut line = ProgressLine::new(errors, watch.clock);
+            let answered = opened.make_telling(alloc, goals, max_nodes, &mut line, out);
+            line.clear();
+            answered?
+        } else {
+            opened.make_telling(alloc, goals, max_nodes, &mut Unwatched, out)?
+        };
+        write_goal_told(&opened.stack, goals, names, answered.about, errors)?;
+        Ok(answered.status)
+    }
+
+    /// The same, where goals without a value are left out.
+    fn make_omitting<C: Clock, W: Write + Drop, E: Write + Drop>(
+        &self,
+        alloc: Global,
+        max_nodes: u32,
+        watch: Watch<'_, C>,
+        out: &mut W,
+        errors: &mut E,
+    ) -> Result<Status, ToolFault>
+        ensures { PrintsToldFirst watch.entry.is_terminal (IsOmitOutput (make_seen self.now).goals max_nodes)
+            W.contents E.contents out.old out.new errors.old errors.new result (Ok (make_seen self.now).opened) }
+    {
+        let opened = &self.opened;
+        let goals = self.goals.as_slice();
+        let omitting = if watch.is_terminal {
+            let mut line = ProgressLine::new(errors, watch.clock);
+            let omitting = opened.make_omitting(alloc, goals, max_nodes, &mut line);
+            line.clear();
+            omitting?
+        } else {
+            opened.make_omitting(alloc, goals, max_nodes, &mut Unwatched)?
+        };
+        opened.print_omitting(alloc, goals, &omitting, out, errors)
+    }
+}
 
 /// Prints a certificate that `check_bytes` accepts for the same layers, box and goals, in one line of JSON; then
 /// the status is Done. Or it prints the place of a goal, from 0, with a device of the box for which that goal ends
@@ -114,7 +264,7 @@ impl<'a> OpenedBox<'a> {
     }
 
     /// The same but for that line: `write_goal_told` writes it, of the goal that the answer is about.
-    pub fn make_telling<W: Write + Drop, P: Progress>(
+    fn make_telling<W: Write + Drop, P: Progress>(
         &self,
         alloc: Global,
         goals: &[Goal],

@@ -18,7 +18,8 @@ use resource_text::cert_maker::{Goal, Omitted, Omitting, Progress, Unwatched, ma
 use resource_text::device_with_end;
 use std::alloc::{AllocError, Global};
 use std::io::{self, Write};
-use table_commands::{LayerParts, Stack, Status, ToolFault};
+use table_commands::Stack;
+use table_commands::command_base::{LayerParts, Status, ToolFault};
 
 /// Prints a certificate of the goals that end at a value or a bag on all devices of the box, as `make_bytes` does; then
 /// the status is Done. Each other goal is told to `errors`, in three lines: `omitted goal G WORDS`, with its place from

@@ -1,4 +1,9 @@
 pub mod NodeLimits
-pub mod CarriedOut
 pub mod Written
-pub mod Told
+pub mod WordSteps
+pub mod Rows
+pub mod CommandLineFacts
+pub mod NamedCommand
+mod Cuts
+mod IdTexts
+mod GoalWords

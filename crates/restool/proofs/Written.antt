@@ -1,38 +1,41 @@
 -- What a command did with a writer that keeps bytes back, as what the writer behind it got.
-use Rattle.std.proofs.Common.{◌≡◌, ◌≢◌, ℕ, Bool, true, false, List, [], ◌++◌, map, Option, Some, None, Result, Ok, Err, refl, sym, ap, subst, ◌∙◌, inl, inr}
+use Rattle.std.proofs.Common.{◌≡◌, ◌≢◌, ℕ, Bool, true, false, List, [], ◌++◌, Option, Some, None, Result, Ok, Err, refl, sym, ap, subst, ◌∙◌, inl, inr}
 use Rattle.std.specs.Prelude.{IsOk, IfOk, IfErr, IfSome, OnOk}
 use Rattle.std.proofs.lemmas.List.{append-nil}
 use Rattle.std.specs.Io.Buffered.{writer_buffer, writer_contents, writer_inner}
 use Rattle.std.specs.Io.KnownBytes.{Appends, Keeps, append_known}
 use Rattle.std.specs.declared.alloc.Global.{Global}
 use Rattle.std.specs.declared.io.buffered.BufWriter.{BufWriter}
-use Rattle.program_run.specs.fault_text.declared.fault.ToolFault.{ToolFault}
-use Rattle.program_run.specs.fault_text.declared.fault.ToolFault.TheVariants.{Table, Layers, LayerTable, LayerMap, SideLayers, SideTable, SideMap, Device, Box, Certificate, OutOfMemory, Write}
-use Rattle.program_run.specs.command_base.declared.status.Status.{Status}
-use Rattle.program_run.specs.command_base.Output.{Output, Prints, PrintsOneOf}
-use Rattle.resource_tool.specs.table_commands.TableOutput.{rows_output, dump_output}
-use Rattle.resource_tool.specs.table_commands.MapOutput.{MapOutput, PrintsBoth, map_output}
-use Rattle.resource_tool.specs.table_commands.QueryOutput.{query_answer}
+use Rattle.resource_tool.specs.command_base.declared.fault.ToolFault.{ToolFault}
+use Rattle.resource_tool.specs.command_base.declared.fault.ToolFault.TheVariants.{Table, Layers, LayerTable, LayerMap, SideLayers, SideTable, SideMap, Device, Box, Certificate, OutOfMemory, Write}
+use Rattle.resource_tool.specs.command_base.declared.status.Status.{Status}
+use Rattle.resource_tool.specs.command_base.declared.stop.Stop.{Stop}
+use Rattle.resource_tool.specs.command_base.CarriesOut.{CarriesOut}
+use Rattle.resource_tool.specs.command_base.DeviceFiles.{AskedBytes}
+use Rattle.resource_tool.specs.command_base.Inputs.{Places, layers_of, table_of}
+use Rattle.resource_tool.specs.command_base.Output.{Output, Prints, PrintsOneOf}
+use Rattle.resource_tool.specs.command_base.Stop.{StopOf, stop_of, tool}
+use Rattle.resource_tool.specs.table_commands.TableOutput.{rows_output, dump_output, ids_output}
+use Rattle.resource_tool.specs.table_commands.MapOutput.{MapBytes, MapOutput, PrintsBoth, map_files, map_output}
+use Rattle.resource_tool.specs.table_commands.Opened.{OpenIdOf}
+use Rattle.resource_tool.specs.table_commands.QueryOutput.{OpenQueryOf, query_answer}
 use Rattle.resource_tool.specs.table_commands.ExplainOutput.{explain_answer}
 use Rattle.resource_tool.specs.table_commands.BagOutput.{bag_answer}
-use Rattle.resource_tool.specs.table_commands.AttrOutput.{attr_answer}
+use Rattle.resource_tool.specs.table_commands.AttrOutput.{OpenAttrOf, attr_answer}
 use Rattle.resource_tool.specs.Answered.{PrintsBothOneOf}
-use Rattle.resource_tool.specs.MakeOutput.{IsMakeOutput, IsMakeAnswer}
+use Rattle.resource_tool.specs.Make.{OpenMakeOf, MakesFiles, OnceShown}
+use Rattle.resource_tool.specs.MakeOutput.{IsMakeAnswer}
+use Rattle.resource_tool.specs.OmitOutput.{IsOmitOutput, LinesFirst}
+use Rattle.resource_tool.specs.Check.{OpenCheckOf}
 use Rattle.resource_tool.specs.CheckOutput.{IsCheckAnswer}
-use Rattle.resource_tool.specs.OmitOutput.{IsOmitOutput}
-use Rattle.diff_command.specs.DiffOutput.{IsDiffOutput}
-use Rattle.program_run.specs.command_words.declared.request.Request.{Request}
-use Rattle.program_run.specs.command_words.declared.request.Request.TheVariants.{Rows, Dump, Map, OfLayers, OfDevice, OfBox, Diff}
-use Rattle.program_run.specs.command_words.declared.request.LayersRequest.TheVariants.{Survey, Show}
-use Rattle.program_run.specs.command_words.declared.request.DeviceRequest.TheVariants.{Query, Explain, Bag, Attr}
-use Rattle.program_run.specs.command_words.declared.request.BoxRequest.TheVariants.{Make, Check}
-use Rattle.program_run.specs.declared.stop.Stop.{Stop}
-use Rattle.program_run.specs.Stop.{StopOf, stop_of, tool}
-use Rattle.program_run.specs.Inputs.{Places, MapInputs, SurveyInputs, ShowInputs, table_of, map_files}
-use Rattle.restool.specs.Asked.{AskedId, AskedIds, AskedAttr, AskedMake, AskedCheck, AskedDiff}
+use Rattle.survey_command.specs.Survey.{SurveyBytes}
 use Rattle.survey_command.specs.SurveyOutput.{survey_output}
-use Rattle.restool.specs.Answers.{Answers, CarriesOut, LeavesOut, PrintsTold, shown_output}
-use Rattle.restool.specs.Run.{Shows}
+use Rattle.show_command.specs.Show.{ShowBytes, shown_output}
+use Rattle.diff_command.specs.Diff.{OpenDiffOf}
+use Rattle.diff_command.specs.DiffOutput.{IsDiffOutput}
+use Rattle.restool.specs.declared.request.Request.{Request}
+use Rattle.restool.specs.declared.request.Request.TheVariants as asks
+use Rattle.restool.specs.Request.{Answers, ErrorsGet}
 
 -- Nothing is kept back before an answer. What was appended is not kept back any more, so it came to the writer behind.
 appends-through : (before middle after : Option (List ℕ)) (text : List ℕ) → Appends (append_known before []) middle text → Keeps middle after → Appends before after text
@@ -83,23 +86,50 @@ module _ {W V E : Type 0} (is_terminal : Bool) (c : W → Option (List ℕ)) (d 
   abbrev pub BehindAny : {X Y : Type 0} → (X → Y → Output → Type 0) → (X → Result Y ToolFault) → X → Result Status ToolFault → Type 0
   BehindAny Allows F read result = PrintsOneOf (Allows read) d before after result (F read)
 
-  abbrev pub BeforeOneOf : {X Y : Type 0} → (X → Y → Output → Type 0) → (X → Y → Output → List ℕ → Type 0) → (X → Result Y ToolFault) → X → Result Status ToolFault → Type 0
-  BeforeOneOf Allows Tells F read result = PrintsTold is_terminal (Allows read) (Tells read) c says old new quiet said result (F read)
-
-  abbrev pub BehindOneOf : {X Y : Type 0} → (X → Y → Output → Type 0) → (X → Y → Output → List ℕ → Type 0) → (X → Result Y ToolFault) → X → Result Status ToolFault → Type 0
-  BehindOneOf Allows Tells F read result = PrintsTold is_terminal (Allows read) (Tells read) d says before after quiet said result (F read)
-
   abbrev pub BeforeBoth : {X : Type 0} → (X → Result MapOutput ToolFault) → X → Result Status ToolFault → Type 0
   BeforeBoth F read result = PrintsBoth c says old new quiet said result (F read)
 
   abbrev pub BehindBoth : {X : Type 0} → (X → Result MapOutput ToolFault) → X → Result Status ToolFault → Type 0
   BehindBoth F read result = PrintsBoth d says before after quiet said result (F read)
 
+  -- with what is told beside it, once errors are `shown`
+
+  abbrev pub ToldBefore : {X Y : Type 0} → (X → Y → Output → List ℕ → Type 0) → (X → Result Y ToolFault) → X → Result Status ToolFault → E → Type 0
+  ToldBefore Tells F read result shown = PrintsBothOneOf (Tells read) c says old new shown said result (F read)
+
+  abbrev pub ToldBehind : {X Y : Type 0} → (X → Y → Output → List ℕ → Type 0) → (X → Result Y ToolFault) → X → Result Status ToolFault → E → Type 0
+  ToldBehind Tells F read result shown = PrintsBothOneOf (Tells read) d says before after shown said result (F read)
+
+  abbrev pub FirstBefore : {X Y : Type 0} → (X → Y → Output → List ℕ → Type 0) → (X → Result Y ToolFault) → X → E → Type 0
+  FirstBefore Tells F read shown = LinesFirst (Tells read) says old new shown said (F read)
+
+  abbrev pub FirstBehind : {X Y : Type 0} → (X → Y → Output → List ℕ → Type 0) → (X → Result Y ToolFault) → X → E → Type 0
+  FirstBehind Tells F read shown = LinesFirst (Tells read) says before after shown said (F read)
+
+  abbrev pub OnceBefore : {X Y : Type 0} → (X → Y → Output → List ℕ → Type 0) → (X → Result Y ToolFault) → X → Result Status ToolFault → Type 0
+  OnceBefore Tells F read result = OnceShown is_terminal quiet (ToldBefore Tells F read result)
+
+  abbrev pub OnceBehind : {X Y : Type 0} → (X → Y → Output → List ℕ → Type 0) → (X → Result Y ToolFault) → X → Result Status ToolFault → Type 0
+  OnceBehind Tells F read result = OnceShown is_terminal quiet (ToldBehind Tells F read result)
+
+  abbrev pub OnceFirstBefore : {X Y : Type 0} → (X → Y → Output → List ℕ → Type 0) → (X → Result Y ToolFault) → X → Result Status ToolFault → Type 0
+  OnceFirstBefore Tells F read result = OnceShown is_terminal quiet (λ shown. ToldBefore Tells F read result shown × FirstBefore Tells F read shown)
+
+  abbrev pub OnceFirstBehind : {X Y : Type 0} → (X → Y → Output → List ℕ → Type 0) → (X → Result Y ToolFault) → X → Result Status ToolFault → Type 0
+  OnceFirstBehind Tells F read result = OnceShown is_terminal quiet (λ shown. ToldBehind Tells F read result shown × FirstBehind Tells F read shown)
+
   abbrev pub BeforeTold : {X Y : Type 0} → (X → Y → Output → List ℕ → Type 0) → (X → Result Y ToolFault) → X → Result Status ToolFault → Type 0
-  BeforeTold Tells F read result = PrintsBothOneOf (Tells read) c says old new quiet said result (F read)
+  BeforeTold Tells F read result = ToldBefore Tells F read result quiet
 
   abbrev pub BehindTold : {X Y : Type 0} → (X → Y → Output → List ℕ → Type 0) → (X → Result Y ToolFault) → X → Result Status ToolFault → Type 0
-  BehindTold Tells F read result = PrintsBothOneOf (Tells read) d says before after quiet said result (F read)
+  BehindTold Tells F read result = ToldBehind Tells F read result quiet
+
+  once-over : (P Q : E → Type 0) → ((shown : E) → P shown → Q shown) → OnceShown is_terminal quiet P → OnceShown is_terminal quiet Q
+  once-over P Q over (shown, begins, told) = (shown, begins, over shown told)
+
+  once-first-over : (P Q L M : E → Type 0) → ((shown : E) → P shown → Q shown) → ((shown : E) → P shown → L shown → M shown)
+      → OnceShown is_terminal quiet (λ shown. P shown × L shown) → OnceShown is_terminal quiet (λ shown. Q shown × M shown)
+  once-first-over P Q L M over first_over (shown, begins, (told, first)) = (shown, begins, (over shown told, first_over shown told first))
 
   prints-done : (status : Status) (meant : Result Output ToolFault) → Passes → Prints c old new (Ok status) meant → Prints d before after (Ok status) meant
   prints-done status meant passes p = (p.0, p.1, passes p.0 p.2)
@@ -112,9 +142,14 @@ module _ {W V E : Type 0} (is_terminal : Bool) (c : W → Option (List ℕ)) (d 
       → PrintsBoth c says old new quiet said (Ok status) meant → PrintsBoth d says before after quiet said (Ok status) meant
   prints_both-done status meant passes p = (p.0, p.1, p.2, passes p.0 p.3, p.4)
 
-  prints_told-done : {X : Type 0} (Tells : X → Output → List ℕ → Type 0) (status : Status) (meant : Result X ToolFault) → Passes
-      → PrintsBothOneOf Tells c says old new quiet said (Ok status) meant → PrintsBothOneOf Tells d says before after quiet said (Ok status) meant
-  prints_told-done Tells status meant passes p = (p.0, p.1, p.2, p.3, p.4, passes p.1 p.5, p.6)
+  told-done : {X Y : Type 0} (Tells : X → Y → Output → List ℕ → Type 0) (F : X → Result Y ToolFault) (read : X) (status : Status) → Passes
+      → (shown : E) → ToldBefore Tells F read (Ok status) shown → ToldBehind Tells F read (Ok status) shown
+  told-done Tells F read status passes shown p = (p.0, p.1, p.2, p.3, p.4, passes p.1 p.5, p.6)
+
+  -- all that is printed is told
+  first-done : {X Y : Type 0} (Tells : X → Y → Output → List ℕ → Type 0) (F : X → Result Y ToolFault) (read : X) (status : Status)
+      → (shown : E) → ToldBefore Tells F read (Ok status) shown → FirstBefore Tells F read shown → FirstBehind Tells F read shown
+  first-done Tells F read status shown p first = inr (p.0, record { status = status; text = p.1 }, p.2, p.3, p.4, p.6)
 
   prints-fault : (fault : ToolFault) (meant : Result Output ToolFault) → Stays → Prints c old new (Err fault) meant → Prints d before after (Err fault) meant
   prints-fault (Table f) meant stays p = (p.0, stays p.1)
@@ -160,20 +195,44 @@ module _ {W V E : Type 0} (is_terminal : Bool) (c : W → Option (List ℕ)) (d 
   prints_both-fault OutOfMemory meant stays p = (stays p.0, p.1)
   prints_both-fault Write meant stays p = p
 
-  prints_told-fault : {X : Type 0} (Tells : X → Output → List ℕ → Type 0) (fault : ToolFault) (meant : Result X ToolFault) → Stays
-      → PrintsBothOneOf Tells c says old new quiet said (Err fault) meant → PrintsBothOneOf Tells d says before after quiet said (Err fault) meant
-  prints_told-fault Tells (Table f) meant stays p = (p.0, stays p.1, p.2)
-  prints_told-fault Tells (Layers f) meant stays p = (p.0, stays p.1, p.2)
-  prints_told-fault Tells (LayerTable n f) meant stays p = (p.0, stays p.1, p.2)
-  prints_told-fault Tells (LayerMap n f) meant stays p = (p.0, stays p.1, p.2)
-  prints_told-fault Tells (SideLayers s f) meant stays p = (p.0, stays p.1, p.2)
-  prints_told-fault Tells (SideTable s n f) meant stays p = (p.0, stays p.1, p.2)
-  prints_told-fault Tells (SideMap s n f) meant stays p = (p.0, stays p.1, p.2)
-  prints_told-fault Tells (Device f) meant stays p = (p.0, stays p.1, p.2)
-  prints_told-fault Tells (Box f) meant stays p = (p.0, stays p.1, p.2)
-  prints_told-fault Tells (Certificate f) meant stays p = (p.0, stays p.1, p.2)
-  prints_told-fault Tells OutOfMemory meant stays p = (stays p.0, p.1)
-  prints_told-fault Tells Write meant stays p = p
+  told-fault : {X Y : Type 0} (Tells : X → Y → Output → List ℕ → Type 0) (F : X → Result Y ToolFault) (read : X) (fault : ToolFault) → Stays
+      → (shown : E) → ToldBefore Tells F read (Err fault) shown → ToldBehind Tells F read (Err fault) shown
+  told-fault Tells F read (Table f) stays shown p = (p.0, stays p.1, p.2)
+  told-fault Tells F read (Layers f) stays shown p = (p.0, stays p.1, p.2)
+  told-fault Tells F read (LayerTable n f) stays shown p = (p.0, stays p.1, p.2)
+  told-fault Tells F read (LayerMap n f) stays shown p = (p.0, stays p.1, p.2)
+  told-fault Tells F read (SideLayers s f) stays shown p = (p.0, stays p.1, p.2)
+  told-fault Tells F read (SideTable s n f) stays shown p = (p.0, stays p.1, p.2)
+  told-fault Tells F read (SideMap s n f) stays shown p = (p.0, stays p.1, p.2)
+  told-fault Tells F read (Device f) stays shown p = (p.0, stays p.1, p.2)
+  told-fault Tells F read (Box f) stays shown p = (p.0, stays p.1, p.2)
+  told-fault Tells F read (Certificate f) stays shown p = (p.0, stays p.1, p.2)
+  told-fault Tells F read OutOfMemory stays shown p = (stays p.0, p.1)
+  told-fault Tells F read Write stays shown p = p
+
+  first-fault : {X Y : Type 0} (Tells : X → Y → Output → List ℕ → Type 0) (F : X → Result Y ToolFault) (read : X) (fault : ToolFault) → Stays
+      → (shown : E) → ToldBefore Tells F read (Err fault) shown → FirstBefore Tells F read shown → FirstBehind Tells F read shown
+  first-fault Tells F read fault stays shown p first = elim first [
+    | inl same ↦ inl (stays same)
+    | inr told ↦ inr told
+  ]
+
+  told-failed : {X Y : Type 0} (Tells : X → Y → Output → List ℕ → Type 0) (F : X → Result Y ToolFault) (read : X) (status : Status)
+      → (shown : E) → ToldBefore Tells F read (Ok status) shown → ToldBehind Tells F read (Err Write) shown
+  told-failed Tells F read status shown p = rw p.3 refl
+
+  -- a certificate of all goals, or where goals without a value are left out
+  makes-over : (from to : Result Status Stop)
+      → ((X Y : Type 0) (Tells : X → Y → Output → List ℕ → Type 0) (F : X → Result Y ToolFault) (meant : Result X StopOf)
+      → CarriesOut (OnceBefore Tells F) meant from → CarriesOut (OnceBehind Tells F) meant to)
+      → ((X Y : Type 0) (Tells : X → Y → Output → List ℕ → Type 0) (F : X → Result Y ToolFault) (meant : Result X StopOf)
+      → CarriesOut (OnceFirstBefore Tells F) meant from → CarriesOut (OnceFirstBehind Tells F) meant to)
+      → (omit names : Bool) (most : ℕ) (read : Result AskedBytes StopOf)
+      → MakesFiles is_terminal omit names most c says old new quiet said read from → MakesFiles is_terminal omit names most d says before after quiet said read to
+  makes-over from to carry_once carry_first false names most read p =
+      carry_once _ _ (λ (asked : OpenMakeOf). IsMakeAnswer asked.goals most names) (λ (asked : OpenMakeOf). Ok asked.opened) _ p
+  makes-over from to carry_once carry_first true names most read p =
+      carry_first _ _ (λ (asked : OpenMakeOf). IsOmitOutput asked.goals most) (λ (asked : OpenMakeOf). Ok asked.opened) _ p
 
   -- an answer is one over the other writer too, where each command is
   answers-over : (from to : Result Status Stop)
@@ -181,48 +240,50 @@ module _ {W V E : Type 0} (is_terminal : Bool) (c : W → Option (List ℕ)) (d 
       → CarriesOut (Before F) meant from → CarriesOut (Behind F) meant to)
       → ((X Y : Type 0) (Allows : X → Y → Output → Type 0) (F : X → Result Y ToolFault) (meant : Result X StopOf)
       → CarriesOut (BeforeAny Allows F) meant from → CarriesOut (BehindAny Allows F) meant to)
-      → ((X Y : Type 0) (Allows : X → Y → Output → Type 0) (Tells : X → Y → Output → List ℕ → Type 0) (F : X → Result Y ToolFault) (meant : Result X StopOf)
-      → CarriesOut (BeforeOneOf Allows Tells F) meant from → CarriesOut (BehindOneOf Allows Tells F) meant to)
+      → ((X Y : Type 0) (Tells : X → Y → Output → List ℕ → Type 0) (F : X → Result Y ToolFault) (meant : Result X StopOf)
+      → CarriesOut (OnceBefore Tells F) meant from → CarriesOut (OnceBehind Tells F) meant to)
+      → ((X Y : Type 0) (Tells : X → Y → Output → List ℕ → Type 0) (F : X → Result Y ToolFault) (meant : Result X StopOf)
+      → CarriesOut (OnceFirstBefore Tells F) meant from → CarriesOut (OnceFirstBehind Tells F) meant to)
       → ((X Y : Type 0) (Tells : X → Y → Output → List ℕ → Type 0) (F : X → Result Y ToolFault) (meant : Result X StopOf)
       → CarriesOut (BeforeTold Tells F) meant from → CarriesOut (BehindTold Tells F) meant to)
       → ((X : Type 0) (F : X → Result MapOutput ToolFault) (meant : Result X StopOf)
       → CarriesOut (BeforeBoth F) meant from → CarriesOut (BehindBoth F) meant to)
       → (places : Places) (request : Request) → Answers is_terminal c says old new quiet said places request from → Answers is_terminal d says before after quiet said places request to
-  answers-over from to carry carry_any carry_one carry_told carry_both places (Rows path) p = carry _ rows_output (table_of places path.now) p
-  answers-over from to carry carry_any carry_one carry_told carry_both places (Dump path) p = carry _ dump_output (table_of places path.now) p
-  answers-over from to carry carry_any carry_one carry_told carry_both places (Map target overlay) p =
-      carry_both _ (λ (inputs : MapInputs). map_output inputs.target inputs.overlay) (map_files places target.now overlay.now) p
-  answers-over from to carry carry_any carry_one carry_told carry_both places (OfLayers layers (Survey box_path)) p =
-      carry _ (λ (inputs : SurveyInputs). survey_output inputs.layers inputs.box_json) _ p
-  answers-over from to carry carry_any carry_one carry_told carry_both places (OfLayers layers (Show certificate pictured)) p =
-      carry _ (λ (inputs : ShowInputs). shown_output pictured inputs) _ p
-  answers-over from to carry carry_any carry_one carry_told carry_both places (OfDevice layers device names (Query words)) p =
-      carry _ (λ (asked : AskedIds). Ok (query_answer asked.opened asked.ids names)) _ p
-  answers-over from to carry carry_any carry_one carry_told carry_both places (OfDevice layers device names (Explain resource)) p =
-      carry _ (λ (asked : AskedId). Ok (explain_answer asked.opened asked.id.0 names)) _ p
-  answers-over from to carry carry_any carry_one carry_told carry_both places (OfDevice layers device names (Bag resource)) p =
-      carry _ (λ (asked : AskedId). Ok (bag_answer asked.opened asked.id.0 names)) _ p
-  answers-over from to carry carry_any carry_one carry_told carry_both places (OfDevice layers device names (Attr attr styles force)) p =
-      carry _ (λ (asked : AskedAttr). Ok (attr_answer asked.opened asked.attr.0 asked.styles force names)) _ p
-  answers-over from to carry carry_any carry_one carry_told carry_both places (OfBox layers box_path names (Make max_nodes false goals)) p =
-      carry_one _ _ (λ (asked : AskedMake). IsMakeOutput asked.goals max_nodes) (λ (asked : AskedMake). IsMakeAnswer asked.goals max_nodes names)
-      (λ (asked : AskedMake). Ok asked.inputs) _ p
-  answers-over from to carry carry_any carry_one carry_told carry_both places (OfBox layers box_path names (Make max_nodes true goals)) p =
-      carry_one _ _ (λ (asked : AskedMake). LeavesOut asked.goals max_nodes) (λ (asked : AskedMake). IsOmitOutput asked.goals max_nodes)
-      (λ (asked : AskedMake). Ok asked.inputs) _ p
-  answers-over from to carry carry_any carry_one carry_told carry_both places (OfBox layers box_path names (Check certificate goals)) p =
-      carry_told _ _ (λ (asked : AskedCheck). IsCheckAnswer asked.goals names) (λ (asked : AskedCheck). Ok asked.inputs) _ p
-  answers-over from to carry carry_any carry_one carry_told carry_both places (Diff old_path new_path box_path max_nodes words) p =
-      carry_any _ _ (λ (asked : AskedDiff). IsDiffOutput asked.pairs max_nodes) (λ (asked : AskedDiff). Ok asked.inputs) _ p
+  answers-over from to carry carry_any carry_once carry_first carry_told carry_both places (asks.Rows it) p = carry _ rows_output (table_of places it.table.now) p
+  answers-over from to carry carry_any carry_once carry_first carry_told carry_both places (asks.Dump it) p = carry _ dump_output (table_of places it.table.now) p
+  answers-over from to carry carry_any carry_once carry_first carry_told carry_both places (asks.Map it) p =
+      carry_both _ (λ (inputs : MapBytes). map_output inputs.target inputs.overlay) (map_files places it.target.now it.overlay.now) p
+  answers-over from to carry carry_any carry_once carry_first carry_told carry_both places (asks.Ids it) p = carry _ ids_output (layers_of places it.layers.now) p
+  answers-over from to carry carry_any carry_once carry_first carry_told carry_both places (asks.Survey it) p =
+      carry _ (λ (files : SurveyBytes). survey_output files.layers files.box_json) _ p
+  answers-over from to carry carry_any carry_once carry_first carry_told carry_both places (asks.Show it) p =
+      carry _ (λ (files : ShowBytes). shown_output it.pictured files) _ p
+  answers-over from to carry carry_any carry_once carry_first carry_told carry_both places (asks.Query it) p =
+      carry _ (λ (asked : OpenQueryOf). Ok (query_answer asked.opened asked.ids it.names)) _ p
+  answers-over from to carry carry_any carry_once carry_first carry_told carry_both places (asks.Explain it) p =
+      carry _ (λ (asked : OpenIdOf). Ok (explain_answer asked.opened asked.id.0 it.names)) _ p
+  answers-over from to carry carry_any carry_once carry_first carry_told carry_both places (asks.Bag it) p =
+      carry _ (λ (asked : OpenIdOf). Ok (bag_answer asked.opened asked.id.0 it.names)) _ p
+  answers-over from to carry carry_any carry_once carry_first carry_told carry_both places (asks.Attr it) p =
+      carry _ (λ (asked : OpenAttrOf). Ok (attr_answer asked.opened asked.attr.0 asked.styles it.force it.names)) _ p
+  answers-over from to carry carry_any carry_once carry_first carry_told carry_both places (asks.Make it) p =
+      makes-over from to carry_once carry_first it.omit it.names it.max_nodes _ p
+  answers-over from to carry carry_any carry_once carry_first carry_told carry_both places (asks.Check it) p =
+      carry_told _ _ (λ (asked : OpenCheckOf). IsCheckAnswer asked.goals it.names) (λ (asked : OpenCheckOf). Ok asked.opened) _ p
+  answers-over from to carry carry_any carry_once carry_first carry_told carry_both places (asks.Diff it) p =
+      carry_any _ _ (λ (asked : OpenDiffOf). IsDiffOutput asked.pairs it.max_nodes) (λ (asked : OpenDiffOf). Ok asked.opened) _ p
 
   answers-done : (status : Status) → Passes → (places : Places) (request : Request)
       → Answers is_terminal c says old new quiet said places request (Ok status) → Answers is_terminal d says before after quiet said places request (Ok status)
   answers-done status passes = answers-over (Ok status) (Ok status)
       (λ X F meant p. carries-done (Before F) (Behind F) meant status (λ read q. prints-done status (F read) passes q) p)
       (λ X Y Allows F meant p. carries-done (BeforeAny Allows F) (BehindAny Allows F) meant status (λ read q. prints_one_of-done (Allows read) status (F read) passes q) p)
-      (λ X Y Allows Tells F meant p. carries-done (BeforeOneOf Allows Tells F) (BehindOneOf Allows Tells F) meant status
-      (λ read q. (prints_one_of-done (Allows read) status (F read) passes q.0, λ plain. prints_told-done (Tells read) status (F read) passes (q.1 plain))) p)
-      (λ X Y Tells F meant p. carries-done (BeforeTold Tells F) (BehindTold Tells F) meant status (λ read q. prints_told-done (Tells read) status (F read) passes q) p)
+      (λ X Y Tells F meant p. carries-done (OnceBefore Tells F) (OnceBehind Tells F) meant status
+      (λ read. once-over (ToldBefore Tells F read (Ok status)) (ToldBehind Tells F read (Ok status)) (told-done Tells F read status passes)) p)
+      (λ X Y Tells F meant p. carries-done (OnceFirstBefore Tells F) (OnceFirstBehind Tells F) meant status
+      (λ read. once-first-over (ToldBefore Tells F read (Ok status)) (ToldBehind Tells F read (Ok status)) (FirstBefore Tells F read) (FirstBehind Tells F read)
+      (told-done Tells F read status passes) (first-done Tells F read status)) p)
+      (λ X Y Tells F meant p. carries-done (BeforeTold Tells F) (BehindTold Tells F) meant status (λ read q. told-done Tells F read status passes quiet q) p)
       (λ X F meant p. carries-done (BeforeBoth F) (BehindBoth F) meant status (λ read q. prints_both-done status (F read) passes q) p)
 
   answers-stop : (stop : Stop) → Stays → (places : Places) (request : Request)
@@ -230,9 +291,12 @@ module _ {W V E : Type 0} (is_terminal : Bool) (c : W → Option (List ℕ)) (d 
   answers-stop stop stays = answers-over (Err stop) (Err stop)
       (λ X F meant p. carries-stop (Before F) (Behind F) meant stop (λ read fault q. prints-fault fault (F read) stays q) p)
       (λ X Y Allows F meant p. carries-stop (BeforeAny Allows F) (BehindAny Allows F) meant stop (λ read fault q. prints_one_of-fault (Allows read) fault (F read) stays q) p)
-      (λ X Y Allows Tells F meant p. carries-stop (BeforeOneOf Allows Tells F) (BehindOneOf Allows Tells F) meant stop
-      (λ read fault q. (prints_one_of-fault (Allows read) fault (F read) stays q.0, λ plain. prints_told-fault (Tells read) fault (F read) stays (q.1 plain))) p)
-      (λ X Y Tells F meant p. carries-stop (BeforeTold Tells F) (BehindTold Tells F) meant stop (λ read fault q. prints_told-fault (Tells read) fault (F read) stays q) p)
+      (λ X Y Tells F meant p. carries-stop (OnceBefore Tells F) (OnceBehind Tells F) meant stop
+      (λ read fault. once-over (ToldBefore Tells F read (Err fault)) (ToldBehind Tells F read (Err fault)) (told-fault Tells F read fault stays)) p)
+      (λ X Y Tells F meant p. carries-stop (OnceFirstBefore Tells F) (OnceFirstBehind Tells F) meant stop
+      (λ read fault. once-first-over (ToldBefore Tells F read (Err fault)) (ToldBehind Tells F read (Err fault)) (FirstBefore Tells F read) (FirstBehind Tells F read)
+      (told-fault Tells F read fault stays) (first-fault Tells F read fault stays)) p)
+      (λ X Y Tells F meant p. carries-stop (BeforeTold Tells F) (BehindTold Tells F) meant stop (λ read fault q. told-fault Tells F read fault stays quiet q) p)
       (λ X F meant p. carries-stop (BeforeBoth F) (BehindBoth F) meant stop (λ read fault q. prints_both-fault fault (F read) stays q) p)
 
   answers-failed : (status : Status) (stop : Stop) → stop_of stop ≡ tool Write → (places : Places) (request : Request)
@@ -240,9 +304,12 @@ module _ {W V E : Type 0} (is_terminal : Bool) (c : W → Option (List ℕ)) (d 
   answers-failed status stop failed = answers-over (Ok status) (Err stop)
       (λ X F meant p. carries-failed (Before F) (Behind F) meant status stop failed (λ read q. rw q.1 refl) p)
       (λ X Y Allows F meant p. carries-failed (BeforeAny Allows F) (BehindAny Allows F) meant status stop failed (λ read q. rw q.2 refl) p)
-      (λ X Y Allows Tells F meant p. carries-failed (BeforeOneOf Allows Tells F) (BehindOneOf Allows Tells F) meant status stop failed
-      (λ read q. (rw q.0.2 refl, λ plain. rw q.0.2 refl)) p)
-      (λ X Y Tells F meant p. carries-failed (BeforeTold Tells F) (BehindTold Tells F) meant status stop failed (λ read q. rw q.3 refl) p)
+      (λ X Y Tells F meant p. carries-failed (OnceBefore Tells F) (OnceBehind Tells F) meant status stop failed
+      (λ read. once-over (ToldBefore Tells F read (Ok status)) (ToldBehind Tells F read (Err Write)) (told-failed Tells F read status)) p)
+      (λ X Y Tells F meant p. carries-failed (OnceFirstBefore Tells F) (OnceFirstBehind Tells F) meant status stop failed
+      (λ read. once-first-over (ToldBefore Tells F read (Ok status)) (ToldBehind Tells F read (Err Write)) (FirstBefore Tells F read) (FirstBehind Tells F read)
+      (told-failed Tells F read status) (first-done Tells F read status)) p)
+      (λ X Y Tells F meant p. carries-failed (BeforeTold Tells F) (BehindTold Tells F) meant status stop failed (λ read q. told-failed Tells F read status quiet q) p)
       (λ X F meant p. carries-failed (BeforeBoth F) (BehindBoth F) meant status stop failed (λ read q. rw q.2 refl) p)
 
   -- What was answered over the one writer is answered over the other, or a write failed there.
@@ -301,14 +368,20 @@ module _ {T E : Type 0} (is_terminal : Bool) (contents : T → Option (List ℕ)
       go (Err first) outcome shown stop failed = rw stop shown
 
   -- Errors are as the answer left them.
-  pub shows-behind : (request : Request) → Shows is_terminal quiet said request answered → Shows is_terminal quiet said request outcome
-  shows-behind (Rows path) shown = shown
-  shows-behind (Dump path) shown = shown
-  shows-behind (OfLayers layers asked) shown = shown
-  shows-behind (OfDevice layers device names asked) shown = shown
-  shows-behind (OfBox layers box_path names asked) shown = λ plain. ((shown plain).0, unsaid-behind (shown plain).1)
-  shows-behind (Diff old_path new_path box_path max_nodes words) shown = shown
-  shows-behind (Map target overlay) shown = unsaid-behind shown
+  pub shows-behind : (request : Request) → ErrorsGet is_terminal quiet said request answered → ErrorsGet is_terminal quiet said request outcome
+  shows-behind (asks.Map it) shown = (shown.0, unsaid-behind shown.1)
+  shows-behind (asks.Make it) shown = λ plain. ((shown plain).0, unsaid-behind (shown plain).1)
+  shows-behind (asks.Check it) shown = (shown.0, unsaid-behind shown.1)
+  shows-behind (asks.Rows it) shown = shown
+  shows-behind (asks.Dump it) shown = shown
+  shows-behind (asks.Ids it) shown = shown
+  shows-behind (asks.Survey it) shown = shown
+  shows-behind (asks.Show it) shown = shown
+  shows-behind (asks.Query it) shown = shown
+  shows-behind (asks.Explain it) shown = shown
+  shows-behind (asks.Bag it) shown = shown
+  shows-behind (asks.Attr it) shown = shown
+  shows-behind (asks.Diff it) shown = shown
 
   -- Where there is no answer and no write failed, the writer behind is as it was.
   pub unwritten-behind : IfErr answered (λ stop. stop_of stop ≢ tool Write → new ≡ old) → IfErr outcome (λ stop. stop_of stop ≢ tool Write → after ≡ writer_inner old)

@@ -1,4 +1,9 @@
-pub mod Asked
-pub mod AskedSeen
-pub mod Answers
+pub mod Ending
 pub mod Run
+pub mod WordsFault
+pub mod CommandLine
+pub mod ArgumentsSeen
+pub mod AskedWords
+pub mod Given
+pub mod Request
+pub mod GoalWordReadsBack

@@ -2,14 +2,17 @@
 
 ghost use Rattle.std.specs.Prelude.{◌≡◌, ◌≢◌, [], map, IfErr, IfSome, string_bytes};
 ghost use Rattle.std.specs.Io.Buffered.{writer_buffer, writer_inner};
-ghost use Rattle.program_run.specs.fault_text.declared.fault.ToolFault.TheVariants.{Write};
-ghost use Rattle.restool.specs.Answers.{Answers};
-ghost use Rattle.restool.specs.Run.{Runs, Shows};
-ghost use Rattle.program_run.specs.Stop.{stop_of, tool};
+ghost use Rattle.resource_tool.specs.command_base.declared.fault.ToolFault.TheVariants.{Write};
+ghost use Rattle.resource_tool.specs.command_base.Stop.{stop_of, tool};
+ghost use Rattle.restool.specs.Request.{Answers, ErrorsGet};
+ghost use Rattle.restool.specs.Run.{Runs};
 
-use crate::answer::answer;
-use program_run::{ExitStatus, Inputs, Request, Stop, Watch, end, read_words, written_out};
-use resource_tool::Status;
+use crate::ending::{end, written_out};
+use crate::request::{Request, answer};
+use crate::words::read_words;
+use crate::words_fault::Reported;
+use resource_tool::Watch;
+use resource_tool::table_commands::command_base::{ExitStatus, Inputs, Status, Stop};
 use std::alloc::Global;
 use std::io::{BufWriter, Write};
 use std::time::Clock;
@@ -18,6 +21,8 @@ use std::time::Clock;
 #[derive(Drop)]
 pub struct Ended<O> {
     pub status: ExitStatus,
+    /// Whether what was said at the end was written, where something was.
+    pub was_written: bool,
     /// The output, as it was left.
     pub out: O,
 }
@@ -33,18 +38,32 @@ pub fn run_words<I: Inputs, C: Clock, O: Write + Drop, E: Write + Drop>(
 ) -> Ended<O>
     requires { writer_buffer out ≡ [] }
     ensures { Runs O.contents E.contents (I.places inputs.now) (map string_bytes words.now) watch.entry.is_terminal
-        (record { out = writer_inner out; errors = errors.old }) (record { out = result.out; errors = errors.new }) result.status }
+        (record { out = writer_inner out; errors = errors.old }) (record { out = result.out; errors = errors.new }) result.was_written result.status }
 {
     match read_words(alloc, words) {
         Ok(request) => {
-            let (outcome, mut out) = carry_out(alloc, inputs, watch, request, out, errors);
-            let status = end(outcome, &mut out, errors);
-            Ended { status, out }
+            let (outcome, out) = carry_out(alloc, inputs, watch, request, out, errors);
+            let Reported {
+                status,
+                was_written,
+            } = end(outcome, errors);
+            Ended {
+                status,
+                was_written,
+                out,
+            }
         }
         Err(fault) => {
             let (mut out, _nothing) = out.into_parts();
-            let status = end(Err(Stop::Words(fault)), &mut out, errors);
-            Ended { status, out }
+            let Reported {
+                status,
+                was_written,
+            } = fault.report(&mut out, errors);
+            Ended {
+                status,
+                was_written,
+                out,
+            }
         }
     }
 }
@@ -62,7 +81,7 @@ fn carry_out<'a, I: Inputs, C: Clock, O: Write + Drop, E: Write + Drop>(
     ensures answers { IfSome (I.places inputs.now) (λ places. Answers watch.entry.is_terminal O.contents E.contents (writer_inner out) result.1
         errors.old errors.new places request.entry result.0) }
     ensures unwritten { IfErr result.0 (λ stop. stop_of stop ≢ tool Write → result.1 ≡ writer_inner out) }
-    ensures shows { Shows watch.entry.is_terminal errors.old errors.new request.entry result.0 }
+    ensures shows { ErrorsGet watch.entry.is_terminal errors.old errors.new request.entry result.0 }
 {
     let answered = answer(alloc, inputs, watch, request, &mut out, errors);
     written_out(answered, out)

@@ -1,9 +1,9 @@
 -- The lines of a list that begins with the nodes of a whole tree begin with those of the tree.
-use Rattle.std.proofs.Common.{◌≡◌, ℕ, ◌+◌, List, [], ◌∷◌, ◌++◌, length, refl, sym, ap, ◌∙◌, append_assoc, length-append, arith}
+use Rattle.std.proofs.Common.{◌≡◌, ℕ, ◌+◌, List, [], ◌∷◌, ◌++◌, length, sym, ap, ◌∙◌, append_assoc, length-append, arith}
 use Rattle.std.proofs.lemmas.List.{append-nil}
 use Rattle.command_base.specs.cert_tree.Certificate.{NodeOf, TestAt, ValueAt, BagAt}
 use Rattle.show_command.specs.declared.path_end.PathEnd.{PathEnd}
-use Rattle.show_command.specs.TreeLines.{LineOf, NodeAt, start, behind_yes, behind_no, lines_from, tree_lines}
+use Rattle.show_command.specs.TreeLines.{LineOf, NodeAt, start, behind_yes, behind_no, lines_from}
 use Rattle.show_command.specs.WholeTree.{Tree, ValueLeaf, BagLeaf, Fork, nodes_of, lines_of, WholeTreesAreShown}
 use Rattle.show_command.proofs.LineSteps.{lines_from-node, lines_from-end}
 

@@ -6,3 +6,4 @@ pub mod TreeText
 pub mod DotText
 pub mod ShowOutput
 pub mod OpenedSeen
+pub mod Show

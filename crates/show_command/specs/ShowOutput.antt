@@ -2,12 +2,13 @@
 use Rattle.std.specs.Prelude.{ℕ, List, slice_get, Option, Some, None, Result, Ok}
 use Rattle.contract_words.specs.Faults.{◌>>=◌}
 use Rattle.command_base.specs.overlay_map.Layer.{LayerOf}
-use Rattle.command_base.specs.fault_text.declared.fault.ToolFault.{ToolFault}
-use Rattle.command_base.specs.fault_text.ToolFault.{fault_of_certificate}
+use Rattle.command_base.specs.declared.fault.ToolFault.{ToolFault}
+use Rattle.command_base.specs.ToolFault.{fault_of_certificate}
 use Rattle.command_base.specs.declared.status.Status.TheVariants.{Done, Negative}
 use Rattle.command_base.specs.Output.{Output}
 use Rattle.command_base.specs.StackBytes.{LayerBytes, stack_in}
 use Rattle.command_base.specs.MapErr.{map_err}
+use Rattle.command_base.specs.answer_text.OnLine.{on_line}
 use Rattle.command_base.specs.cert_tree.Certificate.{GoalOf}
 use Rattle.command_base.specs.cert_tree.CertJson.{cert_in}
 use Rattle.show_command.specs.TreeText.{certificate_text}
@@ -27,7 +28,7 @@ show_inputs layers cert_json = do
 
 -- What `show` prints of layers and a certificate that were read: it is done.
 abbrev pub show_answer : ShowInputs → Output
-show_answer inputs = record { status = Done; text = certificate_text inputs.stack inputs.trees }
+show_answer inputs = record { status = Done; text = on_line (certificate_text inputs.stack inputs.trees) }
 
 -- What `show` prints of these layers and a certificate's text.
 unfoldable pub show_output : List LayerBytes → List ℕ → Result Output ToolFault

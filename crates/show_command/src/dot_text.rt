@@ -3,20 +3,24 @@
 ghost use Rattle.std.specs.Prelude.{◌≡◌, ◌++◌, map, OnOk, IfOk};
 ghost use Rattle.std.specs.List.{flat_map};
 ghost use Rattle.contract_words.specs.Writes.{Writes};
+ghost use Rattle.command_base.specs.answer_text.OnLine.{on_line};
 ghost use Rattle.command_base.specs.cert_tree.Certificate.{node_of, goal_of};
 ghost use Rattle.command_base.specs.cert_tree.res_value.Goal.{goal_seen};
 ghost use Rattle.show_command.specs.TreeLinesSeen.{line_of};
 ghost use Rattle.show_command.specs.TreeText.{goal_head};
-ghost use Rattle.show_command.specs.DotText.{escaped, quoted, unreached_label, line_label, missing_name, line_name, labeled_arrow, arrow_to, arrow_text, statements_with, statements_text, head_with, dot_text};
+ghost use Rattle.show_command.specs.DotText.{escaped, is_inside, character_end, dots_for, cut_label, quoted, unreached_label, line_label, missing_name, line_name, labeled_arrow, arrow_to, arrow_text, statements_with, statements_text, head_with, dot_text};
 
 use crate::goal_text::write_goal_head;
 use crate::node_text::write_node_label;
 use crate::path_end::LastAnswer;
 use crate::tree_lines::{TreeLine, tree_lines};
-use command_base::answer_text::Stack;
+use command_base::answer_text::{Stack, write_on_line};
 use command_base::cert_tree::{CertGoal, Goal, Node};
 use std::alloc::{AllocError, Global};
 use std::io::{self, Write};
+
+/// How many bytes of a label are shown at most. Graphviz reads no longer texts than 16,384 bytes.
+const MOST_OF_A_LABEL: usize = 2000;
 
 /// The picture of the tree of a goal, by its number.
 #[tactic(auto, unfolding(crate::specs::DotText::dot_text))]
@@ -41,12 +45,24 @@ fn head_of(
     number: usize,
     goal: &Goal,
 ) -> Result<Vec<u8>, AllocError>
-    ensures { IfOk result (λ text. text.items ≡ head_with (goal_head stack.now number (goal_seen goal.now))) }
+    ensures { IfOk result (λ text. text.items ≡ head_with (on_line (goal_head stack.now number (goal_seen goal.now)))) }
 {
     let label = goal_label(alloc, stack, number, goal)?;
+    let label = on_line(alloc, &label)?;
     let mut text = Vec::new(alloc);
     match write_head(&label, &mut text) {
         Ok(()) => Ok(text),
+        // To a `Vec` only a want of memory is a fault.
+        Err(_) => Err(AllocError),
+    }
+}
+
+fn on_line(alloc: Global, text: &[u8]) -> Result<Vec<u8>, AllocError>
+    ensures { IfOk result (λ line. line.items ≡ on_line text.now) }
+{
+    let mut line = Vec::new(alloc);
+    match write_on_line(text, &mut line) {
+        Ok(()) => Ok(line),
         // To a `Vec` only a want of memory is a fault.
         Err(_) => Err(AllocError),
     }
@@ -104,6 +120,7 @@ fn push_line(
     ensures { OnOk result (text.new.items ≡ text.old.items ++ statements_text stack.now (line_of line.now)) }
 {
     let label = label_of(alloc, stack, line)?;
+    let label = on_line(alloc, &label)?;
     match write_statements(line, &label, text) {
         Ok(()) => Ok(()),
         // To a `Vec` only a want of memory is a fault.
@@ -171,8 +188,48 @@ fn write_quoted<W: Write + Drop>(text: &[u8], out: &mut W) -> io::Result<()>
     ensures { Writes W.contents out.old out.new result (quoted text.now) }
 {
     out.write_all(b"\"")?;
-    write_each_escaped(text, out)?;
+    write_cut_label(text, out)?;
     out.write_all(b"\"")
+}
+
+#[tactic(auto, unfolding(crate::specs::DotText::cut_label))]
+fn write_cut_label<W: Write + Drop>(text: &[u8], out: &mut W) -> io::Result<()>
+    ensures { Writes W.contents out.old out.new result (cut_label text.now) }
+{
+    let end = character_end(text, MOST_OF_A_LABEL).min(text.len());
+    write_each_escaped(&text[..end], out)?;
+    write_dots_for(&text[end..], out)
+}
+
+fn write_dots_for<W: Write + Drop>(left: &[u8], out: &mut W) -> io::Result<()>
+    ensures { Writes W.contents out.old out.new result (dots_for left.now) }
+{
+    if left.is_empty() {
+        return Ok(());
+    }
+    out.write_all(b"..")
+}
+
+/// The last place up to one that is not inside a character.
+#[tactic(auto, unfolding(crate::specs::DotText::character_end))]
+fn character_end(text: &[u8], most: usize) -> usize
+    ensures { result ≡ character_end text.now most }
+{
+    let mut end = most;
+    'inside: while end > 0 && is_inside(text.get(end).copied()) {
+        end -= 1;
+    }
+    end
+}
+
+/// Whether a byte is one of a character behind its first.
+fn is_inside(byte: Option<u8>) -> bool
+    ensures { result ≡ is_inside byte }
+{
+    match byte {
+        Some(byte) => byte / 64 == 2,
+        None => false,
+    }
 }
 
 #[tactic(auto, using(contract_words::proofs::TextSteps::puts))]

@@ -1,5 +1,5 @@
 -- Changes whose boxes are as few as can be, where at most one coordinate of the whole box has several values.
-use Rattle.std.proofs.Common.{◌≡◌, ◌≢◌, ℕ, ◌+◌, ◌≤◌, ◌⊎◌, inl, inr, arith, List, [], ◌∷◌, length, get_or, refl, sym, ap, subst, ◌∙◌}
+use Rattle.std.proofs.Common.{◌≡◌, ◌≢◌, ℕ, ◌+◌, ◌≤◌, ◌⊎◌, inl, inr, arith, List, [], ◌∷◌, length, get_or, Option, Some, None, refl, sym, subst, ◌∙◌}
 use Rattle.std.specs.List.{All, AllPairs}
 use Rattle.std.proofs.lemmas.Bool.{cases_lt}
 use Rattle.std.proofs.lemmas.List.Elements.{All-cons}
@@ -8,68 +8,59 @@ use Rattle.cert_maker.specs.cert_checker.config_record.declared.coord.Coord.{Coo
 use Rattle.cert_maker.specs.box_answers.NumberSet.{SetOf, RangeOf, NumbersOf, LocalesOf, IsProper}
 use Rattle.cert_maker.specs.box_answers.Members.{set_at, IsMember, SomeMember, IsBox}
 use Rattle.cert_maker.proofs.OneMember.{has-member}
-use Rattle.joined_boxes.specs.Devices.{HasNone, HasOnce}
-use Rattle.joined_boxes.specs.Counts.{counted, box_count}
-use Rattle.joined_boxes.specs.Kinds.{IsOfKinds}
-use Rattle.joined_boxes.specs.Least.{IsRange, IsChoice, IsLeast}
+use Rattle.config_box.specs.Devices.{HasNone, HasOnce}
+use Rattle.config_box.specs.Counts.{counted, box_count}
+use Rattle.config_box.specs.Kinds.{IsOfKinds}
+use Rattle.config_box.specs.Least.{IsRange, IsChoice, IsLeast}
 use Rattle.cert_maker.specs.config_box.Joined.{CannotJoin}
-use Rattle.joined_boxes.proofs.CountSteps.{once-count, count-none, count-once}
-use Rattle.joined_boxes.proofs.LineSteps.{IsLine, IsPart, by-ranges, by-choices}
-use Rattle.joined_boxes.proofs.FewestSteps.{SayOne, some-box, fewest-choices, fewest-ranges}
-use Rattle.joined_boxes.proofs.PairSteps.{all-flat, pairs-flat}
-use Rattle.resource_content.specs.Content.{ContentOf}
+use Rattle.config_box.proofs.CountSteps.{once-count, count-none, count-once}
+use Rattle.config_box.proofs.LineSteps.{IsLine, IsPart, by-ranges, by-choices}
+use Rattle.config_box.proofs.FewestSteps.{SayOne, some-box, fewest-choices, fewest-ranges}
+use Rattle.config_box.proofs.PairSteps.{all-flat, pairs-flat}
+use Rattle.stack_diff.specs.Difference.{DifferenceOf}
 use Rattle.stack_diff.specs.Changes.{ChangeOf, IsSo, IsReal, AreChanges, boxes_in}
 use Rattle.stack_diff.specs.Fewest.{TellOther, AreShort}
 
-module _ (before after_it : List ℕ → ContentOf) (sets : List SetOf) where
+module _ (differs : List ℕ → Option DifferenceOf) (sets : List SetOf) where
   abbrev Real : ChangeOf → Type 0
-  Real = IsReal before after_it sets
-
-  both_say : List ℕ → ContentOf × ContentOf
-  both_say d = (before d, after_it d)
+  Real = IsReal differs sets
 
   -- ---- the boxes of all changes
 
-  -- what a box tells: two contents that differ, of some devices of the whole box
+  -- what a box tells: a difference, of some devices of the whole box
   record TellsOne (part : List SetOf) : Type 0 where
-    pub old : ContentOf
-    pub new : ContentOf
-    pub differ : old ≢ new
+    pub difference : DifferenceOf
     pub some : SomeMember part
-    pub so : (d : List ℕ) → IsMember part d → IsSo before after_it sets old new d
+    pub so : (d : List ℕ) → IsMember part d → IsSo differs sets difference d
 
   tell-one : (changes : List ChangeOf) → All Real changes → All TellsOne (boxes_in changes)
   tell-one changes real =
       all-flat TellsOne (λ change. change.boxes) changes
-      (λ k c q i d p. record { old = (get_or changes k c).before; new = (get_or changes k c).after; differ = (real k c q).differ; some = (real k c q).devices i d p; so = (real k c q).so i d p })
+      (λ k c q i d p. record { difference = (get_or changes k c).difference; some = (real k c q).devices i d p; so = (real k c q).so i d p })
 
-  pair_alike : {a b x y : ContentOf} → a ≡ b → x ≡ y → ◌≡◌ {A = ContentOf × ContentOf} (a, x) (b, y)
-  pair_alike p q = λ i. (p i, q i)
-
-  say-one : (part : List SetOf) → TellsOne part → SayOne both_say part part
-  unfolding both_say
-  say-one part tells d e m n = pair_alike ((tells.so d m).is_before ∙ sym (tells.so e n).is_before) ((tells.so d m).is_after ∙ sym (tells.so e n).is_after)
+  say-one : (part : List SetOf) → TellsOne part → SayOne differs part part
+  say-one part tells d e m n = (tells.so d m).so ∙ sym (tells.so e n).so
 
   -- ---- a device that a box has
 
-  differs-on : (changes : List ChangeOf) (d : List ℕ) → All Real changes → 1 ≤ box_count d (boxes_in changes) → IsMember sets d × (before d ≢ after_it d)
+  differs-on : (changes : List ChangeOf) (d : List ℕ) → All Real changes → 1 ≤ box_count d (boxes_in changes) → IsMember sets d × (differs d ≢ None)
   differs-on changes d real some =
       let found = some-box d (boxes_in changes) some in
       let tells = tell-one changes real found.0 [] found.1 in
       let so = tells.so d (found.2 []) in
-      (so.member, λ same. tells.differ (sym so.is_before ∙ same ∙ so.is_after))
+      (so.member, λ none. let some = sym so.so ∙ none in cc)
 
-  told-once : (changes : List ChangeOf) (d : List ℕ) → AreChanges before after_it sets changes → IsMember sets d × (before d ≢ after_it d) → box_count d (boxes_in changes) ≡ 1
+  told-once : (changes : List ChangeOf) (d : List ℕ) → AreChanges differs sets changes → IsMember sets d × (differs d ≢ None) → box_count d (boxes_in changes) ≡ 1
   told-once changes d are told = once-count d (boxes_in changes) (are.once d told.0 told.1)
 
-  pub at-most-once : (changes : List ChangeOf) (d : List ℕ) → AreChanges before after_it sets changes → box_count d (boxes_in changes) ≤ 1
+  pub at-most-once : (changes : List ChangeOf) (d : List ℕ) → AreChanges differs sets changes → box_count d (boxes_in changes) ≤ 1
   at-most-once changes d are =
       elim (cases_lt 0 (box_count d (boxes_in changes))) [
         | inl some ↦ (let one = told-once changes d are (differs-on changes d are.real (omega arith)) in omega arith)
         | inr none ↦ omega arith
       ]
 
-  covered : (changes others : List ChangeOf) (d : List ℕ) → AreChanges before after_it sets changes → AreChanges before after_it sets others → 1 ≤ box_count d (boxes_in changes) → 1 ≤ box_count d (boxes_in others)
+  covered : (changes others : List ChangeOf) (d : List ℕ) → AreChanges differs sets changes → AreChanges differs sets others → 1 ≤ box_count d (boxes_in changes) → 1 ≤ box_count d (boxes_in others)
   covered changes others d are other some =
       let one = told-once others d other (differs-on changes d are.real some) in omega arith
 
@@ -102,12 +93,14 @@ module _ (before after_it : List ℕ → ContentOf) (sets : List SetOf) where
     pub apart : (d : List ℕ) → HasNone d parts ⊎ HasOnce d parts
     pub least : IsLeast parts change.boxes
 
-  -- two boxes tell other contents, or cannot be joined
+  one-some : {a b : DifferenceOf} → Some a ≡ Some b → a ≡ b
+  one-some {a} {b} e = cc
+
+  -- two boxes tell other differences, or cannot be joined
   boxes-apart : (Q : List SetOf → List SetOf → Type 0) (changes : List ChangeOf) → All Real changes → AllPairs TellOther changes → All (λ change. AllPairs Q change.boxes) changes
-      → AllPairs (λ a b. SayOne both_say a b → Q a b) (boxes_in changes)
-  unfolding both_say
+      → AllPairs (λ a b. SayOne differs a b → Q a b) (boxes_in changes)
   boxes-apart Q changes real apart within =
-      pairs-flat (λ a b. SayOne both_say a b → Q a b) (λ change. change.boxes) changes (λ k c q i j d lt r one. within k c q i j d lt r)
+      pairs-flat (λ a b. SayOne differs a b → Q a b) (λ change. change.boxes) changes (λ k c q i j d lt r one. within k c q i j d lt r)
       (λ k l c lt q i d r j e s one.
       let first = real k c (omega arith) in
       let second = real l c q in
@@ -116,13 +109,13 @@ module _ (before after_it : List ℕ → ContentOf) (sets : List SetOf) where
       let so = first.so i d r m.0 m.1 in
       let other = second.so j e s n.0 n.1 in
       let same = one m.0 n.0 m.1 n.1 in
-      absurd (apart k l c lt q (sym so.is_before ∙ ap (λ p. p.0) same ∙ other.is_before) (sym so.is_after ∙ ap (λ p. p.1) same ∙ other.is_after)))
+      absurd (apart k l c lt q (one-some (sym so.so ∙ same ∙ other.so))))
 
-  module _ (c : Coord) (base : List ℕ) (line : IsLine sets c base) (changes others : List ChangeOf) (are : AreChanges before after_it sets changes) (apart : AllPairs TellOther changes)
-      (kinds : All (IsOfKinds sets) (boxes_in changes)) (joined : All IsJoinedOf changes) (other : AreChanges before after_it sets others) (other_kinds : All (IsOfKinds sets) (boxes_in others)) where
+  module _ (c : Coord) (base : List ℕ) (line : IsLine sets c base) (changes others : List ChangeOf) (are : AreChanges differs sets changes) (apart : AllPairs TellOther changes)
+      (kinds : All (IsOfKinds sets) (boxes_in changes)) (joined : All IsJoinedOf changes) (other : AreChanges differs sets others) (other_kinds : All (IsOfKinds sets) (boxes_in others)) where
     by-range : IsRange (set_at sets c) → length (boxes_in changes) ≤ length (boxes_in others)
     by-range up =
-        fewest-ranges sets c base line both_say (boxes_in changes) (boxes_in others)
+        fewest-ranges sets c base line differs (boxes_in changes) (boxes_in others)
         (record {
           range = up;
           parts = are-parts changes are.real kinds;
@@ -137,7 +130,7 @@ module _ (before after_it : List ℕ → ContentOf) (sets : List SetOf) where
 
     by-choice : IsChoice (set_at sets c) → length (boxes_in changes) ≤ length (boxes_in others)
     by-choice choice =
-        fewest-choices sets c base line both_say (boxes_in changes) (boxes_in others) (are-parts changes are.real kinds)
+        fewest-choices sets c base line differs (boxes_in changes) (boxes_in others) (are-parts changes are.real kinds)
         (λ k d q. say-one (get_or (boxes_in changes) k d) (tell-one changes are.real k d q))
         (λ k d q. say-one (get_or (boxes_in others) k d) (tell-one others other.real k d q))
         (λ d some. covered changes others d are other some)
@@ -152,7 +145,7 @@ module _ (before after_it : List ℕ → ContentOf) (sets : List SetOf) where
     by-kind (NumbersOf numbers) e = by-choice (subst IsChoice (sym e) tt)
     by-kind (LocalesOf locales) e = by-choice (subst IsChoice (sym e) tt)
 
-  pub few-boxes : (changes : List ChangeOf) → IsBox sets → AreChanges before after_it sets changes → AllPairs TellOther changes → All (IsOfKinds sets) (boxes_in changes) → All IsJoinedOf changes → AreShort before after_it sets changes
+  pub few-boxes : (changes : List ChangeOf) → IsBox sets → AreChanges differs sets changes → AllPairs TellOther changes → All (IsOfKinds sets) (boxes_in changes) → All IsJoinedOf changes → AreShort differs sets changes
   few-boxes changes is_box are apart kinds joined = record {
     apart = apart;
     kinds = kinds;

@@ -5,20 +5,18 @@ use Rattle.std.proofs.lemmas.List.Elements.{All-nil, All-cons, All-head, All-tai
 use Rattle.std.proofs.lemmas.List.Kept.{AllPairs-cons}
 use Rattle.cert_maker.specs.box_answers.NumberSet.{SetOf}
 use Rattle.cert_maker.specs.box_answers.Members.{IsMember}
-use Rattle.joined_boxes.specs.Devices.{HasNone, HasOnce, KeepDevices}
-use Rattle.joined_boxes.specs.Kinds.{IsOfKinds}
-use Rattle.joined_boxes.proofs.CountSteps.{by_member}
-use Rattle.joined_boxes.proofs.PairSteps.{pairs-head, pairs-tail, all-flat}
-use Rattle.resource_content.specs.declared.content.Content.{Content}
-use Rattle.resource_content.specs.ContentSeen.{content_of}
-use Rattle.stack_diff.specs.declared.resource.Resource.{Resource}
+use Rattle.config_box.specs.Devices.{HasNone, HasOnce, KeepDevices}
+use Rattle.config_box.specs.Kinds.{IsOfKinds}
+use Rattle.config_box.proofs.CountSteps.{by_member}
+use Rattle.config_box.proofs.PairSteps.{pairs-head, pairs-tail, all-flat}
+use Rattle.stack_diff.specs.DifferenceSeen.{difference_of}
+use Rattle.stack_diff.specs.declared.pair.Pair.{Pair}
 use Rattle.stack_diff.specs.declared.change.Change.{Change}
-use Rattle.stack_diff.specs.declared.told.Told.{Told}
-use Rattle.stack_diff.specs.Sides.{says}
+use Rattle.stack_diff.specs.declared.tree.Leaf.{Leaf}
+use Rattle.stack_diff.specs.Sides.{pair_differs}
 use Rattle.stack_diff.specs.Once.{KeepsEach}
-use Rattle.stack_diff.specs.Changes.{ChangeOf, IsSo, AreChanges, boxes_in}
+use Rattle.stack_diff.specs.Changes.{ChangeOf, change_of, IsSo, AreChanges, boxes_in}
 use Rattle.stack_diff.proofs.Same.{are-changes}
-use Rattle.stack_diff.specs.ChangeSeen.{change_of}
 use Rattle.stack_diff.specs.Fewest.{TellOther, AreToldShort}
 use Rattle.stack_diff.specs.Tree.{AreRight}
 use Rattle.stack_diff.specs.Grouped.{IsGathered, AreGathered, JoinsBoxes, Groups}
@@ -46,20 +44,17 @@ joined-each old new keep = record { none = λ d h. (keep.none d).0 h; once = λ 
 
 -- ---- one change
 
--- a change with other boxes tells the same contents
-with-boxes : (old new : Change) → JoinsBoxes old new → change_of new ≡ record { before = content_of old.before; after = content_of old.after; boxes = new.boxes.items }
-with-boxes old new joins =
-    ap (λ (b : Content). record { before = content_of b; after = content_of new.after; boxes = new.boxes.items }) joins.before
-    ∙ ap (λ (a : Content). record { before = content_of old.before; after = content_of a; boxes = new.boxes.items }) joins.after
+-- a change with other boxes tells the same
+with-boxes : (old new : Change) → JoinsBoxes old new → change_of new ≡ record { difference = difference_of old.difference; boxes = new.boxes.items }
+with-boxes old new joins = λ i. record { difference = difference_of (joins.difference i); boxes = new.boxes.items }
 
-gathered-joined : (before after : Resource) (sets : List SetOf) (old new : Change) → JoinsBoxes old new → IsGathered before after sets (change_of old) → IsGathered before after sets (change_of new)
-gathered-joined before after sets old new joins h =
-    subst (IsGathered before after sets) (sym (with-boxes old new joins)) (record {
+gathered-joined : (pair : Pair) (sets : List SetOf) (old new : Change) → JoinsBoxes old new → IsGathered pair sets (change_of old) → IsGathered pair sets (change_of new)
+gathered-joined pair sets old new joins h =
+    subst (IsGathered pair sets) (sym (with-boxes old new joins)) (record {
       real = record {
-        differ = h.real.differ;
         somewhere = joins.some h.real.somewhere;
         devices = joins.none_empty;
-        so = kept-so (λ d. IsSo (says before) (says after) sets (content_of old.before) (content_of old.after) d) old.boxes.items new.boxes.items joins.devices h.real.so;
+        so = kept-so (λ d. IsSo (pair_differs pair) sets (difference_of old.difference) d) old.boxes.items new.boxes.items joins.devices h.real.so;
       };
       kinds = joins.kinds sets h.kinds;
     })
@@ -80,9 +75,9 @@ others-joined old new [] (other ∷ news) joins all h = absurd all
 others-joined old new (first ∷ olds) [] joins all h = absurd all
 others-joined old new (first ∷ olds) (other ∷ news) joins all h =
     All-cons (TellOther (change_of new)) (change_of other) (map change_of news)
-    (λ e f.
+    (λ e.
     All-head (TellOther (change_of old)) (change_of first) (map change_of olds) h
-    (sym (ap content_of joins.before) ∙ e ∙ ap content_of all.0.before) (sym (ap content_of joins.after) ∙ f ∙ ap content_of all.0.after))
+    (sym (ap difference_of joins.difference) ∙ e ∙ ap difference_of all.0.difference))
     (others-joined old new olds news joins all.1 (All-tail (TellOther (change_of old)) (change_of first) (map change_of olds) h))
 
 apart-joined : (olds news : List Change) → AllZip JoinsBoxes olds news → AllPairs TellOther (map change_of olds) → AllPairs TellOther (map change_of news)
@@ -94,16 +89,16 @@ apart-joined (old ∷ olds) (new ∷ news) joins h =
     (others-joined old new olds news joins.0 joins.1 (pairs-head TellOther (change_of old) (map change_of olds) h))
     (apart-joined olds news joins.1 (pairs-tail TellOther (change_of old) (map change_of olds) h))
 
-module _ (before after : Resource) (sets : List SetOf) where
+module _ (pair : Pair) (sets : List SetOf) where
   abbrev Gathered : ChangeOf → Type 0
-  Gathered = IsGathered before after sets
+  Gathered = IsGathered pair sets
 
-  gathered-each : (olds news : List Change) → AllZip JoinsBoxes olds news → AreGathered before after sets olds → AreGathered before after sets news
+  gathered-each : (olds news : List Change) → AllZip JoinsBoxes olds news → AreGathered pair sets olds → AreGathered pair sets news
   gathered-each [] [] joins h = h
   gathered-each [] (new ∷ news) joins h = absurd joins
   gathered-each (old ∷ olds) [] joins h = absurd joins
   gathered-each (old ∷ olds) (new ∷ news) joins h =
-      All-cons Gathered (change_of new) (map change_of news) (gathered-joined before after sets old new joins.0 (All-head Gathered (change_of old) (map change_of olds) h))
+      All-cons Gathered (change_of new) (map change_of news) (gathered-joined pair sets old new joins.0 (All-head Gathered (change_of old) (map change_of olds) h))
       (gathered-each olds news joins.1 (All-tail Gathered (change_of old) (map change_of olds) h))
 
   -- no two boxes of a change have a device in common
@@ -111,9 +106,9 @@ module _ (before after : Resource) (sets : List SetOf) where
   Apart change = (d : List ℕ) → HasNone d change.boxes ⊎ HasOnce d change.boxes
 
   abbrev Joined : ChangeOf → Type 0
-  Joined = IsJoinedOf (says before) (says after) sets
+  Joined = IsJoinedOf (pair_differs pair) sets
 
-  joined-of : (olds news : List Change) → AllZip JoinsBoxes olds news → AreGathered before after sets olds → All Apart (map change_of olds) → All Joined (map change_of news)
+  joined-of : (olds news : List Change) → AllZip JoinsBoxes olds news → AreGathered pair sets olds → All Apart (map change_of olds) → All Joined (map change_of news)
   joined-of [] [] joins h apart = All-nil Joined
   joined-of [] (new ∷ news) joins h apart = absurd joins
   joined-of (old ∷ olds) [] joins h apart = absurd joins
@@ -128,21 +123,21 @@ module _ (before after : Resource) (sets : List SetOf) where
       })
       (joined-of olds news joins.1 (All-tail Gathered (change_of old) (map change_of olds) h) (All-tail Apart (change_of old) (map change_of olds) apart))
 
-  pub changes-of : (told : List Told) (changes : List Change) → AreRight before after sets told → Groups told changes
-      → AreToldShort (says before) (says after) sets (map change_of changes)
+  pub changes-of : (told : List Leaf) (changes : List Change) → AreRight pair sets told → Groups told changes
+      → AreToldShort (pair_differs pair) sets (map change_of changes)
   changes-of told changes right groups =
       let all : List ChangeOf = map change_of groups.gathered in
-      let so_far = groups.gathers.gathered before after sets right.right in
-      let are_so : AreChanges (says before) (says after) sets all = are-changes (says before) (says after) sets all (λ k c q. (so_far k c q).real) (λ d m differ. groups.gathers.devices.once d (right.once d m differ)) in
+      let so_far = groups.gathers.gathered pair sets right.right in
+      let are_so : AreChanges (pair_differs pair) sets all = are-changes (pair_differs pair) sets all (λ k c q. (so_far k c q).real) (λ d m differ. groups.gathers.devices.once d (right.once d m differ)) in
       let each = gathered-each groups.gathered changes groups.joins so_far in
-      let are : AreChanges (says before) (says after) sets (map change_of changes) =
-      are-changes (says before) (says after) sets (map change_of changes) (λ k c q. (each k c q).real)
+      let are : AreChanges (pair_differs pair) sets (map change_of changes) =
+      are-changes (pair_differs pair) sets (map change_of changes) (λ k c q. (each k c q).real)
       (λ d m differ. (keeps-joined groups.gathered changes groups.joins).once d (are_so.once d m differ)) in
       let apart : All Apart all = λ k c q d.
-      let few = part-count (says before) (says after) sets all d k c q in
-      let one = at-most-once (says before) (says after) sets all d are_so in
-      none-or-once (says before) (says after) sets d (get_or all k c).boxes (omega arith) in (
+      let few = part-count (pair_differs pair) sets all d k c q in
+      let one = at-most-once (pair_differs pair) sets all d are_so in
+      none-or-once (pair_differs pair) sets d (get_or all k c).boxes (omega arith) in (
         are,
-        few-boxes (says before) (says after) sets (map change_of changes) right.is_box are (apart-joined groups.gathered changes groups.joins groups.gathers.apart)
+        few-boxes (pair_differs pair) sets (map change_of changes) right.is_box are (apart-joined groups.gathered changes groups.joins groups.gathers.apart)
             (all-flat (IsOfKinds sets) (λ change. change.boxes) (map change_of changes) (λ k c q. (each k c q).kinds)) (joined-of groups.gathered changes groups.joins so_far apart),
       )

@@ -8,7 +8,7 @@ use Rattle.std.proofs.lemmas.List.Elements.{All-from_recursion, recursion_from_A
 use Rattle.std.proofs.lemmas.List.Sorted.{IsPermutation-keeps, IsPermutation-swap, length_permutation, All-permutation}
 use Rattle.cert_maker.specs.box_answers.NumberSet.{SetOf}
 use Rattle.cert_maker.specs.box_answers.Members.{IsMember}
-use Rattle.joined_boxes.specs.Devices.{HasNone, HasOnce}
+use Rattle.config_box.specs.Devices.{HasNone, HasOnce}
 use Rattle.stack_diff.specs.Once.{KeepsEach}
 
 -- ---- by places

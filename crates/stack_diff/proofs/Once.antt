@@ -5,7 +5,7 @@ use Rattle.cert_maker.specs.box_answers.NumberSet.{SetOf}
 use Rattle.cert_maker.specs.box_answers.Members.{IsMember}
 use Rattle.cert_maker.specs.config_box.Tests.{TestOf, answers}
 use Rattle.cert_maker.specs.config_box.Halves.{IsHalf}
-use Rattle.joined_boxes.specs.Devices.{HasNone, HasOnce}
+use Rattle.config_box.specs.Devices.{HasNone, HasOnce}
 use Rattle.stack_diff.specs.Once.{KeepsEach}
 
 -- ---- lists that are put together

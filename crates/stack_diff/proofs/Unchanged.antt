@@ -1,39 +1,47 @@
 -- A resource beside itself.
-use Rattle.std.proofs.Common.{◌≡◌, ℕ, arith, List, [], Option, refl, sym, subst}
+use Rattle.std.proofs.Common.{◌≡◌, ℕ, arith, Bool, true, false, List, [], Option, None, eqb-true, sym, subst}
+use Rattle.std.proofs.lemmas.Bool.{and_parts}
 use Rattle.std.proofs.lemmas.List.Elements.{All-nil}
-use Rattle.cert_maker.specs.cert_checker.overlay_map.Layer.{LayerOf}
 use Rattle.cert_maker.specs.res_value.declared.res_id.ResId.{ResId}
 use Rattle.cert_maker.specs.box_answers.NumberSet.{SetOf}
-use Rattle.resource_content.specs.name_pairs.declared.pair.Sides.TheVariants.{Both}
-use Rattle.resource_content.specs.Content.{ContentOf}
-use Rattle.stack_diff.specs.declared.outcome.Judged.{Judged}
-use Rattle.joined_boxes.specs.Kinds.{IsOfKinds}
-use Rattle.stack_diff.specs.Changes.{ChangeOf, IsReal, AreChanges}
-use Rattle.stack_diff.specs.Fewest.{AreShort, AreToldShort}
-use Rattle.stack_diff.specs.Outcomes.{IsJudged}
+use Rattle.stack_diff.specs.ContentAt.{content_at}
+use Rattle.stack_diff.specs.ReadAlike.{content_read}
+use Rattle.stack_diff.specs.Difference.{DifferenceOf}
+use Rattle.stack_diff.proofs.DifferenceTells.{difference_tells}
+use Rattle.config_box.specs.Kinds.{IsOfKinds}
+use Rattle.stack_diff.specs.Stacks.{StacksOf, is_itself, differs, traces}
+use Rattle.stack_diff.specs.Changes.{ChangeOf, IsReal}
+use Rattle.stack_diff.specs.Fewest.{AreToldShort}
+use Rattle.stack_diff.specs.NeededTree.{HasTreeFor, HasTree}
 
--- it says nothing differently
-no-changes : (says : List ℕ → ContentOf) (sets : List SetOf) (changes : List ChangeOf) → changes ≡ [] → AreChanges says says sets changes
-no-changes says sets changes none = subst (AreChanges says says sets) (sym none) (record {
-  real = All-nil (IsReal says says sets);
-  once = λ d member differ. absurd (differ refl);
-  same = λ d member none. refl;
-})
-
--- in no box
-pub no-boxes : (says : List ℕ → ContentOf) (sets : List SetOf) (changes : List ChangeOf) → changes ≡ [] → AreToldShort says says sets changes
-no-boxes says sets changes none = (
-  no-changes says sets changes none,
-  subst (AreShort says says sets) (sym none) (record {
+-- what differs nowhere is told in no box
+no-boxes : (differs : List ℕ → Option DifferenceOf) (sets : List SetOf) (changes : List ChangeOf) → ((d : List ℕ) → differs d ≡ None) → changes ≡ [] → AreToldShort differs sets changes
+no-boxes differs sets changes same none = subst (AreToldShort differs sets) (sym none) (
+  record {
+    real = All-nil (IsReal differs sets);
+    once = λ d member differ. absurd (differ (same d));
+    same = λ d member none. same d;
+  },
+  record {
     apart = λ i j d lt q. absurd (omega arith);
     kinds = All-nil (IsOfKinds sets);
     fewest = λ c alone others other kinds. omega arith;
-  }),
+  },
 )
 
--- two stacks that are one, and two ids
-pub judged-alike : (old new : List LayerOf) (sets : List SetOf) (before after : ResId) (most : ℕ) (judged : Option Judged) → new ≡ old → before ≡ after
-    → ((layers : List LayerOf) (parts : List SetOf) (id : ResId) → IsJudged layers layers parts (Both id id) most judged) → IsJudged old new sets (Both before after) most judged
-judged-alike old new sets before after most judged one same h =
-    subst (λ (layers : List LayerOf). IsJudged old layers sets (Both before after) most judged) (sym one)
-    (subst (λ (id : ResId). IsJudged old old sets (Both before id) most judged) same (h old sets before))
+module _ (stacks : StacksOf) (sets : List SetOf) (old new : ResId) (itself : is_itself stacks old new ≡ true) where
+  pub told-itself : (changes : List ChangeOf) → (stacks.are_one ≡ true → stacks.new ≡ stacks.old) → changes ≡ [] → AreToldShort (differs stacks old new) sets changes
+  told-itself changes one none =
+      let parts = and_parts _ _ itself in
+      let layers : stacks.old ≡ stacks.new = sym (one parts.0) in
+      let id : old.0 ≡ new.0 = eqb-true old.0 new.0 parts.1 in
+      no-boxes (differs stacks old new) sets changes
+      (λ d. (difference_tells (content_at stacks.old old.0 d) (content_at stacks.new new.0 d)).1 (λ i. content_read (content_at (layers i) (id i) d))) none
+
+  pub tree-itself : (says : ℕ → Type 0) → says 1 → HasTree stacks old new sets says
+  tree-itself says one = subst (λ (b : Bool). HasTreeFor b (traces stacks old new) sets says) (sym itself) one
+
+-- beside another one its tree is grown
+pub tree-beside : (stacks : StacksOf) (sets : List SetOf) (old new : ResId) (says : ℕ → Type 0) → is_itself stacks old new ≡ false → HasTreeFor false (traces stacks old new) sets says
+    → HasTree stacks old new sets says
+tree-beside stacks sets old new says not tree = subst (λ (b : Bool). HasTreeFor b (traces stacks old new) sets says) (sym not) tree

@@ -1,19 +1,20 @@
--- A resource in two stacks: what it says at a device, which is the list of its numbers, and the traces there.
-use Rattle.std.specs.Prelude.{ℕ, List}
+-- A resource in two stacks, at a device. (Cited by contracts of this crate alone.)
+use Rattle.std.specs.Prelude.{ℕ, List, Option}
 use Rattle.cert_maker.specs.cert_checker.reference_resolver.Trace.{Trace}
 use Rattle.cert_maker.specs.cert_checker.bags_themes.ContentTrace.{content_trace}
-use Rattle.resource_content.specs.Content.{ContentOf}
-use Rattle.resource_content.specs.ContentAt.{content_at}
-use Rattle.stack_diff.specs.declared.resource.Resource.{Resource}
+use Rattle.stack_diff.specs.Difference.{DifferenceOf}
+use Rattle.stack_diff.specs.declared.pair.Resource.{Resource}
+use Rattle.stack_diff.specs.declared.pair.Pair.{Pair}
+use Rattle.stack_diff.specs.Stacks.{two_stacks, differs}
 
--- what a resource says at a device
-abbrev pub says : Resource → List ℕ → ContentOf
-says resource d = content_at resource.stack.now resource.id.0 d
+-- how they differ
+abbrev pub pair_differs : Pair → List ℕ → Option DifferenceOf
+pair_differs pair d = differs (two_stacks pair.before.stack.now pair.after.stack.now) pair.before.id pair.after.id d
 
--- the trace of its look-ups
+-- the trace of one of them
 abbrev pub trace_in : Resource → List ℕ → Trace
 trace_in resource d = content_trace resource.stack.now resource.id.0 d
 
--- the traces in both stacks
-abbrev pub both_traces : Resource → Resource → List ℕ → Trace × Trace
-both_traces before after d = (trace_in before d, trace_in after d)
+-- those of both
+abbrev pub pair_traces : Pair → List ℕ → Trace × Trace
+pair_traces pair d = (trace_in pair.before d, trace_in pair.after d)

@@ -1,32 +1,35 @@
-//! Leaves that tell the same two contents, as one change.
+//! Leaves that tell the same difference, as one change.
 
-ghost use Rattle.std.specs.Prelude.{◌≡◌, [], ◌∷◌, ◌++◌, IfOk, MatchBool};
+ghost use Rattle.std.specs.Prelude.{◌≡◌, [], ◌∷◌, ◌++◌, IfOk};
 ghost use Rattle.std.specs.List.{All, AllZip};
 ghost use Rattle.cert_maker.specs.box_answers.Members.{SomeMember};
-ghost use Rattle.stack_diff.specs.Grouped.{HaveOneContent, AddsLeafTo, GatherLeaves, JoinsBoxes, Groups};
+ghost use Rattle.stack_diff.specs.Grouped.{AddsLeafTo, GatherLeaves, JoinsBoxes, Groups};
 
 use crate::change::Change;
-use crate::told::Told;
+use crate::tree::Leaf;
 use cert_maker::{ConfigBox, OutOfMemory};
-use joined_boxes::join_boxes;
+use config_box::join_boxes;
 use std::alloc::Global;
 
-/// A change for each two contents, with the boxes of all leaves that tell them, joined where they make one box.
-pub(crate) fn grouped(alloc: Global, told: Vec<Told>) -> Result<Vec<Change>, OutOfMemory>
-    ensures { IfOk result (λ changes. Groups told.items changes.items) }
+/// A change for each difference, with the boxes of all leaves that tell them, joined where they make one box.
+pub(crate) fn grouped<'a>(
+    alloc: Global,
+    told: Vec<Leaf<'a>>,
+) -> Result<Vec<Change<'a>>, OutOfMemory>
+    ensures { IfOk result (λ changes. Groups told.entry.items changes.items) }
 {
     let gathered = gathered(alloc, told)?;
     let changes = joined_each(alloc, gathered)?;
     Ok(changes)
 }
 
-// A change for each two contents, with the boxes of all leaves that tell them.
-fn gathered(alloc: Global, told: Vec<Told>) -> Result<Vec<Change>, OutOfMemory>
-    ensures { IfOk result (λ changes. GatherLeaves told.items changes.items) }
+// A change for each difference, with the boxes of all leaves that tell them.
+fn gathered<'a>(alloc: Global, told: Vec<Leaf<'a>>) -> Result<Vec<Change<'a>>, OutOfMemory>
+    ensures { IfOk result (λ changes. GatherLeaves told.entry.items changes.items) }
 {
     let mut told = told;
-    // Those of the same contents stand side by side, the greatest first, since leaves are taken from the end.
-    told.sort_by(|leaf, other| other.cmp_contents(leaf))?;
+    // Those of the same difference stand side by side, the greatest first, since leaves are taken from the end.
+    told.sort_by(|leaf, other| other.difference.cmp(&leaf.difference))?;
     let mut changes = Vec::new(alloc);
     'leaves: while let Some(leaf) = told.pop() {
         add_leaf(alloc, &mut changes, leaf)?;
@@ -34,9 +37,13 @@ fn gathered(alloc: Global, told: Vec<Told>) -> Result<Vec<Change>, OutOfMemory>
     Ok(changes)
 }
 
-// Adds a leaf to the last change, if that has the same contents, or as a new one.
-fn add_leaf(alloc: Global, changes: &mut Vec<Change>, leaf: Told) -> Result<(), OutOfMemory>
-    ensures { IfOk result (λ _. AddsLeafTo leaf changes.old.items changes.new.items) }
+// Adds a leaf to the last change, if that tells the same, or as a new one.
+fn add_leaf<'a>(
+    alloc: Global,
+    changes: &mut Vec<Change<'a>>,
+    leaf: Leaf<'a>,
+) -> Result<(), OutOfMemory>
+    ensures { IfOk result (λ _. AddsLeafTo leaf.entry changes.old.items changes.new.items) }
 {
     match changes.pop() {
         Some(last) => add_behind(alloc, changes, last, leaf),
@@ -48,15 +55,15 @@ fn add_leaf(alloc: Global, changes: &mut Vec<Change>, leaf: Told) -> Result<(), 
 }
 
 // The same, where this is the last change, which was taken.
-fn add_behind(
+fn add_behind<'a>(
     alloc: Global,
-    changes: &mut Vec<Change>,
-    last: Change,
-    leaf: Told,
+    changes: &mut Vec<Change<'a>>,
+    last: Change<'a>,
+    leaf: Leaf<'a>,
 ) -> Result<(), OutOfMemory>
-    ensures { IfOk result (λ _. AddsLeafTo leaf (changes.old.items ++ last ∷ []) changes.new.items) }
+    ensures { IfOk result (λ _. AddsLeafTo leaf.entry (changes.old.items ++ last.entry ∷ []) changes.new.items) }
 {
-    if last.has_contents_of(&leaf) {
+    if last.difference.tells_same(&leaf.difference) {
         changes.push(last.with_box(leaf.members)?)?;
         return Ok(());
     }
@@ -66,8 +73,8 @@ fn add_behind(
 }
 
 // Joins the boxes of each change. All its leaves are there now.
-fn joined_each(alloc: Global, changes: Vec<Change>) -> Result<Vec<Change>, OutOfMemory>
-    ensures { IfOk result (λ joined. AllZip JoinsBoxes changes.items joined.items) }
+fn joined_each<'a>(alloc: Global, changes: Vec<Change<'a>>) -> Result<Vec<Change<'a>>, OutOfMemory>
+    ensures { IfOk result (λ joined. AllZip JoinsBoxes changes.entry.items joined.items) }
 {
     let mut joined = Vec::with_capacity(alloc, changes.len())?;
     for change in changes {
@@ -76,54 +83,43 @@ fn joined_each(alloc: Global, changes: Vec<Change>) -> Result<Vec<Change>, OutOf
     Ok(joined)
 }
 
-impl Change {
+impl<'a> Change<'a> {
     // What one leaf tells.
-    fn of(alloc: Global, leaf: Told) -> Result<Change, OutOfMemory>
-        ensures before { IfOk result (λ change. change.before ≡ leaf.before) }
-        ensures after { IfOk result (λ change. change.after ≡ leaf.after) }
-        ensures boxes { IfOk result (λ change. change.boxes.items ≡ leaf.members ∷ []) }
+    fn of(alloc: Global, leaf: Leaf<'a>) -> Result<Change<'a>, OutOfMemory>
+        ensures difference { IfOk result (λ change. change.difference ≡ leaf.entry.difference) }
+        ensures boxes { IfOk result (λ change. change.boxes.items ≡ leaf.entry.members ∷ []) }
     {
         let mut boxes = Vec::new(alloc);
         boxes.push(leaf.members)?;
         Ok(Change {
-            before: leaf.before,
-            after: leaf.after,
+            difference: leaf.difference,
             boxes,
         })
     }
 
     // With one more box.
-    fn with_box(self, members: ConfigBox) -> Result<Change, OutOfMemory>
-        ensures before { IfOk result (λ change. change.before ≡ self.before) }
-        ensures after { IfOk result (λ change. change.after ≡ self.after) }
-        ensures boxes { IfOk result (λ change. change.boxes.items ≡ self.boxes.items ++ members ∷ []) }
+    fn with_box(self, members: ConfigBox) -> Result<Change<'a>, OutOfMemory>
+        ensures difference { IfOk result (λ change. change.difference ≡ self.entry.difference) }
+        ensures boxes { IfOk result (λ change. change.boxes.items ≡ self.entry.boxes.items ++ members ∷ []) }
     {
         let mut boxes = self.boxes;
         boxes.push(members)?;
         Ok(Change {
-            before: self.before,
-            after: self.after,
+            difference: self.difference,
             boxes,
         })
     }
 
     // With boxes that make one box together joined.
-    fn joined(self, alloc: Global) -> Result<Change, OutOfMemory>
-        ensures { IfOk result (JoinsBoxes self) }
+    fn joined(self, alloc: Global) -> Result<Change<'a>, OutOfMemory>
+        ensures { IfOk result (JoinsBoxes self.entry) }
     {
         let boxes = join_boxes(alloc, self.boxes)?;
         have_devices(&boxes);
         Ok(Change {
-            before: self.before,
-            after: self.after,
+            difference: self.difference,
             boxes,
         })
-    }
-
-    fn has_contents_of(&self, leaf: &Told) -> bool
-        ensures { MatchBool result (HaveOneContent self.now leaf.now) (HaveOneContent self.now leaf.now → ⊥) }
-    {
-        self.before.says_same(&leaf.before) && self.after.says_same(&leaf.after)
     }
 }
 

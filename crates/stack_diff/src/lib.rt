@@ -1,34 +1,64 @@
-//! What two stacks say differently, on which devices of a box.
+//! How two stacks differ, on which devices of a box.
 //!
-//! For the crate above: `compare_stacks` answers what becomes of each label: it is removed, added, or these are its
-//! changes. A change is two contents that differ, and boxes of devices on which the label says the one in the old stack and
-//! the other in the new one. A device of the box on which the two differ is in one of the boxes, and in one alone; a device
-//! that is in none says the same in both. `compare_with_itself` answers the same of one stack, and asks no device.
+//! What a resource says at a device, apart from ids and indexes, is its content: a value, where a string stands for itself
+//! and an id for what it is called, or the rows of a bag, or what stands in place of these. `content_at` gives it, and
+//! `difference_at` how what an id says in one stack differs from what another says in another, and nothing where a device
+//! reads both alike. `write_label`, `write_value_content` and `write_row_key` write the parts of contents, and
+//! `write_package` a package.
+//!
+//! For the crate above: `compare` answers how a resource of the new stack differs from one of the old stack. A change is a
+//! difference, and boxes of devices on which it is so. A device of the box on which the two differ is in one of the boxes,
+//! and in one alone; on a device that is in none they say the same. `Stacks::one` compares a stack with itself, and asks
+//! no device.
 //!
 //! ```text
-//! let pairs = name_pairs(alloc, &old, &new)?;
-//! match compare_stacks(alloc, &old, &new, &pairs, &phones, 100_000)? {
-//!     Outcomes::All(outcomes) => .., // Both: dimension 4/2^0 dp before, dimension 3/2^0 dp after, in landscape
-//!     Outcomes::NodeLimit => ..,
+//! let old = NamedStack::of(alloc, &old_layers)?;
+//! let new = NamedStack::of(alloc, &new_layers)?;
+//! match difference_at(alloc, &old, old_id, &new, new_id, &device)? {
+//!     Some(Difference::Rows(rows)) => .., // those of a style that differ
+//!     Some(Difference::Contents { before, after }) => .., // dimension 4/2^0 dp, and dimension 3/2^0 dp
+//!     None => .., // both say the same
 //! }
+//! let stacks = Stacks::two(&old, &new);
+//! match compare(alloc, stacks, old_id, new_id, &phones, 100_000)? {
+//!     Some(compared) => .., // compared.changes: dimension 4/2^0 dp -> dimension 3/2^0 dp, in landscape
+//!     None => .., // more nodes than the limit
+//! }
+//! write_label(&label, &mut out)?; // android:dimen/margin
 //! ```
 #![tactic(auto)]
 
 mod change;
 mod comparison;
+mod content;
+mod device_content;
+mod difference;
 mod grouped;
-mod itself;
-mod outcome;
+mod label_text;
+mod laws;
+mod package;
+mod pair;
 mod pair_box;
-mod resource;
-mod told;
+mod quoted;
+mod read_alike;
+mod row_key;
+mod stacks;
 mod tree;
+mod value_content;
+mod value_text;
 
+pub use answer_text::bags_themes::End;
+pub use answer_text::{Device, ResId, Stack};
 pub use cert_maker::ConfigBox;
-pub use change::Change;
-pub use itself::compare_with_itself;
-pub use joined_boxes::{Coord, Locale, Values, write_locale};
-pub use outcome::{Outcome, Outcomes, compare_stacks};
-pub use resource_content::{
-    Content, Label, NamePair, ResId, RowContent, Sides, Stack, name_pairs, write_label,
-};
+pub use change::{Change, Compared};
+pub use comparison::compare;
+pub use config_box::{Coord, Locale, Values, write_locale};
+pub use content::{BrokenString, Content, Quantity, RowContent, RowKey, ValueContent};
+pub use device_content::content_at;
+pub use difference::{Difference, RowDifference, difference_at, difference_of_ends};
+pub use label_text::write_label;
+pub use laws::{difference_tells, trace_tells_content};
+pub use names::{Label, NamePair, NamedStack, Sides, name_pairs};
+pub use package::write_package;
+pub use stacks::Stacks;
+pub use value_text::{write_row_key, write_value_content};

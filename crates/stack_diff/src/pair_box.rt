@@ -1,20 +1,27 @@
 //! The boxes of open paths, where two stacks are asked.
 
-ghost use Rattle.std.specs.Prelude.{◌≡◌, ℕ, List, [], ◌∷◌, ◌++◌, IfOk, MatchOption};
+ghost use Rattle.std.specs.Prelude.{◌≡◌, ℕ, List, [], ◌∷◌, ◌++◌, IfOk};
 ghost use Rattle.cert_maker.specs.cert_checker.config_record.DeviceSeen.{device_numbers};
 ghost use Rattle.cert_maker.specs.cert_checker.overlay_map.Layer.{LayerOf};
 ghost use Rattle.cert_maker.specs.cert_checker.reference_resolver.Trace.{Trace};
 ghost use Rattle.cert_maker.specs.box_answers.Members.{IsMember, IsBox};
 ghost use Rattle.cert_maker.specs.cert_checker.box_trace.OpenBox.{IsReached};
-ghost use Rattle.cert_maker.specs.cert_checker.box_trace.Parting.{IsToldApart};
 ghost use Rattle.cert_maker.specs.config_box.Tests.{test_of};
 ghost use Rattle.cert_maker.specs.Growth.{CanBeAsked};
-ghost use Rattle.stack_diff.specs.Sides.{both_traces};
-ghost use Rattle.stack_diff.specs.PairBox.{members_of, HaveOneTrace, IsOpen, PartsBoth, OpensHalves};
+ghost use Rattle.stack_diff.specs.PairBox.{members_of, IsTraceOf, IsOpen, IsPairTrace, OpensHalves};
 
-use crate::resource::Resource;
+use crate::pair::Pair;
+use answer_text::bags_themes::End;
 use cert_maker::{CommonTrace, ConfigBox, OpenBox, OutOfMemory, Parting, Split, Stack, Test};
 use std::alloc::Global;
+
+/// What all members of a box have in common in two stacks.
+pub(crate) enum PairTrace<'a> {
+    /// They have one trace in either, with these ends.
+    One { before: End, after: End },
+    /// They part at this question in one of them.
+    Parted(Parting<'a>),
+}
 
 /// The box of an open path, and how far all its members go by the same steps in either stack.
 #[derive(Drop)]
@@ -27,19 +34,28 @@ impl<'a, 's> PairBox<'a, 's> {
     /// A whole box, where nothing of either resource is asked yet.
     pub(crate) fn whole(
         alloc: Global,
-        before: Resource<'_, 'a>,
-        after: Resource<'_, 'a>,
+        pair: Pair<'_, 'a>,
         members: &ConfigBox,
     ) -> Result<PairBox<'a, 's>, OutOfMemory>
         ensures members { IfOk result (λ part. members_of part ≡ members.now) }
-        ensures open { IfOk result (IsOpen before.entry after.entry) }
+        ensures open { IfOk result (IsOpen pair.entry) }
         ensures sets { IfOk result (λ _. IsBox members.now) }
     {
         let of_before = members.shared(alloc)?;
         let of_after = members.shared(alloc)?;
         Ok(PairBox {
-            before: OpenBox::whole_of_content(alloc, before.stack.stack(), before.id, of_before)?,
-            after: OpenBox::whole_of_content(alloc, after.stack.stack(), after.id, of_after)?,
+            before: OpenBox::whole_of_content(
+                alloc,
+                pair.before.stack.stack(),
+                pair.before.id,
+                of_before,
+            )?,
+            after: OpenBox::whole_of_content(
+                alloc,
+                pair.after.stack.stack(),
+                pair.after.id,
+                of_after,
+            )?,
         })
     }
 
@@ -49,23 +65,28 @@ impl<'a, 's> PairBox<'a, 's> {
         &self.before.members
     }
 
-    /// A question at which the members part in one of the stacks; or none, where they have one trace in either.
-    pub(crate) fn parting(
+    /// What the traces of all members have in common in either stack.
+    pub(crate) fn trace(
         &mut self,
         alloc: Global,
-        before: Resource<'_, 'a>,
-        after: Resource<'_, 'a>,
-    ) -> Result<Option<Parting<'a>>, OutOfMemory>
-        requires { IsOpen before after self.old }
+        pair: Pair<'_, 'a>,
+    ) -> Result<PairTrace<'a>, OutOfMemory>
+        requires { IsOpen pair self.old }
         ensures members { members_of self.new ≡ members_of self.old }
-        ensures open { IsOpen before.entry after.entry self.new }
-        ensures parts { IfOk result (λ parting. MatchOption parting (HaveOneTrace (IsMember (members_of self.old)) (both_traces before.entry after.entry)) (PartsBoth before.entry after.entry (members_of self.old))) }
+        ensures open { IsOpen pair.entry self.new }
+        ensures trace { IfOk result (IsPairTrace pair.entry (members_of self.old)) }
     {
-        if let Some(parting) = parting_in(alloc, before.stack.stack(), &mut self.before)? {
-            return Ok(Some(parting));
+        // Either goes on as far as it can, so that its halves do not ask again what it has passed.
+        let before = trace_in(alloc, pair.before.stack.stack(), &mut self.before)?;
+        let after = trace_in(alloc, pair.after.stack.stack(), &mut self.after)?;
+        let before = match before {
+            CommonTrace::One(end) => end,
+            CommonTrace::Mixed(parting) => return Ok(PairTrace::Parted(parting)),
+        };
+        match after {
+            CommonTrace::One(after) => Ok(PairTrace::One { before, after }),
+            CommonTrace::Mixed(parting) => Ok(PairTrace::Parted(parting)),
         }
-        let parting = parting_in(alloc, after.stack.stack(), &mut self.after)?;
-        Ok(parting)
     }
 
     /// Opens the halves by a test, the one with yes last.
@@ -101,7 +122,7 @@ impl<'a, 's> PairBox<'a, 's> {
         requires same { self.now.after.members ≡ self.now.before.members }
         requires within { (d : List ℕ) → IsMember half d → IsMember (members_of self.now) d }
         ensures members { IfOk result (λ part. members_of part ≡ half) }
-        ensures open { IfOk result (λ part. (before after : Resource) → IsOpen before after self.now → IsOpen before after part) }
+        ensures open { IfOk result (λ part. (pair : Pair) → IsOpen pair self.now → IsOpen pair part) }
     {
         let shared = half.shared(alloc)?;
         Ok(PairBox {
@@ -111,20 +132,23 @@ impl<'a, 's> PairBox<'a, 's> {
     }
 }
 
-ghost use Rattle.stack_diff.specs.declared.resource.Resource.{Resource};
+ghost use Rattle.stack_diff.specs.declared.pair.Pair.{Pair};
 
-// The same of one stack.
-fn parting_in<'a, 's>(
+// The same of one stack; where they part, at the weightiest question.
+fn trace_in<'a, 's>(
     alloc: Global,
     stack: &Stack<'a>,
     part: &mut OpenBox<'a, 's>,
-) -> Result<Option<Parting<'a>>, OutOfMemory>
+) -> Result<CommonTrace<'a>, OutOfMemory>
     ensures members { part.new.members ≡ part.old.members }
     ensures reached { (trace : List ℕ → Trace) → IsReached stack.now trace part.old → IsReached stack.now trace part.new }
-    ensures parts { IfOk result (λ parting. (trace : List ℕ → Trace) → IsReached stack.now trace part.old → MatchOption parting (HaveOneTrace (IsMember part.old.members) trace) (λ parting. IsToldApart parting part.old.members trace)) }
+    ensures trace { IfOk result (λ common. (trace : List ℕ → Trace) → IsReached stack.now trace part.old → IsTraceOf trace part.old.members common) }
 {
     match part.common_trace(alloc, stack)? {
-        CommonTrace::One(_) => Ok(None),
-        CommonTrace::Mixed(first) => Ok(Some(part.weightiest_parting(alloc, first)?)),
+        CommonTrace::One(end) => Ok(CommonTrace::One(end)),
+        CommonTrace::Mixed(first) => {
+            let parting = part.weightiest_parting(alloc, first)?;
+            Ok(CommonTrace::Mixed(parting))
+        }
     }
 }

@@ -1,19 +1,29 @@
 //! The tree that parts a box until all members of each part have one trace in either stack.
 
-ghost use Rattle.std.specs.Prelude.{◌≡◌, ℕ, List, [], ◌∷◌, ◌++◌, ◌+◌, IfOk};
-ghost use Rattle.stack_diff.specs.PairBox.{IsOpen};
-ghost use Rattle.stack_diff.specs.Tree.{AddsNode, IsGrown};
+ghost use Rattle.std.specs.Prelude.{◌≡◌, ℕ, List, [], ◌∷◌, ◌++◌, ◌+◌, IfOk, OnOk};
+ghost use Rattle.cert_maker.specs.box_answers.Members.{IsMember};
+ghost use Rattle.stack_diff.specs.Sides.{pair_traces};
+ghost use Rattle.stack_diff.specs.PairBox.{HaveOneTrace, EndAt, IsOpen};
+ghost use Rattle.stack_diff.specs.Tree.{TellsLeaf, AddsNode, IsGrown};
 
-use crate::pair_box::PairBox;
-use crate::resource::Resource;
-use crate::told::Told;
+use crate::difference::{Difference, difference_of_ends};
+use crate::pair::Pair;
+use crate::pair_box::{PairBox, PairTrace};
+use answer_text::bags_themes::End;
 use cert_maker::{ConfigBox, OutOfMemory, parting_test};
 use std::alloc::Global;
 
-/// What the leaves of a tree say where the two stacks differ, and how many nodes it has.
+/// How the two stacks differ for all members of a leaf.
 #[derive(Drop)]
-pub(crate) struct Leaves {
-    pub(crate) told: Vec<Told>,
+pub(crate) struct Leaf<'a> {
+    pub(crate) difference: Difference<'a>,
+    pub(crate) members: ConfigBox,
+}
+
+/// The leaves of a tree where the two stacks differ, and how many nodes it has.
+#[derive(Drop)]
+pub(crate) struct Leaves<'a> {
+    pub(crate) told: Vec<Leaf<'a>>,
     pub(crate) nodes: usize,
 }
 
@@ -21,17 +31,16 @@ pub(crate) struct Leaves {
 /// so it is given up where nodes and open boxes together exceed the limit.
 pub(crate) fn grow_tree<'a>(
     alloc: Global,
-    before: Resource<'_, 'a>,
-    after: Resource<'_, 'a>,
+    pair: Pair<'_, 'a>,
     members: &ConfigBox,
     most: usize,
-) -> Result<Option<Leaves>, OutOfMemory>
-    ensures { IfOk result (IsGrown before.entry after.entry members.now most) }
+) -> Result<Option<Leaves<'a>>, OutOfMemory>
+    ensures { IfOk result (IsGrown pair.entry members.now most) }
 {
     let mut nodes: usize = 0;
     let mut told = Vec::new(alloc);
     let mut open_boxes = Vec::new(alloc);
-    open_boxes.push(PairBox::whole(alloc, before, after, members)?)?;
+    open_boxes.push(PairBox::whole(alloc, pair, members)?)?;
     'boxes: loop {
         if nodes as u128 + open_boxes.len() as u128 > most as u128 {
             return Ok(None);
@@ -39,33 +48,58 @@ pub(crate) fn grow_tree<'a>(
         let Some(part) = open_boxes.pop() else {
             return Ok(Some(Leaves { told, nodes }));
         };
-        add_node(alloc, before, after, part, &mut open_boxes, &mut told)?;
+        add_node(alloc, pair, part, &mut open_boxes, &mut told)?;
         nodes += 1;
     }
 }
 
-/// Adds the node to which the members of an open box come: a test, which opens its halves, or a leaf, which tells what
-/// they load where the stacks differ.
+/// Adds the node to which the members of an open box come: a test, which opens its halves, or a leaf, which tells how
+/// the stacks differ for them.
 fn add_node<'a, 's>(
     alloc: Global,
-    before: Resource<'_, 'a>,
-    after: Resource<'_, 'a>,
+    pair: Pair<'_, 'a>,
     part: PairBox<'a, 's>,
     open_boxes: &mut Vec<PairBox<'a, 's>>,
-    told: &mut Vec<Told>,
+    told: &mut Vec<Leaf<'a>>,
 ) -> Result<(), OutOfMemory>
-    requires { IsOpen before after part }
-    ensures { IfOk result (λ _. AddsNode before.entry after.entry part.entry open_boxes.old.items open_boxes.new.items told.old.items told.new.items) }
+    requires { IsOpen pair part }
+    ensures { IfOk result (λ _. AddsNode pair.entry part.entry open_boxes.old.items open_boxes.new.items told.old.items told.new.items) }
 {
     let mut part = part;
-    if let Some(parting) = part.parting(alloc, before, after)? {
-        let test = parting_test(alloc, part.members(), &parting)?;
-        part.open_halves(alloc, &test, open_boxes)?;
-        return Ok(());
-    }
-    let members = part.members().shared(alloc)?;
-    if let Some(leaf) = Told::of(alloc, before, after, members)? {
-        told.push(leaf)?;
+    let parting = match part.trace(alloc, pair)? {
+        PairTrace::Parted(parting) => parting,
+        PairTrace::One { before, after } => {
+            tell_leaf(alloc, pair, before, after, part.members(), told)?;
+            return Ok(());
+        }
+    };
+    let test = parting_test(alloc, part.members(), &parting)?;
+    part.open_halves(alloc, &test, open_boxes)?;
+    Ok(())
+}
+
+// Tells how the stacks differ for these members, which come to these ends, if they do.
+fn tell_leaf<'a>(
+    alloc: Global,
+    pair: Pair<'_, 'a>,
+    before: End,
+    after: End,
+    members: &ConfigBox,
+    told: &mut Vec<Leaf<'a>>,
+) -> Result<(), OutOfMemory>
+    requires one { HaveOneTrace (IsMember members.now) (pair_traces pair) }
+    requires ends { EndAt pair members.now before after }
+    ensures { OnOk result (TellsLeaf pair.entry members.now told.old.items told.new.items) }
+{
+    let device = members.corner();
+    let (old, new) = (pair.before.stack, pair.after.stack);
+    let found = difference_of_ends(alloc, old, before, new, after, &device)?;
+    if let Some(difference) = found {
+        let members = members.shared(alloc)?;
+        told.push(Leaf {
+            difference,
+            members,
+        })?;
     }
     Ok(())
 }

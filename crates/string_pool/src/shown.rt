@@ -12,7 +12,7 @@ use crate::plain::{is_plain_ascii, is_plain_text};
 use crate::text::Text;
 use crate::units::first_character;
 use arrayvec::ArrayVec;
-use hex_text::write_hex;
+use chunk_walk::write_hex;
 use std::io::{self, Write};
 
 /// Writes what was asked for: a string between quotes, or the name of its fault behind `!`.

@@ -1,5 +1,10 @@
 pub mod AnySteps
+pub mod ToldSteps
 pub mod LayerLaws
 pub mod WarningSteps
 pub mod QualifierSteps
 pub mod QualifierLaws
+pub mod FindingsSteps
+pub mod EntriesSteps
+pub mod CountedSteps
+pub mod DiffersSteps

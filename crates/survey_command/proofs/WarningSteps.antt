@@ -4,11 +4,11 @@ use Rattle.std.specs.Prelude.{◌&&◌, ◌||◌}
 use Rattle.std.specs.List.{list_any}
 use Rattle.std.proofs.Math.Path.{fun_ext}
 use Rattle.std.proofs.lemmas.Bool.{ne_eqb}
-use Rattle.table_survey.specs.declared.finding.Finding.{Finding}
-use Rattle.table_survey.specs.declared.finding.Finding.TheVariants.{ShortOffsets, TypeFlags, Gender, NewerQualifier, CompactEntry, EntryFlags, Library, Overlayable, StagedAlias, UnknownChunk, DynamicReference, DynamicAttribute, SetAside, Locale, BoxLocale}
-use Rattle.table_survey.specs.Finding.{all_findings, differs, place_of}
-use Rattle.table_survey.specs.Survey.{Note}
-use Rattle.table_survey.specs.Counted.{notes_with, some_differs, tally_of}
+use Rattle.survey_command.specs.declared.finding.Finding.{Finding}
+use Rattle.survey_command.specs.declared.finding.Finding.TheVariants.{ShortOffsets, TypeFlags, Gender, NewerQualifier, CompactEntry, EntryFlags, Library, Overlayable, StagedAlias, UnknownChunk, DynamicReference, DynamicAttribute, BrokenString, SetAside, Locale, BoxLocale}
+use Rattle.survey_command.specs.Finding.{all_findings, differs, place_of}
+use Rattle.survey_command.specs.Findings.{Note}
+use Rattle.survey_command.specs.Counted.{notes_with, some_differs, tally_of}
 use Rattle.survey_command.specs.LayerNotes.{notes_of_layer}
 use Rattle.survey_command.specs.WarningsLaw.{WarningsTell, is_warned}
 use Rattle.survey_command.proofs.LayerLaws.{differs-of_layer}
@@ -49,6 +49,7 @@ one-note StagedAlias = refl
 one-note UnknownChunk = refl
 one-note DynamicReference = refl
 one-note DynamicAttribute = refl
+one-note BrokenString = refl
 one-note SetAside = refl
 one-note Locale = refl
 one-note BoxLocale = refl

@@ -8,6 +8,15 @@ pub mod LayersText
 pub mod WarningsLaw
 pub mod Refused
 pub mod SurveyOutput
+pub mod Survey
 pub mod OpenedSeen
 pub mod Counting
 pub mod Unfolded
+pub mod Finding
+pub mod Findings
+pub mod Counted
+pub mod Types
+pub mod Entries
+pub mod Chunks
+pub mod Differs
+pub use Rattle.chunk_walk.specs as chunk_walk

@@ -29,6 +29,11 @@ languages_of_scripts =
     ∷ codes "rif" ∷ codes "sd" ∷ codes "sr" ∷ codes "tg" ∷ codes "ug" ∷ codes "unr" ∷ codes "uz" ∷ codes "yue" ∷ codes "zh"
     ∷ [])
 
+-- The pseudolocales en-XA and ar-XB, which have scripts of their own (AOSP: LIKELY_SCRIPTS).
+abbrev pub pseudolocales : List ℕ
+pseudolocales =
+    (65536 * language_number (codes "en") + part_number (codes "XA")) ∷ (65536 * language_number (codes "ar") + part_number (codes "XB")) ∷ []
+
 abbrev pub is_one_of : List ℕ → ℕ → Bool
 is_one_of languages language = list_any (λ other. other == language) languages
 
@@ -38,11 +43,17 @@ is_filipino language = is_one_of filipino_languages language
 unfoldable pub has_scripts : ℕ → Bool
 has_scripts language = is_one_of languages_of_scripts language
 
+unfoldable pub is_pseudolocale : ℕ → Bool
+is_pseudolocale locale = is_one_of pseudolocales locale
+
+unfoldable pub has_pseudolocale : ℕ → Bool
+has_pseudolocale language = is_one_of (map language_in pseudolocales) language
+
 -- AOSP matches two locales of different regions where their scripts are the same, and a language alone not with a region
 -- that writes it in another script.
 abbrev pub regions_differ : ℕ → ℕ → Bool
 regions_differ row_locale device_locale =
-    if region_in row_locale == 0 then not (region_in device_locale == 0) && has_scripts (language_in row_locale)
+    if region_in row_locale == 0 then not (region_in device_locale == 0) && (has_scripts (language_in row_locale) || is_pseudolocale device_locale)
     else not (region_in row_locale == region_in device_locale)
 
 -- A row with this locale, and one with a script or a variant beside it, may be matched by AOSP at a device with the other
@@ -56,4 +67,4 @@ differs_at row_locale set_aside device_locale =
 -- there is such a device
 unfoldable pub differs_somewhere : ℕ → Bool → Bool
 differs_somewhere row_locale set_aside =
-    set_aside || not (language_in row_locale == 0) && (not (region_in row_locale == 0) || (is_filipino (language_in row_locale) || has_scripts (language_in row_locale)))
+    set_aside || not (language_in row_locale == 0) && (not (region_in row_locale == 0) || (is_filipino (language_in row_locale) || (has_scripts (language_in row_locale) || has_pseudolocale (language_in row_locale))))

@@ -1,22 +1,22 @@
 -- What the command `survey` prints.
-use Rattle.std.specs.Prelude.{ℕ, ◌||◌, Bool, List, ◌++◌, Option, Some, None, Result, Ok, Err}
+use Rattle.std.specs.Prelude.{ℕ, ◌||◌, Bool, List, ◌++◌, Option, Some, None, is_some, Result, Ok, Err}
 use Rattle.std.specs.List.{flat_map, list_any, enumerate_from}
 use Rattle.contract_words.specs.Faults.{◌>>=◌}
-use Rattle.command_base.specs.cert_tree.config_box.config_record.declared.coord.Coord as coord
 use Rattle.command_base.specs.cert_tree.config_box.config_record.Coord.{all_coords}
 use Rattle.command_base.specs.cert_tree.box_answers.NumberSet.{SetOf}
 use Rattle.command_base.specs.cert_tree.config_box.BoxJson.{box_in}
 use Rattle.command_base.specs.overlay_map.Layer.{LayerOf}
-use Rattle.command_base.specs.fault_text.declared.fault.ToolFault.{ToolFault}
-use Rattle.command_base.specs.fault_text.declared.fault.ToolFault.TheVariants.{LayerTable}
-use Rattle.command_base.specs.fault_text.ToolFault.{fault_of_box}
+use Rattle.command_base.specs.declared.fault.ToolFault.{ToolFault}
+use Rattle.command_base.specs.declared.fault.ToolFault.TheVariants.{LayerTable}
+use Rattle.command_base.specs.ToolFault.{fault_of_box}
 use Rattle.command_base.specs.Output.{Output, negative_if}
 use Rattle.command_base.specs.StackBytes.{LayerBytes, stack_in}
 use Rattle.command_base.specs.MapErr.{map_err}
+use Rattle.names.specs.Shared.{shared_ids, shared_of}
 use Rattle.survey_command.specs.LayerNotes.{layer_differs}
 use Rattle.survey_command.specs.Qualifiers.{rows_in_stack, numbers_at, spread_of}
 use Rattle.survey_command.specs.BoxGaps.{locales_of_box, lacks}
-use Rattle.survey_command.specs.SurveyText.{qualifier_line, lacking_line}
+use Rattle.survey_command.specs.SurveyText.{shared_line, qualifier_line, lacking_line}
 use Rattle.survey_command.specs.LayersText.{layers_text}
 use Rattle.survey_command.specs.Refused.{refused_output}
 
@@ -62,9 +62,9 @@ lacks_some inputs = list_any (lacks inputs.sets (rows_in_stack inputs.stack)) al
 
 -- What is printed of layers and a box that were opened. It is done where nothing makes an answer differ.
 unfoldable pub survey_answer : List LayerBytes → SurveyInputs → Output
-survey_answer layers inputs = let locales = locales_of_box inputs.sets in record {
-  status = negative_if (layers_differ inputs.stack locales layers || lacks_some inputs);
-  text = layers_text inputs.stack locales layers ++ (qualifiers_text inputs.stack ++ lacking_text inputs);
+survey_answer layers inputs = let locales = locales_of_box inputs.sets in let shared = shared_of (shared_ids inputs.stack) in record {
+  status = negative_if (layers_differ inputs.stack locales layers || is_some shared || lacks_some inputs);
+  text = layers_text inputs.stack locales layers ++ (shared_line shared ++ (qualifiers_text inputs.stack ++ lacking_text inputs));
 }
 
 -- what is printed of what layers and a box mean

@@ -1,5 +1,5 @@
 -- What a survey found, as text. A line begins with `warning` where an answer can differ by it from a device's.
-use Rattle.std.specs.Prelude.{ℕ, ◌==◌, Bool, List, [], ◌∷◌, ◌++◌, codes, if◌then◌else◌}
+use Rattle.std.specs.Prelude.{ℕ, ◌==◌, Bool, List, [], ◌∷◌, ◌++◌, codes, Option, Some, None, if◌then◌else◌}
 use Rattle.std.specs.List.{flat_map}
 use Rattle.std.specs.Fmt.{decimal}
 use Rattle.command_base.specs.cert_tree.config_box.config_record.declared.coord.Coord as coord
@@ -9,13 +9,14 @@ use Rattle.command_base.specs.cert_tree.config_box.config_record.Locale.{locale_
 use Rattle.command_base.specs.overlay_map.res_value.ResId.{id_text}
 use Rattle.command_base.specs.answer_text.LayerText.{layer_text}
 use Rattle.command_base.specs.answer_text.NamedText.{named_number, named_coord}
-use Rattle.table_survey.specs.declared.finding.Finding.{Finding}
-use Rattle.table_survey.specs.declared.site.Site.{Site}
-use Rattle.table_survey.specs.declared.site.Site.TheVariants.{Chunk, Row}
-use Rattle.table_survey.specs.declared.survey.Tally.{Tally}
-use Rattle.table_survey.specs.Finding.{all_findings, name_of, differs}
-use Rattle.table_survey.specs.Survey.{Note}
-use Rattle.table_survey.specs.Counted.{notes_with, tally_of}
+use Rattle.names.specs.declared.shared.SharedNames.{SharedNames}
+use Rattle.survey_command.specs.declared.finding.Finding.{Finding}
+use Rattle.survey_command.specs.declared.site.Site.{Site}
+use Rattle.survey_command.specs.declared.site.Site.TheVariants.{Chunk, Row}
+use Rattle.survey_command.specs.declared.findings.Tally.{Tally}
+use Rattle.survey_command.specs.Finding.{all_findings, name_of, differs}
+use Rattle.survey_command.specs.Findings.{Note}
+use Rattle.survey_command.specs.Counted.{notes_with, tally_of}
 use Rattle.survey_command.specs.declared.qualifiers.Spread.{Spread}
 
 -- the place of a chunk in its file, or the id of a row
@@ -38,6 +39,12 @@ found_line layer finding tally =
 -- a line for each finding that the notes of a layer have, in the order of findings
 unfoldable pub notes_text : ℕ → List Note → List ℕ
 notes_text layer notes = flat_map (λ finding. found_line layer finding (tally_of (notes_with finding notes))) all_findings
+
+-- the line `warning shared-names N first ID`, where some ids have names that stand for others
+unfoldable pub shared_line : Option SharedNames → List ℕ
+shared_line None = []
+shared_line (Some shared) =
+    codes "warning " ++ named_number (codes "shared-names") shared.count ++ codes " first " ++ id_text shared.first.0 ++ 10 ∷ []
 
 -- a number of a coordinate; that of a locale is its text
 unfoldable pub number_text : coord.Coord → ℕ → List ℕ

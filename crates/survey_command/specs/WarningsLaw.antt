@@ -3,10 +3,10 @@ use Rattle.std.specs.Prelude.{◌≡◌, ℕ, ◌==◌, ◌&&◌, not, Bool, Lis
 use Rattle.std.specs.List.{list_any}
 use Rattle.command_base.specs.overlay_map.Layer.{LayerOf}
 use Rattle.command_base.specs.StackBytes.{LayerBytes}
-use Rattle.table_survey.specs.declared.finding.Finding.{Finding}
-use Rattle.table_survey.specs.Finding.{all_findings, differs}
-use Rattle.table_survey.specs.Survey.{Note}
-use Rattle.table_survey.specs.Counted.{notes_with, tally_of}
+use Rattle.survey_command.specs.declared.finding.Finding.{Finding}
+use Rattle.survey_command.specs.Finding.{all_findings, differs}
+use Rattle.survey_command.specs.Findings.{Note}
+use Rattle.survey_command.specs.Counted.{notes_with, tally_of}
 use Rattle.survey_command.specs.LayerNotes.{notes_of_layer, layer_differs}
 
 -- a finding of some notes has a line, and that is a warning

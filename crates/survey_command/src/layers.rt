@@ -1,24 +1,22 @@
 //! What the layers of a stack have that a device may read otherwise.
 
 ghost use Rattle.std.specs.Prelude.{◌≡◌, map, IfOk};
-ghost use Rattle.std.specs.List.{flat_map};
 ghost use Rattle.contract_words.specs.Writes.{Writes};
 ghost use Rattle.command_base.specs.cert_tree.box_answers.NumberSet.{locale_numbers};
 ghost use Rattle.command_base.specs.StackBytesSeen.{layer_bytes};
-ghost use Rattle.table_survey.specs.Survey.{noted};
-ghost use Rattle.table_survey.specs.Counted.{Counts};
-ghost use Rattle.survey_command.specs.RowNotes.{notes_of_row};
-ghost use Rattle.survey_command.specs.LayerNotes.{rows_at, notes_of_layer, layer_differs};
+ghost use Rattle.survey_command.specs.Findings.{noted};
+ghost use Rattle.survey_command.specs.Counted.{Counts};
+ghost use Rattle.survey_command.specs.LayerNotes.{notes_of_rows, notes_of_layer, layer_differs};
 ghost use Rattle.survey_command.specs.SurveyOutput.{layers_differ};
 ghost use Rattle.survey_command.specs.LayersText.{layer_lines, layers_text};
 
+use crate::findings::Findings;
 use crate::rows::note_rows;
-use crate::text::write_survey;
+use crate::text::write_findings;
 use command_base::LayerParts;
 use command_base::answer_text::Stack;
 use command_base::cert_tree::Locale;
 use std::io::{self, Write};
-use table_survey::Survey;
 
 /// Writes what is found in each layer, where these are the locales of the box, and says whether an answer can differ
 /// by it from a device's.
@@ -50,33 +48,33 @@ fn write_layer<W: Write + Drop>(
     ensures text { Writes W.contents out.old out.new result (layer_lines stack.now (locale_numbers locales.now) (place, layer_bytes layer.entry)) }
     ensures differs { IfOk result (λ differs. differs ≡ layer_differs stack.now (locale_numbers locales.now) (place, layer_bytes layer.entry)) }
 {
-    let survey = layer_survey(stack, locales, place, layer);
-    write_survey(place, &survey, out)?;
-    Ok(survey.differs())
+    let findings = layer_findings(stack, locales, place, layer);
+    write_findings(place, &findings, out)?;
+    Ok(findings.differs())
 }
 
 // What the layer at a place has.
-fn layer_survey(
+fn layer_findings(
     stack: &Stack<'_>,
     locales: &[Locale],
     place: usize,
     layer: LayerParts<&[u8]>,
-) -> Survey
+) -> Findings
     ensures notes { Counts result (notes_of_layer stack.now (locale_numbers locales.now) (place, layer_bytes layer.entry)) }
     ensures differs { result.differs ≡ layer_differs stack.now (locale_numbers locales.now) (place, layer_bytes layer.entry) }
 {
     let (bytes, _) = layer;
-    let mut survey = Survey::none();
-    survey.add_chunks(bytes);
-    note_rows_at(stack, locales, place, &mut survey);
-    survey
+    let mut findings = Findings::none();
+    findings.add_chunks(bytes);
+    note_rows_at(stack, locales, place, &mut findings);
+    findings
 }
 
-#[tactic(auto, unfolding(crate::specs::LayerNotes::rows_at), using(table_survey::proofs::SurveySteps::noted_steps))]
-fn note_rows_at(stack: &Stack<'_>, locales: &[Locale], place: usize, survey: &mut Survey)
-    ensures { survey.new ≡ noted survey.old (flat_map (notes_of_row (locale_numbers locales.now)) (rows_at stack.now place)) }
+#[tactic(auto, unfolding(crate::specs::LayerNotes::rows_at, crate::specs::LayerNotes::strings_at), using(crate::proofs::FindingsSteps::noted_steps))]
+fn note_rows_at(stack: &Stack<'_>, locales: &[Locale], place: usize, findings: &mut Findings)
+    ensures { findings.new ≡ noted findings.old (notes_of_rows stack.now (locale_numbers locales.now) place) }
 {
     if let Some(table) = stack.layer_table(place) {
-        note_rows(locales, table, survey);
+        note_rows(locales, table, findings);
     }
 }

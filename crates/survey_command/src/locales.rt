@@ -1,7 +1,7 @@
 //! Locales that AOSP compares otherwise, by the numbers of their bytes.
 
 ghost use Rattle.std.specs.Prelude.{◌≡◌};
-ghost use Rattle.survey_command.specs.Locales.{language_in, region_in, is_one_of, is_filipino, has_scripts, regions_differ, differs_at, differs_somewhere};
+ghost use Rattle.survey_command.specs.Locales.{language_in, region_in, is_one_of, is_filipino, has_scripts, is_pseudolocale, has_pseudolocale, regions_differ, differs_at, differs_somewhere};
 
 /// How far the language stands above the region.
 const REGIONS: u32 = 65536;
@@ -15,6 +15,12 @@ const LANGUAGES_OF_SCRIPTS: [u32; 18] = [
     0x617a, 0x6861, 0x6b6b, 0x6b75, 0x6b79, 0xb40c, 0x6d6e, 0x6d73, 0x7061, 0x9511, 0x7364, 0x7372,
     0x7467, 0x7567, 0xc5b4, 0x757a, 0x9298, 0x7a68,
 ];
+
+/// `en-XA` and `ar-XB`.
+const PSEUDOLOCALES: [u32; 2] = [0x656e_5841, 0x6172_5842];
+
+/// Their languages.
+const LANGUAGES_OF_PSEUDOLOCALES: [u32; 2] = [0x656e, 0x6172];
 
 fn language_in(locale: u32) -> u32
     ensures { result ≡ language_in locale }
@@ -48,11 +54,26 @@ fn has_scripts(language: u32) -> bool
     is_one_of(&LANGUAGES_OF_SCRIPTS, language)
 }
 
+#[tactic(auto, unfolding(crate::specs::Locales::is_pseudolocale))]
+fn is_pseudolocale(locale: u32) -> bool
+    ensures { result ≡ is_pseudolocale locale }
+{
+    is_one_of(&PSEUDOLOCALES, locale)
+}
+
+#[tactic(auto, unfolding(crate::specs::Locales::has_pseudolocale))]
+fn has_pseudolocale(language: u32) -> bool
+    ensures { result ≡ has_pseudolocale language }
+{
+    is_one_of(&LANGUAGES_OF_PSEUDOLOCALES, language)
+}
+
 fn regions_differ(row_locale: u32, device_locale: u32) -> bool
     ensures { result ≡ regions_differ row_locale device_locale }
 {
     if region_in(row_locale) == 0 {
-        region_in(device_locale) != 0 && has_scripts(language_in(row_locale))
+        region_in(device_locale) != 0
+            && (has_scripts(language_in(row_locale)) || is_pseudolocale(device_locale))
     } else {
         region_in(row_locale) != region_in(device_locale)
     }
@@ -83,5 +104,9 @@ pub(crate) fn differs_somewhere(row_locale: u32, set_aside: bool) -> bool
     if set_aside {
         return true;
     }
-    language != 0 && (region_in(row_locale) != 0 || is_filipino(language) || has_scripts(language))
+    language != 0
+        && (region_in(row_locale) != 0
+            || is_filipino(language)
+            || has_scripts(language)
+            || has_pseudolocale(language))
 }

@@ -1,13 +1,14 @@
 //! What a survey is asked of: layers, and perhaps a box, opened from their bytes.
 
-ghost use Rattle.std.specs.Prelude.{◌≡◌, map};
+ghost use Rattle.std.specs.Prelude.{◌≡◌, map, IfOk};
 ghost use Rattle.std.specs.Option.{option_map};
 ghost use Rattle.contract_words.specs.Exact.{GivesOr};
 ghost use Rattle.command_base.specs.cert_tree.config_box.config_record.declared.coord.Coord as coord;
 ghost use Rattle.command_base.specs.cert_tree.box_answers.NumberSet.{locale_numbers};
-ghost use Rattle.command_base.specs.fault_text.declared.fault.ToolFault.TheVariants.{OutOfMemory};
+ghost use Rattle.command_base.specs.declared.fault.ToolFault.TheVariants.{OutOfMemory};
 ghost use Rattle.command_base.specs.Output.{IsOfInput};
 ghost use Rattle.command_base.specs.StackBytesSeen.{layer_bytes};
+ghost use Rattle.names.specs.Shared.{shared_ids, shared_of};
 ghost use Rattle.survey_command.specs.Qualifiers.{rows_in_stack, numbers_at, spread_of};
 ghost use Rattle.survey_command.specs.BoxGaps.{locales_of_box, lacks};
 ghost use Rattle.survey_command.specs.SurveyOutput.{sets_in, survey_inputs};
@@ -17,13 +18,15 @@ use crate::qualifiers::Spread;
 use command_base::answer_text::Stack;
 use command_base::cert_tree::{ConfigBox, Coord, Locale};
 use command_base::{LayerParts, ToolFault, open_stack};
-use std::alloc::Global;
+use names::{NamedStack, SharedNames};
+use std::alloc::{AllocError, Global};
 
 /// The layers and the box that a survey is asked of.
 #[derive(Drop)]
 pub(crate) struct Opened<'a> {
     pub stack: Stack<'a>,
     pub members: Option<ConfigBox>,
+    pub shared: Option<SharedNames>,
 }
 
 impl<'a> Opened<'a> {
@@ -38,10 +41,16 @@ impl<'a> Opened<'a> {
     ) -> Result<Opened<'a>, ToolFault>
         ensures value { GivesOr OutOfMemory opened_of result (survey_inputs (map layer_bytes layers.now) (option_map (λ json. json.now) box_json.entry)) }
         ensures of_input { IsOfInput result }
+        ensures shared { IfOk result (λ opened. opened.shared ≡ shared_of (shared_ids opened.stack)) }
     {
         let stack = open_stack(alloc, layers)?;
         let members = read_box(alloc, box_json)?;
-        Ok(Opened { stack, members })
+        let shared = shared_names(alloc, &stack)?;
+        Ok(Opened {
+            stack,
+            members,
+            shared,
+        })
     }
 
     /// The locales of the box.
@@ -66,6 +75,14 @@ impl<'a> Opened<'a> {
             None => false,
         }
     }
+}
+
+// The ids whose names stand for others.
+fn shared_names(alloc: Global, stack: &Stack<'_>) -> Result<Option<SharedNames>, AllocError>
+    ensures { IfOk result (λ shared. shared ≡ shared_of (shared_ids stack.now)) }
+{
+    let named = NamedStack::of(alloc, stack)?;
+    Ok(named.shared_names())
 }
 
 fn read_box(alloc: Global, box_json: Option<&[u8]>) -> Result<Option<ConfigBox>, ToolFault>

@@ -1,22 +1,21 @@
 //! What is printed where a table is refused.
 
 ghost use Rattle.std.specs.Prelude.{◌≡◌, ◌≢◌, map, Ok};
-ghost use Rattle.std.specs.List.{list_any};
 ghost use Rattle.contract_words.specs.Writes.{Writes};
-ghost use Rattle.command_base.specs.fault_text.declared.fault.ToolFault.TheVariants.{Write};
+ghost use Rattle.command_base.specs.declared.fault.ToolFault.TheVariants.{Write};
 ghost use Rattle.command_base.specs.Output.{Prints};
 ghost use Rattle.command_base.specs.StackBytesSeen.{layer_bytes};
-ghost use Rattle.survey_command.specs.Refused.{chunks_differ, refused_text, refused_output};
+ghost use Rattle.survey_command.specs.Refused.{chunks_differ, differs_where_refused, refused_text, refused_output};
 
+use crate::findings::Findings;
 use crate::layers::write_layers;
 use command_base::answer_text::Stack;
 use command_base::{LayerParts, Status, ToolFault, fault_text};
 use std::alloc::Global;
 use std::io::{self, Write};
-use table_survey::Survey;
 
-/// Prints what the chunks of all layers have, and the fault. Where no answer could differ by the
-/// chunks, the fault is the answer.
+/// Prints what the chunks of all layers have, and the fault. Where no answer could differ by the chunks of a table that is
+/// refused, the fault is the answer.
 #[tactic(auto, unfolding(crate::specs::Refused::refused_output))]
 pub(crate) fn survey_refused<W: Write + Drop>(
     alloc: Global,
@@ -27,7 +26,7 @@ pub(crate) fn survey_refused<W: Write + Drop>(
     requires { fault ≢ Write }
     ensures { Prints W.contents out.old out.new result (refused_output (map layer_bytes layers.now) fault) }
 {
-    if !some_chunks_differ(layers) {
+    if !differs_where_refused(layers, &fault) {
         return Err(fault);
     }
     write_refused(alloc, layers, &fault, out)?;
@@ -47,22 +46,23 @@ fn write_refused<W: Write + Drop>(
     fault_text(fault, out)
 }
 
-fn some_chunks_differ(layers: &[LayerParts<&[u8]>]) -> bool
-    ensures { result ≡ list_any chunks_differ (map layer_bytes layers.now) }
+fn differs_where_refused(layers: &[LayerParts<&[u8]>], fault: &ToolFault) -> bool
+    ensures { result ≡ differs_where_refused (map layer_bytes layers.now) fault.now }
 {
-    for layer in layers {
-        if chunks_differ(*layer) {
-            return true;
-        }
+    let ToolFault::LayerTable(place, _) = fault else {
+        return false;
+    };
+    match layers.get(*place) {
+        Some(layer) => chunks_differ(*layer),
+        None => false,
     }
-    false
 }
 
 fn chunks_differ(layer: LayerParts<&[u8]>) -> bool
     ensures { result ≡ chunks_differ (layer_bytes layer.entry) }
 {
     let (bytes, _) = layer;
-    let mut survey = Survey::none();
-    survey.add_chunks(bytes);
-    survey.differs()
+    let mut findings = Findings::none();
+    findings.add_chunks(bytes);
+    findings.differs()
 }

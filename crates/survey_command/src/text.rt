@@ -2,39 +2,42 @@
 
 ghost use Rattle.std.specs.List.{flat_map};
 ghost use Rattle.contract_words.specs.Writes.{Writes};
-ghost use Rattle.table_survey.specs.Finding.{all_findings};
-ghost use Rattle.table_survey.specs.Survey.{tally_in};
-ghost use Rattle.survey_command.specs.SurveyText.{site_text, weight_text, tally_text, found_line, range_text, number_text, qualifier_line, gap_text, lacks_line};
+ghost use Rattle.survey_command.specs.Finding.{all_findings};
+ghost use Rattle.survey_command.specs.Findings.{tally_in};
+ghost use Rattle.survey_command.specs.SurveyText.{site_text, weight_text, tally_text, found_line, shared_line, range_text, number_text, qualifier_line, gap_text, lacks_line};
 
+use crate::finding::Finding;
+use crate::findings::Findings;
 use crate::qualifiers::Spread;
+use crate::site::Site;
 use command_base::answer_text::{write_id, write_layer, write_named_coord, write_named_number};
 use command_base::cert_tree::{Coord, Locale, write_locale};
+use names::SharedNames;
 use std::io::{self, Write};
-use table_survey::{Finding, Site, Survey};
 
 /// Writes a line for each finding that a layer has.
 #[tactic(auto, unfolding(crate::specs::Unfolded::all_findings))]
-pub(crate) fn write_survey<W: Write + Drop>(
+pub(crate) fn write_findings<W: Write + Drop>(
     layer: usize,
-    survey: &Survey,
+    findings: &Findings,
     out: &mut W,
 ) -> io::Result<()>
-    ensures { Writes W.contents out.old out.new result (flat_map (λ finding. found_line layer finding (tally_in survey.now finding)) all_findings) }
+    ensures { Writes W.contents out.old out.new result (flat_map (λ finding. found_line layer finding (tally_in findings.now finding)) all_findings) }
 {
-    write_findings(layer, survey, &Finding::ALL, out)
+    write_each_finding(layer, findings, &Finding::ALL, out)
 }
 
 #[tactic(auto, using(crate::proofs::AnySteps::finds))]
-fn write_findings<W: Write + Drop>(
+fn write_each_finding<W: Write + Drop>(
     layer: usize,
-    survey: &Survey,
-    findings: &[Finding],
+    findings: &Findings,
+    kinds: &[Finding],
     out: &mut W,
 ) -> io::Result<()>
-    ensures { Writes W.contents out.old out.new result (flat_map (λ finding. found_line layer finding (tally_in survey.now finding)) findings.now) }
+    ensures { Writes W.contents out.old out.new result (flat_map (λ finding. found_line layer finding (tally_in findings.now finding)) kinds.now) }
 {
-    for finding in findings {
-        write_found(layer, *finding, survey, out)?;
+    for finding in kinds {
+        write_found(layer, *finding, findings, out)?;
     }
     Ok(())
 }
@@ -43,18 +46,18 @@ fn write_findings<W: Write + Drop>(
 fn write_found<W: Write + Drop>(
     layer: usize,
     finding: Finding,
-    survey: &Survey,
+    findings: &Findings,
     out: &mut W,
 ) -> io::Result<()>
-    ensures { Writes W.contents out.old out.new result (found_line layer finding (tally_in survey.now finding)) }
+    ensures { Writes W.contents out.old out.new result (found_line layer finding (tally_in findings.now finding)) }
 {
-    if survey.count(finding) == 0 {
+    if findings.count(finding) == 0 {
         return Ok(());
     }
     write_weight(finding, out)?;
     write_layer(layer, out)?;
     out.write_all(b" ")?;
-    write_tally(finding, survey, out)?;
+    write_tally(finding, findings, out)?;
     out.write_all(b"\n")
 }
 
@@ -70,12 +73,16 @@ fn write_weight<W: Write + Drop>(finding: Finding, out: &mut W) -> io::Result<()
 }
 
 #[tactic(auto, unfolding(crate::specs::SurveyText::tally_text))]
-fn write_tally<W: Write + Drop>(finding: Finding, survey: &Survey, out: &mut W) -> io::Result<()>
-    ensures { Writes W.contents out.old out.new result (tally_text finding (tally_in survey.now finding)) }
+fn write_tally<W: Write + Drop>(
+    finding: Finding,
+    findings: &Findings,
+    out: &mut W,
+) -> io::Result<()>
+    ensures { Writes W.contents out.old out.new result (tally_text finding (tally_in findings.now finding)) }
 {
-    write_named_number(finding.name(), u128::from(survey.count(finding)), out)?;
+    write_named_number(finding.name(), u128::from(findings.count(finding)), out)?;
     out.write_all(b" first ")?;
-    write_site(survey.first(finding), out)
+    write_site(findings.first(finding), out)
 }
 
 #[tactic(auto, unfolding(crate::specs::SurveyText::site_text))]
@@ -86,6 +93,24 @@ fn write_site<W: Write + Drop>(site: Site, out: &mut W) -> io::Result<()>
         Site::Chunk(place) => write!(out, "{place}"),
         Site::Row(id) => write_id(id, out),
     }
+}
+
+/// Writes the line of the ids whose names stand for others, where there are some.
+#[tactic(auto, unfolding(crate::specs::SurveyText::shared_line))]
+pub(crate) fn write_shared<W: Write + Drop>(
+    shared: Option<SharedNames>,
+    out: &mut W,
+) -> io::Result<()>
+    ensures { Writes W.contents out.old out.new result (shared_line shared) }
+{
+    let Some(shared) = shared else {
+        return Ok(());
+    };
+    out.write_all(b"warning ")?;
+    write_named_number("shared-names", shared.count as u128, out)?;
+    out.write_all(b" first ")?;
+    write_id(shared.first, out)?;
+    out.write_all(b"\n")
 }
 
 /// Writes the line of a qualifier that rows have.

@@ -7,4 +7,6 @@ pub mod RisingSteps
 pub mod MapReadSteps
 pub mod NamedSteps
 pub mod QuerySteps
+pub mod SamePath
 pub mod Cited
+pub use Rattle.command_base.proofs as command_base_proofs

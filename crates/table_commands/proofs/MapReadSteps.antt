@@ -11,7 +11,7 @@ use Rattle.json_input.proofs.EachSteps.{each-ok}
 use Rattle.command_base.specs.answer_text.res_value.ResId.{package_of}
 use Rattle.command_base.specs.answer_text.resource_table.Table.{TableOf, table_in}
 use Rattle.command_base.specs.overlay_map.IdMap.{IdPair, MapOf, check_target, checked_pair, checked_pairs, map_in, pair_item, pairs_in, pairs_of, targets_of}
-use Rattle.command_base.specs.fault_text.ToolFault.{fault_of_layer_table}
+use Rattle.command_base.specs.ToolFault.{fault_of_layer_table}
 use Rattle.command_base.specs.MapErr.{map_err}
 use Rattle.command_base.specs.StackBytes.{table_of_layer}
 use Rattle.table_commands.specs.MadeMap.{made_map}

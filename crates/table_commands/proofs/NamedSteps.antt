@@ -8,12 +8,12 @@ use Rattle.std.proofs.lemmas.Simd.{map-map}
 use Rattle.std.proofs.lemmas.Slice.Zip.{get_or-zip, length-zip}
 use Rattle.command_base.specs.overlay_map.IdMap.{IdPair, MapOf, pairs_of}
 use Rattle.command_base.specs.answer_text.res_value.declared.res_id.ResId.{ResId}
-use Rattle.command_base.specs.answer_text.resource_table.Names.{found_in, key_name_in, type_name_in}
+use Rattle.command_base.specs.answer_text.resource_table.Names.{key_name_in, type_name_in}
 use Rattle.command_base.specs.answer_text.resource_table.Table.{TableOf, rows_of}
 use Rattle.command_base.specs.answer_text.type_chunks.Row.{RowOf}
-use Rattle.name_index.specs.Names.{NameOf, found_in_tables, name_of}
-use Rattle.name_index.specs.declared.name.Name.{Name}
-use Rattle.name_index.specs.NameText.{name_text}
+use Rattle.names.specs.Names.{NameOf, found_in, found_in_tables, name_of}
+use Rattle.names.specs.declared.name.Name.{Name}
+use Rattle.names.specs.NameText.{name_text}
 use Rattle.table_commands.specs.declared.pairs.NamedTarget.{NamedTarget}
 use Rattle.table_commands.specs.FirstRows.{first_rows}
 use Rattle.table_commands.specs.MadeMap.{found_by, own_of, package_of_row, pair_of, pairs_in}

@@ -1,6 +1,7 @@
--- What the command `attr` prints.
-use Rattle.std.specs.Prelude.{ℕ, Bool, false, List, [], ◌∷◌, ◌++◌, codes, None, Result, Ok, Err}
+-- What the command `attr` prints, and what its words ask.
+use Rattle.std.specs.Prelude.{ℕ, Bool, false, List, [], ◌∷◌, ◌++◌, codes, Option, None, Result, Ok, Err}
 use Rattle.contract_words.specs.Faults.{◌>>=◌}
+use Rattle.json_input.specs.Each.{each}
 use Rattle.command_base.specs.answer_text.res_value.declared.res_id.ResId.{ResId}
 use Rattle.command_base.specs.answer_text.res_value.ResId.{id_text}
 use Rattle.command_base.specs.overlay_map.Layer.{LayerOf}
@@ -11,10 +12,22 @@ use Rattle.command_base.specs.answer_text.bags_themes.Styles.{values_after_style
 use Rattle.command_base.specs.answer_text.bags_themes.Attribute.{attribute_of}
 use Rattle.command_base.specs.answer_text.EndText.{end_with_name}
 use Rattle.command_base.specs.answer_text.NameText.{name_beside}
-use Rattle.command_base.specs.fault_text.declared.fault.ToolFault.{ToolFault}
-use Rattle.command_base.specs.Output.{Output}
+use Rattle.command_base.specs.declared.fault.ToolFault.{ToolFault}
+use Rattle.command_base.specs.declared.status.Status.{Status}
+use Rattle.command_base.specs.declared.stop.Stop.{Stop}
+use Rattle.command_base.specs.CarriesOut.{CarriesOut, read_or_stop, found_or_stop, id_named}
+use Rattle.command_base.specs.DeviceFiles.{AskedBytes, asked_files}
+use Rattle.command_base.specs.FileWords.{set_asked, texts_of}
+use Rattle.command_base.specs.Inputs.{Places}
+use Rattle.command_base.specs.Output.{Output, Prints}
 use Rattle.command_base.specs.StackBytes.{LayerBytes}
+use Rattle.command_base.specs.Stop.{StopOf}
+use Rattle.command_base.specs.names.Named.{NamedOf, named_of}
+use Rattle.command_base.specs.names.NamedIds.{ids_named}
+use Rattle.table_commands.specs.declared.attr.Attr.{Attr}
+use Rattle.table_commands.specs.declared.attr.OpenAttr.{OpenAttr}
 use Rattle.table_commands.specs.Opened.{OpenedOf, opened_in}
+use Rattle.table_commands.specs.OpenedSeen.{opened_of}
 use Rattle.table_commands.specs.EndStatus.{status_of_end}
 use Rattle.table_commands.specs.BagOutput.{no_bag}
 
@@ -42,3 +55,35 @@ unfoldable pub attr_output : List LayerBytes → List ℕ → ℕ → List ResId
 attr_output layers device_json attr styles force = do
   asked ← opened_in layers device_json
   Ok (attr_answer asked attr styles force false)
+
+-- ---- what its words ask
+
+-- layers and a device that were opened, an attribute, and the styles that are applied
+pub record OpenAttrOf : Type 0 where
+  pub opened : OpenedOf
+  pub attr : ResId
+  pub styles : List ResId
+
+abbrev pub attr_seen : OpenAttr → OpenAttrOf
+attr_seen asked = record { opened = opened_of asked.opened; attr = asked.attr; styles = asked.styles.items }
+
+-- First come the words of files, then the faults of inputs, and then the name of the attribute, and those of styles, that
+-- are not there.
+unfoldable pub attr_opened : List LayerBytes → List ℕ → NamedOf → List (List ℕ) → Result OpenAttrOf StopOf
+attr_opened layers device attr words = do
+  sets ← each set_asked words
+  opened ← read_or_stop (opened_in layers device)
+  attr ← id_named opened.stack attr
+  styles ← found_or_stop (ids_named opened.stack sets)
+  Ok (record { opened = opened; attr = attr; styles = styles })
+
+-- the answer from the files, if they are read
+abbrev pub PrintsAttrFiles : {W : Type 0} → (W → Option (List ℕ)) → W → W → Attr → Result AskedBytes StopOf → Result Status Stop → Type 0
+PrintsAttrFiles contents old new attr read result =
+    CarriesOut (λ asked done. Prints contents old new done (Ok (attr_answer asked.opened asked.attr.0 asked.styles attr.force attr.names)))
+    (read >>= λ files. attr_opened files.layers files.devices (named_of attr.attr) files.words) result
+
+-- the answer from what the places have
+abbrev pub PrintsAttr : {W : Type 0} → (W → Option (List ℕ)) → W → W → Places → Attr → Result Status Stop → Type 0
+PrintsAttr contents old new places attr result =
+    PrintsAttrFiles contents old new attr (asked_files places attr.layers.now attr.device.now (texts_of attr.styles)) result

@@ -1,5 +1,5 @@
--- What the command `bag` prints.
-use Rattle.std.specs.Prelude.{ℕ, Bool, false, List, [], ◌∷◌, ◌++◌, codes, Result, Ok, Err}
+-- What the command `bag` prints, and what its words ask.
+use Rattle.std.specs.Prelude.{ℕ, Bool, false, List, [], ◌∷◌, ◌++◌, codes, Option, Result, Ok, Err}
 use Rattle.std.specs.List.{flat_map}
 use Rattle.contract_words.specs.Faults.{◌>>=◌}
 use Rattle.command_base.specs.overlay_map.Layer.{LayerOf}
@@ -11,11 +11,19 @@ use Rattle.command_base.specs.answer_text.bags_themes.declared.bag_fault.BagFaul
 use Rattle.command_base.specs.answer_text.bags_themes.declared.bag_fault.BagFault.TheVariants as of_bag
 use Rattle.command_base.specs.answer_text.bags_themes.Bag.{bag_of}
 use Rattle.command_base.specs.answer_text.LayerText.{layer_text}
-use Rattle.command_base.specs.fault_text.declared.fault.ToolFault.{ToolFault}
+use Rattle.command_base.specs.declared.fault.ToolFault.{ToolFault}
+use Rattle.command_base.specs.declared.status.Status.{Status}
 use Rattle.command_base.specs.declared.status.Status.TheVariants.{Done, Negative}
-use Rattle.command_base.specs.Output.{Output}
+use Rattle.command_base.specs.declared.stop.Stop.{Stop}
+use Rattle.command_base.specs.CarriesOut.{CarriesOut}
+use Rattle.command_base.specs.DeviceFiles.{DeviceBytes, device_files}
+use Rattle.command_base.specs.Inputs.{Places}
+use Rattle.command_base.specs.Output.{Output, Prints}
 use Rattle.command_base.specs.StackBytes.{LayerBytes}
-use Rattle.table_commands.specs.Opened.{OpenedOf, opened_in}
+use Rattle.command_base.specs.Stop.{StopOf}
+use Rattle.command_base.specs.names.Named.{named_of}
+use Rattle.table_commands.specs.declared.bag.Bag.{Bag}
+use Rattle.table_commands.specs.Opened.{OpenedOf, opened_in, id_opened}
 
 -- `ID layer L`; the id is followed by its name, where names are asked for
 unfoldable pub id_and_layer : List LayerOf → Bool → ℕ → ℕ → List ℕ
@@ -53,3 +61,16 @@ unfoldable pub bag_output : List LayerBytes → List ℕ → ℕ → Result Outp
 bag_output layers device_json id = do
   asked ← opened_in layers device_json
   Ok (bag_answer asked id false)
+
+-- ---- what its words ask
+
+-- the answer from the files, if they are read
+abbrev pub PrintsBagFiles : {W : Type 0} → (W → Option (List ℕ)) → W → W → Bag → Result DeviceBytes StopOf → Result Status Stop → Type 0
+PrintsBagFiles contents old new bag read result =
+    CarriesOut (λ asked done. Prints contents old new done (Ok (bag_answer asked.opened asked.id.0 bag.names)))
+    (read >>= λ files. id_opened files.layers files.devices (named_of bag.resource)) result
+
+-- the answer from what the places have
+abbrev pub PrintsBag : {W : Type 0} → (W → Option (List ℕ)) → W → W → Places → Bag → Result Status Stop → Type 0
+PrintsBag contents old new places bag result =
+    PrintsBagFiles contents old new bag (device_files places bag.layers.now bag.device.now) result

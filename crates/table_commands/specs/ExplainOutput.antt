@@ -1,14 +1,21 @@
--- What the command `explain` prints.
-use Rattle.std.specs.Prelude.{ℕ, Bool, false, List, Result, Ok}
+-- What the command `explain` prints, and what its words ask.
+use Rattle.std.specs.Prelude.{ℕ, Bool, false, List, Option, Result, Ok}
 use Rattle.contract_words.specs.Faults.{◌>>=◌}
 use Rattle.command_base.specs.overlay_map.Layer.{LayerOf}
 use Rattle.command_base.specs.answer_text.reference_resolver.Ends.{references_followed, end_of}
 use Rattle.command_base.specs.answer_text.ExplainText.{explain_text}
-use Rattle.command_base.specs.fault_text.declared.fault.ToolFault.{ToolFault}
+use Rattle.command_base.specs.declared.fault.ToolFault.{ToolFault}
 use Rattle.command_base.specs.declared.status.Status.{Status}
-use Rattle.command_base.specs.Output.{Output}
+use Rattle.command_base.specs.declared.stop.Stop.{Stop}
+use Rattle.command_base.specs.CarriesOut.{CarriesOut}
+use Rattle.command_base.specs.DeviceFiles.{DeviceBytes, device_files}
+use Rattle.command_base.specs.Inputs.{Places}
+use Rattle.command_base.specs.Output.{Output, Prints}
 use Rattle.command_base.specs.StackBytes.{LayerBytes}
-use Rattle.table_commands.specs.Opened.{OpenedOf, opened_in}
+use Rattle.command_base.specs.Stop.{StopOf}
+use Rattle.command_base.specs.names.Named.{named_of}
+use Rattle.table_commands.specs.declared.explain.Explain.{Explain}
+use Rattle.table_commands.specs.Opened.{OpenedOf, opened_in, id_opened}
 use Rattle.table_commands.specs.EndStatus.{status_of_end}
 
 -- it is done where the end is not absent and not too long
@@ -24,3 +31,16 @@ unfoldable pub explain_output : List LayerBytes → List ℕ → ℕ → Result 
 explain_output layers device_json id = do
   asked ← opened_in layers device_json
   Ok (explain_answer asked id false)
+
+-- ---- what its words ask
+
+-- the answer from the files, if they are read
+abbrev pub ExplainsFiles : {W : Type 0} → (W → Option (List ℕ)) → W → W → Explain → Result DeviceBytes StopOf → Result Status Stop → Type 0
+ExplainsFiles contents old new explain read result =
+    CarriesOut (λ asked done. Prints contents old new done (Ok (explain_answer asked.opened asked.id.0 explain.names)))
+    (read >>= λ files. id_opened files.layers files.devices (named_of explain.resource)) result
+
+-- the answer from what the places have
+abbrev pub Explains : {W : Type 0} → (W → Option (List ℕ)) → W → W → Places → Explain → Result Status Stop → Type 0
+Explains contents old new places explain result =
+    ExplainsFiles contents old new explain (device_files places explain.layers.now explain.device.now) result

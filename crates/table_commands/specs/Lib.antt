@@ -17,7 +17,6 @@ pub mod AttrOutput
 pub mod Unfolded
 pub use Rattle.command_base.specs as command_base
 pub use Rattle.command_base.specs.answer_text
-pub use Rattle.command_base.specs.fault_text
 pub use Rattle.command_base.specs.answer_text.config_record
 pub use Rattle.command_base.specs.answer_text.reference_resolver
 pub use Rattle.command_base.specs.overlay_map

@@ -8,10 +8,11 @@ use Rattle.command_base.specs.answer_text.res_value.Kind.{reference_kind, attrib
 use Rattle.command_base.specs.answer_text.res_value.ResId.{package_of}
 use Rattle.command_base.specs.answer_text.res_value.declared.res_id.ResId.{ResId}
 use Rattle.command_base.specs.answer_text.res_value.declared.value.Value.{Value}
-use Rattle.command_base.specs.answer_text.resource_table.Names.{type_name_in, key_name_in, found_in}
+use Rattle.command_base.specs.answer_text.resource_table.Names.{type_name_in, key_name_in}
 use Rattle.command_base.specs.answer_text.resource_table.Table.{TableOf, rows_of}
 use Rattle.command_base.specs.answer_text.type_chunks.Row.{RowOf}
-use Rattle.name_index.specs.NameText.{name_text}
+use Rattle.names.specs.Names.{found_in}
+use Rattle.names.specs.NameText.{name_text}
 use Rattle.table_commands.specs.FirstRows.{first_row, first_rows}
 
 -- ---- the map

@@ -1,18 +1,25 @@
--- What the command `map` prints.
+-- What the command `map` prints, and what its words ask.
 use Rattle.std.specs.Prelude.{◌≡◌, ℕ, ◌==◌, ◌||◌, not, List, [], ◌∷◌, ◌++◌, codes, length, Option, Result, Ok, Err, IsOk}
 use Rattle.std.specs.Io.KnownBytes.{Appends}
 use Rattle.std.specs.List.{flat_map}
 use Rattle.contract_words.specs.Faults.{◌>>=◌}
 use Rattle.command_base.specs.answer_text.DumpText.{names_text}
+use Rattle.command_base.specs.answer_text.OnLine.{on_line}
 use Rattle.command_base.specs.overlay_map.IdMap.{MapOf, map_in}
 use Rattle.command_base.specs.answer_text.res_value.ResId.{id_text}
 use Rattle.command_base.specs.answer_text.resource_table.Table.{TableOf, table_in}
 use Rattle.command_base.specs.answer_text.type_chunks.Row.{RowOf}
-use Rattle.command_base.specs.fault_text.declared.fault.ToolFault.{ToolFault}
-use Rattle.command_base.specs.fault_text.declared.fault.ToolFault.TheVariants.{OutOfMemory, Write}
+use Rattle.command_base.specs.declared.fault.ToolFault.{ToolFault}
+use Rattle.command_base.specs.declared.fault.ToolFault.TheVariants.{OutOfMemory, Write}
 use Rattle.command_base.specs.StackBytes.{table_of_layer}
 use Rattle.command_base.specs.declared.status.Status.{Status}
+use Rattle.command_base.specs.declared.stop.Stop.{Stop}
+use Rattle.command_base.specs.CarriesOut.{CarriesOut}
+use Rattle.command_base.specs.Inputs.{Places, table_of}
 use Rattle.command_base.specs.Output.{Output, negative_if}
+use Rattle.command_base.specs.Stop.{StopOf}
+use Rattle.table_commands.specs.declared.map.Map.{Map}
+use Rattle.table_commands.specs.declared.map.MapFiles.{MapFiles}
 use Rattle.table_commands.specs.MadeMap.{AstrayOf, made_map, unmapped, astray}
 
 -- ---- the map
@@ -69,7 +76,7 @@ pub record MapOutput : Type 0 where
 abbrev pub output_of_map : TableOf → MapOf → MapOutput
 output_of_map overlay made = record {
   output = record { status = status_of_map (unmapped overlay made) (astray overlay made); text = map_text made };
-  lines = left_lines overlay (unmapped overlay made) (astray overlay made);
+  lines = on_line (left_lines overlay (unmapped overlay made) (astray overlay made));
 }
 
 -- What `map` prints of the bytes of a target and an overlay, which are layers 0 and 1. The target is read first.
@@ -88,3 +95,24 @@ PrintsBoth contents says old new before after (Ok status) meant =
 PrintsBoth contents says old new before after (Err OutOfMemory) meant = (new ≡ old) × (after ≡ before)
 PrintsBoth contents says old new before after (Err Write) meant = IsOk meant
 PrintsBoth contents says old new before after (Err fault) meant = (meant ≡ Err fault) × (new ≡ old) × (after ≡ before)
+
+-- ---- what its words ask, from what the places have
+
+pub record MapBytes : Type 0 where
+  pub target : List ℕ
+  pub overlay : List ℕ
+
+abbrev pub map_held : MapFiles → MapBytes
+map_held files = record { target = files.target.items; overlay = files.overlay.items }
+
+-- a table, and then that of an overlay
+unfoldable pub map_files : Places → List ℕ → List ℕ → Result MapBytes StopOf
+map_files places target_path overlay_path = do
+  target ← table_of places target_path
+  overlay ← table_of places overlay_path
+  Ok (record { target = target; overlay = overlay })
+
+abbrev pub PrintsMap : {W V : Type 0} → (W → Option (List ℕ)) → (V → Option (List ℕ)) → W → W → V → V → Places → Map → Result Status Stop → Type 0
+PrintsMap contents says old new before after places map result =
+    CarriesOut (λ inputs done. PrintsBoth contents says old new before after done (map_output inputs.target inputs.overlay))
+    (map_files places map.target.now map.overlay.now) result

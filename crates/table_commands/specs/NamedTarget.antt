@@ -5,13 +5,13 @@ use Rattle.std.specs.List.{filter_map, zip}
 use Rattle.std.specs.Option.{option_map}
 use Rattle.command_base.specs.overlay_map.IdMap.{MapOf}
 use Rattle.command_base.specs.answer_text.res_value.declared.res_id.ResId.{ResId}
-use Rattle.command_base.specs.answer_text.resource_table.Names.{found_in, key_name_in, type_name_in}
+use Rattle.command_base.specs.answer_text.resource_table.Names.{key_name_in, type_name_in}
 use Rattle.command_base.specs.answer_text.resource_table.Table.{TableOf}
 use Rattle.command_base.specs.answer_text.type_chunks.Row.{RowOf}
-use Rattle.name_index.specs.Names.{NameOf}
+use Rattle.names.specs.Names.{NameOf, found_in}
 use Rattle.table_commands.specs.declared.pairs.NamedTarget.{NamedTarget}
 use Rattle.table_commands.specs.MadeMap.{package_of_row}
-use Rattle.name_index.specs.NameText.{name_text}
+use Rattle.names.specs.NameText.{name_text}
 
 -- an id with its names
 pub record NamedOf : Type 0 where

@@ -1,19 +1,30 @@
--- What the command `query` prints.
-use Rattle.std.specs.Prelude.{ℕ, ◌++◌, Bool, false, List, Result, Ok, if◌then◌else◌}
+-- What the command `query` prints, and what its words ask.
+use Rattle.std.specs.Prelude.{ℕ, ◌++◌, Bool, false, List, Option, Result, Ok, if◌then◌else◌}
 use Rattle.std.specs.List.{flat_map, list_any}
 use Rattle.contract_words.specs.Faults.{◌>>=◌}
+use Rattle.json_input.specs.Each.{each}
 use Rattle.command_base.specs.answer_text.res_value.declared.res_id.ResId.{ResId}
 use Rattle.command_base.specs.overlay_map.Layer.{LayerOf}
 use Rattle.command_base.specs.overlay_map.SetAside.{set_aside_in_stack}
 use Rattle.command_base.specs.answer_text.reference_resolver.declared.end.End.{End}
 use Rattle.command_base.specs.answer_text.reference_resolver.Ends.{references_followed, end_of}
 use Rattle.command_base.specs.answer_text.QueryText.{query_line, set_aside_line}
-use Rattle.command_base.specs.fault_text.declared.fault.ToolFault.{ToolFault}
+use Rattle.command_base.specs.declared.fault.ToolFault.{ToolFault}
 use Rattle.command_base.specs.declared.status.Status.{Status}
 use Rattle.command_base.specs.declared.status.Status.TheVariants.{Done, Negative}
-use Rattle.command_base.specs.Output.{Output}
+use Rattle.command_base.specs.declared.stop.Stop.{Stop}
+use Rattle.command_base.specs.CarriesOut.{CarriesOut, read_or_stop, found_or_stop}
+use Rattle.command_base.specs.DeviceFiles.{AskedBytes, asked_files}
+use Rattle.command_base.specs.FileWords.{set_asked, texts_of}
+use Rattle.command_base.specs.Inputs.{Places}
+use Rattle.command_base.specs.Output.{Output, Prints}
 use Rattle.command_base.specs.StackBytes.{LayerBytes}
+use Rattle.command_base.specs.Stop.{StopOf}
+use Rattle.command_base.specs.names.NamedIds.{ids_named}
+use Rattle.table_commands.specs.declared.query.Query.{Query}
+use Rattle.table_commands.specs.declared.query.OpenQuery.{OpenQuery}
 use Rattle.table_commands.specs.Opened.{OpenedOf, opened_in}
+use Rattle.table_commands.specs.OpenedSeen.{opened_of}
 use Rattle.table_commands.specs.EndStatus.{is_unresolved}
 
 -- where an id ends
@@ -45,3 +56,32 @@ unfoldable pub query_output : List LayerBytes → List ℕ → List ResId → Re
 query_output layers device_json ids = do
   asked ← opened_in layers device_json
   Ok (query_answer asked ids false)
+
+-- ---- what its words ask
+
+-- layers and a device that were opened, and the resources that are asked for
+pub record OpenQueryOf : Type 0 where
+  pub opened : OpenedOf
+  pub ids : List ResId
+
+abbrev pub query_seen : OpenQuery → OpenQueryOf
+query_seen query = record { opened = opened_of query.opened; ids = query.ids.items }
+
+-- First come the words of files, then the faults of inputs, and then the first name that is not there.
+unfoldable pub query_opened : List LayerBytes → List ℕ → List (List ℕ) → Result OpenQueryOf StopOf
+query_opened layers device words = do
+  sets ← each set_asked words
+  opened ← read_or_stop (opened_in layers device)
+  ids ← found_or_stop (ids_named opened.stack sets)
+  Ok (record { opened = opened; ids = ids })
+
+-- the answer from the files, if they are read
+abbrev pub QueriesFiles : {W : Type 0} → (W → Option (List ℕ)) → W → W → Query → Result AskedBytes StopOf → Result Status Stop → Type 0
+QueriesFiles contents old new query read result =
+    CarriesOut (λ asked done. Prints contents old new done (Ok (query_answer asked.opened asked.ids query.names)))
+    (read >>= λ files. query_opened files.layers files.devices files.words) result
+
+-- the answer from what the places have
+abbrev pub Queries : {W : Type 0} → (W → Option (List ℕ)) → W → W → Places → Query → Result Status Stop → Type 0
+Queries contents old new places query result =
+    QueriesFiles contents old new query (asked_files places query.layers.now query.device.now (texts_of query.words)) result

@@ -1,20 +1,121 @@
 //! The command `attr`.
 
-ghost use Rattle.std.specs.Prelude.{map, Ok};
+ghost use Rattle.std.specs.Prelude.{◌≡◌, map, string_bytes, Ok, IfSome};
 ghost use Rattle.contract_words.specs.Writes.{Writes};
+ghost use Rattle.command_base.specs.FilesSeen.{asked_held};
 ghost use Rattle.command_base.specs.Output.{Prints};
 ghost use Rattle.command_base.specs.StackBytesSeen.{layer_bytes};
+ghost use Rattle.command_base.specs.Stop.{GivesOrStops};
+ghost use Rattle.command_base.specs.declared.fault.ToolFault.TheVariants.{Write};
+ghost use Rattle.command_base.specs.names.Named.{named_of};
 ghost use Rattle.table_commands.specs.OpenedSeen.{opened_of};
-ghost use Rattle.table_commands.specs.AttrOutput.{attribute_line, attr_answer, attr_output};
+ghost use Rattle.table_commands.specs.AttrOutput.{attribute_line, attr_answer, attr_output, attr_seen, attr_opened, PrintsAttr, PrintsAttrFiles};
+ghost use Rattle.command_base.specs.CarriesOut.{IsKept};
 
 use crate::end_status::status_of_end;
 use crate::no_bag::print_no_bag;
 use crate::opened::Opened;
 use command_base::answer_text::bags_themes::{End, Theme};
 use command_base::answer_text::{ResId, Stack, write_end_with_name, write_id, write_name_beside};
-use command_base::{LayerParts, Status, ToolFault};
+use command_base::{
+    AskedFiles, Inputs, LayerParts, Named, Status, Stop, ToolFault, asked_sets, id_named, ids_named,
+};
 use std::alloc::Global;
 use std::io::{self, Write};
+
+/// What the words of `attr` ask: where an attribute ends for a device after styles.
+#[derive(Drop)]
+pub struct Attr<'a> {
+    /// Where the list of layers lies.
+    pub layers: &'a str,
+    /// Where the device lies.
+    pub device: &'a str,
+    /// Whether the name of each id is printed beside it.
+    pub names: bool,
+    /// Whether the styles are applied with force.
+    pub force: bool,
+    /// The attribute, by its id or by its name.
+    pub attr: Named<'a>,
+    /// The words that ask for styles, or name a file of such words.
+    pub styles: Vec<&'a str>,
+}
+
+impl<'a> Attr<'a> {
+    /// Reads what the words name, and answers them. Where it is not answered, nothing is written, unless a write fails.
+    pub fn answer<I: Inputs, W: Write + Drop>(
+        &self,
+        alloc: Global,
+        inputs: &I,
+        out: &mut W,
+    ) -> Result<Status, Stop<'a>>
+        ensures answers { IfSome (I.places inputs.now) (λ places. PrintsAttr W.contents out.old out.new places self.now result) }
+        ensures unwritten { IsKept out.old out.new result }
+    {
+        let files = AskedFiles::read(alloc, inputs, self.layers, self.device, &self.styles)?;
+        self.answer_of(alloc, &files, out)
+    }
+
+    fn answer_of<W: Write + Drop>(
+        &self,
+        alloc: Global,
+        files: &AskedFiles,
+        out: &mut W,
+    ) -> Result<Status, Stop<'static>>
+        ensures answers { PrintsAttrFiles W.contents out.old out.new self.now (Ok (asked_held files.now)) result }
+        ensures unwritten { IsKept out.old out.new result }
+    {
+        let layers = files.layers.layers(alloc)?;
+        let asked = OpenAttr::open(alloc, &layers, &files.devices, self.attr, &files.words)?;
+        Ok(asked.print(alloc, self.force, self.names, out)?)
+    }
+}
+
+/// Layers and a device that were opened, an attribute, and the styles that are applied.
+#[derive(Drop)]
+struct OpenAttr<'a> {
+    opened: Opened<'a>,
+    attr: ResId,
+    styles: Vec<ResId>,
+}
+
+impl<'a> OpenAttr<'a> {
+    /// Opens the layers, reads the device, and then finds the attribute and what words ask for.
+    #[tactic(auto, unfolding(crate::specs::AttrOutput::attr_opened))]
+    fn open(
+        alloc: Global,
+        layers: &[LayerParts<&'a [u8]>],
+        device: &[u8],
+        attr: Named<'_>,
+        words: &[String],
+    ) -> Result<OpenAttr<'a>, Stop<'static>>
+        ensures { GivesOrStops attr_seen result
+            (attr_opened (map layer_bytes layers.now) device.now (named_of attr.entry) (map string_bytes words.now)) }
+    {
+        let sets = asked_sets(alloc, words)?;
+        let opened = Opened::read(alloc, layers, device)?;
+        let attr = id_named(alloc, &opened.stack, attr)?;
+        let styles = ids_named(alloc, &opened.stack, &sets)?;
+        Ok(OpenAttr {
+            opened,
+            attr,
+            styles,
+        })
+    }
+
+    fn print<W: Write + Drop>(
+        &self,
+        alloc: Global,
+        force: bool,
+        names: bool,
+        out: &mut W,
+    ) -> Result<Status, ToolFault>
+        ensures { Prints W.contents out.old out.new result
+            (Ok (attr_answer (attr_seen self.now).opened (attr_seen self.now).attr.0 (attr_seen self.now).styles force names)) }
+    {
+        self.opened
+            .attr(alloc, self.attr, &self.styles, force, names, out)
+    }
+}
 
 /// Prints where an attribute ends for a device after styles that are applied in their order, with `force` or
 /// without, or why the first style that is no bag, or has too many parents, is refused. The status is Negative

@@ -1,22 +1,68 @@
 //! The command `bag`.
 
-ghost use Rattle.std.specs.Prelude.{map, Ok};
+ghost use Rattle.std.specs.Prelude.{◌≡◌, map, Ok, IfSome};
 ghost use Rattle.std.specs.List.{flat_map};
 ghost use Rattle.contract_words.specs.Writes.{Writes};
+ghost use Rattle.command_base.specs.FilesSeen.{devices_held};
 ghost use Rattle.command_base.specs.Output.{Prints};
 ghost use Rattle.command_base.specs.StackBytesSeen.{layer_bytes};
+ghost use Rattle.command_base.specs.declared.fault.ToolFault.TheVariants.{Write};
 ghost use Rattle.table_commands.specs.OpenedSeen.{opened_of};
-ghost use Rattle.table_commands.specs.BagOutput.{id_and_layer, bag_row_line, bag_answer, bag_output};
+ghost use Rattle.table_commands.specs.BagOutput.{id_and_layer, bag_row_line, bag_answer, bag_output, PrintsBag, PrintsBagFiles};
+ghost use Rattle.command_base.specs.CarriesOut.{IsKept};
 
 use crate::no_bag::print_no_bag;
-use crate::opened::Opened;
+use crate::opened::{OpenId, Opened};
 use command_base::answer_text::bags_themes::{BagRow, bag};
 use command_base::answer_text::{
     ResId, Stack, write_id, write_layer, write_name_beside, write_value,
 };
-use command_base::{LayerParts, Status, ToolFault};
+use command_base::{DeviceFiles, Inputs, LayerParts, Named, Status, Stop, ToolFault};
 use std::alloc::Global;
 use std::io::{self, Write};
+
+/// What the words of `bag` ask: the rows of the bag that a resource selects for a device.
+#[derive(Drop)]
+pub struct Bag<'a> {
+    /// Where the list of layers lies.
+    pub layers: &'a str,
+    /// Where the device lies.
+    pub device: &'a str,
+    /// Whether the name of each id is printed beside it.
+    pub names: bool,
+    /// The resource, by its id or by its name.
+    pub resource: Named<'a>,
+}
+
+impl<'a> Bag<'a> {
+    /// Reads what the words name, and answers them. Where it is not answered, nothing is written, unless a write fails.
+    pub fn answer<I: Inputs, W: Write + Drop>(
+        &self,
+        alloc: Global,
+        inputs: &I,
+        out: &mut W,
+    ) -> Result<Status, Stop<'a>>
+        ensures answers { IfSome (I.places inputs.now) (λ places. PrintsBag W.contents out.old out.new places self.now result) }
+        ensures unwritten { IsKept out.old out.new result }
+    {
+        let files = DeviceFiles::read(alloc, inputs, self.layers, self.device)?;
+        self.answer_of(alloc, &files, out)
+    }
+
+    fn answer_of<W: Write + Drop>(
+        &self,
+        alloc: Global,
+        files: &DeviceFiles,
+        out: &mut W,
+    ) -> Result<Status, Stop<'static>>
+        ensures answers { PrintsBagFiles W.contents out.old out.new self.now (Ok (devices_held files.now)) result }
+        ensures unwritten { IsKept out.old out.new result }
+    {
+        let layers = files.layers.layers(alloc)?;
+        let asked = OpenId::open(alloc, &layers, &files.devices, self.resource)?;
+        Ok(asked.opened.bag(alloc, asked.id, self.names, out)?)
+    }
+}
 
 /// Prints a line for each row of the bag that an id selects for a device, those that it inherits among them, or
 /// one that says why there is no such bag; then the status is Negative.

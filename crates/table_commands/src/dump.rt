@@ -1,12 +1,38 @@
 //! The command `dump`.
 
+ghost use Rattle.std.specs.Prelude.{◌≡◌, IfSome};
 ghost use Rattle.command_base.specs.Output.{Prints};
-ghost use Rattle.table_commands.specs.TableOutput.{dump_output};
+ghost use Rattle.command_base.specs.declared.fault.ToolFault.TheVariants.{Write};
+ghost use Rattle.table_commands.specs.TableOutput.{dump_output, PrintsDump};
+ghost use Rattle.command_base.specs.CarriesOut.{IsKept};
 
 use command_base::answer_text::{Table, dump_text};
-use command_base::{Status, ToolFault};
+use command_base::{Inputs, Status, Stop, ToolFault, table_bytes};
 use std::alloc::Global;
 use std::io::Write;
+
+/// What the words of `dump` ask: the packages of a table, with the names of its rows.
+#[derive(Drop)]
+pub struct Dump<'a> {
+    /// Where the table lies; `-` is the standard input.
+    pub table: &'a str,
+}
+
+impl<'a> Dump<'a> {
+    /// Reads the table, and answers. Where it is not answered, nothing is written, unless a write fails.
+    pub fn answer<I: Inputs, W: Write + Drop>(
+        &self,
+        alloc: Global,
+        inputs: &I,
+        out: &mut W,
+    ) -> Result<Status, Stop<'a>>
+        ensures answers { IfSome (I.places inputs.now) (λ places. PrintsDump W.contents out.old out.new places self.now result) }
+        ensures unwritten { IsKept out.old out.new result }
+    {
+        let table = table_bytes(inputs, self.table)?;
+        Ok(dump_bytes(alloc, &table, out)?)
+    }
+}
 
 /// Prints a line for each package of a table and one for each of its rows with their names, in the
 /// order of the file.

@@ -1,18 +1,72 @@
 //! The command `explain`.
 
-ghost use Rattle.std.specs.Prelude.{◌≡◌, map, IfOk};
+ghost use Rattle.std.specs.Prelude.{◌≡◌, map, Ok, IfOk, IfSome};
 ghost use Rattle.contract_words.specs.Writes.{Writes};
+ghost use Rattle.command_base.specs.FilesSeen.{devices_held};
 ghost use Rattle.command_base.specs.Output.{Prints};
 ghost use Rattle.command_base.specs.StackBytesSeen.{layer_bytes};
-ghost use Rattle.table_commands.specs.OpenedSeen.{opened_of};
-ghost use Rattle.table_commands.specs.ExplainOutput.{explain_answer, explain_output};
+ghost use Rattle.command_base.specs.declared.fault.ToolFault.TheVariants.{Write};
+ghost use Rattle.table_commands.specs.OpenedSeen.{opened_of, id_seen};
+ghost use Rattle.table_commands.specs.ExplainOutput.{explain_answer, explain_output, Explains, ExplainsFiles};
+ghost use Rattle.command_base.specs.CarriesOut.{IsKept};
 
 use crate::end_status::status_of_end;
-use crate::opened::Opened;
+use crate::opened::{OpenId, Opened};
 use command_base::answer_text::{ResId, explain};
-use command_base::{LayerParts, Status, ToolFault};
+use command_base::{DeviceFiles, Inputs, LayerParts, Named, Status, Stop, ToolFault};
 use std::alloc::Global;
 use std::io::{self, Write};
+
+/// What the words of `explain` ask: how a resource comes to its end for a device.
+#[derive(Drop)]
+pub struct Explain<'a> {
+    /// Where the list of layers lies.
+    pub layers: &'a str,
+    /// Where the device lies.
+    pub device: &'a str,
+    /// Whether the name of each id is printed beside it.
+    pub names: bool,
+    /// The resource, by its id or by its name.
+    pub resource: Named<'a>,
+}
+
+impl<'a> Explain<'a> {
+    /// Reads what the words name, and answers them. Where it is not answered, nothing is written, unless a write fails.
+    pub fn answer<I: Inputs, W: Write + Drop>(
+        &self,
+        alloc: Global,
+        inputs: &I,
+        out: &mut W,
+    ) -> Result<Status, Stop<'a>>
+        ensures answers { IfSome (I.places inputs.now) (λ places. Explains W.contents out.old out.new places self.now result) }
+        ensures unwritten { IsKept out.old out.new result }
+    {
+        let files = DeviceFiles::read(alloc, inputs, self.layers, self.device)?;
+        self.answer_of(alloc, &files, out)
+    }
+
+    fn answer_of<W: Write + Drop>(
+        &self,
+        alloc: Global,
+        files: &DeviceFiles,
+        out: &mut W,
+    ) -> Result<Status, Stop<'static>>
+        ensures answers { ExplainsFiles W.contents out.old out.new self.now (Ok (devices_held files.now)) result }
+        ensures unwritten { IsKept out.old out.new result }
+    {
+        let layers = files.layers.layers(alloc)?;
+        let asked = OpenId::open(alloc, &layers, &files.devices, self.resource)?;
+        Ok(asked.explain(self.names, out)?)
+    }
+}
+
+impl OpenId<'_> {
+    fn explain<W: Write + Drop>(&self, names: bool, out: &mut W) -> Result<Status, ToolFault>
+        ensures { Prints W.contents out.old out.new result (Ok (explain_answer (id_seen self.now).opened (id_seen self.now).id.0 names)) }
+    {
+        Ok(self.opened.explain(self.id, names, out)?)
+    }
+}
 
 /// Prints how an id comes to its end for a device: a line for each id that is looked up and one for each of its
 /// candidates, with the rule that decided, and last the end. The status is Negative where the end is absent or

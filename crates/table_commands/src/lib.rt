@@ -1,10 +1,16 @@
-//! The commands that answer from tables, over their bytes and a writer: `rows` and `dump` of one table, `map` of a
-//! target and an overlay; and for one device and the layers of a stack `query`, `explain`, `bag` and `attr`.
+//! The commands that answer from tables, by what their words ask or over bytes, to a writer: `rows` and `dump` of one
+//! table, `map` of a target and an overlay, `ids` of layers; and for one device and the layers of a stack `query`, `explain`, `bag` and
+//! `attr`.
 //!
-//! For the crates above: a command prints the text that its input means and nothing else, or it names the first
-//! fault of that input and has printed nothing.
+//! For the crates above: `answer` of a command reads what its words name, and prints what that means and nothing else;
+//! or it gives why it stops, and has printed nothing, unless a write failed. A call over bytes does the same of them,
+//! and stops at their first fault.
 //!
 //! ```text
+//! let query = Query { layers: "layers.json", device: "device.json", names: false, words }; // what its words ask
+//! query.answer(alloc, &inputs, &mut out)?; // reads these files, and prints as `query_bytes` does
+//! Map { target: "app.arsc", overlay: "-" }.answer(alloc, &inputs, &mut out, &mut errors)?; // as `map_bytes`
+//!
 //! rows_bytes(alloc, &table, &mut out)?; // row 0x7f010000 [] decimal 5
 //!                                       // rows 1 set-aside 0
 //! dump_bytes(alloc, &table, &mut out)?; // package 0x7f "app"
@@ -35,6 +41,7 @@ mod dump;
 mod end_status;
 mod explain;
 mod first_rows;
+mod ids;
 mod map;
 mod map_text;
 mod mapped_ids;
@@ -45,16 +52,18 @@ mod query;
 mod rows;
 mod unmapped;
 
-pub use attr::attr_bytes;
-pub use bag::bag_bytes;
+pub use attr::{Attr, attr_bytes};
+pub use bag::{Bag, bag_bytes};
+pub use command_base;
 pub use command_base::answer_text::{Device, End, Stack};
 pub use command_base::{
     InputFault, LayerList, LayerParts, LayersFault, Status, ToolFault, fault_text, open_stack,
     read_input,
 };
-pub use dump::dump_bytes;
-pub use explain::explain_bytes;
-pub use map::map_bytes;
+pub use dump::{Dump, dump_bytes};
+pub use explain::{Explain, explain_bytes};
+pub use ids::{Ids, ids_bytes};
+pub use map::{Map, map_bytes};
 pub use opened::Opened;
-pub use query::query_bytes;
-pub use rows::rows_bytes;
+pub use query::{Query, query_bytes};
+pub use rows::{Rows, rows_bytes};

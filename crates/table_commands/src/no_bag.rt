@@ -3,7 +3,7 @@
 ghost use Rattle.std.specs.Prelude.{◌≡◌, ◌≢◌, Ok, Err};
 ghost use Rattle.command_base.specs.answer_text.bags_themes.declared.bag_fault.BagFault.TheVariants as of_bag;
 ghost use Rattle.contract_words.specs.Writes.{Writes};
-ghost use Rattle.command_base.specs.fault_text.declared.fault.ToolFault.TheVariants.{OutOfMemory};
+ghost use Rattle.command_base.specs.declared.fault.ToolFault.TheVariants.{OutOfMemory};
 ghost use Rattle.command_base.specs.Output.{Prints};
 ghost use Rattle.table_commands.specs.BagOutput.{no_bag, no_bag_line};
 

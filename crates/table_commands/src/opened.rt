@@ -1,14 +1,17 @@
-//! What the commands are asked of: layers and a device, opened from their bytes.
+//! What the commands are asked of: layers and a device, opened from their bytes, and a resource.
 
 ghost use Rattle.std.specs.Prelude.{map};
 ghost use Rattle.contract_words.specs.Exact.{GivesOr};
-ghost use Rattle.command_base.specs.fault_text.declared.fault.ToolFault.TheVariants.{OutOfMemory};
+ghost use Rattle.command_base.specs.declared.fault.ToolFault.TheVariants.{OutOfMemory};
 ghost use Rattle.command_base.specs.Output.{IsOfInput};
 ghost use Rattle.command_base.specs.StackBytesSeen.{layer_bytes};
-ghost use Rattle.table_commands.specs.Opened.{opened_in};
+ghost use Rattle.command_base.specs.Stop.{GivesOrStops};
+ghost use Rattle.command_base.specs.names.Named.{named_of};
+ghost use Rattle.table_commands.specs.Opened.{opened_in, id_opened};
 
+use command_base::answer_text::ResId;
 use command_base::answer_text::bags_themes::{Device, Stack};
-use command_base::{LayerParts, ToolFault, open_stack};
+use command_base::{LayerParts, Named, Stop, ToolFault, id_named, open_stack};
 use std::alloc::Global;
 
 /// The layers that a command is asked of, and the device. The commands are its methods, so that one stack answers
@@ -35,5 +38,31 @@ impl<'a> Opened<'a> {
         let stack = open_stack(alloc, layers)?;
         let device = Device::read(alloc, device)?;
         Ok(Opened { stack, device })
+    }
+}
+
+/// Layers and a device that were opened, and the one resource that is asked for.
+#[derive(Drop)]
+pub(crate) struct OpenId<'a> {
+    pub opened: Opened<'a>,
+    pub id: ResId,
+}
+
+impl<'a> OpenId<'a> {
+    ghost use Rattle.table_commands.specs.OpenedSeen.{id_seen};
+
+    /// Opens the layers, reads the device, and then finds the resource.
+    #[tactic(auto, unfolding(crate::specs::Opened::id_opened))]
+    pub fn open(
+        alloc: Global,
+        layers: &[LayerParts<&'a [u8]>],
+        device: &[u8],
+        resource: Named<'_>,
+    ) -> Result<OpenId<'a>, Stop<'static>>
+        ensures { GivesOrStops id_seen result (id_opened (map layer_bytes layers.now) device.now (named_of resource.entry)) }
+    {
+        let opened = Opened::read(alloc, layers, device)?;
+        let id = id_named(alloc, &opened.stack, resource)?;
+        Ok(OpenId { opened, id })
     }
 }

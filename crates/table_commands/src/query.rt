@@ -1,20 +1,100 @@
 //! The command `query`.
 
-ghost use Rattle.std.specs.Prelude.{◌≡◌, map, OnOk, IfOk};
+ghost use Rattle.std.specs.Prelude.{◌≡◌, map, string_bytes, Ok, IfOk, IfSome};
 ghost use Rattle.contract_words.specs.Writes.{Writes};
 ghost use Rattle.command_base.specs.answer_text.config_record.DeviceSeen.{device_numbers};
+ghost use Rattle.command_base.specs.FilesSeen.{asked_held};
 ghost use Rattle.command_base.specs.Output.{Prints};
 ghost use Rattle.command_base.specs.StackBytesSeen.{layer_bytes};
+ghost use Rattle.command_base.specs.Stop.{GivesOrStops};
+ghost use Rattle.command_base.specs.declared.fault.ToolFault.TheVariants.{Write};
 ghost use Rattle.table_commands.specs.OpenedSeen.{opened_of};
-ghost use Rattle.table_commands.specs.QueryOutput.{query_status, query_text, query_answer, query_output};
+ghost use Rattle.table_commands.specs.QueryOutput.{query_status, query_text, query_answer, query_output, query_seen, query_opened, Queries, QueriesFiles};
+ghost use Rattle.command_base.specs.CarriesOut.{IsKept};
 
 use crate::end_status::is_unresolved;
 use crate::opened::Opened;
 use command_base::answer_text::bags_themes::{Device, Stack, resolve};
 use command_base::answer_text::{ResId, query_line, set_aside_line};
-use command_base::{LayerParts, Status, ToolFault};
+use command_base::{
+    AskedFiles, Inputs, LayerParts, Status, Stop, ToolFault, asked_sets, ids_named,
+};
 use std::alloc::Global;
 use std::io::{self, Write};
+
+/// What the words of `query` ask: the values that a device loads for some resources.
+#[derive(Drop)]
+pub struct Query<'a> {
+    /// Where the list of layers lies.
+    pub layers: &'a str,
+    /// Where the device lies.
+    pub device: &'a str,
+    /// Whether the name of each id is printed beside it.
+    pub names: bool,
+    /// The words that ask for resources, or name a file of such words.
+    pub words: Vec<&'a str>,
+}
+
+impl<'a> Query<'a> {
+    /// Reads what the words name, and answers them. Where it is not answered, nothing is written, unless a write fails.
+    pub fn answer<I: Inputs, W: Write + Drop>(
+        &self,
+        alloc: Global,
+        inputs: &I,
+        out: &mut W,
+    ) -> Result<Status, Stop<'a>>
+        ensures answers { IfSome (I.places inputs.now) (λ places. Queries W.contents out.old out.new places self.now result) }
+        ensures unwritten { IsKept out.old out.new result }
+    {
+        let files = AskedFiles::read(alloc, inputs, self.layers, self.device, &self.words)?;
+        self.answer_of(alloc, &files, out)
+    }
+
+    fn answer_of<W: Write + Drop>(
+        &self,
+        alloc: Global,
+        files: &AskedFiles,
+        out: &mut W,
+    ) -> Result<Status, Stop<'static>>
+        ensures answers { QueriesFiles W.contents out.old out.new self.now (Ok (asked_held files.now)) result }
+        ensures unwritten { IsKept out.old out.new result }
+    {
+        let layers = files.layers.layers(alloc)?;
+        let asked = OpenQuery::open(alloc, &layers, &files.devices, &files.words)?;
+        Ok(asked.print(self.names, out)?)
+    }
+}
+
+/// Layers and a device that were opened, and the resources that are asked for.
+#[derive(Drop)]
+struct OpenQuery<'a> {
+    opened: Opened<'a>,
+    ids: Vec<ResId>,
+}
+
+impl<'a> OpenQuery<'a> {
+    /// Reads the words, opens the layers, reads the device, and then finds what the words ask for.
+    #[tactic(auto, unfolding(crate::specs::QueryOutput::query_opened))]
+    fn open(
+        alloc: Global,
+        layers: &[LayerParts<&'a [u8]>],
+        device: &[u8],
+        words: &[String],
+    ) -> Result<OpenQuery<'a>, Stop<'static>>
+        ensures { GivesOrStops query_seen result (query_opened (map layer_bytes layers.now) device.now (map string_bytes words.now)) }
+    {
+        let sets = asked_sets(alloc, words)?;
+        let opened = Opened::read(alloc, layers, device)?;
+        let ids = ids_named(alloc, &opened.stack, &sets)?;
+        Ok(OpenQuery { opened, ids })
+    }
+
+    fn print<W: Write + Drop>(&self, names: bool, out: &mut W) -> Result<Status, ToolFault>
+        ensures { Prints W.contents out.old out.new result (Ok (query_answer (query_seen self.now).opened (query_seen self.now).ids names)) }
+    {
+        Ok(self.opened.query(&self.ids, names, out)?)
+    }
+}
 
 /// Prints a line for each of some ids with its end for a device, in the order of the ids, and one with the
 /// number of rows of all layers that are set aside. The status is Negative where an end is absent or too long.

@@ -1,12 +1,38 @@
 //! The command `rows`.
 
+ghost use Rattle.std.specs.Prelude.{◌≡◌, IfSome};
 ghost use Rattle.command_base.specs.Output.{Prints};
-ghost use Rattle.table_commands.specs.TableOutput.{rows_output};
+ghost use Rattle.command_base.specs.declared.fault.ToolFault.TheVariants.{Write};
+ghost use Rattle.table_commands.specs.TableOutput.{rows_output, PrintsRows};
+ghost use Rattle.command_base.specs.CarriesOut.{IsKept};
 
 use command_base::answer_text::{Table, rows_text};
-use command_base::{Status, ToolFault};
+use command_base::{Inputs, Status, Stop, ToolFault, table_bytes};
 use std::alloc::Global;
 use std::io::Write;
+
+/// What the words of `rows` ask: the rows of a table.
+#[derive(Drop)]
+pub struct Rows<'a> {
+    /// Where the table lies; `-` is the standard input.
+    pub table: &'a str,
+}
+
+impl<'a> Rows<'a> {
+    /// Reads the table, and answers. Where it is not answered, nothing is written, unless a write fails.
+    pub fn answer<I: Inputs, W: Write + Drop>(
+        &self,
+        alloc: Global,
+        inputs: &I,
+        out: &mut W,
+    ) -> Result<Status, Stop<'a>>
+        ensures answers { IfSome (I.places inputs.now) (λ places. PrintsRows W.contents out.old out.new places self.now result) }
+        ensures unwritten { IsKept out.old out.new result }
+    {
+        let table = table_bytes(inputs, self.table)?;
+        Ok(rows_bytes(alloc, &table, out)?)
+    }
+}
 
 /// Prints a line for each row of a table, in the order of the file, and one with their number and how
 /// many of them are set aside.

@@ -9,9 +9,8 @@ mod without_memory;
 use crate::goals::trees::Asked;
 use cert_maker::{Cert, ConfigBox, Goal};
 use std::test::Fail;
-use test_layers::LayerFault;
+use test_marks::test_layers::{LayerFault, stack_of_base};
 use test_marks::{table_of, word};
-use test_stacks::stack_of_base;
 
 /// Makes the call that the first word names: a table, a box and a certificate with a goal are the words behind it.
 pub fn call(rt: &HostRuntime, words: &[String]) -> Result<(), Fail> {
@@ -36,8 +35,8 @@ fn call_of(rt: &HostRuntime, name: &str, asked: Asked<'_, '_>, more: &str) -> Re
         "check" => trees::checked(rt, asked, more)?,
         "make" => trees::made(rt, asked, more)?,
         "make_omitting" => trees::made_omitting(rt, asked, more)?,
-        "compare_stacks" => changes::compared(rt, asked, more)?,
-        "compare_with_itself" => changes::compared_with_itself(rt, asked, more)?,
+        "compare" => changes::compared(rt, asked, more)?,
+        "compare one stack" => changes::compared_with_itself(rt, asked, more)?,
         "Live::list" => live::listed(rt, asked.stack, asked.members)?,
         "config_box" => without_memory::members(rt, asked.members)?,
         "Goal::attr" => without_memory::attr(rt)?,

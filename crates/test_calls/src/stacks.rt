@@ -5,12 +5,11 @@ mod contents;
 mod themes;
 mod without_memory;
 
+use command_base::answer_text::overlay_map::Stack;
 use config_record::Device;
-use overlay_map::Stack;
 use std::test::Fail;
-use test_layers::{LayerFault, device_of};
+use test_marks::test_layers::{LayerFault, device_of, stack_of_base};
 use test_marks::{table_of, word};
-use test_stacks::stack_of_base;
 
 /// Makes the call that the first word names, over the stack of a table, for a device: the words behind it.
 pub fn call(rt: &HostRuntime, words: &[String]) -> Result<(), Fail> {
@@ -24,7 +23,8 @@ fn call_of(rt: &HostRuntime, name: &str, stack: &Stack<'_>, device: &Device) -> 
     match name {
         "bag" => bags::rows(rt, stack, device),
         "content_at" => contents::content(rt, stack, device)?,
-        "write_change" => contents::change(rt, stack, device)?,
+        "difference_at" => contents::difference(rt, stack, device)?,
+        "write_difference" => contents::written_difference(rt, stack, device)?,
         "Theme::apply" => themes::applied_after(rt, stack, device, false)?,
         "Theme::apply with force" => themes::applied_after(rt, stack, device, true)?,
         "Theme::apply first" => themes::applied_first(rt, stack, device)?,

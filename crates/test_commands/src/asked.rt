@@ -1,8 +1,9 @@
 //! What a command is asked of.
 
 use diff_command::{OpenedDiff, diff_bytes};
-use res_value::ResId;
 use resource_tool::resource_text::Cert;
+use resource_tool::table_commands::command_base::answer_text::ResId;
+use resource_tool::table_commands::ids_bytes;
 use resource_tool::{
     Goal, LayerParts, Opened, OpenedBox, OpenedCert, Status, ToolFault, Unwatched, attr_bytes,
     bag_bytes, check_bytes, dump_bytes, explain_bytes, make_bytes, make_omitting_bytes, map_bytes,
@@ -63,7 +64,7 @@ impl<'w> Asked<'w> {
             "dump_bytes" => dump_bytes(alloc, &self.table, out),
             "map_bytes" => map_bytes(alloc, &self.table, &self.of, out, &mut sink()),
             "map_bytes errors" => map_bytes(alloc, &self.table, &self.of, &mut sink(), out),
-            "diff_bytes" | "OpenedDiff::diff" => self.diff(alloc, out),
+            "diff_bytes" | "NamedDiff::diff" => self.diff(alloc, out),
             _ => self.answer_of_layers(alloc, &[(self.table.as_slice(), None)], out),
         }
     }
@@ -76,8 +77,9 @@ impl<'w> Asked<'w> {
             return diff_bytes(alloc, &old, &new, self.certificate, self.most_nodes, out);
         }
         let opened = OpenedDiff::read(alloc, &old, &new, self.certificate)?;
-        let pairs = opened.pairs(alloc)?;
-        opened.diff(alloc, &pairs, self.most_nodes, out)
+        let named = opened.named(alloc)?;
+        let pairs = named.pairs(alloc)?;
+        named.diff(alloc, &pairs, self.most_nodes, out)
     }
 
     fn answer_of_layers(
@@ -106,6 +108,7 @@ impl<'w> Asked<'w> {
     ) -> Result<Status, ToolFault> {
         let of = self.of.as_slice();
         match self.name {
+            "ids_bytes" => ids_bytes(alloc, layers, out),
             "survey_bytes" => survey_bytes(alloc, layers, Some(of), out),
             "Opened::query" => {
                 let opened = Opened::read(alloc, layers, of)?;
@@ -200,7 +203,7 @@ impl<'w> Asked<'w> {
 // The overlay or the other table that a word says, or the word's own bytes.
 fn of_word(alloc: Global, name: &str, word: &str) -> Result<Vec<u8>, Fail> {
     match name {
-        "map_bytes" | "map_bytes errors" | "diff_bytes" | "OpenedDiff::diff" => {
+        "map_bytes" | "map_bytes errors" | "diff_bytes" | "NamedDiff::diff" => {
             Ok(table_of(alloc, word)?)
         }
         _ => Ok(Vec::from_slice(alloc, word.as_bytes())?),

@@ -2,7 +2,7 @@
 
 use crate::bytes::{push_u16, push_u32};
 use crate::fault::LayerFault;
-use res_value::{ResId, Value};
+use overlay_map::{ResId, Value};
 use std::alloc::{AllocError, Global};
 
 /// What a row has.

@@ -16,11 +16,8 @@
 //! reference `@0x..`, an attribute `?0x..`, `empty`, or `string`, the first string of the table; a bag
 //! is `bag`, its parent, 0x00000000 where it has none, and its rows, each a name and a value.
 //!
-//! `sparse_layer_of_lines` puts the same rows into sparse types, so that a test can hold both tables against each
-//! other.
-//!
 //! Beside them stand two tables byte by byte, of one entry without names (`table_a`) and with them
-//! (`table_b`), for tests that set single bytes wrong.
+//! (`table_b`), for tests that set single bytes wrong. Tables are put over one another as the stacks that tests ask.
 #![tactic(auto)]
 
 mod bytes;
@@ -32,7 +29,7 @@ mod pool;
 mod qualifier;
 mod row;
 mod row_chain;
-mod sparse;
+mod stacks;
 mod table;
 mod type_chunk;
 mod unnamed_entry;
@@ -43,7 +40,6 @@ pub use named_entry::table_b;
 pub use pool::{pool_of_string, pool_of_style};
 pub use qualifier::{RECORD_SIZE, record_of};
 pub use row_chain::chain;
-pub use sparse::{sparse_layer_of_entries, sparse_layer_of_lines};
-pub use table::{layer, layer_of_entries, layer_of_lines, layer_with_string};
-pub use type_chunk::sparse_pair;
+pub use stacks::{SAME, push_base, push_overlay, stack_of_base, stack_of_two};
+pub use table::{layer, layer_of_lines, layer_with_string};
 pub use unnamed_entry::{put, table_a, table_with};

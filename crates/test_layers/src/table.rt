@@ -37,27 +37,7 @@ pub fn layer_with_string(alloc: Global, letter: u8, rows: &[&str]) -> Result<Vec
     table_of(alloc, &pool, &chunks)
 }
 
-/// The bytes of a table of one type, whose entries stand at these offsets among these bytes.
-pub fn layer_of_entries(
-    alloc: Global,
-    offsets: &[u32],
-    entries: &[u8],
-) -> Result<Vec<u8>, LayerFault> {
-    let count = u32::try_from(offsets.len()).map_err(|_| LayerFault::Malformed)?;
-    let record = record_of("").ok_or(LayerFault::Malformed)?;
-    let made = TestType {
-        is_sparse: false,
-        record: &record,
-        offsets,
-        entries,
-    };
-    let mut chunks = Vec::new(alloc);
-    push_type_spec(alloc, &mut chunks, count)?;
-    made.push_to(alloc, &mut chunks)?;
-    table_of(alloc, b"", &chunks)
-}
-
-pub(crate) fn lines_of(alloc: Global, lines: &str) -> Result<Vec<&str>, AllocError> {
+fn lines_of(alloc: Global, lines: &str) -> Result<Vec<&str>, AllocError> {
     let mut rows = Vec::new(alloc);
     for line in lines.lines() {
         rows.push(line)?;
@@ -65,7 +45,7 @@ pub(crate) fn lines_of(alloc: Global, lines: &str) -> Result<Vec<&str>, AllocErr
     Ok(rows)
 }
 
-pub(crate) fn empty_pool(alloc: Global) -> Result<Vec<u8>, AllocError> {
+fn empty_pool(alloc: Global) -> Result<Vec<u8>, AllocError> {
     let mut pool = Vec::new(alloc);
     push_chunk(&mut pool, STRING_POOL, &[0; STRING_POOL_HEADER], b"")?;
     Ok(pool)
@@ -97,7 +77,6 @@ fn push_type(
     }
     let entry = row.cell.entry(alloc)?;
     let made = TestType {
-        is_sparse: false,
         record: &record,
         offsets: &offsets,
         entries: &entry,
@@ -105,8 +84,8 @@ fn push_type(
     made.push_to(alloc, chunks)
 }
 
-/// A table of this pool and of one package, in which these chunks stand.
-pub(crate) fn table_of(alloc: Global, pool: &[u8], chunks: &[u8]) -> Result<Vec<u8>, LayerFault> {
+// A table of this pool and of one package, in which these chunks stand.
+fn table_of(alloc: Global, pool: &[u8], chunks: &[u8]) -> Result<Vec<u8>, LayerFault> {
     let mut package_header = [0; PACKAGE_HEADER];
     package_header[0] = PACKAGE_ID;
     let mut children = Vec::new(alloc);

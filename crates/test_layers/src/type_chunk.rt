@@ -10,34 +10,19 @@ const TYPE_SPEC: u16 = 0x0202;
 
 const TYPE_ID: u8 = 1;
 
-/// The flag of a type whose entry offsets name the indexes of their entries.
-const IS_SPARSE: u8 = 1;
-
 /// The size of a type chunk's header.
 const TYPE_HEADER: u32 = 72;
 
 /// The offset of an entry that is not there.
 pub(crate) const NO_ENTRY: u32 = 0xffff_ffff;
 
-/// How many bytes a word is in which a sparse type counts offsets.
-pub(crate) const WORD_SIZE: usize = 4;
-
 /// A type as it is written.
 #[derive(Clone, Copy, Debug)]
 pub(crate) struct TestType<'a> {
-    pub(crate) is_sparse: bool,
     pub(crate) record: &'a [u8],
-    /// The offsets of entries, or what `sparse_pair` gives.
+    /// The offsets of entries.
     pub(crate) offsets: &'a [u32],
     pub(crate) entries: &'a [u8],
-}
-
-/// The entry offset of a sparse type for the entry of an index, which stands so many words of four bytes behind where
-/// the entries begin.
-pub fn sparse_pair(index: u16, words: u16) -> u32 {
-    let [low, high] = index.to_le_bytes();
-    let [low_words, high_words] = words.to_le_bytes();
-    u32::from_le_bytes([low, high, low_words, high_words])
 }
 
 /// Appends the type spec, with no flags for each entry.
@@ -60,11 +45,10 @@ pub(crate) fn push_type_spec(
 impl TestType<'_> {
     /// Appends the type.
     pub(crate) fn push_to(&self, alloc: Global, chunks: &mut Vec<u8>) -> Result<(), LayerFault> {
-        let flags = if self.is_sparse { IS_SPARSE } else { 0 };
         let count = u32::try_from(self.offsets.len()).map_err(|_| LayerFault::Malformed)?;
         let entries_start = count.saturating_mul(4).saturating_add(TYPE_HEADER);
         let mut header = Vec::new(alloc);
-        header.extend_from_slice(&[TYPE_ID, flags, 0, 0])?;
+        header.extend_from_slice(&[TYPE_ID, 0, 0, 0])?;
         push_u32(&mut header, count)?;
         push_u32(&mut header, entries_start)?;
         header.extend_from_slice(self.record)?;

@@ -24,5 +24,6 @@ pub use arguments::{word, words};
 pub use marks::{begin, end};
 pub use reader::Reader;
 pub use table::table_of;
+pub use test_layers;
 pub use told::{tell, tell_found, tell_text};
 pub use writer::Writer;

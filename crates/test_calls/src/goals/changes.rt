@@ -1,99 +1,101 @@
-//! What two stacks say differently.
+//! How a resource differs in two stacks.
 
 use crate::goals::trees::Asked;
-use diff_text::stack_diff::{
-    Change, Content, Outcome, Outcomes, compare_stacks, compare_with_itself, name_pairs,
+use stack_diff::{
+    Change, Compared, Content, Difference, Label, NamedStack, ResId, Stack, Stacks, compare,
+    write_label, write_value_content,
 };
+use std::alloc::AllocError;
 use std::test::Fail;
-use test_layers::LayerFault;
+use test_marks::test_layers::{LayerFault, stack_of_base};
 use test_marks::{begin, end, table_of, tell, tell_text};
-use test_stacks::stack_of_base;
 
 /// How many nodes the trees have at most.
-const MOST_NODES: u32 = 10;
+const MOST_NODES: usize = 10;
 
-/// What the stack of another table says differently of each label.
+/// The resource that is compared.
+const FIRST: ResId = ResId(0x7f01_0000);
+
+/// How the stack of another table says it.
 pub fn compared(rt: &HostRuntime, asked: Asked<'_, '_>, table: &str) -> Result<(), Fail> {
     let bytes = table_of(rt.alloc(), table)?;
-    let new = stack_of_base(rt.alloc(), &bytes).ok_or(LayerFault::Malformed)?;
-    let pairs = name_pairs(rt.alloc(), asked.stack, &new)?;
-    begin(rt);
-    let found = compare_stacks(
-        rt.alloc(),
-        asked.stack,
-        &new,
-        &pairs,
-        asked.members,
-        MOST_NODES,
-    );
-    end(rt);
-    match found {
-        Ok(outcomes) => tell_outcomes(rt, &outcomes),
-        Err(fault) => tell(rt, fault),
-    }
+    let other = stack_of_base(rt.alloc(), &bytes).ok_or(LayerFault::Malformed)?;
+    compare_two(rt, asked, asked.stack, &other)
+}
+
+fn compare_two<'a>(
+    rt: &HostRuntime,
+    asked: Asked<'_, '_>,
+    old: &Stack<'a>,
+    new: &Stack<'a>,
+) -> Result<(), Fail> {
+    let old = NamedStack::of(rt.alloc(), old)?;
+    let new = NamedStack::of(rt.alloc(), new)?;
+    tell_compared(rt, asked, Stacks::two(&old, &new), MOST_NODES);
     Ok(())
 }
 
-/// What the stack says differently from itself, of the labels of another table's stack too.
+/// How the stack says it, beside itself; of at most so many nodes.
 pub fn compared_with_itself(
     rt: &HostRuntime,
     asked: Asked<'_, '_>,
-    table: &str,
+    most: &str,
 ) -> Result<(), Fail> {
-    let bytes = table_of(rt.alloc(), table)?;
-    let other = stack_of_base(rt.alloc(), &bytes).ok_or(LayerFault::Malformed)?;
-    let pairs = name_pairs(rt.alloc(), asked.stack, &other)?;
-    begin(rt);
-    let found = compare_with_itself(rt.alloc(), asked.stack, &pairs, asked.members, MOST_NODES);
-    end(rt);
-    match found {
-        Ok(outcomes) => tell_outcomes(rt, &outcomes),
-        Err(fault) => tell(rt, fault),
-    }
+    let named = NamedStack::of(rt.alloc(), asked.stack)?;
+    tell_compared(rt, asked, Stacks::one(&named), most.len());
     Ok(())
 }
 
-fn tell_outcomes(rt: &HostRuntime, outcomes: &Outcomes) {
-    match outcomes {
-        Outcomes::All(outcomes) => {
-            for outcome in outcomes {
-                tell_outcome(rt, outcome);
-            }
-        }
-        Outcomes::NodeLimit => tell_text(rt, b"NodeLimit"),
-    }
+fn tell_compared(rt: &HostRuntime, asked: Asked<'_, '_>, stacks: Stacks<'_, '_>, most: usize) {
+    begin(rt);
+    let found = compare(rt.alloc(), stacks, FIRST, FIRST, asked.members, most);
+    end(rt);
+    tell_found(rt, &found);
 }
 
-// How many changes there are; and of each the two contents, and how many boxes it has.
-fn tell_outcome(rt: &HostRuntime, outcome: &Outcome) {
-    match outcome {
-        Outcome::Removed => tell_text(rt, b"Removed"),
-        Outcome::Added => tell_text(rt, b"Added"),
-        Outcome::Both(changes) => {
-            tell(rt, changes.len());
-            for change in changes {
+// How many changes there are; and of each the difference, and how many boxes it has.
+fn tell_found(rt: &HostRuntime, found: &Result<Option<Compared<'_>>, AllocError>) {
+    match found {
+        Ok(Some(compared)) => {
+            tell(rt, compared.changes.len());
+            for change in &compared.changes {
                 tell_change(rt, change);
             }
         }
+        Ok(None) => tell_text(rt, b"NodeLimit"),
+        Err(fault) => tell(rt, fault),
     }
 }
 
-fn tell_change(rt: &HostRuntime, change: &Change) {
-    tell_content(rt, &change.before);
-    tell_content(rt, &change.after);
+fn tell_change(rt: &HostRuntime, change: &Change<'_>) {
+    match &change.difference {
+        Difference::Rows(rows) => tell(rt, rows.len()),
+        Difference::Contents { before, after } => {
+            tell_content(rt, before);
+            tell_content(rt, after);
+        }
+    }
     tell(rt, change.boxes.len());
 }
 
-// The text of a value, or of the id that selects nothing, or how many rows a bag has.
-fn tell_content(rt: &HostRuntime, content: &Content) {
+// The text of a value, or of the label of what selects nothing, or how many rows a bag has.
+fn tell_content(rt: &HostRuntime, content: &Content<'_>) {
     match content {
-        Content::Value(text) => tell_text(rt, text),
-        Content::Bag(rows) => tell(rt, rows.len()),
-        Content::Absent(id) => {
-            tell_text(rt, b"Absent");
-            tell_text(rt, id);
+        Content::Value(value) => {
+            let mut text = Vec::new(rt.alloc());
+            let _ = write_value_content(value, &mut text);
+            tell_text(rt, &text);
         }
-        Content::TooManyReferences => tell_text(rt, b"TooManyReferences"),
-        Content::TooManyParents => tell_text(rt, b"TooManyParents"),
+        Content::Bag(rows) => tell(rt, rows.len()),
+        Content::Absent(label) => tell_label(rt, b"Absent", label),
+        Content::TooManyReferences(label) => tell_label(rt, b"TooManyReferences", label),
+        Content::TooManyParents(label) => tell_label(rt, b"TooManyParents", label),
     }
+}
+
+fn tell_label(rt: &HostRuntime, why: &[u8], label: &Label<'_>) {
+    let mut text = Vec::new(rt.alloc());
+    let _ = write_label(label, &mut text);
+    tell_text(rt, why);
+    tell_text(rt, &text);
 }

@@ -1,7 +1,7 @@
 //! Certificates that are checked and made.
 
 use cert_maker::{Cert, ConfigBox, Goal, Made, Omitting, Unwatched, check, make, make_omitting};
-use overlay_map::Stack;
+use command_base::answer_text::overlay_map::Stack;
 use std::test::Fail;
 use test_marks::{begin, end, tell, tell_found, tell_text};
 

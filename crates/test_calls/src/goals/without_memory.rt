@@ -3,7 +3,7 @@
 use cert_maker::{ConfigBox, Goal, ResId};
 use config_record::{Coord, Record};
 use std::test::Fail;
-use test_layers::{LayerFault, record_of};
+use test_marks::test_layers::{LayerFault, record_of};
 use test_marks::{begin, end, tell};
 
 pub fn members(rt: &HostRuntime, members: &ConfigBox) -> Result<(), Fail> {

@@ -1,6 +1,6 @@
 //! What words stand for.
 
-use named_resources::{Named, NamedGoal, NamedSet, Stack, goals_named, id_named, ids_named};
+use names::{Named, NamedGoal, NamedSet, Stack, goals_named, id_named, ids_named};
 use std::test::Fail;
 use test_marks::{begin, end, tell_found};
 

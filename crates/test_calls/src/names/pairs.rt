@@ -1,12 +1,11 @@
 //! Which pairs words ask for.
 
-use diff_text::stack_diff::name_pairs;
-use named_resources::{NamedSet, pairs_named};
+use names::{NamedSet, pairs_named};
+use stack_diff::{NamedStack, name_pairs};
 use std::alloc::{AllocError, Global};
 use std::test::Fail;
-use test_layers::LayerFault;
+use test_marks::test_layers::{LayerFault, stack_of_base};
 use test_marks::{begin, end, table_of, tell_found, word};
-use test_stacks::stack_of_base;
 
 /// The pairs for which words ask: behind the words that name the table of the old stack and that of the new one.
 pub fn told(rt: &HostRuntime, words: &[String]) -> Result<(), Fail> {
@@ -19,7 +18,9 @@ pub fn told(rt: &HostRuntime, words: &[String]) -> Result<(), Fail> {
 fn told_of(rt: &HostRuntime, old: &[u8], new: &[u8], words: &[String]) -> Result<(), Fail> {
     let old_stack = stack_of_base(rt.alloc(), old).ok_or(LayerFault::Malformed)?;
     let new_stack = stack_of_base(rt.alloc(), new).ok_or(LayerFault::Malformed)?;
-    let pairs = name_pairs(rt.alloc(), &old_stack, &new_stack)?;
+    let old = NamedStack::of(rt.alloc(), &old_stack)?;
+    let new = NamedStack::of(rt.alloc(), &new_stack)?;
+    let pairs = name_pairs(rt.alloc(), &old, &new)?;
     let sets = sets_of(rt.alloc(), words)?;
     begin(rt);
     let found = pairs_named(rt.alloc(), pairs, &sets);

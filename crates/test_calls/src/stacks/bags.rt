@@ -1,8 +1,8 @@
 //! Bags.
 
-use bags_themes::bag;
+use command_base::answer_text::bags_themes::bag;
+use command_base::answer_text::overlay_map::{ResId, Stack};
 use config_record::Device;
-use overlay_map::{ResId, Stack};
 use test_marks::{begin, end, tell};
 
 pub fn rows(rt: &HostRuntime, stack: &Stack<'_>, device: &Device) {

@@ -1,8 +1,8 @@
 //! Themes of two styles, the bags of entries 0 and 1.
 
-use bags_themes::Theme;
+use command_base::answer_text::bags_themes::Theme;
+use command_base::answer_text::overlay_map::{ResId, Stack};
 use config_record::Device;
-use overlay_map::{ResId, Stack};
 use std::test::Fail;
 use test_marks::{begin, end, tell};
 

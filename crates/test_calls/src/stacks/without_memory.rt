@@ -1,12 +1,12 @@
 //! Calls that take no memory.
 
-use bags_themes::reference_resolver::{resolve_within, select};
-use bags_themes::{Theme, chain, resolve};
+use command_base::answer_text::bags_themes::reference_resolver::{resolve_within, select};
+use command_base::answer_text::bags_themes::{Theme, chain, resolve};
+use command_base::answer_text::overlay_map::{ResId, Stack};
 use config_precedence::{better, deciding, matches, mismatch, same};
 use config_record::{Coord, Device, Fields, Locale, Record};
-use overlay_map::{ResId, Stack};
 use std::test::Fail;
-use test_layers::{LayerFault, record_of};
+use test_marks::test_layers::{LayerFault, record_of};
 use test_marks::{begin, end, tell, tell_text};
 
 /// The resource of entry 0.

@@ -1,7 +1,7 @@
 //! Calls over a table.
 
-use name_index::{Name, find_names};
-use overlay_map::Table;
+use command_base::answer_text::overlay_map::Table;
+use names::{Name, find_names};
 use std::test::Fail;
 use test_marks::{begin, end, table_of, tell, tell_found};
 

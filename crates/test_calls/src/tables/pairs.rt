@@ -1,12 +1,11 @@
 //! The labels of two stacks.
 
-use diff_text::stack_diff::{NamePair, name_pairs};
-use overlay_map::Stack;
-use std::alloc::Global;
+use command_base::answer_text::overlay_map::Stack;
+use stack_diff::{NamePair, NamedStack, name_pairs};
+use std::alloc::{AllocError, Global};
 use std::test::Fail;
-use test_layers::LayerFault;
+use test_marks::test_layers::{LayerFault, SAME, push_base, push_overlay};
 use test_marks::{begin, end, table_of, tell};
-use test_stacks::{SAME, push_base, push_overlay};
 
 /// Stands between two layers.
 const COMMA: char = ',';
@@ -34,13 +33,24 @@ fn told_of(rt: &HostRuntime, layers: &[Bytes]) -> Result<(), Fail> {
     let old = stack_of(rt.alloc(), layers, false).ok_or(LayerFault::Malformed)?;
     let new = stack_of(rt.alloc(), layers, true).ok_or(LayerFault::Malformed)?;
     begin(rt);
-    let found = name_pairs(rt.alloc(), &old, &new);
+    let found = pairs_of(rt.alloc(), &old, &new);
     end(rt);
     match found {
         Ok(pairs) => tell_each(rt, &pairs),
         Err(fault) => tell(rt, fault),
     }
     Ok(())
+}
+
+fn pairs_of<'a>(
+    alloc: Global,
+    old: &Stack<'a>,
+    new: &Stack<'a>,
+) -> Result<Vec<NamePair<'a>>, AllocError> {
+    let old = NamedStack::of(alloc, old)?;
+    let new = NamedStack::of(alloc, new)?;
+    let pairs = name_pairs(alloc, &old, &new)?;
+    Ok(pairs)
 }
 
 fn tell_each(rt: &HostRuntime, pairs: &[NamePair<'_>]) {

@@ -1,11 +1,11 @@
 //! Calls that take no memory.
 
 use chunk_walk::{Chunks, chunk_at, u16_at, u32_at};
-use overlay_map::{MapRows, ResId, Row, Table, Value};
-use res_value::write_value;
+use command_base::answer_text::overlay_map::{
+    MapRows, Pool, ResId, Row, Table, Value, write_value,
+};
 use std::test::Fail;
-use string_pool::Pool;
-use test_layers::{pool_of_string, pool_of_style};
+use test_marks::test_layers::{pool_of_string, pool_of_style};
 use test_marks::{begin, end, table_of, tell, tell_text};
 
 pub fn chunks(rt: &HostRuntime) -> Result<(), Fail> {

@@ -1,7 +1,7 @@
 //! Certificates, and words of goals.
 
 use cert_checker::{Cert, Goal};
-use name_words::NamedGoal;
+use names::NamedGoal;
 use std::test::Fail;
 use test_marks::{begin, end, tell, tell_found, tell_text};
 

@@ -1,9 +1,9 @@
 //! Devices, boxes and id maps.
 
 use cert_checker::{Choice, ConfigBox, Split, Test};
+use command_base::answer_text::overlay_map::{IdMap, ResId};
+use config_box::join_boxes;
 use config_record::{Coord, Device};
-use joined_boxes::join_boxes;
-use overlay_map::{IdMap, ResId};
 use std::alloc::{AllocError, Global};
 use std::test::Fail;
 use test_marks::{begin, end, tell, tell_text};

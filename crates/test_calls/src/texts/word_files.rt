@@ -1,6 +1,6 @@
 //! Files of words.
 
-use name_words::words_in_text;
+use names::words_in_text;
 use test_marks::{begin, end, tell_found};
 
 pub fn text(rt: &HostRuntime, text: &str) {

@@ -1,5 +1,5 @@
 use Rattle.std.proofs.Common.{◌++◌, map, take}
-use Rattle.content_keys.specs.ContentKeys.{HoldsIds}
+use Rattle.reference_resolver.specs.overlay_map.ContentKeys.{HoldsIds}
 use Rattle.bags_themes.proofs.attribute_values.keys_of_attributes.Given as goal
 
 -- the attributes so far were taken

@@ -17,11 +17,9 @@ at-turn asked place goal within is =
 
 pub returns-then-not-branch : goal.returns-then-not-branch
 returns-then-not-branch g c =
-    let l = c.loop-place in (
-      l.judged.omitted.items,
-      subst (Judges _ _ _ _ l.judged c.add.new.self) c.if-not-branch.true c.in_ok-add.ensures (map goal_seen c.args.asked.now) c.args.max_nodes
-          (at-turn c.args.asked.now l.place c.index-asked-place.result c.loop-place-test.true c.index-asked-place.is) l.invariant,
-    )
+    let l = c.loop-place in
+    subst (Judges _ _ _ _ l.judged c.add.new.self) c.if-not-branch.true c.in_ok-add.ensures (map goal_seen c.args.asked.now) c.args.max_nodes
+    (at-turn c.args.asked.now l.place c.index-asked-place.result c.loop-place-test.true c.index-asked-place.is) l.invariant
 
 pub loop-place-preserved : goal.loop-place-preserved
 loop-place-preserved g c =

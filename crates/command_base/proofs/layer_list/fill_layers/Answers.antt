@@ -2,7 +2,7 @@ use Rattle.std.proofs.Common.{sym, ap, ◌∙◌, arith, Ok, map}
 use Rattle.std.proofs.lemmas.List.{take_all, take_more_set}
 use Rattle.std.proofs.lemmas.Result.{err_from_is_err_and}
 use Rattle.serde_json.specs.View.{view}
-use Rattle.fault_text.proofs.json_input_proofs.EachSteps.{EachAllBut-next_item_seen, EachAllBut-stops_item, EachAllBut-end_item}
+use Rattle.command_base.proofs.json_input_proofs.EachSteps.{EachAllBut-next_item_seen, EachAllBut-stops_item, EachAllBut-end_item}
 use Rattle.command_base.specs.LayerList.{layer_paths_in}
 use Rattle.command_base.specs.LayerListSeen.{lent_paths_of, lent_paths_seen}
 use Rattle.command_base.proofs.layer_list.fill_layers.Goals as goal

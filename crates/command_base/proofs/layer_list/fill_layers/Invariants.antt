@@ -1,6 +1,6 @@
 use Rattle.std.proofs.Common.{map, take}
 use Rattle.serde_json.specs.View.{view}
-use Rattle.fault_text.proofs.json_input_proofs.EachSteps.{EachAllBut}
+use Rattle.command_base.proofs.json_input_proofs.EachSteps.{EachAllBut}
 use Rattle.command_base.specs.LayerList.{layer_paths_in}
 use Rattle.command_base.specs.LayerListSeen.{lent_paths_of}
 use Rattle.command_base.proofs.layer_list.fill_layers.Given as goal

@@ -1,12 +1,12 @@
 use Rattle.std.proofs.Common.{map}
 use Rattle.std.specs.List.{zip}
 use Rattle.contract_words.proofs.TextSteps.{PutsAllBut}
-use Rattle.diff_text.specs.name_pairs.Pairs.{pair_of}
-use Rattle.diff_text.specs.stack_diff.Outcomes.{outcome_of}
+use Rattle.stack_diff.specs.names.Pairs.{pair_of}
+use Rattle.diff_command.specs.Judged.{told_of}
 use Rattle.diff_command.specs.DiffLines.{pair_lines}
 use Rattle.diff_command.proofs.lines.write_labels.Given as goal
 
 abbrev pub invariant-loop-pair : goal.invariant-loop-pair
 invariant-loop-pair g l =
-    PutsAllBut (pair_lines l.whole) (g.W.Write.contents l.fn.out) (g.W.Write.contents l.out) (zip (map pair_of l.pairs) (map outcome_of l.outcomes))
-    (zip (map pair_of l.pair-iterator.a.rest.now) (map outcome_of l.pair-iterator.b.rest.now))
+    PutsAllBut pair_lines (g.W.Write.contents l.fn.out) (g.W.Write.contents l.out) (zip (map pair_of l.pairs) (map told_of l.told))
+    (zip (map pair_of l.pair-iterator.a.rest.now) (map told_of l.pair-iterator.b.rest.now))

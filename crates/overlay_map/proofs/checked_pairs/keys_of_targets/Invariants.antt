@@ -1,5 +1,5 @@
 use Rattle.std.proofs.Common.{take}
-use Rattle.content_keys.specs.ContentKeys.{HoldsIds}
+use Rattle.overlay_map.specs.ContentKeys.{HoldsIds}
 use Rattle.overlay_map.specs.IdMap.{targets_of}
 use Rattle.overlay_map.proofs.checked_pairs.keys_of_targets.Given as goal
 

@@ -1,6 +1,6 @@
 use Rattle.std.proofs.Common.{Result, map, subst, sym}
 use Rattle.resource_text.specs.cert_maker.res_value.Goal.{goal_seen}
-use Rattle.table_commands.specs.fault_text.declared.fault.ToolFault.{ToolFault}
+use Rattle.table_commands.specs.command_base.declared.fault.ToolFault.{ToolFault}
 use Rattle.resource_tool.specs.MakeOutput.{MakeInputs}
 use Rattle.resource_tool.specs.OmitOutput.{IsOmitOutput, LinesFirst}
 use Rattle.resource_tool.proofs.omit.make_omitting_bytes.Goals as goal

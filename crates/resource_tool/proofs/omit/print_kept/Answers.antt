@@ -9,7 +9,7 @@ use Rattle.resource_text.specs.cert_maker.declared.omitted.Omitted.{Omitted}
 use Rattle.resource_text.specs.cert_maker.declared.omitted.Omitting.{Omitting}
 use Rattle.table_commands.specs.command_base.declared.status.Status.TheVariants.{Negative}
 use Rattle.table_commands.specs.command_base.Output.{Output}
-use Rattle.table_commands.specs.fault_text.declared.fault.ToolFault.{ToolFault}
+use Rattle.table_commands.specs.command_base.declared.fault.ToolFault.{ToolFault}
 use Rattle.table_commands.specs.MapOutput.{MapOutput}
 use Rattle.resource_tool.specs.OmitOutput.{kept_output, lines_of, omit_output}
 use Rattle.resource_tool.proofs.omit.print_kept.Goals as goal

@@ -1,10 +1,18 @@
-use Rattle.std.proofs.Common.{Option, subst}
-use Rattle.stack_diff.specs.declared.tree.Leaves.{Leaves}
-use Rattle.stack_diff.specs.Tree.{IsGrown}
-use Rattle.stack_diff.proofs.Joining.{changes-of}
+use Rattle.std.proofs.Common.{◌≡◌, ◌<◌, arith, map, refl, sym, ap, ◌∙◌}
+use Rattle.stack_diff.specs.Stacks.{stacks_of}
+use Rattle.stack_diff.specs.Changes.{change_of}
+use Rattle.stack_diff.proofs.Unchanged.{told-itself, tree-itself}
 use Rattle.stack_diff.proofs.comparison.compare.Goals as goal
 
-pub returns-in_ok-changes-in-Some : goal.returns-in_ok-changes-in-Some
-returns-in_ok-changes-in-Some c =
-    let grown = subst (λ (leaves : Option Leaves). IsGrown c.args.before c.args.after c.args.members.now c.args.most leaves) c.in-Some.is c.in_ok-leaves.ensures in
-    (changes-of c.args.before c.args.after c.args.members.now c.in-Some.leaves.told.items c.in_ok-changes-in-Some.changes.items grown.0 c.in_ok-changes-in-Some.ensures, grown.1, grown.2)
+pub returns-then-most-eq0 : goal.returns-then-most-eq0
+returns-then-most-eq0 c =
+    let itself = sym c.is_itself.ensures ∙ c.if-not-is_itself.false in
+    tree-itself (stacks_of c.args.stacks) c.args.members.now c.args.old c.args.new itself (λ nodes. c.args.most < nodes) (omega arith)
+
+pub returns : goal.returns
+returns c =
+    let itself = sym c.is_itself.ensures ∙ c.if-not-is_itself.false in (
+      told-itself (stacks_of c.args.stacks) c.args.members.now c.args.old c.args.new itself (map change_of c.new.result.items) c.args.stacks.one (ap (map change_of) c.new.ensures.items),
+      tree-itself (stacks_of c.args.stacks) c.args.members.now c.args.old c.args.new itself (λ nodes. nodes ≡ 1) refl,
+      omega arith,
+    )

@@ -4,12 +4,14 @@ use Rattle.cert_maker.specs.box_answers.Members.{IsMember}
 use Rattle.cert_maker.specs.cert_checker.box_trace.Parting.{answer_of}
 use Rattle.cert_maker.specs.Needed.{IsNeededTest}
 use Rattle.cert_maker.specs.config_box.Tests.{test_of}
-use Rattle.stack_diff.specs.PairBox.{members_of}
-use Rattle.stack_diff.proofs.Both.{adds-test, parted}
+use Rattle.stack_diff.specs.declared.pair_box.PairTrace.{PairTrace}
+use Rattle.stack_diff.specs.PairBox.{members_of, IsPairTrace}
+use Rattle.stack_diff.proofs.Both.{adds-test}
 use Rattle.stack_diff.proofs.tree.add_node.Goals as goal
 
-pub returns-in-Some : goal.returns-in-Some
-returns-in-Some c =
-    inl (adds-test c.args.before c.args.after c.args.part c.parting.new.self c.in-Some.parting (test_of c.in_ok-test.test) c.args.open_boxes.now.items c.open_halves.new.open_boxes.items c.args.told.now.items c.in_ok-parting.ensures.members
-    c.in_ok-parting.ensures.open (parted c.args.before c.args.after (members_of c.args.part) c.in_ok-parting.field-0 c.in-Some.parting c.in-Some.is c.in_ok-parting.ensures.parts)
-    (subst (λ (sets : List SetOf). IsNeededTest (answer_of c.in-Some.parting) sets (IsMember sets) (test_of c.in_ok-test.test)) c.members.ensures c.in_ok-test.ensures.needed) c.in_ok-open_halves.ensures)
+pub returns : goal.returns
+returns c =
+    let parts = subst (λ (trace : PairTrace). IsPairTrace c.args.pair (members_of c.args.part) trace) c.in-Parted.is c.in_ok-parting.ensures.trace in
+    inl (adds-test c.args.pair c.args.part c.trace.new.self c.in-Parted.parting (test_of c.in_ok-test.test) c.args.open_boxes.now.items c.open_halves.new.open_boxes.items c.args.told.now.items c.in_ok-parting.ensures.members
+    c.in_ok-parting.ensures.open parts
+    (subst (λ (sets : List SetOf). IsNeededTest (answer_of c.in-Parted.parting) sets (IsMember sets) (test_of c.in_ok-test.test)) c.members-2.ensures c.in_ok-test.ensures.needed) c.in_ok-open_halves.ensures)

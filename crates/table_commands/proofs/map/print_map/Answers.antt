@@ -8,4 +8,4 @@ use Rattle.table_commands.proofs.map.print_map.Goals as goal
 pub returns-clause-reads_back : goal.returns-clause-reads_back
 returns-clause-reads_back g c =
     made-reads_back c.args.target.now c.args.overlay.now c.in_ok-pairs.pairs.items c.in_ok-pairs.ensures
-    (subst (λ (pairs : List IdPair). All IdsReadBack pairs) c.deref-2.ensures.value c.in_ok-write_map.ensures.reads_back)
+    (subst (λ (pairs : List IdPair). All IdsReadBack pairs) c.deref-4.ensures.value c.in_ok-write_map.ensures.reads_back)

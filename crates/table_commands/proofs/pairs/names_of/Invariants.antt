@@ -1,5 +1,5 @@
 use Rattle.std.proofs.Common.{◌≡◌, map, take}
-use Rattle.name_index.specs.Names.{name_of}
+use Rattle.names.specs.Names.{name_of}
 use Rattle.table_commands.specs.NamedTarget.{named_seen}
 use Rattle.table_commands.proofs.pairs.names_of.Given as goal
 

@@ -5,8 +5,7 @@ use Rattle.stack_diff.proofs.change.Change.joined.Goals as goal
 
 pub returns : goal.returns
 returns c = record {
-  before = refl;
-  after = refl;
+  difference = refl;
   devices = c.in_ok-boxes.ensures.devices;
   some = c.in_ok-boxes.ensures.some;
   kinds = c.in_ok-boxes.ensures.kinds;

@@ -1,0 +1,6 @@
+pub mod TextLemmas
+pub mod AlikeLemmas
+pub mod NearerLemmas
+pub mod BetterLaws
+pub mod ReadBack
+pub mod NumberLemmas

@@ -1,0 +1,31 @@
+-- How contracts see the bytes of files.
+use Rattle.std.specs.Prelude.{ℕ, List, map, Vec}
+use Rattle.std.specs.Option.{option_map}
+use Rattle.std.specs.declared.alloc.Global.{Global}
+use Rattle.command_base.specs.StackBytes as stacks
+use Rattle.command_base.specs.declared.layer_files.LayerBytes.{LayerBytes}
+use Rattle.command_base.specs.declared.layer_files.LayerFiles.{LayerFiles}
+use Rattle.command_base.specs.declared.device_files.DeviceFiles.{DeviceFiles}
+use Rattle.command_base.specs.declared.device_files.AskedFiles.{AskedFiles}
+use Rattle.command_base.specs.DeviceFiles.{DeviceBytes, AskedBytes}
+use Rattle.command_base.specs.FileWords.{strings_held}
+
+abbrev pub bytes_of : Vec ℕ Global → List ℕ
+bytes_of bytes = bytes.items
+
+-- the bytes of a layer
+abbrev pub layer_held : LayerBytes → stacks.LayerBytes
+layer_held layer = record { table = layer.table.items; map = option_map bytes_of layer.map }
+
+-- those of all layers
+abbrev pub all_held : Vec LayerBytes Global → List stacks.LayerBytes
+all_held layers = map layer_held layers.items
+
+abbrev pub layers_held : LayerFiles → List stacks.LayerBytes
+layers_held files = all_held files.files
+
+abbrev pub devices_held : DeviceFiles → DeviceBytes
+devices_held files = record { layers = layers_held files.layers; devices = files.devices.items }
+
+abbrev pub asked_held : AskedFiles → AskedBytes
+asked_held asked = record { layers = layers_held asked.layers; devices = asked.devices.items; words = strings_held asked.words }

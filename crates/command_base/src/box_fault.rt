@@ -1,0 +1,25 @@
+//! Faults of a box, written.
+
+ghost use Rattle.answer_text.specs.contract_words.Writes.{Writes};
+ghost use Rattle.command_base.specs.BoxFaultText.{box_fault_text};
+
+use answer_text::write_named_coord;
+use cert_tree::BoxFault;
+use std::io::{self, Write};
+
+/// Writes the name of a box's fault, and the coordinate that has it.
+#[tactic(auto, unfolding(crate::specs::BoxFaultText::box_fault_text))]
+pub(crate) fn write_box_fault<W: Write + Drop>(fault: BoxFault, out: &mut W) -> io::Result<()>
+    ensures { Writes W.contents out.old out.new result (box_fault_text fault) }
+{
+    match fault {
+        BoxFault::Syntax => out.write_all(b"Syntax"),
+        BoxFault::Shape => out.write_all(b"Shape"),
+        BoxFault::Empty(coord) => write_named_coord("Empty", coord, out),
+        BoxFault::TooMany(coord) => write_named_coord("TooMany", coord, out),
+        BoxFault::FieldRange(coord) => write_named_coord("FieldRange", coord, out),
+        BoxFault::RegionAlone => out.write_all(b"RegionAlone"),
+        BoxFault::Density => out.write_all(b"Density"),
+        BoxFault::OutOfMemory => out.write_all(b"OutOfMemory"),
+    }
+}

@@ -1,0 +1,23 @@
+//! Faults of a device, written.
+
+ghost use Rattle.answer_text.specs.contract_words.Writes.{Writes};
+ghost use Rattle.command_base.specs.DeviceFaultText.{device_fault_text};
+
+use answer_text::overlay_map::DeviceFault;
+use answer_text::write_named_coord;
+use std::io::{self, Write};
+
+/// Writes the name of a device's fault, and the coordinate that has it.
+#[tactic(auto, unfolding(crate::specs::DeviceFaultText::device_fault_text))]
+pub(crate) fn write_device_fault<W: Write + Drop>(fault: DeviceFault, out: &mut W) -> io::Result<()>
+    ensures { Writes W.contents out.old out.new result (device_fault_text fault) }
+{
+    match fault {
+        DeviceFault::Syntax => out.write_all(b"Syntax"),
+        DeviceFault::Shape => out.write_all(b"Shape"),
+        DeviceFault::FieldRange(coord) => write_named_coord("FieldRange", coord, out),
+        DeviceFault::RegionAlone => out.write_all(b"RegionAlone"),
+        DeviceFault::Density => out.write_all(b"Density"),
+        DeviceFault::OutOfMemory => out.write_all(b"OutOfMemory"),
+    }
+}

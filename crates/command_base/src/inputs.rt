@@ -1,0 +1,110 @@
+//! What gives the bytes of inputs.
+
+ghost use Rattle.std.specs.Prelude.{◌≡◌, ◌≢◌, Option, None, IfSome, string_bytes};
+ghost use Rattle.std.specs.IoError.{error_kind};
+ghost use Rattle.command_base.specs.Input.{ReadsWithin};
+ghost use Rattle.command_base.specs.declared.input.InputFault.TheVariants as input_faults;
+ghost use Rattle.contract_words.specs.Exact.{GivesOr};
+ghost use Rattle.command_base.specs.Place.{place_of};
+ghost use Rattle.command_base.specs.Inputs.{Places, file_of, layer_file_of, most_bytes, stop_at, table_of};
+ghost use Rattle.command_base.specs.FilesSeen.{bytes_of};
+ghost use Rattle.command_base.specs.Stop.{GivesOrStops, stop_of};
+
+use crate::fault::ToolFault;
+use crate::input::{InputFault, read_input};
+use crate::place::Place;
+use crate::stop::Stop;
+use std::alloc::Global;
+use std::fs;
+use std::io::{self, ErrorKind, Read};
+use std::rt::Files;
+
+/// How many bytes an input has at most.
+const MOST_BYTES: usize = 268_435_456;
+
+/// What gives the bytes of inputs.
+pub trait Inputs {
+    /// What each place has, where that is known.
+    ghost places: { Self → Option Places } = { λ _. None };
+
+    fn read(&self, place: Place<'_>) -> Result<Vec<u8>, InputFault>
+        ensures { IfSome (places self.now)
+            (λ places. GivesOr input_faults.OutOfMemory bytes_of result (places (place_of place.entry))) };
+}
+
+/// The files and the standard input of the process.
+#[derive(Drop)]
+pub struct ProcessInputs<'a, R> {
+    pub rt: &'a R,
+}
+
+impl<R: Input + Files + AllocGlobal> Inputs for ProcessInputs<'_, R> {
+    fn read(&self, place: Place<'_>) -> Result<Vec<u8>, InputFault> {
+        let alloc = self.rt.alloc();
+        match place {
+            Place::StandardInput => read_within_limit(alloc, &mut self.rt.reader()),
+            Place::File(path) => match fs::open(self.rt, path) {
+                Ok(mut file) => read_within_limit(alloc, &mut file),
+                Err(error) => Err(fault_of_opening(&error)),
+            },
+        }
+    }
+}
+
+// A file that is not opened is not read, unless memory ran out.
+fn fault_of_opening(error: &io::Error) -> InputFault
+    ensures memory { error_kind error.now ≡ ErrorKind.OutOfMemory → result ≡ InputFault.OutOfMemory }
+    ensures other { error_kind error.now ≢ ErrorKind.OutOfMemory → result ≡ InputFault.Read }
+{
+    if error.kind() == ErrorKind::OutOfMemory {
+        InputFault::OutOfMemory
+    } else {
+        InputFault::Read
+    }
+}
+
+fn read_within_limit<R: Read>(alloc: Global, reader: &mut R) -> Result<Vec<u8>, InputFault>
+    ensures { ReadsWithin most_bytes (R.remaining reader.old) (R.remaining reader.new) result }
+{
+    read_input(alloc, reader, MOST_BYTES)
+}
+
+/// The bytes of the table at a path, or on the standard input.
+pub fn table_bytes<'a, I: Inputs>(inputs: &I, path: &'a str) -> Result<Vec<u8>, Stop<'a>>
+    ensures { IfSome (I.places inputs.now) (λ places. GivesOrStops bytes_of result (table_of places path.entry.now)) }
+{
+    match inputs.read(Place::of_table(path)) {
+        Ok(bytes) => Ok(bytes),
+        Err(fault) => Err(stop_at(Stop::File(path), fault)),
+    }
+}
+
+/// The bytes of the file at a path.
+pub fn file_bytes<'a, I: Inputs>(inputs: &I, path: &'a str) -> Result<Vec<u8>, Stop<'a>>
+    ensures { IfSome (I.places inputs.now) (λ places. GivesOrStops bytes_of result (file_of places path.entry.now)) }
+{
+    match inputs.read(Place::File(path)) {
+        Ok(bytes) => Ok(bytes),
+        Err(fault) => Err(stop_at(Stop::File(path), fault)),
+    }
+}
+
+/// The bytes of the file at a path that a list of layers names.
+pub fn layer_file_bytes<I: Inputs>(inputs: &I, path: String) -> Result<Vec<u8>, Stop<'static>>
+    ensures { IfSome (I.places inputs.now) (λ places. GivesOrStops bytes_of result (layer_file_of places (string_bytes path))) }
+{
+    match inputs.read(Place::File(path.as_str())) {
+        Ok(bytes) => Ok(bytes),
+        Err(fault) => Err(stop_at(Stop::LayerFile(path), fault)),
+    }
+}
+
+// Why the program stops where an input is not read: as `unread` says, which names its path, or for want of memory.
+fn stop_at<'a>(unread: Stop<'a>, fault: InputFault) -> Stop<'a>
+    ensures { stop_of result ≡ stop_at (stop_of unread.entry) fault }
+{
+    match fault {
+        InputFault::Read | InputFault::TooLarge => unread,
+        InputFault::OutOfMemory => Stop::Tool(ToolFault::OutOfMemory),
+    }
+}

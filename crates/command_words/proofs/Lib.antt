@@ -1,4 +1,0 @@
-pub mod WordSteps
-pub mod Rows
-pub mod CommandLineFacts
-pub mod NamedCommand

@@ -1,9 +1,0 @@
-use Rattle.std.proofs.Common.{map}
-use Rattle.json_input.proofs.EachSteps.{EachAllBut}
-use Rattle.command_words.specs.AskedWords.{asked_word, texts_of}
-use Rattle.command_words.proofs.WordSteps.{word_of}
-use Rattle.command_words.proofs.asked_words.asked_words.Given as goal
-
--- those of the words so far
-abbrev pub invariant-loop-word : goal.invariant-loop-word
-invariant-loop-word l = EachAllBut (asked_word l.asks) (texts_of l.read) l.word-index (map word_of l.words)

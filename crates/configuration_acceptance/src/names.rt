@@ -1,9 +1,0 @@
-//! What is called of the crates of devices, rules and boxes, by the crate that hands it on: who uses the library finds it
-//! there.
-
-pub use config_box::{BoxFault, Choice, ConfigBox, Sameness, Split, Test, Values};
-pub use config_match::{Mismatch, matches, mismatch};
-pub use config_precedence::{better, deciding, same};
-pub use config_record::{
-    Coord, Device, DeviceFault, Fields, Locale, LocaleFault, Record, RecordFault,
-};

@@ -1,0 +1,107 @@
+//! How two resources differ, written.
+
+ghost use Rattle.std.specs.Prelude.{◌≡◌, map};
+ghost use Rattle.std.specs.List.{flat_map};
+ghost use Rattle.contract_words.specs.Writes.{Writes};
+ghost use Rattle.stack_diff.specs.ContentSeen.{row_content_of, content_of};
+ghost use Rattle.stack_diff.specs.DifferenceSeen.{row_difference_of, difference_of};
+ghost use Rattle.diff_command.specs.DifferenceText.{row_line, rows_in, before_and_after, row_lines, difference_text};
+
+use crate::content_text::write_content;
+use crate::devices_text::write_devices;
+use crate::rows_text::{write_added_row, write_added_rows, write_removed_row, write_removed_rows};
+use stack_diff::{
+    ConfigBox, Content, Difference, RowContent, RowDifference, write_row_key, write_value_content,
+};
+use std::io::{self, Write};
+
+/// Writes how a resource differs on the devices of a part of the whole box, as it stands behind its label: what it says
+/// before and after, and a line for each row of a bag that differs.
+///
+/// ```text
+/// write_difference(&difference, &phones, &german, &mut out)?; //  "Cancel" -> "Cancel!" on locale=de-AT,de-CH,de-DE
+/// ```
+#[tactic(auto, unfolding(crate::specs::DifferenceText::difference_text))]
+pub fn write_difference<W: Write + Drop>(
+    difference: &Difference<'_>,
+    whole: &ConfigBox,
+    part: &ConfigBox,
+    out: &mut W,
+) -> io::Result<()>
+    ensures { Writes W.contents out.old out.new result (difference_text (difference_of difference.now) whole.now part.now) }
+{
+    write_before_and_after(difference, out)?;
+    write_devices(whole, part, out)?;
+    out.write_all(b"\n")?;
+    write_row_lines(difference, out)
+}
+
+#[tactic(auto, unfolding(crate::specs::DifferenceText::before_and_after))]
+fn write_before_and_after<W: Write + Drop>(
+    difference: &Difference<'_>,
+    out: &mut W,
+) -> io::Result<()>
+    ensures { Writes W.contents out.old out.new result (before_and_after (difference_of difference.now)) }
+{
+    match difference {
+        Difference::Rows(_) => Ok(()),
+        Difference::Contents { before, after } => {
+            out.write_all(b" ")?;
+            write_content(before, out)?;
+            out.write_all(b" -> ")?;
+            write_content(after, out)
+        }
+    }
+}
+
+#[tactic(auto, unfolding(crate::specs::DifferenceText::row_lines))]
+fn write_row_lines<W: Write + Drop>(difference: &Difference<'_>, out: &mut W) -> io::Result<()>
+    ensures { Writes W.contents out.old out.new result (row_lines (difference_of difference.now)) }
+{
+    match difference {
+        Difference::Rows(rows) => write_rows(rows, out),
+        Difference::Contents { before, after } => {
+            write_removed_rows(rows_in(before), out)?;
+            write_added_rows(rows_in(after), out)
+        }
+    }
+}
+
+#[tactic(auto, using(contract_words::proofs::TextSteps::puts_slice))]
+fn write_rows<W: Write + Drop>(rows: &[RowDifference<'_>], out: &mut W) -> io::Result<()>
+    ensures { Writes W.contents out.old out.new result (flat_map row_line (map row_difference_of rows.now)) }
+{
+    for row in rows {
+        write_row(row, out)?;
+    }
+    Ok(())
+}
+
+#[tactic(auto, unfolding(crate::specs::DifferenceText::row_line))]
+fn write_row<W: Write + Drop>(row: &RowDifference<'_>, out: &mut W) -> io::Result<()>
+    ensures { Writes W.contents out.old out.new result (row_line (row_difference_of row.now)) }
+{
+    match row {
+        RowDifference::Removed(row) => write_removed_row(row, out),
+        RowDifference::Added(row) => write_added_row(row, out),
+        RowDifference::Changed { key, before, after } => {
+            out.write_all(b"  ")?;
+            write_row_key(key, out)?;
+            out.write_all(b" ")?;
+            write_value_content(before, out)?;
+            out.write_all(b" -> ")?;
+            write_value_content(after, out)?;
+            out.write_all(b"\n")
+        }
+    }
+}
+
+// The rows of a bag; none of another content.
+fn rows_in<'c, 'a>(content: &'c Content<'a>) -> &'c [RowContent<'a>]
+    ensures { map row_content_of result.now ≡ rows_in (content_of content.now) }
+{
+    match content {
+        Content::Bag(rows) => rows,
+        _ => &[],
+    }
+}

@@ -1,3 +1,0 @@
-pub mod RowSteps
-pub mod RowsTell
-pub mod DevicesNamed

@@ -1,2 +1,0 @@
-pub use Rattle.answer_text.proofs as answer_text_proofs
-pub use Rattle.cert_tree.proofs.json_input_proofs

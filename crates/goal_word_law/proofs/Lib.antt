@@ -1,3 +1,0 @@
-mod Cuts
-mod IdTexts
-mod GoalWords

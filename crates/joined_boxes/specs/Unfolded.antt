@@ -1,2 +1,0 @@
--- Definitions of the crates below that functions of this crate unfold.
-unfoldable pub use Rattle.config_box.specs.config_record.Coord.{all_coords}

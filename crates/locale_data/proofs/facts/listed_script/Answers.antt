@@ -1,0 +1,9 @@
+use Rattle.std.proofs.Common.{◌∙◌}
+use Rattle.locale_data.proofs.ListsAgree.{IsRising-LIKELY_SCRIPTS, script_in-LIKELY_SCRIPTS}
+use Rattle.locale_data.proofs.facts.listed_script.Goals as goal
+
+pub script_in-requires : goal.script_in-requires
+script_in-requires c = IsRising-LIKELY_SCRIPTS
+
+pub returns : goal.returns
+returns c = c.script_in.ensures ∙ script_in-LIKELY_SCRIPTS _

@@ -1,0 +1,20 @@
+-- The numbers of the locales and scripts that texts give: the bytes that a record has of them, the first one the highest.
+use Rattle.std.specs.Prelude.{ℕ, codes, Result, Ok, Err}
+use Rattle.std.specs.Int.{w32, from_be_bytes}
+use Prim.Native.String.{String}
+use Rattle.config_record.specs.declared.locale.Locale.{Locale}
+use Rattle.config_record.specs.declared.locale.LocaleFault.{LocaleFault}
+use Rattle.config_record.specs.Locale.{locale_of}
+use Rattle.config_record.specs.ComparedNumber.{locale_number}
+
+abbrev pub number_in : Result Locale LocaleFault → ℕ
+number_in (Ok locale) = locale_number locale
+number_in (Err fault) = 0
+
+-- the number of the locale that a text gives, 0 where it gives none
+abbrev pub number_of_text : String → ℕ
+number_of_text text = number_in (locale_of (codes text))
+
+-- the four letters of a script
+abbrev pub script_number : String → ℕ
+script_number text = from_be_bytes w32 (codes text)

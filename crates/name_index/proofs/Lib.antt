@@ -1,6 +1,0 @@
-pub mod SoughtSteps
-pub mod PlacesSteps
-pub mod IdSteps
-pub mod PassedSteps
-pub mod Utf16Steps
-pub mod NameSteps

@@ -1,6 +1,0 @@
-use Rattle.std.proofs.Common.{map, take}
-use Rattle.name_index.specs.Sought.{ArePlacesOf}
-use Rattle.name_index.proofs.search.places_of.Given as goal
-
-abbrev pub invariant-loop-place : goal.invariant-loop-place
-invariant-loop-place l = ArePlacesOf l.places (map (λ name. name.entry_name.now) (take l.place l.names))

@@ -1,5 +1,0 @@
-use Rattle.name_pairs.proofs.IdLabels.{label_tells_id}
-use Rattle.name_pairs.proofs.laws.label_tells_id.Goals as goal
-
-pub returns : goal.returns
-returns c = label_tells_id

@@ -1,4 +1,0 @@
-pub mod Named
-pub mod NamedSet
-pub mod NamedGoal
-pub mod WordFile

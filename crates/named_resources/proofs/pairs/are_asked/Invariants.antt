@@ -1,8 +1,0 @@
-use Rattle.std.proofs.Common.{◌≡◌, map, take}
-use Rattle.std.specs.List.{list_any}
-use Rattle.name_pairs.specs.Pairs.{pair_of}
-use Rattle.named_resources.specs.WordSet.{has_word, words_for}
-use Rattle.named_resources.proofs.pairs.are_asked.Given as goal
-
-abbrev pub invariant-loop-pair : goal.invariant-loop-pair
-invariant-loop-pair l = l.asked.items ≡ map (λ pair. list_any (has_word l.words) (words_for (pair_of pair))) (take l.pair-index l.pairs)

@@ -1,9 +1,0 @@
-use Rattle.std.proofs.Common.{◌≡◌, ◌++◌}
-use Rattle.std.specs.List.{items_where_true}
-use Rattle.std.specs.Vec.Iter.{into_iter_items}
-use Rattle.named_resources.proofs.pairs.keep.Given as goal
-
--- with those of what is left all are kept
-abbrev pub invariant-loop-pair : goal.invariant-loop-pair
-invariant-loop-pair l =
-    l.kept.items ++ items_where_true (into_iter_items l.pair-iterator.b) (into_iter_items l.pair-iterator.a) ≡ items_where_true l.fn.asked.items l.fn.pairs.items

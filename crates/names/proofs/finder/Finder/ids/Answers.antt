@@ -1,0 +1,32 @@
+use Rattle.std.proofs.Common.{◌++◌, List, Result, Ok, ℕ, sym, ap, subst, ◌∙◌}
+use Rattle.std.proofs.lemmas.Result.{err_from_is_err_and}
+use Rattle.res_value.specs.declared.res_id.ResId.{ResId}
+use Rattle.names.specs.declared.named_set.NamedSet.{NamedSet}
+use Rattle.names.specs.NamedSet.{named_set_of}
+use Rattle.names.specs.AskedNames.{names_in_set}
+use Rattle.names.specs.Finder.{Tells}
+use Rattle.names.specs.NamedIds.{ids_of_set}
+use Rattle.names.proofs.WordSteps.{GivesNamed-same, one-found, one-missing, of-type, of-all}
+use Rattle.names.proofs.finder.Finder.ids.Goals as goal
+
+pub returns-in_err-id-in-One-clause-found : goal.returns-in_err-id-in-One-clause-found
+returns-in_err-id-in-One-clause-found c = λ layers names told.
+    let of_one = subst (λ (set : NamedSet). Tells layers (names_in_set (named_set_of set) ++ names) c.args.self.now) c.in-One.is told in
+    let p = err_from_is_err_and c.from_residual.result c.from_residual.ensures.1 in
+    rw (p.1, p.2) (λ other. ap (λ (set : NamedSet). ids_of_set layers (named_set_of set)) c.in-One.is ∙ one-missing layers _ _ (c.in_err-id-in-One.ensures.found layers names of_one other))
+
+pub returns-in_ok-shared-in-One-clause-found : goal.returns-in_ok-shared-in-One-clause-found
+returns-in_ok-shared-in-One-clause-found c = λ layers names told.
+    let of_one = subst (λ (set : NamedSet). Tells layers (names_in_set (named_set_of set) ++ names) c.args.self.now) c.in-One.is told in
+    let wrapped : List ResId → Result (List ResId) (List ℕ) = λ ids. Ok ids in
+    ap (λ (set : NamedSet). ids_of_set layers (named_set_of set)) c.in-One.is ∙ one-found layers _ _ (c.in_ok-id-in-One.ensures.found layers names of_one) ∙ ap wrapped (sym (ap (λ ids. ids.items) c.in_ok-shared-in-One.ensures.ok ∙ c.in_ok-ids-in-One.ensures.items))
+
+pub returns-in-OfType-clause-found : goal.returns-in-OfType-clause-found
+returns-in-OfType-clause-found c = λ layers names told.
+    GivesNamed-same _ _ _ _ (ap (λ (set : NamedSet). ids_of_set layers (named_set_of set)) c.in-OfType.is ∙ of-type layers _)
+    (c.ids_of_rows.ensures.found layers names (subst (λ (set : NamedSet). Tells layers (names_in_set (named_set_of set) ++ names) c.args.self.now) c.in-OfType.is told))
+
+pub returns-in-All-clause-found : goal.returns-in-All-clause-found
+returns-in-All-clause-found c = λ layers names told.
+    GivesNamed-same _ _ _ _ (ap (λ (set : NamedSet). ids_of_set layers (named_set_of set)) c.in-All.is ∙ of-all layers)
+    (c.ids_of_rows-in-All.ensures.found layers names (subst (λ (set : NamedSet). Tells layers (names_in_set (named_set_of set) ++ names) c.args.self.now) c.in-All.is told))

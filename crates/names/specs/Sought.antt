@@ -1,0 +1,63 @@
+-- Names that are looked for. Contracts within the crate alone speak of this.
+use Rattle.std.specs.Prelude.{◌≡◌, ℕ, ◌<◌, Bool, true, false, ◌⊎◌, List, [], ◌∷◌, map, find, length, slice_index_or, Option, Some, None}
+use Rattle.std.specs.List.{Contains}
+use Rattle.std.specs.Option.{option_map, option_or}
+use Rattle.overlay_map.specs.resource_table.Table.{TableOf, rows_of}
+use Rattle.overlay_map.specs.res_value.declared.res_id.ResId.{ResId}
+use Rattle.overlay_map.specs.type_chunks.Row.{RowOf}
+use Rattle.names.specs.declared.name.Name.{Name}
+use Rattle.names.specs.declared.passed.Passed.{Passed}
+use Rattle.names.specs.declared.places.Places.{Places}
+use Rattle.names.specs.declared.sought.Sought.{Sought}
+use Rattle.names.specs.Names.{has_names}
+use Rattle.names.specs.Passed.{was_passed}
+use Rattle.names.specs.Places.{places_at}
+
+-- a row that has the name
+abbrev pub has_name : TableOf → Sought → RowOf → Bool
+has_name table sought row = has_names table sought.name.type_name.now sought.name.entry_name.now row
+
+-- what was found before, or else this id where the row has the name
+abbrev pub first_of : Option ResId → Bool → ℕ → Option ResId
+first_of (Some id) has number = Some id
+first_of None true number = Some (record { 0 = number })
+first_of None false number = None
+
+-- what is known of a name after one row more
+abbrev pub noted : TableOf → RowOf → Sought → Sought
+noted table row sought = record sought { found = first_of sought.found (has_name table sought row) row.id }
+
+abbrev pub id_of_row : RowOf → ResId
+id_of_row row = record { 0 = row.id }
+
+-- what is known of a name after some rows more
+abbrev pub noted_each : TableOf → List RowOf → Sought → Sought
+noted_each table rows sought = record sought { found = option_or sought.found (option_map id_of_row (find (has_name table sought) rows)) }
+
+-- what is known of a name after some tables more
+abbrev pub noted_in : List TableOf → Sought → Sought
+noted_in [] sought = sought
+noted_in (table ∷ tables) sought = noted_in tables (noted_each table (rows_of table) sought)
+
+-- a name of which nothing is known
+abbrev pub unfound : Name → Sought
+unfound name = record { name = name; found = None }
+
+abbrev pub entry_names : List Sought → List (List ℕ)
+entry_names sought = map (λ one. one.name.entry_name.now) sought
+
+-- the place of each of these entries' names is among those of the name
+abbrev pub ArePlacesOf : Places → List (List ℕ) → Type 0
+ArePlacesOf places names = (place : ℕ) → place < length names
+    → Contains (places_at places (slice_index_or names place [])) place
+
+-- at these places a row was noted, and elsewhere it may have been
+pub record IsNotedAt (table : TableOf) (row : RowOf) (places : List ℕ) (old new : List Sought) : Type 0 where
+  pub same_length : length new ≡ length old
+  pub there : (place : ℕ) (d : Sought) → place < length old → Contains places place → slice_index_or new place d ≡ noted table row (slice_index_or old place d)
+  pub elsewhere : (place : ℕ) (d : Sought) → place < length old
+      → (slice_index_or new place d ≡ slice_index_or old place d) ⊎ (slice_index_or new place d ≡ noted table row (slice_index_or old place d))
+
+-- to note a row that was passed changes nothing
+abbrev pub AreSought : TableOf → Passed → List Sought → Type 0
+AreSought table passed sought = (row : RowOf) → was_passed passed row ≡ true → map (noted table row) sought ≡ sought

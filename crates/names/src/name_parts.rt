@@ -1,0 +1,38 @@
+//! The parts of a name.
+
+ghost use Rattle.std.specs.Prelude.{◌≡◌};
+ghost use Rattle.std.specs.List.{list_any, before_first, after_first};
+ghost use Rattle.names.specs.Named.{is_slash, is_of_no_name, is_part};
+
+/// Stands between the type and the entry of a name.
+const SLASH: char = '/';
+
+/// What stands before the first `/`, and what stands behind it; all and nothing where there is none.
+pub(crate) fn parts_at_slash(word: &str) -> (&str, &str)
+    ensures before { result.0.now ≡ before_first is_slash word.now }
+    ensures behind { result.1.now ≡ after_first is_slash word.now }
+{
+    match word.split_once(SLASH) {
+        Some(parts) => parts,
+        None => (word, ""),
+    }
+}
+
+/// Whether a text can be a part of a name: it is not empty and has no `*`, `,` or `@`.
+pub(crate) fn is_part(text: &str) -> bool
+    ensures { result ≡ is_part text.now }
+{
+    !text.is_empty() && !has_byte_of_no_name(text)
+}
+
+fn has_byte_of_no_name(text: &str) -> bool
+    ensures { result ≡ list_any is_of_no_name text.now }
+{
+    text.as_bytes().iter().any(|b| is_of_no_name(*b))
+}
+
+fn is_of_no_name(byte: u8) -> bool
+    ensures { result ≡ is_of_no_name byte }
+{
+    byte == b'*' || byte == b',' || byte == b'@'
+}

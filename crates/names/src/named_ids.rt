@@ -1,0 +1,50 @@
+//! The ids of words.
+
+ghost use Rattle.std.specs.Prelude.{◌≡◌, map};
+ghost use Rattle.names.specs.Named.{named_of};
+ghost use Rattle.names.specs.NamedSet.{named_set_of};
+ghost use Rattle.names.specs.NameFault.{GivesNamed};
+ghost use Rattle.names.specs.NamedIds.{id_named, ids_named};
+
+use crate::asked_names::{names_in_sets, push_name};
+use crate::fault::NameFault;
+use crate::finder::Finder;
+use crate::named::Named;
+use crate::named_set::NamedSet;
+use overlay_map::{ResId, Stack};
+use std::alloc::Global;
+
+/// The id that a word asks for.
+///
+/// ```text
+/// let margin = Named::Name { type_name: "dimen", entry_name: "margin" };
+/// let id = id_named(alloc, &stack, margin)?;
+/// ```
+pub fn id_named(alloc: Global, stack: &Stack<'_>, named: Named<'_>) -> Result<ResId, NameFault>
+    ensures { GivesNamed (λ id. id) result (id_named stack.now (named_of named.entry)) }
+{
+    let mut names = Vec::new(alloc);
+    push_name(named, &mut names)?;
+    let mut finder = Finder::new(alloc, stack, &names)?;
+    let id = finder.id(alloc, &named)?;
+    Ok(id)
+}
+
+/// The ids that words ask for, one word after the other. All names are looked up in one walk over the rows of the base
+/// layers; each set of several resources takes one more.
+pub fn ids_named(
+    alloc: Global,
+    stack: &Stack<'_>,
+    sets: &[NamedSet<'_>],
+) -> Result<Vec<ResId>, NameFault>
+    ensures { GivesNamed (λ ids. ids.items) result (ids_named stack.now (map named_set_of sets.now)) }
+{
+    let names = names_in_sets(alloc, sets)?;
+    let mut finder = Finder::new(alloc, stack, &names)?;
+    let mut all = Vec::new(alloc);
+    for set in sets {
+        let ids = finder.ids(alloc, set)?;
+        all.extend_from_slice(&ids)?;
+    }
+    Ok(all)
+}

@@ -1,3 +1,0 @@
-pub mod LayersLeft
-pub mod SamePath
-pub mod AskedSteps

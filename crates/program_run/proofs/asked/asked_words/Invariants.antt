@@ -1,6 +1,0 @@
-use Rattle.program_run.proofs.AskedSteps.{WordsLeft}
-use Rattle.program_run.proofs.asked.asked_words.Given as goal
-
--- the words so far, and those that are left, are all words
-abbrev pub invariant-loop-word : goal.invariant-loop-word
-invariant-loop-word g l = WordsLeft (g.I.Inputs.places l.inputs) l.asked l.word-index l.words

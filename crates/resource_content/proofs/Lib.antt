@@ -1,3 +1,0 @@
-pub mod TraceSteps
-pub mod ContentEquality
-pub mod NameOrder

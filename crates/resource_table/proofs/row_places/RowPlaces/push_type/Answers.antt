@@ -1,0 +1,20 @@
+use Rattle.std.proofs.Common.{List, ◌≡◌, ◌++◌, replicate, subst, ◌∙◌}
+use Rattle.resource_table.specs.type_chunks.Row.{RowOf, row_of}
+use Rattle.resource_table.specs.type_chunks.TypeRows.{rows_of_type}
+use Rattle.resource_table.specs.Places.{numbers_for}
+use Rattle.resource_table.proofs.PlaceSteps.{count_of, still-to-come}
+use Rattle.resource_table.proofs.row_places.RowPlaces.push_type.Goals as goal
+
+pub loop-row-preserved : goal.loop-row-preserved
+loop-row-preserved c =
+    let so_far = c.loop-row.invariant in
+    let steps = c.in-Some.ensures.steps in
+    record {
+      can = tt;
+      ends = tt;
+      linked = λ given. c.in_ok-push.ensures.linked (so_far.linked given);
+      added = λ given id.
+          still-to-come id c.in-Ok.number (row_of c.in-Some.row) c.next.new.self (numbers_for c.loop-row.self id) (numbers_for c.push.new.self id) (c.in_ok-push.ensures.added (so_far.linked given) id)
+          ∙ subst (λ (left : List RowOf). replicate (count_of id left) c.in-Ok.number ++ numbers_for c.loop-row.self id ≡ replicate (count_of id (rows_of_type c.args.of.now)) c.in-Ok.number ++ numbers_for c.args.self.now id)
+          steps (so_far.added given id);
+    }

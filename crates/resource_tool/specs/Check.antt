@@ -1,0 +1,79 @@
+-- What the words of `check` ask, from what the places have to the answer. First come the words of files, then the faults of
+-- inputs, and then the first name that is not there.
+use Rattle.std.specs.Prelude.{ℕ, Bool, List, map, Option, Result, Ok}
+use Rattle.contract_words.specs.Faults.{◌>>=◌}
+use Rattle.contract_words.specs.Sequences.{joined_each}
+use Rattle.json_input.specs.Each.{each}
+use Rattle.table_commands.specs.command_base.declared.status.Status.{Status}
+use Rattle.table_commands.specs.command_base.declared.stop.Stop.{Stop}
+use Rattle.table_commands.specs.command_base.CarriesOut.{CarriesOut, read_or_stop, found_or_stop}
+use Rattle.table_commands.specs.command_base.DeviceFiles.{device_files}
+use Rattle.table_commands.specs.command_base.FilesSeen.{layers_held}
+use Rattle.table_commands.specs.command_base.FileWords.{goal_asked, strings_held, texts_of, words_at}
+use Rattle.table_commands.specs.command_base.Inputs.{Places, file_of}
+use Rattle.table_commands.specs.command_base.StackBytes.{LayerBytes}
+use Rattle.table_commands.specs.command_base.Stop.{StopOf}
+use Rattle.table_commands.specs.command_base.names.NamedGoals.{goals_named}
+use Rattle.resource_text.specs.cert_maker.res_value.Goal.{GoalSeen, goal_seen}
+use Rattle.resource_tool.specs.declared.check.Check.{Check}
+use Rattle.resource_tool.specs.declared.check.CheckFiles.{CheckFiles}
+use Rattle.resource_tool.specs.declared.check.OpenCheck.{OpenCheck}
+use Rattle.resource_tool.specs.Answered.{PrintsBothOneOf}
+use Rattle.resource_tool.specs.CheckOutput.{CheckInputs, IsCheckAnswer, check_inputs}
+use Rattle.resource_tool.specs.OpenedSeen.{opened_cert}
+
+-- ---- the files
+
+-- layers, the bytes of a box and of a certificate, and the words of goals
+pub record CheckBytes : Type 0 where
+  pub layers : List LayerBytes
+  pub box_json : List ℕ
+  pub certificate : List ℕ
+  pub words : List (List ℕ)
+
+abbrev pub check_held : CheckFiles → CheckBytes
+check_held files = record {
+  layers = layers_held files.layers;
+  box_json = files.box_json.items;
+  certificate = files.certificate.items;
+  words = strings_held files.words;
+}
+
+-- layers, a box, a certificate, and then the files of words
+unfoldable pub check_files : Places → List ℕ → List ℕ → List ℕ → List (List ℕ) → Result CheckBytes StopOf
+check_files places layers_path box_path certificate_path words = do
+  files ← device_files places layers_path box_path
+  certificate ← file_of places certificate_path
+  words ← joined_each (words_at places) words
+  Ok (record { layers = files.layers; box_json = files.devices; certificate = certificate; words = words })
+
+-- ---- the goals
+
+-- layers, a box and a certificate that were opened, and the goals that are asked for
+pub record OpenCheckOf : Type 0 where
+  pub opened : CheckInputs
+  pub goals : List GoalSeen
+
+abbrev pub check_seen : OpenCheck → OpenCheckOf
+check_seen check = record { opened = opened_cert check.opened; goals = map goal_seen check.goals.items }
+
+unfoldable pub check_opened : List LayerBytes → List ℕ → List ℕ → List (List ℕ) → Result OpenCheckOf StopOf
+check_opened layers box_json certificate words = do
+  named ← each goal_asked words
+  opened ← read_or_stop (check_inputs layers box_json certificate)
+  goals ← found_or_stop (goals_named opened.stack named)
+  Ok (record { opened = opened; goals = goals })
+
+-- ---- the answer
+
+-- from the files, if they are read
+abbrev pub ChecksFiles : {W V : Type 0} → (W → Option (List ℕ)) → (V → Option (List ℕ)) → W → W → V → V → Bool → Result CheckBytes StopOf → Result Status Stop → Type 0
+ChecksFiles contents says old new before after names read result =
+    CarriesOut (λ check done. PrintsBothOneOf (IsCheckAnswer check.goals names) contents says old new before after done (Ok check.opened))
+    (read >>= λ files. check_opened files.layers files.box_json files.certificate files.words) result
+
+-- from what the places have
+abbrev pub Checks : {W V : Type 0} → (W → Option (List ℕ)) → (V → Option (List ℕ)) → W → W → V → V → Places → Check → Result Status Stop → Type 0
+Checks contents says old new before after places check result =
+    ChecksFiles contents says old new before after check.names
+    (check_files places check.layers.now check.box_path.now check.certificate.now (texts_of check.goals)) result

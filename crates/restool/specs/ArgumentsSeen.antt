@@ -1,0 +1,38 @@
+-- How contracts within this crate see the table of usages.
+use Rattle.std.specs.Prelude.{◌≡◌, ℕ, false, List, map, fold}
+use Rattle.clap.specs.Walk.{Rule}
+use Rattle.clap.specs.Simple.{App, Shape, new_app, with_rule, with_subcommand}
+use Rattle.clap.specs.declared.builder.command.Command.{Command}
+use Rattle.clap.specs.declared.builder.command.Command.TheViews.{out-Command}
+use Rattle.restool.specs.declared.command_line.Usage.{Usage}
+use Rattle.restool.specs.declared.command_line.Argument.{Argument}
+use Rattle.restool.specs.declared.command_line.Takes.TheVariants.{OneWord, MaybeOneWord, Words, MaybeWords, Nothing, Nodes, GoalNumber}
+use Rattle.restool.specs.declared.command_line.Takes.{Takes}
+use Rattle.restool.specs.CommandLine.{one_word, maybe_one_word, several_words, maybe_words, flag, nodes, goal_number}
+
+abbrev pub rule_taking : Takes → List ℕ → Rule
+rule_taking OneWord name = one_word name
+rule_taking MaybeOneWord name = maybe_one_word name
+rule_taking Words name = several_words name
+rule_taking MaybeWords name = maybe_words name
+rule_taking Nothing name = flag name
+rule_taking Nodes name = nodes name
+rule_taking GoalNumber name = goal_number name
+
+abbrev pub rule_seen : Argument → Rule
+rule_seen argument = rule_taking argument.takes argument.name.now
+
+-- a command with these arguments too
+abbrev pub with_arguments : App → List Argument → App
+with_arguments app arguments = fold with_rule app (map rule_seen arguments)
+
+abbrev pub command_seen : Usage → Shape
+command_seen usage = (with_arguments (new_app usage.name.now) usage.arguments.now).top
+
+-- a program with these commands too
+abbrev pub with_commands : App → List Usage → App
+with_commands app usages = fold with_subcommand app (map command_seen usages)
+
+-- no argument belongs to more commands than this one
+abbrev pub IsLocal : Command → Type 0
+IsLocal command = (out-Command command).has_globals ≡ false

@@ -1,0 +1,83 @@
+//! What the arguments of a command have.
+
+ghost use Rattle.std.specs.Prelude.{◌≡◌, map, codes, option_map};
+ghost use Rattle.clap.specs.Words.{all_of, first_of, found_of, one_of, rows_of};
+ghost use Rattle.json_input.specs.Each.{each};
+ghost use Rattle.restool.specs.AskedWords.{ReadsNamed, ReadsWords, asked_word, named_word};
+ghost use Rattle.restool.specs.Given.{IsGiven, IsGoalNumber, IsNodeLimit, word_at, words_at};
+
+use crate::asked_words::{Asks, asked_words, named_word};
+use crate::command_line::{Argument, DOT, MAX_NODES, MOST_NODES, NODES_IF_LEFT_OUT};
+use crate::words_fault::WordsFault;
+use clap::ArgMatches;
+use names::Named;
+use std::alloc::Global;
+
+/// The word of an argument that takes one, which is required.
+#[tactic(auto, using(crate::proofs::Rows::rows))]
+pub(crate) fn given_word<'a>(given: &ArgMatches<'a>, argument: &Argument) -> &'a str
+    ensures { result.now ≡ word_at argument.now.name.now (rows_of (found_of given.now)) }
+{
+    given.get_str(argument.name).unwrap_or("")
+}
+
+/// The word of an argument that may be left out.
+#[tactic(auto, using(crate::proofs::Rows::rows))]
+pub(crate) fn given_maybe_word<'a>(given: &ArgMatches<'a>, argument: &Argument) -> Option<&'a str>
+    ensures { option_map (λ word. word.now) result ≡ first_of argument.now.name.now (rows_of (found_of given.now)) }
+{
+    given.get_str(argument.name)
+}
+
+/// The resource that the word of an argument asks for.
+pub(crate) fn given_named<'a>(
+    given: &ArgMatches<'a>,
+    argument: &Argument,
+) -> Result<Named<'a>, WordsFault<'a>>
+    ensures { ReadsNamed result (named_word (word_at argument.now.name.now (rows_of (found_of given.now)))) }
+{
+    named_word(given_word(given, argument))
+}
+
+/// The words of an argument, each of which asks for some resources or goals, in their order.
+#[tactic(auto, using(crate::proofs::Rows::rows))]
+pub(crate) fn given_asked<'a>(
+    alloc: Global,
+    given: &ArgMatches<'a>,
+    argument: &Argument,
+    asks: Asks,
+) -> Result<Vec<&'a str>, WordsFault<'a>>
+    ensures { ReadsWords result (each (asked_word asks) (words_at argument.now.name.now (rows_of (found_of given.now)))) }
+{
+    match given.get_strs(argument.name) {
+        Some(words) => asked_words(alloc, words, asks),
+        None => asked_words(alloc, &[], asks),
+    }
+}
+
+/// Whether a flag is given.
+#[tactic(auto, using(crate::proofs::Rows::rows))]
+pub(crate) fn given_flag(given: &ArgMatches<'_>, argument: &Argument) -> bool
+    ensures { IsGiven argument.now.name.now (rows_of (found_of given.now)) result }
+{
+    given.get_one(argument.name).unwrap_or(false)
+}
+
+/// How many nodes all trees may have.
+#[tactic(auto, using(crate::proofs::Rows::rows))]
+pub(crate) fn given_nodes(given: &ArgMatches<'_>) -> u32
+    ensures { IsNodeLimit (one_of (codes "max-nodes") (rows_of (found_of given.now))) result }
+{
+    match given.get_one::<u32>(MAX_NODES.name) {
+        Some(nodes) if 1 <= nodes && nodes <= MOST_NODES => nodes,
+        _ => NODES_IF_LEFT_OUT,
+    }
+}
+
+/// The number of a goal, from 0.
+#[tactic(auto, using(crate::proofs::Rows::rows))]
+pub(crate) fn given_goal_number(given: &ArgMatches<'_>) -> Option<u32>
+    ensures { IsGoalNumber (one_of (codes "dot") (rows_of (found_of given.now))) result }
+{
+    given.get_one::<u32>(DOT.name)
+}

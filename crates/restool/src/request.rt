@@ -1,0 +1,346 @@
+//! The requests that the program knows, from their words to the answer: what each is called, what it takes, what its words
+//! ask for, and which command answers it.
+
+ghost use Rattle.std.specs.Prelude.{◌≡◌, IfSome};
+ghost use Rattle.clap.specs.Words.{rows_of, found_of};
+ghost use Rattle.resource_tool.specs.command_base.declared.fault.ToolFault.TheVariants.{Write};
+ghost use Rattle.restool.specs.Request.{Answers, ReadsCommand, ErrorsGet};
+ghost use Rattle.resource_tool.specs.command_base.CarriesOut.{IsKept};
+
+use crate::arguments::{
+    given_asked, given_flag, given_goal_number, given_maybe_word, given_named, given_nodes,
+    given_word,
+};
+use crate::asked_words::Asks;
+use crate::command_line::{
+    ATTRIBUTE, BAG_ID, BOX, CERTIFICATE, COMPARED, DEVICE, DIFF_NODES, DOT, GOAL_NAMES, GOALS, ID,
+    IDS, KEEP, LAYERS, MAX_NODES, MAYBE_BOX, NAMES, NEW, OLD, OMIT, OVERLAY, STYLES, TABLE, TARGET,
+    Usage,
+};
+use crate::words_fault::WordsFault;
+use clap::ArgMatches;
+use diff_command::Diff;
+use resource_tool::table_commands::command_base::{Inputs, Status, Stop};
+use resource_tool::table_commands::{Attr, Bag, Dump, Explain, Ids, Map, Query, Rows};
+use resource_tool::{Check, Make, Watch};
+use show_command::Show;
+use std::alloc::Global;
+use std::io::Write;
+use std::time::Clock;
+use survey_command::Survey;
+
+/// What words ask for: a command, with what its words ask. The words of resources and of goals are kept as they are: each
+/// asks for some, or names a file of such words.
+#[derive(Drop)]
+pub enum Request<'a> {
+    Rows(Rows<'a>),
+    Dump(Dump<'a>),
+    Map(Map<'a>),
+    Ids(Ids<'a>),
+    Survey(Survey<'a>),
+    Show(Show<'a>),
+    Query(Query<'a>),
+    Explain(Explain<'a>),
+    Bag(Bag<'a>),
+    Attr(Attr<'a>),
+    Make(Make<'a>),
+    Check(Check<'a>),
+    Diff(Diff<'a>),
+}
+
+const ROWS: &str = "rows";
+
+const DUMP: &str = "dump";
+
+const MAP: &str = "map";
+
+const IDS_OF_LAYERS: &str = "ids";
+
+const SURVEY: &str = "survey";
+
+const SHOW: &str = "show";
+
+const QUERY: &str = "query";
+
+const EXPLAIN: &str = "explain";
+
+const BAG: &str = "bag";
+
+const ATTR: &str = "attr";
+
+const MAKE: &str = "make";
+
+const CHECK: &str = "check";
+
+const DIFF: &str = "diff";
+
+/// What each command is called, what its help says, and the arguments behind its name.
+pub(crate) const USAGES: &[Usage] = &[
+    Usage {
+        name: ROWS,
+        about: "Prints the rows of a table, in the order of the file",
+        arguments: &[TABLE],
+    },
+    Usage {
+        name: DUMP,
+        about: "Prints the packages of a table, and its rows with their names and strings",
+        arguments: &[TABLE],
+    },
+    Usage {
+        name: MAP,
+        about: "Prints an overlay's id map, made from names; what it leaves out goes to standard error, with status 1",
+        arguments: &[TARGET, OVERLAY],
+    },
+    Usage {
+        name: IDS_OF_LAYERS,
+        about: "Prints the ids of the base layers with their names, a line each",
+        arguments: &[LAYERS],
+    },
+    Usage {
+        name: SURVEY,
+        about: "Prints warnings about the tables, the qualifiers of their rows, and those that a box lacks",
+        arguments: &[LAYERS, MAYBE_BOX],
+    },
+    Usage {
+        name: SHOW,
+        about: "Prints a certificate for people, or the tree of one goal as a picture",
+        arguments: &[DOT, LAYERS, CERTIFICATE],
+    },
+    Usage {
+        name: QUERY,
+        about: "Prints the value that a device loads for each id",
+        arguments: &[NAMES, LAYERS, DEVICE, IDS],
+    },
+    Usage {
+        name: EXPLAIN,
+        about: "Prints each candidate for an id, and the rule by which it won or lost",
+        arguments: &[NAMES, LAYERS, DEVICE, ID],
+    },
+    Usage {
+        name: BAG,
+        about: "Prints the rows of a style, an array or plurals, with those that it inherits",
+        arguments: &[NAMES, LAYERS, DEVICE, BAG_ID],
+    },
+    Usage {
+        name: ATTR,
+        about: "Prints an attribute's value in the theme that those styles build",
+        arguments: &[KEEP, NAMES, LAYERS, DEVICE, ATTRIBUTE, STYLES],
+    },
+    Usage {
+        name: MAKE,
+        about: "Prints a certificate for every device of a box, a device without a value, or node limit",
+        arguments: &[MAX_NODES, OMIT, GOAL_NAMES, LAYERS, BOX, GOALS],
+    },
+    Usage {
+        name: CHECK,
+        about: "Checks whether a certificate is true for every device of a box",
+        arguments: &[GOAL_NAMES, LAYERS, BOX, CERTIFICATE, GOALS],
+    },
+    Usage {
+        name: DIFF,
+        about: "Prints what a change of layers alters, for every device of a box",
+        arguments: &[DIFF_NODES, OLD, NEW, BOX, COMPARED],
+    },
+];
+
+/// What a name on the command line stands for.
+#[derive(Clone, Copy)]
+pub(crate) enum Command {
+    Rows,
+    Dump,
+    Map,
+    Ids,
+    Survey,
+    Show,
+    Query,
+    Explain,
+    Bag,
+    Attr,
+    Make,
+    Check,
+    Diff,
+}
+
+impl Command {
+    ghost use Rattle.std.specs.Prelude.{◌≡◌, true, Some, is_some};
+    ghost use Rattle.restool.specs.Request.{command_of};
+
+    /// The command of a name that the command line has.
+    pub(crate) fn of_name(name: &str) -> Command
+        requires { is_some (command_of name.now) ≡ true }
+        ensures { Some result ≡ command_of name.now }
+    {
+        match name {
+            ROWS => Command::Rows,
+            DUMP => Command::Dump,
+            MAP => Command::Map,
+            IDS_OF_LAYERS => Command::Ids,
+            SURVEY => Command::Survey,
+            SHOW => Command::Show,
+            QUERY => Command::Query,
+            EXPLAIN => Command::Explain,
+            BAG => Command::Bag,
+            ATTR => Command::Attr,
+            MAKE => Command::Make,
+            CHECK => Command::Check,
+            DIFF => Command::Diff,
+            _ => unreachable!(),
+        }
+    }
+}
+
+// What a command asks for that has these arguments.
+pub(crate) fn request_of<'a>(
+    alloc: Global,
+    command: Command,
+    given: &ArgMatches<'a>,
+) -> Result<Request<'a>, WordsFault<'a>>
+    ensures { ReadsCommand command (rows_of (found_of given.now)) result }
+{
+    match command {
+        Command::Rows => Ok(Request::Rows(Rows {
+            table: given_word(given, &TABLE),
+        })),
+        Command::Dump => Ok(Request::Dump(Dump {
+            table: given_word(given, &TABLE),
+        })),
+        Command::Map => Ok(Request::Map(Map {
+            target: given_word(given, &TARGET),
+            overlay: given_word(given, &OVERLAY),
+        })),
+        Command::Ids => Ok(Request::Ids(Ids {
+            layers: given_word(given, &LAYERS),
+        })),
+        Command::Survey => Ok(Request::Survey(Survey {
+            layers: given_word(given, &LAYERS),
+            box_path: given_maybe_word(given, &MAYBE_BOX),
+        })),
+        Command::Show => Ok(Request::Show(Show {
+            layers: given_word(given, &LAYERS),
+            certificate: given_word(given, &CERTIFICATE),
+            pictured: given_goal_number(given),
+        })),
+        Command::Query => query_of(alloc, given),
+        Command::Explain => explain_of(given),
+        Command::Bag => bag_of(given),
+        Command::Attr => attr_of(alloc, given),
+        Command::Make => make_of(alloc, given),
+        Command::Check => check_of(alloc, given),
+        Command::Diff => diff_of(alloc, given),
+    }
+}
+
+fn query_of<'a>(alloc: Global, given: &ArgMatches<'a>) -> Result<Request<'a>, WordsFault<'a>>
+    ensures { ReadsCommand Command.Query (rows_of (found_of given.now)) result }
+{
+    Ok(Request::Query(Query {
+        layers: given_word(given, &LAYERS),
+        device: given_word(given, &DEVICE),
+        names: given_flag(given, &NAMES),
+        words: given_asked(alloc, given, &IDS, Asks::Resources)?,
+    }))
+}
+
+fn explain_of<'a>(given: &ArgMatches<'a>) -> Result<Request<'a>, WordsFault<'a>>
+    ensures { ReadsCommand Command.Explain (rows_of (found_of given.now)) result }
+{
+    Ok(Request::Explain(Explain {
+        layers: given_word(given, &LAYERS),
+        device: given_word(given, &DEVICE),
+        names: given_flag(given, &NAMES),
+        resource: given_named(given, &ID)?,
+    }))
+}
+
+fn bag_of<'a>(given: &ArgMatches<'a>) -> Result<Request<'a>, WordsFault<'a>>
+    ensures { ReadsCommand Command.Bag (rows_of (found_of given.now)) result }
+{
+    Ok(Request::Bag(Bag {
+        layers: given_word(given, &LAYERS),
+        device: given_word(given, &DEVICE),
+        names: given_flag(given, &NAMES),
+        resource: given_named(given, &BAG_ID)?,
+    }))
+}
+
+#[tactic(auto, unfolding(crate::specs::Request::attr_asked))]
+fn attr_of<'a>(alloc: Global, given: &ArgMatches<'a>) -> Result<Request<'a>, WordsFault<'a>>
+    ensures { ReadsCommand Command.Attr (rows_of (found_of given.now)) result }
+{
+    Ok(Request::Attr(Attr {
+        layers: given_word(given, &LAYERS),
+        device: given_word(given, &DEVICE),
+        names: given_flag(given, &NAMES),
+        attr: given_named(given, &ATTRIBUTE)?,
+        styles: given_asked(alloc, given, &STYLES, Asks::Resources)?,
+        force: !given_flag(given, &KEEP),
+    }))
+}
+
+fn make_of<'a>(alloc: Global, given: &ArgMatches<'a>) -> Result<Request<'a>, WordsFault<'a>>
+    ensures { ReadsCommand Command.Make (rows_of (found_of given.now)) result }
+{
+    Ok(Request::Make(Make {
+        layers: given_word(given, &LAYERS),
+        box_path: given_word(given, &BOX),
+        names: given_flag(given, &NAMES),
+        max_nodes: given_nodes(given),
+        omit: given_flag(given, &OMIT),
+        goals: given_asked(alloc, given, &GOALS, Asks::Goals)?,
+    }))
+}
+
+fn check_of<'a>(alloc: Global, given: &ArgMatches<'a>) -> Result<Request<'a>, WordsFault<'a>>
+    ensures { ReadsCommand Command.Check (rows_of (found_of given.now)) result }
+{
+    Ok(Request::Check(Check {
+        layers: given_word(given, &LAYERS),
+        box_path: given_word(given, &BOX),
+        certificate: given_word(given, &CERTIFICATE),
+        names: given_flag(given, &NAMES),
+        goals: given_asked(alloc, given, &GOALS, Asks::Goals)?,
+    }))
+}
+
+fn diff_of<'a>(alloc: Global, given: &ArgMatches<'a>) -> Result<Request<'a>, WordsFault<'a>>
+    ensures { ReadsCommand Command.Diff (rows_of (found_of given.now)) result }
+{
+    Ok(Request::Diff(Diff {
+        old: given_word(given, &OLD),
+        new: given_word(given, &NEW),
+        box_path: given_word(given, &BOX),
+        max_nodes: given_nodes(given),
+        words: given_asked(alloc, given, &COMPARED, Asks::Resources)?,
+    }))
+}
+
+/// Answers a request. Where it is not answered, nothing is written, unless a write fails.
+pub(crate) fn answer<'a, I: Inputs, C: Clock, O: Write + Drop, E: Write + Drop>(
+    alloc: Global,
+    inputs: &I,
+    watch: Watch<'_, C>,
+    request: Request<'a>,
+    out: &mut O,
+    errors: &mut E,
+) -> Result<Status, Stop<'a>>
+    ensures answers { IfSome (I.places inputs.now) (λ places. Answers watch.entry.is_terminal O.contents E.contents out.old out.new
+        errors.old errors.new places request.entry result) }
+    ensures unwritten { IsKept out.old out.new result }
+    ensures shows { ErrorsGet watch.entry.is_terminal errors.old errors.new request.entry result }
+{
+    match request {
+        Request::Rows(rows) => rows.answer(alloc, inputs, out),
+        Request::Dump(dump) => dump.answer(alloc, inputs, out),
+        Request::Map(map) => map.answer(alloc, inputs, out, errors),
+        Request::Ids(ids) => ids.answer(alloc, inputs, out),
+        Request::Survey(survey) => survey.answer(alloc, inputs, out),
+        Request::Show(show) => show.answer(alloc, inputs, out),
+        Request::Query(query) => query.answer(alloc, inputs, out),
+        Request::Explain(explain) => explain.answer(alloc, inputs, out),
+        Request::Bag(bag) => bag.answer(alloc, inputs, out),
+        Request::Attr(attr) => attr.answer(alloc, inputs, out),
+        Request::Make(make) => make.answer(alloc, inputs, watch, out, errors),
+        Request::Check(check) => check.answer(alloc, inputs, out, errors),
+        Request::Diff(diff) => diff.answer(alloc, inputs, out),
+    }
+}

@@ -1,8 +1,0 @@
-pub mod Heads
-pub mod Links
-pub mod Places
-pub use Rattle.resource_table.specs as resource_table
-pub use Rattle.resource_table.specs.config_record
-pub use Rattle.resource_table.specs.res_value
-pub use Rattle.resource_table.specs.string_pool
-pub use Rattle.resource_table.specs.type_chunks

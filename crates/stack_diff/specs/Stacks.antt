@@ -1,0 +1,38 @@
+-- The stacks that are compared, and a resource of each.
+use Rattle.std.specs.Prelude.{ℕ, ◌==◌, Bool, true, false, ◌&&◌, List, Option}
+use Rattle.cert_maker.specs.cert_checker.overlay_map.Layer.{LayerOf}
+use Rattle.cert_maker.specs.cert_checker.reference_resolver.Trace.{Trace}
+use Rattle.cert_maker.specs.cert_checker.bags_themes.ContentTrace.{content_trace}
+use Rattle.cert_maker.specs.res_value.declared.res_id.ResId.{ResId}
+use Rattle.stack_diff.specs.ContentAt.{content_at}
+use Rattle.stack_diff.specs.Difference.{DifferenceOf, difference}
+use Rattle.stack_diff.specs.declared.stacks.Stacks.{Stacks}
+
+-- Two stacks; and whether they are one, so that a resource may be compared with itself.
+pub record StacksOf : Type 0 where
+  pub old : List LayerOf
+  pub new : List LayerOf
+  pub are_one : Bool
+
+abbrev pub stacks_of : Stacks → StacksOf
+stacks_of stacks = record { old = stacks.old.now; new = stacks.new.now; are_one = stacks.are_one }
+
+abbrev pub one_stack : List LayerOf → StacksOf
+one_stack layers = record { old = layers; new = layers; are_one = true }
+
+abbrev pub two_stacks : List LayerOf → List LayerOf → StacksOf
+two_stacks old new = record { old = old; new = new; are_one = false }
+
+-- both ids are one resource of one stack
+abbrev pub is_itself : StacksOf → ResId → ResId → Bool
+is_itself stacks old new = stacks.are_one && old.0 == new.0
+
+-- ---- at a device, which is the list of its numbers
+
+-- how a resource of the new stack differs from one of the old stack in what it says
+abbrev pub differs : StacksOf → ResId → ResId → List ℕ → Option DifferenceOf
+differs stacks old new d = difference (content_at stacks.old old.0 d) (content_at stacks.new new.0 d)
+
+-- the traces of what they say
+abbrev pub traces : StacksOf → ResId → ResId → List ℕ → Trace × Trace
+traces stacks old new d = (content_trace stacks.old old.0 d, content_trace stacks.new new.0 d)

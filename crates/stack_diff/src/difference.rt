@@ -1,0 +1,214 @@
+//! How two resources differ in what they say.
+
+ghost use Rattle.std.specs.Prelude.{◌≡◌, ◌++◌, map, None, Some, IfOk, OnOk, if◌then◌else◌};
+ghost use Rattle.std.specs.Option.{option_map};
+ghost use Rattle.answer_text.specs.config_record.DeviceSeen.{device_numbers};
+ghost use Rattle.stack_diff.specs.ContentAt.{end_content, content_at};
+ghost use Rattle.stack_diff.specs.ContentSeen.{row_content_of, content_of};
+ghost use Rattle.stack_diff.specs.Difference.{changed_row, row_differences, of_rows, ContentsDiffer, say_same, difference};
+ghost use Rattle.stack_diff.specs.DifferenceSeen.{row_difference_of, difference_of};
+
+use crate::content::{Content, RowContent, RowKey, ValueContent};
+use crate::device_content::{content_at, content_of_end};
+use crate::read_alike::is_same_label;
+use answer_text::bags_themes::End;
+use answer_text::{Device, ResId};
+use names::NamedStack;
+use std::alloc::{AllocError, Global};
+use std::cmp::Ordering;
+
+/// How what a resource says after differs from what it says before.
+#[derive(Debug, PartialEq, Eq, PartialOrd, Ord, Drop)]
+pub enum Difference<'a> {
+    /// The rows in which two bags differ, in the order of their keys.
+    Rows(Vec<RowDifference<'a>>),
+    /// What is said before and after, where one of the two is no bag.
+    Contents {
+        before: Content<'a>,
+        after: Content<'a>,
+    },
+}
+
+/// A row of one bag alone, or two rows of one key whose values a device does not read alike.
+#[derive(Debug, PartialEq, Eq, PartialOrd, Ord, Drop)]
+pub enum RowDifference<'a> {
+    Removed(RowContent<'a>),
+    Added(RowContent<'a>),
+    Changed {
+        key: RowKey<'a>,
+        before: ValueContent<'a>,
+        after: ValueContent<'a>,
+    },
+}
+
+impl<'a> Difference<'a> {
+    ghost use Rattle.std.specs.Prelude.{◌≡◌, ◌≢◌, MatchBool};
+    ghost use Rattle.stack_diff.specs.DifferenceSeen.{difference_of};
+
+    /// Whether both tell the same, which is what `==` says.
+    #[tactic(auto, using(crate::proofs::DifferenceEquality::told_differences))]
+    pub fn tells_same(&self, other: &Difference<'a>) -> bool
+        ensures { MatchBool result
+            (difference_of self.now ≡ difference_of other.now)
+            (difference_of self.now ≢ difference_of other.now) }
+    {
+        self == other
+    }
+}
+
+/// How what one id says at a device in a stack differs from what another says there in another stack; None where the
+/// device reads both alike. Of two bags only the rows that differ are kept.
+///
+/// ```text
+/// let change = difference_at(alloc, &old, old_id, &new, new_id, &phone)?; // dimension 4/2^0 dp -> dimension 3/2^0 dp
+/// ```
+pub fn difference_at<'a>(
+    alloc: Global,
+    old: &NamedStack<'_, 'a>,
+    old_id: ResId,
+    new: &NamedStack<'_, 'a>,
+    new_id: ResId,
+    device: &Device,
+) -> Result<Option<Difference<'a>>, AllocError>
+    ensures { IfOk result (λ it. option_map difference_of it ≡ difference (content_at old.now old_id.0 (device_numbers device.now)) (content_at new.now new_id.0 (device_numbers device.now))) }
+{
+    let before = content_at(alloc, old, old_id, device)?;
+    let after = content_at(alloc, new, new_id, device)?;
+    difference_between(alloc, before, after)
+}
+
+/// The same of two ends, to which two ids lead at this device: for whoever has followed their references.
+pub fn difference_of_ends<'a>(
+    alloc: Global,
+    old: &NamedStack<'_, 'a>,
+    old_end: End,
+    new: &NamedStack<'_, 'a>,
+    new_end: End,
+    device: &Device,
+) -> Result<Option<Difference<'a>>, AllocError>
+    ensures { IfOk result (λ it. option_map difference_of it ≡ difference (end_content old.now old_end (device_numbers device.now)) (end_content new.now new_end (device_numbers device.now))) }
+{
+    let before = content_of_end(alloc, old, old_end, device)?;
+    let after = content_of_end(alloc, new, new_end, device)?;
+    difference_between(alloc, before, after)
+}
+
+#[tactic(auto, unfolding(crate::specs::Difference::difference))]
+fn difference_between<'a>(
+    alloc: Global,
+    before: Content<'a>,
+    after: Content<'a>,
+) -> Result<Option<Difference<'a>>, AllocError>
+    ensures { IfOk result (λ it. option_map difference_of it ≡ difference (content_of before.entry) (content_of after.entry)) }
+{
+    match (before, after) {
+        (Content::Bag(before), Content::Bag(after)) => {
+            Ok(of_rows(row_differences(alloc, before, after)?))
+        }
+        (before, after) => Ok(of_contents(before, after)),
+    }
+}
+
+// The rows that differ, if there are some.
+fn of_rows<'a>(rows: Vec<RowDifference<'a>>) -> Option<Difference<'a>>
+    ensures { option_map difference_of result ≡ of_rows (map row_difference_of rows.entry.items) }
+{
+    if rows.is_empty() {
+        None
+    } else {
+        Some(Difference::Rows(rows))
+    }
+}
+
+// Both contents, of which one is no bag, if they are not read alike.
+fn of_contents<'a>(before: Content<'a>, after: Content<'a>) -> Option<Difference<'a>>
+    ensures { option_map difference_of result ≡ (if say_same (content_of before.entry) (content_of after.entry) then None else Some (ContentsDiffer (content_of before.entry) (content_of after.entry))) }
+{
+    if say_same(&before, &after) {
+        None
+    } else {
+        Some(Difference::Contents { before, after })
+    }
+}
+
+fn say_same(before: &Content<'_>, after: &Content<'_>) -> bool
+    ensures { result ≡ say_same (content_of before.now) (content_of after.now) }
+{
+    match (before, after) {
+        (Content::Value(value), Content::Value(other)) => value.is_alike(other),
+        (Content::Absent(label), Content::Absent(other)) => is_same_label(label, other),
+        (Content::TooManyReferences(label), Content::TooManyReferences(other)) => {
+            is_same_label(label, other)
+        }
+        (Content::TooManyParents(label), Content::TooManyParents(other)) => {
+            is_same_label(label, other)
+        }
+        _ => false,
+    }
+}
+
+// The rows that differ, of bags that have their rows in the order of keys.
+fn row_differences<'a>(
+    alloc: Global,
+    before: Vec<RowContent<'a>>,
+    after: Vec<RowContent<'a>>,
+) -> Result<Vec<RowDifference<'a>>, AllocError>
+    ensures { IfOk result (λ rows. map row_difference_of rows.items ≡ row_differences (map row_content_of before.entry.items) (map row_content_of after.entry.items)) }
+{
+    let mut rows = Vec::new(alloc);
+    let mut before = before.into_iter();
+    let mut after = after.into_iter();
+    let mut first = before.next();
+    let mut first_after = after.next();
+    'rows: loop {
+        match (first, first_after) {
+            (None, None) => return Ok(rows),
+            (Some(row), None) => {
+                rows.push(RowDifference::Removed(row))?;
+                first = before.next();
+                first_after = None;
+            }
+            (None, Some(other)) => {
+                rows.push(RowDifference::Added(other))?;
+                first = None;
+                first_after = after.next();
+            }
+            (Some(row), Some(other)) => match row.key.cmp(&other.key) {
+                Ordering::Less => {
+                    rows.push(RowDifference::Removed(row))?;
+                    first = before.next();
+                    first_after = Some(other);
+                }
+                Ordering::Greater => {
+                    rows.push(RowDifference::Added(other))?;
+                    first = Some(row);
+                    first_after = after.next();
+                }
+                Ordering::Equal => {
+                    push_changed(&mut rows, row, other)?;
+                    first = before.next();
+                    first_after = after.next();
+                }
+            },
+        }
+    }
+}
+
+// Two rows of one key, if their values are not read alike.
+fn push_changed<'a>(
+    rows: &mut Vec<RowDifference<'a>>,
+    before: RowContent<'a>,
+    after: RowContent<'a>,
+) -> Result<(), AllocError>
+    ensures { OnOk result (map row_difference_of rows.new.items ≡ map row_difference_of rows.old.items ++ changed_row (row_content_of before.entry) (row_content_of after.entry)) }
+{
+    if before.value.is_alike(&after.value) {
+        return Ok(());
+    }
+    rows.push(RowDifference::Changed {
+        key: before.key,
+        before: before.value,
+        after: after.value,
+    })?;
+    Ok(())
+}

@@ -1,0 +1,85 @@
+//! The command `ids`.
+
+ghost use Rattle.std.specs.Prelude.{◌≡◌, ◌++◌, ◌∷◌, [], map, IfSome};
+ghost use Rattle.contract_words.specs.Writes.{Writes};
+ghost use Rattle.command_base.specs.FilesSeen.{layers_held};
+ghost use Rattle.command_base.specs.Output.{Prints};
+ghost use Rattle.command_base.specs.StackBytesSeen.{layer_bytes};
+ghost use Rattle.command_base.specs.declared.fault.ToolFault.TheVariants.{Write};
+ghost use Rattle.table_commands.specs.TableOutput.{ListsIds, id_line, ids_output, ids_text};
+ghost use Rattle.command_base.specs.CarriesOut.{IsKept};
+
+use command_base::answer_text::{ResId, Stack, write_id, write_its_name};
+use command_base::{Inputs, LayerFiles, LayerParts, Status, Stop, ToolFault, open_stack};
+use names::ids_of_type;
+use std::alloc::Global;
+use std::io::{self, Write};
+
+/// What the words of `ids` ask: the ids of the base layers.
+#[derive(Drop)]
+pub struct Ids<'a> {
+    /// Where the list of layers lies.
+    pub layers: &'a str,
+}
+
+impl<'a> Ids<'a> {
+    /// Reads the layers, and answers. Where it is not answered, nothing is written, unless a write fails.
+    pub fn answer<I: Inputs, W: Write + Drop>(
+        &self,
+        alloc: Global,
+        inputs: &I,
+        out: &mut W,
+    ) -> Result<Status, Stop<'a>>
+        ensures answers { IfSome (I.places inputs.now) (λ places. ListsIds W.contents out.old out.new places self.now result) }
+        ensures unwritten { IsKept out.old out.new result }
+    {
+        let files = LayerFiles::read(alloc, inputs, self.layers)?;
+        Ok(ids_of_files(alloc, &files, out)?)
+    }
+}
+
+fn ids_of_files<W: Write + Drop>(
+    alloc: Global,
+    files: &LayerFiles,
+    out: &mut W,
+) -> Result<Status, ToolFault>
+    ensures { Prints W.contents out.old out.new result (ids_output (layers_held files.now)) }
+{
+    let layers = files.layers(alloc)?;
+    ids_bytes(alloc, &layers, out)
+}
+
+/// Prints a line for each id that base layers have rows of, in rising order, with its names beside it. Overlays have none of
+/// their own.
+#[tactic(auto, unfolding(crate::specs::TableOutput::ids_output))]
+pub fn ids_bytes<W: Write + Drop>(
+    alloc: Global,
+    layers: &[LayerParts<&[u8]>],
+    out: &mut W,
+) -> Result<Status, ToolFault>
+    ensures { Prints W.contents out.old out.new result (ids_output (map layer_bytes layers.now)) }
+{
+    let stack = open_stack(alloc, layers)?;
+    let tables = stack.base_tables(alloc)?;
+    let ids = ids_of_type(alloc, &tables, None)?;
+    write_ids(&stack, &ids, out)?;
+    Ok(Status::Done)
+}
+
+#[tactic(auto, using(crate::proofs::Cited::item_steps))]
+fn write_ids<W: Write + Drop>(stack: &Stack<'_>, ids: &[ResId], out: &mut W) -> io::Result<()>
+    ensures { Writes W.contents out.old out.new result (ids_text stack.now ids.now) }
+{
+    for id in ids {
+        write_id_line(stack, *id, out)?;
+    }
+    Ok(())
+}
+
+fn write_id_line<W: Write + Drop>(stack: &Stack<'_>, id: ResId, out: &mut W) -> io::Result<()>
+    ensures { Writes W.contents out.old out.new result (id_line stack.now id) }
+{
+    write_id(id, out)?;
+    write_its_name(stack, id, out)?;
+    out.write_all(b"\n")
+}

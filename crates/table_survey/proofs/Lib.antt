@@ -1,4 +1,0 @@
-pub mod SurveySteps
-pub mod EntriesSteps
-pub mod CountedSteps
-pub mod DiffersSteps

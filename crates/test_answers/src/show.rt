@@ -1,0 +1,5 @@
+//! What is shown of worked certificates.
+
+mod certificates;
+mod pictures;
+mod texts;

@@ -1,0 +1,4 @@
+//! What is found in a table of which one piece is another.
+
+mod chunks;
+mod printed;

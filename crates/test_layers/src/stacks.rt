@@ -1,0 +1,39 @@
+//! Stacks of tables that lie in memory.
+
+use overlay_map::{IdMap, Stack, Table};
+use std::alloc::Global;
+
+/// An id map in which entry 0 stands for entry 0.
+pub const SAME: &[u8] = br#"[["0x7f010000","0x7f010000"]]"#;
+
+/// Puts a base over the layers of a stack; None where it is refused.
+pub fn push_base<'a>(alloc: Global, stack: &mut Stack<'a>, bytes: &'a [u8]) -> Option<()> {
+    let table = Table::open(alloc, bytes).ok()?;
+    stack.push_base(table).ok()
+}
+
+/// Puts an overlay over the layers of a stack; None where it is refused.
+pub fn push_overlay<'a>(
+    alloc: Global,
+    stack: &mut Stack<'a>,
+    bytes: &'a [u8],
+    map: &[u8],
+) -> Option<()> {
+    let map = IdMap::read(alloc, map).ok()?;
+    let table = Table::open(alloc, bytes).ok()?;
+    stack.push_overlay(table, map).ok()
+}
+
+/// The stack of a base.
+pub fn stack_of_base(alloc: Global, bytes: &[u8]) -> Option<Stack<'_>> {
+    let mut stack = Stack::new(alloc);
+    push_base(alloc, &mut stack, bytes)?;
+    Some(stack)
+}
+
+/// The stack of a base and of an overlay whose entry 0 stands for that of the base.
+pub fn stack_of_two<'a>(alloc: Global, base: &'a [u8], overlay: &'a [u8]) -> Option<Stack<'a>> {
+    let mut stack = stack_of_base(alloc, base)?;
+    push_overlay(alloc, &mut stack, overlay, SAME)?;
+    Some(stack)
+}

@@ -1,0 +1,89 @@
+//! Rows, their bags and texts are lent from the bytes of the input: they outlive the table and the stack that
+//! gave them.
+
+use overlay_map::Stack;
+use res_value::{Cell, MapRows, ResId, Value};
+use resource_table::Table;
+use std::alloc::Global;
+use string_pool::Text;
+use test_layers::{layer, layer_with_string, push_base, push_overlay};
+use type_chunks::Row;
+
+const FIRST: ResId = ResId(0x7f01_0000);
+
+/// An overlay's entry 1 stands for entry 0.
+const MAP: &[u8] = br#"[["0x7f010000","0x7f010001"]]"#;
+
+// The first row of a table, the rows of its bag, and the table's first string. The table is gone then.
+fn parts_of(alloc: Global, bytes: &[u8]) -> Option<(Row<'_>, MapRows<'_>, Text<'_>)> {
+    let table = Table::open(alloc, bytes).ok()?;
+    let row = table.all_rows().next()?;
+    let Cell::Bag { rows, .. } = row.cell else {
+        return None;
+    };
+    let text = table.strings().get(0).ok()?;
+    Some((row, rows, text))
+}
+
+// Whether rows of a bag are these names and words.
+fn are_rows(rows: MapRows<'_>, want: &[(u32, u32)]) -> bool {
+    let mut left = want.iter();
+    for (name, Value { word, .. }) in rows {
+        if left.next() != Some(&(name.0, word)) {
+            return false;
+        }
+    }
+    left.next().is_none()
+}
+
+fn reads_what_a_table_lent(alloc: Global) -> Option<bool> {
+    let line = "0 [sdk=21] bag 0x7f010003 0x01010001=7 0x01010002=8";
+    let bytes = layer_with_string(alloc, b'z', &[line]).ok()?;
+    let (row, rows, text) = parts_of(alloc, &bytes)?;
+    let is_first = row.id == FIRST && row.config.get(config_record::Coord::Sdk) == 21;
+    let has_rows = are_rows(rows, &[(0x0101_0001, 7), (0x0101_0002, 8)]);
+    Some(is_first && has_rows && text.is_text("z"))
+}
+
+#[test]
+fn reads_rows_and_texts_after_their_table(rt: HostRuntime) {
+    assert!(rt; reads_what_a_table_lent(rt.alloc()) == Some(true));
+}
+
+// The candidates' rows of a base and an overlay, which are two inputs. Their stack is gone then.
+fn rows_of<'a>(alloc: Global, base: &'a [u8], overlay: &'a [u8]) -> Option<Vec<Row<'a>>> {
+    let mut stack = Stack::new(alloc);
+    push_base(alloc, &mut stack, base)?;
+    push_overlay(alloc, &mut stack, overlay, MAP)?;
+    let mut rows = Vec::new(alloc);
+    for candidate in stack.candidates(FIRST) {
+        rows.push(candidate.row).ok()?;
+    }
+    Some(rows)
+}
+
+// Whether rows hold these plain values.
+fn have_words(rows: &[Row<'_>], want: &[u32]) -> bool {
+    let mut left = want.iter();
+    for row in rows {
+        let Cell::Plain(value) = row.cell else {
+            return false;
+        };
+        if left.next() != Some(&value.word) {
+            return false;
+        }
+    }
+    left.next().is_none()
+}
+
+fn keeps_rows_of_two_inputs(alloc: Global) -> Option<bool> {
+    let base = layer(alloc, &["0 [locale=fr] 1", "1 [] 9", "0 [] 2"]).ok()?;
+    let overlay = layer(alloc, &["0 [] 8", "1 [night=2] 3"]).ok()?;
+    let rows = rows_of(alloc, &base, &overlay)?;
+    Some(have_words(&rows, &[1, 2, 3]))
+}
+
+#[test]
+fn one_list_has_rows_of_two_inputs_after_their_stack(rt: HostRuntime) {
+    assert!(rt; keeps_rows_of_two_inputs(rt.alloc()) == Some(true));
+}

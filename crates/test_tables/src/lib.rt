@@ -1,0 +1,14 @@
+//! Tables and stacks, as tests over the public calls: the texts that faults have for users of the crates, styles of string
+//! pools, rows that outlive their table and their stack, attributes under styles for all members of a box; and what is called
+//! of these crates, by the crate that hands it on. Nothing stands on this crate.
+#![tactic(auto)]
+
+#[cfg(test)]
+mod attributes;
+#[cfg(test)]
+mod faults;
+#[cfg(test)]
+mod lent;
+pub mod names;
+#[cfg(test)]
+mod styles;
