@@ -9,7 +9,7 @@
 #![tactic(auto)]
 
 mod goals;
-mod names;
+mod named_goals;
 mod stacks;
 mod tables;
 mod texts;
@@ -26,7 +26,7 @@ fn call(rt: &HostRuntime, group: &str, words: &[String]) -> Result<(), Fail> {
     match group {
         "texts" => texts::call(rt, words),
         "tables" => tables::call(rt, words),
-        "names" => names::call(rt, words),
+        "names" => named_goals::call(rt, words),
         "stacks" => stacks::call(rt, words),
         "goals" => goals::call(rt, words),
         _ => Ok(()),

@@ -4,6 +4,6 @@
 
 #[cfg(test)]
 mod commands;
-pub mod names;
+pub mod handed_on;
 #[cfg(test)]
 mod texts;

@@ -8,6 +8,6 @@
 
 #[cfg(test)]
 mod boxes;
-pub mod names;
+pub mod handed_on;
 #[cfg(test)]
 mod records;

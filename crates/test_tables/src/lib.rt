@@ -7,8 +7,8 @@
 mod attributes;
 #[cfg(test)]
 mod faults;
+pub mod handed_on;
 #[cfg(test)]
 mod lent;
-pub mod names;
 #[cfg(test)]
 mod styles;
