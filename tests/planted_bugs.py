@@ -43,7 +43,7 @@ RAN = "run=ended status=0"
 """What rt says of a program that has run without a proof."""
 FOR_THE_PROVER = ("must-fail", "wrong-bodies")
 FOR_TESTS = ("seen-by-tests",)
-MOST = {"must-fail": 40, "wrong-bodies": 500}
+MOST = {"must-fail": 30, "wrong-bodies": 500}
 """How many edits there may be, of all crates together: the gate pays for the first, whoever renames something for all."""
 
 
