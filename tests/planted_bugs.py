@@ -7,7 +7,7 @@
 
 Without a name it takes all. An edit has a line 'seen by: TESTS: NAME'. TESTS is tests/stops or tests/worked_rows.py, for which the
 program is proved and built with the bug; or a crate of tests, which is built with it and not proved; or tests/stops/calls.py, for
-whose rows of the call NAME the same is done of their programs; a row's last word may stand behind its name. NAME is the
+whose rows of the call NAME the same is done of their program; a row's last word may stand behind its name. NAME is the
 test that has to fail there. The last line is 'N seen or refused, M let through'; refused is a bug that the prover does
 not let through.
 
@@ -39,6 +39,7 @@ PROGRAM = "restool"
 PROGRAM_TESTS = {"tests/stops": ["sh", "tests/stops/stops.sh"], "tests/worked_rows.py": ["python3", "tests/worked_rows.py"]}
 """The tests of the built program, which print a line `failed: NAME ..`, and how they are run."""
 CALLS = "tests/stops/calls.py"
+CALLS_PROGRAM = "test_calls"
 RAN = "run=ended status=0"
 """What rt says of a program that has run without a proof."""
 FOR_THE_PROVER = ("must-fail", "wrong-bodies")
@@ -128,7 +129,7 @@ def tried_on_calls(edit, copy):
     named = [({row.name, f"{row.name} {row.words[-1]}"}, row) for row in [*rows(), *WITHOUT_MEMORY]]
     asked = [row for names, row in named if edit.test in names]
     for row in asked:
-        ran = Run([*RT, "try", "--", *row.words], copy / "crates" / row.program)
+        ran = Run([*RT, "try", "--", *row.words], copy / "crates" / CALLS_PROGRAM)
         if not any(line.startswith("run=ended") for line in ran.lines):
             return f"NOT BUILT: {ran.lines[-1:]}"
         if ran.lines[: len(row.answer)] != row.answer or not any(line.startswith(RAN) for line in ran.lines):

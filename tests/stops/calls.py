@@ -1,11 +1,9 @@
 #!/usr/bin/env python3
 """Refuses memory to calls of the library, each on worked rows (worked_calls.py):
 
-    calls.py LIBRARY [PROGRAM..]
-    calls.py --programs
+    calls.py LIBRARY
 
-LIBRARY is refuse.c, built to be preloaded. The programs are those that are built in crates/, all where none is named;
---programs prints their names. Each row runs once for each growth of memory in which this one is refused, and once more
+LIBRARY is refuse.c, built to be preloaded. The program of calls is the crate test_calls, as it is built there. Each row runs once for each growth of memory in which this one is refused, and once more
 in which all from there on are; what the call is given is made before. Calls that take no memory run with every growth
 refused. A row is named after the one public call that it makes, or, where that takes no memory, after a crate. Each
 public call that takes memory has a row, or is one that the program makes, of which refusals.py refuses memory in each
@@ -21,6 +19,7 @@ from library import Library, full_name
 from worked_calls import BY_PROGRAM, REACHED, WITHOUT_MEMORY, rows
 
 HERE = Path(__file__).resolve().parent.parent.parent
+PROGRAM = HERE / "crates" / "test_calls" / "out" / "test_calls"
 WANTS = ("OutOfMemory", "AllocError")
 """What a call says where memory runs out."""
 NEVER_MADE = 1 << 40
@@ -71,7 +70,7 @@ class Calls:
         with tempfile.NamedTemporaryFile() as count:
             said = {"REFUSED": "grow", "FROM": str(first), "TO": str(last), "COUNT": count.name, "MARKED": ""}
             ran = subprocess.run(
-                [HERE / "crates" / row.program / "out" / row.program, *row.words],
+                [PROGRAM, *row.words],
                 env={"LD_PRELOAD": self.library, **said},
                 stdin=subprocess.DEVNULL,
                 capture_output=True,
@@ -121,21 +120,16 @@ def tests():
 
 def main(words):
     tried = [*tests()]
-    programs = {row.program for row, _ in tried}
-    if words == ["--programs"]:
-        print(*sorted(programs))
-        return
-    calls, asked = Calls(os.path.abspath(words[0])), {*words[1:]} or programs
+    calls = Calls(os.path.abspath(words[0]))
     wrong_names = [*faults_of_names(Library())]
     for fault in wrong_names:
         print(f"failed: {fault}")
-    tried = [(row, faults_of) for row, faults_of in tried if row.program in asked]
     failed = len(wrong_names)
     with ThreadPoolExecutor(os.cpu_count()) as pool:
         for (row, _), found in zip(tried, pool.map(lambda test: list(test[1](calls, test[0])), tried)):
             failed += bool(found)
             if found:
-                print(f"failed: {row.program} {row.name}: {len(found)} faults, the first: {found[0][:MOST_SHOWN]}")
+                print(f"failed: {row.name}: {len(found)} faults, the first: {found[0][:MOST_SHOWN]}")
     print(f"{len(tried) + len(wrong_names) - failed} passed, {failed} failed")
     sys.exit(failed > 0)
 

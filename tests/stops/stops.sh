@@ -376,26 +376,23 @@ if tool python3 "large changes"; then counts changes.py "$program"; fi
 
 # ---- memory, files and bytes that are refused
 
-# is_built PROGRAM: whether a program of tests is built of the sources that are there. Where they are newer, it is proved.
-is_built() {
-    built=$here/crates/$1/out/$1
-    if [ -x "$built" ] && [ -z "$(find "$here/crates" -name out -prune -o -name '*.rt' -newer "$built" -print)" ]; then return; fi
-    python3 "$here/tools/prove.py" "$1" >proof 2>&1 && touch "$built" && return
+# calls_are_built: whether the program of calls is built of the sources that are there. Where they are newer, it is proved.
+calls_are_built() {
+    if [ -x "$calls" ] && [ -z "$(find "$here/crates" -name out -prune -o -name '*.rt' -newer "$calls" -print)" ]; then return; fi
+    python3 "$here/tools/prove.py" test_calls >proof 2>&1 && touch "$calls" && return
     failed=$((failed + 1))
-    echo "failed: $1 is not proved: $(tail -n 1 proof)"
+    echo "failed: test_calls is not proved: $(tail -n 1 proof)"
     return 1
 }
 
 if tool python3 "refused memory, files and bytes" && tool cc "refused memory, files and bytes"; then
     cc -shared -fPIC -O2 -o refuse.so "$here/tests/stops/refuse.c" || exit 1
     counts refusals.py "$program" ./refuse.so
-    are_built=
-    for calls in $(python3 "$here/tests/stops/calls.py" --programs); do
-        if is_built "$calls"; then are_built="$are_built $calls"; fi
-    done
-    if [ "$are_built" ]; then counts calls.py ./refuse.so $are_built; fi
-    pairs="python3 '$here/tests/check_pairs.py' '$here/crates/test_calls/out/test_calls' 400 4"
-    case $are_built in *test_calls*) shell "pairs of random stacks" 0 '' "$pairs >pairs || { cat pairs >&2; exit 1; }" ;; esac
+    calls=$here/crates/test_calls/out/test_calls
+    if calls_are_built; then
+        counts calls.py ./refuse.so
+        shell "pairs of random stacks" 0 '' "python3 '$here/tests/check_pairs.py' '$calls' 400 4 >pairs || { cat pairs >&2; exit 1; }"
+    fi
 fi
 
 echo "$passed passed, $failed failed"

@@ -13,9 +13,9 @@ from made_layers import NamedTable, Resource, ids_of
 from plain_bags import Bag
 from plain_rules import Record
 
-Row = namedtuple("Row", "program name words answer unchanged")
-"""A program of crates/, the name of a call, behind which can stand how it is made, the words that the program is given,
-the lines that it prints, and those that it prints of what the call is to change where it is refused."""
+Row = namedtuple("Row", "name words answer unchanged")
+"""The name of a call, behind which can stand how it is made, the words that the program of calls is given, the lines that
+it prints, and those that it prints of what the call is to change where it is refused."""
 
 ID = "0x7f010000"
 FIRST, SECOND, NINTH = (f"ResId({0x7F010000 + place})" for place in (0, 1, 9))
@@ -32,9 +32,8 @@ DIFFERENT_BAGS = "0 [] bag 0x00000000 0x01010001=1 0x01010002=2\n1 [] bag 0x0000
 
 
 def row(group, words, answer, unchanged=()):
-    """Of test_commands, or of a group of test_calls."""
-    program, given = ("test_commands", words) if group == "commands" else ("test_calls", [group, *words])
-    return Row(program, words[0], list(given), answer.split("\n"), list(unchanged))
+    """Of a group of test_calls."""
+    return Row(words[0], [group, *words], answer.split("\n"), list(unchanged))
 
 
 def value(meant, layer=0):

@@ -7,10 +7,10 @@ mod trees;
 mod without_memory;
 
 use crate::goals::trees::Asked;
+use crate::marked::{table_of, word};
 use cert_maker::{Cert, ConfigBox, Goal};
 use std::test::Fail;
-use test_marks::test_layers::{LayerFault, stack_of_base};
-use test_marks::{table_of, word};
+use test_layers::{LayerFault, stack_of_base};
 
 /// Makes the call that the first word names: a table, a box and a certificate with a goal are the words behind it.
 pub fn call(rt: &HostRuntime, words: &[String]) -> Result<(), Fail> {

@@ -4,10 +4,10 @@
 mod named;
 mod pairs;
 
+use crate::marked::{table_of, word};
 use command_base::answer_text::overlay_map::Stack;
 use std::test::Fail;
-use test_marks::test_layers::{LayerFault, stack_of_base};
-use test_marks::{table_of, word};
+use test_layers::{LayerFault, stack_of_base};
 
 /// Makes the call that the first word names, of a table and a word, or of two tables and words.
 pub fn call(rt: &HostRuntime, words: &[String]) -> Result<(), Fail> {

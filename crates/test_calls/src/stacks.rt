@@ -5,11 +5,11 @@ mod contents;
 mod themes;
 mod without_memory;
 
+use crate::marked::{table_of, word};
 use command_base::answer_text::overlay_map::Stack;
 use config_record::Device;
 use std::test::Fail;
-use test_marks::test_layers::{LayerFault, device_of, stack_of_base};
-use test_marks::{table_of, word};
+use test_layers::{LayerFault, device_of, stack_of_base};
 
 /// Makes the call that the first word names, over the stack of a table, for a device: the words behind it.
 pub fn call(rt: &HostRuntime, words: &[String]) -> Result<(), Fail> {

@@ -6,8 +6,8 @@ mod opened;
 mod pairs;
 mod without_memory;
 
+use crate::marked::word;
 use std::test::Fail;
-use test_marks::word;
 
 /// Makes the call that the first word names, of the other words.
 pub fn call(rt: &HostRuntime, words: &[String]) -> Result<(), Fail> {

@@ -5,8 +5,8 @@ mod devices;
 mod inputs;
 mod word_files;
 
+use crate::marked::word;
 use std::test::Fail;
-use test_marks::word;
 
 /// Makes the call that the first word names, of the other words.
 pub fn call(rt: &HostRuntime, words: &[String]) -> Result<(), Fail> {

@@ -1,14 +1,14 @@
 //! How a resource differs in two stacks.
 
 use crate::goals::trees::Asked;
+use crate::marked::{begin, end, table_of, tell, tell_text};
 use stack_diff::{
     Change, Compared, Content, Difference, Label, NamedStack, ResId, Stack, Stacks, compare,
     write_label, write_value_content,
 };
 use std::alloc::AllocError;
 use std::test::Fail;
-use test_marks::test_layers::{LayerFault, stack_of_base};
-use test_marks::{begin, end, table_of, tell, tell_text};
+use test_layers::{LayerFault, stack_of_base};
 
 /// How many nodes the trees have at most.
 const MOST_NODES: usize = 10;

@@ -1,8 +1,8 @@
 //! Where a goal ends at one device.
 
 use crate::goals::trees::Asked;
+use crate::marked::{begin, end, tell_found};
 use cert_checker::goal_end;
-use test_marks::{begin, end, tell_found};
 
 /// For the corner of the box.
 pub fn goal(rt: &HostRuntime, asked: Asked<'_, '_>) {

@@ -1,10 +1,10 @@
 //! The candidates that some member of a box matches.
 
+use crate::marked::{begin, end, tell};
 use cert_checker::{
     Choice, ConfigBox, Coord, Live, Locale, OutOfMemory, ResId, Split, Stack, Test,
 };
 use std::test::Fail;
-use test_marks::{begin, end, tell};
 
 /// The resource of entry 0.
 const FIRST: ResId = ResId(0x7f01_0000);

@@ -1,9 +1,9 @@
 //! Certificates that are checked and made.
 
+use crate::marked::{begin, end, tell, tell_found, tell_text};
 use cert_maker::{Cert, ConfigBox, Goal, Made, Omitting, Unwatched, check, make, make_omitting};
 use command_base::answer_text::overlay_map::Stack;
 use std::test::Fail;
-use test_marks::{begin, end, tell, tell_found, tell_text};
 
 /// How many nodes are made at most, where no word says it.
 const MOST_NODES: u32 = 10;

@@ -1,10 +1,10 @@
 //! Calls that take no memory.
 
+use crate::marked::{begin, end, tell};
 use cert_maker::{ConfigBox, Goal, ResId};
 use config_record::{Coord, Record};
 use std::test::Fail;
-use test_marks::test_layers::{LayerFault, record_of};
-use test_marks::{begin, end, tell};
+use test_layers::{LayerFault, record_of};
 
 pub fn members(rt: &HostRuntime, members: &ConfigBox) -> Result<(), Fail> {
     let medium = record_of("density=160").ok_or(LayerFault::Malformed)?;

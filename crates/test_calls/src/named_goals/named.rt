@@ -1,8 +1,8 @@
 //! What words stand for.
 
+use crate::marked::{begin, end, tell_found};
 use names::{Named, NamedGoal, NamedSet, Stack, goals_named, id_named, ids_named};
 use std::test::Fail;
-use test_marks::{begin, end, tell_found};
 
 pub fn id(rt: &HostRuntime, stack: &Stack<'_>, word: &str) {
     if let Some(named) = Named::read(word) {

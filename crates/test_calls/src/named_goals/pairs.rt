@@ -1,11 +1,11 @@
 //! Which pairs words ask for.
 
+use crate::marked::{begin, end, table_of, tell_found, word};
 use names::{NamedSet, pairs_named};
 use stack_diff::{NamedStack, name_pairs};
 use std::alloc::{AllocError, Global};
 use std::test::Fail;
-use test_marks::test_layers::{LayerFault, stack_of_base};
-use test_marks::{begin, end, table_of, tell_found, word};
+use test_layers::{LayerFault, stack_of_base};
 
 /// The pairs for which words ask: behind the words that name the table of the old stack and that of the new one.
 pub fn told(rt: &HostRuntime, words: &[String]) -> Result<(), Fail> {

@@ -1,9 +1,9 @@
 //! Bags.
 
+use crate::marked::{begin, end, tell};
 use command_base::answer_text::bags_themes::bag;
 use command_base::answer_text::overlay_map::{ResId, Stack};
 use config_record::Device;
-use test_marks::{begin, end, tell};
 
 pub fn rows(rt: &HostRuntime, stack: &Stack<'_>, device: &Device) {
     begin(rt);

@@ -1,5 +1,6 @@
 //! What a resource says.
 
+use crate::marked::{Writer, begin, end, tell, tell_found, tell_text};
 use command_base::answer_text::overlay_map::{ResId, Stack};
 use config_record::Device;
 use diff_command::{ConfigBox, write_difference};
@@ -7,7 +8,6 @@ use stack_diff::{
     Content, NamedStack, RowContent, content_at, difference_at, write_row_key, write_value_content,
 };
 use std::test::Fail;
-use test_marks::{Writer, begin, end, tell, tell_found, tell_text};
 
 /// The resources of the entries 0 and 1.
 const FIRST: ResId = ResId(0x7f01_0000);

@@ -1,10 +1,10 @@
 //! Themes of two styles, the bags of entries 0 and 1.
 
+use crate::marked::{begin, end, tell};
 use command_base::answer_text::bags_themes::Theme;
 use command_base::answer_text::overlay_map::{ResId, Stack};
 use config_record::Device;
 use std::test::Fail;
-use test_marks::{begin, end, tell};
 
 const STYLES: [ResId; 2] = [ResId(0x7f01_0000), ResId(0x7f01_0001)];
 

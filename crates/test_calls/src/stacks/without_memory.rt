@@ -1,13 +1,13 @@
 //! Calls that take no memory.
 
+use crate::marked::{begin, end, tell, tell_text};
 use command_base::answer_text::bags_themes::reference_resolver::{resolve_within, select};
 use command_base::answer_text::bags_themes::{Theme, chain, resolve};
 use command_base::answer_text::overlay_map::{ResId, Stack};
 use config_precedence::{better, deciding, matches, mismatch, same};
 use config_record::{Coord, Device, Fields, Locale, Record};
 use std::test::Fail;
-use test_marks::test_layers::{LayerFault, record_of};
-use test_marks::{begin, end, tell, tell_text};
+use test_layers::{LayerFault, record_of};
 
 /// The resource of entry 0.
 const FIRST: ResId = ResId(0x7f01_0000);

@@ -1,10 +1,10 @@
 //! The pushes of layers over as many as there can be.
 
+use crate::marked::{begin, end, table_of, tell};
 use command_base::answer_text::overlay_map::{IdMap, MOST_LAYERS, ResId, Stack, Table};
 use std::alloc::Global;
 use std::test::Fail;
-use test_marks::test_layers::{LayerFault, SAME, push_base};
-use test_marks::{begin, end, table_of, tell};
+use test_layers::{LayerFault, SAME, push_base};
 
 /// The resource of entry 0.
 const FIRST: ResId = ResId(0x7f01_0000);

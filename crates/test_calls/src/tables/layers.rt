@@ -1,9 +1,9 @@
 //! The pushes of layers.
 
+use crate::marked::{begin, end, table_of, tell};
 use command_base::answer_text::overlay_map::{IdMap, ResId, Stack, Table};
 use std::test::Fail;
-use test_marks::test_layers::{LayerFault, SAME, stack_of_base};
-use test_marks::{begin, end, table_of, tell};
+use test_layers::{LayerFault, SAME, stack_of_base};
 
 /// The resource of entry 0.
 const FIRST: ResId = ResId(0x7f01_0000);

@@ -1,9 +1,9 @@
 //! Calls over a table.
 
+use crate::marked::{begin, end, table_of, tell, tell_found};
 use command_base::answer_text::overlay_map::Table;
 use names::{Name, find_names};
 use std::test::Fail;
-use test_marks::{begin, end, table_of, tell, tell_found};
 
 /// Opens a table, and tells its rows.
 pub fn rows(rt: &HostRuntime, word: &str) -> Result<(), Fail> {

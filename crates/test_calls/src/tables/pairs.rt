@@ -1,11 +1,11 @@
 //! The labels of two stacks.
 
+use crate::marked::{begin, end, table_of, tell};
 use command_base::answer_text::overlay_map::Stack;
 use stack_diff::{NamePair, NamedStack, name_pairs};
 use std::alloc::{AllocError, Global};
 use std::test::Fail;
-use test_marks::test_layers::{LayerFault, SAME, push_base, push_overlay};
-use test_marks::{begin, end, table_of, tell};
+use test_layers::{LayerFault, SAME, push_base, push_overlay};
 
 /// Stands between two layers.
 const COMMA: char = ',';

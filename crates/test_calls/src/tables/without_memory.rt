@@ -1,12 +1,12 @@
 //! Calls that take no memory.
 
+use crate::marked::{begin, end, table_of, tell, tell_text};
 use chunk_walk::{Chunks, chunk_at, u16_at, u32_at};
 use command_base::answer_text::overlay_map::{
     MapRows, Pool, ResId, Row, Table, Value, write_value,
 };
 use std::test::Fail;
-use test_marks::test_layers::{pool_of_string, pool_of_style};
-use test_marks::{begin, end, table_of, tell, tell_text};
+use test_layers::{pool_of_string, pool_of_style};
 
 pub fn chunks(rt: &HostRuntime) -> Result<(), Fail> {
     let bytes = table_of(rt.alloc(), "B")?;

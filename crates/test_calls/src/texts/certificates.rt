@@ -1,9 +1,9 @@
 //! Certificates, and words of goals.
 
+use crate::marked::{begin, end, tell, tell_found, tell_text};
 use cert_checker::{Cert, Goal};
 use names::NamedGoal;
 use std::test::Fail;
-use test_marks::{begin, end, tell, tell_found, tell_text};
 
 pub fn certificate(rt: &HostRuntime, json: &str) -> Result<(), Fail> {
     begin(rt);

@@ -1,12 +1,12 @@
 //! Devices, boxes and id maps.
 
+use crate::marked::{begin, end, tell, tell_text};
 use cert_checker::{Choice, ConfigBox, Split, Test};
 use command_base::answer_text::overlay_map::{IdMap, ResId};
 use config_box::join_boxes;
 use config_record::{Coord, Device};
 use std::alloc::{AllocError, Global};
 use std::test::Fail;
-use test_marks::{begin, end, tell, tell_text};
 
 /// The resource of entry 0.
 const FIRST: ResId = ResId(0x7f01_0000);

@@ -1,9 +1,9 @@
 //! Lists of layers, layers of one of two stacks, and inputs.
 
+use crate::marked::{Reader, begin, end, table_of, tell};
 use command_base::{InputFault, LayerList, Side, open_side, read_input};
 use std::alloc::Global;
 use std::test::Fail;
-use test_marks::{Reader, begin, end, table_of, tell};
 
 /// How many bytes an input has that outgrows its first room.
 const MANY: usize = 1_500_000;

@@ -1,7 +1,7 @@
 //! Files of words.
 
+use crate::marked::{begin, end, tell_found};
 use names::words_in_text;
-use test_marks::{begin, end, tell_found};
 
 pub fn text(rt: &HostRuntime, text: &str) {
     begin(rt);

@@ -4,12 +4,12 @@ use std::fmt::Debug;
 use std::io::Write;
 
 /// Prints an answer.
-pub fn tell<D: Debug + Drop>(rt: &HostRuntime, answer: D) {
+pub(crate) fn tell<D: Debug + Drop>(rt: &HostRuntime, answer: D) {
     let _ = println!(rt; "{answer:?}");
 }
 
 /// Prints what was found, or the fault.
-pub fn tell_found<D: Debug + Drop, E: Debug + Drop>(rt: &HostRuntime, found: Result<D, E>) {
+pub(crate) fn tell_found<D: Debug + Drop, E: Debug + Drop>(rt: &HostRuntime, found: Result<D, E>) {
     match found {
         Ok(found) => tell(rt, found),
         Err(fault) => tell(rt, fault),
@@ -17,7 +17,7 @@ pub fn tell_found<D: Debug + Drop, E: Debug + Drop>(rt: &HostRuntime, found: Res
 }
 
 /// Prints a line of text.
-pub fn tell_text(rt: &HostRuntime, text: &[u8]) {
+pub(crate) fn tell_text(rt: &HostRuntime, text: &[u8]) {
     let mut out = rt.stdout();
     let _ = out.write_all(text);
     let _ = out.write_all(b"\n");

@@ -17,7 +17,7 @@ const CHANGED: &str = "A ";
 
 /// The bytes of a table: of the one with an entry without names or with them; of the first with one byte made another,
 /// as `A 408=7`; of one without rows, whole or cut; those behind `#`; or of the one that has the rows of these lines.
-pub fn table_of(alloc: Global, word: &str) -> Result<Vec<u8>, LayerFault> {
+pub(crate) fn table_of(alloc: Global, word: &str) -> Result<Vec<u8>, LayerFault> {
     Ok(match word {
         "A" => table_a(alloc)?,
         "B" => table_b(alloc)?,

@@ -4,7 +4,7 @@ use std::io::{self, ErrorKind, Read};
 
 /// A reader that gives one byte a call, and fails at one of its calls, or is interrupted at each second.
 #[derive(Drop)]
-pub struct Reader<'a> {
+pub(crate) struct Reader<'a> {
     left: &'a [u8],
     fails_at: usize,
     is_interrupted: bool,

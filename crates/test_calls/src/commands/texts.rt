@@ -1,13 +1,13 @@
 //! Texts, which are written without memory.
 
+use crate::marked::{begin, end, table_of, tell_text};
 use resource_tool::resource_text::{
     Cert, Rule, Shown, ToolFault, Verdict, dump_text, end_text, explain, fault_text, rows_text,
     verdict_text, write_goal_words,
 };
 use resource_tool::table_commands::command_base::answer_text::bags_themes::{ResId, resolve};
 use std::test::Fail;
-use test_marks::test_layers::{LayerFault, device_of, stack_of_base};
-use test_marks::{begin, end, table_of, tell_text};
+use test_layers::{LayerFault, device_of, stack_of_base};
 
 /// The resource of entry 0.
 const FIRST: ResId = ResId(0x7f01_0000);

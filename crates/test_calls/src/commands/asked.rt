@@ -1,5 +1,6 @@
 //! What a command is asked of.
 
+use crate::marked::{Writer, table_of, word};
 use diff_command::{OpenedDiff, diff_bytes};
 use resource_tool::resource_text::Cert;
 use resource_tool::table_commands::command_base::answer_text::ResId;
@@ -14,7 +15,6 @@ use std::alloc::Global;
 use std::io::{Write, sink};
 use std::test::Fail;
 use survey_command::survey_bytes;
-use test_marks::{Writer, table_of, word};
 
 /// How many nodes are made at most, where no word says it.
 const MOST_NODES: u32 = 10;

@@ -1,10 +1,10 @@
 //! How a command ends.
 
-use crate::asked::Asked;
+use crate::commands::asked::Asked;
+use crate::marked::{Writer, begin, end, tell};
 use resource_tool::ToolFault;
 use std::io::Write;
 use std::test::Fail;
-use test_marks::{Writer, begin, end, tell};
 
 /// Gives a command, and prints what it writes and how it ends; or its fault, and how many writes there were.
 pub fn give(rt: &HostRuntime, asked: &Asked<'_>) -> Result<(), Fail> {

@@ -8,7 +8,7 @@ const ROOM: usize = 4096;
 
 /// A writer that keeps what is written, and fails at one of its calls.
 #[derive(Drop)]
-pub struct Writer {
+pub(crate) struct Writer {
     fails_at: usize,
     pub calls: usize,
     pub text: Vec<u8>,
