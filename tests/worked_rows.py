@@ -986,9 +986,10 @@ def fault_of(program, group, case):
     return f"failed: {group.__name__}: {' '.join(case.words)[:200]}: {said}\nwhere this is due: {case.due}\n"
 
 
-def main():
+def check_groups(groups):
+    """Checks the cases of some groups, as the words of the command line say."""
     program, jobs = os.path.abspath(sys.argv[1]), int(sys.argv[2]) if len(sys.argv) > 2 else 1
-    cases = [(group, case) for group in GROUPS for case in group()]
+    cases = [(group, case) for group in groups for case in group()]
     with ThreadPoolExecutor(jobs) as pool:
         faults = list(pool.map(lambda case: fault_of(program, *case), cases))
     print("".join(faults), end="")
@@ -996,4 +997,5 @@ def main():
     sys.exit(any(faults))
 
 
-main()
+if __name__ == "__main__":
+    check_groups(GROUPS)
