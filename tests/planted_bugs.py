@@ -5,7 +5,7 @@
     planted_bugs.py --control [CRATE | CRATE/BUG ..]
     planted_bugs.py --apply [CRATE | CRATE/BUG ..]
 
-Without a name it takes all. An edit has a line 'seen by: TESTS: NAME'. TESTS is tests/stops or tests/worked_rows.py, for which the
+Without a name it takes all. An edit has a line 'seen by: TESTS: NAME'. TESTS is tests/stops or one of WORKED, for which the
 program is proved and built with the bug; or a crate of tests, which is built with it and not proved; or tests/stops/calls.py, for
 whose rows of the call NAME the same is done of their program; a row's last word may stand behind its name. NAME is the
 test that has to fail there. The last line is 'N seen or refused, M let through'; refused is a bug that the prover does
@@ -36,7 +36,9 @@ from worked_calls import WITHOUT_MEMORY, rows
 HERE = Path(__file__).resolve().parent.parent
 RT = os.environ.get("RT", "rt").split()
 PROGRAM = "restool"
-PROGRAM_TESTS = {"tests/stops": ["sh", "tests/stops/stops.sh"], "tests/worked_rows.py": ["python3", "tests/worked_rows.py"]}
+WORKED = ("tests/worked_rows.py", "tests/worked_reports.py")
+"""Files of worked cases."""
+PROGRAM_TESTS = {"tests/stops": ["sh", "tests/stops/stops.sh"], **{file: ["python3", file] for file in WORKED}}
 """The tests of the built program, which print a line `failed: NAME ..`, and how they are run."""
 CALLS = "tests/stops/calls.py"
 CALLS_PROGRAM = "test_calls"

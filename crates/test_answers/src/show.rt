@@ -1,5 +1,0 @@
-//! What is shown of worked certificates.
-
-mod certificates;
-mod pictures;
-mod texts;

@@ -1,4 +1,0 @@
-//! What is found in a table of which one piece is another.
-
-mod chunks;
-mod printed;
