@@ -280,7 +280,7 @@ line goal.err 'command: bad id 0x01010001@'
 check "an attribute without styles comes before the files" 2 $none goal.err check absent box certificate 0x7f010000 0x01010001@
 if command -v python3 >/dev/null; then
     ends "JSON Schemas" 0 "python3 '$here/tests/check_schemas.py' \"\$0\""
-    ends "worked certificates" 0 "python3 '$here/tests/worked_certificates.py' \"\$0\""
+    ends "worked certificates" 0 "python3 '$here/tests/worked_certificates.py' \"\$0\" 4"
     ends "random certificates" 0 "python3 '$here/tests/check_certificates.py' \"\$0\" 400 4"
 else
     echo "not run, since python3 is missing: JSON Schemas, worked and random certificates"
@@ -370,7 +370,7 @@ ends "the warnings that it keeps" 0 "cd '$here' && \"\$0\" survey ${release%% @*
 ends "the map of a second overlay" 0 "cd '$here/examples' && \"\$0\" map teapot/resources.arsc copper/resources.arsc | cmp - copper/map.json"
 
 if command -v python3 >/dev/null; then
-    ends "worked certificates that are made" 0 "python3 '$here/tests/worked_made.py' \"\$0\""
+    ends "worked certificates that are made" 0 "python3 '$here/tests/worked_made.py' \"\$0\" 4"
     ends "random certificates that are made" 0 "python3 '$here/tests/check_made.py' \"\$0\" 400 4"
 else
     echo "not run, since python3 is missing: worked and random certificates that are made"

@@ -1,31 +1,40 @@
 #!/usr/bin/env python3
 """Asks `restool make` for small certificates that were worked out by hand:
 
-    worked_made.py PROGRAM
+    worked_made.py PROGRAM [JOBS]
 
-Each case has the rows of one table, a box, the most nodes (None where no limit is given), how often the id 0x7f010000
-is asked, and what is due: the text that is printed, or the number of nodes of a certificate that `restool check`
-accepts.
-The last line is the number of cases."""
-import json
-import os
-import subprocess
-import sys
-import tempfile
+The cases are such as worked_rows.py has, and what is printed of them is the same."""
+from small_tables import TABLE_B
+from worked_certificates import (
+    ALIKE_AT_NIGHT, FRENCH_AND_GERMAN, MEDIUM_AND_HIGH, NIGHT_AND_DAY, PLAIN, STYLES, certificate_of, densities, tree, value,
+)
+from worked_rows import A, B, FIRST, ID, MEDIUM_BOX, NOWHERE, SECOND, TO_198, Case, check_groups, files_of, over
 
-from made_layers import table_bytes
-from plain_rules import Record
-
-FIRST = 0x7F010000
 NODE_LIMIT = "node limit\n"
 
 
-def row(given, word, kind=0x10):
-    return FIRST, Record(given), (kind, word)
+class Checked(Case):
+    """A certificate that is made, and what a check of it says."""
+
+    def answer(self, program, folder):
+        made, told, status = super().answer(program, folder)
+        if told or status:
+            return made, told, status
+        goals = self.words[self.words.index("box") + 1 :]
+        return Case(["check", "layers", "box", "certificate", *goals], certificate=made).answer(program, folder)
 
 
-def densities(low, high):
-    return {"density": {"from": low, "to": high}}
+def make_words(goals, most, *options):
+    limit = [] if most is None else ["--max-nodes", str(most)]
+    return ["make", *options, *limit, "layers", "box", *goals]
+
+
+def made(rows, box, most, goals, wanted):
+    """A text that is printed, or how many nodes an accepted certificate has."""
+    words, files = make_words(goals, most), {**files_of([rows]), "box": box}
+    if isinstance(wanted, int):
+        return Checked(words, f"accepted goals {len(goals)} nodes {wanted}\nset-aside 0\n", **files)
+    return Case(words, wanted, status=wanted.startswith(("counter", "node")), **files)
 
 
 def locales(*names):
@@ -34,101 +43,122 @@ def locales(*names):
 
 def in_each(names, given):
     """A row for each locale, all with the same conditions beside it."""
-    return [row({}, 1)] + [row({"locale": name, **given}, 2) for name in names]
+    conditions = ",".join(f"{name}={number}" for name, number in given.items())
+    return "\n".join(["0 [] 1", *(f"0 [locale={name},{conditions}] 2" for name in names)])
 
 
 def met_or_not(names, given):
     """Each condition is met by some devices and not by others."""
-    return locales(*names) | {name: [value - 1, value] for name, value in given.items()}
+    return locales(*names) | {name: [number - 1, number] for name, number in given.items()}
 
 
-def counter(device, end):
-    return f"counter goal 0\ndevice {device}\nend {end}\n"
+def counter(device, end, goal=0):
+    return f"counter goal {goal}\ndevice {device}\nend {end}\n"
 
 
-PLAIN = [row({}, 1)]
-MEDIUM_AND_HIGH = [row({"density": 160}, 1), row({"density": 320}, 2)]
-FRENCH = [row({"locale": "fr"}, 1)]
-FRENCH_AND_ANY = FRENCH + [row({}, 2)]
-ALIKE_AT_NIGHT = [row({}, 1), row({"night": 2}, 1)]
-NIGHTS = [{"density": [160], "night": [1, 2]}, {"density": [160], "night": {"from": 1, "to": 2}}]
+FRENCH = "0 [locale=fr] 1"
+FRENCH_AND_ANY = f"{FRENCH}\n0 [] 2"
+IN_THREE = f"{MEDIUM_AND_HIGH}\n0 [density=640] 3"
 SHARED = {"smallestWidthDp": 600, "night": 2, "sdk": 30}
 TEN_SHARED = SHARED | {"mcc": 310, "layoutDirection": 2, "screenSize": 3, "long": 1, "orientation": 2, "touchscreen": 3, "keyboard": 2}
 LANGUAGES = [first + second for first in "abcd" for second in "abcdefghijklmnopqrstuvwxy"]
 ONE_LEAF = '{"goals":[{"id":"0x7f010000","nodes":[{"kind":16,"layer":0,"word":1}]}],"version":1}\n'
+TOO_LONG = f"0 [] @{ID}"
+STYLED = f"{A}@{FIRST}"
 
-CASES = [
+MADE = [
+    # The rows of a table, a box, the most nodes, the goals, and what is printed; or how many nodes a certificate has.
     # One trace: one leaf.
-    (PLAIN, {"density": [160]}, 1, 1, ONE_LEAF),
-    (PLAIN, densities(1, 32767), 1, 1, ONE_LEAF),
-    (MEDIUM_AND_HIGH, densities(120, 197), 10, 1, 1),
-    (MEDIUM_AND_HIGH, densities(120, 197), 1, 1, 1),
+    (PLAIN, MEDIUM_BOX, 1, [ID], ONE_LEAF),
+    (PLAIN, densities(1, 32767), 1, [ID], ONE_LEAF),
+    (MEDIUM_AND_HIGH, densities(120, 197), 10, [ID], 1),
+    (MEDIUM_AND_HIGH, densities(120, 197), 1, [ID], 1),
     # 198 is the first density at which 320 is better, since (320 - 198) * 320 is not above 198 * 198.
-    (MEDIUM_AND_HIGH, densities(120, 198), None, 1, 3),
-    (MEDIUM_AND_HIGH, densities(120, 198), 3, 1, 3),
-    (MEDIUM_AND_HIGH, densities(120, 198), 2, 1, NODE_LIMIT),
-    (MEDIUM_AND_HIGH, densities(120, 198), 1, 1, NODE_LIMIT),
+    (MEDIUM_AND_HIGH, TO_198, None, [ID], 3),
+    (MEDIUM_AND_HIGH, TO_198, 3, [ID], 3),
+    (MEDIUM_AND_HIGH, TO_198, 2, [ID], NODE_LIMIT),
+    (MEDIUM_AND_HIGH, TO_198, 1, [ID], NODE_LIMIT),
+    (MEDIUM_AND_HIGH, {"density": [160, 320]}, 3, [ID], 3),
     # The limit is for all goals together.
-    (MEDIUM_AND_HIGH, densities(120, 198), 5, 2, NODE_LIMIT),
-    (MEDIUM_AND_HIGH, densities(120, 198), 6, 2, 6),
-    (MEDIUM_AND_HIGH, densities(120, 198), 7, 3, NODE_LIMIT),
-    (PLAIN, {"density": [160]}, 1, 2, NODE_LIMIT),
+    (MEDIUM_AND_HIGH, TO_198, 5, [ID] * 2, NODE_LIMIT),
+    (MEDIUM_AND_HIGH, TO_198, 6, [ID] * 2, 6),
+    (MEDIUM_AND_HIGH, TO_198, 7, [ID] * 3, NODE_LIMIT),
+    (PLAIN, MEDIUM_BOX, 1, [ID] * 2, NODE_LIMIT),
     # A device without a value.
-    (FRENCH, locales("fr", "de"), 10, 1, counter("locale=de density=160", "absent 0x7f010000")),
-    ([row({}, FIRST, kind=1)], densities(120, 640), 10, 1, counter("density=120", "too long 0x7f010000")),
+    (FRENCH, FRENCH_AND_GERMAN, 10, [ID], counter("locale=de density=160", f"absent {ID}")),
+    (TOO_LONG, densities(120, 640), 10, [ID], counter("density=120", f"too long {ID}")),
+    (TOO_LONG, MEDIUM_BOX, 10, [ID], counter("density=160", f"too long {ID}")),
+    (PLAIN, MEDIUM_BOX, 10, [ID, SECOND], counter("density=160", f"absent {SECOND}", goal=1)),
     # All locales that answer alike stand on one side of a test.
-    (FRENCH_AND_ANY, locales("fr", "de"), 10, 1, 3),
-    (FRENCH_AND_ANY, locales("fr", "fr-CA", "de", "it"), 3, 1, 3),
+    (FRENCH_AND_ANY, FRENCH_AND_GERMAN, 10, [ID], 3),
+    (FRENCH_AND_ANY, locales("fr", "fr-CA", "de", "it"), 3, [ID], 3),
     # Decisions that differ are parted, though the values are alike.
-    (ALIKE_AT_NIGHT, NIGHTS[0], None, 1, 3),
-    (ALIKE_AT_NIGHT, NIGHTS[1], None, 1, 3),
+    (ALIKE_AT_NIGHT, NIGHT_AND_DAY, None, [ID], 3),
+    (ALIKE_AT_NIGHT, {"density": [160], "night": {"from": 1, "to": 2}}, None, [ID], 3),
+    (f"0 [] bag 0x00000000\n1 [night=2] @{ID}\n1 [] 1", densities(1, 32767) | {"night": [1, 2]}, 4, [SECOND, ID], 4),
     # A range of densities in three parts: that of 160 is better up to 197, and that of 320 up to 426.
-    (MEDIUM_AND_HIGH + [row({"density": 640}, 3)], densities(120, 640), 5, 1, 5),
-    (MEDIUM_AND_HIGH + [row({"density": 640}, 3)], densities(120, 640), 4, 1, NODE_LIMIT),
+    (IN_THREE, densities(120, 640), 5, [ID], 5),
+    (IN_THREE, densities(120, 640), 4, [ID], NODE_LIMIT),
     # What all rows ask is asked once: two nodes for each such condition, then twice as many as locales, less one.
-    (in_each(LANGUAGES, SHARED), met_or_not(LANGUAGES, SHARED), 205, 1, 205),
-    (in_each(LANGUAGES[:60], TEN_SHARED), met_or_not(LANGUAGES[:60], TEN_SHARED), 139, 1, 139),
+    (in_each(LANGUAGES, SHARED), met_or_not(LANGUAGES, SHARED), 205, [ID], 205),
+    (in_each(LANGUAGES[:60], TEN_SHARED), met_or_not(LANGUAGES[:60], TEN_SHARED), 139, [ID], 139),
+    # Two languages have a value by night, on Android 11.
+    (
+        "0 [] 1\n0 [locale=de,night=2,sdk=30] 2\n0 [locale=fr,night=2,sdk=30] 3",
+        locales("de", "fr", "it") | {"night": [1, 2], "sdk": {"from": 26, "to": 30}},
+        9,
+        [ID],
+        9,
+    ),
+    # Attributes under styles.
+    (STYLES, TO_198, 10, [STYLED], 3),
+    (STYLES, MEDIUM_BOX, 10, [f"{B}@{FIRST}"], counter("density=160", f"absent {B}")),
 ]
 
 
-def run(program, *words):
-    done = subprocess.run([program, *words], capture_output=True, text=True)
-    return done.stdout + done.stderr, done.returncode
+def of_made():
+    for case in MADE:
+        yield made(*case)
 
 
-def is_due(program, made, status, ids, wanted):
-    """Whether what was made is the text that is due, or a certificate of so many nodes."""
-    if isinstance(wanted, str):
-        return made == wanted and status == (0 if wanted == ONE_LEAF else 1)
-    with open("certificate", "w") as text:
-        text.write(made)
-    accepted = f"accepted goals {len(ids)} nodes {wanted}\nset-aside 0\n"
-    return status == 0 and run(program, "check", "layers", "box", "certificate", *ids) == (accepted, 0)
+OF_SECOND = '{"goals":[{"id":"0x7f010001","nodes":[{"kind":16,"layer":0,"word":2}]}],"version":1}\n'
+GERMAN = "device locale=de density=160"
+
+OMITTED = [
+    # The most nodes, the goals, and what is printed to both streams. The first entry has a value in French alone, the second
+    # everywhere.
+    (10, [FIRST, SECOND], OF_SECOND, f"omitted goal 0 {FIRST} !NoSuch/!NoSuch\n{GERMAN}\nend absent {FIRST}\n"),
+    (
+        1,
+        [SECOND, f"{A}@{SECOND}"],
+        OF_SECOND,
+        f"omitted goal 1 {A}@{SECOND} !NoSuch/!NoSuch\n{GERMAN}\nend absent {SECOND}\n",
+    ),
+    (10, [SECOND], OF_SECOND, ""),
+    (10, [FIRST], "", f"omitted goal 0 {FIRST} !NoSuch/!NoSuch\n{GERMAN}\nend absent {FIRST}\n"),
+    (1, [SECOND] * 2, NODE_LIMIT, ""),
+]
 
 
-def check(program, rows, box, limit, times, wanted):
-    with open("table", "wb") as table:
-        table.write(table_bytes(rows))
-    for path, said in (("layers", [{"table": "table"}]), ("box", box)):
-        with open(path, "w") as text:
-            json.dump(said, text)
-    ids = [f"0x{FIRST:08x}"] * times
-    limits = [] if limit is None else ["--max-nodes", str(limit)]
-    made, status = run(program, "make", *limits, "layers", "box", *ids)
-    if is_due(program, made, status, ids, wanted):
-        return []
-    return [f"{rows} {box} {limit}: {made}status {status}, wanted {wanted}"]
+def of_omitted():
+    for most, goals, out, err in OMITTED:
+        words = make_words(goals, most, "--omit")
+        yield Case(words, out, err, out != OF_SECOND, **files_of([f"{FRENCH}\n1 [] 2"]), box=FRENCH_AND_GERMAN)
 
 
-def main():
-    program = os.path.abspath(sys.argv[1])
-    with tempfile.TemporaryDirectory() as folder:
-        os.chdir(folder)
-        faults = [fault for case in CASES for fault in check(program, *case)]
-    for fault in faults:
-        print(fault)
-    print(f"{len(CASES)} cases")
-    sys.exit(bool(faults))
+def of_names():
+    """The goal that an answer is about, with its names."""
+    told = "rejected goal 0 node 0 N8 OtherValue\ndevice density=160\nend value layer 0 decimal 5\nset-aside 0\n"
+    styled, wrong = f"{A}@{NOWHERE},{FIRST}", certificate_of(tree(value(9)))
+    for names, of_check, of_make in (
+        ("--names ", f'goal 0 {ID} "s"/"k"\n', f'goal 1 {styled} "s"/"k"\n'),
+        ("", "", ""),
+    ):
+        words = f"check {names}layers box certificate {ID}"
+        yield over([TABLE_B], words, told, of_check, 1, box=MEDIUM_BOX, certificate=wrong)
+        out = counter("density=160", f"absent {NOWHERE}", goal=1)
+        yield over([TABLE_B], f"make {names}layers box {ID} {styled}", out, of_make, 1, box=MEDIUM_BOX)
 
 
-main()
+if __name__ == "__main__":
+    check_groups([of_made, of_omitted, of_names])

@@ -358,6 +358,13 @@ if tool python3 "work of more than a second"; then
     told "what is left out, told behind the line of the work" --omit "omitted goal $goals 0x7f010001"
     works 200 12
     shell "no line of the work in a file" 0 '' "\"\$0\" $make >made"
+    # The first of two goals takes more than a second.
+    for count in 300 400 500; do
+        works $count 1
+        python3 "$here/tests/on_terminal.py" "$program" $make 0x7f010001 >terminal 2>soon
+        grep -q ' of 2 goals done' terminal && break
+    done
+    shell "one of two goals is done" 0 '' "grep -qx '1 of 2 goals done' terminal"
 fi
 
 # counts SCRIPT WORD..: counts what passed and failed in a script.

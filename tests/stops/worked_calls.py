@@ -33,7 +33,7 @@ DIFFERENT_BAGS = "0 [] bag 0x00000000 0x01010001=1 0x01010002=2\n1 [] bag 0x0000
 
 def row(group, words, answer, unchanged=()):
     """Of a group of test_calls."""
-    return Row(words[0], [group, *words], answer.split("\n"), list(unchanged))
+    return Row(words[0], [group, *words], answer.split("\n") if answer else [], list(unchanged))
 
 
 def value(meant, layer=0):
@@ -140,6 +140,29 @@ def bag_of_names():
     return table, "\n".join(f"s/{name}\ndecimal {number}" for name, (_, number) in sorted(rows.items()))
 
 
+NO_GOALS = '{"goals":[],"version":1}'
+EACH_NODE = (
+    '{"atMost":320,"coord":"density"}',
+    '{"coord":"night","in":[2,1,2]}',
+    '{"kind":16,"layer":63,"word":4294967295}',
+    '{"coord":"locale","in":["","fr","fil-PH","es-419"]}',
+    '{"bag":"0x7f01000a"}',
+)
+EACH_KIND = f'{{"goals":[{{"id":"{ID}","nodes":[{",".join(EACH_NODE)}]}},{{"id":"0x00000000","nodes":[]}}],"version":1}}'
+OF_STYLES = '{"attr":"0x01010001","nodes":[{"bag":"0x7f010000"}],"styles":["0x7f010002","0x7f010001"]}'
+BOTH_KINDS = f'{{"goals":[{OF_STYLES},{{"id":"{ID}","nodes":[]}},{{"attr":"0x01010001","nodes":[],"styles":[]}}],"version":2}}'
+WRITTEN = [
+    # A certificate, and how it is written.
+    *((text, text) for text in (NO_GOALS, EACH_KIND, BOTH_KINDS)),
+    (NO_GOALS.replace("1", "2"), NO_GOALS),
+    (written(WRITTEN_ID, version=2), written(WRITTEN_ID)),
+    (
+        ' { "version" : 1 , "goals" : [ { "nodes" : [ { "word" : 1 , "layer" : 0 , "kind" : 16 } ] , "id" : "0x7F01000A" } ] } ',
+        written(WRITTEN_ID, written_leaf(1)).replace(ID, "0x7f01000a"),
+    ),
+]
+
+
 def text_rows():
     """Texts, and bytes."""
 
@@ -181,6 +204,8 @@ def text_rows():
     tested = [*tests, *map(written_leaf, (1, 2, 3)), '{"bag":"0x7f010001"}']
     for name in ("Cert::read", "Cert::write"):
         yield read(name, certificate(*tested), written(WRITTEN_ID, *tested))
+    for text, answer in WRITTEN:
+        yield read("Cert::write", text, answer)
     styled = f"Attr {{ attr: {A}, styles: [{FIRST}] }}"
     yield read("Goal::read", STYLED, styled)
     yield read("Goal::read", "0x01010001@", "Malformed")
@@ -303,11 +328,15 @@ def goal_rows():
         return row("goals", [name, table, members, certificate(goal=goal, version=2), nodes], answer)
 
     yield ask("Live::new", LOCALES, BOTH_LOCALES, f"(Plain({ONE}), false)\n(Plain({TWO}), false)")
+    yield ask("Live::new", LOCALES, '{"density":[160],"locale":["de"]}', f"(Plain({TWO}), true)")
     yield ask("Live::half", LOCALES, BOTH_LOCALES, f"(Plain({TWO}), true)")
+    three = f"(Plain({TWO}), true)\n(Plain(Value {{ kind: 16, word: 3 }}), false)"
+    yield ask("Live::half", f"{LOCALES}\n0 [locale=de,sdk=21] 3", '{"density":[160],"sdk":[19,21],"locale":["fr","de"]}', three)
     yield ask("goal_end", STYLED_DENSITIES, MEDIUM_BOX, value(ONE), STYLED_GOAL)
     two_styles = "0 [] bag 0x00000000 0x01010001=1\n1 [] bag 0x00000000 0x01010001=7"
     yield ask("goal_end", two_styles, MEDIUM_BOX, value(SEVEN), under("0x01010001", ID, "0x7f010001"))
     yield ask("goal_end", two_styles, MEDIUM_BOX, absent(B), UNSET_GOAL)
+    yield ask("goal_end", STYLED_DENSITIES, '{"density":[198]}', value(TWO), STYLED_GOAL)
     yield ask("goal_end", CHAIN, MEDIUM_BOX, value(ONE), STYLED_GOAL)
     yield from check_rows(ask)
     yield from make_rows(ask)
@@ -426,6 +455,7 @@ def command_rows():
         yield ask(name, STYLES, "0x01010001 value layer 0 decimal 1\nDone", MEDIUM)
     yield from check_commands(ask)
     yield from make_commands(ask)
+    yield from commands_without_goals()
     yield from show_commands(ask)
     yield from diff_commands(ask)
 
@@ -464,6 +494,15 @@ def make_commands(ask):
     yield ask("make_bytes", DENSITIES, "node limit\nNegative", TO_198, nodes="1")
     yield ask("make_bytes", "0 [] 1", "(Box(Density), 0)", "{}")
     yield from omit_commands(ask, one)
+
+
+def commands_without_goals():
+    """No word asks for nothing."""
+    script = "0 [] 1\n0 [locale=sr,script=4c61746e] 2"
+    for table, aside in (("no rows", 0), (script, 1)):
+        accepted = f"accepted goals 0 nodes 0\nset-aside {aside}\nDone"
+        yield row("commands", ["check_bytes", table, MEDIUM_BOX, NO_GOALS, NO_GOALS], accepted)
+        yield row("commands", ["make_bytes", table, MEDIUM_BOX, NO_GOALS, "0"], f"{NO_GOALS}\nDone")
 
 
 def omit_commands(ask, one):
@@ -569,6 +608,8 @@ WITHOUT_MEMORY = [
     without_memory("texts", "ConfigBox::split", "EmptyHalf", TO_640, "640"),
     without_memory("texts", "ConfigBox::split", "WrongKind", TO_640, "=160"),
     without_memory("goals", "Live::list", f"(Plain({ONE}), false)\n(Plain({TWO}), false)", LOCALES, BOTH_LOCALES, certificate()),
+    without_memory("goals", "Live::list", "", LOCALES, '{"density":[160],"locale":["en"]}', certificate()),
+    without_memory("goals", "goal_end", f"Bag {{ id: {FIRST} }}", "0 [] bag 0x00000000", MEDIUM_BOX, certificate()),
     without_memory("texts", "IdMap::look", f"Some({SECOND})", f'[["{ID}","0x7f010001"]]'),
     without_memory("texts", "open_side", "SideTable(New, 0, Chunk(Oversize(0)))", "cut"),
     without_memory("tables", "Table::open", "Chunk(Oversize(0))", "cut"),

@@ -42,4 +42,4 @@ pub use qualifier::{RECORD_SIZE, record_of};
 pub use row_chain::chain;
 pub use stacks::{SAME, push_base, push_overlay, stack_of_base, stack_of_two};
 pub use table::{layer, layer_of_lines, layer_with_string};
-pub use unnamed_entry::{put, table_a, table_with};
+pub use unnamed_entry::{put, table_a};

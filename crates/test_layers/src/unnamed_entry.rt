@@ -33,13 +33,6 @@ pub fn table_a(alloc: Global) -> Result<Vec<u8>, AllocError> {
     Ok(bytes)
 }
 
-/// The bytes of the table with other bytes from a place on.
-pub fn table_with(alloc: Global, at: usize, piece: &[u8]) -> Result<Vec<u8>, AllocError> {
-    let mut bytes = table_a(alloc)?;
-    put(&mut bytes, at, piece);
-    Ok(bytes)
-}
-
 /// Puts other bytes in from a place on, as far as there are bytes.
 pub fn put(bytes: &mut [u8], at: usize, piece: &[u8]) {
     for (n, byte) in piece.iter().enumerate() {
