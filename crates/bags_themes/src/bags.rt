@@ -22,7 +22,7 @@ use std::alloc::{AllocError, Global};
 const MOST_PARENTS: u8 = 64;
 
 /// The most bags of a chain: a bag and its parents.
-pub(crate) const MOST_BAGS: u8 = 65;
+pub(crate) const MOST_BAGS: u8 = MOST_PARENTS + 1;
 
 /// The rows of the bag that an id selects, merged into those of its parents (AOSP:
 /// `ResTable::getBagLocked`): in file order, each own row goes after the inherited rows of smaller names that are

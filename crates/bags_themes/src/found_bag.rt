@@ -6,7 +6,7 @@ use crate::bag_fault::BagFault;
 use reference_resolver::{Cand, Cell, Device, MapRows, ResId, Stack, select};
 
 /// A bag that was selected. What it lends is lent from the bytes of its table.
-#[derive(Clone, Copy, Debug)]
+#[derive(Clone, Copy)]
 pub(crate) struct FoundBag<'a> {
     /// The index of its layer in the stack.
     pub layer: usize,

@@ -17,7 +17,7 @@ pub enum Slot {
 }
 
 /// Where one attribute leads.
-#[derive(Clone, Copy, Debug, PartialEq, Eq)]
+#[derive(Clone, Copy, PartialEq, Eq)]
 pub(crate) enum AttributeStep {
     /// To this attribute.
     Follows(ResId),

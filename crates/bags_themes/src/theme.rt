@@ -18,15 +18,15 @@ use crate::parents::FoundBags;
 use crate::slot::{AttributeStep, Slot};
 use indexmap::IndexMap;
 use reference_resolver::overlay_map::Contents;
-use reference_resolver::{Device, End, ResId, Stack, resolve_within};
+use reference_resolver::{Device, End, REFERENCES_FOLLOWED, ResId, Stack, resolve_within};
 use std::alloc::{AllocError, Global};
 use std::marker::Model;
 
 // How many attributes are followed, at most.
 const ATTRIBUTES_FOLLOWED: u8 = 20;
 
-/// How many references are followed after that of a slot, at most; it is the first of twenty.
-pub(crate) const REFERENCES_AFTER_SLOT: u8 = 19;
+/// How many references are followed after that of a slot, at most: that is the first.
+pub(crate) const REFERENCES_AFTER_SLOT: u8 = REFERENCES_FOLLOWED - 1;
 
 /// What styles have set for attributes (AOSP: `ResTable::Theme`). Contracts see it as the list of attributes
 /// with their values, by look-up alone.

@@ -8,7 +8,7 @@ use std::cmp::Reverse;
 /// What speaks for a condition, the weightiest first. No two have the same.
 #[derive(Clone, Copy, PartialEq, Eq, PartialOrd, Ord)]
 struct Weight {
-    /// How many candidates ask its coordinate, and how many are settled where it is met.
+    /// How many conditions ask its coordinate; one that is the only one of its candidate counts twice.
     askers: usize,
     /// How many ask for the same.
     alike: usize,

@@ -4,7 +4,7 @@ use crate::rule::Rule;
 use crate::verdict::Shown;
 
 /// A rule that fails at a node, and the devices that show it.
-#[derive(Clone, Copy, Debug, PartialEq, Eq)]
+#[derive(Clone, Copy, PartialEq, Eq)]
 pub(crate) struct Failure {
     pub(crate) rule: Rule,
     pub(crate) shown: Shown,

@@ -10,7 +10,7 @@ use cert_checker::{ConfigBox, Device, End, Goal, Node, OpenBoxes, OutOfMemory, S
 use std::alloc::Global;
 
 /// What became of a tree.
-#[derive(Debug, Drop)]
+#[derive(Drop)]
 pub(crate) enum Grown {
     /// A tree of which no rule fails.
     Tree(Vec<Node>),

@@ -11,14 +11,14 @@ ghost use Rattle.box_answers.specs.Members.{sets_of, set_at, IsMember, SomeMembe
 ghost use Rattle.config_box.specs.Tests.{test_of, coord_of};
 ghost use Rattle.config_box.specs.HalfSets.{IsHalfSet};
 ghost use Rattle.box_answers.specs.Sameness.{IsExact};
-ghost use Rattle.config_box.specs.declared.box_fault.BoxFault.TheVariants.{OutOfMemory};
+ghost use Rattle.config_box.specs.declared.box_fault.BoxFault.TheVariants.{OutOfMemory as WantOfMemory};
 
 use crate::box_fault::BoxFault;
 use crate::half::half_of;
-use crate::joined::{is_same, joined_sets};
+use crate::joined_sets::{is_same, joined_sets};
 use crate::order::order_but;
 use crate::read::sets_in_value;
-use crate::split::{OutOfMemory as NoMemory, Split, has_wrong_kind, shared_sets, with_set};
+use crate::split::{OutOfMemory, Split, has_wrong_kind, shared_sets, with_set};
 use crate::test::Test;
 use crate::values::{Values, values_of};
 use box_answers::{Coord, Device, NumberSet, Record, Sameness, set_at};
@@ -56,7 +56,7 @@ impl ConfigBox {
     /// The box of a JSON text: an object with a list or a range of numbers for each coordinate and a list of
     /// texts for the locale. What is missing is 0, or no locale; the density has to be there.
     pub fn read(alloc: Global, json: &[u8]) -> Result<ConfigBox, BoxFault>
-        ensures value { GivesOr OutOfMemory (λ b. b) result (box_in json.now) }
+        ensures value { GivesOr WantOfMemory (λ b. b) result (box_in json.now) }
         ensures sets { IfOk result IsBox }
     {
         let value = read_value(alloc, json)?;
@@ -66,7 +66,7 @@ impl ConfigBox {
     }
 
     /// The same box. Its lists are not copied.
-    pub fn shared(&self, alloc: Global) -> Result<ConfigBox, NoMemory>
+    pub fn shared(&self, alloc: Global) -> Result<ConfigBox, OutOfMemory>
         ensures value { IfOk result (λ b. b ≡ self.now) }
         ensures sets { IfOk result IsBox }
     {
@@ -121,7 +121,7 @@ impl ConfigBox {
     }
 
     /// The halves by a test.
-    pub fn split(&self, alloc: Global, test: &Test) -> Result<Split, NoMemory>
+    pub fn split(&self, alloc: Global, test: &Test) -> Result<Split, OutOfMemory>
         ensures halves { IfOk result (IsSplit self.now (test_of test.now)) }
         ensures answers { IfOk result (HalvesKeepAnswers self.now) }
     {
@@ -144,7 +144,7 @@ impl ConfigBox {
     /// The one box that has exactly the members of both. There is one where they have the same set at each
     /// coordinate but one, and make one set there: ranges that follow one another, or choices without a common
     /// value, of at most 512 together.
-    pub fn joined(&self, alloc: Global, other: &ConfigBox) -> Result<Option<ConfigBox>, NoMemory>
+    pub fn joined(&self, alloc: Global, other: &ConfigBox) -> Result<Option<ConfigBox>, OutOfMemory>
         ensures members { IfOk result (λ joined. IfSome joined (IsJoined self.now other.now)) }
         ensures sets { IfOk result (λ joined. MatchOption joined (CannotJoin self.now other.now) (HasJoinedSets self.now other.now)) }
     {
@@ -182,7 +182,7 @@ fn half_box(
     test: &Test,
     answer: bool,
     half: NumberSet,
-) -> Result<ConfigBox, NoMemory>
+) -> Result<ConfigBox, OutOfMemory>
     requires sets { IsBox (sets_of sets.now) }
     requires half { IsHalfSet (set_at (sets_of sets.now) (coord_of (test_of test.now))) (test_of test.now) answer (set_of half) }
     ensures { IfOk result (λ b. IsHalf (sets_of sets.now) (test_of test.now) answer b) }

@@ -5,6 +5,8 @@ ghost use Rattle.config_rules.specs.Comparisons.{counted_density, is_larger_bett
 
 use crate::answer::Answer;
 
+/// What a record without a density counts as. Beside one that says 160, each is better than the other at a device of 160 or
+/// more, and neither at a lower one.
 const MEDIUM: u32 = 160;
 
 const ANY: u32 = 65534;

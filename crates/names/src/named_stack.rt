@@ -27,7 +27,7 @@ pub struct NamedStack<'s, 'a> {
 }
 
 /// A label with the id that it stands for.
-#[derive(Clone, Copy, Debug)]
+#[derive(Clone, Copy)]
 pub(crate) struct Labelled<'l, 'a> {
     pub label: &'l Label<'a>,
     pub id: ResId,

@@ -11,7 +11,7 @@ use std::alloc::{AllocError, Global};
 use std::collections::{BTreeMap, BTreeSet};
 
 /// What the rows that were noted say of labels and ids.
-#[derive(Debug, Drop)]
+#[derive(Drop)]
 pub(crate) struct Noted<'a> {
     /// What each name stands for.
     labels: BTreeMap<Label<'a>, ResId>,

@@ -9,7 +9,7 @@ use std::alloc::{AllocError, Global};
 
 /// The names of entries in a package, each with the id of the row that was noted last. A resource has one name and a row
 /// for each configuration, so the first of its rows is enough.
-#[derive(Debug, Drop)]
+#[derive(Drop)]
 pub(crate) struct Passed {
     package_index: usize,
     /// By the key of an entry's name; 0 where no row was noted.

@@ -8,7 +8,7 @@ use std::alloc::{AllocError, Global};
 use std::collections::BTreeMap;
 
 /// The places of some names, by the bytes of their entries' names.
-#[derive(Debug, Drop)]
+#[derive(Drop)]
 pub(crate) struct Places<'n> {
     by_entry: BTreeMap<&'n [u8], Vec<usize>>,
 }

@@ -13,7 +13,7 @@ use std::alloc::{AllocError, Global};
 use string_pool::{StringFault, Text};
 
 /// A name, with the resource that was found first.
-#[derive(Clone, Copy, Debug)]
+#[derive(Clone, Copy)]
 pub(crate) struct Sought<'n> {
     pub name: Name<'n>,
     pub found: Option<ResId>,

@@ -7,9 +7,17 @@ ghost use Rattle.resource_tool.specs.command_base.declared.fault.ToolFault.TheVa
 ghost use Rattle.resource_tool.specs.command_base.Stop.{stop_of, tool};
 ghost use Rattle.restool.specs.Ending.{EndsAs};
 
-use crate::words_fault::Reported;
 use resource_tool::table_commands::command_base::{ExitStatus, Status, Stop, ToolFault};
 use std::io::{BufWriter, Write};
+
+/// What came of the report why the program stops.
+#[derive(Drop)]
+pub struct Reported {
+    /// How the program ends.
+    pub status: ExitStatus,
+    /// Whether the stream took the text, where there was one.
+    pub was_written: bool,
+}
 
 /// Says why the program stops, if it does, and gives the exit status.
 pub fn end<E: Write + Drop>(outcome: Result<Status, Stop<'_>>, errors: &mut E) -> Reported

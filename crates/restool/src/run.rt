@@ -7,10 +7,9 @@ ghost use Rattle.resource_tool.specs.command_base.Stop.{stop_of, tool};
 ghost use Rattle.restool.specs.Request.{Answers, ErrorsGet};
 ghost use Rattle.restool.specs.Run.{Runs};
 
-use crate::ending::{end, written_out};
+use crate::ending::{Reported, end, written_out};
 use crate::request::{Request, answer};
 use crate::words::read_words;
-use crate::words_fault::Reported;
 use resource_tool::Watch;
 use resource_tool::table_commands::command_base::{ExitStatus, Inputs, Status, Stop};
 use std::alloc::Global;

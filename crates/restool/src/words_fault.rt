@@ -7,6 +7,7 @@ ghost use Rattle.clap.specs.Values.{kind_of};
 ghost use Rattle.restool.specs.declared.words_fault.WordsFault.TheVariants.{OutOfMemory};
 ghost use Rattle.restool.specs.WordsFault.{fault_of_kind, is_asked_for};
 
+use crate::ending::Reported;
 use clap::error::ErrorKind;
 use resource_tool::table_commands::command_base::{ExitStatus, ToolFault, fault_text};
 use std::alloc::{AllocError, AllocFailed};
@@ -22,15 +23,6 @@ pub enum WordsFault<'a> {
     /// This word asks for no resource, or for no goal where goals are asked.
     BadId(&'a str),
     OutOfMemory,
-}
-
-/// What came of the report why the program stops.
-#[derive(Drop)]
-pub struct Reported {
-    /// How the program ends.
-    pub status: ExitStatus,
-    /// Whether the stream took the text, where there was one.
-    pub was_written: bool,
 }
 
 impl WordsFault<'_> {

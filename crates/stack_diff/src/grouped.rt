@@ -1,14 +1,12 @@
 //! Leaves that tell the same difference, as one change.
 
-ghost use Rattle.std.specs.Prelude.{◌≡◌, [], ◌∷◌, ◌++◌, IfOk};
-ghost use Rattle.std.specs.List.{All, AllZip};
-ghost use Rattle.cert_maker.specs.box_answers.Members.{SomeMember};
+ghost use Rattle.std.specs.Prelude.{[], ◌∷◌, ◌++◌, IfOk};
+ghost use Rattle.std.specs.List.{AllZip};
 ghost use Rattle.stack_diff.specs.Grouped.{AddsLeafTo, GatherLeaves, JoinsBoxes, Groups};
 
 use crate::change::Change;
 use crate::tree::Leaf;
-use cert_maker::{ConfigBox, OutOfMemory};
-use config_box::join_boxes;
+use cert_maker::OutOfMemory;
 use std::alloc::Global;
 
 /// A change for each difference, with the boxes of all leaves that tell them, joined where they make one box.
@@ -81,53 +79,4 @@ fn joined_each<'a>(alloc: Global, changes: Vec<Change<'a>>) -> Result<Vec<Change
         joined.push(change.joined(alloc)?)?;
     }
     Ok(joined)
-}
-
-impl<'a> Change<'a> {
-    // What one leaf tells.
-    fn of(alloc: Global, leaf: Leaf<'a>) -> Result<Change<'a>, OutOfMemory>
-        ensures difference { IfOk result (λ change. change.difference ≡ leaf.entry.difference) }
-        ensures boxes { IfOk result (λ change. change.boxes.items ≡ leaf.entry.members ∷ []) }
-    {
-        let mut boxes = Vec::new(alloc);
-        boxes.push(leaf.members)?;
-        Ok(Change {
-            difference: leaf.difference,
-            boxes,
-        })
-    }
-
-    // With one more box.
-    fn with_box(self, members: ConfigBox) -> Result<Change<'a>, OutOfMemory>
-        ensures difference { IfOk result (λ change. change.difference ≡ self.entry.difference) }
-        ensures boxes { IfOk result (λ change. change.boxes.items ≡ self.entry.boxes.items ++ members ∷ []) }
-    {
-        let mut boxes = self.boxes;
-        boxes.push(members)?;
-        Ok(Change {
-            difference: self.difference,
-            boxes,
-        })
-    }
-
-    // With boxes that make one box together joined.
-    fn joined(self, alloc: Global) -> Result<Change<'a>, OutOfMemory>
-        ensures { IfOk result (JoinsBoxes self.entry) }
-    {
-        let boxes = join_boxes(alloc, self.boxes)?;
-        have_devices(&boxes);
-        Ok(Change {
-            difference: self.difference,
-            boxes,
-        })
-    }
-}
-
-// A law: no box is empty.
-fn have_devices(boxes: &[ConfigBox])
-    ensures { All SomeMember boxes.now }
-{
-    for part in boxes {
-        part.is_never_empty();
-    }
 }

@@ -11,7 +11,7 @@ use names::{NamedStack, Stack};
 use std::alloc::{AllocError, Global};
 
 /// By what the rows of a bag are told apart.
-#[derive(Clone, Copy, Debug, PartialEq, Eq)]
+#[derive(Clone, Copy, PartialEq, Eq)]
 pub(crate) enum Keys {
     /// By their places, in an array.
     Places,

@@ -48,7 +48,7 @@ fn pairs_in(
 }
 
 /// An id of the target, with the names of its first row.
-#[derive(Debug, Drop)]
+#[derive(Drop)]
 struct NamedTarget<'a> {
     id: ResId,
     type_name: CowStr<'a, Global>,
