@@ -101,8 +101,9 @@ if command -v python3 >/dev/null; then
     ends "hostile bytes of small tables" 0 "python3 '$here/tests/hostile_bytes.py' \"\$0\" 4"
     ends "worked rows of small tables and texts" 0 "python3 '$here/tests/worked_rows.py' \"\$0\" 4"
     ends "worked reports of small tables and certificates" 0 "python3 '$here/tests/worked_reports.py' \"\$0\" 4"
+    ends "worked styles and bags" 0 "python3 '$here/tests/worked_styles.py' \"\$0\" 4"
 else
-    echo "not run, since python3 is missing: random tables with sparse types, hostile bytes, worked rows and reports"
+    echo "not run, since python3 is missing: random tables with sparse types, hostile bytes, worked rows, reports and styles"
 fi
 
 # ---- map

@@ -358,6 +358,10 @@ def check_rows(ask):
     yield ask("check", STYLED_DENSITIES, TO_198, valueless, ninth, of_ninth)
     unset = f"Rejected {{ goal: 0, node: 0, rule: NoValue, shown: One({device(160)}, {absent(B)}) }}"
     yield ask("check", STYLED_DENSITIES, MEDIUM_BOX, unset, UNSET_GOAL, certificate(leaf(1), goal=UNSET_GOAL, version=2))
+    # Without a style, which words can't ask, nothing is looked up.
+    unstyled = under("0x01010001")
+    unset = f"Rejected {{ goal: 0, node: 0, rule: NoValue, shown: One({device(120)}, {absent(A)}) }}"
+    yield ask("check", STYLED_DENSITIES, TO_198, unset, unstyled, certificate(leaf(1), goal=unstyled, version=2))
 
 
 def make_rows(ask):

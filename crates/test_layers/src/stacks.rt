@@ -30,10 +30,3 @@ pub fn stack_of_base(alloc: Global, bytes: &[u8]) -> Option<Stack<'_>> {
     push_base(alloc, &mut stack, bytes)?;
     Some(stack)
 }
-
-/// The stack of a base and of an overlay whose entry 0 stands for that of the base.
-pub fn stack_of_two<'a>(alloc: Global, base: &'a [u8], overlay: &'a [u8]) -> Option<Stack<'a>> {
-    let mut stack = stack_of_base(alloc, base)?;
-    push_overlay(alloc, &mut stack, overlay, SAME)?;
-    Some(stack)
-}

@@ -1,12 +1,18 @@
 //! Rows, their bags and texts are lent from the bytes of the input: they outlive the table and the stack that
-//! gave them.
+//! gave them. So does what all members of a box have in common outlive the styles that were asked.
 
+use box_trace::{CommonTrace, OpenBox};
+use config_box::ConfigBox;
 use overlay_map::Stack;
-use res_value::{Cell, MapRows, ResId, Value};
+use reference_resolver::End;
+use res_value::{Cell, MapRows, ResId, Value, kind};
 use resource_table::Table;
 use std::alloc::Global;
+use std::test::Fail;
 use string_pool::Text;
-use test_layers::{layer, layer_with_string, push_base, push_overlay};
+use test_layers::{
+    LayerFault, layer_of_lines, layer_with_string, push_base, push_overlay, stack_of_base,
+};
 use type_chunks::Row;
 
 const FIRST: ResId = ResId(0x7f01_0000);
@@ -77,8 +83,8 @@ fn have_words(rows: &[Row<'_>], want: &[u32]) -> bool {
 }
 
 fn keeps_rows_of_two_inputs(alloc: Global) -> Option<bool> {
-    let base = layer(alloc, &["0 [locale=fr] 1", "1 [] 9", "0 [] 2"]).ok()?;
-    let overlay = layer(alloc, &["0 [] 8", "1 [night=2] 3"]).ok()?;
+    let base = layer_of_lines(alloc, "0 [locale=fr] 1\n1 [] 9\n0 [] 2").ok()?;
+    let overlay = layer_of_lines(alloc, "0 [] 8\n1 [night=2] 3").ok()?;
     let rows = rows_of(alloc, &base, &overlay)?;
     Some(have_words(&rows, &[1, 2, 3]))
 }
@@ -86,4 +92,35 @@ fn keeps_rows_of_two_inputs(alloc: Global) -> Option<bool> {
 #[test]
 fn one_list_has_rows_of_two_inputs_after_their_stack(rt: HostRuntime) {
     assert!(rt; keeps_rows_of_two_inputs(rt.alloc()) == Some(true));
+}
+
+const ATTRIBUTE: ResId = ResId(0x0101_0001);
+
+// What all members of a box have in common of the attribute under a style. The list of styles is gone then.
+fn common<'a>(
+    alloc: Global,
+    stack: &Stack<'a>,
+    members: ConfigBox,
+) -> Result<CommonTrace<'a>, Fail> {
+    let mut styles = Vec::new(alloc);
+    styles.push(FIRST)?;
+    let mut whole = OpenBox::whole_of_attribute(alloc, stack, ATTRIBUTE, &styles, members)?;
+    Ok(whole.common_trace(alloc, stack)?)
+}
+
+#[test]
+fn a_common_trace_stays_after_its_styles(rt: HostRuntime) -> Result<(), Fail> {
+    let alloc = rt.alloc();
+    let table = layer_of_lines(alloc, "0 [] bag 0x00000000 0x01010001=7")?;
+    let stack = stack_of_base(alloc, &table).ok_or(LayerFault::Malformed)?;
+    let members = ConfigBox::read(alloc, br#"{"density":[160]}"#)?;
+    let value = Value {
+        kind: kind::INT_DEC,
+        word: 7,
+    };
+    match common(alloc, &stack, members)? {
+        CommonTrace::One(end) => assert_eq!(rt; end, End::Value { layer: 0, value }),
+        CommonTrace::Mixed(_) => assert!(rt; false),
+    }
+    Ok(())
 }

@@ -1,10 +1,8 @@
 //! Tables and stacks, as tests over the public calls: the texts that faults have for users of the crates, styles of string
-//! pools, rows that outlive their table and their stack, attributes under styles for all members of a box; and what is called
-//! of these crates, by the crate that hands it on. Nothing stands on this crate.
+//! pools, and what outlives a table, a stack and a list of styles; and what is called of these crates, by the crate that hands
+//! it on. Nothing stands on this crate.
 #![tactic(auto)]
 
-#[cfg(test)]
-mod attributes;
 #[cfg(test)]
 mod faults;
 pub mod handed_on;

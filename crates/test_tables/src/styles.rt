@@ -24,18 +24,6 @@ fn only_span(alloc: Global, style: &[u8]) -> Option<Result<Span, StringFault>> {
     spans.next().is_none().then_some(Ok(span))
 }
 
-#[test]
-fn reads_styles(rt: HostRuntime) {
-    let span = Span {
-        name: 0,
-        first: 1,
-        last: 2,
-    };
-    assert!(rt; only_span(rt.alloc(), STYLE) == Some(Ok(span)));
-    let cut = only_span(rt.alloc(), &STYLE[..12]);
-    assert!(rt; cut == Some(Err(StringFault::Cut)));
-}
-
 // Whether a pool has this style without a span, and no other.
 fn has_no_span(alloc: Global, style: &[u8]) -> Option<bool> {
     let bytes = pool_of_style(alloc, style).ok()?;
@@ -46,6 +34,14 @@ fn has_no_span(alloc: Global, style: &[u8]) -> Option<bool> {
 }
 
 #[test]
-fn reads_styles_without_a_span(rt: HostRuntime) {
+fn reads_styles(rt: HostRuntime) {
+    let span = Span {
+        name: 0,
+        first: 1,
+        last: 2,
+    };
+    assert!(rt; only_span(rt.alloc(), STYLE) == Some(Ok(span)));
+    let cut = only_span(rt.alloc(), &STYLE[..12]);
+    assert!(rt; cut == Some(Err(StringFault::Cut)));
     assert!(rt; has_no_span(rt.alloc(), b"\xff\xff\xff\xff") == Some(true));
 }
