@@ -205,8 +205,8 @@ def of_attributes():
     # Other goals than the first attribute under the first style and then the second.
     both = [FIRST, SECOND]
     others = [tree_under(A, styles, value(1)) for styles in ([], [FIRST], [SECOND, FIRST], [*both, SECOND])]
-    for other in (*others, tree_under(B, both, value(1)), tree(name=A)):
-        certificate = certificate_of(other, version=2)
+    others.append(tree_under(B, both, value(1)))
+    for certificate in (*(certificate_of(other, version=2) for other in others), certificate_of(tree(name=A))):
         yield checked(STYLES, MEDIUM_BOX, certificate, rejected(0, "N1 GoalList"), f"{A}@{FIRST},{SECOND}")
 
 
