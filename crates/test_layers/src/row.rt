@@ -24,13 +24,10 @@ impl<'a> TestRow<'a> {
     }
 }
 
-/// The rows that are written so.
-pub(crate) fn rows_of<'a>(
-    alloc: Global,
-    lines: &[&'a str],
-) -> Result<Vec<TestRow<'a>>, LayerFault> {
+/// The rows that are written so, one a line.
+pub(crate) fn rows_of(alloc: Global, lines: &str) -> Result<Vec<TestRow<'_>>, LayerFault> {
     let mut rows = Vec::new(alloc);
-    for line in lines {
+    for line in lines.lines() {
         rows.push(TestRow::read(line).ok_or(LayerFault::Malformed)?)?;
     }
     Ok(rows)

@@ -19,30 +19,17 @@ const PACKAGE_HEADER: usize = 280;
 
 const PACKAGE_ID: u8 = 0x7f;
 
-/// The bytes of a table that has these rows.
-pub fn layer(alloc: Global, rows: &[&str]) -> Result<Vec<u8>, LayerFault> {
-    let chunks = chunks_of(alloc, rows)?;
+/// The bytes of a table that has these rows, one a line.
+pub fn layer_of_lines(alloc: Global, lines: &str) -> Result<Vec<u8>, LayerFault> {
+    let chunks = chunks_of(alloc, lines)?;
     table_of(alloc, &empty_pool(alloc)?, &chunks)
 }
 
-/// The bytes of a table that has these rows, one a line.
-pub fn layer_of_lines(alloc: Global, lines: &str) -> Result<Vec<u8>, LayerFault> {
-    layer(alloc, &lines_of(alloc, lines)?)
-}
-
 /// The bytes of a table that has these rows and a string of one letter.
-pub fn layer_with_string(alloc: Global, letter: u8, rows: &[&str]) -> Result<Vec<u8>, LayerFault> {
-    let chunks = chunks_of(alloc, rows)?;
+pub fn layer_with_string(alloc: Global, letter: u8, lines: &str) -> Result<Vec<u8>, LayerFault> {
+    let chunks = chunks_of(alloc, lines)?;
     let pool = pool_of_string(alloc, true, 0, &[1, 1, letter, 0])?;
     table_of(alloc, &pool, &chunks)
-}
-
-fn lines_of(alloc: Global, lines: &str) -> Result<Vec<&str>, AllocError> {
-    let mut rows = Vec::new(alloc);
-    for line in lines.lines() {
-        rows.push(line)?;
-    }
-    Ok(rows)
 }
 
 fn empty_pool(alloc: Global) -> Result<Vec<u8>, AllocError> {
@@ -52,7 +39,7 @@ fn empty_pool(alloc: Global) -> Result<Vec<u8>, AllocError> {
 }
 
 // The type spec and the type chunk of each row.
-fn chunks_of(alloc: Global, lines: &[&str]) -> Result<Vec<u8>, LayerFault> {
+fn chunks_of(alloc: Global, lines: &str) -> Result<Vec<u8>, LayerFault> {
     let rows = rows_of(alloc, lines)?;
     let count = entry_count(&rows);
     let mut chunks = Vec::new(alloc);

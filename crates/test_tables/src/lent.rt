@@ -44,7 +44,7 @@ fn are_rows(rows: MapRows<'_>, want: &[(u32, u32)]) -> bool {
 
 fn reads_what_a_table_lent(alloc: Global) -> Option<bool> {
     let line = "0 [sdk=21] bag 0x7f010003 0x01010001=7 0x01010002=8";
-    let bytes = layer_with_string(alloc, b'z', &[line]).ok()?;
+    let bytes = layer_with_string(alloc, b'z', line).ok()?;
     let (row, rows, text) = parts_of(alloc, &bytes)?;
     let is_first = row.id == FIRST && row.config.get(config_record::Coord::Sdk) == 21;
     let has_rows = are_rows(rows, &[(0x0101_0001, 7), (0x0101_0002, 8)]);
