@@ -191,10 +191,15 @@ STYLES = f"0 [] bag 0x00000000 {A}=1\n0 [density=320] bag 0x00000000 {A}=2\n1 []
 STYLED = [
     # An attribute and its styles, a box, the nodes of a tree for it, and what is said of that.
     (A, [FIRST], TO_198, PARTED, accepted(3)),
+    (A, [FIRST], densities(120, 197), [value(1)], accepted(1)),
+    (A, [FIRST], densities(198, 640), [value(2)], accepted(1)),
     (A, [FIRST], TO_198, [value(1)], rejected(0, "N6 MixedTrace", "first density=198", "second density=197")),
+    (A, [FIRST, NOWHERE], TO_198, [value(1)], rejected(0, "N6 MixedTrace", "first density=198", "second density=197")),
     (A, [NOWHERE], TO_198, [value(1)], rejected(0, "N7 NoValue", "device density=120", f"end absent {NOWHERE}")),
+    (A, [NOWHERE, FIRST], TO_198, [value(1)], rejected(0, "N7 NoValue", "device density=120", f"end absent {NOWHERE}")),
     (B, [FIRST], MEDIUM_BOX, [value(1)], rejected(0, "N7 NoValue", "device density=160", f"end absent {B}")),
     (A, [FIRST, SECOND], MEDIUM_BOX, [value(7)], accepted(1)),
+    (A, [SECOND, FIRST], MEDIUM_BOX, [value(1)], accepted(1)),
 ]
 
 

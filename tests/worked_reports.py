@@ -1,9 +1,9 @@
 #!/usr/bin/env python3
-"""Asks `restool survey` and `restool show` about small tables and certificates, of which the reports were worked out by hand:
+"""Asks `restool survey` and `restool show` for reports of small tables and certificates that were worked out by hand:
 
     worked_reports.py PROGRAM [JOBS]
 
-The cases are those of worked_rows.py, in groups of their own. The last line is the number of cases."""
+The cases are such as worked_rows.py has, and what is printed of them is the same."""
 from small_tables import TABLE_A, TABLE_B, changed, pool_of_string, table_of_lines
 from worked_rows import ID, Case, check_groups, files_of, lines
 

@@ -1,63 +1,26 @@
 #!/usr/bin/env python3
-"""Asks the program about attributes under styles, and bags along their parents, for all devices of a box, where the answers were
-worked out by hand:
+"""Asks the program about small tables of styles and bags, along their parents and references, for all devices of a box, where the
+answers were worked out by hand:
 
     worked_styles.py PROGRAM [JOBS]
 
-The cases are those of worked_rows.py, in groups of their own. The last line is the number of cases."""
+The cases are such as worked_rows.py has, and what is printed of them is the same."""
 from small_tables import lines_of_chain
-from worked_rows import A, B, ID, MEDIUM_BOX, TO_198, Case, check_groups, compared, files_of, lines
-
-FIRST, SECOND, NOWHERE = ID, "0x7f010001", "0x7f010009"
-TO_197, FROM_198 = ({"density": {"from": first, "to": last}} for first, last in ((120, 197), (198, 640)))
+from worked_certificates import accepted, certificate_of, checked, densities, rejected, tree_under, value
+from worked_rows import A, B, FIRST, MEDIUM_BOX, NOWHERE, SECOND, TO_198, check_groups, compared, lines
 
 
-def checked(rows, attr, styles, box, told):
-    """A certificate of one leaf. Told is the number that an attribute is for all devices; or the lines behind a rejection: of the
-    two devices that differ, or of one and the end there."""
-    word = told if isinstance(told, int) else 0
-    goal = {"attr": attr, "styles": styles, "nodes": [{"layer": 0, "kind": 16, "word": word}]}
-    words = f"check layers box certificate {attr}@{','.join(styles)}"
-    if isinstance(told, int):
-        out, status = ["accepted goals 1 nodes 1"], 0
-    else:
-        rule = "N6 MixedTrace" if told[0].startswith("first ") else "N7 NoValue"
-        out, status = [f"rejected goal 0 node 0 {rule}", *told], 1
-    files = {**files_of([rows]), "box": box, "certificate": {"version": 2, "goals": [goal]}}
-    return Case(words, lines([*out, "set-aside 0"]), "", status, **files)
+def under(styles, rows, box, told, word=0):
+    """What is said of a certificate in which A, under these styles, is this number for all devices."""
+    certificate = certificate_of(tree_under(A, styles, value(word)), version=2)
+    return checked(rows, box, certificate, told, f"{A}@{','.join(styles)}")
 
 
-def apart(first, second):
-    """Two devices that differ at the first question where devices do."""
-    return [f"first {first}", f"second {second}"]
-
-
-def valueless(device, end):
-    return [f"device {device}", f"end {end}"]
-
-
-# ---- where an attribute ends
-
-TWO_ROWS = f"0 [] bag 0x00000000 {A}=1\n0 [density=320] bag 0x00000000 {A}=2\n1 [] bag 0x00000000 {A}=7"
-"""A style with a row for all devices, and one for dense screens; and another style."""
-PARTED = apart("density=198", "density=197")
-
-ENDS = [
-    # An attribute, styles, a box, and what is told.
-    (A, [FIRST], TO_197, 1),
-    (A, [FIRST], FROM_198, 2),
-    (A, [FIRST], TO_198, PARTED),
-    (A, [FIRST, NOWHERE], TO_198, PARTED),
-    (A, [NOWHERE, FIRST], TO_198, valueless("density=120", f"absent {NOWHERE}")),
-    (B, [FIRST], MEDIUM_BOX, valueless("density=160", f"absent {B}")),
-    (A, [FIRST, SECOND], MEDIUM_BOX, 7),
-    (A, [SECOND, FIRST], MEDIUM_BOX, 1),
-]
-
-
-def of_ends():
-    for goal in ENDS:
-        yield checked(TWO_ROWS, *goal)
+def ended(styles, rows, box, end, device):
+    """The same where A ends so for all devices: at a number, or without a value, as it is told of the least device."""
+    if isinstance(end, int):
+        return under(styles, rows, box, accepted(1), end)
+    return under(styles, rows, box, rejected(0, "N7 NoValue", f"device {device}", f"end {end}"))
 
 
 # ---- how many parents and references are followed
@@ -96,8 +59,7 @@ LIMITS = [
 
 def of_limits():
     for rows, end in LIMITS:
-        told = end if isinstance(end, int) else valueless("density=160", end)
-        yield checked(rows, A, [FIRST], MEDIUM_BOX, told)
+        yield ended([FIRST], rows, MEDIUM_BOX, end, "density=160")
 
 
 # ---- which ids are looked up, and in which order
@@ -127,16 +89,24 @@ def with_levels(levels):
     return STYLES + "\n".join(f"{entry} [sdk={level}] {CELLS[entry]}" for entry, level in levels.items())
 
 
+def apart(density, level):
+    """A device of this level, and one of the level below, which come to A in other ways."""
+    first, second = (f"density={density} sdk={sdk}" for sdk in (level, level - 1))
+    return rejected(0, "N6 MixedTrace", f"first {first}", f"second {second}")
+
+
 def of_look_ups():
     for styles, density, entries, end in LOOKED_UP:
         box = {"density": [density], "sdk": {"from": 19, "to": 26}}
-        at_21, at_24 = (apart(*(f"density={density} sdk={level}" for level in (first, first - 1))) for first in (21, 24))
-        one = end if isinstance(end, int) else valueless(f"density={density} sdk=19", end)
         for entry in CELLS:
-            yield checked(with_levels({entry: 21}), A, styles, box, at_21 if entry in entries else one)
+            rows = with_levels({entry: 21})
+            if entry in entries:
+                yield under(styles, rows, box, apart(density, 21))
+            else:
+                yield ended(styles, rows, box, end, f"density={density} sdk=19")
         for before, after in zip(entries, entries[1:]):
-            yield checked(with_levels({before: 21, after: 24}), A, styles, box, at_21)
-            yield checked(with_levels({before: 24, after: 21}), A, styles, box, at_24)
+            for level, other in ((21, 24), (24, 21)):
+                yield under(styles, with_levels({before: level, after: other}), box, apart(density, level))
 
 
 # ---- whether a resource says the same to all devices of a box
@@ -157,19 +127,19 @@ no parent, and entry 4 one that is not there."""
 
 NODES = [
     # A box, and how many nodes the tree of each entry has: one where the entry says the same to all, by the same look-ups.
-    (TO_197, [1] * 8),
-    (FROM_198, [1] * 8),
+    (densities(120, 197), [1] * 8),
+    (densities(198, 640), [1] * 8),
     (TO_198, [3, 3, 3, 1, 1, 1, 1, 1]),
 ]
 
 
 def of_nodes(rows, entry, box, count):
     """A table beside one with an entry more: an entry of both takes so many nodes, and no fewer."""
-    for most, out in ((count - 1, "node limit\n"), (count, "same 1\n")):
+    for most in {count, count - 1} - {0}:
+        out = "node limit\n" if most < count else "same 1\n"
         case = compared([rows], [f"{rows}99 [] 5"], out, most < count, box, [f"0x{0x7F010000 + entry:08x}"])
         case.words[1:1] = ["--max-nodes", str(most)]
-        if most:
-            yield case
+        yield case
 
 
 def parted_at(count):
@@ -197,4 +167,4 @@ def of_contents():
 
 
 if __name__ == "__main__":
-    check_groups([of_ends, of_limits, of_look_ups, of_contents])
+    check_groups([of_limits, of_look_ups, of_contents])
