@@ -36,7 +36,7 @@ from worked_calls import WITHOUT_MEMORY, rows
 HERE = Path(__file__).resolve().parent.parent
 RT = os.environ.get("RT", "rt").split()
 PROGRAM = "restool"
-WORKED = [f"tests/worked_{name}.py" for name in ("rows", "certificates", "made", "reports", "styles")]
+WORKED = [f"tests/worked_{name}.py" for name in ("rows", "certificates", "made", "reports", "styles", "configurations", "boxes")]
 """Files of worked cases."""
 PROGRAM_TESTS = {"tests/stops": ["sh", "tests/stops/stops.sh"], **{file: ["python3", file] for file in WORKED}}
 """The tests of the built program, which print a line `failed: NAME ..`, and how they are run."""

@@ -422,24 +422,13 @@ REFUSED_LISTS = [
     ("", "Syntax"), ('[{"table":"a"}', "Syntax"), ("{}", "Shape"), ('["a"]', "Shape"), ("[{}]", "Shape"),
     ('[{"map":"m"}]', "Shape"),
     ('[{"table":1}]', "Shape"), ('[{"table":"a","map":null}]', "Shape"), ('[{"table":"a","maps":"m"}]', "Shape"),
+    ('[{"table":"a","ma":"m"}]', "Shape"), ('[{"table":"a","map ":"m"}]', "Shape"), ('[["table"]]', "Shape"), ("[null]", "Shape"),
     ('[{"table":"a"},{"table":null}]', "Shape"), ("[" + '{"table":"a"},' * 64 + '{"table":"a"}]', "TooManyLayers"),
     ("[" + '{"table":"a"},' * 64 + "{}]", "Shape"),
 ]
 REFUSED_MAPS = [
     (TWICE, f"Repeated {ID}"), ([[ID, ID], ["0x01010000", "0x7f010001"]], "OtherPackage 0x01010000"), ([["0x7f01"]], "Shape"),
     ("[", "Syntax"), ([*TWICE, []], "Shape"), ({}, "Shape"), ([["0x00000000", ID]] * 2, "Repeated 0x00000000"),
-]
-REFUSED_DEVICES = [
-    ("{", "Syntax"), ({"densty": 160}, "Shape"), ({"density": 160, "mcc": 65536}, "FieldRange mcc"),
-    ({"density": 32768}, "Density"),
-    ({"density": 160, "locale": "-FR"}, "RegionAlone"), ({}, "Density"), ({"density": 160, "night": 4}, "FieldRange night"),
-    ({"density": 160, "locale": "fr-Fr"}, "FieldRange locale"), ({"density": "160"}, "Shape"),
-    ({"density": 160, "night": -1}, "Shape"),
-]
-REFUSED_BOXES = [
-    ("[", "Syntax"), ([], "Shape"), ({"density": []}, "Empty density"), ({"density": {"from": 640, "to": 120}}, "Empty density"),
-    ({"density": list(range(1, 514))}, "TooMany density"), ({"density": [160], "night": [4]}, "FieldRange night"),
-    ({"density": [160], "locale": ["-FR"]}, "RegionAlone"), ({"density": [0]}, "Density"), ({"locale": ["fr"]}, "Density"),
 ]
 REFUSED_CERTIFICATES = [
     ("[", "Syntax"), ({"version": 3, "goals": []}, "Version"), ({"goals": []}, "Version"), ({"version": 1}, "Shape 0 0"),
@@ -457,10 +446,6 @@ def of_refused_inputs():
         yield Case(query, "", f"refused: layers: {fault}\n", 3, layers=text)
     for own, fault in REFUSED_MAPS:
         yield over(["0 [] 1", ("0 [] 1", own)], query, "", f"refused: layer 1 map: {fault}\n", 3)
-    for device, fault in REFUSED_DEVICES:
-        yield Case(query, "", f"refused: device: {fault}\n", 3, **one, device=device)
-    for box, fault in REFUSED_BOXES:
-        yield Case(check, "", f"refused: box: {fault}\n", 3, **one, box=box, certificate="[")
     for certificate, fault in REFUSED_CERTIFICATES:
         yield Case(check, "", f"refused: certificate: {fault}\n", 3, **one, box=MEDIUM_BOX, certificate=certificate)
     for layers, fault in (
