@@ -1,13 +1,10 @@
-//! Worked rows of devices, records and boxes, as tests over the public calls of `json_input`, `locale_data`,
-//! `android_locales` and the `config_` crates: which texts are read, what is printed, which record matches a device,
-//! which of two is better by which rule, what CLDR says of locales, which record a phone loads by them, and what a box
-//! answers for all its members. Nothing stands on this crate.
-//!
-//! Records and devices are written as `test_layers` reads them: `mcc=310,locale=fr-CA`.
+//! What no word of the program shows yet: what CLDR says of locales, and which record a phone loads by them, as tests over
+//! the public calls of `locale_data` and `android_locales`; and what is called of the crates of devices, rules and boxes,
+//! by the crate that hands it on. Nothing stands on this crate.
 #![tactic(auto)]
 
-#[cfg(test)]
-mod boxes;
 pub mod handed_on;
 #[cfg(test)]
-mod records;
+mod locale_facts;
+#[cfg(test)]
+mod phone_locales;

@@ -37,7 +37,7 @@ pub use device::device_of;
 pub use fault::LayerFault;
 pub use named_entry::table_b;
 pub use pool::{pool_of_string, pool_of_style};
-pub use qualifier::{RECORD_SIZE, record_of};
+pub use qualifier::record_of;
 pub use stacks::{SAME, push_base, push_overlay, stack_of_base};
 pub use table::{layer_of_lines, layer_with_string};
 pub use unnamed_entry::{put, table_a};

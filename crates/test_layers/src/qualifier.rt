@@ -3,7 +3,7 @@
 use config_record::Locale;
 
 /// A record of 52 bytes (AOSP: `ResTable_config` up to Android 8.1).
-pub const RECORD_SIZE: usize = 52;
+const RECORD_SIZE: usize = 52;
 
 /// How a qualifier's number stands in a record.
 #[derive(Clone, Copy, Debug)]
@@ -41,12 +41,10 @@ const FIELDS: [(&str, Field); 24] = [
     ("hdr", Field::Bits(49, 4)),
 ];
 
-/// Where language and region, the script and the variant begin.
+/// Where language and region, and where the script begins.
 const LOCALE: usize = 8;
 
 const SCRIPT: usize = 36;
-
-const VARIANT: usize = 40;
 
 /// The record of these qualifiers, as `density=160,locale=fr`; None where one is not known.
 pub fn record_of(qualifiers: &str) -> Option<[u8; RECORD_SIZE]> {
@@ -65,8 +63,7 @@ pub fn record_of(qualifiers: &str) -> Option<[u8; RECORD_SIZE]> {
 fn put(record: &mut [u8], name: &str, value: &str) -> Option<()> {
     match name {
         "locale" => put_locale(record, value),
-        "script" => put_digits(record, SCRIPT, value),
-        "variant" => put_digits(record, VARIANT, value),
+        "script" => put_script(record, value),
         _ => put_number(record, name, value),
     }
 }
@@ -98,12 +95,12 @@ fn put_locale(record: &mut [u8], value: &str) -> Option<()> {
     put_byte(record, LOCALE + 3, locale.region[1])
 }
 
-// Bytes as hexadecimal digits.
-fn put_digits(record: &mut [u8], from: usize, digits: &str) -> Option<()> {
+// The bytes of a script as hexadecimal digits.
+fn put_script(record: &mut [u8], digits: &str) -> Option<()> {
     for (n, pair) in digits.as_bytes().chunks(2).enumerate() {
         let text = std::str::from_utf8(pair).ok()?;
         let byte = u8::from_str_radix(text, 16).ok()?;
-        put_byte(record, from.saturating_add(n), byte)?;
+        put_byte(record, SCRIPT.saturating_add(n), byte)?;
     }
     Some(())
 }

@@ -3,19 +3,18 @@
 use android_locales::{RecordLocale, ScriptedLocale, write_scripted_locale};
 use config_record::{Locale, LocaleFault};
 use std::alloc::Global;
-use test_layers::record_of;
 
-/// The locale of a device; records in their order, each a locale and other qualifiers; and the one that is loaded, counted
-/// from 1.
+/// The locale of a device; records in their order, each a language and region, and behind slashes a script and a variant; and
+/// the one that is loaded, counted from 1, 0 where none suits.
 struct Row {
     device: &'static str,
     records: &'static [&'static str],
     end: usize,
 }
 
-/// What AOSP's own code answered. A script and a variant are written as their bytes: `4c61746e` is Latn.
+/// What AOSP's own code answered; and then whether one record suits.
 #[rattlefmt::skip]
-const ROWS: [Row; 48] = [
+const ROWS: [Row; 60] = [
     Row { device: "es-MX", records: &["", "es", "es-ES", "es-419"], end: 4 },
     Row { device: "es-AR", records: &["", "es", "es-US"], end: 3 },
     Row { device: "es-AR", records: &["", "es", "es-US", "es-MX"], end: 4 },
@@ -29,7 +28,7 @@ const ROWS: [Row; 48] = [
     Row { device: "zh-SG", records: &["", "zh"], end: 2 },
     Row { device: "zh-TW", records: &["", "zh"], end: 1 },
     Row { device: "zh-US", records: &["", "zh-CN", "zh-TW"], end: 3 },
-    Row { device: "zh-HK", records: &["", "zh,script=48616e74", "zh,script=48616e73"], end: 2 },
+    Row { device: "zh-HK", records: &["", "zh/Hant", "zh/Hans"], end: 2 },
     Row { device: "en-US", records: &["", "en-GB"], end: 1 },
     Row { device: "en-US", records: &["en-GB", ""], end: 2 },
     Row { device: "en-US", records: &["", "en-GB", "en-US"], end: 3 },
@@ -43,9 +42,9 @@ const ROWS: [Row; 48] = [
     Row { device: "fil-PH", records: &["", "tl"], end: 2 },
     Row { device: "fil-PH", records: &["", "tl", "fil"], end: 3 },
     Row { device: "tl-PH", records: &["", "fil", "tl"], end: 3 },
-    Row { device: "sr-RS", records: &["", "sr", "sr,script=4c61746e"], end: 2 },
-    Row { device: "sr-Latn-RS", records: &["", "sr", "sr,script=4c61746e"], end: 3 },
-    Row { device: "sr-ME", records: &["", "sr", "sr,script=4c61746e"], end: 3 },
+    Row { device: "sr-RS", records: &["", "sr", "sr/Latn"], end: 2 },
+    Row { device: "sr-Latn-RS", records: &["", "sr", "sr/Latn"], end: 3 },
+    Row { device: "sr-ME", records: &["", "sr", "sr/Latn"], end: 3 },
     Row { device: "sr-Latn", records: &["", "sr-ME"], end: 2 },
     Row { device: "fr-FR", records: &["", "fr-CA"], end: 2 },
     Row { device: "fr-CA", records: &["", "fr", "fr-FR"], end: 2 },
@@ -59,67 +58,78 @@ const ROWS: [Row; 48] = [
     Row { device: "nb-NO", records: &["", "no"], end: 1 },
     Row { device: "xx-YY", records: &["", "xx"], end: 2 },
     Row { device: "xx", records: &["", "xx-ZZ"], end: 1 },
-    Row { device: "xx-Latn", records: &["", "xx-ZZ", "xx-ZZ,script=4c61746e"], end: 3 },
-    Row { device: "de-DE", records: &["", "de,variant=706f6c79746f6e", "de"], end: 3 },
+    Row { device: "xx-Latn", records: &["", "xx-ZZ", "xx-ZZ/Latn"], end: 3 },
+    Row { device: "de-DE", records: &["", "de//polyton", "de"], end: 3 },
     Row { device: "", records: &["", "de"], end: 1 },
     Row { device: "en-XA", records: &["", "en", "en-XA"], end: 3 },
-    Row { device: "de-DE", records: &[",script=4c61746e", "de"], end: 2 },
+    Row { device: "de-DE", records: &["/Latn", "de"], end: 2 },
+    Row { device: "zh-HK", records: &[""], end: 1 },
+    Row { device: "zh-HK", records: &["zh-TW"], end: 1 },
+    Row { device: "zh-HK", records: &["zh"], end: 0 },
+    Row { device: "zh", records: &["zh-HK"], end: 0 },
+    Row { device: "fr-FR", records: &["fr-CA"], end: 1 },
+    Row { device: "fr-Cyrl-CA", records: &["fr-CA"], end: 0 },
+    Row { device: "fr", records: &["de"], end: 0 },
+    Row { device: "fil", records: &["tl"], end: 1 },
+    Row { device: "xx-YY", records: &["xx-ZZ"], end: 0 },
+    Row { device: "xx-Latn-ZZ", records: &["xx-ZZ"], end: 1 },
+    Row { device: "xx-Latn", records: &["xx-ZZ"], end: 0 },
+    Row { device: "", records: &["/Latn"], end: 1 },
 ];
 
-/// Where language and region begin in a record.
-const LOCALE: usize = 8;
+/// The same, where the script of a record was computed.
+#[rattlefmt::skip]
+const COMPUTED: [Row; 3] = [
+    Row { device: "de", records: &["de"], end: 0 },
+    Row { device: "xx", records: &["xx"], end: 1 },
+    Row { device: "de", records: &[""], end: 1 },
+];
 
-fn put_locale(bytes: &mut [u8], locale: &str) -> Option<()> {
-    let locale = Locale::read(locale).ok()?;
-    for (n, byte) in locale.number().to_be_bytes().iter().enumerate() {
-        *bytes.get_mut(LOCALE.saturating_add(n))? = *byte;
+fn put(bytes: &mut [u8], from: usize, some: &[u8]) {
+    for (n, byte) in some.iter().enumerate() {
+        if let Some(place) = bytes.get_mut(from.saturating_add(n)) {
+            *place = *byte;
+        }
     }
-    Some(())
 }
 
-fn record_locale(text: &str) -> Option<RecordLocale> {
-    let (locale, others) = text.split_once(',').unwrap_or((text, ""));
-    let mut bytes = record_of(others)?;
-    put_locale(&mut bytes, locale)?;
+// The record that is written so. Byte 52 says that its script was computed, if that is a byte of it.
+fn record_of(text: &str, size: u8) -> Option<RecordLocale> {
+    let (locale, rest) = text.split_once('/').unwrap_or((text, ""));
+    let (script, variant) = rest.split_once('/').unwrap_or((rest, ""));
+    let locale = Locale::read(locale).ok()?.number().to_be_bytes();
+    let mut bytes = [0_u8; 56];
+    bytes[0] = size;
+    bytes[52] = 1;
+    put(&mut bytes, 8, &locale);
+    put(&mut bytes, 36, script.as_bytes());
+    put(&mut bytes, 40, variant.as_bytes());
     RecordLocale::read(&bytes).ok()
 }
 
-/// A record, and its place.
-#[derive(Clone, Copy)]
-struct Held {
-    locale: RecordLocale,
-    place: usize,
-}
-
 // The first that suits is held, and then each that suits and is better takes over.
-fn end_of(device: ScriptedLocale, records: &[&str]) -> Option<usize> {
-    let mut held: Option<Held> = None;
-    let mut place = 0_usize;
-    for text in records {
-        place = place.saturating_add(1);
-        let locale = record_locale(text)?;
-        let takes_over = match &held {
-            Some(best) => locale.is_better(best.locale, device),
+fn end_of(row: &Row, size: u8) -> Option<usize> {
+    let device = ScriptedLocale::read(row.device).ok()?;
+    let mut held: Option<RecordLocale> = None;
+    let mut end = 0;
+    for (place, text) in row.records.iter().enumerate() {
+        let record = record_of(text, size)?;
+        let takes_over = match held {
+            Some(best) => record.is_better(best, device),
             None => true,
         };
-        if locale.suits(device) && takes_over {
-            held = Some(Held { locale, place });
+        if takes_over && record.suits(device) {
+            held = Some(record);
+            end = place.saturating_add(1);
         }
     }
-    held.map(|held| held.place)
+    Some(end)
 }
 
-fn has_end(row: &Row) -> bool {
-    match ScriptedLocale::read(row.device) {
-        Ok(device) => end_of(device, row.records) == Some(row.end),
-        Err(_) => false,
-    }
-}
-
-// The device of the first row that ends otherwise.
-fn other_end() -> Option<&'static str> {
-    for row in &ROWS {
-        if !has_end(row) {
+// The device of the first row that ends otherwise, of records of this size.
+fn other_end(rows: &[Row], size: u8) -> Option<&'static str> {
+    for row in rows {
+        if end_of(row, size) != Some(row.end) {
             return Some(row.device);
         }
     }
@@ -128,73 +138,9 @@ fn other_end() -> Option<&'static str> {
 
 #[test]
 fn loads_what_a_phone_loads(rt: HostRuntime) {
-    assert_eq!(rt; other_end(), None);
+    assert_eq!(rt; other_end(&ROWS, 52), None);
+    assert_eq!(rt; other_end(&COMPUTED, 56), None);
 }
-
-// ---- which records suit a device
-
-/// A record, a device, and whether the one suits the other.
-struct Suit {
-    record: &'static str,
-    device: &'static str,
-    suits: bool,
-}
-
-#[rattlefmt::skip]
-const SUITS: [Suit; 12] = [
-    Suit { record: "", device: "zh-HK", suits: true },
-    Suit { record: "zh-TW", device: "zh-HK", suits: true },
-    Suit { record: "zh", device: "zh-HK", suits: false },
-    Suit { record: "zh-HK", device: "zh", suits: false },
-    Suit { record: "fr-CA", device: "fr-FR", suits: true },
-    Suit { record: "fr-CA", device: "fr-Cyrl-CA", suits: false },
-    Suit { record: "de", device: "fr", suits: false },
-    Suit { record: "tl", device: "fil", suits: true },
-    Suit { record: "xx-ZZ", device: "xx-YY", suits: false },
-    Suit { record: "xx-ZZ", device: "xx-Latn-ZZ", suits: true },
-    Suit { record: "xx-ZZ", device: "xx-Latn", suits: false },
-    Suit { record: ",script=4c61746e", device: "", suits: true },
-];
-
-fn suits_as_told(row: &Suit) -> Option<bool> {
-    let device = ScriptedLocale::read(row.device).ok()?;
-    Some(record_locale(row.record)?.suits(device) == row.suits)
-}
-
-// The first record of which something else is told.
-fn other_suit() -> Option<&'static str> {
-    for row in &SUITS {
-        if suits_as_told(row) != Some(true) {
-            return Some(row.record);
-        }
-    }
-    None
-}
-
-// A record with byte 52 set, in a locale.
-fn with_computed_script(locale: &str) -> Option<RecordLocale> {
-    let mut bytes = [0_u8; 56];
-    bytes[0] = 56;
-    bytes[52] = 1;
-    put_locale(&mut bytes, locale)?;
-    RecordLocale::read(&bytes).ok()
-}
-
-// Whether it suits a device.
-fn computed_suits(locale: &str, device: &str) -> Option<bool> {
-    let device = ScriptedLocale::read(device).ok()?;
-    Some(with_computed_script(locale)?.suits(device))
-}
-
-#[test]
-fn knows_what_suits(rt: HostRuntime) {
-    assert_eq!(rt; other_suit(), None);
-    assert_eq!(rt; computed_suits("de", "de"), Some(false));
-    assert_eq!(rt; computed_suits("xx", "xx"), Some(true));
-    assert_eq!(rt; computed_suits("", "de"), Some(true));
-}
-
-// ---- texts
 
 /// A text, the script that the locale has, and how it is printed.
 struct Text {
