@@ -126,7 +126,7 @@ impl<'a, 's> OpenBox<'a, 's> {
     }
 
     /// A question at which the members part, where `first` is the one that `common_trace` told: of the conditions of
-    /// candidates ahead one that most of these wait for. For whoever looks for a small tree; no promise depends on which it is.
+    /// candidates ahead one of the coordinate that most of them ask. For whoever looks for a small tree; no promise depends on which it is.
     pub fn weightiest_parting(
         &mut self,
         alloc: Global,

@@ -8,7 +8,7 @@ use std::cmp::Reverse;
 /// What speaks for a condition, the weightiest first. No two have the same.
 #[derive(Clone, Copy, PartialEq, Eq, PartialOrd, Ord)]
 struct Weight {
-    /// How many conditions ask its coordinate; one that is the only one of its candidate counts twice.
+    /// How many conditions ask its coordinate, and how many of those alike are the only ones of their candidates.
     askers: usize,
     /// How many ask for the same.
     alike: usize,

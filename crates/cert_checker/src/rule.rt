@@ -7,21 +7,21 @@ ghost use Rattle.cert_checker.specs.Rule.{number_of, name_of};
 /// number.
 #[derive(Clone, Copy, Debug, PartialEq, Eq)]
 pub enum Rule {
-    /// The certificate's goals are not the ones that are asked, in their order.
+    /// N1: the certificate's goals are not the ones that are asked, in their order.
     GoalList,
-    /// The list of nodes ends before the tree is whole.
+    /// N2: the list of nodes ends before the tree is whole.
     EndsEarly,
-    /// A node stands after the whole tree.
+    /// N3: a node stands after the whole tree.
     LeftOver,
-    /// An `at most` test of the locale, or a test of listed values where the box has a range.
+    /// N4: an `at most` test of the locale, or a test of listed values where the box has a range.
     TestKind,
-    /// All devices at a test answer alike.
+    /// N5: all devices at a test answer alike.
     EmptyHalf,
-    /// Two devices at a leaf have different traces.
+    /// N6: two devices at a leaf have different traces.
     MixedTrace,
-    /// All devices at a leaf have one trace, and it ends at no value and no bag.
+    /// N7: all devices at a leaf have one trace, and it ends at no value and no bag.
     NoValue,
-    /// All devices at a leaf have one trace, and it ends at another value or bag than the leaf's.
+    /// N8: all devices at a leaf have one trace, and it ends at another value or bag than the leaf's.
     OtherValue,
 }
 

@@ -13,7 +13,7 @@ ghost use Rattle.cert_checker.specs.Paths.{leaf_end};
 ghost use Rattle.cert_maker.specs.Needed.{IsNeededTest};
 ghost use Rattle.cert_maker.specs.Growth.{Grows, GrowsOn, IsCounterexampleOf, CanBeAsked};
 
-use crate::parting::parting_test;
+use crate::next_test::parting_test;
 use cert_checker::{
     CommonTrace, Device, End, MOST_LAYERS, Node, OpenBox, OpenBoxes, OutOfMemory, Split, Stack,
     Test,

@@ -23,9 +23,9 @@ mod growth;
 mod laws;
 mod made;
 mod making;
+mod next_test;
 mod omitted;
 mod omitting;
-mod parting;
 mod tree;
 mod trees;
 
@@ -36,6 +36,6 @@ pub use cert_checker::{
 pub use laws::{least_tree, trace_equality};
 pub use made::Made;
 pub use making::{make, make_watched};
+pub use next_test::parting_test;
 pub use omitted::{Omitted, Omitting};
 pub use omitting::make_omitting;
-pub use parting::parting_test;

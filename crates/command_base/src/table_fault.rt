@@ -30,6 +30,7 @@ pub(crate) fn write_table_fault<W: Write + Drop>(fault: TableFault, out: &mut W)
         TableFault::Offsets(place) => write_named_number("Offsets", place as u128, out),
         TableFault::Entry(place) => write_named_number("Entry", place as u128, out),
         TableFault::Value(place) => write_named_number("Value", place as u128, out),
+        // No command comes here with it: `or_memory` tells it as `out of memory`.
         TableFault::OutOfMemory => out.write_all(b"OutOfMemory"),
     }
 }

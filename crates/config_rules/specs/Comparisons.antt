@@ -102,7 +102,8 @@ is_larger_better l h d =
     else not (nat_lt (d * d) ((2 * l - d) * h))
 
 -- The density `any` is better than every other. Else a is better where it is the better one of the two; where they
--- count alike a is looked at as the larger, so that 0 and 160 are both better than the other, or neither is.
+-- count alike a is looked at as the larger, so that 0 and 160 are both better than the other, or neither is: then the later
+-- of two candidates takes over, or the earlier stays.
 abbrev pub is_better_density : ℕ → ℕ → ℕ → Bool
 is_better_density a b d =
     let x = counted_density a in

@@ -6,7 +6,7 @@ ghost use Rattle.config_rules.specs.Comparisons.{counted_density, is_larger_bett
 use crate::answer::Answer;
 
 /// What a record without a density counts as. Beside one that says 160, each is better than the other at a device of 160 or
-/// more, and neither at a lower one.
+/// more, and neither at a lower one: the later takes over, or the earlier stays.
 const MEDIUM: u32 = 160;
 
 const ANY: u32 = 65534;

@@ -4,7 +4,7 @@ use Rattle.cert_checker.specs.config_record.DeviceSeen.{device_numbers}
 use Rattle.cert_checker.specs.config_record.Locale.{IsOfSomeText}
 use Rattle.cert_checker.specs.box_trace.Parting.{answer_of}
 use Rattle.cert_maker.specs.Listed.{answer_in}
-use Rattle.cert_maker.proofs.parting.listed_locales.Given as goal
+use Rattle.cert_maker.proofs.next_test.listed_locales.Given as goal
 
 abbrev pub invariant-loop-locale : goal.invariant-loop-locale
 invariant-loop-locale l = record {

@@ -6,7 +6,7 @@ use Rattle.cert_checker.specs.config_box.Tests.{is_range}
 use Rattle.cert_maker.specs.Listed.{answer_with, answer_in}
 use Rattle.cert_maker.proofs.Cut.{cut-range}
 use Rattle.cert_maker.proofs.Listings.{needed-numbers, needed-locales, can-locales, numbers-fit, locales-fit, right-range}
-use Rattle.cert_maker.proofs.parting.parting_test.Goals as goal
+use Rattle.cert_maker.proofs.next_test.parting_test.Goals as goal
 
 pub listed_locales-requires : goal.listed_locales-requires
 listed_locales-requires c = can-locales c.args.members.now c.args.parting.now.pair.coord c.in-Locales.locales.now c.in-Locales.ensures.sets c.in-Locales.ensures.value

@@ -1,7 +1,7 @@
 use Rattle.std.proofs.Common.{◌∙◌}
 use Rattle.cert_checker.specs.config_record.DeviceSeen.{device_numbers}
 use Rattle.cert_maker.proofs.Listings.{changed-answers}
-use Rattle.cert_maker.proofs.parting.answers_yes.Goals as goal
+use Rattle.cert_maker.proofs.next_test.answers_yes.Goals as goal
 
 pub returns : goal.returns
 returns c =
