@@ -85,11 +85,11 @@ VALUES = [
 FROM_120 = densities(120, 640) | {"locale": ["de", "fr"], "night": [0, 2]}
 NO_MEMBERS = "0 [night=1] 1\n0 [night=3] 1\n0 [minor=1] 1\n0 [locale=fr-CA] 1\n0 [locale=it] 1\n0 [] 1"
 """All rows but the last match devices that are not in that box."""
-OTHER = value(9)
+WRONG = value(9)
 
 
 def is_at(node, device):
-    """A rejection of the wrong leaf at a node, where this is the first device."""
+    """What is said of the wrong leaf at a node, where this is the first device."""
     return rejected(node, "N8 OtherValue", f"device {device}", "end value layer 0 decimal 1")
 
 
@@ -97,14 +97,14 @@ EMPTY = "N5 EmptyHalf"
 
 MEMBERS = [
     # The nodes of a tree, and what is said of it.
-    ([OTHER], is_at(0, "locale=de density=120")),
-    ([at_most(119), OTHER], rejected(0, EMPTY)),
-    ([at_most(120), OTHER], is_at(1, "locale=de density=120")),
-    ([at_most(639), value(1), OTHER], is_at(2, "locale=de density=640")),
-    ([at_most(640), OTHER], rejected(0, EMPTY)),
-    ([among("locale", "de"), value(1), among("night", 0), value(1), OTHER], is_at(4, "locale=fr night=2 density=120")),
-    ([among("locale", "de", "fr"), OTHER], rejected(0, EMPTY)),
-    ([among("night", 0, 2), OTHER], rejected(0, EMPTY)),
+    ([WRONG], is_at(0, "locale=de density=120")),
+    ([at_most(119), WRONG], rejected(0, EMPTY)),
+    ([at_most(120), WRONG], is_at(1, "locale=de density=120")),
+    ([at_most(639), value(1), WRONG], is_at(2, "locale=de density=640")),
+    ([at_most(640), WRONG], rejected(0, EMPTY)),
+    ([among("locale", "de"), value(1), among("night", 0), value(1), WRONG], is_at(4, "locale=fr night=2 density=120")),
+    ([among("locale", "de", "fr"), WRONG], rejected(0, EMPTY)),
+    ([among("night", 0, 2), WRONG], rejected(0, EMPTY)),
 ]
 
 
@@ -112,8 +112,8 @@ def of_devices():
     for qualifier, others in VALUES:
         yield changed_on([others], *but_on(qualifier), LISTED)
     # Each density has a row of its own.
-    yield changed_on(["density=160,480"], "0 [density=160] 1\n0 [density=320] 3\n0 [density=480] 1",
-                     "0 [density=160] 2\n0 [density=320] 3\n0 [density=480] 2", LISTED)
+    old, new = (f"0 [density=160] {number}\n0 [density=320] 3\n0 [density=480] {number}" for number in (1, 2))
+    yield changed_on(["density=160,480"], old, new, LISTED)
     for nodes, told in MEMBERS:
         yield checked(PLAIN, FROM_120, certificate_of(tree(*nodes)), told)
     yield checked(NO_MEMBERS, FROM_120, certificate_of(tree(value(1))), accepted(1))
@@ -126,34 +126,34 @@ AT_197, NIGHTS, DAY, FRENCH = at_most(197), among("night", 2, 7, 0, 2), at_most(
 
 HALVES = [
     # The nodes of a tree, of which the first divides the box, and what is said of them. The first half of 120 to 197.
-    ([AT_197, OTHER], is_at(1, "locale=de density=120")),
-    ([AT_197, at_most(196), value(1), OTHER], is_at(3, "locale=de density=197")),
-    ([AT_197, AT_197, OTHER], rejected(1, EMPTY)),
-    ([AT_197, among("night", 0, 1), value(1), OTHER], is_at(3, "locale=de night=2 density=120")),
-    ([AT_197, among("night", 0, 1, 2), OTHER], rejected(1, EMPTY)),
+    ([AT_197, WRONG], is_at(1, "locale=de density=120")),
+    ([AT_197, at_most(196), value(1), WRONG], is_at(3, "locale=de density=197")),
+    ([AT_197, AT_197, WRONG], rejected(1, EMPTY)),
+    ([AT_197, among("night", 0, 1), value(1), WRONG], is_at(3, "locale=de night=2 density=120")),
+    ([AT_197, among("night", 0, 1, 2), WRONG], rejected(1, EMPTY)),
     # The second.
-    ([AT_197, value(1), OTHER], is_at(2, "locale=de density=198")),
-    ([AT_197, value(1), at_most(639), value(1), OTHER], is_at(4, "locale=de density=640")),
-    ([AT_197, value(1), at_most(640), OTHER], rejected(2, EMPTY)),
-    ([AT_197, value(1), at_most(0, "mcc"), OTHER], rejected(2, EMPTY)),
+    ([AT_197, value(1), WRONG], is_at(2, "locale=de density=198")),
+    ([AT_197, value(1), at_most(639), value(1), WRONG], is_at(4, "locale=de density=640")),
+    ([AT_197, value(1), at_most(640), WRONG], rejected(2, EMPTY)),
+    ([AT_197, value(1), at_most(0, "mcc"), WRONG], rejected(2, EMPTY)),
     # The nights 0 and 2, and 1.
-    ([NIGHTS, OTHER], is_at(1, "locale=de density=120")),
-    ([NIGHTS, among("night", 0), value(1), OTHER], is_at(3, "locale=de night=2 density=120")),
-    ([NIGHTS, among("night", 0, 2), OTHER], rejected(1, EMPTY)),
-    ([NIGHTS, value(1), OTHER], is_at(2, "locale=de night=1 density=120")),
-    ([NIGHTS, value(1), among("night", 1), OTHER], rejected(2, EMPTY)),
+    ([NIGHTS, WRONG], is_at(1, "locale=de density=120")),
+    ([NIGHTS, among("night", 0), value(1), WRONG], is_at(3, "locale=de night=2 density=120")),
+    ([NIGHTS, among("night", 0, 2), WRONG], rejected(1, EMPTY)),
+    ([NIGHTS, value(1), WRONG], is_at(2, "locale=de night=1 density=120")),
+    ([NIGHTS, value(1), among("night", 1), WRONG], rejected(2, EMPTY)),
     # The night 0, and 1 and 2.
-    ([DAY, OTHER], is_at(1, "locale=de density=120")),
-    ([DAY, among("night", 0), OTHER], rejected(1, EMPTY)),
-    ([DAY, value(1), OTHER], is_at(2, "locale=de night=1 density=120")),
-    ([DAY, value(1), at_most(1, "night"), value(1), OTHER], is_at(4, "locale=de night=2 density=120")),
-    ([DAY, value(1), at_most(2, "night"), OTHER], rejected(2, EMPTY)),
+    ([DAY, WRONG], is_at(1, "locale=de density=120")),
+    ([DAY, among("night", 0), WRONG], rejected(1, EMPTY)),
+    ([DAY, value(1), WRONG], is_at(2, "locale=de night=1 density=120")),
+    ([DAY, value(1), at_most(1, "night"), value(1), WRONG], is_at(4, "locale=de night=2 density=120")),
+    ([DAY, value(1), at_most(2, "night"), WRONG], rejected(2, EMPTY)),
     # French without a region, and the two others.
-    ([FRENCH, OTHER], is_at(1, "locale=fr density=120")),
-    ([FRENCH, FRENCH, OTHER], rejected(1, EMPTY)),
-    ([FRENCH, value(1), OTHER], is_at(2, "locale=de density=120")),
-    ([FRENCH, value(1), among("locale", "de"), value(1), OTHER], is_at(4, "locale=fr-CA density=120")),
-    ([FRENCH, value(1), among("locale", "de", "fr-CA"), OTHER], rejected(2, EMPTY)),
+    ([FRENCH, WRONG], is_at(1, "locale=fr density=120")),
+    ([FRENCH, FRENCH, WRONG], rejected(1, EMPTY)),
+    ([FRENCH, value(1), WRONG], is_at(2, "locale=de density=120")),
+    ([FRENCH, value(1), among("locale", "de"), value(1), WRONG], is_at(4, "locale=fr-CA density=120")),
+    ([FRENCH, value(1), among("locale", "de", "fr-CA"), WRONG], rejected(2, EMPTY)),
     # Tests of a wrong kind, and such as all or none pass.
     ([among("density")], rejected(0, "N4 TestKind")),
     ([at_most(2, "night")], rejected(0, EMPTY)),
@@ -171,14 +171,14 @@ def of_halves():
     # A range that ends with the greatest number of its coordinate.
     for name, most in GREATEST.items():
         box, last = with_values(name, {"from": most - 1, "to": most}), device_text(MEDIUM | {name: most})
-        yield checked(PLAIN, box, certificate_of(tree(at_most(most - 1, name), value(1), OTHER)), is_at(2, last))
+        yield checked(PLAIN, box, certificate_of(tree(at_most(most - 1, name), value(1), WRONG)), is_at(2, last))
     # A box with two values of each coordinate, divided at each of them.
     box = {name: ["de", "fr"] if name == "locale" else [1, 2] for name in COORDS}
     for divided in COORDS:
         named = {name: f"{name}={box[name][name == divided]}" for name in COORDS}
         test, first = among(divided, box[divided][0]), " ".join(f"{name}={values[0]}" for name, values in box.items())
-        yield checked(PLAIN, box, certificate_of(tree(test, OTHER)), is_at(1, first))
-        yield checked(PLAIN, box, certificate_of(tree(test, value(1), OTHER)), is_at(2, " ".join(named.values())))
+        yield checked(PLAIN, box, certificate_of(tree(test, WRONG)), is_at(1, first))
+        yield checked(PLAIN, box, certificate_of(tree(test, value(1), WRONG)), is_at(2, " ".join(named.values())))
 
 
 # ---- what all devices answer
