@@ -6,9 +6,9 @@ usage: tools/prove.py [--jobs N] [CRATE..]        CRATE is restool if it is left
 With --jobs each proof has at most so many jobs: one job takes the least processor time. A crate is
 proved once those below it are, first those with the most work behind them, each with the jobs that
 processors and memory allow. A run of rt locks its crate and all crates below it, so each run here
-works on a copy of what it reads, and what it made is then moved to the crate's out/, whole or not at
-all. Nobody edits such a copy, so rt computes each stamp in it once (rt_once.py). What rt finds up to
-date is not proved again.
+works on a copy of what it reads, as that was when all began, and what it made is then moved to the
+crate's out/, whole or not at all. Nobody edits such a copy, so rt computes each stamp in it once
+(rt_once.py). What rt finds up to date is not proved again.
 
 Beside a program, out/NAME, stands what proved it, in out/proved-with: the line of `rt version`, and
 the sum of the sources that it was built from (source_sum.sh), if nobody changed them meanwhile.
@@ -33,6 +33,8 @@ LOGS = f"{ROOT}/out/proofs"
 # How the name of the folder begins, in out/ of the crate that is asked for, in which the copies lie.
 ROOMS = "proofs-"
 SOURCES = ("src", "specs", "proofs")
+# The folder in the room of rooms for the sources as they were when the run began.
+SOURCES_THEN = ".sources"
 # What a proof leaves in out/: work that a later proof begins with, and the library.
 MADE = ("incremental", "rlib")
 # The file in out/ of a program that says which toolchain proved it, and from which sources.
@@ -211,14 +213,12 @@ def link_tree(source, target):
 class Room:
     """A copy of a crate and of the libraries below it, in which rt proves the crate."""
 
-    def __init__(self, rooms, crate):
+    def __init__(self, rooms, crate, begun):
         self.crate, self.top = crate, f"{rooms}/{crate.name}"
         self.folder = f"{self.top}/crates/{crate.name}"
-        self.begun = time.time()
+        self.begun = begun
         for it in [*crate.below, crate]:
-            for part in SOURCES:
-                # no links: some editors write into the file that is there
-                copy_tree(f"{it.folder}/{part}", f"{self.top}/crates/{it.name}/{part}", shutil.copy2)
+            link_tree(f"{rooms}/{SOURCES_THEN}/{it.name}", f"{self.top}/crates/{it.name}")
             link_tree(f"{it.folder}/out/rlib", f"{self.top}/crates/{it.name}/out/rlib")
         link_tree(f"{crate.folder}/out/incremental", f"{self.folder}/out/incremental")
         with open(f"{self.top}/crates.txt", "w", encoding="utf-8") as file:
@@ -247,17 +247,19 @@ class Prover:
         self.rooms = f"{self.room_of_rooms}/{ROOMS}{os.getpid()}"
         self.left, self.count, self.started = [], 0, 0
         self.runs, self.is_ending = {}, False
+        self.begun = time.time()
         self.seconds = 0.0
 
     def prove(self):
         programs = [it for it in self.needed if it.is_program()]
-        begun, sums = time.time(), {it: source_sum(it) for it in programs}
+        sums = {it: source_sum(it) for it in programs}
         libraries = [it for it in self.needed if it not in programs and it.may_be_old()]
         self.count = len(libraries) + len(programs)
         held = self.lock()
         for it in glob.glob(f"{self.room_of_rooms}/{ROOMS}*"):
             shutil.rmtree(it, ignore_errors=True)  # of a run that was killed
         try:
+            self.keep_sources()
             self.prove_libraries(libraries)
         finally:
             shutil.rmtree(self.rooms, ignore_errors=True)
@@ -267,7 +269,14 @@ class Prover:
         for it in programs:
             self.tell(it)
             self.prove_program(it)
-            tell_sources(it, begun, sums[it])
+            tell_sources(it, self.begun, sums[it])
+
+    def keep_sources(self):
+        """Copies all sources, so that every crate is proved over the same."""
+        for crate in self.needed:
+            for part in SOURCES:
+                # no links: some editors write into the file that is there
+                copy_tree(f"{crate.folder}/{part}", f"{self.rooms}/{SOURCES_THEN}/{crate.name}/{part}", shutil.copy2)
 
     def lock(self):
         """Keeps runs of rt out of the crates, as rt itself does, until what this returns is closed."""
@@ -320,7 +329,7 @@ class Prover:
 
     def prove_library(self, crate, jobs):
         if not self.is_ending:
-            room = Room(self.rooms, crate)
+            room = Room(self.rooms, crate, self.begun)
             self.run(crate, room.folder, *RT_ONCE, "lib", "--jobs", str(jobs))
         if not self.is_ending:
             room.give_back()
