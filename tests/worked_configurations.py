@@ -149,9 +149,9 @@ def refused(text, fault):
 
 
 def of_devices():
-    for text, shown in DEVICES:
-        yield read_as(text, qualified(shown))
-        yield printed(qualified(shown), shown)
+    for text, qualifiers in DEVICES:
+        yield read_as(text, qualified(qualifiers))
+        yield printed(qualified(qualifiers), qualifiers)
     for text, fault in [*NO_TEXTS, *NO_DEVICES]:
         yield refused(text, fault)
     for locale, fault in NO_LOCALES:
@@ -229,7 +229,7 @@ def of_configurations():
         yield over([with_bytes(8, digits)], QUERY, out, status=not given, device={"density": 160, "locale": given})
     for record, aside in SET_ASIDE:
         yield shown(f"0 [{record}] 1", record, aside)
-    for table in (with_bytes(0, "1b"), with_bytes(0, "35"), only_a_size()):
+    for table in (with_bytes(0, "35"), only_a_size()):
         yield of_table(table, "rows", "", "refused: table: Config 348\n", 3)
 
 
