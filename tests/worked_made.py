@@ -4,9 +4,12 @@
     worked_made.py PROGRAM [JOBS]
 
 The cases are such as worked_rows.py has, and what is printed of them is the same."""
+import json
+
 from small_tables import TABLE_B
 from worked_certificates import (
-    ALIKE_AT_NIGHT, FRENCH_AND_GERMAN, MEDIUM_AND_HIGH, NIGHT_AND_DAY, PLAIN, STYLES, certificate_of, densities, tree, value,
+    ALIKE_AT_NIGHT, FRENCH_AND_GERMAN, MEDIUM_AND_HIGH, NIGHT_AND_DAY, PARTED, PLAIN, STYLES, among, at_most, certificate_of,
+    densities, tree, tree_under, value,
 )
 from worked_rows import A, B, FIRST, ID, MEDIUM_BOX, NOWHERE, SECOND, TO_198, Case, check_groups, files_of, over
 
@@ -37,6 +40,11 @@ def made(rows, box, most, goals, wanted):
     return Case(words, wanted, status=wanted.startswith(("counter", "node")), **files)
 
 
+def written(*goals, version=1):
+    """How a certificate is printed."""
+    return json.dumps(certificate_of(*goals, version=version), sort_keys=True, separators=(",", ":")) + "\n"
+
+
 def locales(*names):
     return {"density": [160], "locale": list(names)}
 
@@ -63,6 +71,19 @@ SHARED = {"smallestWidthDp": 600, "night": 2, "sdk": 30}
 TEN_SHARED = SHARED | {"mcc": 310, "layoutDirection": 2, "screenSize": 3, "long": 1, "orientation": 2, "touchscreen": 3, "keyboard": 2}
 LANGUAGES = [first + second for first in "abcd" for second in "abcdefghijklmnopqrstuvwxy"]
 ONE_LEAF = '{"goals":[{"id":"0x7f010000","nodes":[{"kind":16,"layer":0,"word":1}]}],"version":1}\n'
+BY_LEVEL = "\n".join(f"0 [sdk={level}] {level}" for level in range(100, 0, -1)), {"density": [160], "sdk": {"from": 1, "to": 100}}
+"""A hundred levels, each with a row of its own, the last first, so that all no halves are open at once."""
+TREE_BY_LEVEL = tree(*(at_most(level, "sdk") for level in range(99, 0, -1)), *map(value, range(1, 101)))
+NETWORKS = range(1, 31)
+BY_NETWORK = (
+    "\n".join(["0 [] 99", *(f"0 [mcc=1,mnc={mnc}] {mnc}" for mnc in NETWORKS)]),
+    {"density": [160], "mcc": [1, 2], "mnc": [*NETWORKS]},
+)
+"""The maker asks the mcc first, and its tree has 61 nodes. Where the mnc is asked first, and each time the mcc behind it, there is
+one of 119, all of whose tests are needed. The limit is about the maker's tree."""
+TREE_BY_NETWORK = tree(
+    among("mcc", 1), *(node for mnc in NETWORKS[:-1] for node in (among("mnc", mnc), value(mnc))), value(NETWORKS[-1]), value(99)
+)
 TOO_LONG = f"0 [] @{ID}"
 STYLED = f"{A}@{FIRST}"
 
@@ -110,6 +131,14 @@ MADE = [
         [ID],
         9,
     ),
+    (*BY_LEVEL, 199, [ID], written(TREE_BY_LEVEL)),
+    (*BY_LEVEL, 198, [ID], NODE_LIMIT),
+    (*BY_NETWORK, 61, [ID], written(TREE_BY_NETWORK)),
+    (*BY_NETWORK, 60, [ID], NODE_LIMIT),
+    # What is printed of a test and of a bag, and of goals of both kinds.
+    (MEDIUM_AND_HIGH, TO_198, None, [ID], written(tree(*PARTED))),
+    ("0 [] bag 0x00000000", MEDIUM_BOX, 1, [ID], written(tree({"bag": ID}))),
+    (STYLES, TO_198, None, [STYLED], written(tree_under(A, [FIRST], *PARTED), version=2)),
     # Attributes under styles.
     (STYLES, TO_198, 10, [STYLED], 3),
     (STYLES, MEDIUM_BOX, 10, [f"{B}@{FIRST}"], counter("density=160", f"absent {B}")),
