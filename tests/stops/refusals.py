@@ -4,8 +4,8 @@
     refusals.py PROGRAM LIBRARY [JOBS]
 
 LIBRARY is refuse.c, built to be preloaded. Each command runs once for each growth of memory, each file, each read
-and each write, in which this one is refused, and once more in which all from there on are. The last line is
-'N passed, M failed'."""
+and each write, in which this one is refused, and once more in which all from there on are. On small worked cases only
+memory is refused, from where the first file is opened. The last line is 'N passed, M failed'."""
 import os
 import subprocess
 import sys
@@ -13,6 +13,7 @@ import tempfile
 from concurrent.futures import ThreadPoolExecutor
 
 from runs import STANDARD_INPUT, Ended, long_answer, runs
+from small_runs import small_runs
 
 NEVER_MADE = 1 << 40
 """A call that no run comes to."""
@@ -23,15 +24,16 @@ MEMORY = Ended(4, b"", b"out of memory\n")
 
 
 class Refuser:
-    """Runs the program with the library before it."""
+    """Runs the program with the library before it. With a mark, as refuse.c has it, only calls behind that count."""
 
-    def __init__(self, program, library):
+    def __init__(self, program, library, mark=None):
         self.program, self.library = program, library
+        self.marked = {"MARKED": mark} if mark else {}
 
     def run(self, run, kind, first=NEVER_MADE, last=NEVER_MADE):
         """How a run ends where the calls of a kind from the first to the last are refused, and how many were made."""
         with tempfile.NamedTemporaryFile() as count, open(run.given, "rb") as given:
-            said = {"REFUSED": kind, "FROM": str(first), "TO": str(last), "COUNT": count.name}
+            said = {"REFUSED": kind, "FROM": str(first), "TO": str(last), "COUNT": count.name, **self.marked}
             started = subprocess.Popen(
                 [self.program, *run.words],
                 cwd=run.folder,
@@ -79,6 +81,11 @@ def faults_of_memory(refuser, run):
     yield from (f"{name}: {ended}" for name, ended in ends if ended not in (run.ended, MEMORY))
     if not ends or ends[0][1] != MEMORY:
         yield f"the first growth is no want of memory: {ends[:1]}"
+
+
+def faults_of_memory_behind_words(refuser, run):
+    """The same from where the first file is opened: how words are read, the runs of each command show."""
+    yield from faults_of_memory(Refuser(refuser.program, refuser.library, "open"), run)
 
 
 def faults_of_files(refuser, run):
@@ -159,6 +166,9 @@ def tests(folder):
         for name, faults_of in SWEEPS.items():
             yield f"{run.name}: {name}", faults_of, run
     yield "long answer: writes", faults_of_writes, long_answer()
+    for run in small_runs(folder):
+        yield run.name, faults_of_run, run
+        yield f"{run.name}: memory", faults_of_memory_behind_words, run
 
 
 def main():
