@@ -54,7 +54,7 @@ def check_case(program, number):
     chance = random.Random(number)
     old = random_layers(chance)
     new = chance.choice((random_layers(chance), old, chance.sample(old, len(old))))
-    done = subprocess.run([program, "tables", "name_pairs", word_of(old), word_of(new)], capture_output=True)
+    done = subprocess.run([program, "inputs", "name_pairs", word_of(old), word_of(new)], capture_output=True)
     said, wanted = done.stdout.decode().splitlines(), list(plain_pairs(old, new))
     if said == wanted and not done.returncode:
         return "", len(wanted)

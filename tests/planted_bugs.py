@@ -7,9 +7,8 @@
 
 Without a name it takes all. An edit has a line 'seen by: TESTS: NAME'. TESTS is tests/stops or one of WORKED, for which the
 program is proved and built with the bug; or a crate of tests, which is built with it and not proved; or tests/stops/calls.py, for
-whose rows of the call NAME the same is done of their program; a row's last word may stand behind its name. NAME is the
-test that has to fail there. The last line is 'N seen or refused, M let through'; refused is a bug that the prover does
-not let through.
+whose rows of the call NAME the same is done of their program. NAME is the test that has to fail there. The last line is
+'N seen or refused, M let through'; refused is a bug that the prover does not let through.
 
 With --control it takes the edits of must-fail/ and wrong-bodies/ that name a control, and plants that in place of the
 bug: the right body in the same form. The prover has to let it through, or the edit is refused for its form and shows
@@ -128,8 +127,7 @@ def tried_on_crate(edit, copy):
 
 def tried_on_calls(edit, copy):
     """Runs the rows of a call, to which no memory is refused."""
-    named = [({row.name, f"{row.name} {row.words[-1]}"}, row) for row in [*rows(), *WITHOUT_MEMORY]]
-    asked = [row for names, row in named if edit.test in names]
+    asked = [row for row in [*rows(), *WITHOUT_MEMORY] if row.name == edit.test]
     for row in asked:
         ran = Run([*RT, "try", "--", *row.words], copy / "crates" / CALLS_PROGRAM)
         if not any(line.startswith("run=ended") for line in ran.lines):

@@ -3,11 +3,11 @@
 
     calls.py LIBRARY
 
-LIBRARY is refuse.c, built to be preloaded. The program of calls is the crate test_calls, as it is built there. Each row runs once for each growth of memory in which this one is refused, and once more
-in which all from there on are; what the call is given is made before. Calls that take no memory run with every growth
-refused. A row is named after the one public call that it makes, or, where that takes no memory, after a crate. Each
-public call that takes memory has a row, or is one that the program makes, of which refusals.py refuses memory in each
-command; or it is told to be made in turn by such a one, and is. The last line is 'N passed, M failed'."""
+LIBRARY is refuse.c, built to be preloaded. The program of calls is the crate test_calls, as it is built there. Each row
+runs once for each growth of memory in which this one is refused, and once more in which all from there on are; what the
+call is given is made before. Calls that take no memory run with every growth refused. A row is named after the one public
+call that it makes. Each public call that takes memory is made by such a row, or by the program, of which refusals.py
+refuses memory in each command, itself or in turn: as the sources tell. The last line is 'N passed, M failed'."""
 import os
 import subprocess
 import sys
@@ -16,7 +16,7 @@ from concurrent.futures import ThreadPoolExecutor
 from pathlib import Path
 
 from library import Library, full_name
-from worked_calls import BY_PROGRAM, REACHED, WITHOUT_MEMORY, rows
+from worked_calls import WITHOUT_MEMORY, rows
 
 HERE = Path(__file__).resolve().parent.parent.parent
 PROGRAM = HERE / "crates" / "test_calls" / "out" / "test_calls"
@@ -27,35 +27,16 @@ MOST_SHOWN = 400
 MOST_SECONDS = 60
 
 
-def name_of(row):
-    """The call of a row, without how it is made."""
-    return row.name.split()[0]
-
-
 def faults_of_names(library):
-    """What rows are named after that is no public call, or is several; what the program is said to make and does not, and
-    what a call is said to make in turn; and the calls that take memory and are none of these."""
-    public, tried = library.public(), set()
-    for name in sorted({name_of(row) for row in rows()} | {name_of(row) for row in WITHOUT_MEMORY} - {*library.below}):
-        if len(public[name]) != 1:
-            yield f"{len(public[name])} public calls are named {name}"
-    for name in {name_of(row) for row in rows()}:
-        tried.update(public[name])
-    of_program = library.reached(library.of_program())
-    for name in BY_PROGRAM.split():
-        made = [call for call in public[name] if call in of_program]
-        tried.update(made)
-        if not made:
-            yield f"the program does not make {name}"
-    for name, in_turn in REACHED.items():
-        reached = library.reached(call for call in public[name] if call in tried)
-        for told in in_turn.split():
-            made = [call for call in public[told] if call in reached]
-            tried.update(made)
-            if not made:
-                yield f"{name} is not tried, or does not make {told}"
-    for call in (it for named in public.values() for it in named):
-        if call.takes_memory and call not in tried:
+    """What rows are named after that is no public call, or is several; and the calls that take memory and are made neither
+    by a row nor by the program."""
+    public = library.public()
+    named = {row.name: public[row.name] for row in [*rows(), *WITHOUT_MEMORY]}
+    yield from (f"{len(calls)} public calls are named {name}" for name, calls in named.items() if len(calls) != 1)
+    of_rows = [call for row in rows() for call in named[row.name]]
+    made = library.reached([*of_rows, *library.of_program()])
+    for call in (it for calls in public.values() for it in calls):
+        if call.takes_memory and call not in made:
             yield f"no row for {full_name(call)} of {call.crate}"
 
 
@@ -68,7 +49,7 @@ class Calls:
     def run(self, row, first=NEVER_MADE, last=NEVER_MADE):
         """What a call says where the growths from the first to the last are refused, and how many were asked for."""
         with tempfile.NamedTemporaryFile() as count:
-            said = {"REFUSED": "grow", "FROM": str(first), "TO": str(last), "COUNT": count.name, "MARKED": ""}
+            said = {"REFUSED": "grow", "FROM": str(first), "TO": str(last), "COUNT": count.name, "MARKED": "call"}
             ran = subprocess.run(
                 [PROGRAM, *row.words],
                 env={"LD_PRELOAD": self.library, **said},

@@ -4,15 +4,13 @@
 //! before, and what came out is told behind, so that memory can be refused to the call alone.
 
 mod arguments;
+mod given_bytes;
 mod marks;
-mod reader;
-mod table;
 mod told;
 mod writer;
 
 pub(crate) use arguments::{word, words};
+pub(crate) use given_bytes::bytes_of;
 pub(crate) use marks::{begin, end};
-pub(crate) use reader::Reader;
-pub(crate) use table::table_of;
-pub(crate) use told::{tell, tell_found, tell_text};
+pub(crate) use told::{tell, tell_found};
 pub(crate) use writer::Writer;

@@ -1,7 +1,6 @@
 //! What is told of a call. What cannot be written is missing in what `tests/stops/calls.py` reads.
 
 use std::fmt::Debug;
-use std::io::Write;
 
 /// Prints an answer.
 pub(crate) fn tell<D: Debug + Drop>(rt: &HostRuntime, answer: D) {
@@ -14,11 +13,4 @@ pub(crate) fn tell_found<D: Debug + Drop, E: Debug + Drop>(rt: &HostRuntime, fou
         Ok(found) => tell(rt, found),
         Err(fault) => tell(rt, fault),
     }
-}
-
-/// Prints a line of text.
-pub(crate) fn tell_text(rt: &HostRuntime, text: &[u8]) {
-    let mut out = rt.stdout();
-    let _ = out.write_all(text);
-    let _ = out.write_all(b"\n");
 }

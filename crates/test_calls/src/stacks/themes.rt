@@ -1,10 +1,9 @@
 //! Themes of two styles, the bags of entries 0 and 1.
 
 use crate::marked::{begin, end, tell};
-use command_base::answer_text::bags_themes::Theme;
-use command_base::answer_text::overlay_map::{ResId, Stack};
-use config_record::Device;
+use bags_themes::{Device, ResId, Stack, Theme};
 use std::test::Fail;
+use test_layers::{LayerFault, device_of};
 
 const STYLES: [ResId; 2] = [ResId(0x7f01_0000), ResId(0x7f01_0001)];
 
@@ -15,57 +14,40 @@ const ATTRS: [ResId; 4] = [
     ResId(0x0101_0004),
 ];
 
-// Tells where the attributes of a theme end.
-fn tell_theme(rt: &HostRuntime, stack: &Stack<'_>, theme: &Theme, device: &Device) {
-    for attr in ATTRS {
-        tell(rt, theme.attribute(stack, attr, device));
-    }
-}
-
-/// Applies the second style after the first.
-pub fn applied_after(
-    rt: &HostRuntime,
-    stack: &Stack<'_>,
-    device: &Device,
-    force: bool,
-) -> Result<(), Fail> {
+/// Applies the second style, to an empty theme or after the first, with force or without: which a word says by being
+/// there.
+pub fn applied(rt: &HostRuntime, stack: &Stack<'_>, first: &str, forced: &str) -> Result<(), Fail> {
+    let device = device_of("").ok_or(LayerFault::Malformed)?;
     let mut theme = Theme::new(rt.alloc());
-    theme.apply(stack, STYLES[0], true, device)?;
-    apply(rt, stack, theme, STYLES[1], force, device)
+    if !first.is_empty() {
+        theme.apply(stack, STYLES[0], true, &device)?;
+    }
+    apply(rt, stack, theme, !forced.is_empty(), &device)
 }
 
-/// Applies the first style to an empty theme.
-pub fn applied_first(rt: &HostRuntime, stack: &Stack<'_>, device: &Device) -> Result<(), Fail> {
-    apply(rt, stack, Theme::new(rt.alloc()), STYLES[0], true, device)
-}
-
-// Applies a style. Where that is refused, it is applied again.
+// Applies the second style. Where that is refused, it is applied again.
 fn apply(
     rt: &HostRuntime,
     stack: &Stack<'_>,
     mut theme: Theme,
-    style: ResId,
     force: bool,
     device: &Device,
 ) -> Result<(), Fail> {
     begin(rt);
-    let applied = theme.apply(stack, style, force, device);
+    let applied = theme.apply(stack, STYLES[1], force, device);
     end(rt);
     if let Err(fault) = applied {
         tell(rt, fault);
         tell_theme(rt, stack, &theme, device);
-        theme.apply(stack, style, force, device)?;
+        theme.apply(stack, STYLES[1], force, device)?;
     }
     tell_theme(rt, stack, &theme, device);
     Ok(())
 }
 
-pub fn of_styles(rt: &HostRuntime, stack: &Stack<'_>, device: &Device) {
-    begin(rt);
-    let found = Theme::of_styles(rt.alloc(), stack, &STYLES, false, device);
-    end(rt);
-    match found {
-        Ok(theme) => tell_theme(rt, stack, &theme, device),
-        Err(fault) => tell(rt, fault),
+// Tells where the attributes of a theme end.
+fn tell_theme(rt: &HostRuntime, stack: &Stack<'_>, theme: &Theme, device: &Device) {
+    for attr in ATTRS {
+        tell(rt, theme.attribute(stack, attr, device));
     }
 }

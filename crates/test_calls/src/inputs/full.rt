@@ -1,7 +1,7 @@
-//! The pushes of layers over as many as there can be.
+//! The pushes of layers over as many as there can be, which take no memory and hand back what was not pushed.
 
-use crate::marked::{begin, end, table_of, tell};
-use command_base::answer_text::overlay_map::{IdMap, MOST_LAYERS, ResId, Stack, Table};
+use crate::marked::{begin, bytes_of, end, tell};
+use bags_themes::reference_resolver::overlay_map::{IdMap, MOST_LAYERS, ResId, Stack, Table};
 use std::alloc::Global;
 use std::test::Fail;
 use test_layers::{LayerFault, SAME, push_base};
@@ -19,7 +19,7 @@ fn full_stack(alloc: Global, bytes: &[u8]) -> Option<Stack<'_>> {
 
 /// Puts a base over them, and tells the fault, how many layers there are then, and whether the table is handed back.
 pub fn base(rt: &HostRuntime, word: &str) -> Result<(), Fail> {
-    let bytes = table_of(rt.alloc(), word)?;
+    let bytes = bytes_of(rt.alloc(), word)?;
     base_of(rt, &bytes)
 }
 
@@ -37,7 +37,7 @@ fn base_of(rt: &HostRuntime, bytes: &[u8]) -> Result<(), Fail> {
 
 /// Puts an overlay over them, and tells the same, and what the map says that is handed back.
 pub fn overlay(rt: &HostRuntime, word: &str) -> Result<(), Fail> {
-    let bytes = table_of(rt.alloc(), word)?;
+    let bytes = bytes_of(rt.alloc(), word)?;
     overlay_of(rt, &bytes)
 }
 

@@ -1,0 +1,22 @@
+//! Calls over the bytes of tables and of certificates, and over layers that tables are put into.
+
+mod certificates;
+mod full;
+mod pairs;
+mod tables;
+
+use crate::marked::word;
+use std::test::Fail;
+
+/// Makes the call that the first word names, of the other words.
+pub fn call(rt: &HostRuntime, words: &[String]) -> Result<(), Fail> {
+    let given = word(words, 1);
+    match word(words, 0) {
+        "Chunks::new" => tables::chunks(rt, given),
+        "Table::find" => tables::names(rt, given),
+        "Cert::write" => certificates::written(rt, given),
+        "Stack::push_base" => full::base(rt, given),
+        "Stack::push_overlay" => full::overlay(rt, given),
+        _ => pairs::told(rt, given, word(words, 2)),
+    }
+}
