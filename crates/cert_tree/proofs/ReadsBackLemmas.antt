@@ -1,5 +1,5 @@
 -- What is written of a certificate is read as the same goals and nodes.
-use Rattle.std.proofs.Common.{◌≡◌, ℕ, ◌+◌, ◌≤◌, ◌==◌, ◌||◌, Bool, true, false, List, [], ◌∷◌, ◌++◌, map, length, get_or, Option, Some, ok_or, Result, Ok, append_assoc, refl, sym, ap, ◌∙◌, arith}
+use Rattle.std.proofs.Common.{◌≡◌, ℕ, ◌+◌, ◌≤◌, ◌==◌, ◌||◌, Bool, true, false, List, [], ◌∷◌, ◌++◌, map, length, get_or, Option, Some, ok_or, Result, Ok, Err, IfOk, append_assoc, refl, sym, ap, ◌∙◌, arith}
 use Rattle.std.specs.List.{All, list_all}
 use Rattle.std.specs.Result.{result_ok}
 use Rattle.std.proofs.Math.Bool.{or-true}
@@ -223,6 +223,10 @@ cert-back goals back fits =
 pub cert_in-back : (json : List ℕ) (value : Data) (goals : List GoalOf) → value_of json ≡ Some value → value ≡ cert_data goals → goals_in_value (cert_data goals) ≡ Ok goals → cert_in json ≡ Ok goals
 cert_in-back json value goals was is back = ap (λ (o : Option Data). ok_or o Syntax >>= goals_in_value) was ∙ ap goals_in_value is ∙ back
 
+pub in_any_case : {X E P : Type 0} (r : Result X E) → P → IfOk r (λ _. P)
+in_any_case (Ok x) holds = holds
+in_any_case (Err e) holds = tt
+
 -- ---- what is written has no float, and nests six deep at most
 
 record Plain (most : ℕ) (value : Data) : Type 0 where
@@ -268,4 +272,4 @@ cert-no_float goals = let items = plain-items goal_data 4 plain-goal goals in rw
 pub cert-shallow : (goals : List GoalOf) → depth (cert_data goals) ≤ max_depth
 cert-shallow goals = let items = plain-items goal_data 4 plain-goal goals in omega (arith, items.shallow)
 
-pub ruleset parts_back = (number-back, at_most-back, among-back, value-back, bag-back, numbers-back, locales-back, id_goal-back, attr_goal-back, cert-back)
+pub ruleset choices_back = (numbers-back, locales-back)

@@ -22,6 +22,7 @@ mod cert;
 mod cert_fault;
 mod members;
 mod node;
+mod object;
 mod progress;
 mod read;
 mod read_nodes;

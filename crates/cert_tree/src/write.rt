@@ -12,21 +12,21 @@ ghost use Rattle.cert_tree.specs.ReadsBack.{NumberReadsBack, IdReadsBack, Choice
 
 use crate::cert::{Cert, CertGoal};
 use crate::node::Node;
+use crate::object::{object_of_one, object_of_three, object_of_two};
 use crate::texts::{id_value, locale_value};
 use config_box::{Choice, Locale, Test};
 use res_value::{Goal, ResId};
-use serde_json::{Value, json};
+use serde_json::Value;
 use std::alloc::{AllocError, Global};
 
 /// The value that a certificate is written as.
-#[tactic(auto, using(crate::proofs::ReadsBackLemmas::parts_back))]
 pub(crate) fn cert_value(alloc: Global, cert: &Cert) -> Result<Value, AllocError>
     ensures data { IfOk result (λ value. view value ≡ cert_data (goals_of cert.now)) }
     ensures reads_back { IfOk result (λ _. CertFits (goals_of cert.now) → goals_in_value (cert_data (goals_of cert.now)) ≡ Ok (goals_of cert.now)) }
 {
     let goals = Value::Array(goal_values(alloc, cert.goals.as_slice())?);
-    let version = version_of(cert.goals.as_slice());
-    json!(in alloc; {"goals": goals, "version": version})
+    let version = Value::from(version_of(cert.goals.as_slice()));
+    object_of_two(alloc, ("goals", goals), ("version", version))
 }
 
 /// The version that can say these goals.
@@ -61,7 +61,6 @@ fn goal_values(alloc: Global, goals: &[CertGoal]) -> Result<Vec<Value>, AllocErr
     Ok(values)
 }
 
-#[tactic(auto, using(crate::proofs::ReadsBackLemmas::parts_back))]
 fn goal_value(alloc: Global, goal: &CertGoal) -> Result<Value, AllocError>
     ensures data { IfOk result (λ value. view value ≡ goal_data (goal_of goal.now)) }
     ensures reads_back { IfOk result (λ _. GoalReadsBack (goal_of goal.now)) }
@@ -70,12 +69,12 @@ fn goal_value(alloc: Global, goal: &CertGoal) -> Result<Value, AllocError>
     match &goal.goal {
         Goal::Id(id) => {
             let id = id_value(alloc, *id)?;
-            json!(in alloc; {"id": id, "nodes": nodes})
+            object_of_two(alloc, ("id", id), ("nodes", nodes))
         }
         Goal::Attr { attr, styles } => {
             let attr = id_value(alloc, *attr)?;
             let styles = Value::Array(id_values(alloc, styles.as_slice())?);
-            json!(in alloc; {"attr": attr, "nodes": nodes, "styles": styles})
+            object_of_three(alloc, ("attr", attr), ("nodes", nodes), ("styles", styles))
         }
     }
 }
@@ -106,7 +105,6 @@ fn node_values(alloc: Global, nodes: &[Node]) -> Result<Vec<Value>, AllocError>
     Ok(values)
 }
 
-#[tactic(auto, using(crate::proofs::ReadsBackLemmas::parts_back))]
 fn node_value(alloc: Global, node: &Node) -> Result<Value, AllocError>
     ensures data { IfOk result (λ value. view value ≡ node_data (node_of node.now)) }
     ensures reads_back { IfOk result (λ _. NodeReadsBack (node_of node.now)) }
@@ -115,34 +113,35 @@ fn node_value(alloc: Global, node: &Node) -> Result<Value, AllocError>
         Node::Test(test) => test_value(alloc, test),
         Node::Value { layer, value } => {
             let (layer, kind, word) = (*layer, value.kind, value.word);
-            json!(in alloc; {"kind": kind, "layer": layer, "word": word})
+            let kind = ("kind", Value::from(kind));
+            let layer = ("layer", Value::from(layer));
+            object_of_three(alloc, kind, layer, ("word", Value::from(word)))
         }
         Node::Bag { id } => {
             let id = id_value(alloc, *id)?;
-            json!(in alloc; {"bag": id})
+            object_of_one(alloc, ("bag", id))
         }
     }
 }
 
-#[tactic(auto, using(crate::proofs::ReadsBackLemmas::parts_back))]
 fn test_value(alloc: Global, test: &Test) -> Result<Value, AllocError>
     ensures data { IfOk result (λ value. view value ≡ test_data (test_of test.now)) }
     ensures reads_back { IfOk result (λ _. NodeReadsBack (TestAt (test_of test.now))) }
 {
     match test {
         Test::AtMost(coord, most) => {
-            let (coord, most) = (coord.name(), *most);
-            json!(in alloc; {"atMost": most, "coord": coord})
+            let coord = Value::try_from_str(alloc, coord.name())?;
+            object_of_two(alloc, ("atMost", Value::from(*most)), ("coord", coord))
         }
         Test::Among(coord, choice) => {
-            let coord = coord.name();
+            let coord = Value::try_from_str(alloc, coord.name())?;
             let listed = Value::Array(choice_values(alloc, choice)?);
-            json!(in alloc; {"coord": coord, "in": listed})
+            object_of_two(alloc, ("coord", coord), ("in", listed))
         }
     }
 }
 
-#[tactic(auto, using(crate::proofs::ReadsBackLemmas::parts_back))]
+#[tactic(auto, using(crate::proofs::ReadsBackLemmas::choices_back))]
 fn choice_values(alloc: Global, choice: &Choice) -> Result<Vec<Value>, AllocError>
     ensures data { IfOk result (λ values. map view values.items ≡ choice_items (choice_of choice.now)) }
     ensures reads_back { IfOk result (λ _. ChoiceReadsBack (choice_of choice.now)) }
@@ -153,7 +152,7 @@ fn choice_values(alloc: Global, choice: &Choice) -> Result<Vec<Value>, AllocErro
     }
 }
 
-#[tactic(auto, using(crate::proofs::WrittenSteps::written_steps, crate::proofs::ReadsBackLemmas::parts_back))]
+#[tactic(auto, using(crate::proofs::WrittenSteps::written_steps))]
 fn number_values(alloc: Global, numbers: &[u32]) -> Result<Vec<Value>, AllocError>
     ensures data { IfOk result (λ values. map view values.items ≡ map number_data numbers.now) }
     ensures reads_back { IfOk result (λ _. All NumberReadsBack numbers.now) }

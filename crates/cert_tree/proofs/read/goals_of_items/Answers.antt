@@ -4,7 +4,7 @@ use Rattle.serde_json.specs.View.{view}
 use Rattle.cert_tree.specs.declared.cert.CertGoal.{CertGoal}
 use Rattle.cert_tree.specs.Certificate.{goal_of, node_count}
 use Rattle.cert_tree.specs.CertJson.{goal_after}
-use Rattle.cert_tree.proofs.ReadOnSteps.{ReadOnAllBut, ReadOnAllBut-next_seen, ReadOnAllBut-stops_seen}
+use Rattle.cert_tree.proofs.ReadOnSteps.{ReadOnAllBut, ReadOnAllBut-next_seen, ReadOnAllBut-stops_seen, ReadOnAllBut-end_seen}
 use Rattle.cert_tree.proofs.ReadSteps.{goal_after-is, count-next}
 use Rattle.cert_tree.proofs.read.goals_of_items.Goals as goal
 
@@ -25,3 +25,6 @@ loop-item-preserved c =
       count = omega (arith, more);
       few = omega (arith, c.in_ok-goal.ensures.few);
     }
+
+pub returns : goal.returns
+returns c = ReadOnAllBut-end_seen (goal_after c.args.attributes) view goal_of c.loop-item.goals.items c.loop-item.item-index c.args.items.now c.loop-item.invariant.read c.loop-item-test.false

@@ -1,7 +1,8 @@
-use Rattle.std.proofs.Common.{sym, ap, ◌∙◌}
+use Rattle.std.proofs.Common.{◌+◌, List, map, sym, ap, subst, ◌∙◌}
 use Rattle.std.proofs.lemmas.Result.{err_from_is_err_and}
 use Rattle.serde_json.specs.View.{view}
-use Rattle.json_input.proofs.EachSteps.{EachAllBut-stops_item}
+use Rattle.json_input.proofs.EachSteps.{EachAllBut, EachAllBut-next_item, EachAllBut-stops_item, EachAllBut-end_item}
+use Rattle.res_value.specs.declared.res_id.ResId.{ResId}
 use Rattle.cert_tree.specs.CertJson.{id_item}
 use Rattle.cert_tree.proofs.read.id_items.Goals as goal
 
@@ -10,3 +11,12 @@ returns-in_err-id c =
     let p = err_from_is_err_and c.from_residual-in_err-id.result c.from_residual-in_err-id.ensures.1 in
     let is = ap (λ v. id_item c.args.shape (view v)) (sym c.item-item.is) ∙ sym c.id_item.ensures ∙ c.in_err-id.was in
     rw (p.1, p.2) (λ other. EachAllBut-stops_item (id_item c.args.shape) view _ _ c.args.items.now _ _ c.loop-item.invariant c.loop-item-test.true is)
+
+pub loop-item-preserved : goal.loop-item-preserved
+loop-item-preserved c =
+    let is = ap (λ v. id_item c.args.shape (view v)) (sym c.item-item.is) ∙ sym c.id_item.ensures ∙ c.in_ok-id.was in
+    subst (λ (xs : List ResId). EachAllBut (id_item c.args.shape) xs (c.loop-item.item-index + 1) (map view c.args.items.now)) (sym c.in_ok-push.ensures.items)
+    (EachAllBut-next_item (id_item c.args.shape) view c.loop-item.ids.items c.loop-item.item-index c.args.items.now _ c.in_ok-id.id c.loop-item.invariant c.loop-item-test.true is)
+
+pub returns : goal.returns
+returns c = EachAllBut-end_item (id_item c.args.shape) view c.loop-item.ids.items c.loop-item.item-index c.args.items.now c.loop-item.invariant c.loop-item-test.false

@@ -5,7 +5,7 @@ use Rattle.serde_json.specs.View.{view}
 use Rattle.cert_tree.specs.declared.node.Node.{Node}
 use Rattle.cert_tree.specs.Certificate.{node_of}
 use Rattle.cert_tree.specs.CertJson.{node_after}
-use Rattle.cert_tree.proofs.ReadOnSteps.{ReadOnAllBut, ReadOnAllBut-next_seen, ReadOnAllBut-stops_seen}
+use Rattle.cert_tree.proofs.ReadOnSteps.{ReadOnAllBut, ReadOnAllBut-next_seen, ReadOnAllBut-stops_seen, ReadOnAllBut-end_seen}
 use Rattle.cert_tree.proofs.ReadSteps.{node_after-is}
 use Rattle.cert_tree.proofs.read_nodes.nodes_in.Goals as goal
 
@@ -23,3 +23,6 @@ loop-item-preserved c = record {
       (node_after-is c.args.goal c.loop-item.nodes.items _ _ _ _ c.in_ok-node.ensures c.item-item.is (omega arith)));
   count = ap (λ (xs : List Node). length xs) c.in_ok-push.ensures.items ∙ length_push c.loop-item.nodes.items c.in_ok-node.node ∙ ap (λ n. n + 1) c.loop-item.invariant.count;
 }
+
+pub returns-clause-value : goal.returns-clause-value
+returns-clause-value c = ReadOnAllBut-end_seen (node_after c.args.goal) view node_of c.loop-item.nodes.items c.loop-item.item-index c.args.items.now c.loop-item.invariant.read c.loop-item-test.false
