@@ -1,6 +1,7 @@
 //! Rows, their bags and texts are lent from the bytes of the input: they outlive the table and the stack that
 //! gave them. So does what all members of a box have in common outlive the styles that were asked.
 
+use crate::small_tables::{bag_table, value_table};
 use box_trace::{CommonTrace, OpenBox};
 use config_box::ConfigBox;
 use overlay_map::Stack;
@@ -10,15 +11,13 @@ use resource_table::Table;
 use std::alloc::Global;
 use std::test::Fail;
 use string_pool::Text;
-use test_layers::{
-    LayerFault, layer_of_lines, layer_with_string, push_base, push_overlay, stack_of_base,
-};
+use test_layers::{LayerFault, push_base, push_overlay, stack_of_base};
 use type_chunks::Row;
 
 const FIRST: ResId = ResId(0x7f01_0000);
 
-/// An overlay's entry 1 stands for entry 0.
-const MAP: &[u8] = br#"[["0x7f010000","0x7f010001"]]"#;
+/// A resource of another type of an overlay stands for the first of the base.
+const MAP: &[u8] = br#"[["0x7f010000","0x7f020000"]]"#;
 
 // The first row of a table, the rows of its bag, and the table's first string. The table is gone then.
 fn parts_of(alloc: Global, bytes: &[u8]) -> Option<(Row<'_>, MapRows<'_>, Text<'_>)> {
@@ -43,8 +42,7 @@ fn are_rows(rows: MapRows<'_>, want: &[(u32, u32)]) -> bool {
 }
 
 fn reads_what_a_table_lent(alloc: Global) -> Option<bool> {
-    let line = "0 [sdk=21] bag 0x7f010003 0x01010001=7 0x01010002=8";
-    let bytes = layer_with_string(alloc, b'z', line).ok()?;
+    let bytes = bag_table(alloc).ok()?;
     let (row, rows, text) = parts_of(alloc, &bytes)?;
     let is_first = row.id == FIRST && row.config.get(config_record::Coord::Sdk) == 21;
     let has_rows = are_rows(rows, &[(0x0101_0001, 7), (0x0101_0002, 8)]);
@@ -83,10 +81,10 @@ fn have_words(rows: &[Row<'_>], want: &[u32]) -> bool {
 }
 
 fn keeps_rows_of_two_inputs(alloc: Global) -> Option<bool> {
-    let base = layer_of_lines(alloc, "0 [locale=fr] 1\n1 [] 9\n0 [] 2").ok()?;
-    let overlay = layer_of_lines(alloc, "0 [] 8\n1 [night=2] 3").ok()?;
+    let base = value_table(alloc, 1, 5).ok()?;
+    let overlay = value_table(alloc, 2, 6).ok()?;
     let rows = rows_of(alloc, &base, &overlay)?;
-    Some(have_words(&rows, &[1, 2, 3]))
+    Some(have_words(&rows, &[5, 6]))
 }
 
 #[test]
@@ -111,9 +109,9 @@ fn common<'a>(
 #[test]
 fn a_common_trace_stays_after_its_styles(rt: HostRuntime) -> Result<(), Fail> {
     let alloc = rt.alloc();
-    let table = layer_of_lines(alloc, "0 [] bag 0x00000000 0x01010001=7")?;
+    let table = bag_table(alloc)?;
     let stack = stack_of_base(alloc, &table).ok_or(LayerFault::Malformed)?;
-    let members = ConfigBox::read(alloc, br#"{"density":[160]}"#)?;
+    let members = ConfigBox::read(alloc, br#"{"density":[160],"sdk":[21]}"#)?;
     let value = Value {
         kind: kind::INT_DEC,
         word: 7,

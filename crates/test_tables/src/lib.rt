@@ -9,4 +9,6 @@ pub mod handed_on;
 #[cfg(test)]
 mod lent;
 #[cfg(test)]
+mod small_tables;
+#[cfg(test)]
 mod styles;
