@@ -1,9 +1,11 @@
 //! How a value is shown.
 
-ghost use Rattle.std.specs.Prelude.{◌++◌, codes, OnOk};
+ghost use Rattle.std.specs.Prelude.{◌∷◌, ◌++◌, [], codes, OnOk};
 ghost use Rattle.std.specs.Fmt.{decimal, signed_decimal};
+ghost use Rattle.hex.specs.Hex.{encode_lower};
 ghost use Rattle.contract_words.specs.Writes.{Writes};
 ghost use Rattle.res_value.specs.Complex.{signed_number};
+ghost use Rattle.res_value.specs.Word.{eight_digits};
 ghost use Rattle.res_value.specs.ValueText.{value_text, null_text, boolean_text};
 
 use crate::complex::{DIMENSION_UNITS, FRACTION_UNITS, write_complex};
@@ -36,12 +38,16 @@ pub fn write_value<W: Write + Drop>(value: Value, out: &mut W) -> io::Result<()>
         kind::INT_COLOR_RGB8 => write_digits("rgb8 #", word, out),
         kind::INT_COLOR_ARGB4 => write_digits("argb4 #", word, out),
         kind::INT_COLOR_RGB4 => write_digits("rgb4 #", word, out),
-        other => {
-            write!(out, "kind 0x")?;
-            write_hex(&[other], out)?;
-            write_digits(" 0x", word, out)
-        }
+        other => write_unknown(other, word, out),
     }
+}
+
+fn write_unknown<W: Write + Drop>(kind: u8, word: u32, out: &mut W) -> io::Result<()>
+    ensures { Writes W.contents out.old out.new result (codes "kind 0x" ++ encode_lower (kind ∷ []) ++ codes " 0x" ++ eight_digits word) }
+{
+    out.write_all(b"kind 0x")?;
+    write_hex(&[kind], out)?;
+    write_digits(" 0x", word, out)
 }
 
 fn write_string_index<W: Write + Drop>(word: u32, out: &mut W) -> io::Result<()>
@@ -63,8 +69,8 @@ fn write_null<W: Write + Drop>(word: u32, out: &mut W) -> io::Result<()>
     ensures { Writes W.contents out.old out.new result (null_text word) }
 {
     match word {
-        kind::NULL_UNDEFINED => write!(out, "null"),
-        kind::NULL_EMPTY => write!(out, "empty"),
+        kind::NULL_UNDEFINED => out.write_all(b"null"),
+        kind::NULL_EMPTY => out.write_all(b"empty"),
         _ => write_digits("null 0x", word, out),
     }
 }
@@ -74,7 +80,7 @@ fn write_boolean<W: Write + Drop>(word: u32, out: &mut W) -> io::Result<()>
     ensures { Writes W.contents out.old out.new result (boolean_text word) }
 {
     match word {
-        0 => write!(out, "false"),
-        _ => write!(out, "true"),
+        0 => out.write_all(b"false"),
+        _ => out.write_all(b"true"),
     }
 }
