@@ -1,8 +1,9 @@
 //! Locales, read from texts and written as texts.
 
-ghost use Rattle.std.specs.Prelude.{◌≡◌, ◌≢◌, ℕ, ◌<◌, ◌≤◌, ◌+◌, ◌==◌, List, Ok, position, OnOk, IfOk, IfErr};
+ghost use Rattle.std.specs.Prelude.{◌≡◌, ◌≢◌, ℕ, ◌<◌, ◌≤◌, ◌+◌, ◌==◌, ◌++◌, List, Ok, codes, position, OnOk, IfOk, IfErr};
+ghost use Rattle.hex.specs.Hex.{encode_lower};
 ghost use Rattle.contract_words.specs.Writes.{Writes};
-ghost use Rattle.config_record.specs.Locale.{dash, is_small_letter, is_capital_letter, is_digit, packed, language_of, region_of, without_region, with_region, locale_of, symbol_bytes, unpacked, is_spelled, checked_locale, IsGiven, locale_text};
+ghost use Rattle.config_record.specs.Locale.{dash, is_small_letter, is_capital_letter, is_digit, packed, language_of, region_of, without_region, with_region, locale_of, symbol_bytes, unpacked, is_spelled, checked_locale, IsGiven, language_text, region_text, locale_text};
 ghost use Rattle.config_record.specs.ComparedNumber.{locale_number, locale_of_number};
 
 use crate::zero::is_zero;
@@ -246,18 +247,37 @@ pub fn write_locale<W: Write + Drop>(locale: Locale, out: &mut W) -> io::Result<
     ensures { Writes W.contents out.old out.new result (locale_text locale) }
 {
     if !is_spelled(locale) {
-        out.write_all(b"x")?;
-        write_hex(&locale.language, out)?;
-        return write_hex(&locale.region, out);
+        return write_bytes(locale, out);
     }
-    if !is_zero(&locale.language) {
-        out.write_all(unpacked(b'a', locale.language).as_slice())?;
+    write_language(locale.language, out)?;
+    write_region(locale.region, out)
+}
+
+fn write_bytes<W: Write + Drop>(locale: Locale, out: &mut W) -> io::Result<()>
+    ensures { Writes W.contents out.old out.new result (codes "x" ++ encode_lower locale.language ++ encode_lower locale.region) }
+{
+    out.write_all(b"x")?;
+    write_hex(&locale.language, out)?;
+    write_hex(&locale.region, out)
+}
+
+fn write_language<W: Write + Drop>(language: [u8; 2], out: &mut W) -> io::Result<()>
+    ensures { Writes W.contents out.old out.new result (language_text language) }
+{
+    if is_zero(&language) {
+        return Ok(());
     }
-    if !is_zero(&locale.region) {
-        out.write_all(b"-")?;
-        out.write_all(unpacked(b'0', locale.region).as_slice())?;
+    out.write_all(unpacked(b'a', language).as_slice())
+}
+
+fn write_region<W: Write + Drop>(region: [u8; 2], out: &mut W) -> io::Result<()>
+    ensures { Writes W.contents out.old out.new result (region_text region) }
+{
+    if is_zero(&region) {
+        return Ok(());
     }
-    Ok(())
+    out.write_all(b"-")?;
+    out.write_all(unpacked(b'0', region).as_slice())
 }
 
 fn is_spelled(locale: Locale) -> bool
