@@ -1,8 +1,17 @@
-use Rattle.std.proofs.Common.{rules, ◌≡◌, true, refl, sym, ap, ◌∙◌, arith, List, length}
+use Rattle.std.proofs.Common.{rules, ◌≡◌, true, false, refl, sym, ap, ◌∙◌, arith, List, length}
 use Rattle.config_precedence.specs.config_record.declared.coord.Coord.{Coord}
 use Rattle.box_answers.proofs.Coords.{all_coords-count}
-use Rattle.box_answers.proofs.Sides.{Approaches-next, Approaches-end}
+use Rattle.box_answers.proofs.Sides.{Approaches-next, Approaches-end, turns}
 use Rattle.box_answers.proofs.neighbours.neighbours_among.Goals as goal
+
+pub loop-coord-init : goal.loop-coord-init
+loop-coord-init c = record { member = c.requires.yes.member; yes_answer = c.requires.yes.answers; alike = λ k q. absurd (omega (arith, q)) }
+
+pub nearest-requires-clause-parts : goal.nearest-requires-clause-parts
+nearest-requires-clause-parts c =
+    let answer : c.answered.result ≡ false = search rules in
+    turns _ _ _ _ _ c.loop-coord.coord-index _ c.loop-coord.invariant c.requires.no.member
+    (c.changed-next.ensures.same ∙ c.compared_number.ensures.value) c.changed-next.ensures.others (sym c.answered.ensures ∙ answer)
 
 pub loop-coord-preserved : goal.loop-coord-preserved
 loop-coord-preserved c =
