@@ -4,28 +4,33 @@ Many are those of the files of worked cases (tests/worked_*.py)."""
 import os
 import subprocess
 import sys
+from itertools import islice
 
 import runs
 from runs import HERE, Run, write_files
 
 sys.path.append(os.path.join(HERE, "tests"))
 from plain_bags import Bag
-from small_tables import TABLE_A, TABLE_B, changed, lines_of_chain, table_of_lines
-from worked_boxes import JOINED, changed_on
+from small_tables import TABLE_A, TABLE_B, changed
+import worked_rows
+from worked_boxes import of_joined
+from worked_calls import CHAIN, LONG
 from worked_certificates import (
     CHECKED, FRENCH_AND_GERMAN, GOAL_LISTS, MEDIUM_AND_HIGH, PARTED, STYLED, STYLES, at_most, certificate_of, checked, rejected,
     tree, tree_under, value,
 )
 from worked_made import NODE_LIMIT, ONE_LEAF, counter, made, of_names, of_omitted, written
-from worked_reports import SURVEYS, of_certificates, surveyed
+from worked_reports import of_certificates, of_surveys, surveyed
 from worked_rows import (
-    A, B, BAGS, CHANGES, FAULTS, FIRST, ID, MEDIUM_BOX, OVERLAID, ROWS, SAME, SECOND, THEMES, TO_198, Case, bytes_of,
+    A, B, BAGS, FAULTS, FIRST, ID, MEDIUM_BOX, OVERLAID, ROWS, SAME, SECOND, TO_198, Case, bytes_of,
     compared, files_of, lines, named_table, of_maps, of_refused_inputs, of_table, over, refused,
 )
 
 QUERY = f"query layers device {ID}"
 MOST_BYTES = 10_000
 """So many bytes that are read quickly."""
+MOST_THEMES, MOST_CHANGES = 7, 8
+"""How many cases of each are tried."""
 MANY = 30
 """So many names, ids or rows that they fill more than a node of a tree, and that sorting them takes memory."""
 LARGE = 1_500_000
@@ -58,8 +63,7 @@ def shared_bags():
 def of_tables():
     whole = runs.bytes_of("crates/restool/stdin")
     yield Case("rows table", "rows 0 set-aside 0\n", table=whole + bytes(LARGE - len(whole)))
-    for table, out in ROWS:
-        yield of_table(table, "rows", out)
+    yield from islice(worked_rows.of_tables(), len(ROWS))
     yield of_table("0 [] 5", "dump", f'package 0x7f ""\n  {ID} !NoSuch/!NoSuch flags 0x00000000 [] decimal 5\n')
     for table, pieces, fault in FAULTS[:4]:
         yield from refused(changed(table, *pieces), fault)
@@ -79,10 +83,7 @@ def of_reports():
     astray = f'unmapped {SECOND} "s"/"m"\nastray {ID} "s"/"k" to {SECOND} "s"/"m"\n'
     overlay = named_table({"s/k": Bag(0, [(0x01010001, "@s/m")]), "s/m": 5})
     yield Case("map target overlay", f'[["{ID}","{ID}"]]\n', astray, 1, target=TABLE_B, overlay=overlay)
-    for base, own, box, told in SURVEYS:
-        words = "survey layers box" if box else "survey layers"
-        status = any(line.startswith("warning") for line in told)
-        yield Case(words, lines(told), "", status, **files_of([base, (own, [])]), box=box)
+    yield from of_surveys()
     yield surveyed(CUT, [], "Chunk Oversize 0")
     yield from of_certificates()
     for certificate, told in map(deep_tree, (True, False)):
@@ -149,19 +150,9 @@ def of_devices():
     for base, overlay, locale, layer, word in OVERLAID[:2]:
         device = {"density": 160, "locale": locale}
         yield over([base, (overlay, SAME)], QUERY, f"{ID} value layer {layer} decimal {word}\nset-aside 0\n", device=device)
-    for rows, told in BAGS:
-        status = told[:1] != [] and told[0].startswith("no bag")
-        yield over([rows], f"bag layers device {ID}", lines(told), status=status)
-    long = 12
-    bags = [row.replace("\n", f" 0x0101{entry:04x}={entry}\n") for entry, row in
-            enumerate(lines_of_chain(long - 1, "bag ").splitlines(True))]
-    told = [f"0x0101{entry:04x} layer 0 decimal {entry}" for entry in range(long)]
-    last = f"{long - 1} [] bag 0x00000000 0x0101{long - 1:04x}={long - 1}"
-    yield over(["".join(bags) + last], f"bag layers device {ID}", lines(told))
-    for rows, words, told in THEMES[:6]:
-        keep = words.startswith("--keep ")
-        words = f"attr {'--keep ' * keep}layers device {words.removeprefix('--keep ')}"
-        yield over([rows], words, f"{told}\n", status="absent" in told)
+    told = [f"0x0101{entry:04x} layer 0 decimal {entry}" for entry in range(LONG)]
+    yield over([CHAIN], f"bag layers device {ID}", lines(told))
+    yield from islice(worked_rows.of_bags(), len(BAGS) + MOST_THEMES)
 
 
 def firsts(cases):
@@ -192,9 +183,8 @@ def of_made():
 
 
 def of_changes():
-    for old, new, box, out in CHANGES[:6]:
-        yield compared([old], [new], out, int("changed" in out or "added" in out), box)
-    yield from (changed_on(devices, old, new, box) for old, new, box, devices in JOINED[2:9])
+    yield from islice(worked_rows.of_changes(), MOST_CHANGES)
+    yield from islice(of_joined(), MOST_CHANGES)
     yield from of_changes_by_locale()
     named = [named_table({"s/k": cell}) for cell in (1, "?s/k")]
     yield compared([named[0]], [named[1]], "changed s/k decimal 1 -> ?s/k\nsame 0\n")

@@ -190,10 +190,10 @@ def certificate_rows():
 # ---- commands over bytes and a writer; after a fault the number of writes is told
 
 
-def command(name, table, of, *answer, more="", goals=ONE_LEAF):
-    """A command that is asked of a device, a box or another table, and, where it is asked of goals, of those of a
-    certificate."""
-    return row("commands", name, [bytes_of_table(table), of, goals, more], *answer)
+def command(name, table, of, *answer, more="", goals=ONE_LEAF, most=""):
+    """A command that is asked of a device, a box or another table; of a certificate or the box of two tables; of the goals of a
+    certificate; and of so many nodes at most, ten where it is not said."""
+    return row("commands", name, [bytes_of_table(table), of, goals, more, most], *answer)
 
 
 def device_rows():
@@ -234,7 +234,7 @@ def unasked_rows():
     for table, aside in ((NO_ROWS, 0), (script, 1)):
         accepted = "accepted goals 0 nodes 0", f"set-aside {aside}", DONE
         yield command("check_bytes", table, MEDIUM_BOX, *accepted, more=NO_GOALS, goals=NO_GOALS)
-        yield command("make_bytes", table, MEDIUM_BOX, NO_GOALS, DONE, more="0", goals=NO_GOALS)
+        yield command("make_bytes", table, MEDIUM_BOX, NO_GOALS, DONE, goals=NO_GOALS, most="0")
     unstyled = certificate(UNSTYLED % LEAF, version=2)
     told = "rejected goal 0 node 0 N7 NoValue", "device density=120", "end absent 0x01010001", "set-aside 0", NEGATIVE
     yield command("check_bytes", TWO_STYLES, TO_198, *told, more=unstyled, goals=unstyled)
@@ -254,6 +254,9 @@ def change_rows():
         (TABLE_B, TABLE_A, NO_BOX, ("(Box(Density), 0)",)),
     ):
         yield command("diff_bytes", old, bytes_of_table(new), *answer, more=box)
+    # Words ask for a node at least, which is enough for what is the same.
+    for most, answer in (("0", ("node limit", NEGATIVE)), ("1", ("same 1", DONE))):
+        yield command("diff_bytes", DENSITIES, table_of_lines(DENSITIES), *answer, more=TO_198, most=most)
 
 
 def rows():
@@ -279,6 +282,8 @@ WITHOUT_MEMORY = [
     row("inputs", "Stack::push_overlay", [TABLE_A], "(TooManyLayers, 64, true)", f"Some({FIRST})"),
     row("inputs", "Table::find", [TABLE_B], f"(Some({FIRST}), None)"),
     row("inputs", "Chunks::new", [NO_ROWS + TABLE_A], "2", "2"),
+    row("inputs", "Device::check", [], "Some(FieldRange(LayoutDirection))"),
+    row("inputs", "Goal::attr", [], f"Some(Attr {{ attr: {A}, styles: [{FIRST}] }})"),
 ]
 """Calls that take no memory: of one value, of a box that no candidate matches, of a table that is refused at once, over as many
-layers as there can be, and of names and chunks."""
+layers as there can be, of names and chunks, and of parts."""

@@ -1,8 +1,9 @@
-//! Calls over the bytes of tables and of certificates, and over layers that tables are put into.
+//! Calls over the bytes of tables and of certificates, over layers that tables are put into, and of parts.
 
 mod certificates;
 mod full;
 mod pairs;
+mod parts;
 mod tables;
 
 use crate::marked::word;
@@ -15,6 +16,8 @@ pub fn call(rt: &HostRuntime, words: &[String]) -> Result<(), Fail> {
         "Chunks::new" => tables::chunks(rt, given),
         "Table::find" => tables::names(rt, given),
         "Cert::write" => certificates::written(rt, given),
+        "Device::check" => parts::device(rt),
+        "Goal::attr" => parts::goal(rt),
         "Stack::push_base" => full::base(rt, given),
         "Stack::push_overlay" => full::overlay(rt, given),
         _ => pairs::told(rt, given, word(words, 2)),

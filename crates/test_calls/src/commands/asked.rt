@@ -22,8 +22,8 @@ const STYLES: [ResId; 2] = [FIRST, ResId(0x7f01_0001)];
 
 const ATTR: ResId = ResId(0x0101_0001);
 
-/// A command, its table, what it is asked of this (a device, a box or another table), a certificate whose goals are asked, and
-/// a certificate, the box of two tables, or how many nodes are made at most.
+/// A command, its table, what it is asked of this (a device, a box or another table), a certificate whose goals are asked, a
+/// certificate or the box of two tables, and how many nodes are made at most.
 #[derive(Drop)]
 pub struct Asked<'w> {
     name: &'w str,
@@ -44,7 +44,7 @@ impl<'w> Asked<'w> {
             of: bytes_of(alloc, word(words, 2))?,
             goals: trees.into_iter().map(|tree| tree.goal).collect(alloc)?,
             more: word(words, 4).as_bytes(),
-            most_nodes: word(words, 4).parse::<u32>().unwrap_or(MOST_NODES),
+            most_nodes: word(words, 5).parse::<u32>().unwrap_or(MOST_NODES),
         })
     }
 
