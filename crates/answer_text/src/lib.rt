@@ -34,11 +34,14 @@ mod on_line;
 mod query;
 mod rows;
 
-pub use bags_themes;
-pub use bags_themes::reference_resolver::{
-    Cell, Device, End, MapRows, Pool, ResId, Row, Stack, Table, Value, kind, overlay_map,
-    write_hex, write_id, write_string, write_value,
+pub use bags_themes::reference_resolver::overlay_map::{
+    DeviceFault, IdMap, MOST_LAYERS, MapFault, PoolFault, StackFault, TableFault,
 };
+pub use bags_themes::reference_resolver::{
+    Cell, Device, End, MapRows, Pool, ResId, Row, Stack, Table, Value, kind, write_hex, write_id,
+    write_string, write_value,
+};
+pub use bags_themes::{BagFault, BagRow, Theme, bag, resolve};
 pub use dump::dump_text;
 pub use end::{end_text, write_end_line, write_end_with_name, write_end_with_string};
 pub use explanation::explain;

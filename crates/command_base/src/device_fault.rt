@@ -3,8 +3,7 @@
 ghost use Rattle.answer_text.specs.contract_words.Writes.{Writes};
 ghost use Rattle.command_base.specs.DeviceFaultText.{device_fault_text};
 
-use answer_text::overlay_map::DeviceFault;
-use answer_text::write_named_coord;
+use answer_text::{DeviceFault, write_named_coord};
 use std::io::{self, Write};
 
 /// Writes the name of a device's fault, and the coordinate that has it.

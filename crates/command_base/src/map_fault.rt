@@ -3,8 +3,7 @@
 ghost use Rattle.answer_text.specs.contract_words.Writes.{Writes};
 ghost use Rattle.command_base.specs.MapFaultText.{map_fault_text};
 
-use answer_text::overlay_map::MapFault;
-use answer_text::write_named_id;
+use answer_text::{MapFault, write_named_id};
 use std::io::{self, Write};
 
 /// Writes the name of a fault of an id map, and the id that has it.

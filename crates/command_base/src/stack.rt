@@ -15,7 +15,7 @@ use crate::fault::ToolFault;
 use crate::layer_parts::LayerParts;
 use crate::layers_fault::LayersFault;
 use crate::side::Side;
-use answer_text::overlay_map::{IdMap, MOST_LAYERS, MapFault, Stack, Table, TableFault};
+use answer_text::{IdMap, MOST_LAYERS, MapFault, Stack, Table, TableFault};
 use std::alloc::Global;
 
 /// The stack of layers of which each is the bytes of a table and, at an overlay, those of an id map. More

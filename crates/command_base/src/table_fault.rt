@@ -4,8 +4,7 @@ ghost use Rattle.std.specs.Prelude.{◌≡◌};
 ghost use Rattle.answer_text.specs.contract_words.Writes.{Writes};
 ghost use Rattle.command_base.specs.TableFaultText.{inner_chunk_fault_text, chunk_fault_text, pool_fault_name, pool_fault_text, table_fault_text};
 
-use answer_text::overlay_map::{PoolFault, TableFault};
-use answer_text::write_named_number;
+use answer_text::{PoolFault, TableFault, write_named_number};
 use cert_tree::ChunkFault;
 use std::io::{self, Write};
 

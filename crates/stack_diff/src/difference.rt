@@ -11,8 +11,7 @@ ghost use Rattle.stack_diff.specs.DifferenceSeen.{row_difference_of, difference_
 use crate::content::{Content, RowContent, RowKey, ValueContent};
 use crate::device_content::{content_at, content_of_end};
 use crate::read_alike::is_same_label;
-use answer_text::bags_themes::End;
-use answer_text::{Device, ResId};
+use answer_text::{Device, End, ResId};
 use names::NamedStack;
 use std::alloc::{AllocError, Global};
 use std::cmp::Ordering;

@@ -47,8 +47,7 @@ mod tree;
 mod value_content;
 mod value_text;
 
-pub use answer_text::bags_themes::End;
-pub use answer_text::{Device, ResId, Stack};
+pub use answer_text::{Device, End, ResId, Stack};
 pub use cert_maker::ConfigBox;
 pub use change::{Change, Compared};
 pub use comparison::compare;

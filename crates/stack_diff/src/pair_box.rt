@@ -11,7 +11,7 @@ ghost use Rattle.cert_maker.specs.Growth.{CanBeAsked};
 ghost use Rattle.stack_diff.specs.PairBox.{members_of, IsTraceOf, IsOpen, IsPairTrace, OpensHalves};
 
 use crate::pair::Pair;
-use answer_text::bags_themes::End;
+use answer_text::End;
 use cert_maker::{CommonTrace, ConfigBox, OpenBox, OutOfMemory, Parting, Split, Stack, Test};
 use std::alloc::Global;
 

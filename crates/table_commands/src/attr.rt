@@ -15,8 +15,9 @@ ghost use Rattle.command_base.specs.CarriesOut.{IsKept};
 use crate::end_status::status_of_end;
 use crate::no_bag::print_no_bag;
 use crate::opened::Opened;
-use command_base::answer_text::bags_themes::{End, Theme};
-use command_base::answer_text::{ResId, Stack, write_end_with_name, write_id, write_name_beside};
+use command_base::answer_text::{
+    End, ResId, Stack, Theme, write_end_with_name, write_id, write_name_beside,
+};
 use command_base::{
     AskedFiles, Inputs, LayerParts, Named, Status, Stop, ToolFault, asked_sets, id_named, ids_named,
 };

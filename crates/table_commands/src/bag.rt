@@ -13,9 +13,8 @@ ghost use Rattle.command_base.specs.CarriesOut.{IsKept};
 
 use crate::no_bag::print_no_bag;
 use crate::opened::{OpenId, Opened};
-use command_base::answer_text::bags_themes::{BagRow, bag};
 use command_base::answer_text::{
-    ResId, Stack, write_id, write_layer, write_name_beside, write_value,
+    BagRow, ResId, Stack, bag, write_id, write_layer, write_name_beside, write_value,
 };
 use command_base::{DeviceFiles, Inputs, LayerParts, Named, Status, Stop, ToolFault};
 use std::alloc::Global;

@@ -7,7 +7,7 @@ ghost use Rattle.command_base.specs.declared.fault.ToolFault.TheVariants.{OutOfM
 ghost use Rattle.command_base.specs.Output.{Prints};
 ghost use Rattle.table_commands.specs.BagOutput.{no_bag, no_bag_line};
 
-use command_base::answer_text::bags_themes::BagFault;
+use command_base::answer_text::BagFault;
 use command_base::{Status, ToolFault};
 use std::io::{self, Write};
 

@@ -9,8 +9,7 @@ ghost use Rattle.command_base.specs.Stop.{GivesOrStops};
 ghost use Rattle.command_base.specs.names.Named.{named_of};
 ghost use Rattle.table_commands.specs.Opened.{opened_in, id_opened};
 
-use command_base::answer_text::ResId;
-use command_base::answer_text::bags_themes::{Device, Stack};
+use command_base::answer_text::{Device, ResId, Stack};
 use command_base::{LayerParts, Named, Stop, ToolFault, id_named, open_stack};
 use std::alloc::Global;
 

@@ -14,8 +14,7 @@ ghost use Rattle.command_base.specs.CarriesOut.{IsKept};
 
 use crate::end_status::is_unresolved;
 use crate::opened::Opened;
-use command_base::answer_text::bags_themes::{Device, Stack, resolve};
-use command_base::answer_text::{ResId, query_line, set_aside_line};
+use command_base::answer_text::{Device, ResId, Stack, query_line, resolve, set_aside_line};
 use command_base::{
     AskedFiles, Inputs, LayerParts, Status, Stop, ToolFault, asked_sets, ids_named,
 };
