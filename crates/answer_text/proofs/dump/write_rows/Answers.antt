@@ -1,0 +1,13 @@
+use Rattle.contract_words.proofs.TextSteps.{PutsAllBut-next, PutsAllBut-done}
+use Rattle.answer_text.proofs.dump.write_rows.Goals as goal
+
+pub loop-row-preserved : goal.loop-row-preserved
+loop-row-preserved g c = record {
+  can = tt;
+  ends = tt;
+  keeps = c.in_ok-write_in_one_piece.ensures.keeps;
+  texts = PutsAllBut-next _ _ _ _ _ _ _ _ c.loop-row.invariant.texts c.in-Some.ensures.steps c.in_ok-write_in_one_piece.ensures.text;
+}
+
+pub returns-clause-text : goal.returns-clause-text
+returns-clause-text g c = PutsAllBut-done _ _ _ _ _ c.loop-row.invariant.texts c.in-None.ensures.steps.0

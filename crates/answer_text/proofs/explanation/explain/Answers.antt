@@ -1,0 +1,14 @@
+use Rattle.std.proofs.Common.{subst}
+use Rattle.std.proofs.KnownBytes.{Appends-trans}
+use Rattle.std.specs.Io.KnownBytes.{Appends}
+use Rattle.bags_themes.specs.reference_resolver.declared.end.End.{End}
+use Rattle.answer_text.specs.EndText.{named_end_line}
+use Rattle.answer_text.specs.ExplainText.{explain_text}
+use Rattle.answer_text.proofs.explanation.explain.Goals as goal
+
+pub returns-clause-text : goal.returns-clause-text
+unfolding explain_text
+returns-clause-text g c =
+    let contents = g.W.Write.contents in
+    Appends-trans _ _ _ _ _ c.in_ok-end.ensures.text
+    (subst (λ (end : End). Appends (contents c.write_look_ups.new.out) (contents c.write_named_end_line.new.out) (named_end_line c.args.stack.now end c.args.names)) c.in_ok-end.ensures.end c.in_ok-write_named_end_line.ensures)
