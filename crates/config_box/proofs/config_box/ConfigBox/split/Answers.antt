@@ -5,6 +5,7 @@ use Rattle.box_answers.specs.MemberAnswers.{AllAnswer}
 use Rattle.box_answers.specs.config_record.declared.coord.Coord.{Coord}
 use Rattle.config_box.specs.Tests.{test_of, coord_of, answers, has_wrong_kind}
 use Rattle.config_box.specs.HalfSets.{IsAskable, NoneAnswers}
+use Rattle.config_box.specs.Halves.{KeepsAnswers}
 use Rattle.config_box.proofs.HalfSteps.{askable, all-answer_yes}
 use Rattle.config_box.proofs.config_box.ConfigBox.split.Goals as goal
 
@@ -30,4 +31,12 @@ returns-in_default-2-clause-halves c =
     subst (λ (b : List SetOf). (has_wrong_kind b test ≡ false) × (AllAnswer (IsMember b) (answers test) true ⊎ AllAnswer (IsMember b) (answers test) false)) whole (
       sym c.has_wrong_kind.ensures ∙ c.if-has_wrong_kind.false,
       inl (all-answer_yes sets test (subst (λ (s : SetOf). NoneAnswers s test false) at none)),
+    )
+
+pub returns-clause-answers : goal.returns-clause-answers
+returns-clause-answers c =
+    let whole : sets_of c.as_slice-sets.result.now ≡ c.args.self.now = ap sets_of c.as_slice-sets.ensures.value ∙ c.self.view_is in
+    subst (λ (b : List SetOf). KeepsAnswers b c.in_ok-yes-2.yes × KeepsAnswers b c.in_ok-no-2.no) whole (
+      λ asks answer all d member. all d ((c.in_ok-yes-2.ensures.members d).0 member).member,
+      λ asks answer all d member. all d ((c.in_ok-no-2.ensures.members d).0 member).member,
     )
