@@ -51,6 +51,8 @@ at_sizes '`make` of it with one row for the night beside the others' by-sdk-and-
 at_sizes '`survey`: two thirds of n resources are one bag of n rows' wide-bag '25000 50000 100000' new.arsc survey old
 at_sizes '`map` of it' wide-bag '25000 50000 100000' new.arsc map old.arsc new.arsc
 at_sizes '`map`: bags of 4,000 resources share n rows' heads '25000 50000 100000' new.arsc map old.arsc new.arsc
-at_sizes '`make`: a file of words that says `*` over and over, for 100 resources' stars '65536 131072 524288' words make old box @words
+at_sizes '`make`: a file of words that says `*` over and over, for 100 resources' stars '131072 262144 524288' words make old box @words
+"$program" make old box '*' >certificate || exit 1
+at_sizes '`check` of a certificate for one `*`, with the same file' stars '131072 262144 524288' words check old box certificate @words
 at_sizes '`make`: the same before a table that is refused' refused-stars '65536 131072 524288' words make old box @words
 at_sizes '`make`: a file of names before such a table' refused-names '65536 131072 262144' words make old box @words

@@ -1,4 +1,7 @@
 pub mod CheckSteps
+pub mod FirstOf
+pub mod FirstGoals
+pub mod FirstChecked
 pub mod MakeSteps
 pub mod OmitSteps
 pub mod Told

@@ -1,6 +1,6 @@
 -- What the words of `check` ask, from what the places have to the answer. First come the words of files, then the faults of
 -- inputs, and then the first name that is not there.
-use Rattle.std.specs.Prelude.{ℕ, Bool, List, map, Option, Result, Ok}
+use Rattle.std.specs.Prelude.{ℕ, ◌+◌, Bool, List, map, length, take, Option, Result, Ok}
 use Rattle.contract_words.specs.Faults.{◌>>=◌}
 use Rattle.contract_words.specs.Sequences.{joined_each}
 use Rattle.json_input.specs.Each.{each}
@@ -63,6 +63,14 @@ check_opened layers box_json certificate words = do
   opened ← read_or_stop (check_inputs layers box_json certificate)
   goals ← found_or_stop (goals_named opened.stack named)
   Ok (record { opened = opened; goals = goals })
+
+-- the first goals alone, at most one more than the certificate has trees
+abbrev pub with_first : OpenCheckOf → OpenCheckOf
+with_first check = record { opened = check.opened; goals = take (length check.opened.trees + 1) check.goals }
+
+-- what was opened, with the first goals alone
+abbrev pub first_opened : Result OpenCheckOf StopOf → Result OpenCheckOf StopOf
+first_opened meant = meant >>= λ check. Ok (with_first check)
 
 -- ---- the answer
 

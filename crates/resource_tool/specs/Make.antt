@@ -1,6 +1,6 @@
 -- What the words of `make` ask, from what the places have to the answer. First come the words of files, then the faults of
 -- inputs, and then the first name that is not there.
-use Rattle.std.specs.Prelude.{◌≡◌, ℕ, Bool, true, false, List, map, Option, Result, Ok}
+use Rattle.std.specs.Prelude.{◌≡◌, ℕ, Bool, true, false, List, map, take, Option, Result, Ok}
 use Rattle.contract_words.specs.Faults.{◌>>=◌}
 use Rattle.json_input.specs.Each.{each}
 use Rattle.table_commands.specs.command_base.declared.fault.ToolFault.{ToolFault}
@@ -36,6 +36,14 @@ make_opened layers box_json words = do
   opened ← read_or_stop (make_inputs layers box_json)
   goals ← found_or_stop (goals_named opened.stack named)
   Ok (record { opened = opened; goals = goals })
+
+-- the first goals alone, at most so many
+abbrev pub with_first : ℕ → OpenMakeOf → OpenMakeOf
+with_first most make = record { opened = make.opened; goals = take most make.goals }
+
+-- what was opened, with the first goals alone
+abbrev pub first_opened : ℕ → Result OpenMakeOf StopOf → Result OpenMakeOf StopOf
+first_opened most meant = meant >>= λ make. Ok (with_first most make)
 
 -- ---- the answer, with what errors get beside it
 

@@ -9,7 +9,7 @@ ghost use Rattle.table_commands.specs.command_base.StackBytesSeen.{layer_bytes};
 ghost use Rattle.table_commands.specs.command_base.Stop.{GivesOrStops};
 ghost use Rattle.resource_text.specs.cert_maker.res_value.Goal.{goal_seen};
 ghost use Rattle.resource_tool.specs.Answered.{PrintsBothOneOf};
-ghost use Rattle.resource_tool.specs.Check.{Checks, ChecksFiles, check_files, check_held, check_opened, check_seen};
+ghost use Rattle.resource_tool.specs.Check.{Checks, ChecksFiles, check_files, check_held, check_opened, check_seen, first_opened};
 ghost use Rattle.resource_tool.specs.CheckOutput.{IsCheckOutput, IsCheckAnswer, check_inputs, check_text, status_of_verdict, goal_of_verdict};
 ghost use Rattle.resource_tool.specs.CheckHeadline.{HeadlineHolds};
 ghost use Rattle.resource_tool.specs.OpenedSeen.{opened_cert};
@@ -23,7 +23,7 @@ use std::io::{self, Write, sink};
 use table_commands::Stack;
 use table_commands::command_base::{
     DeviceFiles, Inputs, LayerFiles, LayerParts, Status, Stop, ToolFault, asked_goals, asked_words,
-    file_bytes, goals_named, open_stack,
+    file_bytes, first_goals, open_stack,
 };
 
 /// What the words of `check` ask: whether a certificate is true of some goals for a box of devices.
@@ -145,7 +145,8 @@ struct OpenCheck<'a> {
 }
 
 impl<'a> OpenCheck<'a> {
-    /// Reads the words, opens the layers, reads the box and the certificate, and then finds what the words ask for.
+    /// Reads the words, opens the layers, reads the box and the certificate, and then finds what the words ask for: the first
+    /// goals, one more than the certificate has trees. Where there are more, its list is another one.
     #[tactic(auto, unfolding(crate::specs::Check::check_opened))]
     fn open(
         alloc: Global,
@@ -154,11 +155,13 @@ impl<'a> OpenCheck<'a> {
         certificate: &[u8],
         words: &[String],
     ) -> Result<OpenCheck<'a>, Stop<'static>>
-        ensures { GivesOrStops check_seen result (check_opened (map layer_bytes layers.now) box_json.now certificate.now (map string_bytes words.now)) }
+        ensures { GivesOrStops check_seen result
+            (first_opened (check_opened (map layer_bytes layers.now) box_json.now certificate.now (map string_bytes words.now))) }
     {
         let named = asked_goals(alloc, words)?;
         let opened = OpenedCert::read(alloc, layers, box_json, certificate)?;
-        let goals = goals_named(alloc, &opened.stack, &named)?;
+        let most = opened.certificate.goals.len() + 1;
+        let goals = first_goals(alloc, &opened.stack, &named, most)?;
         Ok(OpenCheck { opened, goals })
     }
 }

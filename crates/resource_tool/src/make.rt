@@ -14,7 +14,7 @@ ghost use Rattle.resource_text.specs.cert_maker.res_value.Goal.{goal_seen};
 ghost use Rattle.resource_text.specs.cert_maker.cert_tree.WrittenJson.{cert_data};
 ghost use Rattle.table_commands.specs.config_record.DeviceSeen.{device_numbers};
 ghost use Rattle.resource_tool.specs.Answered.{PrintsBothOneOf, status_in, goal_in};
-ghost use Rattle.resource_tool.specs.Make.{Makes, MakesFiles, PrintsTold, PrintsToldFirst, make_opened, make_seen};
+ghost use Rattle.resource_tool.specs.Make.{Makes, MakesFiles, PrintsTold, PrintsToldFirst, first_opened, make_opened, make_seen};
 ghost use Rattle.resource_tool.specs.MakeOutput.{IsMakeOutput, IsMakeOutputAbout, IsMakeAnswer, make_inputs, counterexample_line, counterexample_text, status_of_made, goal_of_made, made_output};
 ghost use Rattle.resource_tool.specs.OmitOutput.{IsOmitOutput};
 ghost use Rattle.resource_tool.specs.LineReadsBack.{LineReadsBack, TreesReadBack};
@@ -30,7 +30,7 @@ use std::alloc::{AllocError, Global};
 use std::io::{self, Write, sink};
 use std::time::Clock;
 use table_commands::command_base::{
-    AskedFiles, Inputs, LayerParts, Status, Stop, ToolFault, asked_goals, goals_named, open_stack,
+    AskedFiles, Inputs, LayerParts, Status, Stop, ToolFault, asked_goals, first_goals, open_stack,
 };
 use table_commands::{Device, End, Stack};
 
@@ -87,10 +87,13 @@ impl<'a> Make<'a> {
         ensures unsaid { watch.entry.is_terminal ≡ false → IsKept errors.old errors.new result }
     {
         let layers = files.layers.layers(alloc)?;
-        let make = OpenMake::open(alloc, &layers, &files.devices, &files.words)?;
         if self.omit {
+            let make = OpenMake::open(alloc, &layers, &files.devices, &files.words)?;
             Ok(make.make_omitting(alloc, self.max_nodes, watch, out, errors)?)
         } else {
+            // The tree of each goal has one node at least, so these decide.
+            let most = self.max_nodes as usize + 1;
+            let make = OpenMake::open_first(alloc, &layers, &files.devices, &files.words, most)?;
             Ok(make.make(alloc, self.names, self.max_nodes, watch, out, errors)?)
         }
     }
@@ -105,7 +108,6 @@ pub(crate) struct OpenMake<'a> {
 
 impl<'a> OpenMake<'a> {
     /// Reads the words, opens the layers, reads the box, and then finds what the words ask for.
-    #[tactic(auto, unfolding(crate::specs::Make::make_opened))]
     fn open(
         alloc: Global,
         layers: &[LayerParts<&'a [u8]>],
@@ -114,9 +116,25 @@ impl<'a> OpenMake<'a> {
     ) -> Result<OpenMake<'a>, Stop<'static>>
         ensures { GivesOrStops make_seen result (make_opened (map layer_bytes layers.now) box_json.now (map string_bytes words.now)) }
     {
+        let make = OpenMake::open_first(alloc, layers, box_json, words, usize::MAX)?;
+        Ok(make)
+    }
+
+    /// The same, but keeps only the first goals, at most so many.
+    #[tactic(auto, unfolding(crate::specs::Make::make_opened))]
+    fn open_first(
+        alloc: Global,
+        layers: &[LayerParts<&'a [u8]>],
+        box_json: &[u8],
+        words: &[String],
+        most: usize,
+    ) -> Result<OpenMake<'a>, Stop<'static>>
+        ensures { GivesOrStops make_seen result
+            (first_opened most (make_opened (map layer_bytes layers.now) box_json.now (map string_bytes words.now))) }
+    {
         let named = asked_goals(alloc, words)?;
         let opened = OpenedBox::read(alloc, layers, box_json)?;
-        let goals = goals_named(alloc, &opened.stack, &named)?;
+        let goals = first_goals(alloc, &opened.stack, &named, most)?;
         Ok(OpenMake { opened, goals })
     }
 

@@ -1,0 +1,101 @@
+-- What a check says of the first goals of a list, one more than the certificate has trees, it says of the whole list: where
+-- there are more, the lists differ in the same place.
+use Rattle.std.proofs.Common.{◌≡◌, ℕ, ◌+◌, ◌<◌, ◌≤◌, inl, inr, arith, Bool, List, length, take, Option, Result, Ok, ap, subst, sym, ◌∙◌, length-take}
+use Rattle.std.proofs.lemmas.Bool.{cases_lt}
+use Rattle.std.proofs.lemmas.List.{take_all, length-map}
+use Rattle.std.proofs.lemmas.Option.{slice_get_past}
+use Rattle.table_commands.specs.command_base.declared.fault.ToolFault.{ToolFault}
+use Rattle.table_commands.specs.command_base.declared.status.Status.{Status}
+use Rattle.table_commands.specs.command_base.declared.stop.Stop.{Stop}
+use Rattle.table_commands.specs.command_base.CarriesOut.{CarriesOut}
+use Rattle.table_commands.specs.command_base.Stop.{StopOf}
+use Rattle.table_commands.specs.command_base.Output.{Output}
+use Rattle.resource_text.specs.cert_maker.cert_tree.Certificate.{GoalOf}
+use Rattle.resource_text.specs.cert_maker.res_value.Goal.{GoalSeen}
+use Rattle.resource_text.specs.cert_maker.cert_checker.declared.rule.Rule.TheVariants.{GoalList}
+use Rattle.resource_text.specs.cert_maker.cert_checker.declared.verdict.Verdict.{Verdict}
+use Rattle.resource_text.specs.cert_maker.cert_checker.declared.verdict.Verdict.TheVariants.{Accepted, Rejected}
+use Rattle.resource_text.specs.cert_maker.cert_checker.FirstFault.{goals_in, DifferFirstAt}
+use Rattle.resource_text.specs.cert_maker.cert_checker.Verdict.{IsVerdict}
+use Rattle.resource_tool.specs.Answered.{PrintsBothOneOf}
+use Rattle.resource_tool.specs.GoalTold.{goal_told}
+use Rattle.resource_tool.specs.Check.{OpenCheckOf, first_opened, with_first}
+use Rattle.resource_tool.specs.CheckOutput.{CheckInputs, IsCheckAnswer, check_text, goal_of_verdict, status_of_verdict}
+use Rattle.resource_tool.proofs.FirstOf.{carried-on-all, first-at, told-of-first}
+use Rattle.resource_tool.proofs.Told.{told-otherwise}
+
+-- ---- the lists
+
+goals-count : (trees : List GoalOf) → length (goals_in trees) ≡ length trees
+goals-count trees = length-map trees (λ (t : GoalOf). t.goal)
+
+-- the lists are not the same
+not-same : (trees : List GoalOf) (asked : List GoalSeen) → length trees + 1 ≤ length asked → goals_in trees ≡ take (length trees + 1) asked → ⊥
+not-same trees asked longer same =
+    let found = goals-count trees in
+    let count = ap length same ∙ length-take (length trees + 1) asked in omega (arith, found, count, longer)
+
+-- they differ where the trees end at the latest
+differs-within : (trees : List GoalOf) (asked : List GoalSeen) (g : ℕ) → DifferFirstAt (goals_in trees) (take (length trees + 1) asked) g → g < length trees + 1
+differs-within trees asked g first =
+    elim (cases_lt g (length trees + 1)) [
+      | inl within ↦ within
+      | inr past ↦ (
+          let found = goals-count trees in
+          let count = length-take (length trees + 1) asked in
+          let none = slice_get_past (goals_in trees) g (omega (arith, found, past)) in
+          let other = slice_get_past (take (length trees + 1) asked) g (omega (arith, count, past)) in absurd (first.differ (none ∙ sym other))
+          )
+    ]
+
+differs-first : (trees : List GoalOf) (asked : List GoalSeen) (g : ℕ) → DifferFirstAt (goals_in trees) (take (length trees + 1) asked) g → DifferFirstAt (goals_in trees) asked g
+differs-first trees asked g first =
+    let within = differs-within trees asked g first in
+    record {
+      before = λ k lower. first.before k lower ∙ first-at (length trees + 1) asked k (omega (arith, lower, within));
+      differ = λ same. first.differ (same ∙ sym (first-at (length trees + 1) asked g within));
+    }
+
+-- ---- the verdict
+
+-- where more goals are asked
+checked-longer : (asked : List GoalSeen) (names : Bool) (inputs : CheckInputs) (output : Output) (lines : List ℕ) → length inputs.trees + 1 ≤ length asked → (verdict : Verdict)
+    → IsVerdict inputs.stack inputs.sets (take (length inputs.trees + 1) asked) inputs.trees verdict → output.status ≡ status_of_verdict verdict → output.text ≡ check_text inputs verdict
+    → lines ≡ goal_told inputs.stack (take (length inputs.trees + 1) asked) names (goal_of_verdict verdict) → IsCheckAnswer asked names inputs output lines
+checked-longer asked names inputs output lines longer Accepted right ended text told = absurd (not-same inputs.trees asked longer right.goals)
+checked-longer asked names inputs output lines longer (Rejected g k GoalList shown) (fault, shows) ended text told =
+    let differ = differs-first inputs.trees asked g fault.0 in
+    record {
+      printed = record { verdict = Rejected g k GoalList shown; right = ((differ, fault.1), shows); headline = (differ, fault.1); status = ended; text = text };
+      told = told ∙ told-of-first inputs.stack asked names (length inputs.trees + 1) g (differs-within inputs.trees asked g fault.0);
+    }
+checked-longer asked names inputs output lines longer (Rejected g k rule shown) (fault, shows) ended text told = absurd (not-same inputs.trees asked longer fault.goals)
+
+-- The law: a verdict for the first goals is one for all.
+pub first-checked : (asked : List GoalSeen) (names : Bool) (inputs : CheckInputs) (output : Output) (lines : List ℕ)
+    → IsCheckAnswer (take (length inputs.trees + 1) asked) names inputs output lines → IsCheckAnswer asked names inputs output lines
+first-checked asked names inputs output lines answer =
+    elim (cases_lt (length inputs.trees) (length asked)) [
+      | inl longer ↦
+          checked-longer asked names inputs output lines (omega (arith, longer)) answer.printed.verdict answer.printed.right answer.printed.status answer.printed.text answer.told
+      | inr few ↦ subst (λ (goals : List GoalSeen). IsCheckAnswer goals names inputs output lines) (take_all (length inputs.trees + 1) asked (omega (arith, few))) answer
+    ]
+
+-- So the command that is carried out on the first goals is carried out on all.
+pub checked-of-all : {W V : Type 0} (names : Bool) (contents : W → Option (List ℕ)) (says : V → Option (List ℕ)) (old new : W) (before after : V) (check : OpenCheckOf) (done : Result Status ToolFault)
+    → PrintsBothOneOf (IsCheckAnswer (with_first check).goals names) contents says old new before after done (Ok check.opened)
+    → PrintsBothOneOf (IsCheckAnswer check.goals names) contents says old new before after done (Ok check.opened)
+checked-of-all names contents says old new before after check done told =
+    told-otherwise (IsCheckAnswer (with_first check).goals names) (IsCheckAnswer check.goals names) contents says old new before after done (Ok check.opened)
+    (λ inputs output lines is answer.
+    let same : check.opened ≡ inputs = cc in
+    first-checked check.goals names inputs output lines
+    (subst (λ (i : CheckInputs). IsCheckAnswer (take (length i.trees + 1) check.goals) names inputs output lines) same answer))
+    told
+
+pub carried-by-first : {W V : Type 0} (names : Bool) (contents : W → Option (List ℕ)) (says : V → Option (List ℕ)) (old new : W) (before after : V) (meant : Result OpenCheckOf StopOf) (result : Result Status Stop)
+    → CarriesOut (λ check done. PrintsBothOneOf (IsCheckAnswer check.goals names) contents says old new before after done (Ok check.opened)) (first_opened meant) result
+    → CarriesOut (λ check done. PrintsBothOneOf (IsCheckAnswer check.goals names) contents says old new before after done (Ok check.opened)) meant result
+carried-by-first names contents says old new before after meant result carried =
+    carried-on-all with_first (λ (check : OpenCheckOf) (done : Result Status ToolFault). PrintsBothOneOf (IsCheckAnswer check.goals names) contents says old new before after done (Ok check.opened)) meant result
+    (checked-of-all names contents says old new before after) carried

@@ -1,0 +1,14 @@
+use Rattle.std.proofs.Common.{Ok, rules, arith}
+use Rattle.std.proofs.lemmas.Grind.{common_steps}
+use Rattle.table_commands.specs.command_base.FilesSeen.{layers_held}
+use Rattle.table_commands.specs.command_base.FileWords.{strings_held}
+use Rattle.resource_tool.specs.Check.{check_opened}
+use Rattle.resource_tool.proofs.FirstChecked.{carried-by-first}
+use Rattle.resource_tool.proofs.check.Check.answer_of.Goals as goal
+
+pub returns-clause-answers : goal.returns-clause-answers
+returns-clause-answers g c =
+    let files = c.args.files.now in
+    carried-by-first c.args.self.now.names g.O.Write.contents g.E.Write.contents c.args.out.now c.check.new.out c.args.errors.now c.check.new.errors
+    (check_opened (layers_held files.layers) files.box_json.items files.certificate.items (strings_held files.words)) (Ok c.in_ok-check-2.field-0)
+    (first_of (search rules, grind (arith, common_steps)))
