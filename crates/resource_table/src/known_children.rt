@@ -7,7 +7,7 @@ ghost use Rattle.resource_table.specs.KnownChildren.{KnowsChildren, or_empty};
 use type_chunks::Pool;
 
 /// What the chunks so far are.
-#[derive(Clone, Copy, Debug)]
+#[derive(Clone, Copy)]
 pub(crate) struct KnownChildren<'a> {
     pub packages: usize,
     /// The first pool.
