@@ -1,4 +1,4 @@
-use Rattle.std.proofs.Common.{Some, sym, subst}
+use Rattle.std.proofs.Common.{Some, None, sym, ap, subst}
 use Rattle.std.proofs.lemmas.List.Elements.{All-pop}
 use Rattle.std.proofs.lemmas.Result.{IfOk-weaker}
 use Rattle.box_trace.specs.OpenBox.{boxes_of, IsReached}
@@ -6,8 +6,9 @@ use Rattle.box_trace.proofs.OpenBoxes.{boxes-push}
 use Rattle.cert_tree.specs.config_box.Tests.{test_of}
 use Rattle.cert_tree.specs.declared.node.Node.{Node}
 use Rattle.cert_tree.specs.Certificate.{node_of}
+use Rattle.cert_checker.specs.declared.failure.Failure.{Failure}
 use Rattle.cert_checker.specs.OpenBoxes.{TakesNode}
-use Rattle.cert_checker.proofs.NodeSteps.{at_test, at_value, at_bag}
+use Rattle.cert_checker.proofs.NodeSteps.{left_over, at_test, at_value, at_bag}
 use Rattle.cert_checker.proofs.node.take_node.Goals as goal
 
 pub returns-in-Test-clause-outcome : goal.returns-in-Test-clause-outcome
@@ -40,3 +41,16 @@ pub returns-in-Bag-clause-reached : goal.returns-in-Bag-clause-reached
 returns-in-Bag-clause-reached c =
     IfOk-weaker c.take_leaf-in-Bag.result _ _ (λ outcome h trace reached.
     (All-pop (IsReached c.args.stack.now trace) c.args.open_boxes.now c.pop.new.self (Some c.in-Some.part) c.in-Some.ensures.items reached).0) c.take_leaf-in-Bag.ensures
+
+pub returns-in-Value-clause-reached : goal.returns-in-Value-clause-reached
+returns-in-Value-clause-reached c =
+    IfOk-weaker c.take_leaf.result _ _ (λ outcome h trace reached.
+    (All-pop (IsReached c.args.stack.now trace) c.args.open_boxes.now c.pop.new.self (Some c.in-Some.part) c.in-Some.ensures.items reached).0) c.take_leaf.ensures
+
+pub returns-in_default-clause-reached : goal.returns-in_default-clause-reached
+returns-in_default-clause-reached c = λ trace reached. (All-pop (IsReached c.args.stack.now trace) c.args.open_boxes.now c.pop.new.self None c.in_default.ensures.items reached).0
+
+pub returns-in_default-clause-outcome : goal.returns-in_default-clause-outcome
+returns-in_default-clause-outcome c = λ trace reached.
+    subst (λ (f : Failure). TakesNode trace (node_of c.args.node.now) (boxes_of c.args.open_boxes.now) (boxes_of c.pop.new.self) (Some f)) (sym c.of.ensures)
+    (left_over trace (node_of c.args.node.now) (boxes_of c.args.open_boxes.now) (boxes_of c.pop.new.self) (ap boxes_of c.in_default.ensures.none))
