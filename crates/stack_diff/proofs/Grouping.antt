@@ -38,13 +38,13 @@ pub keeps-longer : (part : List SetOf) (boxes others mine : List (List SetOf)) �
 keeps-longer part boxes others mine e =
     keeps-on _ _ _ (keeps-last part boxes) (keeps-same _ _ (sym (append_assoc others mine (part ∷ [])) ∙ ap (λ (bs : List (List SetOf)). bs ++ part ∷ []) (sym e)))
 
-differences-push : (old new : List Change) (last : Change) → new ≡ old ++ last ∷ [] → differences_in new ≡ differences_in old ++ last.difference ∷ []
-differences-push old new last e = ap differences_in e ∙ map-append (λ (change : Change). change.difference) old (last ∷ [])
+differences-push : (old new : List Change) (last : Change) → new ≡ old ++ last ∷ [] → differences_in new ≡ differences_in old ++ last.difference.value ∷ []
+differences-push old new last e = ap differences_in e ∙ map-append (λ (change : Change). change.difference.value) old (last ∷ [])
 
 -- ---- a change of this difference and these boxes
 
 pub record IsChange (change : Change) (told : Difference) (parts : List (List SetOf)) : Type 0 where
-  pub difference : change.difference ≡ told
+  pub difference : change.difference.value ≡ told
   pub boxes : change.boxes.items ≡ parts
 
 seen-change : (change : Change) (difference : Difference) (parts : List (List SetOf)) → IsChange change difference parts → change_of change ≡ record { difference = difference_of difference; boxes = parts }
@@ -67,17 +67,17 @@ module _ (pair : Pair) (sets : List SetOf) where
   pub gathered-pop : (old new : List Change) (last : Change) → old ≡ new ++ last ∷ [] → AreGathered pair sets old → AreGathered pair sets new × Gathered (change_of last)
   gathered-pop old new last e h = All-pop Gathered (map change_of old) (map change_of new) (Some (change_of last)) (ap (map change_of) e ∙ map-append change_of new (last ∷ [])) h
 
-  gathered-one : (leaf : Leaf) → IsRight pair sets leaf → Gathered (record { difference = difference_of leaf.difference; boxes = leaf.members ∷ [] })
+  gathered-one : (leaf : Leaf) → IsRight pair sets leaf → Gathered (record { difference = difference_of leaf.difference.value; boxes = leaf.members ∷ [] })
   gathered-one leaf right = record {
     real = record {
       somewhere = omega arith;
       devices = All-cons SomeMember leaf.members [] (some_member leaf.members right.kinds.is_box) (All-nil SomeMember);
-      so = All-cons (SoOn (difference_of leaf.difference)) leaf.members [] right.so (All-nil (SoOn (difference_of leaf.difference)));
+      so = All-cons (SoOn (difference_of leaf.difference.value)) leaf.members [] right.so (All-nil (SoOn (difference_of leaf.difference.value)));
     };
     kinds = All-cons (IsOfKinds sets) leaf.members [] right.kinds (All-nil (IsOfKinds sets));
   }
 
-  gathered-longer : (leaf : Leaf) (difference : DifferenceOf) (boxes : List (List SetOf)) → difference ≡ difference_of leaf.difference → IsRight pair sets leaf
+  gathered-longer : (leaf : Leaf) (difference : DifferenceOf) (boxes : List (List SetOf)) → difference ≡ difference_of leaf.difference.value → IsRight pair sets leaf
       → Gathered (record { difference = difference; boxes = boxes }) → Gathered (record { difference = difference; boxes = boxes ++ leaf.members ∷ [] })
   gathered-longer leaf difference boxes e right so_far =
       let long = length-append boxes (leaf.members ∷ []) in
@@ -93,10 +93,10 @@ module _ (pair : Pair) (sets : List SetOf) where
 
 -- ---- one leaf more
 
-pub adds-another : (leaf : Leaf) (old new : List Change) (change : Change) → new ≡ old ++ change ∷ [] → IsChange change leaf.difference (leaf.members ∷ [])
-    → AddsDifference leaf.difference (differences_in old) (differences_in new) → AddsLeafTo leaf old new
+pub adds-another : (leaf : Leaf) (old new : List Change) (change : Change) → new ≡ old ++ change ∷ [] → IsChange change leaf.difference.value (leaf.members ∷ [])
+    → AddsDifference leaf.difference.value (differences_in old) (differences_in new) → AddsLeafTo leaf old new
 adds-another leaf old new change e is adds =
-    let seen = seen-change change leaf.difference (leaf.members ∷ []) is in record {
+    let seen = seen-change change leaf.difference.value (leaf.members ∷ []) is in record {
       devices = keeps-on _ _ _ (keeps-last leaf.members (boxes_in (map change_of old)))
           (keeps-same _ _ (boxes-push old new change e ∙ ap (λ (c : ChangeOf). boxes_in (map change_of old) ++ c.boxes) seen));
       gathered = λ pair sets right so_far.
@@ -105,29 +105,29 @@ adds-another leaf old new change e is adds =
     }
 
 -- it is the first
-pub difference-first : (leaf : Leaf) (old new : List Change) (change : Change) → old ≡ [] → new ≡ change ∷ [] → IsChange change leaf.difference (leaf.members ∷ [])
-    → AddsDifference leaf.difference (differences_in old) (differences_in new)
+pub difference-first : (leaf : Leaf) (old new : List Change) (change : Change) → old ≡ [] → new ≡ change ∷ [] → IsChange change leaf.difference.value (leaf.members ∷ [])
+    → AddsDifference leaf.difference.value (differences_in old) (differences_in new)
 difference-first leaf old new change none e is =
-    adds-first leaf.difference (differences_in old) (differences_in new) (ap differences_in none) (ap differences_in e ∙ ap (λ p. p ∷ []) is.difference)
+    adds-first leaf.difference.value (differences_in old) (differences_in new) (ap differences_in none) (ap differences_in e ∙ ap (λ p. p ∷ []) is.difference)
 
 -- or it stands behind one that tells something else
-pub difference-other : (leaf : Leaf) (rest old new : List Change) (last change : Change) → old ≡ rest ++ last ∷ [] → new ≡ old ++ change ∷ [] → IsChange change leaf.difference (leaf.members ∷ [])
-    → (AreOne last.difference leaf.difference → ⊥) → AddsDifference leaf.difference (differences_in old) (differences_in new)
+pub difference-other : (leaf : Leaf) (rest old new : List Change) (last change : Change) → old ≡ rest ++ last ∷ [] → new ≡ old ++ change ∷ [] → IsChange change leaf.difference.value (leaf.members ∷ [])
+    → (AreOne last.difference.value leaf.difference.value → ⊥) → AddsDifference leaf.difference.value (differences_in old) (differences_in new)
 difference-other leaf rest old new last change e f is other =
-    adds-other leaf.difference last.difference (differences_in rest) (differences_in old) (differences_in new) (differences-push rest old last e)
+    adds-other leaf.difference.value last.difference.value (differences_in rest) (differences_in old) (differences_in new) (differences-push rest old last e)
     (differences-push old new change f ∙ ap (λ p. differences_in old ++ p ∷ []) is.difference) other
 
-pub adds-longer : (leaf : Leaf) (old rest new : List Change) (last change : Change) → old ≡ rest ++ last ∷ [] → new ≡ rest ++ change ∷ [] → AreOne last.difference leaf.difference
-    → IsChange change last.difference (last.boxes.items ++ leaf.members ∷ []) → AddsLeafTo leaf old new
+pub adds-longer : (leaf : Leaf) (old rest new : List Change) (last change : Change) → old ≡ rest ++ last ∷ [] → new ≡ rest ++ change ∷ [] → AreOne last.difference.value leaf.difference.value
+    → IsChange change last.difference.value (last.boxes.items ++ leaf.members ∷ []) → AddsLeafTo leaf old new
 adds-longer leaf old rest new last change e f same is =
-    let seen = seen-change change last.difference (last.boxes.items ++ leaf.members ∷ []) is in record {
+    let seen = seen-change change last.difference.value (last.boxes.items ++ leaf.members ∷ []) is in record {
       devices = keeps-on _ _ _ (keeps-longer leaf.members (boxes_in (map change_of old)) (boxes_in (map change_of rest)) last.boxes.items (boxes-push rest old last e))
           (keeps-same _ _ (boxes-push rest new change f ∙ ap (λ (c : ChangeOf). boxes_in (map change_of rest) ++ c.boxes) seen));
       gathered = λ pair sets right so_far.
           let popped = gathered-pop pair sets old rest last e so_far in
           gathered-push pair sets rest new change f popped.0
-          (subst (λ (c : ChangeOf). IsGathered pair sets c) (sym seen) (gathered-longer pair sets leaf (difference_of last.difference) last.boxes.items same right popped.1));
-      differences = adds-same leaf.difference last.difference change.difference (differences_in rest) (differences_in old) (differences_in new) (differences-push rest old last e)
+          (subst (λ (c : ChangeOf). IsGathered pair sets c) (sym seen) (gathered-longer pair sets leaf (difference_of last.difference.value) last.boxes.items same right popped.1));
+      differences = adds-same leaf.difference.value last.difference.value change.difference.value (differences_in rest) (differences_in old) (differences_in new) (differences-push rest old last e)
           (differences-push rest new change f) is.difference same;
     }
 

@@ -45,8 +45,8 @@ joined-each old new keep = record { none = λ d h. (keep.none d).0 h; once = λ 
 -- ---- one change
 
 -- a change with other boxes tells the same
-with-boxes : (old new : Change) → JoinsBoxes old new → change_of new ≡ record { difference = difference_of old.difference; boxes = new.boxes.items }
-with-boxes old new joins = λ i. record { difference = difference_of (joins.difference i); boxes = new.boxes.items }
+with-boxes : (old new : Change) → JoinsBoxes old new → change_of new ≡ record { difference = difference_of old.difference.value; boxes = new.boxes.items }
+with-boxes old new joins = λ i. record { difference = difference_of (joins.difference i).value; boxes = new.boxes.items }
 
 gathered-joined : (pair : Pair) (sets : List SetOf) (old new : Change) → JoinsBoxes old new → IsGathered pair sets (change_of old) → IsGathered pair sets (change_of new)
 gathered-joined pair sets old new joins h =
@@ -54,7 +54,7 @@ gathered-joined pair sets old new joins h =
       real = record {
         somewhere = joins.some h.real.somewhere;
         devices = joins.none_empty;
-        so = kept-so (λ d. IsSo (pair_differs pair) sets (difference_of old.difference) d) old.boxes.items new.boxes.items joins.devices h.real.so;
+        so = kept-so (λ d. IsSo (pair_differs pair) sets (difference_of old.difference.value) d) old.boxes.items new.boxes.items joins.devices h.real.so;
       };
       kinds = joins.kinds sets h.kinds;
     })
@@ -77,7 +77,7 @@ others-joined old new (first ∷ olds) (other ∷ news) joins all h =
     All-cons (TellOther (change_of new)) (change_of other) (map change_of news)
     (λ e.
     All-head (TellOther (change_of old)) (change_of first) (map change_of olds) h
-    (sym (ap difference_of joins.difference) ∙ e ∙ ap difference_of all.0.difference))
+    (sym (λ i. difference_of (joins.difference i).value) ∙ e ∙ (λ i. difference_of (all.0.difference i).value)))
     (others-joined old new olds news joins all.1 (All-tail (TellOther (change_of old)) (change_of first) (map change_of olds) h))
 
 apart-joined : (olds news : List Change) → AllZip JoinsBoxes olds news → AllPairs TellOther (map change_of olds) → AllPairs TellOther (map change_of news)

@@ -64,8 +64,8 @@ before-other p q not_less other = by-order (order p q) refl
 
 -- ---- sorted leaves
 
-pub leaves_ranked : IsStrictWeakOrder (λ (a b : Leaf). is_lt (order b.difference a.difference))
-leaves_ranked = IsStrictWeakOrder-flip (λ a b. is_lt (order a.difference b.difference)) (ranks_by total-law (λ (leaf : Leaf). leaf.difference))
+pub leaves_ranked : IsStrictWeakOrder (λ (a b : Leaf). is_lt (order b.difference.value a.difference.value))
+leaves_ranked = IsStrictWeakOrder-flip (λ a b. is_lt (order a.difference.value b.difference.value)) (ranks_by total-law (λ (leaf : Leaf). leaf.difference.value))
 
 -- no pair stands before one that is taken after it
 abbrev NotBefore : Difference → Difference → Type 0
@@ -92,10 +92,10 @@ pub record AreRising (left told : List Difference) : Type 0 where
   pub rising : AllPairs IsBefore told
   pub ahead : All (λ pair. All (λ other. NotBefore other pair) left) told
 
-pub sorted-leaves : (leaves : List Leaf) → IsSortedBy (λ (a b : Leaf). is_lt (order b.difference a.difference)) leaves → AreRising (differences_told leaves) []
+pub sorted-leaves : (leaves : List Leaf) → IsSortedBy (λ (a b : Leaf). is_lt (order b.difference.value a.difference.value)) leaves → AreRising (differences_told leaves) []
 sorted-leaves leaves sorted = record {
-  falling = pairs-map NotBefore (λ (leaf : Leaf). leaf.difference) leaves
-      (λ i j d lt q. sorted_far (λ a b. is_lt (order b.difference a.difference)) leaves_ranked leaves sorted i j d (omega arith) q);
+  falling = pairs-map NotBefore (λ (leaf : Leaf). leaf.difference.value) leaves
+      (λ i j d lt q. sorted_far (λ a b. is_lt (order b.difference.value a.difference.value)) leaves_ranked leaves sorted i j d (omega arith) q);
   rising = λ i j d lt q. absurd (omega arith);
   ahead = All-nil (λ pair. All (λ other. NotBefore other pair) (differences_told leaves));
 }
@@ -133,8 +133,8 @@ pub told-apart : (changes : List Change) → AllPairs IsBefore (differences_in c
 told-apart changes rising =
     pairs-map TellOther change_of changes
     (λ i j d lt q e.
-    let less : order (get_or changes i d).difference (get_or changes j d).difference ≡ Less = pairs-mapped IsBefore (λ (change : Change). change.difference) changes rising i j d lt q in
-    let tied = one-equal (get_or changes i d).difference (get_or changes j d).difference e in
+    let less : order (get_or changes i d).difference.value (get_or changes j d).difference.value ≡ Less = pairs-mapped IsBefore (λ (change : Change). change.difference.value) changes rising i j d lt q in
+    let tied = one-equal (get_or changes i d).difference.value (get_or changes j d).difference.value e in
     absurd cc)
 
 -- ---- one leaf more

@@ -14,7 +14,7 @@ pub record ChangeOf : Type 0 where
   pub boxes : List (List SetOf)
 
 abbrev pub change_of : Change → ChangeOf
-change_of change = record { difference = difference_of change.difference; boxes = change.boxes.items }
+change_of change = record { difference = difference_of change.difference.value; boxes = change.boxes.items }
 
 -- on a device of the whole box they differ so
 pub record IsSo (differs : List ℕ → Option DifferenceOf) (sets : List SetOf) (difference : DifferenceOf) (d : List ℕ) : Type 0 where

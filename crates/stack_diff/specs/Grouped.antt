@@ -20,10 +20,10 @@ use Rattle.stack_diff.specs.Tree.{IsRight, boxes_told}
 -- ---- differences
 
 abbrev pub differences_in : List Change → List Difference
-differences_in changes = map (λ change. change.difference) changes
+differences_in changes = map (λ change. change.difference.value) changes
 
 abbrev pub differences_told : List Leaf → List Difference
-differences_told leaves = map (λ leaf. leaf.difference) leaves
+differences_told leaves = map (λ leaf. leaf.difference.value) leaves
 
 -- both are one
 abbrev pub AreOne : Difference → Difference → Type 0
@@ -49,7 +49,7 @@ AreGathered pair sets changes = All (IsGathered pair sets) (map change_of change
 pub record AddsLeafTo (leaf : Leaf) (old new : List Change) : Type 0 where
   pub devices : KeepsEach (leaf.members ∷ boxes_in (map change_of old)) (boxes_in (map change_of new))
   pub gathered : (pair : Pair) (sets : List SetOf) → IsRight pair sets leaf → AreGathered pair sets old → AreGathered pair sets new
-  pub differences : AddsDifference leaf.difference (differences_in old) (differences_in new)
+  pub differences : AddsDifference leaf.difference.value (differences_in old) (differences_in new)
 
 -- all leaves, each difference once
 pub record GatherLeaves (told : List Leaf) (changes : List Change) : Type 0 where

@@ -38,7 +38,7 @@ DoNotDiffer pair sets = (d : List ℕ) → IsMember sets d → pair_differs pair
 -- a leaf that tells how they differ on all members
 pub record IsLeafOf (pair : Pair) (sets : List SetOf) (leaf : Leaf) : Type 0 where
   pub members : leaf.members ≡ sets
-  pub so : (d : List ℕ) → IsMember sets d → pair_differs pair d ≡ Some (difference_of leaf.difference)
+  pub so : (d : List ℕ) → IsMember sets d → pair_differs pair d ≡ Some (difference_of leaf.difference.value)
 
 -- such a leaf, or none where they do not differ
 abbrev pub TellsLeaf : Pair → List SetOf → List Leaf → List Leaf → Type 0
@@ -61,7 +61,7 @@ boxes_told told = map (λ leaf. leaf.members) told
 -- on the members of one leaf, which are some of a whole box, they differ so; and they are a box of its kinds
 pub record IsRight (pair : Pair) (sets : List SetOf) (leaf : Leaf) : Type 0 where
   pub kinds : IsOfKinds sets leaf.members
-  pub so : (d : List ℕ) → IsMember leaf.members d → IsSo (pair_differs pair) sets (difference_of leaf.difference) d
+  pub so : (d : List ℕ) → IsMember leaf.members d → IsSo (pair_differs pair) sets (difference_of leaf.difference.value) d
 
 -- each leaf is right, in a box; and a device on which they differ comes to one leaf, and to one alone
 pub record AreRight (pair : Pair) (sets : List SetOf) (told : List Leaf) : Type 0 where

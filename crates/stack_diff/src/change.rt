@@ -14,7 +14,7 @@ use std::alloc::Global;
 /// A difference, and on which devices it is so.
 #[derive(Drop)]
 pub struct Change<'a> {
-    pub difference: Difference<'a>,
+    pub difference: Box<Difference<'a>>,
     /// The devices, in boxes that have none in common.
     pub boxes: Vec<ConfigBox>,
 }
@@ -22,7 +22,7 @@ pub struct Change<'a> {
 impl<'a> Change<'a> {
     /// What one leaf tells.
     pub(crate) fn of(alloc: Global, leaf: Leaf<'a>) -> Result<Change<'a>, OutOfMemory>
-        ensures difference { IfOk result (λ change. change.difference ≡ leaf.entry.difference) }
+        ensures difference { IfOk result (λ change. change.difference.value ≡ leaf.entry.difference.value) }
         ensures boxes { IfOk result (λ change. change.boxes.items ≡ leaf.entry.members ∷ []) }
     {
         let mut boxes = Vec::new(alloc);
@@ -35,7 +35,7 @@ impl<'a> Change<'a> {
 
     /// With one more box.
     pub(crate) fn with_box(self, members: ConfigBox) -> Result<Change<'a>, OutOfMemory>
-        ensures difference { IfOk result (λ change. change.difference ≡ self.entry.difference) }
+        ensures difference { IfOk result (λ change. change.difference.value ≡ self.entry.difference.value) }
         ensures boxes { IfOk result (λ change. change.boxes.items ≡ self.entry.boxes.items ++ members ∷ []) }
     {
         let mut boxes = self.boxes;

@@ -5,6 +5,7 @@ ghost use Rattle.std.specs.List.{AllZip};
 ghost use Rattle.stack_diff.specs.Grouped.{AddsLeafTo, GatherLeaves, JoinsBoxes, Groups};
 
 use crate::change::Change;
+use crate::difference::Difference;
 use crate::tree::Leaf;
 use cert_maker::OutOfMemory;
 use std::alloc::Global;
@@ -27,7 +28,7 @@ fn gathered<'a>(alloc: Global, told: Vec<Leaf<'a>>) -> Result<Vec<Change<'a>>, O
 {
     let mut told = told;
     // Those of the same difference stand side by side, the greatest first, since leaves are taken from the end.
-    told.sort_by(|leaf, other| other.difference.cmp(&leaf.difference))?;
+    told.sort_by(|leaf, other| Difference::cmp(&other.difference, &leaf.difference))?;
     let mut changes = Vec::new(alloc);
     'leaves: while let Some(leaf) = told.pop() {
         add_leaf(alloc, &mut changes, leaf)?;

@@ -9,14 +9,14 @@ ghost use Rattle.stack_diff.specs.Tree.{TellsLeaf, AddsNode, IsGrown};
 use crate::difference::{Difference, difference_of_ends};
 use crate::pair::Pair;
 use crate::pair_box::{PairBox, PairTrace};
-use answer_text::End;
+use answer_text::bags_themes::End;
 use cert_maker::{ConfigBox, OutOfMemory, parting_test};
 use std::alloc::Global;
 
 /// How the two stacks differ for all members of a leaf.
 #[derive(Drop)]
 pub(crate) struct Leaf<'a> {
-    pub(crate) difference: Difference<'a>,
+    pub(crate) difference: Box<Difference<'a>>,
     pub(crate) members: ConfigBox,
 }
 
@@ -96,6 +96,7 @@ fn tell_leaf<'a>(
     let found = difference_of_ends(alloc, old, before, new, after, &device)?;
     if let Some(difference) = found {
         let members = members.shared(alloc)?;
+        let difference = Box::new(alloc, difference)?;
         told.push(Leaf {
             difference,
             members,

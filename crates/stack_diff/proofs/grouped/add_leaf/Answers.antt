@@ -11,6 +11,6 @@ returns-in_ok-push-in-None c =
     let none : c.args.changes.now.items ≡ [] = nil_from_length _ (sym c.args.changes.now.ok.0 ∙ c.in-None.ensures.cases.0) in
     let same : left ≡ c.args.changes.now.items = sym (c.in-None.ensures.items ∙ append-nil left) in
     let pushed = c.in_ok-push-in-None.ensures.items in
-    let is : IsChange change c.args.leaf.difference (c.args.leaf.members ∷ []) = record { difference = c.in_ok-of-in-None.ensures.difference; boxes = c.in_ok-of-in-None.ensures.boxes } in
+    let is : IsChange change c.args.leaf.difference.value (c.args.leaf.members ∷ []) = record { difference = c.in_ok-of-in-None.ensures.difference; boxes = c.in_ok-of-in-None.ensures.boxes } in
     adds-another c.args.leaf _ _ change (pushed ∙ ap (λ (changes : List Change). changes ++ change ∷ []) same) is
     (difference-first c.args.leaf _ _ change none (pushed ∙ ap (λ (changes : List Change). changes ++ change ∷ []) (same ∙ none)) is)

@@ -23,8 +23,8 @@ leaves-init c =
     let sorted : List Leaf = c.sort_by.new.self.items in
     let none : boxes_told sorted ++ boxes_in (map change_of c.new-changes.result.items) ≡ boxes_told sorted =
     ap (λ (changes : List Change). boxes_told sorted ++ boxes_in (map change_of changes)) c.new-changes.ensures.items ∙ append-nil (boxes_told sorted) in
-    let in_order : IsSortedBy (λ (a b : Leaf). is_lt (order b.difference a.difference)) sorted =
-    c.in_ok-sort_by.ensures.sorted (λ a b. is_lt (order b.difference a.difference)) leaves_ranked (always_returns_same _ _ _ (λ a r f k. search rules)) in
+    let in_order : IsSortedBy (λ (a b : Leaf). is_lt (order b.difference.value a.difference.value)) sorted =
+    c.in_ok-sort_by.ensures.sorted (λ a b. is_lt (order b.difference.value a.difference.value)) leaves_ranked (always_returns_same _ _ _ (λ a r f k. search rules)) in
     record {
       devices = keeps-on _ _ _ (keeps-permuted _ _ (IsPermutation-map (λ (leaf : Leaf). leaf.members) c.args.told.items sorted c.sort_by.ensures.permutation)) (keeps-same _ _ none);
       gathered = λ pair sets right. (
@@ -41,8 +41,8 @@ leaves-preserved c = record {
       let so_far = c.leaves.invariant.gathered pair sets right in
       let taken = All-pop (IsRight pair sets) c.leaves.told.items c.pop.new.self.items (Some c.in-Some.leaf) c.in-Some.ensures.items so_far.0 in
       (taken.0, c.in_ok-add_leaf.ensures.gathered pair sets taken.1 so_far.1);
-  rising = rising-next (differences_told c.leaves.told.items) (differences_told c.pop.new.self.items) c.in-Some.leaf.difference (differences_in c.leaves.changes.items) (differences_in c.add_leaf.new.changes.items)
-      (ap differences_told c.in-Some.ensures.items ∙ map-append (λ (leaf : Leaf). leaf.difference) c.pop.new.self.items (c.in-Some.leaf ∷ [])) c.in_ok-add_leaf.ensures.differences c.leaves.invariant.rising;
+  rising = rising-next (differences_told c.leaves.told.items) (differences_told c.pop.new.self.items) c.in-Some.leaf.difference.value (differences_in c.leaves.changes.items) (differences_in c.add_leaf.new.changes.items)
+      (ap differences_told c.in-Some.ensures.items ∙ map-append (λ (leaf : Leaf). leaf.difference.value) c.pop.new.self.items (c.in-Some.leaf ∷ [])) c.in_ok-add_leaf.ensures.differences c.leaves.invariant.rising;
 }
 
 pub returns : goal.returns
