@@ -9,7 +9,7 @@ ghost use Rattle.stack_diff.specs.Tree.{TellsLeaf, AddsNode, IsGrown};
 use crate::difference::{Difference, difference_of_ends};
 use crate::pair::Pair;
 use crate::pair_box::{PairBox, PairTrace};
-use answer_text::bags_themes::End;
+use answer_text::End;
 use cert_maker::{ConfigBox, OutOfMemory, parting_test};
 use std::alloc::Global;
 
