@@ -117,6 +117,14 @@ class Crate:
     def is_program(self):
         return os.path.isfile(f"{self.folder}/src/main.rt")
 
+    def words(self):
+        """What the program is run with once it is built: the words that it is tested with, if there are some."""
+        try:
+            with open(f"{self.folder}/args", encoding="utf-8") as it:
+                return it.read().splitlines()
+        except OSError:
+            return ["--version"]
+
     def sources(self):
         for part in SOURCES:
             for folder, _, names in os.walk(f"{self.folder}/{part}"):
@@ -341,7 +349,7 @@ class Prover:
             os.remove(proved_with)
         toolchain = subprocess.run([*RT, "version"], stdout=subprocess.PIPE, text=True, check=True).stdout
         jobs = max(1, min(crate.jobs_within(free_memory()), self.most_jobs))
-        self.run(crate, crate.folder, *RT, "run", "--jobs", str(jobs), "--", "--version")
+        self.run(crate, crate.folder, *RT, "run", "--jobs", str(jobs), "--", *crate.words())
         with open(proved_with, "w", encoding="utf-8") as file:
             file.write(toolchain)
 
