@@ -7,7 +7,8 @@ LIBRARY is refuse.c, built to be preloaded. The program of calls is the crate te
 runs once for each growth of memory in which this one is refused, and once more in which all from there on are; what the
 call is given is made before. Calls that take no memory run with every growth refused. A row is named after the one public
 call that it makes. Each public call that takes memory is made by such a row, or by the program, of which refusals.py
-refuses memory in each command, itself or in turn: as the sources tell. The last line is 'N passed, M failed'."""
+refuses memory in each command, itself or in turn: as the sources tell; or it only hands on to one that is so made. The
+last line is 'N passed, M failed'."""
 import os
 import subprocess
 import sys
@@ -36,8 +37,14 @@ def faults_of_names(library):
     of_rows = [call for row in rows() for call in named[row.name]]
     made = library.reached([*of_rows, *library.of_program()])
     for call in (it for calls in public.values() for it in calls):
-        if call.takes_memory and call not in made:
+        if call.takes_memory and call not in made and not hands_on(library, call, made):
             yield f"no row for {full_name(call)} of {call.crate}"
+
+
+def hands_on(library, call, made):
+    """Whether a call takes memory by one other call alone, which is made."""
+    taking = [it for it in library.called_by(call) if it.takes_memory]
+    return len(taking) == 1 and taking[0] in made
 
 
 class Calls:
