@@ -1,6 +1,7 @@
 #!/usr/bin/env python3
 """Makes apks for plain_apk, by their number: zip files of Python's zipfile with a few small members, among them one table, none
-or two, stored or deflated. Most are changed then: a field, a bit, bytes added or cut off, a header more or less."""
+or two, stored or deflated. Most are changed then: a field, a bit, bytes added or cut off, a header more or less. The first few
+are edges: no members, as many as there may be, and one more."""
 import io
 import random
 import warnings
@@ -194,8 +195,34 @@ CHANGES = (field_changed,) * 8 + (
 )
 
 
+# ---- cases
+
+
+def without_table(count=0, directory=b"", before=b""):
+    """A zip file of this directory, which has to list so many members."""
+    end = END + bytes(4) + bytes_of(count, 2) * 2 + bytes_of(len(directory), 4) + bytes_of(len(before), 4) + bytes(2)
+    return before + directory + end
+
+
+def edges():
+    """No bytes; no members; one without a name; a locator before the end record; 65,534 members and 65,535."""
+    nameless = HEADER + bytes(42)
+    return [
+        b"",
+        without_table(),
+        without_table(1, nameless),
+        without_table(before=LOCATOR + bytes(16)),
+        *(without_table(count, nameless * count) for count in (0xFFFE, 0xFFFF)),
+    ]
+
+
+EDGES = edges()
+
+
 def apk_of(number_of_case):
     """The bytes of a case. In some, several things are changed; the places are those before the first change."""
+    if number_of_case < len(EDGES):
+        return EDGES[number_of_case]
     chance = random.Random(number_of_case)
     apk, places = zip_of(chance)
     for _ in range(chance.choice((0, 1, 1, 1, 1, 2, 2, 3))):
