@@ -86,8 +86,9 @@ def zip_of(chance):
             member.compress_type = chance.choice(methods)
             member.extra = chance.choice((b"", b"", b"\xfe\xca\0\0", b"\x35\xd9\4\0" + chance.randbytes(4)))
             member.comment = chance.choice((b"", b"", b"", b"a comment", END))
-            with warnings.catch_warnings(action="ignore"), whole.open(member, "w") as file:
-                file.write(chance.randbytes(chance.randrange(64)))
+            with warnings.catch_warnings():
+                warnings.simplefilter("ignore")  # (zipfile warns of two members of one name)
+                whole.writestr(member, chance.randbytes(chance.randrange(64)))
         whole.comment = comment_of(chance)
         local_headers = [member.header_offset for member in whole.infolist()]
     apk = bytearray(out.written if isinstance(out, OneWay) else out.getvalue())
