@@ -18,13 +18,12 @@ use std::alloc::Global;
 pub(crate) fn take_leaf<'a, 's>(
     alloc: Global,
     stack: &Stack<'a>,
-    part: OpenBox<'a, 's>,
+    part: &mut OpenBox<'a, 's>,
     claimed: End,
 ) -> Result<Option<Failure>, OutOfMemory>
     requires { is_value claimed ≡ true }
-    ensures { IfOk result (λ outcome. (trace : List ℕ → Trace) → IsReached stack.now trace part.entry → TakesLeaf trace claimed part.entry.members outcome) }
+    ensures { IfOk result (λ outcome. (trace : List ℕ → Trace) → IsReached stack.now trace part.old → TakesLeaf trace claimed part.old.members outcome) }
 {
-    let mut part = part;
     match part.common_trace(alloc, stack)? {
         CommonTrace::Mixed(parting) => Ok(Some(Failure {
             rule: Rule::MixedTrace,

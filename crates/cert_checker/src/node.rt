@@ -27,20 +27,22 @@ pub(crate) fn take_node<'a, 's>(
     ensures outcome { IfOk result (λ outcome. (trace : List ℕ → Trace) → All (IsReached stack.now trace) open_boxes.old → TakesNode trace (node_of node.now) (boxes_of open_boxes.old) (boxes_of open_boxes.new) outcome) }
     ensures reached { IfOk result (λ _. (trace : List ℕ → Trace) → All (IsReached stack.now trace) open_boxes.old → All (IsReached stack.now trace) open_boxes.new) }
 {
-    let Some(part) = open_boxes.pop() else {
+    let Some(mut part) = open_boxes.pop() else {
         return Ok(Some(Failure::of(Rule::LeftOver)));
     };
-    match node {
-        Node::Test(test) => take_test(alloc, stack, part, test, open_boxes),
+    let outcome = match node {
+        Node::Test(test) => take_test(alloc, stack, &mut part, test, open_boxes),
         Node::Value { layer, value } => {
             let claimed = End::Value {
                 layer: *layer,
                 value: *value,
             };
-            take_leaf(alloc, stack, part, claimed)
+            take_leaf(alloc, stack, &mut part, claimed)
         }
-        Node::Bag { id } => take_leaf(alloc, stack, part, End::Bag { id: *id }),
-    }
+        Node::Bag { id } => take_leaf(alloc, stack, &mut part, End::Bag { id: *id }),
+    };
+    drop(part);
+    outcome
 }
 
 /// Why a test fails to which these members come; else its halves are opened, the one with yes last. What all members do
@@ -48,16 +50,15 @@ pub(crate) fn take_node<'a, 's>(
 fn take_test<'a, 's>(
     alloc: Global,
     stack: &Stack<'a>,
-    part: OpenBox<'a, 's>,
+    whole: &mut OpenBox<'a, 's>,
     test: &Test,
     open_boxes: &mut OpenBoxes<'a, 's>,
 ) -> Result<Option<Failure>, OutOfMemory>
-    ensures outcome { IfOk result (λ outcome. TakesTest (test_of test.now) part.entry.members (boxes_of open_boxes.old) (boxes_of open_boxes.new) outcome) }
-    ensures reached { IfOk result (λ _. (trace : List ℕ → Trace) → IsReached stack.now trace part.entry → All (IsReached stack.now trace) open_boxes.old → All (IsReached stack.now trace) open_boxes.new) }
+    ensures outcome { IfOk result (λ outcome. TakesTest (test_of test.now) whole.old.members (boxes_of open_boxes.old) (boxes_of open_boxes.new) outcome) }
+    ensures reached { IfOk result (λ _. (trace : List ℕ → Trace) → IsReached stack.now trace whole.old → All (IsReached stack.now trace) open_boxes.old → All (IsReached stack.now trace) open_boxes.new) }
 {
-    match part.members.split(alloc, test)? {
+    match whole.members.split(alloc, test)? {
         Split::Halves(yes, no) => {
-            let mut whole = part;
             let _ = whole.common_trace(alloc, stack)?;
             open_boxes.push(whole.narrowed(no, test.coord())?)?;
             open_boxes.push(whole.narrowed(yes, test.coord())?)?;

@@ -14,21 +14,21 @@ use Rattle.cert_checker.proofs.leaf.take_leaf.Goals as goal
 
 pub returns-in-Mixed : goal.returns-in-Mixed
 returns-in-Mixed c = λ trace reached.
-    let part = c.args.part.members in
+    let part = c.args.part.now.members in
     let common = subst (λ (k : CommonTrace). IsCommonTrace k part trace) c.in-Mixed.is (c.in_ok-parting.ensures.common trace reached) in
     let pair = c.in-Mixed.parting.pair in
     two_traces trace c.args.claimed part (answer_of c.in-Mixed.parting) pair.yes pair.no pair.coord common.told.separates common.divides common.told.trace_tells
 
 pub returns-in-One : goal.returns-in-One
 returns-in-One c = λ trace reached.
-    let part = c.args.part.members in
+    let part = c.args.part.now.members in
     let common = subst (λ (k : CommonTrace). IsCommonTrace k part trace) c.in-One.is (c.in_ok-parting.ensures.common trace reached) in
     let same : c.in-One.end ≡ c.args.claimed = MatchBool-at_true _ _ c.if-is_same.true c.is_same.ensures in
     as_claimed trace (record { steps = common.0; end = c.in-One.end }) c.args.claimed part c.requires common.1 same
 
-pub returns : goal.returns
-returns c = λ trace reached.
-    let part = c.args.part.members in
+pub returns-in-One-2 : goal.returns-in-One-2
+returns-in-One-2 c = λ trace reached.
+    let part = c.args.part.now.members in
     let common = subst (λ (k : CommonTrace). IsCommonTrace k part trace) c.in-One.is (c.in_ok-parting.ensures.common trace reached) in
     let other : c.in-One.end ≢ c.args.claimed = MatchBool-at_false _ _ c.if-is_same.false c.is_same.ensures in
     let corner = subst (λ (sets : List SetOf). IsCorner sets (device_numbers c.corner.result)) c.in_ok-parting.ensures.members c.corner.ensures in

@@ -15,12 +15,12 @@ use Rattle.cert_checker.proofs.node.take_test.Goals as goal
 
 pub narrowed-requires : goal.narrowed-requires
 narrowed-requires c = λ d m.
-    let split = subst (λ (s : Split). IsSplit c.args.part.members (test_of c.args.test.now) s) c.in-Halves.is c.in_ok-yes.ensures.halves in
+    let split = subst (λ (s : Split). IsSplit c.args.whole.now.members (test_of c.args.test.now) s) c.in-Halves.is c.in_ok-yes.ensures.halves in
     subst (λ (sets : List SetOf). IsMember sets d) (sym c.in_ok-common_trace-in-Halves.ensures.members) ((split.2.members d).0 m).member
 
 pub returns-in_ok-push-in-Halves-2-clause-outcome : goal.returns-in_ok-push-in-Halves-2-clause-outcome
 returns-in_ok-push-in-Halves-2-clause-outcome c =
-    let part = c.args.part.members in
+    let part = c.args.whole.now.members in
     let test = test_of c.args.test.now in
     let split = subst (λ (s : Split). IsSplit part test s) c.in-Halves.is c.in_ok-yes.ensures.halves in
     let no = c.in_ok-narrowed-in-Halves in
@@ -42,13 +42,13 @@ returns-in_ok-push-in-Halves-2-clause-reached c = λ trace reached all.
 pub returns-in-WrongKind-clause-outcome : goal.returns-in-WrongKind-clause-outcome
 returns-in-WrongKind-clause-outcome c =
     let boxes = boxes_of c.args.open_boxes.now in
-    let wrong = subst (λ (s : Split). IsSplit c.args.part.members (test_of c.args.test.now) s) c.in-WrongKind.is c.in_ok-yes.ensures.halves in
-    subst (λ (f : Failure). TakesTest (test_of c.args.test.now) c.args.part.members boxes boxes (Some f)) (sym c.of.ensures)
-    (wrong_kind c.args.part.members (test_of c.args.test.now) boxes boxes wrong)
+    let wrong = subst (λ (s : Split). IsSplit c.args.whole.now.members (test_of c.args.test.now) s) c.in-WrongKind.is c.in_ok-yes.ensures.halves in
+    subst (λ (f : Failure). TakesTest (test_of c.args.test.now) c.args.whole.now.members boxes boxes (Some f)) (sym c.of.ensures)
+    (wrong_kind c.args.whole.now.members (test_of c.args.test.now) boxes boxes wrong)
 
 pub returns-in-EmptyHalf-clause-outcome : goal.returns-in-EmptyHalf-clause-outcome
 returns-in-EmptyHalf-clause-outcome c =
     let boxes = boxes_of c.args.open_boxes.now in
-    let split = subst (λ (s : Split). IsSplit c.args.part.members (test_of c.args.test.now) s) c.in-EmptyHalf.is c.in_ok-yes.ensures.halves in
-    subst (λ (f : Failure). TakesTest (test_of c.args.test.now) c.args.part.members boxes boxes (Some f)) (sym c.of-in-EmptyHalf.ensures)
-    (empty_half c.args.part.members (test_of c.args.test.now) boxes boxes split.0 split.1)
+    let split = subst (λ (s : Split). IsSplit c.args.whole.now.members (test_of c.args.test.now) s) c.in-EmptyHalf.is c.in_ok-yes.ensures.halves in
+    subst (λ (f : Failure). TakesTest (test_of c.args.test.now) c.args.whole.now.members boxes boxes (Some f)) (sym c.of-in-EmptyHalf.ensures)
+    (empty_half c.args.whole.now.members (test_of c.args.test.now) boxes boxes split.0 split.1)
