@@ -25,15 +25,14 @@ use std::alloc::Global;
 pub(crate) fn add_node<'a, 's>(
     alloc: Global,
     stack: &Stack<'a>,
-    part: OpenBox<'a, 's>,
+    part: &mut OpenBox<'a, 's>,
     nodes: &mut Vec<Node>,
     open_boxes: &mut OpenBoxes<'a, 's>,
 ) -> Result<Option<(Device, End)>, OutOfMemory>
-    ensures grows { IfOk result (λ found. IfNone found (GrowsOn stack.now part.entry (map node_of nodes.old.items) (map node_of nodes.new.items) open_boxes.old open_boxes.new)) }
+    ensures grows { IfOk result (λ found. IfNone found (GrowsOn stack.now part.old (map node_of nodes.old.items) (map node_of nodes.new.items) open_boxes.old open_boxes.new)) }
     ensures one_more { IfOk result (λ found. IfNone found (length nodes.new.items ≡ length nodes.old.items + 1)) }
-    ensures counterexample { IfOk result (λ found. IfSome found (λ shown. (trace : List ℕ → Trace) → IsReached stack.now trace part.entry → IsCounterexampleOf trace part.entry.members (device_numbers shown.0) shown.1)) }
+    ensures counterexample { IfOk result (λ found. IfSome found (λ shown. (trace : List ℕ → Trace) → IsReached stack.now trace part.old → IsCounterexampleOf trace part.old.members (device_numbers shown.0) shown.1)) }
 {
-    let mut part = part;
     match part.common_trace(alloc, stack)? {
         CommonTrace::One(end) => match leaf_of(end) {
             Some(leaf) => {
@@ -48,7 +47,7 @@ pub(crate) fn add_node<'a, 's>(
         CommonTrace::Mixed(first) => {
             let parting = part.weightiest_parting(alloc, first)?;
             let test = parting_test(alloc, &part.members, &parting)?;
-            add_test(alloc, &part, test, nodes, open_boxes)?;
+            add_test(alloc, part, test, nodes, open_boxes)?;
             Ok(None)
         }
     }

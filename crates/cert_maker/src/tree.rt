@@ -36,8 +36,10 @@ pub(crate) fn grow_tree(
     let whole = goal_box(alloc, stack, goal, members.shared(alloc)?)?;
     let mut open_boxes = OpenBoxes::new(alloc);
     open_boxes.push(whole)?;
-    'boxes: while let Some(part) = open_boxes.pop() {
-        if let Some((device, end)) = add_node(alloc, stack, part, &mut nodes, &mut open_boxes)? {
+    'boxes: while let Some(mut part) = open_boxes.pop() {
+        let found = add_node(alloc, stack, &mut part, &mut nodes, &mut open_boxes);
+        drop(part);
+        if let Some((device, end)) = found? {
             return Ok(Grown::Counterexample(device, end));
         }
         if nodes.len() as u128 + open_boxes.len() as u128 > most as u128 {

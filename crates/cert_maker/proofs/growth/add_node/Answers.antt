@@ -16,10 +16,10 @@ use Rattle.cert_maker.proofs.Cut.{needed-by-trace}
 use Rattle.cert_maker.proofs.Steps.{grows-leaf, map-push}
 use Rattle.cert_maker.proofs.growth.add_node.Goals as goal
 
-pub returns-in-Some-clause-grows : goal.returns-in-Some-clause-grows
-returns-in-Some-clause-grows c = λ goal reached all.
+pub returns-in_ok-push-in-Some-clause-grows : goal.returns-in_ok-push-in-Some-clause-grows
+returns-in_ok-push-in-Some-clause-grows c = λ goal reached all.
     let trace : List ℕ → Trace = goal_trace c.args.stack.now goal in
-    let part = c.args.part.members in
+    let part = c.args.part.now.members in
     let common = subst (λ (k : CommonTrace). IsCommonTrace k part trace) c.in-One.is (c.in_ok-end.ensures.common trace reached) in
     let t : Trace = record { steps = common.0; end = c.in-One.end } in (
       grows-leaf trace part t (node_of c.in-Some.leaf)
@@ -31,9 +31,9 @@ returns-in-Some-clause-grows c = λ goal reached all.
       all,
     )
 
-pub returns-in-One-clause-counterexample : goal.returns-in-One-clause-counterexample
-returns-in-One-clause-counterexample c = λ trace reached.
-    let part = c.args.part.members in
+pub returns-in-None-clause-counterexample : goal.returns-in-None-clause-counterexample
+returns-in-None-clause-counterexample c = λ trace reached.
+    let part = c.args.part.now.members in
     let common = subst (λ (k : CommonTrace). IsCommonTrace k part trace) c.in-One.is (c.in_ok-end.ensures.common trace reached) in
     let corner = subst (λ (sets : List SetOf). IsCorner sets (device_numbers c.corner.result)) c.in_ok-end.ensures.members c.corner.ensures in
     record {
@@ -45,21 +45,21 @@ returns-in-One-clause-counterexample c = λ trace reached.
 pub parting_test-requires : goal.parting_test-requires
 parting_test-requires c =
     let stack = c.args.stack.now in
-    let rest : List ℕ → Trace = rest_of stack c.args.part.walk in
-    let reached = reached_there stack c.args.part in
-    (told_in_place rest _ c.in-Mixed.first _ c.args.part.members _ _ c.in-Mixed.is c.in_ok-end.ensures.members c.in_ok-parting-in-Mixed.ensures.members (c.in_ok-end.ensures.common rest reached)
+    let rest : List ℕ → Trace = rest_of stack c.args.part.now.walk in
+    let reached = reached_there stack c.args.part.now in
+    (told_in_place rest _ c.in-Mixed.first _ c.args.part.now.members _ _ c.in-Mixed.is c.in_ok-end.ensures.members c.in_ok-parting-in-Mixed.ensures.members (c.in_ok-end.ensures.common rest reached)
     (c.in_ok-parting-in-Mixed.ensures.told stack rest (c.in_ok-end.ensures.reached rest reached))).separates
 
 pub add_test-requires-clause-asked : goal.add_test-requires-clause-asked
 add_test-requires-clause-asked c = c.in_ok-test-in-Mixed.ensures.needed.passes
 
-pub returns-clause-grows : goal.returns-clause-grows
-returns-clause-grows c = λ goal reached all.
+pub returns-in_ok-add_test-in-Mixed-clause-grows : goal.returns-in_ok-add_test-in-Mixed-clause-grows
+returns-in_ok-add_test-in-Mixed-clause-grows c = λ goal reached all.
     let stack = c.args.stack.now in
     let trace : List ℕ → Trace = goal_trace stack goal in
     let further = c.in_ok-end.ensures.reached trace reached in
     let told =
-    told_in_place trace _ c.in-Mixed.first _ c.args.part.members _ _ c.in-Mixed.is c.in_ok-end.ensures.members c.in_ok-parting-in-Mixed.ensures.members (c.in_ok-end.ensures.common trace reached)
+    told_in_place trace _ c.in-Mixed.first _ c.args.part.now.members _ _ c.in-Mixed.is c.in_ok-end.ensures.members c.in_ok-parting-in-Mixed.ensures.members (c.in_ok-end.ensures.common trace reached)
     (c.in_ok-parting-in-Mixed.ensures.told stack trace further) in
     let grows = c.in_ok-add_test-in-Mixed.ensures.grows trace (needed-by-trace trace _ _ _ told.trace_tells c.in_ok-test-in-Mixed.ensures.needed) in (
       subst (λ (sets : List SetOf). Grows trace sets (map node_of c.args.nodes.now.items) (map node_of c.add_test.new.nodes.items) (boxes_of c.args.open_boxes.now) (boxes_of c.add_test.new.open_boxes))

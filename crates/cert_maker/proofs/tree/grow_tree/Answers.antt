@@ -42,12 +42,12 @@ returns-in-Some-2 c =
 pub returns-then-len-most : goal.returns-then-len-most
 returns-then-len-most c =
     let trace : List ℕ → Trace = goal_trace c.args.stack.now (goal_seen c.args.goal.now) in
-    let count = length-map c.add_node.new.nodes.items node_of in
-    let open_count = length-map c.add_node.new.open_boxes (λ (part : OpenBox). part.members) in
+    let count = length-map c.add_node-found.new.nodes.items node_of in
+    let open_count = length-map c.add_node-found.new.open_boxes (λ (part : OpenBox). part.members) in
     let taken = All-pop (IsReached c.args.stack.now trace) c.boxes.open_boxes c.pop.new.self (Some c.in-Some.part) c.in-Some.ensures.items c.boxes.invariant.reached in
     let grown = when-none _ _ c.in_default-2.is c.in_ok-device.ensures.grows (goal_seen c.args.goal.now) taken.1 taken.0 in
-    too-large trace c.args.members.now (map node_of c.add_node.new.nodes.items) (boxes_of c.add_node.new.open_boxes) c.args.most
-    (goes-on trace c.args.members.now c.in-Some.part.members (map node_of c.boxes.nodes.items) (map node_of c.add_node.new.nodes.items) (boxes_of c.boxes.open_boxes) (boxes_of c.pop.new.self) (boxes_of c.add_node.new.open_boxes)
+    too-large trace c.args.members.now (map node_of c.add_node-found.new.nodes.items) (boxes_of c.add_node-found.new.open_boxes) c.args.most
+    (goes-on trace c.args.members.now c.in-Some.part.members (map node_of c.boxes.nodes.items) (map node_of c.add_node-found.new.nodes.items) (boxes_of c.boxes.open_boxes) (boxes_of c.pop.new.self) (boxes_of c.add_node-found.new.open_boxes)
     (boxes-push _ _ _ c.in-Some.ensures.items) c.boxes.invariant.going grown.0)
     (omega (arith, count, open_count))
 
@@ -57,7 +57,7 @@ boxes-preserved c =
     let taken = All-pop (IsReached c.args.stack.now trace) c.boxes.open_boxes c.pop.new.self (Some c.in-Some.part) c.in-Some.ensures.items c.boxes.invariant.reached in
     let grown = when-none _ _ c.in_default-2.is c.in_ok-device.ensures.grows (goal_seen c.args.goal.now) taken.1 taken.0 in
     record {
-      going = goes-on trace c.args.members.now c.in-Some.part.members (map node_of c.boxes.nodes.items) (map node_of c.add_node.new.nodes.items) (boxes_of c.boxes.open_boxes) (boxes_of c.pop.new.self) (boxes_of c.add_node.new.open_boxes)
+      going = goes-on trace c.args.members.now c.in-Some.part.members (map node_of c.boxes.nodes.items) (map node_of c.add_node-found.new.nodes.items) (boxes_of c.boxes.open_boxes) (boxes_of c.pop.new.self) (boxes_of c.add_node-found.new.open_boxes)
           (boxes-push _ _ _ c.in-Some.ensures.items) c.boxes.invariant.going grown.0;
       reached = grown.1;
       within = omega arith;
