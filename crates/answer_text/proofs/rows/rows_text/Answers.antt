@@ -1,7 +1,8 @@
 use Rattle.std.proofs.Common.{◌≡◌, ℕ, length, ap, subst, arith}
 use Rattle.std.proofs.lemmas.Result.{on_ok_weaker}
+use Rattle.std.proofs.lemmas.Grind.{common_steps}
 use Rattle.std.specs.Io.KnownBytes.{Appends}
-use Rattle.contract_words.proofs.TextSteps.{PutsAllBut-end}
+use Rattle.contract_words.proofs.TextSteps.{PutsAllBut-next, PutsAllBut-end}
 use Rattle.bags_themes.specs.resource_table.Table.{rows_of}
 use Rattle.bags_themes.specs.type_chunks.Row.{set_aside_count}
 use Rattle.answer_text.specs.RowsText.{rows_text, totals_text}
@@ -22,3 +23,14 @@ returns g c =
     (subst (λ (n : ℕ). Appends (contents l.out) (contents c.write_totals.new.out) (totals_text n (set_aside_count rows))) count
     (subst (λ (n : ℕ). Appends (contents l.out) (contents c.write_totals.new.out) (totals_text l.count n)) aside put)))
     c.write_totals.ensures
+
+pub loop-row-preserved-then-set_aside : goal.loop-row-preserved-then-set_aside
+loop-row-preserved-then-set_aside g c = record {
+  can = tt;
+  ends = tt;
+  texts = PutsAllBut-next _ _ _ _ _ _ _ _ c.loop-row.invariant.texts c.in-Some.ensures.steps c.in_ok-write_row.ensures;
+  counted = omega (arith, ap length c.in-Some.ensures.steps);
+  of_them = grind (arith, common_steps);
+  small = omega (arith, ap length c.in-Some.ensures.steps);
+  fewer = omega arith;
+}
