@@ -1,5 +1,6 @@
-use Rattle.std.proofs.Common.{List, [], ◌∷◌, ◌++◌, Option, Some, ap, ◌∙◌}
+use Rattle.std.proofs.Common.{List, [], ◌∷◌, ◌++◌, Option, Some, IsSome, refl, ap, ◌∙◌}
 use Rattle.std.proofs.lemmas.Grind.{flat_map-append}
+use Rattle.std.proofs.lemmas.List.Elements.{All-same, All-push}
 use Rattle.std.specs.List.{flat_map}
 use Rattle.std.specs.Option.{option_to_list}
 use Rattle.box_trace.specs.declared.open_box.OpenBox.{OpenBox}
@@ -13,3 +14,6 @@ returns c = record {
       ∙ ap (λ (parts : List OpenBox). parts ++ c.args.part ∷ []) c.self.view_is;
   err = tt;
 }
+
+pub invariant_of-self-2 : goal.invariant_of-self-2
+invariant_of-self-2 c = All-same IsSome _ _ c.in_ok-push.ensures.ok (All-push IsSome _ _ c.self.invariant refl)
