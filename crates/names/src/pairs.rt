@@ -92,6 +92,8 @@ fn keep<'a>(
     for (pair, is_asked) in pairs.into_iter().zip(asked) {
         if is_asked {
             kept.push(pair)?;
+        } else {
+            drop(pair);
         }
     }
     Ok(kept)
