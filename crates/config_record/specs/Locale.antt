@@ -77,6 +77,11 @@ with_region language region =
     checked_by (with_region_faults language region)
     (Ok (record { language = unwrap_or (language_of language) no_part; region = unwrap_or (region_of region) no_part }))
 
+-- of a language, and of a region where there is one
+abbrev pub locale_of_parts : List ℕ → Option (List ℕ) → Result Locale LocaleFault
+locale_of_parts language None = without_region language
+locale_of_parts language (Some region) = with_region language region
+
 -- cut at the first dash
 abbrev pub cut_at : List ℕ → Option ℕ → Result Locale LocaleFault
 cut_at text None = without_region text

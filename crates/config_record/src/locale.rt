@@ -215,6 +215,26 @@ fn packed(base: u8, first: u8, second: u8, third: u8) -> [u8; 2]
     ]
 }
 
+impl Locale {
+    ghost use Rattle.std.specs.Prelude.{option_map};
+    ghost use Rattle.config_record.specs.Locale.{locale_of_parts};
+
+    /// The locale of a language and a region that stand apart, each as a text has them. For callers whose
+    /// texts have another sign than a dash between the two.
+    ///
+    /// ```text
+    /// let locale = Locale::of_parts(b"fr", Some(b"CA"))?; // that of fr-CA
+    /// ```
+    pub fn of_parts(language: &[u8], region: Option<&[u8]>) -> Result<Locale, LocaleFault>
+        ensures { result ≡ locale_of_parts language.now (option_map (λ region. region.now) region.entry) }
+    {
+        match region {
+            Some(region) => with_region(language, region),
+            None => without_region(language),
+        }
+    }
+}
+
 // ---- as a text
 
 /// The letters or digits of a language or a region.
