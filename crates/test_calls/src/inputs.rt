@@ -1,7 +1,8 @@
-//! Calls over the bytes of tables and of certificates, over layers that tables are put into, and of parts.
+//! Calls over the bytes of tables, of certificates and of devices, over layers that tables are put into, and of parts.
 
 mod certificates;
 mod full;
+mod lines;
 mod pairs;
 mod parts;
 mod tables;
@@ -16,6 +17,7 @@ pub fn call(rt: &HostRuntime, words: &[String]) -> Result<(), Fail> {
         "Chunks::new" => tables::chunks(rt, given),
         "Table::find" => tables::names(rt, given),
         "Cert::write" => certificates::written(rt, given),
+        "config_line" => lines::line(rt, given),
         "Device::check" => parts::device(rt),
         "Goal::attr" => parts::goal(rt),
         "Stack::push_base" => full::base(rt, given),

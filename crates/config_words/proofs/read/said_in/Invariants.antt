@@ -1,0 +1,18 @@
+use Rattle.std.proofs.Common.{◌≡◌, ℕ, ◌+◌, List, length, Option, Some, None}
+use Rattle.std.specs.Borrow.{Bor}
+use Rattle.config_words.specs.PartsSeen.{parts_behind}
+use Rattle.config_words.specs.Parts.{parts_of}
+use Rattle.config_words.specs.Said.{with_parts}
+use Rattle.config_words.specs.Config.{nothing_said}
+use Rattle.config_words.proofs.read.said_in.Given as goal
+
+-- what is said so far, and the parts that are left
+abbrev pub invariant-parts : goal.invariant-parts
+invariant-parts l = with_parts (parts_behind l.left) l.said ≡ with_parts (parts_of l.line) nothing_said
+
+abbrev pub size_of_left : Option (Bor (List ℕ)) → ℕ
+size_of_left None = 0
+size_of_left (Some text) = length text.now + 1
+
+abbrev pub decreases-parts : goal.decreases-parts
+decreases-parts l = size_of_left l.left

@@ -1,0 +1,13 @@
+pub mod Fault
+pub mod Cut
+pub mod Numeral
+pub mod Parts
+pub mod PartsSeen
+pub mod LocalePart
+pub mod Words
+pub mod Forms
+pub mod Qualifier
+pub mod Said
+pub mod Config
+pub mod LineParts
+pub mod Line

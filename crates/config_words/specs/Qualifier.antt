@@ -1,0 +1,58 @@
+-- What a part says.
+use Rattle.std.specs.Prelude.{ℕ, List, codes, option_map, Option, Some, None}
+use Rattle.std.specs.Option.{option_and_then, option_or}
+use Rattle.config_record.specs.declared.coord.Coord.{Coord}
+use Rattle.config_record.specs.declared.coord.Coord.TheVariants as coords
+use Rattle.config_words.specs.declared.qualifier.Qualifier.{Qualifier}
+use Rattle.config_words.specs.declared.qualifier.Qualifier.TheVariants.{Number, Locale, Size, Version}
+use Rattle.config_words.specs.Cut.{cut_at, behind}
+use Rattle.config_words.specs.Numeral.{number_of}
+use Rattle.config_words.specs.LocalePart.{locale_in}
+use Rattle.config_words.specs.Words.{words, find_word}
+use Rattle.config_words.specs.Forms.{forms, numbered_by}
+
+unfoldable pub word_in : List ℕ → Option Qualifier
+word_in part = option_map (λ word. Number word.coord word.number) (find_word words part)
+
+unfoldable pub number_in : List ℕ → Option Qualifier
+number_in part = option_map (λ numbered. Number numbered.coord numbered.number) (numbered_by forms part)
+
+-- 'x', between width and height
+abbrev pub times : ℕ
+times = 120
+
+-- '.', before the part of a version that comes after
+abbrev pub dot : ℕ
+dot = 46
+
+abbrev pub both : (ℕ → ℕ → Qualifier) → Option ℕ → Option ℕ → Option Qualifier
+both make (Some first) (Some second) = Some (make first second)
+both make _ _ = None
+
+-- two numbers, of which the second is `missing` where nothing stands behind the sign
+abbrev pub two_numbers : (ℕ → ℕ → Qualifier) → Option ℕ → List ℕ → Option (List ℕ) → Option Qualifier
+two_numbers make missing first None = both make (number_of first) missing
+two_numbers make missing first (Some second) = both make (number_of first) (number_of second)
+
+unfoldable pub size_in : List ℕ → Option Qualifier
+size_in part = two_numbers Size None (cut_at times part).0 (cut_at times part).1
+
+unfoldable pub version_of : List ℕ → Option Qualifier
+version_of text = two_numbers Version (Some 0) (cut_at dot text).0 (cut_at dot text).1
+
+unfoldable pub version_in : List ℕ → Option Qualifier
+version_in part = option_and_then version_of (behind (codes "v") part)
+
+unfoldable pub locales_in : List ℕ → Option Qualifier
+locales_in part = option_map Locale (locale_in part)
+
+-- A word comes first: a part `car` is the type of a device's interface, and no language.
+unfoldable pub qualifier_in : List ℕ → Option Qualifier
+qualifier_in part = option_or (word_in part) (option_or (number_in part) (option_or (size_in part) (option_or (version_in part) (locales_in part))))
+
+-- the first coordinate that it speaks of, which no two of a line may share
+abbrev pub kind_of : Qualifier → Coord
+kind_of (Number coord number) = coord
+kind_of (Locale locale) = coords.Locale
+kind_of (Size width height) = coords.Width
+kind_of (Version sdk minor) = coords.Sdk

@@ -1,0 +1,16 @@
+//! Why a line is no device.
+
+use config_record::DeviceFault;
+use thiserror::Error;
+
+/// What is wrong with a line, which lends its part. Parts are looked at from the left; what they say is checked when
+/// all are read.
+#[derive(Clone, Copy, Debug, PartialEq, Eq, Error)]
+pub enum ConfigWordFault<'a> {
+    /// A part is no qualifier, or of a kind that an earlier one is of.
+    #[error("Qualifier")]
+    Qualifier(&'a [u8]),
+    /// No device has what the parts say.
+    #[error("{0}")]
+    Device(DeviceFault),
+}

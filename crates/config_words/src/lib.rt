@@ -1,0 +1,29 @@
+//! Devices as Android writes them: the line that `adb shell am get-config` prints first, of words for qualifiers with
+//! dashes between them.
+//!
+//! For the crates above: what is read of a line is what the definition of its parts says, or the first part that is no
+//! qualifier or one that is there already, lent from the line. And back: the line that is written of a device reads as
+//! that device.
+//!
+//! ```text
+//! let device = read_config("mcc310-mnc4-es-rMX-ldltr-sw411dp-port-560dpi-v27")?;
+//! let line = config_line(alloc, &device)?;
+//! ```
+#![tactic(auto)]
+
+mod cut;
+mod fault;
+mod forms;
+mod line;
+mod line_parts;
+mod locale_part;
+mod numeral;
+mod parts;
+mod qualifier;
+mod read;
+mod said;
+mod words;
+
+pub use fault::ConfigWordFault;
+pub use line::{NoLine, config_line};
+pub use read::read_config;

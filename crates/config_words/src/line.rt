@@ -1,0 +1,55 @@
+//! The line of a device, as Android writes it.
+
+ghost use Rattle.std.specs.Prelude.{◌≡◌, Ok, IfOk};
+ghost use Rattle.contract_words.specs.Exact.{GivesOr};
+ghost use Rattle.config_record.specs.DeviceSeen.{device_numbers};
+ghost use Rattle.config_words.specs.declared.line.NoLine.TheVariants.{OutOfMemory};
+ghost use Rattle.config_words.specs.Config.{device_of_config};
+ghost use Rattle.config_words.specs.Line.{is_device, config_line_of};
+
+use crate::line_parts::line_text;
+use crate::read::read_line;
+use config_record::Device;
+use std::alloc::Global;
+use thiserror::Error;
+
+/// Why there is no line of a device.
+#[derive(Clone, Copy, Debug, PartialEq, Eq, Error)]
+pub enum NoLine {
+    /// The device says something that no word says.
+    #[error("NoWord")]
+    NoWord,
+    #[error("OutOfMemory")]
+    OutOfMemory,
+}
+
+/// The line of a device, as Android writes it. It is read back before it is given.
+///
+/// ```text
+/// let line = config_line(alloc, &device)?; // mcc310-mnc4-es-rMX-ldltr-sw411dp-port-560dpi-v27
+/// ```
+#[tactic(auto, unfolding(crate::specs::Line::config_line_of))]
+pub fn config_line(alloc: Global, device: &Device) -> Result<Vec<u8>, NoLine>
+    ensures line { GivesOr OutOfMemory (λ line. line.items) result (config_line_of (device_numbers device.now)) }
+
+    // It reads as that device.
+    ensures reads_back { IfOk result (λ line. device_of_config line.items ≡ Ok (device_numbers device.now)) }
+{
+    // To a `Vec` only a want of memory is a fault.
+    let Ok(line) = line_text(alloc, device) else {
+        return Err(NoLine::OutOfMemory);
+    };
+    if !is_line_of(&line, device) {
+        return Err(NoLine::NoWord);
+    }
+    Ok(line)
+}
+
+fn is_line_of(line: &[u8], device: &Device) -> bool
+    ensures { result ≡ is_device (device_of_config line.now) (device_numbers device.now) }
+{
+    match read_line(line) {
+        Ok(read) => read == *device,
+        Err(_) => false,
+    }
+}

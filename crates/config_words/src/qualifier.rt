@@ -1,0 +1,100 @@
+//! What a part of a line says.
+
+ghost use Rattle.std.specs.Prelude.{◌≡◌};
+
+use crate::cut::{behind, cut_at};
+use crate::forms::numbered;
+use crate::locale_part::locale_in;
+use crate::numeral::number_of;
+use crate::words::find_word;
+use config_record::{Coord, Locale};
+
+/// What a part says of a device.
+#[derive(Clone, Copy)]
+pub(crate) enum Qualifier {
+    /// The number at a coordinate.
+    Number(Coord, u64),
+    Locale(Locale),
+    /// Width and height in pixels.
+    Size(u64, u64),
+    /// The version of the platform, and the part of it after its dot.
+    Version(u64, u64),
+}
+
+impl Qualifier {
+    ghost use Rattle.config_words.specs.Qualifier.{word_in, number_in, size_in, version_of, version_in, locales_in, qualifier_in, kind_of};
+
+    /// What a part says, if it is a qualifier.
+    #[tactic(auto, unfolding(crate::specs::Qualifier::qualifier_in))]
+    pub fn read(part: &[u8]) -> Option<Qualifier>
+        ensures { result ≡ qualifier_in part.now }
+    {
+        Qualifier::word_in(part)
+            .or_else(|| Qualifier::number_in(part))
+            .or_else(|| Qualifier::size_in(part))
+            .or_else(|| Qualifier::version_in(part))
+            .or_else(|| Qualifier::locales_in(part))
+    }
+
+    #[tactic(auto, unfolding(crate::specs::Qualifier::word_in))]
+    fn word_in(part: &[u8]) -> Option<Qualifier>
+        ensures { result ≡ word_in part.now }
+    {
+        let word = find_word(part)?;
+        Some(Qualifier::Number(word.coord, word.number))
+    }
+
+    #[tactic(auto, unfolding(crate::specs::Qualifier::number_in))]
+    fn number_in(part: &[u8]) -> Option<Qualifier>
+        ensures { result ≡ number_in part.now }
+    {
+        let numbered = numbered(part)?;
+        Some(Qualifier::Number(numbered.coord, numbered.number))
+    }
+
+    #[tactic(auto, unfolding(crate::specs::Qualifier::size_in))]
+    fn size_in(part: &[u8]) -> Option<Qualifier>
+        ensures { result ≡ size_in part.now }
+    {
+        let (width, height) = cut_at(b'x', part);
+        Some(Qualifier::Size(number_of(width)?, number_of(height?)?))
+    }
+
+    #[tactic(auto, unfolding(crate::specs::Qualifier::version_in))]
+    fn version_in(part: &[u8]) -> Option<Qualifier>
+        ensures { result ≡ version_in part.now }
+    {
+        Qualifier::version_of(behind(b"v", part)?)
+    }
+
+    #[tactic(auto, unfolding(crate::specs::Qualifier::version_of))]
+    fn version_of(text: &[u8]) -> Option<Qualifier>
+        ensures { result ≡ version_of text.now }
+    {
+        let (sdk, minor) = cut_at(b'.', text);
+        let sdk = number_of(sdk)?;
+        match minor {
+            Some(minor) => Some(Qualifier::Version(sdk, number_of(minor)?)),
+            None => Some(Qualifier::Version(sdk, 0)),
+        }
+    }
+
+    #[tactic(auto, unfolding(crate::specs::Qualifier::locales_in))]
+    fn locales_in(part: &[u8]) -> Option<Qualifier>
+        ensures { result ≡ locales_in part.now }
+    {
+        Some(Qualifier::Locale(locale_in(part)?))
+    }
+
+    /// The first coordinate that it speaks of, which no two of a line may share.
+    pub fn kind(self) -> Coord
+        ensures { result ≡ kind_of self }
+    {
+        match self {
+            Qualifier::Number(coord, _) => coord,
+            Qualifier::Locale(_) => Coord::Locale,
+            Qualifier::Size(..) => Coord::Width,
+            Qualifier::Version(..) => Coord::Sdk,
+        }
+    }
+}
