@@ -1,7 +1,7 @@
 #!/usr/bin/env python3
 """Makes apks for plain_apk, by their number: zip files of Python's zipfile with a few small members, among them one table, none
 or two, stored or deflated. Most are changed then: a field, a bit, bytes added or cut off, a header more or less. The first few
-are edges: no members, as many as there may be, and one more."""
+are edges: no members, as many as there may be, and one more; two directories, of two tables; two end records."""
 import io
 import random
 import warnings
@@ -180,6 +180,15 @@ def end_record_moved(chance, apk, places):
     put(apk, places.end + at, 4, number(apk, places.end + at, 4) + chance.choice((-46, -1, 1, 46)))
 
 
+def directory_in_part(chance, apk, places):
+    """The end record says that the directory is some of its headers, one behind the other."""
+    bounds = places.headers + [places.end]
+    first, behind = sorted(chance.choices(range(len(bounds)), k=2))
+    fields = {8: behind - first, 10: behind - first, 12: bounds[behind] - bounds[first], 16: bounds[first]}
+    for at, value in fields.items():
+        put(apk, places.end + at, END_FIELDS[at], value)
+
+
 def larger(chance, apk, places):
     """A member has both sizes another number, up to the last that fits before the directory, or one more."""
     if places.headers:
@@ -192,7 +201,8 @@ def larger(chance, apk, places):
 
 
 CHANGES = (field_changed,) * 8 + (
-    flagged, renamed, bit_changed, cut, added, put_before_end, put_before_directory, header_twice, end_record_moved, larger,
+    flagged, renamed, bit_changed, cut, added, put_before_end, put_before_directory, header_twice, end_record_moved,
+    directory_in_part, larger,
 )
 
 
@@ -205,8 +215,38 @@ def without_table(count=0, directory=b"", before=b""):
     return before + directory + end
 
 
+def with_tables(*tables, comment=b""):
+    """A zip file of these tables alone."""
+    out = io.BytesIO()
+    with warnings.catch_warnings(), zipfile.ZipFile(out, "w") as whole:
+        warnings.simplefilter("ignore")  # (zipfile warns of two members of one name)
+        for table in tables:
+            whole.writestr(zipfile.ZipInfo(TABLE), table)
+        whole.comment = comment
+    return out.getvalue()
+
+
+def two_directories(named):
+    """A zip file with a directory for each of two tables. The end record says where that one starts, and the size of either.
+    Where it says the first, zipfile takes the second, and all places to be by one size further back than they are told."""
+    apk = bytearray(with_tables(bytes(60), b"another table"))
+    end = len(apk) - 22
+    start, size = number(apk, end + 16, 4), number(apk, end + 12, 4) // 2
+    for at, value in {8: 1, 10: 1, 12: size, 16: start + named * size}.items():
+        put(apk, end + at, END_FIELDS[at], value)
+    if named == 0:
+        put(apk, start + size + 42, 4, number(apk, start + size + 42, 4) - size)
+    return bytes(apk)
+
+
+def two_end_records():
+    """A zip file whose comment is another one, with a byte behind, so that the last end record does not end the file."""
+    return with_tables(b"one table", comment=with_tables(b"another one") + b"\0")
+
+
 def edges():
-    """No bytes; no members; one without a name; a locator before the end record; 65,534 members and 65,535."""
+    """No bytes; no members; one without a name; a locator before the end record; 65,534 members and 65,535; two directories,
+    of which the first or the second is named; two end records."""
     nameless = HEADER + bytes(42)
     return [
         b"",
@@ -214,6 +254,9 @@ def edges():
         without_table(1, nameless),
         without_table(before=LOCATOR + bytes(16)),
         *(without_table(count, nameless * count) for count in (0xFFFE, 0xFFFF)),
+        two_directories(0),
+        two_directories(1),
+        two_end_records(),
     ]
 
 
