@@ -14,7 +14,7 @@ OTHERS = "AndroidManifest.xml", "classes.dex", "Resources.arsc", "res/resources.
 END_FIELDS = {4: 2, 6: 2, 8: 2, 10: 2, 12: 4, 16: 4, 20: 2}
 """Of each field of an end record its place and its size."""
 HEADER_FIELDS = {0: 4, 8: 2, 10: 2, 20: 4, 24: 4, 28: 2, 30: 2, 32: 2, 42: 4}
-LOCAL_FIELDS = {0: 4, 8: 2, 18: 4, 22: 4, 26: 2, 28: 2}
+LOCAL_FIELDS = {0: 4, 6: 2, 8: 2, 18: 4, 22: 4, 26: 2, 28: 2}
 MOST_COMMENT = 0xFFFF
 
 
@@ -190,14 +190,15 @@ def directory_in_part(chance, apk, places):
 
 
 def larger(chance, apk, places):
-    """A member has both sizes another number, up to the last that fits before the directory, or one more."""
+    """A member has another size, up to the last that fits before the directory, or one more. Its local header may not have it."""
     if places.headers:
         member = chance.randrange(len(places.headers))
         header, local = places.headers[member], places.local_headers[member]
         start = local + 30 + number(apk, local + 26, 2) + number(apk, local + 28, 2)
         size = number(apk, places.end + 16, 4) - start + chance.choice((0, 0, 1, -1))
-        for at in (20, 24):
-            put(apk, header + at, 4, size)
+        local_fields = [local + at for at in (18, 22)] * (chance.random() < 0.7)
+        for place in [header + 20, header + 24, *local_fields]:
+            put(apk, place, 4, size)
 
 
 CHANGES = (field_changed,) * 8 + (
