@@ -35,9 +35,9 @@ LIBRARY = [
     ("ℕ ℤ pos", "`ℕ`, `ℤ`, `pos n`", "natural numbers, from 0; whole numbers; `n` as a whole number"),
     ("zero suc", "`zero`, `suc n`", "0, and `n + 1`"),
     (
-        "◌+◌ ◌-◌ ◌*◌ ◌/◌ ◌%◌",
-        "`+`, `-`, `*`, `/`, `%`",
-        "of natural numbers: `a - b` is 0 where `b` is larger; `/` rounds down, and `%` is what it leaves",
+        "◌+◌ ◌-◌ ◌*◌ ◌/◌ ◌%◌ ◌^◌",
+        "`+`, `-`, `*`, `/`, `%`, `^`",
+        "of natural numbers: `a - b` is 0 where `b` is larger; `/` rounds down, `%` is what it leaves, and `2 ^ 32` is a power",
     ),
     ("◌+ℤ◌ ◌-ℤ◌", "`+ℤ`, `-ℤ`", "sum and difference of whole numbers"),
     ("◌≡◌ ◌≢◌ ◌<◌ ◌≤◌", "`≡`, `≢`, `<`, `≤`", "statements: equal, not equal, less, at most"),
@@ -82,7 +82,7 @@ LIBRARY = [
         "`slice_index xs i`, `slice_index_or xs i x`",
         "the item at `i`, and past the end 0, or `x`",
     ),
-    ("from_be_bytes w32", "`from_be_bytes w32 xs`", "the number of four bytes, the most significant first"),
+    ("from_be_bytes w64", "`from_be_bytes w64 xs`", "the number of eight bytes, the most significant first"),
 ]
 
 CHAPTERS = {

@@ -3,4 +3,3 @@ pub mod AlikeLemmas
 pub mod NearerLemmas
 pub mod BetterLaws
 pub mod ReadBack
-pub mod NumberLemmas

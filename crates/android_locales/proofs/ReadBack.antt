@@ -8,15 +8,15 @@ use Rattle.std.proofs.lemmas.List.Quantifiers.{position-Some}
 use Rattle.std.proofs.lemmas.Nat.{be_bytes_4}
 use Rattle.contract_words.specs.Faults.{◌>>=◌, refuse}
 use Rattle.contract_words.proofs.FaultSteps.{checked_by-ok}
-use Rattle.config_record.specs.declared.locale.Locale.{Locale}
-use Rattle.config_record.specs.declared.locale.LocaleFault.{LocaleFault}
-use Rattle.config_record.specs.declared.locale.LocaleFault.TheVariants.{Malformed}
-use Rattle.config_record.specs.Zero.{is_zero}
-use Rattle.config_record.specs.Locale.{dash, is_small_letter, is_capital_letter, is_digit, first_letter, first_digit, part_of, language_of, region_of, no_part, unpacked, without_region, with_region, with_region_faults, cut_at, locale_of, is_spelled, locale_faults, checked_locale, locale_text, language_text, region_text}
-use Rattle.config_record.proofs.LocaleLemmas.{locale_of-gives}
+use Rattle.config_record.specs.locales.declared.locale.Locale.{Locale}
+use Rattle.config_record.specs.locales.declared.locale.LocaleFault.{LocaleFault}
+use Rattle.config_record.specs.locales.declared.locale.LocaleFault.TheVariants.{Malformed}
+use Rattle.config_record.specs.locales.Zero.{is_zero}
+use Rattle.config_record.specs.locales.Locale.{dash, is_small_letter, is_capital_letter, is_digit, first_letter, first_digit, part_of, language_of, region_of, no_part, without_script, unpacked, without_region, with_region, with_region_faults, cut_at, locale_of, is_spelled, locale_faults, checked_locale, locale_text, language_text, region_text}
+use Rattle.config_record.proofs.locales.LocaleLemmas.{locale_of-gives}
 use Rattle.android_locales.specs.declared.scripted_locale.ScriptedLocale.{ScriptedLocale}
 use Rattle.android_locales.specs.Words.{number_of_script}
-use Rattle.android_locales.specs.Text.{written_script, likely_number, in_likely_script, is_dash, language_part, behind_language, without_script, with_script, scripted_locale_of, language_alone, region_alone, text_with_script, scripted_locale_text, ReadsBack}
+use Rattle.android_locales.specs.Text.{written_script, likely_number, in_likely_script, is_dash, language_part, behind_language, text_without_script, with_script, scripted_locale_of, language_alone, region_alone, text_with_script, scripted_locale_text, ReadsBack}
 use Rattle.android_locales.proofs.TextLemmas.{position_or_len-le, no_dash_before, language_alone_is, language_and_region_is, written_script-four, behind_script}
 
 -- ---- a text that gives a locale has no script
@@ -25,9 +25,9 @@ some_part : (o : Option (List ℕ)) → not (is_some o) ≡ false → o ≡ Some
 some_part None e = absurd cc
 some_part (Some part) e = refl
 
-same_locale : (language region : List ℕ) (l : Locale) → ◌≡◌ {A = Result Locale LocaleFault} (Ok (record { language = language; region = region })) (Ok l) → (language ≡ l.language) × (region ≡ l.region)
+same_locale : (language region : List ℕ) (l : Locale) → ◌≡◌ {A = Result Locale LocaleFault} (Ok (without_script language region)) (Ok l) → (language ≡ l.language) × (region ≡ l.region)
 same_locale language region l e =
-    let made : Locale = record { language = language; region = region } in
+    let made : Locale = without_script language region in
     let same : made ≡ l = cc in
     (ap (λ (m : Locale). m.language) same, ap (λ (m : Locale). m.region) same)
 
@@ -39,7 +39,7 @@ parts_of : (before after : List ℕ) (l : Locale) → with_region before after �
 parts_of before after l e =
     let language = unwrap_or (language_of before) no_part in
     let region = unwrap_or (region_of after) no_part in
-    let all = checked_by-ok (with_region_faults before after) (Ok (record { language = language; region = region })) l e in
+    let all = checked_by-ok (with_region_faults before after) (Ok (without_script language region)) l e in
     let same = same_locale language region l all.1 in
     let wrapped : List ℕ → Option (List ℕ) = λ part. Some part in
     record {
@@ -110,7 +110,7 @@ script_is (a ∷ b ∷ c ∷ d ∷ f ∷ bytes) script e = absurd cc
 -- what reading has found of a text with a script
 record Found (text script : List ℕ) (s : ScriptedLocale) : Type 0 where
   given : (length (language_part text) == 0) ≡ false
-  rest : locale_of (without_script text) ≡ Ok s.locale
+  rest : locale_of (text_without_script text) ≡ Ok s.locale
   own : s.script ≡ script
 
 found_by : (none : Bool) (read : Result Locale LocaleFault) (script : List ℕ) (s : ScriptedLocale)
@@ -125,7 +125,7 @@ found_by false (Ok l) script s e =
 
 found_in : (text script : List ℕ) (s : ScriptedLocale) → with_script text script ≡ Ok s → Found text script s
 found_in text script s e =
-    let all = found_by (length (language_part text) == 0) (locale_of (without_script text)) script s e in
+    let all = found_by (length (language_part text) == 0) (locale_of (text_without_script text)) script s e in
     record { given = all.0; rest = all.1; own = all.2 }
 
 -- language and region alone are written as the two pieces of the text
@@ -144,7 +144,7 @@ language_in : (language region : List ℕ) (l : Locale) → (length language == 
 language_in language [] l given no_dash first e =
     let part = unwrap_or (language_of language) no_part in
     let read : without_region language ≡ Ok l = sym (language_alone_is language no_dash) ∙ e in
-    let all = checked_by-ok ((not (length language == 0 || is_some (language_of language)), Malformed) ∷ []) (Ok (record { language = part; region = no_part })) l read in
+    let all = checked_by-ok ((not (length language == 0 || is_some (language_of language)), Malformed) ∷ []) (Ok (without_script part no_part)) l read in
     let wrapped : List ℕ → Option (List ℕ) = λ part. Some part in
     some_part (language_of language) (rw given at all.0.0) ∙ ap wrapped (same_locale part no_part l all.1).0
 language_in language (b ∷ region) l given no_dash first e =
@@ -162,7 +162,7 @@ alone_texts l spelled =
 
 spelled_of : (l : Locale) → checked_locale l ≡ Ok l → is_spelled l ≡ true
 unfolding checked_locale
-spelled_of l e = not-false (is_spelled l) (checked_by-ok (locale_faults l) (Ok l) l e).0.0
+spelled_of l e = not-false (is_spelled l) (checked_by-ok (locale_faults l) (Ok l) l e).0.1.0
 
 pieces_of : (language region : List ℕ) (l : Locale) → (length language == 0) ≡ false → position_or_len is_dash language ≡ length language → position_or_len is_dash region ≡ 0
     → locale_of (language ++ region) ≡ Ok l → Pieces language region l
@@ -222,8 +222,8 @@ own_back text script s written four fit read =
     elim (cases_Bool (number_of_script s.script == likely_number s.locale)) [
       | inl is ↦
           let likely = eqb-true (number_of_script s.script) (likely_number s.locale) is in
-          let printed = (locale_of-gives (without_script text) s.locale found.rest).printed in
-          ap scripted_locale_of (likely_text s likely ∙ printed) ∙ plain (without_script text) s.locale found.rest ∙ ap wrapped (in_likely s four fit likely)
+          let printed = (locale_of-gives (text_without_script text) s.locale found.rest).printed in
+          ap scripted_locale_of (likely_text s likely ∙ printed) ∙ plain (text_without_script text) s.locale found.rest ∙ ap wrapped (in_likely s four fit likely)
       | inr other ↦
           let first = behind_script (behind_language text) script written in
           let pieces = pieces_of (language_part text) (drop 4 (behind_language text)) s.locale found.given (no_dash_before text) first found.rest in

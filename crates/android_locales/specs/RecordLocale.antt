@@ -2,7 +2,7 @@
 use Rattle.std.specs.Prelude.{ℕ, ◌==◌, not, Bool, List, Result, Ok}
 use Rattle.contract_words.specs.Faults.{◌>>=◌}
 use Rattle.config_record.specs.declared.record.RecordFault.{RecordFault}
-use Rattle.config_record.specs.Zero.{is_zero}
+use Rattle.config_record.specs.locales.Zero.{is_zero}
 use Rattle.config_record.specs.Record.{byte, record_in, locale_in, locale_script, locale_variant}
 use Rattle.android_locales.specs.declared.record_locale.RecordLocale.{RecordLocale}
 

@@ -1,14 +1,14 @@
--- The texts of a device's locale, and the number by which such locales are ordered.
-use Rattle.std.specs.Prelude.{◌≡◌, ℕ, ◌+◌, ◌*◌, ◌/◌, ◌%◌, ◌^◌, ◌==◌, ◌&&◌, Bool, if◌then◌else◌, List, [], ◌∷◌, ◌++◌, length, drop, Option, Some, None, unwrap_or, Result, Ok}
+-- The texts of a device's locale.
+use Rattle.std.specs.Prelude.{◌≡◌, ℕ, ◌==◌, ◌&&◌, Bool, if◌then◌else◌, List, [], ◌∷◌, ◌++◌, length, drop, Option, Some, None, unwrap_or, Result, Ok}
 use Rattle.std.specs.List.{before_first, after_first}
 use Rattle.std.specs.Option.{option_map_or}
 use Rattle.std.specs.Int.{w32, to_be_bytes}
 use Rattle.contract_words.specs.Faults.{◌>>=◌, refuse}
-use Rattle.config_record.specs.declared.locale.Locale.{Locale}
-use Rattle.config_record.specs.declared.locale.LocaleFault.{LocaleFault}
-use Rattle.config_record.specs.declared.locale.LocaleFault.TheVariants.{Malformed}
-use Rattle.config_record.specs.Locale.{dash, is_small_letter, is_capital_letter, no_part, locale_of, locale_text}
-use Rattle.config_record.specs.ComparedNumber.{locale_number, locale_of_number}
+use Rattle.config_record.specs.locales.declared.locale.Locale.{Locale}
+use Rattle.config_record.specs.locales.declared.locale.LocaleFault.{LocaleFault}
+use Rattle.config_record.specs.locales.declared.locale.LocaleFault.TheVariants.{Malformed}
+use Rattle.config_record.specs.locales.Locale.{dash, is_small_letter, is_capital_letter, no_part, without_script, locale_of, locale_text}
+use Rattle.locale_data.specs.LocaleNumber.{number_of}
 use Rattle.locale_data.specs.Facts.{likely_of}
 use Rattle.android_locales.specs.declared.scripted_locale.ScriptedLocale.{ScriptedLocale}
 use Rattle.android_locales.specs.Words.{number_of_script}
@@ -23,7 +23,7 @@ written_script _ = None
 
 -- the number of the script in which a locale is likely written; 0 where there is none
 abbrev pub likely_number : Locale → ℕ
-likely_number l = unwrap_or (likely_of (locale_number l)) 0
+likely_number l = unwrap_or (likely_of (number_of l)) 0
 
 -- ---- the locale of a text
 
@@ -42,14 +42,14 @@ abbrev pub behind_language : List ℕ → List ℕ
 behind_language text = after_first is_dash text
 
 -- the text without the script: zh-HK where it is zh-Hant-HK
-abbrev pub without_script : List ℕ → List ℕ
-without_script text = language_part text ++ drop 4 (behind_language text)
+abbrev pub text_without_script : List ℕ → List ℕ
+text_without_script text = language_part text ++ drop 4 (behind_language text)
 
 -- a script needs a language before it; without the script the text is read as ever
 abbrev pub with_script : List ℕ → List ℕ → Result ScriptedLocale LocaleFault
 with_script text script = do
   _ ← refuse (length (language_part text) == 0) Malformed
-  locale ← locale_of (without_script text)
+  locale ← locale_of (text_without_script text)
   Ok (record { locale = locale; script = script })
 
 -- a text that has none is of the likely script
@@ -64,11 +64,11 @@ scripted_locale_of text =
 -- ---- the text of a locale
 
 abbrev pub language_alone : Locale → Locale
-language_alone l = record { language = l.language; region = no_part }
+language_alone l = without_script l.language no_part
 
 -- its text begins with a dash
 abbrev pub region_alone : Locale → Locale
-region_alone l = record { language = no_part; region = l.region }
+region_alone l = without_script no_part l.region
 
 abbrev pub text_with_script : ScriptedLocale → List ℕ
 text_with_script s = locale_text (language_alone s.locale) ++ dash ∷ s.script ++ locale_text (region_alone s.locale)
@@ -81,13 +81,3 @@ scripted_locale_text s =
 -- what is written of it reads as it; so no script is written that texts cannot have
 abbrev pub ReadsBack : ScriptedLocale → Type 0
 ReadsBack s = scripted_locale_of (scripted_locale_text s) ≡ Ok s
-
--- ---- the number of a locale
-
--- Language and region, and then the script, so that the order of these numbers is that of the bytes.
-unfoldable pub scripted_number : ScriptedLocale → ℕ
-scripted_number s = locale_number s.locale * 2 ^ 32 + number_of_script s.script
-
--- the locale that has this number
-unfoldable pub scripted_of_number : ℕ → ScriptedLocale
-scripted_of_number n = record { locale = locale_of_number (n / 2 ^ 32); script = to_be_bytes w32 (n % 2 ^ 32) }

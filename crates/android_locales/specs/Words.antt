@@ -2,7 +2,7 @@
 -- a locale without a region, a script the number of its four bytes. Where there is none of these, its bytes are zero.
 use Rattle.std.specs.Prelude.{ℕ, ◌==◌, ◌&&◌, ◌||◌, not, Bool, if◌then◌else◌, List, Option, Some, None}
 use Rattle.std.specs.Int.{w32, from_be_bytes}
-use Rattle.config_record.specs.ComparedNumber.{locale_number}
+use Rattle.locale_data.specs.LocaleNumber.{number_of}
 use Rattle.locale_data.specs.LocaleNumber.{number_of_text}
 use Rattle.locale_data.specs.Facts.{likely_of}
 use Rattle.android_locales.specs.declared.record_locale.RecordLocale.{RecordLocale}
@@ -21,7 +21,7 @@ exactly_one one other = (one && not other) || (other && not one)
 -- ---- of a device
 
 abbrev pub locale_of_device : ScriptedLocale → ℕ
-locale_of_device d = locale_number d.locale
+locale_of_device d = number_of d.locale
 
 -- the one that its text has, or else the likely one: the device has either (Text.antt)
 unfoldable pub script_of_device : ScriptedLocale → Option ℕ
@@ -30,7 +30,7 @@ script_of_device d = script_in d.script
 -- ---- of a record
 
 abbrev pub locale_of_record : RecordLocale → ℕ
-locale_of_record r = locale_number r.locale
+locale_of_record r = number_of r.locale
 
 -- it has neither a language nor a region, whatever its script
 abbrev pub says_nothing : RecordLocale → Bool

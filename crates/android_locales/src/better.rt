@@ -8,7 +8,7 @@ use crate::nearer::is_nearer;
 use crate::record_locale::RecordLocale;
 use crate::scripted_locale::ScriptedLocale;
 use crate::words::{are_alike, exactly_one};
-use locale_data::{is_near_us_english, language_of, region_of};
+use locale_data::{is_near_us_english, language_of, number_of, region_of};
 
 // en
 const ENGLISH: u32 = 0x656E_0000;
@@ -25,11 +25,11 @@ impl RecordLocale {
         ensures one_sided { IsTrue result → IsTrue (suits_of self device) → IsTrue (suits_of other device) → IsFalse (is_better_of other self device) }
         ensures not_itself { IsFalse (is_better_of self self device) }
     {
-        let wanted = device.locale.number();
+        let wanted = number_of(device.locale);
         if wanted == 0 || (self.says_nothing() && other.says_nothing()) {
             return false;
         }
-        let (here, there) = (self.locale.number(), other.locale.number());
+        let (here, there) = (number_of(self.locale), number_of(other.locale));
         if !are_alike(language_of(here), language_of(there)) {
             return is_better_language(here, there, wanted);
         }
@@ -44,12 +44,12 @@ impl RecordLocale {
     fn is_better_in_region(self, other: RecordLocale, device: ScriptedLocale) -> bool
         ensures { result ≡ is_better_in_region self other device }
     {
-        let wanted = language_of(device.locale.number());
+        let wanted = language_of(number_of(device.locale));
         if exactly_one(self.has_variant, other.has_variant) {
             return other.has_variant;
         }
-        let is_own = language_of(self.locale.number()) == wanted;
-        is_own && language_of(other.locale.number()) != wanted
+        let is_own = language_of(number_of(self.locale)) == wanted;
+        is_own && language_of(number_of(other.locale)) != wanted
     }
 }
 
@@ -69,7 +69,7 @@ fn is_better_language(here: u32, there: u32, wanted: u32) -> bool
     }
 }
 
-#[tactic(auto, unfolding(crate::specs::Better::is_us_english, config_record::specs::ComparedNumber::locale_number))]
+#[tactic(auto, unfolding(crate::specs::Better::is_us_english, locale_data::specs::LocaleNumber::number_of))]
 fn is_us_english(wanted: u32) -> bool
     ensures { result ≡ is_us_english wanted }
 {
@@ -77,7 +77,7 @@ fn is_us_english(wanted: u32) -> bool
         && (region_of(wanted) == UNITED_STATES || is_near_us_english(region_of(wanted)))
 }
 
-#[tactic(auto, unfolding(crate::specs::Better::is_good_region, config_record::specs::ComparedNumber::locale_number))]
+#[tactic(auto, unfolding(crate::specs::Better::is_good_region, locale_data::specs::LocaleNumber::number_of))]
 fn is_good_region(wanted: u32, region: u16) -> bool
     ensures { result ≡ is_good_region wanted region }
 {

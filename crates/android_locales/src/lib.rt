@@ -15,7 +15,6 @@
 
 mod better;
 mod nearer;
-mod parts;
 mod record_locale;
 mod scripted_locale;
 mod suits;

@@ -5,7 +5,7 @@ ghost use Rattle.android_locales.specs.Nearer.{is_special_spanish, stand_in, sta
 
 use crate::scripted_locale::ScriptedLocale;
 use crate::words::{exactly_one, number_of_script};
-use locale_data::{first_of, is_representative, language_of, line, region_of};
+use locale_data::{first_of, is_representative, language_of, line, number_of, region_of};
 
 // es-US
 const US_SPANISH: u32 = 0x6573_5553;
@@ -21,7 +21,7 @@ const LATIN_AMERICAN: u32 = 0x6573_A424;
 pub(crate) fn is_nearer(one: u16, other: u16, device: ScriptedLocale) -> bool
     ensures { result ≡ is_nearer_of one other device }
 {
-    let wanted = device.locale.number();
+    let wanted = number_of(device.locale);
     let x = language_of(wanted) + u32::from(one);
     let y = language_of(wanted) + u32::from(other);
     let script = number_of_script(device.script);
@@ -34,7 +34,7 @@ pub(crate) fn is_nearer(one: u16, other: u16, device: ScriptedLocale) -> bool
 }
 
 // Spanish of the US or of Mexico gives way to that of Latin America.
-#[tactic(auto, unfolding(crate::specs::Nearer::stand_in, config_record::specs::ComparedNumber::locale_number))]
+#[tactic(auto, unfolding(crate::specs::Nearer::stand_in, locale_data::specs::LocaleNumber::number_of))]
 fn stand_in(locale: u32, other: u32) -> u32
     ensures { result ≡ stand_in locale other }
 {
@@ -45,7 +45,7 @@ fn stand_in(locale: u32, other: u32) -> u32
     }
 }
 
-#[tactic(auto, unfolding(config_record::specs::ComparedNumber::locale_number))]
+#[tactic(auto, unfolding(locale_data::specs::LocaleNumber::number_of))]
 fn is_special_spanish(locale: u32) -> bool
     ensures { result ≡ is_special_spanish locale }
 {

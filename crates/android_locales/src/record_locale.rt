@@ -6,7 +6,7 @@ ghost use Rattle.config_record.specs.Record.{record_bytes, byte, size_in};
 use crate::words::{number_of_script, script_in};
 use chunk_walk::u32_at;
 use config_record::{Locale, Record, RecordFault};
-use locale_data::likely;
+use locale_data::{likely, number_of};
 
 /// The locale of a record (AOSP: `ResTable_config`), with all that Android compares of it.
 #[derive(Clone, Copy, Debug, PartialEq, Eq)]
@@ -20,7 +20,6 @@ pub struct RecordLocale {
 }
 
 impl RecordLocale {
-    ghost use Rattle.config_record.specs.ComparedNumber.{locale_number};
     ghost use Rattle.android_locales.specs.Words.{says_nothing, script_of_record};
     ghost use Rattle.android_locales.specs.RecordLocale.{locale_of_bytes, record_locale_in};
 
@@ -51,7 +50,7 @@ impl RecordLocale {
     pub fn says_nothing(self) -> bool
         ensures { result ≡ says_nothing self }
     {
-        self.locale.number() == 0
+        number_of(self.locale) == 0
     }
 
     /// The number of its script: of its own, or else, where Android has not looked for one, of the one in which its
@@ -66,7 +65,7 @@ impl RecordLocale {
         if self.script_was_computed {
             return None;
         }
-        likely(self.locale.number())
+        likely(number_of(self.locale))
     }
 }
 

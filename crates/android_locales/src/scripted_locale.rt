@@ -3,14 +3,13 @@
 ghost use Rattle.std.specs.Prelude.{◌≡◌, ◌≢◌, ◌==◌, ◌≤◌, length, [], ◌++◌, Some, position, Ok, IfOk};
 ghost use Rattle.std.specs.List.{position_or_len};
 ghost use Rattle.contract_words.specs.Writes.{Writes};
-ghost use Rattle.config_record.specs.Locale.{locale_of};
+ghost use Rattle.config_record.specs.locales.Locale.{locale_of};
 ghost use Rattle.android_locales.specs.Words.{number_of_script, script_in};
 ghost use Rattle.android_locales.specs.Text.{likely_number, written_script, is_dash, language_part, behind_language, with_script, with_likely_script, scripted_locale_of, language_alone, region_alone, text_with_script, scripted_locale_text, ReadsBack, in_likely_script};
 
-use crate::parts::{of_language, of_parts};
 use crate::words::{number_of_script, script_in};
 use config_record::{Locale, LocaleFault, write_locale};
-use locale_data::likely;
+use locale_data::{likely, number_of};
 use std::io::{self, Write};
 
 /// A locale and the script in which it is written: that of its text, or else the likely one. So two texts of one
@@ -24,7 +23,6 @@ pub struct ScriptedLocale {
 
 impl ScriptedLocale {
     ghost use Rattle.android_locales.specs.Words.{script_of_device};
-    ghost use Rattle.android_locales.specs.Text.{scripted_number, scripted_of_number};
 
     /// The locale of a text: of `""`, or of a language, then, if it has one, a dash and a script, and then, if it has one,
     /// a dash and a region.
@@ -64,32 +62,7 @@ impl ScriptedLocale {
     {
         script_in(self.script)
     }
-
-    /// The number of its bytes, language and region above the script: in the order of these numbers locales stand by
-    /// language, then by region, then by script, none first.
-    #[tactic(auto, unfolding(crate::specs::Text::scripted_number))]
-    pub fn number(self) -> u64
-        ensures value { result ≡ scripted_number self }
-        ensures back { scripted_of_number result ≡ self }
-    {
-        u64::from(self.locale.number()) * SCRIPTS + u64::from(number_of_script(self.script))
-    }
-
-    /// The locale that has this number.
-    #[tactic(auto, unfolding(crate::specs::Text::scripted_of_number))]
-    pub fn of_number(number: u64) -> ScriptedLocale
-        ensures value { result ≡ scripted_of_number number }
-        ensures back { scripted_number result ≡ number }
-    {
-        ScriptedLocale {
-            locale: Locale::of_number((number / SCRIPTS) as u32),
-            script: ((number % SCRIPTS) as u32).to_be_bytes(),
-        }
-    }
 }
-
-/// How many numbers a script can have.
-const SCRIPTS: u64 = 0x1_0000_0000;
 
 const DASH: u8 = b'-';
 
@@ -97,7 +70,7 @@ const DASH: u8 = b'-';
 fn likely_number(locale: Locale) -> u32
     ensures { result ≡ likely_number locale }
 {
-    likely(locale.number()).unwrap_or(0)
+    likely(number_of(locale)).unwrap_or(0)
 }
 
 // ---- from a text
@@ -174,8 +147,8 @@ fn read_pieces(language: &[u8], region: &[u8]) -> Result<Locale, LocaleFault>
     ensures { result ≡ locale_of (language.now ++ region.now) }
 {
     match region.split_first() {
-        Some((_, region)) => of_parts(language, region),
-        None => of_language(language),
+        Some((_, region)) => Locale::of_parts(language, Some(region)),
+        None => Locale::of_parts(language, None),
     }
 }
 
@@ -209,15 +182,11 @@ fn write_with_script<W: Write + Drop>(locale: ScriptedLocale, out: &mut W) -> io
 fn language_alone(locale: Locale) -> Locale
     ensures { result ≡ language_alone locale }
 {
-    let Locale { language, .. } = locale;
-    let Locale { region, .. } = Locale::NONE;
-    Locale { language, region }
+    Locale::without_script(locale.language, Locale::NONE.region)
 }
 
 fn region_alone(locale: Locale) -> Locale
     ensures { result ≡ region_alone locale }
 {
-    let Locale { region, .. } = locale;
-    let Locale { language, .. } = Locale::NONE;
-    Locale { language, region }
+    Locale::without_script(Locale::NONE.language, locale.region)
 }

@@ -6,7 +6,7 @@ ghost use Rattle.android_locales.specs.Suits.{suits_of};
 use crate::record_locale::RecordLocale;
 use crate::scripted_locale::ScriptedLocale;
 use crate::words::are_alike;
-use locale_data::{language_of, region_of};
+use locale_data::{language_of, number_of, region_of};
 
 impl RecordLocale {
     /// Whether it suits a device (AOSP: `ResTable_config::match`): it says nothing, or the language is the device's and so
@@ -15,7 +15,7 @@ impl RecordLocale {
     pub fn suits(self, device: ScriptedLocale) -> bool
         ensures { result ≡ suits_of self device }
     {
-        let (locale, wanted) = (self.locale.number(), device.locale.number());
+        let (locale, wanted) = (number_of(self.locale), number_of(device.locale));
         if self.says_nothing() {
             return true;
         }

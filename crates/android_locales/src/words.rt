@@ -27,7 +27,7 @@ pub(crate) fn script_in(script: [u8; 4]) -> Option<u32>
 }
 
 /// Whether two languages are one to Android.
-#[tactic(auto, unfolding(crate::specs::Words::are_alike, config_record::specs::ComparedNumber::locale_number))]
+#[tactic(auto, unfolding(crate::specs::Words::are_alike, locale_data::specs::LocaleNumber::number_of))]
 pub(crate) fn are_alike(one: u32, other: u32) -> bool
     ensures { result ≡ are_alike one other }
 {

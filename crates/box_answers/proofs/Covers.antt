@@ -10,10 +10,10 @@ use Rattle.config_precedence.specs.config_rules.declared.kind.Kind.TheVariants a
 use Rattle.config_precedence.specs.config_rules.declared.kind.Numbers.{Numbers}
 use Rattle.config_precedence.specs.config_rules.Answer.{answer_where, answer_of_condition}
 use Rattle.config_precedence.specs.config_rules.Comparisons.{is_given, differ, given_answer, larger_answer, is_larger_better, any_density, counted_density, density_answer, keys_answer, navigation_answer, screen_size_answer}
-use Rattle.config_precedence.specs.config_rules.Conditions.{is_equal, is_at_most, keys_suit, locale_suits}
+use Rattle.config_precedence.specs.config_rules.Conditions.{is_equal, is_at_most, keys_suit}
 use Rattle.config_precedence.specs.config_rules.Kind.{kind_answer}
 use Rattle.box_answers.specs.NumberSet.{SetOf, RangeOf, NumbersOf, LocalesOf, IsIn}
-use Rattle.box_answers.specs.TriedNumbers.{clamped, tried_numbers}
+use Rattle.box_answers.specs.TriedNumbers.{clamped, tried_numbers, can_be_tried}
 use Rattle.box_answers.proofs.Sets.{get_or_same}
 use Rattle.box_answers.proofs.Monotone.{by_bool, is_larger_better-ends}
 
@@ -215,117 +215,29 @@ size-missed a b low high want fails v p q h =
     (λ n. by_eq v (low + 1) (λ e. fails.at_second (omega arith) (ap (screen_size_answer a b) (sym e) ∙ h))
     (λ m. fails.at_high (size-alike a b high v (omega arith) (omega arith) ∙ h)))
 
--- ---- the locale
-
-suits : ℕ → ℕ → Bool
-suits a d = a == 0 || (a / 65536 == d / 65536 && (a % 65536 == 0 || a % 65536 == d % 65536))
-
--- a record without a region suits the locales of its language, which stand one after the other
-suits-language : (a d : ℕ) → (a ≡ 0 → ⊥) → a % 65536 ≡ 0 → suits a d ≡ (nat_le a d && nat_lt d (a + 65536))
-unfolding suits
-suits-language a d az r =
-    let e : (a == 0) ≡ false = grind (arith, nat_tests) in
-    let f : (a % 65536 == 0) ≡ true = grind (arith, nat_tests) in
-    rw (e, f) (same (a / 65536 == d / 65536) (nat_le a d) (nat_lt d (a + 65536)) refl refl refl)
-  where
-    same : (x y z : Bool) → (a / 65536 == d / 65536) ≡ x → nat_le a d ≡ y → nat_lt d (a + 65536) ≡ z → (x && true) ≡ (y && z)
-    same x y z p q w =
-        let whole : a ≡ 65536 * (a / 65536) = omega arith in
-        let low : 65536 * (d / 65536) ≤ d = omega arith in
-        let high : d < 65536 * (d / 65536) + 65536 = omega arith in
-        grind (arith, nat_tests)
-
--- one with a region suits its own locale alone
-suits-region : (a d : ℕ) → (a % 65536 ≡ 0 → ⊥) → suits a d ≡ (a == d)
-unfolding suits
-suits-region a d r =
-    let e : (a == 0) ≡ false = grind (arith, nat_tests) in
-    let f : (a % 65536 == 0) ≡ false = grind (arith, nat_tests) in
-    rw (e, f) (same (a / 65536 == d / 65536) (a % 65536 == d % 65536) (a == d) refl refl refl)
-  where
-    same : (x y z : Bool) → (a / 65536 == d / 65536) ≡ x → (a % 65536 == d % 65536) ≡ y → (a == d) ≡ z → (x && y) ≡ z
-    same x y z p q w =
-        let whole : a ≡ 65536 * (a / 65536) + a % 65536 = omega arith in
-        let other : d ≡ 65536 * (d / 65536) + d % 65536 = omega arith in
-        grind (arith, nat_tests)
-
-Suited : ℕ → ℕ → Answer
-Suited a v = answer_of_condition (suits a v)
-
-suited-region : (a low high : ℕ) (want : Answer) (b : ℕ) → (a % 65536 ≡ 0 → ⊥) → FailsAt (Suited a) a b low high want → IsMissed (Suited a) low high want
-unfolding Suited IsAlikeBut
-suited-region a low high want b r fails =
-    by_two _ a b a a low high want
-    (λ v w va _ wa _. ap answer_of_condition (suits-region a v r ∙ differs v va ∙ sym (differs w wa) ∙ sym (suits-region a w r)))
-    fails fails.at_first fails.at_first
-  where
-    differs : (v : ℕ) → (v ≡ a → ⊥) → (a == v) ≡ false
-    differs v va = grind (arith, nat_tests)
-
--- in a range of which the record's own number is no part, the answer is that of one of the ends
-between-ends : (a low high v : ℕ) → low ≤ v → v ≤ high → (low ≤ a → a ≤ high → ⊥)
-    → ((nat_le a v && nat_lt v (a + 65536)) ≡ (nat_le a low && nat_lt low (a + 65536))) ⊎ ((nat_le a v && nat_lt v (a + 65536)) ≡ (nat_le a high && nat_lt high (a + 65536)))
-between-ends a low high v p q out = grind (arith, nat_tests)
-
--- in one of which it is, that of the first, of it or of the last
-around-ends : (a low high v : ℕ) → low ≤ v → v ≤ high → low ≤ a → a ≤ high
-    → ((nat_le a v && nat_lt v (a + 65536)) ≡ (nat_le a low && nat_lt low (a + 65536))) ⊎ (((nat_le a v && nat_lt v (a + 65536)) ≡ (nat_le a a && nat_lt a (a + 65536))) ⊎ ((nat_le a v && nat_lt v (a + 65536)) ≡ (nat_le a high && nat_lt high (a + 65536))))
-around-ends a low high v p q l h = grind (arith, nat_tests)
-
-suited-language : (a low high : ℕ) (want : Answer) (b : ℕ) → (a ≡ 0 → ⊥) → a % 65536 ≡ 0 → FailsAt (Suited a) a b low high want → IsMissed (Suited a) low high want
-unfolding Suited IsMissed
-suited-language a low high want b az r fails v p q h =
-    by_bool (λ _. ⊥) (nat_le low a && nat_le a high)
-    (λ inside. let l : low ≤ a = grind (arith, nat_tests) in let u : a ≤ high = grind (arith, nat_tests) in
-    elim (around-ends a low high v p q l u) [
-      | inl e ↦ fails.at_low (ap answer_of_condition (suits-language a low az r ∙ sym e ∙ sym (suits-language a v az r)) ∙ h)
-      | inr other ↦ elim other [
-        | inl e ↦ fails.at_first l u (ap answer_of_condition (suits-language a a az r ∙ sym e ∙ sym (suits-language a v az r)) ∙ h)
-        | inr e ↦ fails.at_high (ap answer_of_condition (suits-language a high az r ∙ sym e ∙ sym (suits-language a v az r)) ∙ h)
-      ]
-    ])
-    (λ outside. elim (between-ends a low high v p q (λ l u. let b : (nat_le low a && nat_le a high) ≡ true = grind (arith, nat_tests) in let x : true ≡ false = sym b ∙ outside in cc)) [
-      | inl e ↦ fails.at_low (ap answer_of_condition (suits-language a low az r ∙ sym e ∙ sym (suits-language a v az r)) ∙ h)
-      | inr e ↦ fails.at_high (ap answer_of_condition (suits-language a high az r ∙ sym e ∙ sym (suits-language a v az r)) ∙ h)
-    ])
-
-suited-any : (a low high : ℕ) (want : Answer) (b : ℕ) → a ≡ 0 → FailsAt (Suited a) a b low high want → IsMissed (Suited a) low high want
-unfolding Suited IsMissed suits
-suited-any a low high want b az fails v p q h =
-    let e : (a == 0) ≡ true = grind (arith, nat_tests) in
-    fails.at_low (rw e (rw e at h))
-
-locale-missed : (a b low high : ℕ) (want : Answer) → FailsAt (λ v. answer_of_condition (locale_suits a v)) a b low high want → IsMissed (λ v. answer_of_condition (locale_suits a v)) low high want
-unfolding Suited suits
-locale-missed a b low high want fails =
-    by_eq a 0 (λ e. suited-any a low high want b e (record { at_low = fails.at_low; at_high = fails.at_high; at_second = fails.at_second; at_third = fails.at_third; at_first = fails.at_first; at_other = fails.at_other; at_soft = fails.at_soft }))
-    (λ az. by_eq (a % 65536) 0
-    (λ r. suited-language a low high want b az r (record { at_low = fails.at_low; at_high = fails.at_high; at_second = fails.at_second; at_third = fails.at_third; at_first = fails.at_first; at_other = fails.at_other; at_soft = fails.at_soft }))
-    (λ r. suited-region a low high want b r (record { at_low = fails.at_low; at_high = fails.at_high; at_second = fails.at_second; at_third = fails.at_third; at_first = fails.at_first; at_other = fails.at_other; at_soft = fails.at_soft })))
-
 -- ---- each kind
 
 -- what a rule of a kind says at a device's number
 abbrev pub says : Kind → Numbers → Numbers → ℕ → ℕ → Answer
 says kind a b m n = kind_answer kind a b (record { first = n; second = m })
 
-range-missed : (kind : Kind) (a b : Numbers) (m low high : ℕ) (want : Answer) → kind ≢ kinds.Dimensions → FailsAt (says kind a b m) a.first b.first low high want
+range-missed : (kind : Kind) (a b : Numbers) (m low high : ℕ) (want : Answer) → kind ≢ kinds.Dimensions → can_be_tried kind (RangeOf low high) ≡ true → FailsAt (says kind a b m) a.first b.first low high want
     → IsMissed (says kind a b m) low high want
 unfolding kind_answer
-range-missed kinds.Given a b m low high want one fails = by_ends _ a.first b.first low high want (given-ends a.first b.first) fails
-range-missed kinds.Larger a b m low high want one fails = by_ends _ a.first b.first low high want (larger-ends a.first b.first) fails
-range-missed kinds.AlwaysLarger a b m low high want one fails = by_ends _ a.first b.first low high want (constant-ends _) fails
-range-missed kinds.LocaleRank a b m low high want one fails = by_ends _ a.first b.first low high want (constant-ends _) fails
-range-missed kinds.Dimensions a b m low high want one fails = absurd (one refl)
-range-missed kinds.ScreenSize a b m low high want one fails = size-missed a.first b.first low high want fails
-range-missed kinds.Density a b m low high want one fails = by_ends _ a.first b.first low high want (density-ends a.first b.first) fails
-range-missed kinds.KeysHidden a b m low high want one fails = keys-missed a.first b.first low high want fails
-range-missed kinds.NavHidden a b m low high want one fails = by_ends _ a.first b.first low high want (navigation-ends a.first b.first) fails
-range-missed kinds.Equal a b m low high want one fails = by_two _ a.first b.first a.first a.first low high want (equal-alike a.first) fails fails.at_first fails.at_first
-range-missed kinds.AtMost a b m low high want one fails = by_ends _ a.first b.first low high want (at_most-ends a.first) fails
-range-missed kinds.KeysSuit a b m low high want one fails = by_two _ a.first b.first a.first 3 low high want (suit-alike a.first) fails fails.at_first fails.at_soft
-range-missed kinds.LocaleSuits a b m low high want one fails = locale-missed a.first b.first low high want fails
-range-missed kinds.Always a b m low high want one fails = by_ends _ a.first b.first low high want (constant-ends _) fails
+range-missed kinds.Given a b m low high want one tried fails = by_ends _ a.first b.first low high want (given-ends a.first b.first) fails
+range-missed kinds.Larger a b m low high want one tried fails = by_ends _ a.first b.first low high want (larger-ends a.first b.first) fails
+range-missed kinds.AlwaysLarger a b m low high want one tried fails = by_ends _ a.first b.first low high want (constant-ends _) fails
+range-missed kinds.LocaleRank a b m low high want one tried fails = absurd cc
+range-missed kinds.Dimensions a b m low high want one tried fails = absurd (one refl)
+range-missed kinds.ScreenSize a b m low high want one tried fails = size-missed a.first b.first low high want fails
+range-missed kinds.Density a b m low high want one tried fails = by_ends _ a.first b.first low high want (density-ends a.first b.first) fails
+range-missed kinds.KeysHidden a b m low high want one tried fails = keys-missed a.first b.first low high want fails
+range-missed kinds.NavHidden a b m low high want one tried fails = by_ends _ a.first b.first low high want (navigation-ends a.first b.first) fails
+range-missed kinds.Equal a b m low high want one tried fails = by_two _ a.first b.first a.first a.first low high want (equal-alike a.first) fails fails.at_first fails.at_first
+range-missed kinds.AtMost a b m low high want one tried fails = by_ends _ a.first b.first low high want (at_most-ends a.first) fails
+range-missed kinds.KeysSuit a b m low high want one tried fails = by_two _ a.first b.first a.first 3 low high want (suit-alike a.first) fails fails.at_first fails.at_soft
+range-missed kinds.LocaleSuits a b m low high want one tried fails = absurd cc
+range-missed kinds.Always a b m low high want one tried fails = by_ends _ a.first b.first low high want (constant-ends _) fails
 
 clamped-same : (low high n : ℕ) → low ≤ n → n ≤ high → clamped low high n ≡ n
 clamped-same low high n p q = omega arith
@@ -346,9 +258,9 @@ fails_at f low high a b want h = record {
 }
 
 -- where it is said at none of them it is said nowhere in the set
-pub missed : (kind : Kind) (a b : Numbers) (m : ℕ) (set : SetOf) (want : Answer) → kind ≢ kinds.Dimensions → IsMissedBy (says kind a b m) (tried_numbers set a.first b.first) want
+pub missed : (kind : Kind) (a b : Numbers) (m : ℕ) (set : SetOf) (want : Answer) → kind ≢ kinds.Dimensions → can_be_tried kind set ≡ true → IsMissedBy (says kind a b m) (tried_numbers set a.first b.first) want
     → (n : ℕ) → IsIn set n → says kind a b m n ≢ want
 unfolding IsMissed
-missed kind a b m (RangeOf low high) want one h n is = range-missed kind a b m low high want one (fails_at (says kind a b m) low high a.first b.first want h) n is.0 is.1
-missed kind a b m (NumbersOf numbers) want one h n is = λ e. h is.0 is.1 (ap (says kind a b m) (sym (get_or_same numbers is.0 n is.1 is.2)) ∙ e)
-missed kind a b m (LocalesOf locales) want one h n is = λ e. h is.0 is.1 (ap (says kind a b m) (sym (get_or_same locales is.0 n is.1 is.2)) ∙ e)
+missed kind a b m (RangeOf low high) want one tried h n is = range-missed kind a b m low high want one tried (fails_at (says kind a b m) low high a.first b.first want h) n is.0 is.1
+missed kind a b m (NumbersOf numbers) want one tried h n is = λ e. h is.0 is.1 (ap (says kind a b m) (sym (get_or_same numbers is.0 n is.1 is.2)) ∙ e)
+missed kind a b m (LocalesOf locales) want one tried h n is = λ e. h is.0 is.1 (ap (says kind a b m) (sym (get_or_same locales is.0 n is.1 is.2)) ∙ e)

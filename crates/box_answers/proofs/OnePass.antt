@@ -19,7 +19,7 @@ use Rattle.config_precedence.specs.config_rules.Table.{answer_of_table}
 use Rattle.box_answers.specs.declared.matching.Parted.{Parted}
 use Rattle.box_answers.specs.NumberSet.{SetOf, IsIn}
 use Rattle.box_answers.specs.Members.{set_at, IsMember}
-use Rattle.box_answers.specs.TriedNumbers.{tried_numbers}
+use Rattle.box_answers.specs.TriedNumbers.{tried_numbers, can_be_tried, stands_in_place}
 use Rattle.box_answers.specs.Changes.{AgreeBelow, IsNowhere, PassesEverywhere, answer_at}
 use Rattle.box_answers.specs.MemberAnswers.{AllAnswer}
 use Rattle.box_answers.specs.Sameness.{AreNeighbours, Separates}
@@ -47,19 +47,19 @@ no_pass Yes other = refl
 no_pass No other = refl
 
 -- what all numbers that are tried answer, all numbers of the set answer
-pub all-suit : (kind : Kind) (x : Numbers) (set : SetOf) → kind ≢ kinds.Dimensions
+pub all-suit : (kind : Kind) (x : Numbers) (set : SetOf) → kind ≢ kinds.Dimensions → can_be_tried kind set ≡ true
     → ((k : ℕ) → k < length (tried_numbers set x.first x.first) → is_pass (says kind x x 0 (get_or (tried_numbers set x.first x.first) k 0)) ≡ true)
     → (n : ℕ) → IsIn set n → is_pass (says kind x x 0 n) ≡ true
-all-suit kind x set one tried n is =
+all-suit kind x set one can tried n is =
     pass_left (says kind x x 0 n)
-    (missed kind x x 0 set Yes one (λ k q e. let f : is_pass Yes ≡ true = ap is_pass (sym e) ∙ tried k q in cc) n is)
-    (missed kind x x 0 set No one (λ k q e. let f : is_pass No ≡ true = ap is_pass (sym e) ∙ tried k q in cc) n is)
+    (missed kind x x 0 set Yes one can (λ k q e. let f : is_pass Yes ≡ true = ap is_pass (sym e) ∙ tried k q in cc) n is)
+    (missed kind x x 0 set No one can (λ k q e. let f : is_pass No ≡ true = ap is_pass (sym e) ∙ tried k q in cc) n is)
 
-pub none-suits : (kind : Kind) (x : Numbers) (set : SetOf) → kind ≢ kinds.Dimensions
+pub none-suits : (kind : Kind) (x : Numbers) (set : SetOf) → kind ≢ kinds.Dimensions → can_be_tried kind set ≡ true
     → ((k : ℕ) → k < length (tried_numbers set x.first x.first) → is_pass (says kind x x 0 (get_or (tried_numbers set x.first x.first) k 0)) ≡ false)
     → (n : ℕ) → IsIn set n → is_pass (says kind x x 0 n) ≡ false
-none-suits kind x set one tried n is =
-    no_pass (says kind x x 0 n) (missed kind x x 0 set Pass one (λ k q e. let f : is_pass Pass ≡ false = ap is_pass (sym e) ∙ tried k q in cc) n is)
+none-suits kind x set one can tried n is =
+    no_pass (says kind x x 0 n) (missed kind x x 0 set Pass one can (λ k q e. let f : is_pass Pass ≡ false = ap is_pass (sym e) ∙ tried k q in cc) n is)
 
 -- ---- a rule in its place
 
@@ -75,6 +75,13 @@ pub one-there : (rules : List Rule) (i : ℕ) (d : Rule) → list_all (λ rule. 
 one-there [] i d all on = absurd (omega arith)
 one-there (rule ∷ rules) zero d all on = (and_parts _ _ all).0
 one-there (rule ∷ rules) (suc i) d all on = one-there rules i d (and_parts (reads_one rule.kind) (list_all (λ r. reads_one r.kind) rules) all).1 (omega arith)
+
+-- each of the rules stands in its place
+pub place-there : (rules : List Rule) (i : ℕ) (d : Rule) → list_all (λ rule. stands_in_place rule.kind rule.coord) rules ≡ true → i < length rules
+    → stands_in_place (get_or rules i d).kind (get_or rules i d).coord ≡ true
+place-there [] i d all on = absurd (omega arith)
+place-there (rule ∷ rules) zero d all on = (and_parts _ _ all).0
+place-there (rule ∷ rules) (suc i) d all on = place-there rules i d (and_parts (stands_in_place rule.kind rule.coord) (list_all (λ r. stands_in_place r.kind r.coord) rules) all).1 (omega arith)
 
 -- what it says depends on the number at its coordinate
 pub says_there : (rule : Rule) (r d : Coord → ℕ) (n : ℕ) → reads_one rule.kind ≡ true → d rule.coord ≡ n → rule_answer rule r r d ≡ answer_at rule r r n 0

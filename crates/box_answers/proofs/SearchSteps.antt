@@ -5,6 +5,7 @@ use Rattle.std.proofs.lemmas.Bool.{and_parts, leb-true}
 use Rattle.std.proofs.lemmas.Bool.Decides.{nat_tests}
 use Rattle.std.proofs.lemmas.List.{get_or_default}
 use Rattle.config_precedence.specs.config_record.declared.coord.Coord.{Coord}
+use Rattle.config_precedence.specs.config_record.declared.coord.Coord.TheVariants as coords
 use Rattle.config_precedence.specs.config_record.Coord.{place_of}
 use Rattle.config_precedence.specs.config_record.ComparedNumber.{device_number}
 use Rattle.config_precedence.specs.config_rules.declared.answer.Answer.{Answer}
@@ -19,10 +20,10 @@ use Rattle.config_precedence.specs.config_rules.Rule.{beside, numbers_at, rule_a
 use Rattle.config_precedence.specs.config_rules.Reads.{reads, reads_of, AgreeAt, places_read, rises_from, AreReadInOrder}
 use Rattle.config_precedence.specs.config_rules.Table.{answer_of_table}
 use Rattle.config_precedence.proofs.config_rules.ReadsLemmas.{depends}
-use Rattle.box_answers.specs.NumberSet.{SetOf, IsIn, IsLeastIn}
+use Rattle.box_answers.specs.NumberSet.{SetOf, RangeOf, NumbersOf, LocalesOf, IsIn, IsLeastIn}
 use Rattle.box_answers.specs.SearchedSet.{IsGreatestIn}
-use Rattle.box_answers.specs.Members.{set_at, IsMember}
-use Rattle.box_answers.specs.TriedNumbers.{tried_numbers}
+use Rattle.box_answers.specs.Members.{set_at, IsMember, IsOfKind, IsBox}
+use Rattle.box_answers.specs.TriedNumbers.{tried_numbers, can_be_tried, stands_in_place}
 use Rattle.box_answers.specs.Changes.{PassesEverywhere, AgreeBelow, ChangesTo, IsNowhere, answer_at}
 use Rattle.box_answers.specs.Facts.{OneFails}
 use Rattle.box_answers.proofs.Covers.{IsMissedBy, missed, zero-ends}
@@ -217,6 +218,22 @@ Reaches-alone sets rules left rest rule a b want device so_far split =
 
 -- ---- a rule that reads one coordinate
 
+-- one of locales meets a choice
+kind-tried : (kind : Kind) (c : Coord) (set : SetOf) → stands_in_place kind c ≡ true → IsOfKind c set → can_be_tried kind set ≡ true
+kind-tried kinds.LocaleRank coords.Locale (LocalesOf locales) place of = refl
+kind-tried kinds.LocaleRank coords.Locale (RangeOf low high) place of = absurd of
+kind-tried kinds.LocaleRank coords.Locale (NumbersOf numbers) place of = absurd of
+kind-tried kinds.LocaleRank c set place of = absurd cc
+kind-tried kinds.LocaleSuits coords.Locale (LocalesOf locales) place of = refl
+kind-tried kinds.LocaleSuits coords.Locale (RangeOf low high) place of = absurd of
+kind-tried kinds.LocaleSuits coords.Locale (NumbersOf numbers) place of = absurd of
+kind-tried kinds.LocaleSuits c set place of = absurd cc
+kind-tried kind c set place of = refl
+
+pub tried-there : (sets : List SetOf) (rule : Rule) (set : SetOf) → IsBox sets → stands_in_place rule.kind rule.coord ≡ true → set ≡ set_at sets rule.coord → can_be_tried rule.kind set ≡ true
+tried-there sets rule set box place at =
+    kind-tried rule.kind rule.coord set place (subst (λ (s : SetOf). IsOfKind rule.coord s) (sym at) (box.each rule.coord).kind)
+
 not_dimensions : (rule : Rule) → reads rule ≡ rule.coord ∷ [] → rule.kind ≢ kinds.Dimensions
 not_dimensions rule one is =
     let e : reads_of kinds.Dimensions rule.coord ≡ rule.coord ∷ [] = ap (λ (k : Kind). reads_of k rule.coord) (sym is) ∙ one in
@@ -232,10 +249,10 @@ pub one_answer : (rule : Rule) (a b d : Coord → ℕ) → reads rule ≡ rule.c
 unfolding rule_answer
 one_answer rule a b d one = kind-one rule.kind (numbers_at rule.coord a) (numbers_at rule.coord b) (numbers_at rule.coord d) (not_dimensions rule one)
 
-pub one-none : (sets : List SetOf) (rule : Rule) (a b : Coord → ℕ) (set : SetOf) (x y : ℕ) (want : Answer) → reads rule ≡ rule.coord ∷ [] → set ≡ set_at sets rule.coord → x ≡ a rule.coord → y ≡ b rule.coord
+pub one-none : (sets : List SetOf) (rule : Rule) (a b : Coord → ℕ) (set : SetOf) (x y : ℕ) (want : Answer) → reads rule ≡ rule.coord ∷ [] → can_be_tried rule.kind (set_at sets rule.coord) ≡ true → set ≡ set_at sets rule.coord → x ≡ a rule.coord → y ≡ b rule.coord
     → IsMissedBy (λ n. answer_at rule a b n 0) (tried_numbers set x y) want → IsNowhere sets rule a b want
-one-none sets rule a b set x y want one at first second none d m e =
-    missed rule.kind (numbers_at rule.coord a) (numbers_at rule.coord b) 0 (set_at sets rule.coord) want (not_dimensions rule one)
+one-none sets rule a b set x y want one tried at first second none d m e =
+    missed rule.kind (numbers_at rule.coord a) (numbers_at rule.coord b) 0 (set_at sets rule.coord) want (not_dimensions rule one) tried
     (subst (λ (cs : List ℕ). IsMissedBy (λ n. answer_at rule a b n 0) cs want) (ap (λ (s : SetOf). tried_numbers s x y) at ∙ ap (λ (n : ℕ). tried_numbers (set_at sets rule.coord) n y) first ∙ ap (tried_numbers (set_at sets rule.coord) (a rule.coord)) second) none)
     (device_number d rule.coord) (m rule.coord)
     (sym (one_answer rule a b (device_number d) one) ∙ e)

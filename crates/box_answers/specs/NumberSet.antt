@@ -1,8 +1,8 @@
 -- The numbers that a box allows at a coordinate.
 use Rattle.std.specs.Prelude.{ℕ, ◌<◌, ◌≤◌, List, [], ◌∷◌, map, length, Contains}
 use Rattle.std.specs.List.Sorted.{IsStrictlyIncreasing}
-use Rattle.config_precedence.specs.config_record.declared.locale.Locale.{Locale}
-use Rattle.config_precedence.specs.config_record.ComparedNumber.{locale_number}
+use Rattle.config_precedence.specs.config_record.locales.declared.locale.Locale.{Locale}
+use Rattle.config_precedence.specs.config_record.locales.LocaleNumber.{locale_number}
 use Rattle.box_answers.specs.declared.number_set.NumberSet.{NumberSet}
 use Rattle.box_answers.specs.declared.number_set.NumberSet.TheVariants.{Range, Numbers, Locales}
 

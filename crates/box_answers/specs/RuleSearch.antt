@@ -1,5 +1,5 @@
 -- The search for a member of which one rule says something.
-use Rattle.std.specs.Prelude.{ℕ, List, [], ◌∷◌}
+use Rattle.std.specs.Prelude.{ℕ, List, [], ◌∷◌, IsTrue}
 use Rattle.config_precedence.specs.config_record.Record.{record_bytes}
 use Rattle.config_precedence.specs.config_record.ComparedNumber.{record_number, device_number}
 use Rattle.config_precedence.specs.config_record.DeviceSeen.{device_numbers}
@@ -8,6 +8,7 @@ use Rattle.config_precedence.specs.config_rules.Rule.{rule_answer}
 use Rattle.config_precedence.specs.config_rules.Reads.{AreReadInOrder}
 use Rattle.box_answers.specs.declared.rule_search.RuleSearch.{RuleSearch}
 use Rattle.box_answers.specs.Members.{sets_of, IsMember, IsBox}
+use Rattle.box_answers.specs.TriedNumbers.{stands_in_place}
 use Rattle.box_answers.specs.Changes.{ChangesTo, IsNowhere, answer_at}
 
 -- it starts at a member
@@ -15,6 +16,7 @@ pub record IsSearch (s : RuleSearch) : Type 0 where
   pub sets : IsBox (sets_of s.sets.now)
   pub member : IsMember (sets_of s.sets.now) (device_numbers s.from)
   pub in_order : AreReadInOrder (s.rule ∷ [])
+  pub in_place : IsTrue (stands_in_place s.rule.kind s.rule.coord)
 
 -- what the rule says at a device
 abbrev pub rule_says : RuleSearch → List ℕ → Answer

@@ -1,8 +1,35 @@
 -- The numbers of a set at which a rule is tried. They are few, and chosen so that a rule which says something anywhere in the
 -- set says it at one of them.
-use Rattle.std.specs.Prelude.{ℕ, ◌+◌, List, [], ◌∷◌, min, max}
+use Rattle.std.specs.Prelude.{ℕ, ◌+◌, Bool, true, false, List, [], ◌∷◌, IsTrue, min, max}
+use Rattle.std.specs.List.{list_all}
+use Rattle.config_precedence.specs.config_record.declared.coord.Coord.{Coord}
+use Rattle.config_precedence.specs.config_record.declared.coord.Coord.TheVariants as coords
+use Rattle.config_precedence.specs.config_rules.declared.kind.Kind.{Kind}
+use Rattle.config_precedence.specs.config_rules.declared.kind.Kind.TheVariants as kinds
+use Rattle.config_precedence.specs.config_rules.declared.rule.Rule.{Rule}
 use Rattle.config_precedence.specs.config_rules.Conditions.{soft_keys}
 use Rattle.box_answers.specs.NumberSet.{SetOf, RangeOf, NumbersOf, LocalesOf}
+
+-- ---- the rules that can be tried so
+
+-- A rule of locales is tried at all of a choice. No range has locales.
+abbrev pub can_be_tried : Kind → SetOf → Bool
+can_be_tried kinds.LocaleRank (RangeOf low high) = false
+can_be_tried kinds.LocaleSuits (RangeOf low high) = false
+can_be_tried kind set = true
+
+-- a rule of locales stands at the locale, where boxes have a choice
+abbrev pub stands_in_place : Kind → Coord → Bool
+stands_in_place kinds.LocaleRank coords.Locale = true
+stands_in_place kinds.LocaleRank c = false
+stands_in_place kinds.LocaleSuits coords.Locale = true
+stands_in_place kinds.LocaleSuits c = false
+stands_in_place kind c = true
+
+abbrev pub StandInPlace : List Rule → Type 0
+StandInPlace rules = IsTrue (list_all (λ rule. stands_in_place rule.kind rule.coord) rules)
+
+-- ---- the numbers
 
 -- the number itself, or the end of the range that is nearer
 abbrev pub clamped : ℕ → ℕ → ℕ → ℕ

@@ -1,9 +1,10 @@
 //! What one condition says of all numbers of a set.
 
-ghost use Rattle.std.specs.Prelude.{◌≡◌, ◌≢◌};
+ghost use Rattle.std.specs.Prelude.{◌≡◌, ◌≢◌, IsTrue};
 ghost use Rattle.config_precedence.specs.config_rules.declared.kind.Kind.TheVariants as kinds;
 ghost use Rattle.box_answers.specs.NumberSet.{set_of, IsProper};
 ghost use Rattle.box_answers.specs.SearchedSet.{IsConvex};
+ghost use Rattle.box_answers.specs.TriedNumbers.{can_be_tried};
 ghost use Rattle.box_answers.specs.Condition.{passes_at, PartsNumbers, IsExactAt};
 
 use crate::neighbours::between;
@@ -18,7 +19,7 @@ pub(crate) enum Suiting {
     /// It passes at none.
     Never,
     /// It passes at the first of two numbers and fails at the second; in a range they differ by one.
-    Mixed(u32, u32),
+    Mixed(u64, u64),
 }
 
 /// A condition of a record, asked of the numbers of a set.
@@ -34,6 +35,7 @@ impl Condition<'_> {
     pub(crate) fn suiting(&self) -> Suiting
         requires one { self.now.kind ≢ kinds.Dimensions }
         requires set { IsProper (set_of self.now.set.now) }
+        requires tried { IsTrue (can_be_tried self.now.kind (set_of self.now.set.now)) }
         ensures { IsExactAt result (set_of self.now.set.now) (passes_at self.now) }
     {
         let number = self.stored.first;
@@ -57,7 +59,7 @@ impl Condition<'_> {
     }
 
     /// In a range two numbers of which one passes are brought together.
-    fn nearest(&self, yes: u32, no: u32) -> Suiting
+    fn nearest(&self, yes: u64, no: u64) -> Suiting
         requires parts { PartsNumbers (set_of self.now.set.now) (passes_at self.now) yes no }
         ensures { IsExactAt result (set_of self.now.set.now) (passes_at self.now) }
     {
@@ -68,7 +70,7 @@ impl Condition<'_> {
     }
 
     /// The distance is halved until there is no number between them.
-    fn halved(&self, yes: u32, no: u32) -> Suiting
+    fn halved(&self, yes: u64, no: u64) -> Suiting
         requires parts { PartsNumbers (set_of self.now.set.now) (passes_at self.now) yes no }
         requires range { IsConvex (set_of self.now.set.now) }
         ensures { IsExactAt result (set_of self.now.set.now) (passes_at self.now) }
@@ -85,7 +87,7 @@ impl Condition<'_> {
     }
 
     /// Whether it passes at a device that has this number.
-    fn passes(&self, number: u32) -> bool
+    fn passes(&self, number: u64) -> bool
         ensures { result ≡ passes_at self.now number }
     {
         let device = Numbers {

@@ -33,5 +33,5 @@ mod tried_numbers;
 pub use config_precedence::{Coord, Device, Locale, LocaleFault, Record, write_locale};
 pub use member_pair::MemberPair;
 pub use members::{corner, is_member, set_at};
-pub use number_set::{NumberSet, has_locale};
+pub use number_set::{NumberSet, has_locale, has_number};
 pub use sameness::{Sameness, better_all, match_all};

@@ -10,6 +10,7 @@ ghost use Rattle.box_answers.specs.NumberSet.{IsIn};
 ghost use Rattle.box_answers.specs.Sameness.{IsExact};
 ghost use Rattle.box_answers.specs.Condition.{AreOfOne, all_pass, IsChangedAt};
 ghost use Rattle.box_answers.specs.Facts.{OneFails};
+ghost use Rattle.box_answers.specs.TriedNumbers.{StandInPlace};
 
 use crate::condition::{Condition, Suiting};
 use crate::members::{corner, set_at};
@@ -22,7 +23,7 @@ use config_precedence::{Coord, Device, Record, Rule};
 pub(crate) struct Parted {
     pub(crate) matching: Device,
     pub(crate) coord: Coord,
-    pub(crate) failing: u32,
+    pub(crate) failing: u64,
 }
 
 /// Do all conditions pass at all members, is there one that fails at each, or neither? Most say nothing, since
@@ -31,6 +32,7 @@ pub(crate) fn pass_all(sets: &[NumberSet], conditions: &[Rule], stored: &Record)
     requires sets { IsBox (sets_of sets.now) }
     requires in_order { AreReadInOrder conditions.now }
     requires one { AreOfOne conditions.now }
+    requires in_place { StandInPlace conditions.now }
     ensures value { IsExact result (sets_of sets.now) (all_pass conditions.now (record_number (record_bytes stored.now))) }
     ensures one_side { result ≡ Sameness.Never → OneFails (sets_of sets.now) conditions.now (record_number (record_bytes stored.now)) (record_number (record_bytes stored.now)) }
 {
@@ -68,8 +70,8 @@ fn parted_by(
     sets: &[NumberSet],
     parted: Option<Parted>,
     at: Coord,
-    passing: u32,
-    failing: u32,
+    passing: u64,
+    failing: u64,
 ) -> Parted
     requires sets { IsBox (sets_of sets.now) }
     requires passing { IsIn (set_at (sets_of sets.now) at) passing }

@@ -52,7 +52,7 @@ pub fn corner(sets: &[NumberSet]) -> Device
     Device::of_numbers(numbers)
 }
 
-fn fill_least(sets: &[NumberSet], coords: &[Coord], numbers: &mut [u32])
+fn fill_least(sets: &[NumberSet], coords: &[Coord], numbers: &mut [u64])
     requires sets { IsBox (sets_of sets.now) }
     requires coords { coords.now ≡ all_coords }
     requires count { length numbers.old ≡ 25 }

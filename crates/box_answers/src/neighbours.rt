@@ -101,7 +101,7 @@ fn halved(sets: &[NumberSet], question: &Question, pair: MemberPair) -> MemberPa
 }
 
 /// A number strictly between two, if there is one.
-pub(crate) fn between(x: u32, y: u32) -> Option<u32>
+pub(crate) fn between(x: u64, y: u64) -> Option<u64>
     ensures found { IfSome result (λ n. (min x y < n) × (n < max x y)) }
     ensures none { IfNone result ((x ≤ y + 1) × (y ≤ x + 1)) }
 {

@@ -21,12 +21,12 @@ pub enum NumberSet {
 }
 
 impl NumberSet {
-    pub fn contains(&self, number: u32) -> bool
+    pub fn contains(&self, number: u64) -> bool
         ensures { IsTrue result ↔ IsIn (set_of self.now) number }
     {
         match self {
-            NumberSet::Range(low, high) => *low <= number && number <= *high,
-            NumberSet::Numbers(numbers) => numbers.as_ref().as_slice().contains(&number),
+            NumberSet::Range(low, high) => u64::from(*low) <= number && number <= u64::from(*high),
+            NumberSet::Numbers(numbers) => has_number(numbers.as_ref().as_slice(), number),
             NumberSet::Locales(locales) => has_locale(locales.as_ref().as_slice(), number),
         }
     }
@@ -42,25 +42,25 @@ impl NumberSet {
         }
     }
 
-    pub(crate) fn named_number(&self, place: usize) -> u32
+    pub(crate) fn named_number(&self, place: usize) -> u64
         requires { place < length (named_numbers (set_of self.now)) }
         ensures { result ≡ slice_index (named_numbers (set_of self.now)) place }
     {
         match self {
-            NumberSet::Range(low, high) => if place == 0 { *low } else { *high },
-            NumberSet::Numbers(numbers) => numbers.as_ref().as_slice()[place],
+            NumberSet::Range(low, high) => u64::from(if place == 0 { *low } else { *high }),
+            NumberSet::Numbers(numbers) => u64::from(numbers.as_ref().as_slice()[place]),
             NumberSet::Locales(locales) => locales.as_ref().as_slice()[place].number(),
         }
     }
 
-    pub(crate) fn least(&self) -> u32
+    pub(crate) fn least(&self) -> u64
         requires { IsProper (set_of self.now) }
         ensures { IsLeastIn (set_of self.now) result }
     {
         self.named_number(0)
     }
 
-    pub(crate) fn greatest(&self) -> u32
+    pub(crate) fn greatest(&self) -> u64
         requires { IsProper (set_of self.now) }
         ensures { IsGreatestIn (set_of self.now) result }
     {
@@ -68,8 +68,15 @@ impl NumberSet {
     }
 }
 
+/// Whether one of these numbers is this.
+pub fn has_number(numbers: &[u32], number: u64) -> bool
+    ensures { result ≡ list_any (λ m. m == number) numbers.now }
+{
+    numbers.iter().any(|other| u64::from(*other) == number)
+}
+
 /// Whether one of these locales has the number.
-pub fn has_locale(locales: &[Locale], number: u32) -> bool
+pub fn has_locale(locales: &[Locale], number: u64) -> bool
     ensures { result ≡ list_any (λ m. m == number) (locale_numbers locales.now) }
 {
     for locale in locales {

@@ -8,6 +8,7 @@ ghost use Rattle.config_precedence.specs.Precedence.{is_better};
 ghost use Rattle.config_precedence.specs.config_rules.Reads.{AreReadInOrder};
 ghost use Rattle.box_answers.specs.Members.{sets_of, IsBox};
 ghost use Rattle.box_answers.specs.Question.{answered};
+ghost use Rattle.box_answers.specs.TriedNumbers.{StandInPlace};
 ghost use Rattle.box_answers.specs.Facts.{DensityTurnsOnce, SizesFromNormalUpAreAlike, DimensionsAskWhichAreZero, FailsOnOneSide};
 
 use crate::matching::pass_all;
@@ -64,6 +65,7 @@ pub fn better_all(sets: &[NumberSet], a: &Record, b: &Record) -> Sameness
 fn answer_of_all(sets: &[NumberSet], question: &Question) -> Sameness
     requires sets { IsBox (sets_of sets.now) }
     requires in_order { AreReadInOrder question.now.rules.now }
+    requires in_place { StandInPlace question.now.rules.now }
     ensures { IsExact result (sets_of sets.now) (answered question.now) }
 {
     let Some(yes) = member_where(sets, question, true) else {

@@ -6,6 +6,7 @@ ghost use Rattle.config_precedence.specs.config_rules.Reads.{AreReadInOrder};
 ghost use Rattle.box_answers.specs.Members.{sets_of, IsMember, IsBox};
 ghost use Rattle.box_answers.specs.Question.{table_says, answered};
 ghost use Rattle.box_answers.specs.MemberAnswers.{IsOneThatAnswers};
+ghost use Rattle.box_answers.specs.TriedNumbers.{StandInPlace};
 
 use crate::members::corner;
 use crate::number_set::NumberSet;
@@ -18,6 +19,7 @@ use config_precedence::{Answer, Device};
 pub(crate) fn member_where(sets: &[NumberSet], question: &Question, wanted: bool) -> Option<Device>
     requires sets { IsBox (sets_of sets.now) }
     requires in_order { AreReadInOrder question.now.rules.now }
+    requires in_place { StandInPlace question.now.rules.now }
     ensures found { IfSome result (λ device. IsOneThatAnswers (IsMember (sets_of sets.now)) (answered question.now) wanted (device_numbers device)) }
     ensures none { IfNone result ((d : List ℕ) → IsMember (sets_of sets.now) d → answered question.now d ≢ wanted) }
 {
@@ -36,6 +38,7 @@ pub(crate) fn member_where(sets: &[NumberSet], question: &Question, wanted: bool
 fn member_of_answer(sets: &[NumberSet], question: &Question, want: Answer) -> Option<Device>
     requires sets { IsBox (sets_of sets.now) }
     requires in_order { AreReadInOrder question.now.rules.now }
+    requires in_place { StandInPlace question.now.rules.now }
     ensures found { IfSome result (λ device. IsMember (sets_of sets.now) (device_numbers device) × (table_says question.now (device_numbers device) ≡ want)) }
     ensures none { IfNone result ((d : List ℕ) → IsMember (sets_of sets.now) d → table_says question.now d ≢ want) }
 {

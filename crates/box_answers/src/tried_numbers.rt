@@ -22,18 +22,24 @@ impl NumberSet {
     }
 
     /// One of these numbers; `a` and `b` are the numbers of the two records.
-    pub(crate) fn tried_number(&self, place: usize, a: u32, b: u32) -> u32
+    pub(crate) fn tried_number(&self, place: usize, a: u64, b: u64) -> u64
         requires { place < length (tried_numbers (set_of self.now) a b) }
         ensures { result ≡ slice_index (tried_numbers (set_of self.now) a b) place }
     {
         match self {
-            NumberSet::Range(low, high) => tried_between(*low, *high, place, a, b),
+            NumberSet::Range(low, high) => tried_between(
+                u64::from(*low),
+                u64::from(*high),
+                place,
+                a,
+                b,
+            ),
             _ => self.named_number(place),
         }
     }
 }
 
-fn tried_between(low: u32, high: u32, place: usize, a: u32, b: u32) -> u32
+fn tried_between(low: u64, high: u64, place: usize, a: u64, b: u64) -> u64
     requires { place < 7 }
     ensures { result ≡ slice_index (tried_numbers (RangeOf low high) a b) place }
 {
@@ -49,7 +55,7 @@ fn tried_between(low: u32, high: u32, place: usize, a: u32, b: u32) -> u32
 }
 
 /// The number itself, or the end of the range that is nearer.
-fn clamped(low: u32, high: u32, number: u32) -> u32
+fn clamped(low: u64, high: u64, number: u64) -> u64
     ensures { result ≡ clamped low high number }
 {
     low.max(number.min(high))

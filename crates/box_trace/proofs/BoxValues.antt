@@ -3,8 +3,8 @@ use Rattle.std.proofs.Common.{◌≡◌, ℕ, arith, ◌≤◌, List, get_or, su
 use Rattle.std.specs.List.{All}
 use Rattle.std.proofs.lemmas.List.{get_or-map, length-map}
 use Rattle.bags_themes.specs.config_record.declared.coord.Coord.{Coord}
-use Rattle.bags_themes.specs.config_record.declared.locale.Locale.{Locale}
-use Rattle.bags_themes.specs.config_record.ComparedNumber.{locale_number}
+use Rattle.bags_themes.specs.config_record.locales.declared.locale.Locale.{Locale}
+use Rattle.bags_themes.specs.config_record.locales.LocaleNumber.{locale_number}
 use Rattle.bags_themes.specs.config_record.Device.{CanHave}
 use Rattle.config_box.specs.box_answers.NumberSet.{SetOf, RangeOf, LocalesOf, IsIn, locale_numbers}
 use Rattle.config_box.specs.box_answers.Members.{set_at, IsBox}

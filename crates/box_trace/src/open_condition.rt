@@ -1,7 +1,7 @@
 //! Conditions of candidates that some members of a box meet and others do not.
 
 ghost use Rattle.std.specs.Prelude.{◌≡◌, ℕ, ◌<◌, ◌≤◌, All, length, slice_index, IfSome};
-ghost use Rattle.bags_themes.specs.config_record.ComparedNumber.{locale_number};
+ghost use Rattle.bags_themes.specs.config_record.locales.LocaleNumber.{locale_number};
 ghost use Rattle.bags_themes.specs.config_record.Device.{CanHave};
 ghost use Rattle.bags_themes.specs.config_record.DeviceSeen.{device_numbers};
 ghost use Rattle.box_trace.specs.OpenCondition.{AreAlikeBut, DifferAt};
@@ -38,7 +38,9 @@ pub(crate) fn open_condition(
         return None;
     }
     match members.values(at) {
-        Values::Range(low, high) => open_in_range(candidate, matching, at, low, high),
+        Values::Range(low, high) => {
+            open_in_range(candidate, matching, at, u64::from(low), u64::from(high))
+        }
         Values::Numbers(numbers) => open_among(candidate, matching, at, numbers),
         Values::Locales(locales) => open_among_locales(candidate, matching, at, locales),
     }
@@ -49,8 +51,8 @@ fn open_in_range(
     candidate: &Cand<'_>,
     matching: &Device,
     at: Coord,
-    low: u32,
-    high: u32,
+    low: u64,
+    high: u64,
 ) -> Option<OpenCondition>
     requires { (n : ℕ) → low ≤ n → n ≤ high → CanHave at n }
     ensures { IfSome result (λ condition. DifferAt at condition.pair) }
@@ -90,7 +92,7 @@ fn open_among(
     ensures { IfSome result (λ condition. DifferAt at condition.pair) }
 {
     for number in numbers {
-        if let Some(no) = unmatched(candidate, matching, at, *number) {
+        if let Some(no) = unmatched(candidate, matching, at, u64::from(*number)) {
             return Some(in_choice(matching, no, at));
         }
     }
@@ -131,7 +133,7 @@ fn in_choice(matching: &Device, no: Device, at: Coord) -> OpenCondition
 }
 
 /// The same device with another number at a coordinate, where a candidate does not match that.
-fn unmatched(candidate: &Cand<'_>, device: &Device, at: Coord, number: u32) -> Option<Device>
+fn unmatched(candidate: &Cand<'_>, device: &Device, at: Coord, number: u64) -> Option<Device>
     requires { CanHave at number }
     ensures { IfSome result (λ other. AreAlikeBut at (device_numbers device.now) (device_numbers other)) }
 {

@@ -96,7 +96,7 @@ fn parts(parting: &Parting<'_>, members: &ConfigBox) -> bool
 }
 
 /// Whether there is no number of a range between two.
-fn are_side_by_side(members: &ConfigBox, at: Coord, first: u32, second: u32) -> bool
+fn are_side_by_side(members: &ConfigBox, at: Coord, first: u64, second: u64) -> bool
     ensures { IsTrue result → AreNeighbours (set_at members.now at) first second }
 {
     match members.values(at) {

@@ -12,7 +12,7 @@ pub(crate) struct Waiting {
     pub(crate) place: usize,
     pub(crate) coord: Coord,
     /// What its record asks for there.
-    pub(crate) number: u32,
+    pub(crate) number: u64,
     pub(crate) unmet: Unmet,
     /// Whether it is the only open condition of the candidate.
     pub(crate) is_only: bool,
@@ -135,6 +135,7 @@ fn add_still_open(
 /// What is left of the condition at the coordinate of a part. Some member matches the candidate where the number is in its range.
 fn left_of(condition: &Waiting, candidate: &Cand<'_>, part: Part<'_>) -> Left {
     if let Values::Range(low, high) = part.members.values(part.at) {
+        let (low, high) = (u64::from(low), u64::from(high));
         if low <= condition.number && condition.number <= high {
             return left_within(condition, low, high);
         }
@@ -149,7 +150,7 @@ fn left_of(condition: &Waiting, candidate: &Cand<'_>, part: Part<'_>) -> Left {
 }
 
 /// The same in a range that has its number.
-fn left_within(condition: &Waiting, low: u32, high: u32) -> Left {
+fn left_within(condition: &Waiting, low: u64, high: u64) -> Left {
     let unmet = Unmet {
         below: condition.unmet.below && low < condition.number,
         above: condition.unmet.above && condition.number < high,

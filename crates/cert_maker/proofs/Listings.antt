@@ -9,10 +9,11 @@ use Rattle.std.proofs.lemmas.List.Sums.{length-filter, count_by-le-length}
 use Rattle.std.proofs.lemmas.Map.Views.{any-filter_same}
 use Rattle.cert_checker.specs.config_record.declared.coord.Coord as coord
 use Rattle.cert_checker.specs.config_record.declared.coord.Coord.TheVariants as coords
-use Rattle.cert_checker.specs.config_record.declared.locale.Locale.{Locale}
-use Rattle.cert_checker.specs.config_record.ComparedNumber.{device_number, locale_number, locale_of_number}
-use Rattle.cert_checker.specs.config_record.Locale.{IsGiven, IsOfSomeText, locale_text}
-use Rattle.cert_checker.proofs.config_record.LocaleGiven.{TwoBytes, given, numbered}
+use Rattle.cert_checker.specs.config_record.locales.declared.locale.Locale.{Locale}
+use Rattle.cert_checker.specs.config_record.ComparedNumber.{device_number}
+use Rattle.cert_checker.specs.config_record.locales.LocaleNumber.{locale_number, locale_of_number}
+use Rattle.cert_checker.specs.config_record.locales.Locale.{IsGiven, IsOfSomeText, locale_text}
+use Rattle.cert_checker.proofs.config_record.locales.LocaleGiven.{TwoBytes, FourBytes, given, numbered}
 use Rattle.cert_checker.specs.config_record.Device.{CanHave}
 use Rattle.cert_checker.specs.box_trace.declared.parting.Parting.{Parting}
 use Rattle.cert_checker.specs.box_trace.Parting.{answer_of}
@@ -86,9 +87,9 @@ pub can-locales : (sets : List SetOf) (c : coord.Coord) (locales : List Locale) 
 can-locales sets c locales b e k locale q =
     subst (λ (at : coord.Coord). CanHave at (locale_number (get_or locales k locale))) (at-locale sets c (locale_numbers locales) (b.each c).kind (sym e)) (can-have-locales sets c locales b e k locale q)
 
-pub of-some-text : (locale : Locale) → TwoBytes locale.language → TwoBytes locale.region → IsGiven (locale_of_number (locale_number locale)) → IsOfSomeText locale
-of-some-text locale language region is =
-    (locale_text locale, given locale language region (subst (λ (l : Locale). IsGiven l) (numbered locale language region) is))
+pub of-some-text : (locale : Locale) → TwoBytes locale.language → TwoBytes locale.region → FourBytes locale.script → IsGiven (locale_of_number (locale_number locale)) → IsOfSomeText locale
+of-some-text locale language region script is =
+    (locale_text locale, given locale language region script (subst (λ (l : Locale). IsGiven l) (numbered locale language region script) is))
 
 pub numbers-fit : (sets : List SetOf) (c : coord.Coord) (f : ℕ → Bool) (numbers kept : List ℕ) → IsBox sets → NumbersOf numbers ≡ set_at sets c → kept ≡ filter f numbers → ChoiceFits c (seen.NumbersOf kept)
 numbers-fit sets c f numbers kept b e is =
@@ -114,6 +115,9 @@ no-range : (set : SetOf) → IsOfKind coords.Locale set → is_range set ≡ tru
 no-range (RangeOf low high) kind range = kind
 no-range (NumbersOf numbers) kind range = kind
 no-range (LocalesOf numbers) kind range = cc
+
+pub not-locale : (sets : List SetOf) (c : coord.Coord) → IsOfKind c (set_at sets c) → is_range (set_at sets c) ≡ true → c ≢ coords.Locale
+not-locale sets c kind range is = no-range (set_at sets c) (subst (λ (k : coord.Coord). IsOfKind k (set_at sets c)) is kind) range
 
 pub right-range : (sets : List SetOf) (c : coord.Coord) (m : ℕ) → IsOfKind c (set_at sets c) → is_range (set_at sets c) ≡ true → has_wrong_kind sets (seen.AtMostOf c m) ≡ false
 unfolding has_wrong_kind

@@ -3,8 +3,9 @@ use Rattle.std.specs.Prelude.{ℕ, Bool, List, map, slice_set}
 use Rattle.cert_checker.specs.config_record.declared.coord.Coord.{Coord}
 use Rattle.cert_checker.specs.config_record.Coord.{all_coords, place_of}
 use Rattle.cert_checker.specs.config_record.declared.coord.Coord.TheVariants.{Locale as at_locale}
-use Rattle.cert_checker.specs.config_record.declared.locale.Locale.{Locale}
-use Rattle.cert_checker.specs.config_record.ComparedNumber.{device_number, locale_number}
+use Rattle.cert_checker.specs.config_record.locales.declared.locale.Locale.{Locale}
+use Rattle.cert_checker.specs.config_record.ComparedNumber.{device_number}
+use Rattle.cert_checker.specs.config_record.locales.LocaleNumber.{locale_number}
 
 -- the numbers of a device, in the order of the coordinates
 abbrev pub numbers_of : List ℕ → List ℕ

@@ -1,8 +1,8 @@
 //! The test that parts members where they part.
 
 ghost use Rattle.std.specs.Prelude.{◌≡◌, ℕ, ◌<◌, All, List, length, filter, slice_index, IfOk};
-ghost use Rattle.cert_checker.specs.config_record.Locale.{IsGiven, IsOfSomeText};
-ghost use Rattle.cert_checker.specs.config_record.ComparedNumber.{locale_number, locale_of_number};
+ghost use Rattle.cert_checker.specs.config_record.locales.Locale.{IsGiven, IsOfSomeText};
+ghost use Rattle.cert_checker.specs.config_record.locales.LocaleNumber.{locale_number, locale_of_number};
 ghost use Rattle.cert_checker.specs.config_record.Device.{CanHave};
 ghost use Rattle.cert_checker.specs.config_record.DeviceSeen.{device_numbers};
 ghost use Rattle.cert_checker.specs.box_answers.Members.{IsMember};
@@ -32,7 +32,7 @@ pub fn parting_test(
         Values::Range(_, _) => {
             let first = parting.pair.yes.compared_number(coord);
             let lesser = first.min(parting.pair.no.compared_number(coord));
-            Ok(Test::AtMost(coord, lesser))
+            Ok(Test::AtMost(coord, lesser as u32))
         }
         Values::Numbers(numbers) => {
             let listed = listed_numbers(alloc, parting, coord, numbers)?;
@@ -57,7 +57,7 @@ fn listed_numbers(
 {
     let mut listed = Vec::new(alloc);
     for number in numbers {
-        if answers_yes(parting, at, *number) {
+        if answers_yes(parting, at, u64::from(*number)) {
             listed.push(*number)?;
         }
     }
@@ -84,7 +84,7 @@ fn listed_locales(
 }
 
 /// Whether the first member answers yes with another number at a coordinate.
-fn answers_yes(parting: &Parting<'_>, at: Coord, number: u32) -> bool
+fn answers_yes(parting: &Parting<'_>, at: Coord, number: u64) -> bool
     requires { CanHave at number }
     ensures { result ≡ answer_with (answer_of parting.now) (device_numbers parting.now.pair.yes) at number }
 {

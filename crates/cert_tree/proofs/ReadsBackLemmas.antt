@@ -19,11 +19,11 @@ use Rattle.json_input.specs.Json.{value_of}
 use Rattle.json_input.specs.Shape.{has_only, are_among, is_among}
 use Rattle.config_box.specs.config_record.declared.coord.Coord as coord
 use Rattle.config_box.specs.config_record.declared.coord.Coord.TheVariants as coords
-use Rattle.config_box.specs.config_record.declared.locale.Locale.{Locale}
-use Rattle.config_box.specs.config_record.declared.locale.LocaleFault.{LocaleFault}
+use Rattle.config_box.specs.config_record.locales.declared.locale.Locale.{Locale}
+use Rattle.config_box.specs.config_record.locales.declared.locale.LocaleFault.{LocaleFault}
 use Rattle.config_box.specs.config_record.Coord.{all_coords, name_of}
-use Rattle.config_box.specs.config_record.Locale.{IsOfSomeText, locale_of, locale_text}
-use Rattle.config_box.proofs.config_record.LocaleLemmas.{locale_of-gives}
+use Rattle.config_box.specs.config_record.locales.Locale.{IsOfSomeText, locale_of, locale_text}
+use Rattle.config_box.proofs.config_record.locales.LocaleLemmas.{locale_of-gives}
 use Rattle.res_value.specs.declared.res_id.ResId.{ResId}
 use Rattle.res_value.specs.declared.value.Value.{Value}
 use Rattle.res_value.specs.ResId.{id_of, id_text}

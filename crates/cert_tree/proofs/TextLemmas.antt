@@ -5,10 +5,10 @@ use Rattle.std.proofs.lemmas.Bool.{and_parts}
 use Rattle.std.proofs.lemmas.Str.{IsUtf8-from_ascii, IsAscii-append}
 use Rattle.std.proofs.lemmas.Str.Ascii.{IsAscii-nil, IsAscii-cons}
 use Rattle.hex.specs.Hex.{encode_lower}
-use Rattle.config_box.specs.config_record.declared.locale.Locale.{Locale}
-use Rattle.config_box.specs.config_record.Locale.{first_letter, first_digit, is_small_letter, is_capital_letter, is_digit, packed, part_of, language_of, region_of, unpacked, is_spelled, language_text, region_text, locale_text}
-use Rattle.config_box.specs.config_record.Zero.{is_zero}
-use Rattle.config_box.proofs.config_record.LocaleLemmas.{of_languages, of_regions}
+use Rattle.config_box.specs.config_record.locales.declared.locale.Locale.{Locale}
+use Rattle.config_box.specs.config_record.locales.Locale.{first_letter, first_digit, is_small_letter, is_capital_letter, is_digit, packed, part_of, language_of, region_of, unpacked, is_spelled, language_text, region_text, locale_text}
+use Rattle.config_box.specs.config_record.locales.Zero.{is_zero}
+use Rattle.config_box.proofs.config_record.locales.LocaleLemmas.{of_languages, of_regions}
 use Rattle.res_value.proofs.IdText.{digits-ascii}
 
 -- ---- locales

@@ -10,9 +10,9 @@ use Rattle.json_input.specs.Json.{value_of}
 use Rattle.json_input.specs.Shape.{has_only, number_of, text_of}
 use Rattle.config_box.specs.config_record.declared.coord.Coord as coord
 use Rattle.config_box.specs.config_record.declared.coord.Coord.TheVariants as coords
-use Rattle.config_box.specs.config_record.declared.locale.Locale.{Locale}
+use Rattle.config_box.specs.config_record.locales.declared.locale.Locale.{Locale}
 use Rattle.config_box.specs.config_record.Coord.{all_coords, name_of}
-use Rattle.config_box.specs.config_record.Locale.{locale_of}
+use Rattle.config_box.specs.config_record.locales.Locale.{locale_of}
 use Rattle.res_value.specs.declared.res_id.ResId.{ResId}
 use Rattle.res_value.specs.ResId.{id_of}
 use Rattle.cert_tree.specs.declared.cert_fault.CertFault.{CertFault}

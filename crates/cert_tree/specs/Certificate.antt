@@ -3,7 +3,7 @@ use Rattle.std.specs.Prelude.{ℕ, ◌+◌, ◌≤◌, Bool, true, false, List, 
 use Rattle.std.specs.List.{All}
 use Rattle.config_box.specs.config_record.declared.coord.Coord as coord
 use Rattle.config_box.specs.config_record.declared.coord.Coord.TheVariants as coords
-use Rattle.config_box.specs.config_record.Locale.{IsOfSomeText}
+use Rattle.config_box.specs.config_record.locales.Locale.{IsOfSomeText}
 use Rattle.config_box.specs.Tests.{ChoiceOf, NumbersOf, LocalesOf, TestOf, AtMostOf, AmongOf, test_of}
 use Rattle.res_value.specs.declared.res_id.ResId.{ResId}
 use Rattle.res_value.specs.declared.value.Value.{Value}

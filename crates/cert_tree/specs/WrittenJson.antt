@@ -4,9 +4,9 @@ use Rattle.std.specs.Prelude.{ℕ, Bool, if◌then◌else◌, List, codes, map}
 use Rattle.std.specs.List.{list_all}
 use Rattle.serde_json.specs.Data.{Data, number, unsigned, string, array, object, no_members, member}
 use Rattle.serde_json.specs.View.{items_of}
-use Rattle.config_box.specs.config_record.declared.locale.Locale.{Locale}
+use Rattle.config_box.specs.config_record.locales.declared.locale.Locale.{Locale}
 use Rattle.config_box.specs.config_record.Coord.{name_of}
-use Rattle.config_box.specs.config_record.Locale.{locale_text}
+use Rattle.config_box.specs.config_record.locales.Locale.{locale_text}
 use Rattle.res_value.specs.declared.res_id.ResId.{ResId}
 use Rattle.res_value.specs.ResId.{id_text}
 use Rattle.config_box.specs.Tests.{ChoiceOf, NumbersOf, LocalesOf, TestOf, AtMostOf, AmongOf}

@@ -64,7 +64,8 @@ pub use layer_list::LayerList;
 pub use layer_parts::LayerParts;
 pub use layers_fault::LayersFault;
 pub use names::{
-    Named, NamedGoal, NamedSet, first_goals, goals_named, id_named, ids_named, pairs_named,
+    GoalFault, Name, Named, NamedGoal, NamedSet, NamedStack, SharedNames, file_path, find_names,
+    first_goals, goals_named, id_named, ids_named, ids_of_type, name_text, pairs_named,
 };
 pub use place::{Place, STANDARD_INPUT};
 pub use side::Side;

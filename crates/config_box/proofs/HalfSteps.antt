@@ -9,9 +9,10 @@ use Rattle.std.proofs.lemmas.List.Sums.{length-filter, count_by-le-length}
 use Rattle.std.proofs.lemmas.List.Kept.{IsStrictlyIncreasing-filter}
 use Rattle.box_answers.specs.config_record.declared.coord.Coord.{Coord}
 use Rattle.box_answers.specs.config_record.declared.coord.Coord.TheVariants as coords
-use Rattle.box_answers.specs.config_record.declared.locale.Locale.{Locale}
+use Rattle.box_answers.specs.config_record.locales.declared.locale.Locale.{Locale}
 use Rattle.box_answers.specs.config_record.Coord.{place_of}
-use Rattle.box_answers.specs.config_record.ComparedNumber.{device_number, locale_number}
+use Rattle.box_answers.specs.config_record.ComparedNumber.{device_number}
+use Rattle.box_answers.specs.config_record.locales.LocaleNumber.{locale_number}
 use Rattle.box_answers.proofs.config_record.ChangedNumber.{by_coord, place_of-injective}
 use Rattle.box_answers.specs.NumberSet.{SetOf, RangeOf, NumbersOf, LocalesOf, locale_numbers, IsIn, IsProper}
 use Rattle.box_answers.specs.Members.{set_at, IsMember, IsOfKind, IsSetAt, IsBox}

@@ -7,9 +7,10 @@ use Rattle.std.proofs.lemmas.List.{get_or-map, get_or-set_same, get_or-set_other
 use Rattle.std.proofs.lemmas.List.Elements.{Contains-get_or}
 use Rattle.box_answers.specs.config_record.declared.coord.Coord.{Coord}
 use Rattle.box_answers.specs.config_record.declared.coord.Coord.TheVariants as coords
-use Rattle.box_answers.specs.config_record.declared.locale.Locale.{Locale}
+use Rattle.box_answers.specs.config_record.locales.declared.locale.Locale.{Locale}
 use Rattle.box_answers.specs.config_record.Coord.{all_coords, place_of}
-use Rattle.box_answers.specs.config_record.ComparedNumber.{device_number, locale_number}
+use Rattle.box_answers.specs.config_record.ComparedNumber.{device_number}
+use Rattle.box_answers.specs.config_record.locales.LocaleNumber.{locale_number}
 use Rattle.box_answers.proofs.config_record.ChangedNumber.{by_coord, place_of-injective}
 use Rattle.box_answers.specs.declared.number_set.NumberSet.{NumberSet}
 use Rattle.box_answers.specs.NumberSet.{SetOf, RangeOf, NumbersOf, LocalesOf, set_of, locale_numbers, IsIn, IsProper}
@@ -57,6 +58,13 @@ choice-joined numbers others joined proper few is =
     }
 
 -- locales are joined as their numbers are
+pub numbers-joined : (numbers others joined ns ms js : List ℕ) → ns ≡ numbers → ms ≡ others → joined ≡ js → IsOneSet (NumbersOf ns) (NumbersOf ms) (Some (NumbersOf js))
+    → IsOneSet (NumbersOf numbers) (NumbersOf others) (Some (NumbersOf joined))
+numbers-joined numbers others joined ns ms js first second third one =
+    subst (λ (l : List ℕ). IsOneSet (NumbersOf l) (NumbersOf others) (Some (NumbersOf joined))) first (
+    subst (λ (l : List ℕ). IsOneSet (NumbersOf ns) (NumbersOf l) (Some (NumbersOf joined))) second (subst (λ (l : List ℕ). IsOneSet (NumbersOf ns) (NumbersOf ms) (Some (NumbersOf l))) (sym third) one)
+    )
+
 pub locales-joined : (locales others joined ns ms js : List ℕ) → ns ≡ locales → ms ≡ others → joined ≡ js → IsOneSet (NumbersOf ns) (NumbersOf ms) (Some (NumbersOf js))
     → IsOneSet (LocalesOf locales) (LocalesOf others) (Some (LocalesOf joined))
 locales-joined locales others joined ns ms js first second third one =

@@ -17,8 +17,8 @@ use Rattle.json_input.specs.Each.{list_of, each}
 use Rattle.box_answers.specs.config_record.declared.coord.Coord.{Coord}
 use Rattle.box_answers.specs.config_record.declared.coord.Coord.TheVariants as coords
 use Rattle.box_answers.specs.config_record.Coord.{all_coords, place_of, greatest_of, greatest_of_device, is_outside}
-use Rattle.box_answers.specs.config_record.ComparedNumber.{locale_of_number}
-use Rattle.box_answers.specs.config_record.Locale.{IsGiven, checked_locale}
+use Rattle.box_answers.specs.config_record.locales.LocaleNumber.{locale_of_number}
+use Rattle.box_answers.specs.config_record.locales.Locale.{IsGiven, checked_locale}
 use Rattle.box_answers.proofs.config_record.DeviceLemmas.{inside-within, inside-some, inside-can}
 use Rattle.box_answers.specs.declared.number_set.NumberSet.{NumberSet}
 use Rattle.box_answers.specs.NumberSet.{SetOf, set_of, RangeOf, NumbersOf, LocalesOf}

@@ -7,12 +7,12 @@ use Rattle.json_input.specs.Each.{each}
 use Rattle.json_input.specs.Json.{value_of}
 use Rattle.box_answers.specs.config_record.declared.coord.Coord as coord
 use Rattle.box_answers.specs.config_record.declared.coord.Coord.TheVariants as coords
-use Rattle.box_answers.specs.config_record.declared.locale.Locale.{Locale}
-use Rattle.box_answers.specs.config_record.declared.locale.LocaleFault.{LocaleFault}
-use Rattle.box_answers.specs.config_record.declared.locale.LocaleFault.TheVariants as of_locale
+use Rattle.box_answers.specs.config_record.locales.declared.locale.Locale.{Locale}
+use Rattle.box_answers.specs.config_record.locales.declared.locale.LocaleFault.{LocaleFault}
+use Rattle.box_answers.specs.config_record.locales.declared.locale.LocaleFault.TheVariants as of_locale
 use Rattle.box_answers.specs.config_record.Coord.{is_outside}
-use Rattle.box_answers.specs.config_record.ComparedNumber.{locale_number}
-use Rattle.box_answers.specs.config_record.Locale.{locale_of}
+use Rattle.box_answers.specs.config_record.locales.LocaleNumber.{locale_number}
+use Rattle.box_answers.specs.config_record.locales.Locale.{locale_of}
 use Rattle.box_answers.specs.NumberSet as sets
 use Rattle.box_answers.specs.Members.{most_values}
 use Rattle.config_box.specs.declared.box_fault.BoxFault.{BoxFault}

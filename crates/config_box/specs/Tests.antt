@@ -3,7 +3,7 @@ use Rattle.std.specs.Prelude.{ℕ, ◌==◌, nat_le, Bool, true, false, List}
 use Rattle.std.specs.List.{list_any}
 use Rattle.box_answers.specs.config_record.declared.coord.Coord as coord
 use Rattle.box_answers.specs.config_record.declared.coord.Coord.TheVariants as coords
-use Rattle.box_answers.specs.config_record.declared.locale.Locale.{Locale}
+use Rattle.box_answers.specs.config_record.locales.declared.locale.Locale.{Locale}
 use Rattle.box_answers.specs.config_record.ComparedNumber.{device_number}
 use Rattle.box_answers.specs.NumberSet as sets
 use Rattle.box_answers.specs.NumberSet.{SetOf, locale_numbers}

@@ -1,7 +1,7 @@
 //! The half of a set of numbers that gives an answer to a test.
 
 ghost use Rattle.std.specs.Prelude.{◌≡◌, ◌≤◌, filter, IfOk, MatchOption};
-ghost use Rattle.box_answers.specs.config_record.ComparedNumber.{locale_number};
+ghost use Rattle.box_answers.specs.config_record.locales.LocaleNumber.{locale_number};
 ghost use Rattle.box_answers.specs.NumberSet.{RangeOf, set_of, IsProper};
 ghost use Rattle.config_box.specs.HalfSets.{gives, IsAskable, NoneAnswers, IsHalfSet};
 ghost use Rattle.config_box.specs.Tests.{test_of, passes};
@@ -78,7 +78,7 @@ fn kept_numbers(
     numbers
         .iter()
         .copied()
-        .filter(|number| is_kept(test, answer, *number))
+        .filter(|number| is_kept(test, answer, u64::from(*number)))
         .collect(alloc)
 }
 
@@ -98,7 +98,7 @@ fn kept_locales(
 }
 
 // Whether a number gives this answer.
-fn is_kept(test: &Test, answer: bool, number: u32) -> bool
+fn is_kept(test: &Test, answer: bool, number: u64) -> bool
     ensures { result ≡ gives (test_of test.now) answer number }
 {
     if answer {

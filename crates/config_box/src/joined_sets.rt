@@ -5,7 +5,7 @@ ghost use Rattle.box_answers.specs.NumberSet.{RangeOf, NumbersOf, LocalesOf, set
 ghost use Rattle.box_answers.specs.Members.{sets_of, IsBox};
 ghost use Rattle.config_box.specs.Joined.{AreApart, IsOneSet, CannotJoin, HasJoinedSets};
 
-use crate::choice::{locales_of, merged, numbers_of};
+use crate::choice::{locales_of, merged, narrowed, numbers_of, widened};
 use crate::read::MOST_VALUES;
 use crate::split::shared_sets;
 use box_answers::{Locale, NumberSet};
@@ -138,9 +138,12 @@ fn joined_choice(
     requires others { IsProper (NumbersOf others.now) }
     ensures { IfOk result (λ joined. IsOneSet (NumbersOf numbers.now) (NumbersOf others.now) (option_map set_of joined)) }
 {
-    let Some(joined) = joined_numbers(alloc, numbers, others)? else {
+    let numbers = widened(alloc, numbers)?;
+    let others = widened(alloc, others)?;
+    let Some(joined) = joined_numbers(alloc, numbers.as_slice(), others.as_slice())? else {
         return Ok(None);
     };
+    let joined = narrowed(alloc, joined.as_slice())?;
     Ok(Some(NumberSet::Numbers(Rc::new(alloc, joined)?)))
 }
 
@@ -165,9 +168,9 @@ fn joined_locales(
 // The numbers of two choices, unless they share one or are too many.
 fn joined_numbers(
     alloc: Global,
-    numbers: &[u32],
-    others: &[u32],
-) -> Result<Option<Vec<u32>>, AllocError>
+    numbers: &[u64],
+    others: &[u64],
+) -> Result<Option<Vec<u64>>, AllocError>
     requires numbers { IsProper (NumbersOf numbers.now) }
     requires others { IsProper (NumbersOf others.now) }
     ensures { IfOk result (λ joined. IsOneSet (NumbersOf numbers.now) (NumbersOf others.now) (option_map (λ v. NumbersOf v.items) joined)) }
@@ -181,7 +184,7 @@ fn joined_numbers(
     Ok(Some(merged(alloc, numbers, others)?))
 }
 
-fn shares_number(numbers: &[u32], others: &[u32]) -> bool
+fn shares_number(numbers: &[u64], others: &[u64]) -> bool
     ensures { MatchBool result (AreApart (NumbersOf numbers.now) (NumbersOf others.now) → ⊥) (AreApart (NumbersOf numbers.now) (NumbersOf others.now)) }
 {
     for other in others {

@@ -1,6 +1,6 @@
 //! The sets of a box from what is written of each coordinate.
 
-ghost use Rattle.std.specs.Prelude.{◌≡◌, ◌≢◌, ℕ, ◌<◌, map, length, slice_index, IfOk};
+ghost use Rattle.std.specs.Prelude.{◌^◌, ◌≡◌, ◌≢◌, ℕ, ◌<◌, map, length, slice_index, IfOk};
 ghost use Rattle.std.specs.List.{list_any};
 ghost use Rattle.contract_words.specs.Exact.{GivesOr};
 ghost use Rattle.serde_json.specs.View.{view};
@@ -8,8 +8,8 @@ ghost use Rattle.json_input.specs.Each.{each};
 ghost use Rattle.box_answers.specs.NumberSet.{NumbersOf, LocalesOf, set_of};
 ghost use Rattle.box_answers.specs.config_record.declared.coord.Coord.TheVariants as coords;
 ghost use Rattle.box_answers.specs.config_record.Coord.{all_coords, is_outside};
-ghost use Rattle.box_answers.specs.config_record.ComparedNumber.{locale_of_number};
-ghost use Rattle.box_answers.specs.config_record.Locale.{IsGiven};
+ghost use Rattle.box_answers.specs.config_record.locales.LocaleNumber.{locale_of_number};
+ghost use Rattle.box_answers.specs.config_record.locales.Locale.{IsGiven};
 ghost use Rattle.box_answers.specs.Members.{sets_of, IsSetAt, IsBox};
 ghost use Rattle.config_box.specs.declared.box_fault.BoxFault.TheVariants.{OutOfMemory};
 ghost use Rattle.config_box.specs.BoxJson.{outside_fault, set_of_range, set_of_numbers, is_malformed, is_region_alone, number_of_text, set_of_texts, set_of_nothing, set_in, box_in_value};
@@ -117,14 +117,15 @@ fn set_of_numbers(alloc: Global, at: Coord, numbers: &[u64]) -> Result<NumberSet
     if any_outside(at, numbers) {
         return Err(outside_fault(at));
     }
-    let numbers = narrowed(alloc, numbers)?;
-    Ok(numbers_set(alloc, numbers.as_slice())?)
+    Ok(numbers_set(alloc, numbers)?)
 }
 
-fn numbers_set(alloc: Global, numbers: &[u32]) -> Result<NumberSet, AllocError>
+fn numbers_set(alloc: Global, numbers: &[u64]) -> Result<NumberSet, AllocError>
+    requires { (k : ℕ) → k < length numbers.now → slice_index numbers.now k < 2 ^ 32 }
     ensures { IfOk result (λ set. set_of set ≡ NumbersOf (rising numbers.now)) }
 {
     let chosen = rising(alloc, numbers)?;
+    let chosen = narrowed(alloc, chosen.as_slice())?;
     Ok(NumberSet::Numbers(Rc::new(alloc, chosen)?))
 }
 
@@ -171,7 +172,7 @@ fn any_region_alone(texts: &[&str]) -> bool
 }
 
 // The number of a text's locale, 0 where it has none.
-fn number_of_text(text: &str) -> u32
+fn number_of_text(text: &str) -> u64
     ensures value { result ≡ number_of_text text.now }
     ensures given { IsGiven (locale_of_number result) }
 {
@@ -203,7 +204,7 @@ fn set_of_texts(alloc: Global, texts: &[&str]) -> Result<NumberSet, BoxFault>
     Ok(locales_set(alloc, numbers.as_slice())?)
 }
 
-fn numbers_of_texts(alloc: Global, texts: &[&str]) -> Result<Vec<u32>, AllocError>
+fn numbers_of_texts(alloc: Global, texts: &[&str]) -> Result<Vec<u64>, AllocError>
     ensures value { IfOk result (λ numbers. numbers.items ≡ map number_of_text (map (λ text. text.now) texts.now)) }
     ensures given { IfOk result (λ numbers. (k : ℕ) → k < length numbers.items → IsGiven (locale_of_number (slice_index numbers.items k))) }
 {
@@ -214,7 +215,7 @@ fn numbers_of_texts(alloc: Global, texts: &[&str]) -> Result<Vec<u32>, AllocErro
     Ok(numbers)
 }
 
-fn locales_set(alloc: Global, numbers: &[u32]) -> Result<NumberSet, AllocError>
+fn locales_set(alloc: Global, numbers: &[u64]) -> Result<NumberSet, AllocError>
     ensures { IfOk result (λ set. set_of set ≡ LocalesOf (rising numbers.now)) }
 {
     let chosen = rising(alloc, numbers)?;

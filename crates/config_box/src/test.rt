@@ -2,7 +2,7 @@
 
 ghost use Rattle.std.specs.Prelude.{◌≡◌};
 
-use box_answers::{Coord, Locale, has_locale};
+use box_answers::{Coord, Locale, has_locale, has_number};
 
 /// A test of one coordinate. It is answered by each device.
 #[derive(Debug, Drop)]
@@ -33,11 +33,11 @@ impl Test {
     }
 
     /// The answer of a number at the coordinate.
-    pub(crate) fn passes(&self, number: u32) -> bool
+    pub(crate) fn passes(&self, number: u64) -> bool
         ensures { result ≡ passes (test_of self.now) number }
     {
         match self {
-            Test::AtMost(_, most) => number <= *most,
+            Test::AtMost(_, most) => number <= u64::from(*most),
             Test::Among(coord, choice) => choice.has(*coord, number),
         }
     }
@@ -47,13 +47,13 @@ impl Choice {
     ghost use Rattle.config_box.specs.Tests.{choice_of, is_listed};
 
     #[tactic(auto, unfolding(crate::specs::Tests::is_listed))]
-    fn has(&self, at: Coord, number: u32) -> bool
+    fn has(&self, at: Coord, number: u64) -> bool
         ensures { result ≡ is_listed at (choice_of self.now) number }
     {
         match (at, self) {
             (Coord::Locale, Choice::Numbers(_)) => false,
             (Coord::Locale, Choice::Locales(locales)) => has_locale(locales.as_slice(), number),
-            (_, Choice::Numbers(numbers)) => numbers.as_slice().contains(&number),
+            (_, Choice::Numbers(numbers)) => has_number(numbers.as_slice(), number),
             (_, Choice::Locales(_)) => false,
         }
     }

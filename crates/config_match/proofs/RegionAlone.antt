@@ -1,6 +1,6 @@
 -- A record with a region and no language matches no device, since no device has a region without a language.
-use Rattle.std.proofs.Common.{◌≡◌, ℕ, ◌/◌, ◌%◌, ◌<◌, ◌==◌, ◌&&◌, not, Bool, true, false, List, ◌∷◌, drop, IsTrue, refl, arith}
-use Rattle.std.proofs.lemmas.Bool.{eqb-true, and_parts, not-true}
+use Rattle.std.proofs.Common.{◌≡◌, ℕ, ◌*◌, ◌^◌, ◌<◌, ◌==◌, ◌&&◌, not, Bool, true, false, List, ◌∷◌, drop, IsTrue, refl, arith}
+use Rattle.std.proofs.lemmas.Bool.{eqb-true, eqb-false, and_parts, not-true}
 use Rattle.std.proofs.lemmas.Bool.Decides.{nat_tests}
 use Rattle.config_rules.specs.config_record.declared.coord.Coord.{Coord}
 use Rattle.config_rules.specs.config_record.declared.coord.Coord.TheVariants as coords
@@ -11,6 +11,7 @@ use Rattle.config_rules.specs.declared.rule.Rule.{Rule}
 use Rattle.config_rules.specs.Answer.{is_pass, or_else}
 use Rattle.config_rules.specs.Conditions.{locale_suits}
 use Rattle.config_rules.specs.Kind.{kind_answer}
+use Rattle.config_rules.specs.Locale.{language, region}
 use Rattle.config_rules.specs.Rule.{at, rule_answer}
 use Rattle.config_rules.specs.Table.{answer_of_table}
 use Rattle.config_rules.specs.config_record.ComparedNumber.{record_number, device_number}
@@ -39,23 +40,24 @@ pub unsuited : (a d : Coord → ℕ) → locale_suits (a coords.Locale) (d coord
 unfolding all_conditions rule_answer kind_answer
 unsuited a d e = third_decides (at coords.Mcc kinds.Equal) (at coords.Mnc kinds.Equal) (at coords.Locale kinds.LocaleSuits) (drop 3 all_conditions) a d (rw e refl)
 
-not_suited : (a d : ℕ) → (not (a == 0) && a / 65536 == 0) ≡ true → (d < 65536 → d ≡ 0) → locale_suits a d ≡ false
+not_suited : (a d : ℕ) → (not (region a == 0) && language a == 0) ≡ true → (d < 65536 * 2 ^ 32 → d ≡ 0) → locale_suits a d ≡ false
 not_suited a d alone whole =
-    let parts = and_parts (not (a == 0)) (a / 65536 == 0) alone in
-    let some : (a == 0) ≡ false = not-true (a == 0) parts.0 in
-    let none : a / 65536 ≡ 0 = eqb-true (a / 65536) 0 parts.1 in
-    let region : (a % 65536 == 0) ≡ false = grind (arith, nat_tests) in
-    languages (a / 65536 == d / 65536) refl some none region
+    let parts = and_parts (not (region a == 0)) (language a == 0) alone in
+    let some_region : (region a == 0) ≡ false = not-true (region a == 0) parts.0 in
+    let none : language a ≡ 0 = eqb-true (language a) 0 parts.1 in
+    let there = eqb-false (region a) 0 some_region in
+    let some : (a == 0) ≡ false = grind (arith, nat_tests) in
+    languages (language a == language d) refl some none some_region
   where
-    languages : (same : Bool) → (a / 65536 == d / 65536) ≡ same → (a == 0) ≡ false → a / 65536 ≡ 0 → (a % 65536 == 0) ≡ false → locale_suits a d ≡ false
-    languages true e some none region =
-        let equal = eqb-true (a / 65536) (d / 65536) e in
+    languages : (same : Bool) → (language a == language d) ≡ same → (a == 0) ≡ false → language a ≡ 0 → (region a == 0) ≡ false → locale_suits a d ≡ false
+    languages true e some none other =
+        let equal = eqb-true (language a) (language d) e in
         let zero : d ≡ 0 = whole (omega arith) in
-        let other : (a % 65536 == d % 65536) ≡ false = rw zero region in
-        rw (some, e, region, other) refl
-    languages false e some none region = rw (some, e) refl
+        let differ : (region a == region d) ≡ false = rw zero other in
+        rw (some, e, other, differ) refl
+    languages false e some none other = rw (some, e) refl
 
-pub region_alone : (r numbers : List ℕ) → IsTrue (has_region_alone r) → (device_number numbers coords.Locale < 65536 → device_number numbers coords.Locale ≡ 0)
+pub region_alone : (r numbers : List ℕ) → IsTrue (has_region_alone r) → (device_number numbers coords.Locale < 65536 * 2 ^ 32 → device_number numbers coords.Locale ≡ 0)
     → is_pass (answer_of_table all_conditions (record_number r) (record_number r) (device_number numbers)) ≡ false
 region_alone r numbers alone whole =
     unsuited (record_number r) (device_number numbers) (not_suited (record_number r coords.Locale) (device_number numbers coords.Locale) alone whole)

@@ -5,7 +5,7 @@ use Rattle.config_rules.specs.config_record.ComparedNumber.{record_number, devic
 use Rattle.config_rules.specs.config_record.Record.{is_set_aside}
 use Rattle.config_rules.specs.declared.rule.Rule.{Rule}
 use Rattle.config_rules.specs.Answer.{is_pass}
-use Rattle.config_rules.specs.Locale.{language}
+use Rattle.config_rules.specs.Locale.{language, region}
 use Rattle.config_rules.specs.Table.{answer_of_table, rule_of_table}
 use Rattle.config_match.specs.declared.reason.Mismatch.{Mismatch}
 use Rattle.config_match.specs.declared.reason.Mismatch.TheVariants.{SetAside, At}
@@ -28,4 +28,4 @@ mismatch_of r d =
 
 -- it has a region and no language
 abbrev pub has_region_alone : List ℕ → Bool
-has_region_alone r = not (record_number r coords.Locale == 0) && language (record_number r coords.Locale) == 0
+has_region_alone r = not (region (record_number r coords.Locale) == 0) && language (record_number r coords.Locale) == 0

@@ -2,24 +2,25 @@
 use Rattle.std.proofs.Common.{◌≡◌, ℕ, zero, suc, ◌<◌, ◌≤◌, ◌≢◌, ◌==◌, nat_lt, Bool, true, false, List, [], ◌∷◌, length, get_or, ◌⊎◌, inl, inr, Result, Ok, Err, IfOk, refl, sym, ap, subst, ◌∙◌, arith}
 use Rattle.std.specs.Prelude.{IfErr}
 use Rattle.std.proofs.lemmas.Bool.{ltb-false, eqb-false, or_parts}
-use Rattle.contract_words.specs.Faults.{◌>>=◌, checked_by}
-use Rattle.contract_words.specs.Sequences.{with_front}
-use Rattle.contract_words.proofs.FaultSteps.{checked_by-ok}
+use Rattle.locales.specs.contract_words.Faults.{◌>>=◌, checked_by}
+use Rattle.locales.specs.contract_words.Sequences.{with_front}
+use Rattle.locales.proofs.contract_words.FaultSteps.{checked_by-ok}
 use Rattle.json_input.specs.Each.{each}
 use Rattle.config_record.specs.declared.coord.Coord.{Coord}
 use Rattle.config_record.specs.declared.coord.Coord.TheVariants as coords
-use Rattle.config_record.specs.declared.locale.Locale.{Locale}
-use Rattle.config_record.specs.declared.locale.LocaleFault.{LocaleFault}
-use Rattle.config_record.specs.declared.locale.LocaleFault.TheVariants as of_locale
+use Rattle.locales.specs.declared.locale.Locale.{Locale}
+use Rattle.locales.specs.declared.locale.LocaleFault.{LocaleFault}
+use Rattle.locales.specs.declared.locale.LocaleFault.TheVariants as of_locale
 use Rattle.config_record.specs.declared.fields.DeviceFault.{DeviceFault}
 use Rattle.config_record.specs.declared.fields.DeviceFault.TheVariants.{FieldRange, RegionAlone, Density}
-use Rattle.config_record.specs.Coord.{all_coords, place_of, number_at, greatest_of_device, is_outside}
+use Rattle.config_record.specs.Coord.{all_coords, place_of, number_at, greatest_of, greatest_of_device, is_outside}
 use Rattle.config_record.specs.declared.device.Device.{Device}
-use Rattle.config_record.specs.ComparedNumber.{locale_number, locale_of_number, device_number}
+use Rattle.config_record.specs.ComparedNumber.{device_number}
+use Rattle.locales.specs.LocaleNumber.{locale_number, locale_of_number}
 use Rattle.config_record.specs.DeviceSeen.{device_numbers, seen}
 use Rattle.config_record.specs.Device.{density_in, field_in, locale_number_in, number_in, device_with, device_locale, CanHave}
-use Rattle.config_record.proofs.LocaleLemmas.{locale_of-gives}
-use Rattle.config_record.specs.Locale.{locale_of, locale_faults, checked_locale, IsOfSomeText, IsGiven, locale_text}
+use Rattle.locales.proofs.LocaleLemmas.{locale_of-gives}
+use Rattle.locales.specs.Locale.{locale_of, locale_faults, checked_locale, IsOfSomeText, IsGiven, locale_text}
 
 -- ---- the number of each coordinate stands at its place
 
@@ -70,6 +71,11 @@ pub inside-within : (c : Coord) (n : ℕ) → is_outside c n ≡ false → n ≤
 unfolding is_outside
 inside-within coords.Density n e = let h = or_parts (n == 0) (nat_lt (greatest_of_device coords.Density) n) e in let within = ltb-false (greatest_of_device coords.Density) n h.1 in omega arith
 inside-within c n e = let within = ltb-false (greatest_of_device c) n e in omega arith
+
+pub greatest-fits : (c : Coord) → greatest_of_device c < 65536
+unfolding greatest_of_device greatest_of
+greatest-fits coords.Mcc = omega arith
+greatest-fits c = omega arith
 
 pub inside-some : (n : ℕ) → is_outside coords.Density n ≡ false → 1 ≤ n
 unfolding is_outside

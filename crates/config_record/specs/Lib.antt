@@ -1,6 +1,4 @@
-pub mod Zero
 pub mod Coord
-pub mod Locale
 pub mod Record
 pub mod ComparedNumber
 pub mod Device
@@ -8,3 +6,4 @@ pub mod DeviceJson
 pub mod DeviceSeen
 pub mod Separator
 pub mod Qualifiers
+pub use Rattle.locales.specs as locales

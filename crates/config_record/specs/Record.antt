@@ -1,15 +1,16 @@
 -- Records: the configurations that type chunks hold (AOSP: ResTable_config). A record is the list of
 -- its bytes.
 use Rattle.std.specs.Prelude.{ℕ, ◌+◌, ◌*◌, ◌/◌, ◌%◌, ◌||◌, not, nat_lt, Bool, List, [], ◌∷◌, length, take, slice_index, Result, Ok, Err}
-use Rattle.contract_words.specs.Faults.{checked_by}
-use Rattle.chunk_walk.specs.Number.{number}
+use Rattle.locales.specs.contract_words.Faults.{checked_by}
+use Rattle.locales.specs.chunk_walk.Number.{number}
 use Rattle.config_record.specs.declared.coord.Coord as coord
 use Rattle.config_record.specs.declared.coord.Coord.TheVariants as coords
-use Rattle.config_record.specs.declared.locale.Locale.{Locale}
+use Rattle.locales.specs.declared.locale.Locale.{Locale}
 use Rattle.config_record.specs.declared.record.Record.{Record}
 use Rattle.config_record.specs.declared.record.RecordFault.{RecordFault}
 use Rattle.config_record.specs.declared.record.RecordFault.TheVariants.{Size, Outside}
-use Rattle.config_record.specs.Zero.{is_zero}
+use Rattle.locales.specs.Zero.{is_zero}
+use Rattle.locales.specs.Locale.{without_script}
 
 abbrev pub record_bytes : Record → List ℕ
 record_bytes r = r.bytes.now
@@ -151,7 +152,7 @@ coordinate r coords.Sdk = sdk_version r
 coordinate r coords.Minor = minor_version r
 
 unfoldable pub locale_in : List ℕ → Locale
-locale_in r = record { language = language r; region = country r }
+locale_in r = without_script (language r) (country r)
 
 -- A record with a script or a variant is set aside: neither is compared with a device.
 unfoldable pub is_set_aside : List ℕ → Bool

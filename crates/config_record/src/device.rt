@@ -1,25 +1,25 @@
 //! Devices: the configurations that are asked for.
 
-ghost use Rattle.std.specs.Prelude.{◌≡◌, ◌≢◌, ◌≤◌, ◌<◌};
+ghost use Rattle.std.specs.Prelude.{◌≡◌, ◌≢◌, ◌≤◌, ◌<◌, ◌*◌, ◌^◌};
 ghost use Rattle.config_record.specs.declared.coord.Coord as coord;
 ghost use Rattle.config_record.specs.declared.coord.Coord.TheVariants as coords;
 ghost use Rattle.config_record.specs.Coord.{greatest_of_device, number_at};
 ghost use Rattle.config_record.specs.Device.{device_locale, CanHave};
-ghost use Rattle.config_record.specs.Locale.{IsGiven};
+ghost use Rattle.locales.specs.Locale.{IsGiven};
 
 use crate::coord::{COORD_COUNT, Coord};
 use crate::fields::{DeviceFault, Fields, fill_numbers, locale_number_in};
 use crate::json::device_in_value;
-use crate::locale::{Locale, LocaleFault};
 use json_input::read_value;
+use locales::{Locale, LocaleFault};
 use std::alloc::Global;
 
 /// A configuration that is asked for: 24 numbers, none above the greatest of its coordinate, and a
 /// locale that a text gives. The density is one of 1 to 32767.
 #[derive(Clone, Copy, Debug, PartialEq, Eq)]
 pub struct Device {
-    /// What is compared at each coordinate, in their order; at the locale the number of its four bytes.
-    numbers: [u32; COORD_COUNT],
+    /// What is compared at each coordinate, in their order; at the locale the number of its bytes.
+    numbers: [u64; COORD_COUNT],
     ghost in_range: { (c : coord.Coord) → c ≢ coords.Locale → number_at numbers c ≤ greatest_of_device c },
     ghost with_density: { 1 ≤ number_at numbers coords.Density },
     ghost with_locale: { IsGiven (device_locale numbers) },
@@ -27,12 +27,12 @@ pub struct Device {
 
 impl Device {
     ghost use Rattle.std.specs.Prelude.{IfOk, IfErr};
-    ghost use Rattle.contract_words.specs.Exact.{GivesOr};
+    ghost use Rattle.locales.specs.contract_words.Exact.{GivesOr};
     ghost use Rattle.config_record.specs.declared.fields.DeviceFault.TheVariants.{FieldRange, RegionAlone, OutOfMemory};
     ghost use Rattle.config_record.specs.ComparedNumber.{device_number};
     ghost use Rattle.config_record.specs.Device.{device_with, device_in, device_coordinate};
     ghost use Rattle.config_record.specs.DeviceJson.{device_in_json};
-    ghost use Rattle.config_record.specs.Locale.{IsOfSomeText};
+    ghost use Rattle.locales.specs.Locale.{IsOfSomeText};
     ghost use Rattle.config_record.specs.DeviceSeen.{device_numbers, seen};
 
     /// The device of these fields. For callers that have numbers and a locale, as one that asks the
@@ -53,8 +53,7 @@ impl Device {
         ensures not_refused { IsOfSomeText fields.now.locale
             → IfErr result (λ fault. (fault ≢ RegionAlone) × (fault ≢ FieldRange coords.Locale)) }
     {
-        let Locale { language, region } = fields.locale;
-        Device::with(&fields.numbers, Locale::of_bytes(language, region))
+        Device::with(&fields.numbers, fields.locale.checked())
     }
 
     /// The device of a JSON text: an object with a number for each coordinate and a text for the locale.
@@ -67,7 +66,7 @@ impl Device {
     }
 
     /// The device of the numbers that are compared at each coordinate, in their order.
-    pub fn of_numbers(numbers: [u32; COORD_COUNT]) -> Device
+    pub fn of_numbers(numbers: [u64; COORD_COUNT]) -> Device
         requires { (c : coord.Coord) → CanHave c (number_at numbers c) }
         ensures { device_numbers result ≡ numbers }
     {
@@ -95,17 +94,17 @@ impl Device {
     {
         match coord {
             Coord::Locale => 0,
-            _ => self.compared_number(coord),
+            _ => self.compared_number(coord) as u32,
         }
     }
 
-    /// The number that is compared with that of a record: the one of a coordinate, or of the four bytes
-    /// of the locale, language first. A locale without a language is none at all.
-    pub fn compared_number(&self, coord: Coord) -> u32
+    /// The number that is compared with that of a record: the one of a coordinate, or of the bytes of the
+    /// locale, language first. A locale without a language is none at all.
+    pub fn compared_number(&self, coord: Coord) -> u64
         ensures value { result ≡ device_number (device_numbers self.now) coord }
         ensures within { coord ≢ coords.Locale → result ≤ greatest_of_device coord }
         ensures with_density { coord ≡ coords.Density → 1 ≤ result }
-        ensures with_language { coord ≡ coords.Locale → result < 65536 → result ≡ 0 }
+        ensures with_language { coord ≡ coords.Locale → result < 65536 * 2 ^ 32 → result ≡ 0 }
     {
         self.numbers[coord.place()]
     }
@@ -118,9 +117,9 @@ impl Device {
         Locale::of_number(self.compared_number(Coord::Locale))
     }
 
-    /// The same device with another number to compare at one coordinate; at the locale that of the four
-    /// bytes of another locale.
-    pub fn changed(&self, at: Coord, number: u32) -> Device
+    /// The same device with another number to compare at one coordinate; at the locale that of the bytes
+    /// of another locale.
+    pub fn changed(&self, at: Coord, number: u64) -> Device
         requires { CanHave at number }
         ensures same { device_number (device_numbers result) at ≡ number }
         ensures others { (c : coord.Coord) → c ≢ at

@@ -5,13 +5,13 @@ ghost use Rattle.json_input.specs.Each.{each};
 ghost use Rattle.json_input.specs.Fault.{fault_of_text};
 ghost use Rattle.config_record.specs.DeviceSeen.{filled};
 ghost use Rattle.config_record.specs.Device.{density_in, locale_number_in, field_in, number_in};
-ghost use Rattle.config_record.specs.ComparedNumber.{locale_of_number};
-ghost use Rattle.config_record.specs.Locale.{IsGiven};
+ghost use Rattle.locales.specs.LocaleNumber.{locale_of_number};
+ghost use Rattle.locales.specs.Locale.{IsGiven};
 ghost use Rattle.config_record.specs.declared.fields.DeviceFault.TheVariants.{Syntax, OutOfMemory};
 
 use crate::coord::{COORD_COUNT, Coord};
-use crate::locale::{Locale, LocaleFault};
 use json_input::JsonFault;
+use locales::{Locale, LocaleFault};
 use thiserror::Error;
 
 /// A number for each coordinate, in their order, and a locale, for `Device::check`. The number at the
@@ -62,9 +62,9 @@ impl From<JsonFault> for DeviceFault {
 #[tactic(auto, using(crate::proofs::FillSteps::fill_steps))]
 pub(crate) fn fill_numbers(
     asked: &[u64; COORD_COUNT],
-    locale: Result<u32, DeviceFault>,
+    locale: Result<u64, DeviceFault>,
     coords: &[Coord],
-    numbers: &mut [u32],
+    numbers: &mut [u64],
 ) -> Result<(), DeviceFault>
     requires { length numbers.old ≡ length coords.now }
     ensures { filled result numbers.new ≡ each (number_in asked.now locale) coords.now }
@@ -78,9 +78,9 @@ pub(crate) fn fill_numbers(
 #[tactic(auto, unfolding(crate::specs::Device::number_in))]
 fn number_in(
     asked: &[u64; COORD_COUNT],
-    locale: Result<u32, DeviceFault>,
+    locale: Result<u64, DeviceFault>,
     coord: Coord,
-) -> Result<u32, DeviceFault>
+) -> Result<u64, DeviceFault>
     ensures { result ≡ number_in asked.now locale coord }
 {
     match coord {
@@ -91,7 +91,7 @@ fn number_in(
 }
 
 /// The number of a locale, or why there is none.
-pub(crate) fn locale_number_in(locale: Result<Locale, LocaleFault>) -> Result<u32, DeviceFault>
+pub(crate) fn locale_number_in(locale: Result<Locale, LocaleFault>) -> Result<u64, DeviceFault>
     ensures value { result ≡ locale_number_in locale }
     ensures given { IfOk locale (λ locale. IsGiven locale) → IfOk result (λ number. IsGiven (locale_of_number number)) }
 {
@@ -102,20 +102,20 @@ pub(crate) fn locale_number_in(locale: Result<Locale, LocaleFault>) -> Result<u3
     }
 }
 
-fn density_in(density: u64) -> Result<u32, DeviceFault>
+fn density_in(density: u64) -> Result<u64, DeviceFault>
     ensures { result ≡ density_in density }
 {
     if Coord::Density.is_outside(density) {
         return Err(DeviceFault::Density);
     }
-    Ok(density as u32)
+    Ok(density)
 }
 
-fn field_in(coord: Coord, number: u64) -> Result<u32, DeviceFault>
+fn field_in(coord: Coord, number: u64) -> Result<u64, DeviceFault>
     ensures { result ≡ field_in coord number }
 {
     if coord.is_outside(number) {
         return Err(DeviceFault::FieldRange(coord));
     }
-    Ok(number as u32)
+    Ok(number)
 }

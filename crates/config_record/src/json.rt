@@ -9,8 +9,8 @@ ghost use Rattle.config_record.specs.DeviceSeen.{filled, seen, text_seen};
 use crate::coord::{COORD_COUNT, Coord};
 use crate::device::Device;
 use crate::fields::DeviceFault;
-use crate::locale::Locale;
 use json_input::has_only;
+use locales::Locale;
 use serde_json::Value;
 
 #[tactic(auto, unfolding(crate::specs::DeviceJson::device_in_value))]

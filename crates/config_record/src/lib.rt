@@ -20,14 +20,12 @@ mod coord;
 mod device;
 mod fields;
 mod json;
-mod locale;
 mod qualifiers;
 mod record;
 mod separator;
-mod zero;
 
 pub use coord::{COORD_COUNT, Coord};
 pub use device::Device;
 pub use fields::{DeviceFault, Fields};
-pub use locale::{Locale, LocaleFault, write_locale};
+pub use locales::{Locale, LocaleFault, write_locale};
 pub use record::{Record, RecordFault};

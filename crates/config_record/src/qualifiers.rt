@@ -3,7 +3,7 @@
 
 ghost use Rattle.std.specs.Prelude.{◌≤◌, length, OnOk};
 ghost use Rattle.std.specs.List.{flat_map};
-ghost use Rattle.contract_words.specs.Writes.{Writes};
+ghost use Rattle.locales.specs.contract_words.Writes.{Writes};
 ghost use Rattle.config_record.specs.Record.{record_bytes, coordinate, locale_in};
 ghost use Rattle.config_record.specs.Device.{device_coordinate, device_locale};
 ghost use Rattle.config_record.specs.DeviceSeen.{device_numbers};
@@ -12,11 +12,9 @@ ghost use Rattle.config_record.specs.Qualifiers.{number_qualifier, locale_qualif
 
 use crate::coord::Coord;
 use crate::device::Device;
-use crate::locale::{Locale, write_locale};
 use crate::record::Record;
 use crate::separator::Separator;
-use crate::zero::is_zero;
-use chunk_walk::write_hex;
+use locales::{Locale, is_zero, write_hex, write_locale};
 use std::io::{self, Write};
 
 impl Record<'_> {
@@ -49,7 +47,7 @@ impl Device {
 pub(crate) trait Configuration {
     ghost use Rattle.std.specs.Prelude.{◌≡◌, ℕ};
     ghost use Rattle.config_record.specs.declared.coord.Coord.{Coord};
-    ghost use Rattle.config_record.specs.declared.locale.Locale.{Locale};
+    ghost use Rattle.locales.specs.declared.locale.Locale.{Locale};
 
     ghost numbers: { Self → Coord → ℕ };
 

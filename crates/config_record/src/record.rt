@@ -3,9 +3,7 @@
 ghost use Rattle.std.specs.Prelude.{◌≡◌, ◌≢◌, ◌<◌, ◌≤◌, true, MatchBool};
 
 use crate::coord::Coord;
-use crate::locale::Locale;
-use crate::zero::is_zero;
-use chunk_walk::u32_at;
+use locales::{Locale, is_zero, u32_at};
 use thiserror::Error;
 
 mod fields;
@@ -125,16 +123,16 @@ impl<'a> Record<'a> {
         }
     }
 
-    /// The number that is compared with that of a device: the one of a coordinate, or of the four bytes
-    /// of the locale, language first.
+    /// The number that is compared with that of a device: the one of a coordinate, or of the bytes of the
+    /// locale, language first.
     #[tactic(auto, unfolding(crate::specs::ComparedNumber::record_number))]
-    pub fn compared_number(&self, coord: Coord) -> u32
+    pub fn compared_number(&self, coord: Coord) -> u64
         ensures value { result ≡ record_number (record_bytes self.now) coord }
         ensures within { coord ≢ coords.Locale → result ≤ greatest_of coord }
     {
         match coord {
             Coord::Locale => self.locale().number(),
-            _ => self.get(coord),
+            _ => u64::from(self.get(coord)),
         }
     }
 
@@ -143,10 +141,7 @@ impl<'a> Record<'a> {
     pub fn locale(&self) -> Locale
         ensures { result ≡ locale_in (record_bytes self.now) }
     {
-        Locale {
-            language: self.language(),
-            region: self.country(),
-        }
+        Locale::without_script(self.language(), self.country())
     }
 
     /// Whether there is a script or a variant. Such a record is shown, and matches no device.

@@ -1,7 +1,7 @@
 //! What stands between the parts of a text.
 
 ghost use Rattle.std.specs.Prelude.{◌≡◌, [], ◌∷◌, true, false, if◌then◌else◌, OnOk};
-ghost use Rattle.contract_words.specs.Writes.{Writes};
+ghost use Rattle.locales.specs.contract_words.Writes.{Writes};
 
 use std::io::{self, Write};
 

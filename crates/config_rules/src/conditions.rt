@@ -11,24 +11,24 @@ use crate::locale::{language, region};
 use config_record::{Coord, Device, Record};
 
 /// Exposed keys, as a number of `Coord::KeysHidden`.
-const EXPOSED_KEYS: u32 = 1;
+const EXPOSED_KEYS: u64 = 1;
 
 /// Keys on the screen, as a number of `Coord::KeysHidden`.
-pub const SOFT_KEYS: u32 = 3;
+pub const SOFT_KEYS: u64 = 3;
 
-pub(crate) fn is_equal(stored: u32, device: u32) -> bool
+pub(crate) fn is_equal(stored: u64, device: u64) -> bool
     ensures { result ≡ is_equal stored device }
 {
     stored == 0 || stored == device
 }
 
-pub(crate) fn is_at_most(stored: u32, device: u32) -> bool
+pub(crate) fn is_at_most(stored: u64, device: u64) -> bool
     ensures { result ≡ is_at_most stored device }
 {
     stored == 0 || stored <= device
 }
 
-pub(crate) fn keys_suit(stored: u32, device: u32) -> bool
+pub(crate) fn keys_suit(stored: u64, device: u64) -> bool
     ensures { result ≡ keys_suit stored device }
 {
     is_equal(stored, device) || (stored == EXPOSED_KEYS && device == SOFT_KEYS)
@@ -44,7 +44,7 @@ pub fn suits_locale(stored: &Record, device: &Device) -> bool
     locale_suits(stored, device.compared_number(Coord::Locale))
 }
 
-pub(crate) fn locale_suits(stored: u32, device: u32) -> bool
+pub(crate) fn locale_suits(stored: u64, device: u64) -> bool
     ensures { result ≡ locale_suits stored device }
 {
     stored == 0

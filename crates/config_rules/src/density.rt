@@ -7,17 +7,17 @@ use crate::answer::Answer;
 
 /// What a record without a density counts as. Beside one that says 160, each is better than the other at a device of 160 or
 /// more, and neither at a lower one: the later takes over, or the earlier stays.
-const MEDIUM: u32 = 160;
+const MEDIUM: u64 = 160;
 
-const ANY: u32 = 65534;
+const ANY: u64 = 65534;
 
-pub(crate) fn by_density(a: u32, b: u32, device: u32) -> Answer
+pub(crate) fn by_density(a: u64, b: u64, device: u64) -> Answer
     ensures { result ≡ density_answer a b device }
 {
     Answer::decided(a != b, is_better(a, b, device))
 }
 
-fn is_better(a: u32, b: u32, device: u32) -> bool
+fn is_better(a: u64, b: u64, device: u64) -> bool
     ensures { result ≡ is_better_density a b device }
 {
     let (x, y) = (counted(a), counted(b));
@@ -32,7 +32,7 @@ fn is_better(a: u32, b: u32, device: u32) -> bool
     }
 }
 
-fn counted(density: u32) -> u32
+fn counted(density: u64) -> u64
     ensures { result ≡ counted_density density }
 {
     if density == 0 { MEDIUM } else { density }
@@ -40,7 +40,7 @@ fn counted(density: u32) -> u32
 
 // Scaling down counts as twice as good as scaling up.
 #[tactic(auto, unfolding(crate::specs::Comparisons::is_larger_better))]
-fn is_larger_better(low: u32, high: u32, device: u32) -> bool
+fn is_larger_better(low: u64, high: u64, device: u64) -> bool
     ensures { result ≡ is_larger_better low high device }
 {
     if device >= high {
@@ -49,6 +49,6 @@ fn is_larger_better(low: u32, high: u32, device: u32) -> bool
     if low >= device {
         return false;
     }
-    let (low, high, device) = (u128::from(low), u128::from(high), u128::from(device));
-    (2 * low).saturating_sub(device) * high <= device * device
+    let scaled_up = low.saturating_sub(device - low);
+    u128::from(scaled_up) * u128::from(high) <= u128::from(device) * u128::from(device)
 }

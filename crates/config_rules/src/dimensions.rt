@@ -15,7 +15,7 @@ pub(crate) fn by_dimensions(a: Numbers, b: Numbers, device: Numbers) -> Answer
 }
 
 #[tactic(auto, unfolding(crate::specs::Comparisons::smaller_answer))]
-fn by_smaller(x: i64, y: i64) -> Answer
+fn by_smaller(x: i128, y: i128) -> Answer
     ensures { result ≡ smaller_answer x y }
 {
     if x < y {
@@ -28,7 +28,7 @@ fn by_smaller(x: i64, y: i64) -> Answer
 }
 
 #[tactic(auto, unfolding(crate::specs::Comparisons::rest_of_both))]
-fn rest_of_both(stored: Numbers, device: Numbers) -> i64
+fn rest_of_both(stored: Numbers, device: Numbers) -> i128
     ensures { result ≡ rest_of_both stored device }
 {
     sum(
@@ -38,21 +38,21 @@ fn rest_of_both(stored: Numbers, device: Numbers) -> i64
 }
 
 #[tactic(auto, unfolding(crate::specs::Comparisons::rest_of))]
-fn rest_of(stored: u32, device: u32) -> i64
+fn rest_of(stored: u64, device: u64) -> i128
     ensures value { result ≡ rest_of stored device }
-    ensures low { negsuc 4294967295 ≤ℤ result }
-    ensures high { result ≤ℤ pos 4294967295 }
+    ensures low { negsuc 18446744073709551615 ≤ℤ result }
+    ensures high { result ≤ℤ pos 18446744073709551615 }
 {
     if device == 0 {
         0
     } else {
-        i64::from(device) - i64::from(stored)
+        i128::from(device) - i128::from(stored)
     }
 }
 
-fn sum(x: i64, y: i64) -> i64
-    requires low { (negsuc 4294967295 ≤ℤ x) × (negsuc 4294967295 ≤ℤ y) }
-    requires high { (x ≤ℤ pos 4294967295) × (y ≤ℤ pos 4294967295) }
+fn sum(x: i128, y: i128) -> i128
+    requires low { (negsuc 18446744073709551615 ≤ℤ x) × (negsuc 18446744073709551615 ≤ℤ y) }
+    requires high { (x ≤ℤ pos 18446744073709551615) × (y ≤ℤ pos 18446744073709551615) }
     ensures { result ≡ x +ℤ y }
 {
     x + y

@@ -6,25 +6,25 @@ ghost use Rattle.config_rules.specs.Comparisons.{is_given, given_answer, larger_
 use crate::answer::Answer;
 
 /// Whether a number says something.
-pub(crate) fn is_given(number: u32) -> bool
+pub(crate) fn is_given(number: u64) -> bool
     ensures { result ≡ is_given number }
 {
     number != 0
 }
 
-pub(crate) fn given(a: u32, b: u32, device: u32) -> Answer
+pub(crate) fn given(a: u64, b: u64, device: u64) -> Answer
     ensures { result ≡ given_answer a b device }
 {
     Answer::decided(a != b && is_given(device), is_given(a))
 }
 
-pub(crate) fn larger(a: u32, b: u32, device: u32) -> Answer
+pub(crate) fn larger(a: u64, b: u64, device: u64) -> Answer
     ensures { result ≡ larger_answer a b device }
 {
     Answer::decided(a != b && is_given(device), a > b)
 }
 
-pub(crate) fn always_larger(a: u32, b: u32) -> Answer
+pub(crate) fn always_larger(a: u64, b: u64) -> Answer
     ensures { result ≡ always_larger_answer a b }
 {
     Answer::decided(a != b, a > b)

@@ -7,7 +7,7 @@ use crate::answer::Answer;
 use crate::given::is_given;
 
 /// The record that says just what the device says is better than one that says something else.
-pub(crate) fn by_keys(a: u32, b: u32, device: u32) -> Answer
+pub(crate) fn by_keys(a: u64, b: u64, device: u64) -> Answer
     ensures { result ≡ keys_answer a b device }
 {
     let one_is_not_given = !is_given(a) || !is_given(b);
@@ -18,7 +18,7 @@ pub(crate) fn by_keys(a: u32, b: u32, device: u32) -> Answer
     )
 }
 
-pub(crate) fn by_navigation(a: u32, b: u32, device: u32) -> Answer
+pub(crate) fn by_navigation(a: u64, b: u64, device: u64) -> Answer
     ensures { result ≡ navigation_answer a b device }
 {
     let one_is_not_given = !is_given(a) || !is_given(b);

@@ -16,9 +16,9 @@ use crate::screen_size::by_screen_size;
 #[derive(Clone, Copy, Debug, PartialEq, Eq)]
 pub struct Numbers {
     /// The number at its coordinate.
-    pub first: u32,
+    pub first: u64,
     /// The one beside it: of two dimensions the second.
-    pub second: u32,
+    pub second: u64,
 }
 
 /// What a rule asks of two records at a device. The comparisons say which of two records is better,

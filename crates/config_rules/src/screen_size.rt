@@ -6,15 +6,15 @@ ghost use Rattle.config_rules.specs.Comparisons.{counted_size, is_better_size, s
 use crate::answer::Answer;
 use crate::given::is_given;
 
-const NORMAL: u32 = 2;
+const NORMAL: u64 = 2;
 
-pub(crate) fn by_screen_size(a: u32, b: u32, device: u32) -> Answer
+pub(crate) fn by_screen_size(a: u64, b: u64, device: u64) -> Answer
     ensures { result ≡ screen_size_answer a b device }
 {
     Answer::decided(a != b && is_given(device), is_better(a, b, device))
 }
 
-fn is_better(a: u32, b: u32, device: u32) -> bool
+fn is_better(a: u64, b: u64, device: u64) -> bool
     ensures { result ≡ is_better_size a b device }
 {
     if device < NORMAL {
@@ -24,7 +24,7 @@ fn is_better(a: u32, b: u32, device: u32) -> bool
     if x == y { is_given(a) } else { x > y }
 }
 
-fn counted(size: u32) -> u32
+fn counted(size: u64) -> u64
     ensures { result ≡ counted_size size }
 {
     if size == 0 { NORMAL } else { size }

@@ -3,7 +3,7 @@ use Rattle.std.specs.Prelude.{ℕ, false, List, Result, Ok, Err, replicate, slic
 use Rattle.contract_words.specs.Faults.{◌>>=◌}
 use Rattle.config_record.specs.declared.coord.Coord.TheVariants.{UiType}
 use Rattle.config_record.specs.declared.fields.DeviceFault.{DeviceFault}
-use Rattle.config_record.specs.declared.locale.TheConstants.Locale.{NONE}
+use Rattle.config_record.specs.locales.declared.locale.TheConstants.Locale.{NONE}
 use Rattle.config_record.specs.Coord.{place_of}
 use Rattle.config_record.specs.Device.{device_in}
 use Rattle.config_words.specs.declared.said.Said.{Said}

@@ -3,8 +3,8 @@
 use Rattle.std.specs.Prelude.{ℕ, ◌==◌, List, length, codes, Option, Some, None, if◌then◌else◌}
 use Rattle.std.specs.Option.{option_and_then}
 use Rattle.std.specs.Result.{result_ok}
-use Rattle.config_record.specs.declared.locale.Locale.{Locale}
-use Rattle.config_record.specs.Locale.{dash, locale_of_parts}
+use Rattle.config_record.specs.locales.declared.locale.Locale.{Locale}
+use Rattle.config_record.specs.locales.Locale.{dash, locale_of_parts}
 use Rattle.config_words.specs.Cut.{cut_at, behind}
 
 abbrev pub comma : ℕ

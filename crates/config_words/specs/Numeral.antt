@@ -1,6 +1,6 @@
 -- Numbers as digits.
 use Rattle.std.specs.Prelude.{ℕ, ◌+◌, ◌-◌, ◌*◌, ◌^◌, ◌&&◌, nat_lt, List, [], ◌∷◌, Option, Some, None, if◌then◌else◌}
-use Rattle.config_record.specs.Locale.{is_digit, first_digit}
+use Rattle.config_record.specs.locales.Locale.{is_digit, first_digit}
 
 -- the number with one more digit
 abbrev pub with_digit : ℕ → ℕ → ℕ

@@ -1,6 +1,6 @@
 -- The parts of a line. They stand between dashes; but the dash before the region of a locale, as in `en-rUS`, is in a part.
 use Rattle.std.specs.Prelude.{ℕ, ◌==◌, ◌&&◌, ◌||◌, not, Bool, false, List, [], ◌∷◌, ◌++◌, if◌then◌else◌}
-use Rattle.config_record.specs.Locale.{dash, is_capital_letter, is_digit}
+use Rattle.config_record.specs.locales.Locale.{dash, is_capital_letter, is_digit}
 
 -- 'r', before a region
 abbrev pub region_sign : ℕ

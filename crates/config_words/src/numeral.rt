@@ -1,7 +1,7 @@
 //! Numbers as digits.
 
 ghost use Rattle.std.specs.Prelude.{◌≡◌, ◌^◌, ◌&&◌, nat_lt, Some, None, if◌then◌else◌};
-ghost use Rattle.config_record.specs.Locale.{is_digit};
+ghost use Rattle.config_record.specs.locales.Locale.{is_digit};
 ghost use Rattle.config_words.specs.Numeral.{with_digit, number_of};
 
 /// The number that digits spell, at least one of them, where it fits in 64 bits.

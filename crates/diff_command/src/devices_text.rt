@@ -7,7 +7,7 @@ ghost use Rattle.contract_words.specs.Writes.{Writes};
 ghost use Rattle.stack_diff.specs.config_box.BoxSeen.{values_seen};
 ghost use Rattle.stack_diff.specs.config_box.box_answers.NumberSet.{locale_numbers};
 ghost use Rattle.stack_diff.specs.config_box.box_answers.Members.{set_at};
-ghost use Rattle.stack_diff.specs.config_box.config_record.ComparedNumber.{locale_number};
+ghost use Rattle.stack_diff.specs.config_box.config_record.locales.LocaleNumber.{locale_number};
 ghost use Rattle.diff_command.specs.DevicesText.{range_text, locale_value, next_value, listed, values_text, number_count, is_narrower, coord_text, narrower_text, on_text, devices_text};
 
 use stack_diff::{ConfigBox, Coord, Locale, Values, write_locale};

@@ -3,7 +3,7 @@ use Rattle.std.proofs.Common.{◌≡◌, ℕ, zero, suc, ◌+◌, ◌≤◌, ◌
 use Rattle.std.specs.List.{list_all}
 use Rattle.std.specs.Option.{option_map_or}
 use Rattle.std.proofs.lemmas.Bool.{cond-true, cond-false, cases_Bool, and_parts}
-use Rattle.config_record.specs.ComparedNumber.{locale_number}
+use Rattle.locale_data.specs.LocaleNumber.{number_of}
 use Rattle.locale_data.specs.declared.lines.ParentLine.{ParentLine}
 use Rattle.locale_data.specs.Lines.{parent_in}
 use Rattle.locale_data.specs.Parents.{parents}
@@ -64,7 +64,7 @@ abbrev has_two_at_most : ParentLine → Bool
 has_two_at_most line = nat_le (length (first_above 3 line.parent line.script)) 2
 
 all_have_two : list_all has_two_at_most parents ≡ true
-unfolding locale_number first_above parent_of parents
+unfolding number_of first_above parent_of parents
 all_have_two = refl
 
 parent_of-alone : (locale script : ℕ) → region_of locale ≡ 0 → parent_of locale script ≡ None

@@ -7,7 +7,7 @@ use Rattle.locale_data.specs.declared.lines.ParentLine.{ParentLine}
 use Rattle.locale_data.specs.declared.tables.likely_scripts.TheConstants.{LIKELY_SCRIPTS}
 use Rattle.locale_data.specs.declared.tables.parents.TheConstants.{PARENTS}
 use Rattle.locale_data.specs.declared.tables.representatives.TheConstants.{REPRESENTATIVES}
-use Rattle.config_record.specs.ComparedNumber.{locale_number}
+use Rattle.locale_data.specs.LocaleNumber.{number_of}
 use Rattle.locale_data.specs.LikelyScripts.{likely_scripts}
 use Rattle.locale_data.specs.Parents.{parents}
 use Rattle.locale_data.specs.Representatives.{representatives}
@@ -35,7 +35,7 @@ unfolding rises_from
 IsRising-LIKELY_SCRIPTS = refl
 
 same_likely_scripts : in_order (λ line. line.locale) likely_scripts ≡ LIKELY_SCRIPTS
-unfolding insert in_order locale_number likely_scripts
+unfolding insert in_order number_of likely_scripts
 same_likely_scripts = refl
 
 pub script_in-LIKELY_SCRIPTS : (locale : ℕ) → script_in LIKELY_SCRIPTS locale ≡ script_in likely_scripts locale
@@ -53,7 +53,7 @@ pub AllFit-PARENTS : AllFit (λ line. line.locale) PARENTS
 AllFit-PARENTS = refl
 
 same_parents : in_order parent_key parents ≡ PARENTS
-unfolding insert in_order locale_number parents
+unfolding insert in_order number_of parents
 same_parents = refl
 
 pub parent_in-PARENTS : (locale script : ℕ) → parent_in PARENTS locale script ≡ parent_in parents locale script
@@ -71,7 +71,7 @@ pub AllFit-REPRESENTATIVES : AllFit (λ line. line.locale) REPRESENTATIVES
 AllFit-REPRESENTATIVES = refl
 
 same_representatives : in_order script_key representatives ≡ REPRESENTATIVES
-unfolding insert in_order locale_number representatives
+unfolding insert in_order number_of representatives
 same_representatives = refl
 
 pub has_line-REPRESENTATIVES : (locale script : ℕ) → has_line REPRESENTATIVES locale script ≡ has_line representatives locale script

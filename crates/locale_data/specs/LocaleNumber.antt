@@ -1,14 +1,17 @@
 -- The numbers of the locales and scripts that texts give: the bytes that a record has of them, the first one the highest.
-use Rattle.std.specs.Prelude.{ℕ, codes, Result, Ok, Err}
+use Rattle.std.specs.Prelude.{ℕ, ◌++◌, codes, Result, Ok, Err}
 use Rattle.std.specs.Int.{w32, from_be_bytes}
 use Prim.Native.String.{String}
-use Rattle.config_record.specs.declared.locale.Locale.{Locale}
-use Rattle.config_record.specs.declared.locale.LocaleFault.{LocaleFault}
-use Rattle.config_record.specs.Locale.{locale_of}
-use Rattle.config_record.specs.ComparedNumber.{locale_number}
+use Rattle.config_record.specs.locales.declared.locale.Locale.{Locale}
+use Rattle.config_record.specs.locales.declared.locale.LocaleFault.{LocaleFault}
+use Rattle.config_record.specs.locales.Locale.{locale_of}
+
+-- the four bytes of its language and its region
+unfoldable pub number_of : Locale → ℕ
+number_of locale = from_be_bytes w32 (locale.language ++ locale.region)
 
 abbrev pub number_in : Result Locale LocaleFault → ℕ
-number_in (Ok locale) = locale_number locale
+number_in (Ok locale) = number_of locale
 number_in (Err fault) = 0
 
 -- the number of the locale that a text gives, 0 where it gives none

@@ -5,7 +5,7 @@
 //! four locales at most, and none is left out of it.
 //!
 //! A locale and a script are numbers: the four bytes that a record has of them, the first one the highest, as
-//! `Locale::number` of `config_record` gives them. So a locale is its language above its region. 0 is none.
+//! `number_of` gives them. So a locale is its language above its region. 0 is none.
 //!
 //! ```text
 //! let script = likely(0x7A68_484B); // zh-HK: Some(0x4861_6E74), Hant
@@ -16,10 +16,12 @@
 
 mod facts;
 mod lines;
+mod locale_number;
 mod parts;
 mod tables;
 mod tree;
 
 pub use facts::{is_representative, likely, parent};
+pub use locale_number::number_of;
 pub use parts::{language_of, region_of};
 pub use tree::{LONGEST_LINE, first_of, is_near_us_english, line};

@@ -13,10 +13,12 @@
 
 mod verdict;
 
-pub use cert_maker;
-pub use cert_maker::{Cert, Rule, Shown, Verdict};
+pub use cert_maker::{
+    Cert, ConfigBox, Goal, Made, Omitted, Omitting, Progress, Rule, Shown, Unwatched, Verdict,
+    check, make_omitting, make_watched,
+};
 pub use command_base::answer_text::{
     dump_text, end_text, explain, rows_text, set_aside_line, write_goal_words,
 };
-pub use command_base::{LayersFault, ToolFault, fault_text};
+pub use command_base::{LayersFault, Side, ToolFault, fault_text};
 pub use verdict::{device_with_end, verdict_text};

@@ -16,14 +16,12 @@ ghost use Rattle.resource_tool.specs.OpenedSeen.{opened_cert};
 ghost use Rattle.table_commands.specs.command_base.CarriesOut.{IsKept};
 
 use crate::goal_told::write_goal_told;
-use resource_text::cert_maker::{Cert, ConfigBox, Goal, Verdict, check};
-use resource_text::{set_aside_line, verdict_text};
+use resource_text::{Cert, ConfigBox, Goal, Verdict, check, set_aside_line, verdict_text};
 use std::alloc::Global;
 use std::io::{self, Write, sink};
-use table_commands::Stack;
-use table_commands::command_base::{
-    DeviceFiles, Inputs, LayerFiles, LayerParts, Status, Stop, ToolFault, asked_goals, asked_words,
-    file_bytes, first_goals, open_stack,
+use table_commands::{
+    DeviceFiles, Inputs, LayerFiles, LayerParts, Stack, Status, Stop, ToolFault, asked_goals,
+    asked_words, file_bytes, first_goals, open_stack,
 };
 
 /// What the words of `check` ask: whether a certificate is true of some goals for a box of devices.

@@ -35,11 +35,10 @@ pub use goal_told::write_goal_told;
 pub use make::{Make, OpenedBox, make_bytes, make_bytes_watched};
 pub use omit::make_omitting_bytes;
 pub use progress::Watch;
-pub use resource_text;
-pub use resource_text::cert_maker::{Goal, Omitted, Omitting, Progress, Unwatched};
-pub use table_commands;
+pub use resource_text::{Goal, Omitted, Omitting, Progress, Unwatched};
 pub use table_commands::{
-    InputFault, LayerList, LayerParts, LayersFault, Opened, Status, ToolFault, attr_bytes,
-    bag_bytes, dump_bytes, explain_bytes, fault_text, map_bytes, query_bytes, read_input,
-    rows_bytes,
+    Attr, Bag, Dump, ExitStatus, Explain, GoalFault, Ids, InputFault, Inputs, LayerList,
+    LayerParts, LayersFault, Map, Named, NamedGoal, NamedSet, Opened, ProcessInputs, Query, Rows,
+    STANDARD_INPUT, Status, Stop, ToolFault, attr_bytes, bag_bytes, dump_bytes, explain_bytes,
+    fault_text, file_path, map_bytes, query_bytes, read_input, rows_bytes,
 };

@@ -24,15 +24,16 @@ ghost use Rattle.table_commands.specs.command_base.CarriesOut.{IsKept};
 use crate::answered::Answered;
 use crate::goal_told::write_goal_told;
 use crate::progress::{ProgressLine, Watch};
-use resource_text::cert_maker::{Cert, ConfigBox, Goal, Made, Progress, Unwatched, make_watched};
-use resource_text::device_with_end;
+use resource_text::{
+    Cert, ConfigBox, Goal, Made, Progress, Unwatched, device_with_end, make_watched,
+};
 use std::alloc::{AllocError, Global};
 use std::io::{self, Write, sink};
 use std::time::Clock;
-use table_commands::command_base::{
-    AskedFiles, Inputs, LayerParts, Status, Stop, ToolFault, asked_goals, first_goals, open_stack,
+use table_commands::{
+    AskedFiles, Device, End, Inputs, LayerParts, Stack, Status, Stop, ToolFault, asked_goals,
+    first_goals, open_stack,
 };
-use table_commands::{Device, End, Stack};
 
 /// What the words of `make` ask: a certificate of some goals for a box of devices.
 #[derive(Drop)]

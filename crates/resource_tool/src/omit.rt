@@ -14,12 +14,10 @@ ghost use Rattle.resource_tool.specs.OpenedSeen.{opened_box};
 
 use crate::goal_told::write_goal_told;
 use crate::make::{OpenedBox, certificate_text, write_line};
-use resource_text::cert_maker::{Goal, Omitted, Omitting, Progress, Unwatched, make_omitting};
-use resource_text::device_with_end;
+use resource_text::{Goal, Omitted, Omitting, Progress, Unwatched, device_with_end, make_omitting};
 use std::alloc::{AllocError, Global};
 use std::io::{self, Write};
-use table_commands::Stack;
-use table_commands::command_base::{LayerParts, Status, ToolFault};
+use table_commands::{LayerParts, Stack, Status, ToolFault};
 
 /// Prints a certificate of the goals that end at a value or a bag on all devices of the box, as `make_bytes` does; then
 /// the status is Done. Each other goal is told to `errors`, in three lines: `omitted goal G WORDS`, with its place from

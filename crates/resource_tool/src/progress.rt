@@ -1,8 +1,8 @@
 //! How far the making of a certificate has come.
 
+use resource_text::Progress;
 use std::io::Write;
 use std::time::{Clock, Duration, Instant};
-use table_commands::command_base::Progress;
 
 /// Puts the cursor of a terminal at the start of its line, and erases the line.
 const ERASE_LINE: &[u8] = b"\r\x1b[K";

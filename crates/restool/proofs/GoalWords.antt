@@ -12,7 +12,7 @@ use Rattle.resource_tool.specs.command_base.answer_text.res_value.declared.res_i
 use Rattle.resource_tool.specs.command_base.answer_text.GoalText.{next_style, under_styles, style_names, goal_words}
 use Rattle.resource_tool.specs.command_base.answer_text.NameText.{name_beside}
 use Rattle.res_value.specs.Goal.{most_styles, is_at_sign, is_comma, under_styles as styles_of_word, goal_word_in, id_in, listed_id, ids_in, goal_of_parts, goal_in}
-use Rattle.names.specs.NamedGoal.{named_goal_in}
+use Rattle.resource_tool.specs.command_base.names.NamedGoal.{named_goal_in}
 use Rattle.restool.specs.GoalWordReadsBack.{IsId, IdWordReadsBack, AttrWordReadsBack}
 use Rattle.restool.proofs.Cuts.{any-at, before-at, after-at, split-at, split-none}
 use Rattle.restool.proofs.IdTexts.{id_text-lacks}

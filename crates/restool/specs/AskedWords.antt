@@ -3,11 +3,11 @@ use Rattle.std.specs.Prelude.{ℕ, ◌≡◌, ◌||◌, Bool, List, map, ok_or, 
 use Rattle.std.specs.Borrow.{Bor}
 use Rattle.std.specs.declared.alloc.Global.{Global}
 use Rattle.resource_tool.specs.command_base.FileWords.{texts_of}
-use Rattle.names.specs.declared.named.Named.{Named}
-use Rattle.names.specs.Named.{NamedOf, named_of, named_in}
-use Rattle.names.specs.NamedGoal.{named_goal_in}
-use Rattle.names.specs.NamedSet.{named_set_in}
-use Rattle.names.specs.WordFile.{file_path_in}
+use Rattle.resource_tool.specs.command_base.names.declared.named.Named.{Named}
+use Rattle.resource_tool.specs.command_base.names.Named.{NamedOf, named_of, named_in}
+use Rattle.resource_tool.specs.command_base.names.NamedGoal.{named_goal_in}
+use Rattle.resource_tool.specs.command_base.names.NamedSet.{named_set_in}
+use Rattle.resource_tool.specs.command_base.names.WordFile.{file_path_in}
 use Rattle.restool.specs.declared.asked_words.Asks.{Asks}
 use Rattle.restool.specs.declared.asked_words.Asks.TheVariants.{Resources, Goals}
 use Rattle.restool.specs.declared.words_fault.WordsFault.{WordsFault}

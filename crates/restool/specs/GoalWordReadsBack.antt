@@ -5,7 +5,7 @@ use Rattle.resource_tool.specs.command_base.answer_text.overlay_map.Layer.{Layer
 use Rattle.resource_tool.specs.command_base.answer_text.res_value.declared.res_id.ResId.{ResId}
 use Rattle.resource_tool.specs.command_base.answer_text.GoalText.{goal_words}
 use Rattle.res_value.specs.Goal.{IdGoal, AttrGoal, most_styles}
-use Rattle.names.specs.NamedGoal.{GoalOfIds, named_goal_in}
+use Rattle.resource_tool.specs.command_base.names.NamedGoal.{GoalOfIds, named_goal_in}
 
 -- a number of 32 bits
 abbrev pub IsId : ResId → Type 0

@@ -10,7 +10,7 @@ use crate::asked_words::{Asks, asked_words, named_word};
 use crate::command_line::{Argument, DOT, MAX_NODES, MOST_NODES, NODES_IF_LEFT_OUT};
 use crate::words_fault::WordsFault;
 use clap::ArgMatches;
-use names::Named;
+use resource_tool::Named;
 use std::alloc::Global;
 
 /// The word of an argument that takes one, which is required.

@@ -5,7 +5,7 @@ ghost use Rattle.json_input.specs.Each.{each};
 ghost use Rattle.restool.specs.AskedWords.{ReadsNamed, ReadsWord, ReadsWords, asked_word, named_word};
 
 use crate::words_fault::WordsFault;
-use names::{GoalFault, Named, NamedGoal, NamedSet, file_path};
+use resource_tool::{GoalFault, Named, NamedGoal, NamedSet, file_path};
 use std::alloc::Global;
 
 /// What each word is to ask for some of, where several words may stand.

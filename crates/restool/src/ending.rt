@@ -7,7 +7,7 @@ ghost use Rattle.resource_tool.specs.command_base.declared.fault.ToolFault.TheVa
 ghost use Rattle.resource_tool.specs.command_base.Stop.{stop_of, tool};
 ghost use Rattle.restool.specs.Ending.{EndsAs};
 
-use resource_tool::table_commands::command_base::{ExitStatus, Status, Stop, ToolFault};
+use resource_tool::{ExitStatus, Status, Stop, ToolFault};
 use std::io::{BufWriter, Write};
 
 /// What came of the report why the program stops.

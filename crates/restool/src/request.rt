@@ -20,9 +20,9 @@ use crate::command_line::{
 use crate::words_fault::WordsFault;
 use clap::ArgMatches;
 use diff_command::Diff;
-use resource_tool::table_commands::command_base::{Inputs, Status, Stop};
-use resource_tool::table_commands::{Attr, Bag, Dump, Explain, Ids, Map, Query, Rows};
-use resource_tool::{Check, Make, Watch};
+use resource_tool::{
+    Attr, Bag, Check, Dump, Explain, Ids, Inputs, Make, Map, Query, Rows, Status, Stop, Watch,
+};
 use show_command::Show;
 use std::alloc::Global;
 use std::io::Write;

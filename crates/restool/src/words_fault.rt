@@ -9,7 +9,7 @@ ghost use Rattle.restool.specs.WordsFault.{fault_of_kind, is_asked_for};
 
 use crate::ending::Reported;
 use clap::error::ErrorKind;
-use resource_tool::table_commands::command_base::{ExitStatus, ToolFault, fault_text};
+use resource_tool::{ExitStatus, ToolFault, fault_text};
 use std::alloc::{AllocError, AllocFailed};
 use std::io::{self, Write};
 

@@ -2,10 +2,10 @@
 use Rattle.std.specs.Prelude.{ℕ, ◌*◌, ◌==◌, nat_lt, if◌then◌else◌, List, [], ◌∷◌, ◌++◌, codes, length, take, Option, Some, None}
 use Rattle.std.specs.List.{flat_map, enumerate_from}
 use Rattle.std.specs.Fmt.{decimal}
-use Rattle.command_base.specs.answer_text.config_record.declared.locale.Locale.{Locale}
+use Rattle.command_base.specs.answer_text.config_record.locales.declared.locale.Locale.{Locale}
 use Rattle.command_base.specs.answer_text.config_record.Coord.{name_of}
-use Rattle.command_base.specs.answer_text.config_record.Locale.{locale_text}
-use Rattle.command_base.specs.answer_text.config_record.ComparedNumber.{locale_number}
+use Rattle.command_base.specs.answer_text.config_record.locales.Locale.{locale_text}
+use Rattle.command_base.specs.answer_text.config_record.locales.LocaleNumber.{locale_number}
 use Rattle.command_base.specs.answer_text.res_value.declared.res_id.ResId.{ResId}
 use Rattle.command_base.specs.answer_text.res_value.declared.value.Value.{Value}
 use Rattle.command_base.specs.answer_text.res_value.ResId.{id_text}

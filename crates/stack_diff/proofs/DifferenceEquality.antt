@@ -1,5 +1,5 @@
 -- Differences are equal where they tell the same, and any two are equal or not.
-use Rattle.std.proofs.Common.{◌≡◌, ◌≢◌, MatchBool, ℕ, Bool, true, false, ◌&&◌, List, map, ap, refl, sym, ◌∙◌}
+use Rattle.std.proofs.Common.{◌≡◌, ◌≢◌, MatchBool, Bool, true, false, ◌&&◌, ap, sym, ◌∙◌}
 use Rattle.std.specs.Bool.{Decides}
 use Rattle.std.specs.Cmp.Lexicographic.{pointwise, pointwise_decides}
 use Rattle.stack_diff.specs.contracts.difference.DifferencePartialEq.TheImpl.{eq-value}

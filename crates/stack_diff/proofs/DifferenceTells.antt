@@ -1,20 +1,19 @@
 -- There is no difference exactly where a device reads the same of both.
-use Rattle.std.proofs.Common.{◌≡◌, ℕ, Bool, true, false, ◌==◌, ◌&&◌, List, [], ◌∷◌, ◌++◌, map, Option, Some, None, inl, inr, refl, sym, ap, subst, ◌∙◌, eqb-true, eq-eqb}
+use Rattle.std.proofs.Common.{◌≡◌, ℕ, Bool, true, false, ◌==◌, List, [], ◌∷◌, ◌++◌, map, Some, None, inl, inr, refl, sym, ap, ◌∙◌, eqb-true, eq-eqb}
 use Rattle.std.specs.Prelude.{if◌then◌else◌}
 use Rattle.std.specs.Bool.{Decides}
 use Rattle.std.specs.Ordering.{is_lt, ordering_reverse}
-use Rattle.std.specs.Str.{bytes_eq}
 use Rattle.std.specs.declared.cmp.Ordering.{Ordering}
 use Rattle.std.specs.declared.cmp.Ordering.TheVariants.{Less, Equal, Greater}
 use Rattle.std.proofs.lemmas.Bool.{cases_Bool}
 use Rattle.std.proofs.lemmas.Slice.Eq.{bytes_eq-Decides}
 use Rattle.answer_text.specs.res_value.declared.value.Value.{Value}
-use Rattle.names.specs.Label.{LabelOf, is_same}
+use Rattle.names.specs.Label.{is_same}
 use Rattle.stack_diff.specs.Content.{ValueContentOf, StringOf, GarbledOf, BrokenOf, ReferenceOf, AttributeOf, OtherOf, RowKeyOf, RowContentOf, ContentOf, ValueOf, BagOf, AbsentOf, TooManyReferencesOf, TooManyParentsOf}
 use Rattle.stack_diff.specs.ReadWord.{kind_read, word_read}
-use Rattle.stack_diff.specs.ReadAlike.{read, value_read, row_read, content_read, are_read_alike, are_alike, is_same_broken}
+use Rattle.stack_diff.specs.ReadAlike.{read, value_read, row_read, content_read, are_read_alike, are_alike}
 use Rattle.stack_diff.specs.RowKeys.{key_cmp, is_before}
-use Rattle.stack_diff.specs.Difference.{RowDifferenceOf, RowRemoved, RowAdded, RowChanged, changed_row, row_differences, DifferenceOf, RowsDiffer, ContentsDiffer, of_rows, say_same, difference}
+use Rattle.stack_diff.specs.Difference.{RowDifferenceOf, RowRemoved, RowAdded, RowChanged, changed_row, row_differences, DifferenceOf, of_rows, difference}
 use Rattle.stack_diff.specs.DifferenceLaw.{DifferenceTells}
 use Rattle.stack_diff.proofs.ContentEquality.{both, one_and, label-Decides, broken-Decides}
 use Rattle.stack_diff.proofs.KeyOrder.{key-antisymm, key-itself, key-exact}

@@ -6,7 +6,7 @@ use Rattle.names.specs.Label.{is_same}
 use Rattle.stack_diff.specs.declared.content.BrokenString.{BrokenString}
 use Rattle.stack_diff.specs.declared.content.BrokenString.TheVariants.{NoSuch, Cut, NotEnded}
 use Rattle.stack_diff.specs.ReadWord.{kind_read, word_read}
-use Rattle.stack_diff.specs.Content.{ValueContentOf, StringOf, GarbledOf, BrokenOf, ReferenceOf, AttributeOf, OtherOf, RowContentOf, ContentOf, ValueOf, BagOf, AbsentOf, TooManyReferencesOf, TooManyParentsOf}
+use Rattle.stack_diff.specs.Content.{ValueContentOf, StringOf, GarbledOf, BrokenOf, ReferenceOf, AttributeOf, OtherOf, RowContentOf, ContentOf, ValueOf, BagOf}
 
 -- ---- values
 

@@ -1,20 +1,22 @@
 //! How two resources differ in what they say.
 
 ghost use Rattle.std.specs.Prelude.{◌≡◌, ◌++◌, map, None, Some, IfOk, OnOk, if◌then◌else◌};
-ghost use Rattle.std.specs.Option.{option_map};
+ghost use Rattle.std.specs.Option.{option_map, option_to_list};
 ghost use Rattle.answer_text.specs.config_record.DeviceSeen.{device_numbers};
 ghost use Rattle.stack_diff.specs.ContentAt.{end_content, content_at};
 ghost use Rattle.stack_diff.specs.ContentSeen.{row_content_of, content_of};
 ghost use Rattle.stack_diff.specs.Difference.{changed_row, row_differences, of_rows, ContentsDiffer, say_same, difference};
-ghost use Rattle.stack_diff.specs.DifferenceSeen.{row_difference_of, difference_of};
+ghost use Rattle.stack_diff.specs.DifferenceSeen.{row_difference_of, changed_rows, difference_of};
+ghost use Rattle.stack_diff.specs.declared.difference.RowDifference.TheVariants.{Removed, Added};
 
 use crate::content::{Content, RowContent, RowKey, ValueContent};
-use crate::device_content::{content_at, content_of_end};
+use crate::device_content::{content_of_end, end_of};
 use crate::read_alike::is_same_label;
 use answer_text::{Device, End, ResId};
 use names::NamedStack;
 use std::alloc::{AllocError, Global};
 use std::cmp::Ordering;
+use std::collections::VecDeque;
 
 /// How what a resource says after differs from what it says before.
 #[derive(Debug, PartialEq, Eq, PartialOrd, Ord, Drop)]
@@ -61,6 +63,7 @@ impl<'a> Difference<'a> {
 /// ```text
 /// let change = difference_at(alloc, &old, old_id, &new, new_id, &phone)?; // dimension 4/2^0 dp -> dimension 3/2^0 dp
 /// ```
+#[tactic(auto, unfolding(crate::specs::ContentAt::content_at))]
 pub fn difference_at<'a>(
     alloc: Global,
     old: &NamedStack<'_, 'a>,
@@ -71,9 +74,9 @@ pub fn difference_at<'a>(
 ) -> Result<Option<Difference<'a>>, AllocError>
     ensures { IfOk result (λ it. option_map difference_of it ≡ difference (content_at old.now old_id.0 (device_numbers device.now)) (content_at new.now new_id.0 (device_numbers device.now))) }
 {
-    let before = content_at(alloc, old, old_id, device)?;
-    let after = content_at(alloc, new, new_id, device)?;
-    difference_between(alloc, before, after)
+    let old_end = end_of(old, old_id, device);
+    let new_end = end_of(new, new_id, device);
+    difference_of_ends(alloc, old, old_end, new, new_end, device)
 }
 
 /// The same of two ends, to which two ids lead at this device: for whoever has followed their references.
@@ -123,11 +126,8 @@ fn of_rows<'a>(rows: Vec<RowDifference<'a>>) -> Option<Difference<'a>>
 fn of_contents<'a>(before: Content<'a>, after: Content<'a>) -> Option<Difference<'a>>
     ensures { option_map difference_of result ≡ (if say_same (content_of before.entry) (content_of after.entry) then None else Some (ContentsDiffer (content_of before.entry) (content_of after.entry))) }
 {
-    if say_same(&before, &after) {
-        None
-    } else {
-        Some(Difference::Contents { before, after })
-    }
+    let say_same = say_same(&before, &after);
+    (!say_same).then_some(Difference::Contents { before, after })
 }
 
 fn say_same(before: &Content<'_>, after: &Content<'_>) -> bool
@@ -155,59 +155,80 @@ fn row_differences<'a>(
     ensures { IfOk result (λ rows. map row_difference_of rows.items ≡ row_differences (map row_content_of before.entry.items) (map row_content_of after.entry.items)) }
 {
     let mut rows = Vec::new(alloc);
-    let mut before = before.into_iter();
-    let mut after = after.into_iter();
-    let mut first = before.next();
-    let mut first_after = after.next();
+    let mut before = VecDeque::from(before);
+    let mut after = VecDeque::from(after);
     'rows: loop {
-        match (first, first_after) {
+        match (before.front(), after.front()) {
             (None, None) => return Ok(rows),
-            (Some(row), None) => {
-                rows.push(RowDifference::Removed(row))?;
-                first = before.next();
-                first_after = None;
+            (Some(_), None) => {
+                push_removed(&mut rows, before.pop_front())?;
             }
-            (None, Some(other)) => {
-                rows.push(RowDifference::Added(other))?;
-                first = None;
-                first_after = after.next();
+            (None, Some(_)) => {
+                push_added(&mut rows, after.pop_front())?;
             }
             (Some(row), Some(other)) => match row.key.cmp(&other.key) {
                 Ordering::Less => {
-                    rows.push(RowDifference::Removed(row))?;
-                    first = before.next();
-                    first_after = Some(other);
+                    push_removed(&mut rows, before.pop_front())?;
                 }
                 Ordering::Greater => {
-                    rows.push(RowDifference::Added(other))?;
-                    first = Some(row);
-                    first_after = after.next();
+                    push_added(&mut rows, after.pop_front())?;
                 }
                 Ordering::Equal => {
-                    push_changed(&mut rows, row, other)?;
-                    first = before.next();
-                    first_after = after.next();
+                    push_changed(&mut rows, before.pop_front().zip(after.pop_front()))?;
                 }
             },
         }
     }
 }
 
+// A row that the bag after does not have.
+fn push_removed<'a>(
+    rows: &mut Vec<RowDifference<'a>>,
+    row: Option<RowContent<'a>>,
+) -> Result<(), AllocError>
+    ensures { OnOk result (rows.new.items ≡ rows.old.items ++ map Removed (option_to_list row.entry)) }
+{
+    if let Some(row) = row {
+        rows.push(RowDifference::Removed(row))?;
+    }
+    Ok(())
+}
+
+// A row that the bag before does not have.
+fn push_added<'a>(
+    rows: &mut Vec<RowDifference<'a>>,
+    row: Option<RowContent<'a>>,
+) -> Result<(), AllocError>
+    ensures { OnOk result (rows.new.items ≡ rows.old.items ++ map Added (option_to_list row.entry)) }
+{
+    if let Some(row) = row {
+        rows.push(RowDifference::Added(row))?;
+    }
+    Ok(())
+}
+
 // Two rows of one key, if their values are not read alike.
 fn push_changed<'a>(
     rows: &mut Vec<RowDifference<'a>>,
-    before: RowContent<'a>,
-    after: RowContent<'a>,
+    both: Option<(RowContent<'a>, RowContent<'a>)>,
 ) -> Result<(), AllocError>
-    ensures { OnOk result (map row_difference_of rows.new.items ≡ map row_difference_of rows.old.items ++ changed_row (row_content_of before.entry) (row_content_of after.entry)) }
+    ensures { OnOk result (map row_difference_of rows.new.items ≡ map row_difference_of rows.old.items ++ changed_rows both.entry) }
 {
-    if before.value.is_alike(&after.value) {
-        return Ok(());
+    if let Some((before, after)) = both {
+        if let Some(row) = changed_row(before, after) {
+            rows.push(row)?;
+        }
     }
-    rows.push(RowDifference::Changed {
+    Ok(())
+}
+
+fn changed_row<'a>(before: RowContent<'a>, after: RowContent<'a>) -> Option<RowDifference<'a>>
+    ensures { map row_difference_of (option_to_list result) ≡ changed_row (row_content_of before.entry) (row_content_of after.entry) }
+{
+    let are_alike = before.value.is_alike(&after.value);
+    (!are_alike).then_some(RowDifference::Changed {
         key: before.key,
         before: before.value,
         after: after.value,
-    })?;
-    Ok(())
+    })
 }

@@ -66,6 +66,20 @@ fn add_node<'a, 's>(
     ensures { IfOk result (λ _. AddsNode pair.entry part.entry open_boxes.old.items open_boxes.new.items told.old.items told.new.items) }
 {
     let mut part = part;
+    add_node_of(alloc, pair, &mut part, open_boxes, told)
+}
+
+// The same, where the box is lent: so it is dropped in one place.
+fn add_node_of<'a, 's>(
+    alloc: Global,
+    pair: Pair<'_, 'a>,
+    part: &mut PairBox<'a, 's>,
+    open_boxes: &mut Vec<PairBox<'a, 's>>,
+    told: &mut Vec<Leaf<'a>>,
+) -> Result<(), OutOfMemory>
+    requires { IsOpen pair part.old }
+    ensures { IfOk result (λ _. AddsNode pair.entry part.old open_boxes.old.items open_boxes.new.items told.old.items told.new.items) }
+{
     let parting = match part.trace(alloc, pair)? {
         PairTrace::Parted(parting) => parting,
         PairTrace::One { before, after } => {
@@ -95,8 +109,8 @@ fn tell_leaf<'a>(
     let (old, new) = (pair.before.stack, pair.after.stack);
     let found = difference_of_ends(alloc, old, before, new, after, &device)?;
     if let Some(difference) = found {
-        let members = members.shared(alloc)?;
         let difference = Box::new(alloc, difference)?;
+        let members = members.shared(alloc)?;
         told.push(Leaf {
             difference,
             members,

@@ -1,13 +1,13 @@
--- Locales that AOSP compares otherwise. A locale is the number of its four bytes, the two of its language first.
-use Rattle.std.specs.Prelude.{ℕ, ◌+◌, ◌*◌, ◌/◌, ◌%◌, ◌==◌, ◌&&◌, ◌||◌, not, Bool, List, [], ◌∷◌, map, codes, slice_index, unwrap_or, if◌then◌else◌}
+-- Locales that AOSP compares otherwise. A locale is the number of its eight bytes, the two of its language first, the script's last.
+use Rattle.std.specs.Prelude.{ℕ, ◌+◌, ◌*◌, ◌/◌, ◌%◌, ◌^◌, ◌==◌, ◌&&◌, ◌||◌, not, Bool, List, [], ◌∷◌, map, codes, slice_index, unwrap_or, if◌then◌else◌}
 use Rattle.std.specs.List.{list_any}
-use Rattle.command_base.specs.cert_tree.config_box.config_record.Locale.{language_of, no_part}
+use Rattle.command_base.specs.cert_tree.config_box.config_record.locales.Locale.{language_of, no_part}
 
 abbrev pub language_in : ℕ → ℕ
-language_in locale = locale / 65536
+language_in locale = locale / 2 ^ 32 / 65536
 
 abbrev pub region_in : ℕ → ℕ
-region_in locale = locale % 65536
+region_in locale = locale / 2 ^ 32 % 65536
 
 -- the number of two bytes
 abbrev pub part_number : List ℕ → ℕ
@@ -29,10 +29,14 @@ languages_of_scripts =
     ∷ codes "rif" ∷ codes "sd" ∷ codes "sr" ∷ codes "tg" ∷ codes "ug" ∷ codes "unr" ∷ codes "uz" ∷ codes "yue" ∷ codes "zh"
     ∷ [])
 
+-- the number of a locale of this language and this region
+abbrev pub locale_with : List ℕ → List ℕ → ℕ
+locale_with language region = (65536 * language_number language + part_number region) * 2 ^ 32
+
 -- The pseudolocales en-XA and ar-XB, which have scripts of their own (AOSP: LIKELY_SCRIPTS).
 abbrev pub pseudolocales : List ℕ
 pseudolocales =
-    (65536 * language_number (codes "en") + part_number (codes "XA")) ∷ (65536 * language_number (codes "ar") + part_number (codes "XB")) ∷ []
+    locale_with (codes "en") (codes "XA") ∷ locale_with (codes "ar") (codes "XB") ∷ []
 
 abbrev pub is_one_of : List ℕ → ℕ → Bool
 is_one_of languages language = list_any (λ other. other == language) languages

@@ -12,7 +12,7 @@ use Rattle.command_base.specs.ToolFault.{fault_of_box}
 use Rattle.command_base.specs.Output.{Output, negative_if}
 use Rattle.command_base.specs.StackBytes.{LayerBytes, stack_in}
 use Rattle.command_base.specs.MapErr.{map_err}
-use Rattle.names.specs.Shared.{shared_ids, shared_of}
+use Rattle.command_base.specs.names.Shared.{shared_ids, shared_of}
 use Rattle.survey_command.specs.LayerNotes.{layer_differs}
 use Rattle.survey_command.specs.Qualifiers.{rows_in_stack, numbers_at, spread_of}
 use Rattle.survey_command.specs.BoxGaps.{locales_of_box, lacks}

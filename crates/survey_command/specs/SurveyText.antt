@@ -4,12 +4,12 @@ use Rattle.std.specs.List.{flat_map}
 use Rattle.std.specs.Fmt.{decimal}
 use Rattle.command_base.specs.cert_tree.config_box.config_record.declared.coord.Coord as coord
 use Rattle.command_base.specs.cert_tree.config_box.config_record.declared.coord.Coord.TheVariants as coords
-use Rattle.command_base.specs.cert_tree.config_box.config_record.ComparedNumber.{locale_of_number}
-use Rattle.command_base.specs.cert_tree.config_box.config_record.Locale.{locale_text}
+use Rattle.command_base.specs.cert_tree.config_box.config_record.locales.LocaleNumber.{locale_of_number}
+use Rattle.command_base.specs.cert_tree.config_box.config_record.locales.Locale.{locale_text}
 use Rattle.command_base.specs.overlay_map.res_value.ResId.{id_text}
 use Rattle.command_base.specs.answer_text.LayerText.{layer_text}
 use Rattle.command_base.specs.answer_text.NamedText.{named_number, named_coord}
-use Rattle.names.specs.declared.shared.SharedNames.{SharedNames}
+use Rattle.command_base.specs.names.declared.shared.SharedNames.{SharedNames}
 use Rattle.survey_command.specs.declared.finding.Finding.{Finding}
 use Rattle.survey_command.specs.declared.site.Site.{Site}
 use Rattle.survey_command.specs.declared.site.Site.TheVariants.{Chunk, Row}

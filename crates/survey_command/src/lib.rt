@@ -27,7 +27,7 @@ mod findings;
 mod laws;
 mod layers;
 mod layout;
-mod locales;
+mod locale_differences;
 mod opened;
 mod qualifiers;
 mod refused;

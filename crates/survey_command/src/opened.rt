@@ -8,7 +8,7 @@ ghost use Rattle.command_base.specs.cert_tree.box_answers.NumberSet.{locale_numb
 ghost use Rattle.command_base.specs.declared.fault.ToolFault.TheVariants.{OutOfMemory};
 ghost use Rattle.command_base.specs.Output.{IsOfInput};
 ghost use Rattle.command_base.specs.StackBytesSeen.{layer_bytes};
-ghost use Rattle.names.specs.Shared.{shared_ids, shared_of};
+ghost use Rattle.command_base.specs.names.Shared.{shared_ids, shared_of};
 ghost use Rattle.survey_command.specs.Qualifiers.{rows_in_stack, numbers_at, spread_of};
 ghost use Rattle.survey_command.specs.BoxGaps.{locales_of_box, lacks};
 ghost use Rattle.survey_command.specs.SurveyOutput.{sets_in, survey_inputs};
@@ -17,8 +17,7 @@ use crate::box_gaps::{is_unknown, locales_of};
 use crate::qualifiers::Spread;
 use command_base::answer_text::Stack;
 use command_base::cert_tree::{ConfigBox, Coord, Locale};
-use command_base::{LayerParts, ToolFault, open_stack};
-use names::{NamedStack, SharedNames};
+use command_base::{LayerParts, NamedStack, SharedNames, ToolFault, open_stack};
 use std::alloc::{AllocError, Global};
 
 /// The layers and the box that a survey is asked of.

@@ -20,8 +20,8 @@ const COORD_COUNT: usize = Coord::ALL.len();
 pub(crate) struct Spread {
     /// 4294967295 stands for as many and more.
     pub count: u32,
-    pub least: u32,
-    pub greatest: u32,
+    pub least: u64,
+    pub greatest: u64,
 }
 
 impl Spread {
@@ -32,7 +32,7 @@ impl Spread {
     };
 
     // With one more number; 0 says nothing.
-    fn and_number(self, number: u32) -> Spread
+    fn and_number(self, number: u64) -> Spread
         ensures { result ≡ and_number self number }
     {
         if number == 0 {
@@ -127,7 +127,7 @@ impl Qualifiers {
     }
 
     #[tactic(auto, unfolding(crate::specs::Counting::with_number))]
-    fn add_number(&mut self, coord: Coord, number: u32)
+    fn add_number(&mut self, coord: Coord, number: u64)
         ensures { self.new ≡ with_number self.old (record { coord = coord; number = number }) }
     {
         let place = coord.place();

@@ -14,7 +14,7 @@ ghost use Rattle.survey_command.specs.RowNotes.{dynamic_attribute, dynamic_refer
 
 use crate::finding::Finding;
 use crate::findings::Findings;
-use crate::locales::{differs_at, differs_somewhere};
+use crate::locale_differences::{differs_at, differs_somewhere};
 use crate::site::Site;
 use command_base::answer_text::{Cell, MapRows, Pool, Row, Table, Value, kind};
 use command_base::cert_tree::{Coord, Locale};
@@ -95,7 +95,7 @@ fn is_broken(strings: &Pool<'_>, value: Value) -> bool
     value.kind == kind::STRING && strings.get(value.word as usize).is_err()
 }
 
-fn row_locale(row: &Row<'_>) -> u32
+fn row_locale(row: &Row<'_>) -> u64
     ensures { result ≡ row_locale (row_of row.now) }
 {
     row.config.compared_number(Coord::Locale)
@@ -115,7 +115,7 @@ fn is_for_one_of(locales: &[Locale], row: &Row<'_>) -> bool
     differs_at_one(row_locale(row), row.config.set_aside(), locales)
 }
 
-fn differs_at_one(row_locale: u32, set_aside: bool, locales: &[Locale]) -> bool
+fn differs_at_one(row_locale: u64, set_aside: bool, locales: &[Locale]) -> bool
     ensures { result ≡ list_any (differs_at row_locale set_aside) (locale_numbers locales.now) }
 {
     for locale in locales {

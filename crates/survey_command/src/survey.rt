@@ -10,7 +10,7 @@ ghost use Rattle.command_base.specs.Output.{Prints};
 ghost use Rattle.command_base.specs.StackBytesSeen.{layer_bytes};
 ghost use Rattle.command_base.specs.Stop.{GivesOrStops};
 ghost use Rattle.command_base.specs.declared.fault.ToolFault.TheVariants.{Write};
-ghost use Rattle.names.specs.Shared.{shared_ids, shared_of};
+ghost use Rattle.command_base.specs.names.Shared.{shared_ids, shared_of};
 ghost use Rattle.survey_command.specs.Qualifiers.{rows_in_stack, numbers_at, spread_of};
 ghost use Rattle.survey_command.specs.Counting.{spread_in};
 ghost use Rattle.survey_command.specs.BoxGaps.{lacks};

@@ -10,9 +10,9 @@ use crate::finding::Finding;
 use crate::findings::Findings;
 use crate::qualifiers::Spread;
 use crate::site::Site;
+use command_base::SharedNames;
 use command_base::answer_text::{write_id, write_layer, write_named_coord, write_named_number};
 use command_base::cert_tree::{Coord, Locale, write_locale};
-use names::SharedNames;
 use std::io::{self, Write};
 
 /// Writes a line for each finding that a layer has.
@@ -143,7 +143,7 @@ fn write_range<W: Write + Drop>(coord: Coord, spread: Spread, out: &mut W) -> io
 }
 
 #[tactic(auto, unfolding(crate::specs::SurveyText::number_text))]
-fn write_number<W: Write + Drop>(coord: Coord, number: u32, out: &mut W) -> io::Result<()>
+fn write_number<W: Write + Drop>(coord: Coord, number: u64, out: &mut W) -> io::Result<()>
     ensures { Writes W.contents out.old out.new result (number_text coord number) }
 {
     match coord {

@@ -11,9 +11,9 @@ use Rattle.command_base.specs.answer_text.res_value.declared.res_id.ResId.{ResId
 use Rattle.command_base.specs.answer_text.resource_table.Names.{key_name_in, type_name_in}
 use Rattle.command_base.specs.answer_text.resource_table.Table.{TableOf, rows_of}
 use Rattle.command_base.specs.answer_text.type_chunks.Row.{RowOf}
-use Rattle.names.specs.Names.{NameOf, found_in, found_in_tables, name_of}
-use Rattle.names.specs.declared.name.Name.{Name}
-use Rattle.names.specs.NameText.{name_text}
+use Rattle.command_base.specs.names.Names.{NameOf, found_in, found_in_tables, name_of}
+use Rattle.command_base.specs.names.declared.name.Name.{Name}
+use Rattle.command_base.specs.names.NameText.{name_text}
 use Rattle.table_commands.specs.declared.pairs.NamedTarget.{NamedTarget}
 use Rattle.table_commands.specs.FirstRows.{first_rows}
 use Rattle.table_commands.specs.MadeMap.{found_by, own_of, package_of_row, pair_of, pairs_in}

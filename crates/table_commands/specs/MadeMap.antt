@@ -11,8 +11,8 @@ use Rattle.command_base.specs.answer_text.res_value.declared.value.Value.{Value}
 use Rattle.command_base.specs.answer_text.resource_table.Names.{type_name_in, key_name_in}
 use Rattle.command_base.specs.answer_text.resource_table.Table.{TableOf, rows_of}
 use Rattle.command_base.specs.answer_text.type_chunks.Row.{RowOf}
-use Rattle.names.specs.Names.{found_in}
-use Rattle.names.specs.NameText.{name_text}
+use Rattle.command_base.specs.names.Names.{found_in}
+use Rattle.command_base.specs.names.NameText.{name_text}
 use Rattle.table_commands.specs.FirstRows.{first_row, first_rows}
 
 -- ---- the map

@@ -8,10 +8,10 @@ use Rattle.command_base.specs.answer_text.res_value.declared.res_id.ResId.{ResId
 use Rattle.command_base.specs.answer_text.resource_table.Names.{key_name_in, type_name_in}
 use Rattle.command_base.specs.answer_text.resource_table.Table.{TableOf}
 use Rattle.command_base.specs.answer_text.type_chunks.Row.{RowOf}
-use Rattle.names.specs.Names.{NameOf, found_in}
+use Rattle.command_base.specs.names.Names.{NameOf, found_in}
 use Rattle.table_commands.specs.declared.pairs.NamedTarget.{NamedTarget}
 use Rattle.table_commands.specs.MadeMap.{package_of_row}
-use Rattle.names.specs.NameText.{name_text}
+use Rattle.command_base.specs.names.NameText.{name_text}
 
 -- an id with its names
 pub record NamedOf : Type 0 where

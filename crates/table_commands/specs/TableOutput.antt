@@ -21,7 +21,7 @@ use Rattle.command_base.specs.answer_text.res_value.ResId.{id_text}
 use Rattle.command_base.specs.answer_text.res_value.declared.res_id.ResId.{ResId}
 use Rattle.command_base.specs.overlay_map.Layer.{LayerOf, base_tables}
 use Rattle.command_base.specs.StackBytes.{LayerBytes, stack_in}
-use Rattle.names.specs.IdsOfType.{ids_of_type}
+use Rattle.command_base.specs.names.IdsOfType.{ids_of_type}
 use Rattle.table_commands.specs.declared.ids.Ids.{Ids}
 
 -- a text of the table, or its first fault

@@ -10,8 +10,9 @@ ghost use Rattle.table_commands.specs.TableOutput.{ListsIds, id_line, ids_output
 ghost use Rattle.command_base.specs.CarriesOut.{IsKept};
 
 use command_base::answer_text::{ResId, Stack, write_id, write_its_name};
-use command_base::{Inputs, LayerFiles, LayerParts, Status, Stop, ToolFault, open_stack};
-use names::ids_of_type;
+use command_base::{
+    Inputs, LayerFiles, LayerParts, Status, Stop, ToolFault, ids_of_type, open_stack,
+};
 use std::alloc::Global;
 use std::io::{self, Write};
 

@@ -5,14 +5,14 @@ ghost use Rattle.std.specs.List.{flat_map};
 ghost use Rattle.command_base.specs.overlay_map.IdMap.{pairs_of};
 ghost use Rattle.command_base.specs.answer_text.resource_table.Table.{rows_of};
 ghost use Rattle.command_base.specs.answer_text.type_chunks.Row.{row_of};
-ghost use Rattle.names.specs.Names.{name_of};
+ghost use Rattle.command_base.specs.names.Names.{name_of};
 ghost use Rattle.table_commands.specs.FirstRows.{first_rows};
 ghost use Rattle.table_commands.specs.MadeMap.{pairs_in, made_map};
 ghost use Rattle.table_commands.specs.NamedTarget.{named_in, named_seen, own_seen, pairs_with};
 
 use crate::first_rows::FirstRows;
 use command_base::answer_text::{ResId, Row, Table};
-use names::{Name, find_names, name_text};
+use command_base::{Name, find_names, name_text};
 use std::alloc::{AllocError, Global};
 use std::borrow::CowStr;
 use std::slice;

@@ -1,7 +1,7 @@
 //! What CLDR says of locales: their likely scripts, their lines, and which stand for their language.
 
 use config_record::Locale;
-use locale_data::{is_near_us_english, is_representative, likely, line};
+use locale_data::{is_near_us_english, is_representative, likely, line, number_of};
 
 const NONE: [u8; 4] = [0; 4];
 
@@ -14,7 +14,7 @@ type InScript = (&'static str, [u8; 4]);
 
 // The number of the locale that a text gives.
 fn number(locale: &str) -> u32 {
-    Locale::read(locale).unwrap_or(Locale::NONE).number()
+    number_of(Locale::read(locale).unwrap_or(Locale::NONE))
 }
 
 /// Locales, and the scripts in which they are likely written.

@@ -2,6 +2,7 @@
 
 use android_locales::{RecordLocale, ScriptedLocale, write_scripted_locale};
 use config_record::{Locale, LocaleFault};
+use locale_data::number_of;
 use std::alloc::Global;
 
 /// The locale of a device; records in their order, each a language and region, and behind slashes a script and a variant; and
@@ -97,7 +98,7 @@ fn put(bytes: &mut [u8], from: usize, some: &[u8]) {
 fn record_of(text: &str, size: u8) -> Option<RecordLocale> {
     let (locale, rest) = text.split_once('/').unwrap_or((text, ""));
     let (script, variant) = rest.split_once('/').unwrap_or((rest, ""));
-    let locale = Locale::read(locale).ok()?.number().to_be_bytes();
+    let locale = number_of(Locale::read(locale).ok()?).to_be_bytes();
     let mut bytes = [0_u8; 56];
     bytes[0] = size;
     bytes[52] = 1;
@@ -224,13 +225,27 @@ const IN_ORDER: [&str; 10] = [
     "fil",
 ];
 
+// That of the eight bytes: in the order of these numbers locales stand by language, then by region, then by script.
+fn number_with_script(device: ScriptedLocale) -> u64 {
+    let Locale {
+        language,
+        region,
+        ..
+    } = device.locale;
+    let script = device.script;
+    Locale {
+        language,
+        region,
+        script,
+    }
+    .number()
+}
+
 // The first locale that is not above the one before it.
 fn out_of_order() -> Option<&'static str> {
     let mut last = None;
     for text in &IN_ORDER {
-        let number = ScriptedLocale::read(text)
-            .ok()
-            .map(|locale| locale.number());
+        let number = ScriptedLocale::read(text).ok().map(number_with_script);
         if number <= last {
             return Some(*text);
         }

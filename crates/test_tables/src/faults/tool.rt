@@ -3,10 +3,10 @@
 use crate::faults::other_text;
 use bags_themes::BagFault;
 use cert_tree::CertFault;
-use command_base::Side;
 use config_box::BoxFault;
 use config_record::DeviceFault;
 use overlay_map::{MapFault, StackFault};
+use resource_text::Side;
 use resource_tool::{InputFault, LayersFault, ToolFault};
 use type_chunks::TableFault;
 

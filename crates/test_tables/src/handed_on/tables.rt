@@ -4,7 +4,7 @@
 pub use chunk_walk::{Chunk, ChunkFault, Chunks, chunk_at, u16_at, u32_at};
 pub use res_value::{Cell, Goal, GoalFault, MapRows, ResId, Value, write_value};
 pub use resource_table::{Row, Rows, Table, TableFault};
-pub use resource_tool::resource_text::{
+pub use resource_text::{
     LayersFault, ToolFault, dump_text, end_text, explain, fault_text, rows_text, verdict_text,
 };
 pub use string_pool::{Pool, PoolFault, Span, Spans, StringFault, Text};

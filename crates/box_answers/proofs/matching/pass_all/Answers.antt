@@ -4,8 +4,8 @@ use Rattle.config_precedence.specs.config_record.ComparedNumber.{record_number}
 use Rattle.std.proofs.lemmas.List.{drop_more, drop_all}
 use Rattle.box_answers.specs.NumberSet.{SetOf}
 use Rattle.box_answers.specs.Sameness.{AreNeighbours}
-use Rattle.box_answers.proofs.OnePass.{one-there, nothing-passes, always-there, never-there, parts-there, HasPassed-pass, HasPassed-parts, HasPassed-parted, parted-pair, one-decides, none-nowhere}
-use Rattle.box_answers.proofs.SearchSteps.{one-fails}
+use Rattle.box_answers.proofs.OnePass.{one-there, place-there, nothing-passes, always-there, never-there, parts-there, HasPassed-pass, HasPassed-parts, HasPassed-parted, parted-pair, one-decides, none-nowhere}
+use Rattle.box_answers.proofs.SearchSteps.{one-fails, tried-there}
 use Rattle.box_answers.proofs.matching.pass_all.Goals as goal
 
 pub loop-rule-preserved-then-number-eq0 : goal.loop-rule-preserved-then-number-eq0
@@ -41,3 +41,7 @@ pub returns-in-Some-clause-value : goal.returns-in-Some-clause-value
 returns-in-Some-clause-value c =
     let h = HasPassed-parted _ _ _ _ _ c.in-Some.found c.loop-rule.invariant c.in-Some.is in
     parted-pair _ _ _ _ h.0 c.in-Some.found _ h.1 (drop_all c.loop-rule.rule-index c.args.conditions.now c.loop-rule-test.false) c.changed-other.ensures.same c.changed-other.ensures.others
+
+pub suiting-requires-clause-tried : goal.suiting-requires-clause-tried
+suiting-requires-clause-tried c =
+    tried-there _ _ _ c.requires.sets (place-there c.args.conditions.now c.loop-rule.rule-index _ c.requires.in_place c.loop-rule-test.true) c.set_at.ensures

@@ -3,6 +3,7 @@ use Rattle.config_precedence.specs.config_record.Record.{record_bytes, is_set_as
 use Rattle.config_precedence.specs.config_match.Conditions.{all_conditions}
 use Rattle.config_precedence.specs.config_match.Matching.{is_match}
 use Rattle.box_answers.specs.Condition.{AreOfOne}
+use Rattle.box_answers.specs.TriedNumbers.{StandInPlace}
 use Rattle.box_answers.proofs.sameness.match_all.Goals as goal
 
 pub returns-then-set_aside-clause-value : goal.returns-then-set_aside-clause-value
@@ -14,3 +15,7 @@ returns-then-set_aside-clause-value c =
 pub pass_all-requires-clause-one : goal.pass_all-requires-clause-one
 unfolding all_conditions
 pass_all-requires-clause-one c = subst AreOfOne (sym c.conditions.ensures.value) refl
+
+pub pass_all-requires-clause-in_place : goal.pass_all-requires-clause-in_place
+unfolding all_conditions
+pass_all-requires-clause-in_place c = subst StandInPlace (sym c.conditions.ensures.value) refl

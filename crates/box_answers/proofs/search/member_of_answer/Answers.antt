@@ -1,5 +1,6 @@
 use Rattle.std.proofs.lemmas.List.{drop_more}
 use Rattle.box_answers.proofs.SearchSteps.{Reaches-found, Reaches-alone, Reaches-stops, Reaches-next, Reaches-passing}
+use Rattle.box_answers.proofs.OnePass.{place-there}
 use Rattle.box_answers.proofs.search.member_of_answer.Goals as goal
 
 pub find_deciding-requires : goal.find_deciding-requires
@@ -7,6 +8,7 @@ find_deciding-requires c = record {
   sets = c.requires.sets;
   member = c.loop-rule.invariant.member;
   in_order = Reaches-alone _ _ _ _ _ _ _ c.args.want _ c.loop-rule.invariant (drop_more c.args.question.now.rules.now c.loop-rule.rule-index _ c.loop-rule-test.true);
+  in_place = place-there c.args.question.now.rules.now c.loop-rule.rule-index _ c.requires.in_place c.loop-rule-test.true;
 }
 
 pub returns-in-Some-clause-found : goal.returns-in-Some-clause-found
@@ -19,6 +21,7 @@ find-requires c = record {
   sets = c.requires.sets;
   member = c.loop-rule.invariant.member;
   in_order = Reaches-alone _ _ _ _ _ _ _ c.args.want _ c.loop-rule.invariant (drop_more c.args.question.now.rules.now c.loop-rule.rule-index _ c.loop-rule-test.true);
+  in_place = place-there c.args.question.now.rules.now c.loop-rule.rule-index _ c.requires.in_place c.loop-rule-test.true;
 }
 
 pub returns-in-None-clause-none : goal.returns-in-None-clause-none

@@ -1,7 +1,7 @@
 use Rattle.std.proofs.Common.{arith, ◌∙◌, ap}
 use Rattle.std.proofs.lemmas.Grind.{common_steps}
 use Rattle.std.proofs.lemmas.List.Elements.{All-same, All-push}
-use Rattle.cert_checker.specs.config_record.Locale.{IsOfSomeText}
+use Rattle.cert_checker.specs.config_record.locales.Locale.{IsOfSomeText}
 use Rattle.cert_maker.proofs.next_test.listed_locales.Goals as goal
 use Rattle.cert_maker.proofs.next_test.listed_locales.Goals.{then-answers_yes_in+in_ok-push, else-answers_yes_in}
 

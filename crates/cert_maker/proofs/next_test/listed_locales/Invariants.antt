@@ -1,7 +1,7 @@
 use Rattle.std.proofs.Common.{◌≡◌, filter, take}
 use Rattle.std.specs.List.{All}
 use Rattle.cert_checker.specs.config_record.DeviceSeen.{device_numbers}
-use Rattle.cert_checker.specs.config_record.Locale.{IsOfSomeText}
+use Rattle.cert_checker.specs.config_record.locales.Locale.{IsOfSomeText}
 use Rattle.cert_checker.specs.box_trace.Parting.{answer_of}
 use Rattle.cert_maker.specs.Listed.{answer_in}
 use Rattle.cert_maker.proofs.next_test.listed_locales.Given as goal

@@ -2,7 +2,7 @@ use Rattle.std.proofs.Common.{◌+◌, List, map, sym, ap, subst, ◌∙◌}
 use Rattle.std.proofs.lemmas.Result.{err_from_is_err_and}
 use Rattle.serde_json.specs.View.{view}
 use Rattle.json_input.proofs.EachSteps.{EachAllBut, EachAllBut-next_item, EachAllBut-stops_item, EachAllBut-end_item}
-use Rattle.config_box.specs.config_record.declared.locale.Locale.{Locale}
+use Rattle.config_box.specs.config_record.locales.declared.locale.Locale.{Locale}
 use Rattle.cert_tree.specs.CertJson.{locale_item}
 use Rattle.cert_tree.proofs.read_nodes.locale_items.Goals as goal
 

@@ -1,8 +1,8 @@
 use Rattle.std.proofs.Common.{◌≡◌, ℕ, ◌<◌, List, length, filter, arith, sym, ◌∙◌, subst}
 use Rattle.std.proofs.lemmas.Bool.Decides.{nat_tests}
 use Rattle.std.proofs.lemmas.List.{length-map}
-use Rattle.box_answers.specs.config_record.declared.locale.Locale.{Locale}
-use Rattle.box_answers.specs.config_record.ComparedNumber.{locale_number}
+use Rattle.box_answers.specs.config_record.locales.declared.locale.Locale.{Locale}
+use Rattle.box_answers.specs.config_record.locales.LocaleNumber.{locale_number}
 use Rattle.box_answers.specs.declared.number_set.NumberSet.{NumberSet}
 use Rattle.box_answers.specs.NumberSet.{NumbersOf, LocalesOf, set_of, locale_numbers, IsProper}
 use Rattle.config_box.specs.Tests.{test_of}

@@ -1,5 +1,5 @@
 use Rattle.std.proofs.Common.{◌≡◌, List, ap, sym, ◌∙◌}
-use Rattle.box_answers.specs.config_record.declared.locale.Locale.{Locale}
+use Rattle.box_answers.specs.config_record.locales.declared.locale.Locale.{Locale}
 use Rattle.box_answers.specs.NumberSet.{NumbersOf, LocalesOf, set_of, locale_numbers}
 use Rattle.config_box.proofs.joined_sets.joined_set.Goals as goal
 

@@ -1,5 +1,5 @@
-use Rattle.box_answers.specs.config_record.ComparedNumber.{locale_of_number}
-use Rattle.box_answers.specs.config_record.Locale.{IsGiven}
+use Rattle.box_answers.specs.config_record.locales.LocaleNumber.{locale_of_number}
+use Rattle.box_answers.specs.config_record.locales.Locale.{IsGiven}
 use Rattle.config_box.proofs.ReadSteps.{texts-next, each-next}
 use Rattle.config_box.proofs.read.numbers_of_texts.Goals as goal
 

@@ -1,6 +1,6 @@
 use Rattle.std.proofs.Common.{◌≡◌, ◌<◌, ℕ, map, take, length, get_or}
-use Rattle.box_answers.specs.config_record.ComparedNumber.{locale_of_number}
-use Rattle.box_answers.specs.config_record.Locale.{IsGiven}
+use Rattle.box_answers.specs.config_record.locales.LocaleNumber.{locale_of_number}
+use Rattle.box_answers.specs.config_record.locales.Locale.{IsGiven}
 use Rattle.config_box.specs.BoxJson.{number_of_text}
 use Rattle.config_box.proofs.read.numbers_of_texts.Given as goal
 

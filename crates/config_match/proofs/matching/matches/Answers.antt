@@ -3,7 +3,7 @@ use Rattle.config_rules.specs.config_record.declared.coord.Coord.TheVariants as 
 use Rattle.config_rules.specs.config_record.ComparedNumber.{device_number}
 use Rattle.config_rules.specs.config_record.DeviceSeen.{device_numbers}
 use Rattle.config_rules.specs.config_record.Record.{record_bytes}
-use Rattle.config_rules.proofs.config_record.LocaleGiven.{no_language}
+use Rattle.config_rules.proofs.config_record.locales.LocaleGiven.{no_language}
 use Rattle.config_match.proofs.RegionAlone.{region_alone}
 use Rattle.config_match.proofs.matching.matches.Goals as goal
 

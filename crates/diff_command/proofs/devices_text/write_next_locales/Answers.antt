@@ -1,7 +1,7 @@
 use Rattle.std.proofs.Common.{List, ap, map, arith}
 use Rattle.std.proofs.lemmas.List.{drop_more}
-use Rattle.stack_diff.specs.config_box.config_record.declared.locale.Locale.{Locale}
-use Rattle.stack_diff.specs.config_box.config_record.ComparedNumber.{locale_number}
+use Rattle.stack_diff.specs.config_box.config_record.locales.declared.locale.Locale.{Locale}
+use Rattle.stack_diff.specs.config_box.config_record.locales.LocaleNumber.{locale_number}
 use Rattle.contract_words.proofs.TextSteps.{PutsAllBut-next}
 use Rattle.diff_command.proofs.devices_text.write_next_locales.Goals as goal
 

@@ -1,5 +1,5 @@
 use Rattle.std.proofs.Common.{drop, map}
-use Rattle.stack_diff.specs.config_box.config_record.ComparedNumber.{locale_number}
+use Rattle.stack_diff.specs.config_box.config_record.locales.LocaleNumber.{locale_number}
 use Rattle.contract_words.proofs.TextSteps.{PutsAllBut}
 use Rattle.diff_command.specs.DevicesText.{next_value, locale_value}
 use Rattle.diff_command.proofs.devices_text.write_next_locales.Given as goal

@@ -1,12 +1,12 @@
 use Rattle.std.proofs.Common.{◌+◌, nat_eq, Some, ap, ◌∙◌}
 use Rattle.std.specs.Option.{option_eq}
-use Rattle.config_record.specs.ComparedNumber.{locale_number}
+use Rattle.locale_data.specs.LocaleNumber.{number_of}
 use Rattle.locale_data.specs.LocaleNumber.{number_of_text, script_number}
 use Rattle.locale_data.specs.Line.{line_of, first_met, is_near_us_english_of}
 use Rattle.locale_data.proofs.tree.is_near_us_english.Goals as goal
 
 pub returns : goal.returns
-unfolding locale_number is_near_us_english_of
+unfolding number_of is_near_us_english_of
 returns c =
     let english = number_of_text "en" in
     let line = c.deref.ensures.0 ∙ c.line-line.ensures.value ∙ ap (λ region. line_of (english + region) (script_number "Latn")) c.from.ensures in

@@ -1,37 +1,54 @@
-use Rattle.std.proofs.Common.{None, [], sym}
-use Rattle.stack_diff.proofs.RowSteps.{ends-next, rows-done, with_firsts, row-removed_alone, row-added_alone, row-removed, row-added, row-both}
+use Rattle.stack_diff.proofs.RowSteps.{rows-done, no-rows, first-is, takes-first, row-removed_alone, row-added_alone, row-removed, row-added, row-both}
+use Rattle.std.proofs.Common.{◌++◌, map, Option, None, refl, sym, ◌∙◌, ap}
+use Rattle.stack_diff.specs.declared.content.RowContent.{RowContent}
+use Rattle.stack_diff.specs.DifferenceSeen.{row_difference_of, changed_rows}
 use Rattle.stack_diff.proofs.difference.row_differences.Goals as goal
 
 pub returns-in-None-None : goal.returns-in-None-None
-returns-in-None-None c = rows-done _ _ _ _ _ _ _ c.in-None-None.is-0 c.in-None-None.is-1 c.rows.invariant
+returns-in-None-None c =
+    rows-done c.rows.rows.items c.rows.before.items c.rows.after.items _ _ (no-rows _ _ c.rows.before.ok.0 c.in-None-None.ensures.variant.1) (no-rows _ _ c.rows.after.ok.0 c.in-None-None.ensures'.variant.1) c.rows.invariant
 
-pub rows-preserved-in-None-Some : goal.rows-preserved-in-None-Some
-rows-preserved-in-None-Some c =
-    row-added_alone _ _ c.in-None-Some.other c.in-None-Some.other None _ _ _ [] _ _ _ c.in_ok-push-in-None-Some.ensures.items c.next-first_after-in-None-Some.ensures.items
-    (ends-next c.rows.after c.next-first_after-in-None-Some.result c.next-first_after-in-None-Some.new.self c.next-first_after-in-None-Some.ensures.cases)
-    (with_firsts _ _ _ _ _ _ _ _ _ c.in-None-Some.is-0 c.in-None-Some.is-1 c.rows.invariant)
+pub rows-preserved-in-Continue-1 : goal.rows-preserved-in-Continue-1
+rows-preserved-in-Continue-1 c =
+    let other = c.in-None-Some.field-0-1.now in
+    let first = c.in-None-Some.ensures' in
+    row-added_alone c.rows.rows.items _ other _ c.rows.before.items c.rows.after.items _ _ _ (takes-first other _ _ _ first.lookup (c.pop_front.ensures.value other (first.variant.0 refl)) c.pop_front.ensures.items)
+    (no-rows _ _ c.rows.before.ok.0 c.in-None-Some.ensures.variant.1) c.in_ok-push_added-in-None-Some.ensures c.rows.invariant
 
-pub rows-preserved-in-Some-None : goal.rows-preserved-in-Some-None
-rows-preserved-in-Some-None c =
-    row-removed_alone _ _ c.in-Some-None.row c.in-Some-None.row _ None _ _ _ [] _ _ c.in_ok-push-in-Some-None.ensures.items c.next-first-in-Some-None.ensures.items
-    (ends-next c.rows.before c.next-first-in-Some-None.result c.next-first-in-Some-None.new.self c.next-first-in-Some-None.ensures.cases)
-    (with_firsts _ _ _ _ _ _ _ _ _ c.in-Some-None.is-0 c.in-Some-None.is-1 c.rows.invariant)
+pub rows-preserved-in-Continue-branch-2 : goal.rows-preserved-in-Continue-branch-2
+rows-preserved-in-Continue-branch-2 c =
+    let row = c.in-Some-None.field-0-0.now in
+    let first = c.in-Some-None.ensures in
+    row-removed_alone c.rows.rows.items _ row _ c.rows.before.items c.rows.after.items _ _ _ (takes-first row _ _ _ first.lookup (c.pop_front-in-Some-None.ensures.value row (first.variant.0 refl)) c.pop_front-in-Some-None.ensures.items)
+    (no-rows _ _ c.rows.after.ok.0 c.in-Some-None.ensures'.variant.1) c.in_ok-push_removed-in-Some-None.ensures c.rows.invariant
 
-pub rows-preserved-in-Less : goal.rows-preserved-in-Less
-rows-preserved-in-Less c =
-    row-removed _ _ c.in-Some-Some.row c.in-Some-Some.other _ None _ _ _ [] _ _ (sym c.in-Less.ensures) c.in_ok-push-in-Less.ensures.items c.next-first-in-Less.ensures.items
-    (ends-next c.rows.before c.next-first-in-Less.result c.next-first-in-Less.new.self c.next-first-in-Less.ensures.cases)
-    (with_firsts _ _ _ _ _ _ _ _ _ c.in-Some-Some.is-0 c.in-Some-Some.is-1 c.rows.invariant)
+pub rows-preserved-in-Continue-branch-3 : goal.rows-preserved-in-Continue-branch-3
+rows-preserved-in-Continue-branch-3 c =
+    let row = c.in-Some-Some.row.now in
+    let other = c.in-Some-Some.other.now in
+    let first = c.in-Some-Some.ensures in
+    let first_after = c.in-Some-Some.ensures' in
+    row-removed c.rows.rows.items _ row other _ None c.rows.before.items c.rows.after.items _ _ _ _ (sym c.in-Less.ensures)
+    (takes-first row _ _ _ first.lookup (c.pop_front-in-Less.ensures.value row (first.variant.0 refl)) c.pop_front-in-Less.ensures.items)
+    (first-is other _ _ c.rows.after.ok.0 (first_after.variant.0 refl) first_after.lookup) c.in_ok-push_removed-in-Less.ensures c.rows.invariant
 
-pub rows-preserved-in-Greater : goal.rows-preserved-in-Greater
-rows-preserved-in-Greater c =
-    row-added _ _ c.in-Some-Some.row c.in-Some-Some.other None _ _ _ [] _ _ _ (sym c.in-Greater.ensures) c.in_ok-push-in-Greater.ensures.items c.next-first_after-in-Greater.ensures.items
-    (ends-next c.rows.after c.next-first_after-in-Greater.result c.next-first_after-in-Greater.new.self c.next-first_after-in-Greater.ensures.cases)
-    (with_firsts _ _ _ _ _ _ _ _ _ c.in-Some-Some.is-0 c.in-Some-Some.is-1 c.rows.invariant)
+pub rows-preserved-in-Continue-branch-4 : goal.rows-preserved-in-Continue-branch-4
+rows-preserved-in-Continue-branch-4 c =
+    let row = c.in-Some-Some.row.now in
+    let other = c.in-Some-Some.other.now in
+    let first = c.in-Some-Some.ensures in
+    let first_after = c.in-Some-Some.ensures' in
+    row-added c.rows.rows.items _ row other None _ c.rows.before.items c.rows.after.items _ _ _ _ (sym c.in-Greater.ensures)
+    (first-is row _ _ c.rows.before.ok.0 (first.variant.0 refl) first.lookup)
+    (takes-first other _ _ _ first_after.lookup (c.pop_front-in-Greater.ensures.value other (first_after.variant.0 refl)) c.pop_front-in-Greater.ensures.items) c.in_ok-push_added-in-Greater.ensures c.rows.invariant
 
 pub rows-preserved : goal.rows-preserved
 rows-preserved c =
-    row-both _ _ c.in-Some-Some.row c.in-Some-Some.other _ _ _ _ _ _ _ _ (sym c.in-Equal.ensures) c.in_ok-push_changed-in-Equal.ensures c.next-first-in-Equal.ensures.items
-    (ends-next c.rows.before c.next-first-in-Equal.result c.next-first-in-Equal.new.self c.next-first-in-Equal.ensures.cases) c.next-first_after-in-Equal.ensures.items
-    (ends-next c.rows.after c.next-first_after-in-Equal.result c.next-first_after-in-Equal.new.self c.next-first_after-in-Equal.ensures.cases)
-    (with_firsts _ _ _ _ _ _ _ _ _ c.in-Some-Some.is-0 c.in-Some-Some.is-1 c.rows.invariant)
+    let row = c.in-Some-Some.row.now in
+    let other = c.in-Some-Some.other.now in
+    let first = c.in-Some-Some.ensures in
+    let first_after = c.in-Some-Some.ensures' in
+    row-both c.rows.rows.items _ row other _ _ c.rows.before.items c.rows.after.items _ _ _ _ (sym c.in-Equal.ensures)
+    (takes-first row _ _ _ first.lookup (c.pop_front-in-Equal.ensures.value row (first.variant.0 refl)) c.pop_front-in-Equal.ensures.items)
+    (takes-first other _ _ _ first_after.lookup (c.pop_front-in-Equal-2.ensures.value other (first_after.variant.0 refl)) c.pop_front-in-Equal-2.ensures.items)
+    (c.in_ok-push_changed-in-Equal.ensures ∙ ap (λ (both : Option (RowContent × RowContent)). map row_difference_of c.rows.rows.items ++ changed_rows both) c.zip.ensures) c.rows.invariant

@@ -1,5 +1,5 @@
 use Rattle.std.proofs.Common.{◌≡◌, map, take}
-use Rattle.names.specs.Names.{name_of}
+use Rattle.command_base.specs.names.Names.{name_of}
 use Rattle.table_commands.specs.NamedTarget.{named_seen}
 use Rattle.table_commands.proofs.pairs.names_of.Given as goal
 

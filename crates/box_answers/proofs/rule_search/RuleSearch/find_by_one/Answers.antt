@@ -1,4 +1,4 @@
-use Rattle.std.proofs.Common.{◌≡◌, ◌≢◌, ℕ, ◌<◌, get_or, length, arith, sym, ◌∙◌, ap, subst}
+use Rattle.std.proofs.Common.{◌≡◌, ◌≢◌, ℕ, ◌<◌, get_or, length, arith, refl, sym, ◌∙◌, ap, subst}
 use borrow.Author.Count.{below_more}
 use Rattle.config_precedence.specs.config_record.Record.{record_bytes}
 use Rattle.config_precedence.specs.config_record.ComparedNumber.{record_number, device_number}
@@ -9,7 +9,7 @@ use Rattle.box_answers.specs.Members.{sets_of, set_at}
 use Rattle.box_answers.specs.TriedNumbers.{tried_numbers}
 use Rattle.box_answers.specs.Changes.{answer_at}
 use Rattle.box_answers.proofs.Sets.{tried-in, change-found}
-use Rattle.box_answers.proofs.SearchSteps.{one_answer, one-none}
+use Rattle.box_answers.proofs.SearchSteps.{one_answer, one-none, tried-there}
 use Rattle.box_answers.proofs.rule_search.RuleSearch.find_by_one.Goals as goal
 
 pub returns-then-says-clause-found : goal.returns-then-says-clause-found
@@ -39,6 +39,7 @@ loop-place-preserved c =
 
 pub returns-clause-none : goal.returns-clause-none
 returns-clause-none c =
-    one-none (sets_of c.args.self.now.sets.now) c.args.self.now.rule _ _ (set_of c.set_at-set.result.now) c.compared_number-a.result c.compared_number-b.result c.args.want c.requires.one c.set_at-set.ensures
+    one-none (sets_of c.args.self.now.sets.now) c.args.self.now.rule _ _ (set_of c.set_at-set.result.now) c.compared_number-a.result c.compared_number-b.result c.args.want c.requires.one
+    (tried-there _ c.args.self.now.rule _ c.requires.search.sets c.requires.search.in_place refl) c.set_at-set.ensures
     c.compared_number-a.ensures.value c.compared_number-b.ensures.value
     (λ k q. c.loop-place.invariant k (omega (arith, c.loop-place-test.false, c.tried_count-place-end.ensures c.compared_number-a.result c.compared_number-b.result)))

@@ -17,6 +17,7 @@ find_by_second-requires-clause-search c = record {
       (subst (λ (s : SetOf). IsIn s c.least.result) c.set_at-set.ensures c.least.ensures.is_in)
       c.changed-low.ensures.same c.changed-low.ensures.others;
   in_order = c.requires.search.in_order;
+  in_place = c.requires.search.in_place;
 }
 
 pub returns-in-Some-clause-found : goal.returns-in-Some-clause-found
@@ -29,6 +30,7 @@ find_by_second-requires-2-clause-search c = record {
       (subst (λ (s : SetOf). IsIn s c.greatest.result) c.set_at-set.ensures c.greatest.ensures.is_in)
       c.changed-high.ensures.same c.changed-high.ensures.others;
   in_order = c.requires.search.in_order;
+  in_place = c.requires.search.in_place;
 }
 
 pub returns-clause-found : goal.returns-clause-found

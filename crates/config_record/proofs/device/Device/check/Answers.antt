@@ -5,10 +5,10 @@ pub returns-clause-numbers : goal.returns-clause-numbers
 returns-clause-numbers c = device-asked _ _ c.with.result c.with.ensures
 
 pub returns-clause-locale : goal.returns-clause-locale
-returns-clause-locale c = device-locale_asked _ _ _ c.with.result c.with.ensures c.of_bytes.ensures.value c.of_bytes.ensures.numbered
+returns-clause-locale c = device-locale_asked _ _ _ c.with.result c.with.ensures c.checked.ensures.value c.checked.ensures.numbered
 
 pub returns-clause-some_text : goal.returns-clause-some_text
-returns-clause-some_text c = device-some_text _ _ _ c.with.result c.with.ensures c.of_bytes.ensures.value c.of_bytes.ensures.numbered c.of_bytes.ensures.given
+returns-clause-some_text c = device-some_text _ _ _ c.with.result c.with.ensures c.checked.ensures.value c.checked.ensures.numbered c.checked.ensures.given
 
 pub returns-clause-not_refused : goal.returns-clause-not_refused
-returns-clause-not_refused c = device-not_refused _ _ _ c.with.result c.with.ensures c.of_bytes.ensures.value
+returns-clause-not_refused c = device-not_refused _ _ _ c.with.result c.with.ensures c.checked.ensures.value
