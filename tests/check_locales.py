@@ -4,9 +4,8 @@
     check_locales.py PROGRAM [CASES [JOBS [FIRST]]]
 
 for so many random layers, 1,000 if it is not said. Some devices of a box are asked for all ids by `query`, and for one by
-`explain`. Of an id without rows `check` shows the least device of the box, which tells how locales are read, put in order and
-printed. Before these come the rows and texts of plain_locales. The cases are numbered from FIRST on, which is 0 if it is not
-given. The last line counts the cases and the devices, and by what they do the candidates that were explained."""
+`explain`. Before these come the rows and wrong texts of plain_locales. The cases are numbered from FIRST on, which is 0 if it
+is not given. The last line counts the cases and the devices, and by what they do the candidates that were explained."""
 import os
 import random
 import sys
@@ -15,9 +14,9 @@ from collections import Counter
 from concurrent.futures import ProcessPoolExecutor
 
 from case_files import Files
-from plain_certificates import certificate_json, id_text
+from plain_certificates import id_text
 from plain_locales import (
-    BOX, BOX_IN_ORDER, DECISIONS, NAME, NUMBERS, ROWS, TEXTS, WRONG_TEXTS, AndroidBox, device_in, layers_of,
+    DECISIONS, NAME, NUMBERS, ROWS, TEXTS, WRONG_TEXTS, AndroidBox, device_in, layers_of,
 )
 from plain_rules import device_text, end_text
 from random_cases import ENTRIES, FIRST_ID
@@ -26,8 +25,6 @@ from random_locales import LocaleCase
 OPTION = "--locales", "android"
 CASES, DEVICES = 1000, 3
 NAMES = range(FIRST_ID, FIRST_ID + ENTRIES + 1)
-ROWLESS = FIRST_ID + ENTRIES
-MOST_VALUES = 512
 
 
 def is_no_value(end):
@@ -58,21 +55,6 @@ def faults_at(files, layers, device, names, name):
     )
 
 
-def check_of(files, box, node):
-    """What `check` says of a certificate that begins with this node, for an id without rows."""
-    files.write("box", box)
-    files.write("certificate", certificate_json([(ROWLESS, [node])]))
-    return files.run("check", *OPTION, "layers", "box", "certificate", id_text(ROWLESS))
-
-
-def faults_of_box(files, box):
-    """The faults of the least device of a box, which is shown where no device has a value."""
-    least = {name: values[0] for name, values in box.sets.items()}
-    shown = [f"device {device_text(least)}", f"end absent {id_text(ROWLESS)}", "set-aside 0"]
-    came = check_of(files, box.json(), {"layer": 0, "kind": 0, "word": 0})
-    return unlike(f"check of {box.said}", came, (["rejected goal 0 node 0 N7 NoValue", *shown], 1))
-
-
 # ---- rows and texts that are known
 
 
@@ -83,11 +65,7 @@ class WorkedCase:
         self.layers = layers_of(rows)
         self.tables = [[(NAME, candidate.record, candidate.cell) for candidate in self.layers.candidates(NAME)]]
         self.maps = [None]
-        self.box = box_of([""])
-
-
-def box_of(texts):
-    return AndroidBox({"locale": texts, "density": [160]})
+        self.box = AndroidBox({"locale": [""], "density": [160]})
 
 
 def faults_of_rows(program, locale, rows, numbers):
@@ -96,29 +74,16 @@ def faults_of_rows(program, locale, rows, numbers):
         return faults_at(Files(program, folder, case, OPTION), case.layers, device_in(locale, **numbers), [NAME], NAME)
 
 
-def faults_of_refusal(files, text, fault):
-    """The faults of how a text is refused at a device, in a box and in a certificate."""
-    faults = unlike(f"{text!r} at a device", files.answer("query", device_in(text), NAME), ([f"refused: device: {fault}"], 3))
-    for what, box, part in (("a box", [text], f"box: {fault}"), ("a certificate", [""], "certificate: Shape 0 0")):
-        came = check_of(files, {"locale": box, "density": [160]}, {"coord": "locale", "in": [text]})
-        faults += unlike(f"{text!r} in {what}", came, ([f"refused: {part}"], 3))
-    return faults
-
-
 def faults_of_texts(program):
+    """The faults of how texts are read, and wrong ones refused, at a device."""
+    case = WorkedCase("[]")
     with tempfile.TemporaryDirectory() as folder:
-        files = Files(program, folder, WorkedCase("[]"), OPTION)
+        files = Files(program, folder, case, OPTION)
+        for text, _ in TEXTS:
+            yield from faults_at(files, case.layers, device_in(text), [NAME], NAME)
         for text, fault in WRONG_TEXTS:
-            yield from faults_of_refusal(files, text, fault)
-        twice = ["zh-HK", "zh-Hant-HK"] * (MOST_VALUES // 2)
-        in_order = (BOX_IN_ORDER[place:][::-1] for place in range(len(BOX_IN_ORDER)))
-        for texts in (*([text] for text, _ in TEXTS), BOX, twice, *in_order):
-            yield from faults_of_box(files, box_of(texts))
-        came = check_of(files, box_of([*twice, "zh-HK"]).said, {"coord": "locale", "in": twice})
-        yield from unlike("a box of more texts", came, (["refused: box: TooMany locale"], 3))
-        for texts, rejected in ((["zh-HK"], "node 0 N5 EmptyHalf"), (["zh-HK", "zh-Hans-HK"], "node 1 N2 EndsEarly")):
-            came = check_of(files, box_of(texts).said, {"coord": "locale", "in": ["zh-Hant-HK"]})
-            yield from unlike(f"a test of {texts}", came, ([f"rejected goal 0 {rejected}", "set-aside 0"], 1))
+            came = files.answer("query", device_in(text), NAME)
+            yield from unlike(f"{text!r} at a device", came, ([f"refused: device: {fault}"], 3))
 
 
 def known(program):
@@ -139,7 +104,7 @@ def check_case(program, number):
     case = LocaleCase(chance)
     with tempfile.TemporaryDirectory() as folder:
         files = Files(program, folder, case, OPTION)
-        faults = faults_of_box(files, case.box)
+        faults = []
         devices = chance.sample(case.members, min(DEVICES, len(case.members)))
         for device in devices:
             name = chance.choice(NAMES)

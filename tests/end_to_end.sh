@@ -187,6 +187,11 @@ for device in bare phone-fr tablet-de; do
     answers rich $device
     answers rich-overlay $device
 done
+if command -v python3 >/dev/null; then
+    ends "locales as a phone compares them" 0 "python3 '$here/tests/check_locales.py' \"\$0\" 300 4"
+else
+    echo "not run, since python3 is missing: locales as a phone compares them"
+fi
 
 cp "$tables/rich.arsc" base
 cp "$tables/overlay.arsc" overlay
@@ -231,6 +236,8 @@ line device.err 'file: device'
 check "an absent device" 5 $none device.err query layers device 0x7f060000
 line id.err 'command: bad id 0x7f06'
 check "a word that is no id" 2 $none id.err query layers device 0x7f060000 0x7f06 x
+line rule.err 'command: bad rule of locales Android'
+check "a word that is no rule of locales" 2 $none rule.err query --locales Android layers device 0x7f06
 
 # ---- check
 cp "$here/crates/restool/stdin" whole

@@ -4,14 +4,14 @@
 usage: tools/paths.py [--check]
 
 rt reads the sources of a crate and of those below it once for each path, several times in a run. A crate has few
-where it lists the nearest crates alone and names lower ones through them (`pub use`). With --check the status is 1
-where a crate has more than it may have.
+where it lists the nearest crates and those whose functions it calls, and names types of lower ones through them
+(`pub use`). With --check the status is 1 where a crate has more than it may have.
 """
 import os
 import sys
 
 LIST = os.path.join(os.path.dirname(os.path.dirname(os.path.realpath(__file__))), "crates.txt")
-MOST = 900
+MOST = 1350
 
 
 def counted(lines):

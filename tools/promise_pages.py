@@ -15,6 +15,8 @@ INNER_COMMENTS = ("--", "//")
 FIRST_CHAPTER = "What is promised"
 WORDS_A_MINUTE = 200
 NAMES_A_MINUTE = 100
+# Of a list of data with more lines the page has the first, and says how many follow: CLDR's have hundreds.
+MOST_LINES, FIRST_LINES = 100, 8
 
 
 def is_type(home):
@@ -172,6 +174,9 @@ class Chapter:
             self.add(text, "")
 
     def add_code(self, language, code):
+        if len(code) > MOST_LINES:
+            rest = f"    -- and {len(code) - FIRST_LINES:,} lines more of this list, in the file"
+            code = [*code[:FIRST_LINES], rest]
         comments = [line for line in code if line.lstrip().startswith(INNER_COMMENTS)]
         self.words += len(" ".join(comments).split())
         self.names += len(NAME.findall(MODIFIERS.sub("", "\n".join(line for line in code if line not in comments))))

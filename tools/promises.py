@@ -43,12 +43,21 @@ LIBRARY = [
     ("◌≡◌ ◌≢◌ ◌<◌ ◌≤◌", "`≡`, `≢`, `<`, `≤`", "statements: equal, not equal, less, at most"),
     ("◌⊎◌", "`P ⊎ Q`", "P or Q, as above"),
     ("Bool true false", "`Bool`", "`true` or `false`: what a test gives"),
-    ("◌==◌ nat_lt nat_le", "`a == b`, `nat_lt a b`, `nat_le a b`", "tests of numbers: equal, less, at most"),
+    ("◌==◌ nat_eq nat_lt nat_le", "`a == b`, `nat_eq a b`, `nat_lt a b`, `nat_le a b`", "tests of numbers: equal (both), less, at most"),
     ("int_lt bytes_eq", "`int_lt a b`, `bytes_eq a b`", "tests: less, of whole numbers; equal, of lists of numbers"),
     ("◌&&◌ ◌||◌ not", "`&&`, `\\|\\|`, `not`", "and, or, not of tests"),
     ("if◌then◌else◌", "`if t then a else b`", "`a` where the test is true, else `b`"),
     ("Option Some None", "`Option A`", "`Some a`, or `None`: there is one, or none"),
-    ("is_some option_or", "`is_some o`, `option_or o p`", "whether there is one; `o` where there is one, else `p`"),
+    (
+        "is_some is_none option_or unwrap_or",
+        "`is_some o`, `is_none o`, `option_or o p`, `unwrap_or o a`",
+        "whether there is one; whether there is none; `o` where there is one, else `p`; what is in `o`, or `a`",
+    ),
+    (
+        "option_map option_map_or option_eq",
+        "`option_map f o`, `option_map_or a f o`, `option_eq t o p`",
+        "`f` of what is in `o`; the same, or `a` where there is none; whether both have none, or two that pass a test",
+    ),
     ("Result Ok Err", "`Result A E`", "`Ok a`, or `Err e`: a result, or a fault"),
     (
         "result_ok IfOk",
@@ -60,16 +69,16 @@ LIBRARY = [
         "`List A`, `[]`, `x ∷ xs`, `xs ++ ys`",
         "lists; the empty one; `x` before `xs`; one behind the other",
     ),
-    ("length take", "`length xs`, `take n xs`", "how many items; the first `n` of them"),
+    ("length take drop", "`length xs`, `take n xs`, `drop n xs`", "how many items; the first `n` of them; all but these"),
     (
         "map flat_map",
         "`map f xs`, `flat_map f xs`",
         "`f` of each item; the lists that `f` gives of each, one behind the other",
     ),
     (
-        "filter find last_or",
-        "`filter t xs`, `find t xs`, `last_or o xs`",
-        "the items that pass a test; the first that does; the last item, or `o` where there is none",
+        "filter find position last_or",
+        "`filter t xs`, `find t xs`, `position t xs`, `last_or o xs`",
+        "the items that pass a test; the first that does; its place, counted from 0; the last item, or `o` where there is none",
     ),
     (
         "list_all list_any Contains",
@@ -82,13 +91,21 @@ LIBRARY = [
         "`slice_index xs i`, `slice_index_or xs i x`",
         "the item at `i`, and past the end 0, or `x`",
     ),
-    ("from_be_bytes w64", "`from_be_bytes w64 xs`", "the number of eight bytes, the most significant first"),
+    (
+        "from_be_bytes w32 w64",
+        "`from_be_bytes w32 xs`, `from_be_bytes w64 xs`",
+        "the number of four bytes, of eight, the most significant first",
+    ),
+    ("codes", "`codes t`", "the bytes of a text"),
 ]
 
 CHAPTERS = {
     "contract_words": "Words for faults",
     "string_pool": "Strings, ids, values and goals",
     "res_value": "Strings, ids, values and goals",
+    "locales": "Locales",
+    "locale_data": "What CLDR says of locales",
+    "android_locales": "Locales as a phone compares them",
     "config_record": "Configurations and devices",
     "config_rules": "What a rule asks",
     "config_match": "Which configuration matches a device",
@@ -113,7 +130,7 @@ HEADLINE = Page(
 
 If `restool check` prints `accepted`, then on every device of the box each goal ends at the value or bag of the leaf that the device reaches. If it prints `rejected`, the node that it names is the first at which a rule fails, and the rule that it names is the first that fails there.
 
-This page has all that these two sentences mean, as the prover has it: of a stack of layers, a box of devices and a certificate. Whoever has read it has seen every definition that they rest on. What is [left out](#what-is-left-out) stands at the end; no proof has to be read, and of the code only the types that are shown. Whether the definitions are Android's rules is for the reader to judge: they name the structs and functions of AOSP that they follow, and [DECISIONS.md](DECISIONS.md#where-the-rules-leave-aosps) says where they differ. `tools/definitions.py` makes the page from `specs/` and `src/`; do not edit it.
+This page has all that these two sentences mean, as the prover has it: of a stack of layers, a box of devices and a certificate. Whoever has read it has seen every definition that they rest on, but for the lines of three lists of CLDR's. What is [left out](#what-is-left-out) stands at the end; no proof has to be read, and of the code only the types that are shown. Whether the definitions are Android's rules is for the reader to judge: they name the structs and functions of AOSP that they follow, and [DECISIONS.md](DECISIONS.md#where-the-rules-leave-aosps) says where they differ. `tools/definitions.py` makes the page from `specs/` and `src/`; do not edit it.
 
 ## How to read it
 
@@ -121,7 +138,7 @@ The promise comes first. Behind it each definition stands after all that it is m
 
 Above a block stands what its file says of it: of the last definition, where there are several. Where nothing stands there, the names say it. The link under a heading leads to the file, which also has what this promise does not rest on.
 
-Who asks for ids alone can pass over bags and themes. Who asks what `accepted` means can stop before `rejected`.
+Who asks for ids alone can pass over bags and themes. A device of a box whose locales are compared by language and region needs nothing of the chapter on phones. Who asks what `accepted` means can stop before `rejected`.
 """,
     call=Call(
         home=Home("cert_checker", "checking.rt", "check"),

@@ -3,8 +3,8 @@ use Rattle.std.proofs.Common.{◌≡◌, ℕ, ◌==◌, ◌&&◌, ◌||◌, ◌�
 use Rattle.std.proofs.lemmas.Bool.{cases_Bool, cases_eq, ne_eqb}
 use Rattle.std.proofs.lemmas.Bool.Decides.{nat_tests}
 use Rattle.locale_data.specs.Facts.{language_of, region_of}
-use Rattle.android_locales.specs.declared.record_locale.RecordLocale.{RecordLocale}
-use Rattle.android_locales.specs.declared.scripted_locale.ScriptedLocale.{ScriptedLocale}
+use Rattle.android_locales.specs.declared.compared.RecordLocale.{RecordLocale}
+use Rattle.android_locales.specs.declared.compared.DeviceLocale.{DeviceLocale}
 use Rattle.android_locales.specs.Words.{exactly_one, locale_of_device, locale_of_record, says_nothing, are_alike}
 use Rattle.android_locales.specs.Suits.{suits_of}
 use Rattle.android_locales.specs.Nearer.{is_nearer_of}
@@ -15,7 +15,7 @@ use Rattle.android_locales.proofs.NearerLemmas.{is_nearer_of-one}
 -- ---- the languages of records that suit
 
 -- a record that suits has no language, or one that is alike to the device's
-suits_of-language : (r : RecordLocale) (d : ScriptedLocale) → suits_of r d ≡ true
+suits_of-language : (r : RecordLocale) (d : DeviceLocale) → suits_of r d ≡ true
     → (language_of (locale_of_record r) ≡ 0) ⊎ (are_alike (language_of (locale_of_record r)) (language_of (locale_of_device d)) ≡ true)
 unfolding suits_of
 suits_of-language r d suits = elim (cases_eq (locale_of_record r) 0) [
@@ -75,7 +75,7 @@ variant_by-one false false false there is = absurd cc
 variant_by-one true false here there is = absurd cc
 variant_by-one false true here there is = refl
 
-is_better_in_region-one : (a b : RecordLocale) (d : ScriptedLocale) → is_better_in_region a b d ≡ true → is_better_in_region b a d ≡ false
+is_better_in_region-one : (a b : RecordLocale) (d : DeviceLocale) → is_better_in_region a b d ≡ true → is_better_in_region b a d ≡ false
 unfolding is_better_in_region
 is_better_in_region-one a b d =
     let wanted = language_of (locale_of_device d) in
@@ -98,7 +98,7 @@ better_by-one false false true true x y n m u v language region in_region is = i
 eqb-flip : (x y : ℕ) → (x == y) ≡ (y == x)
 eqb-flip x y = grind (arith, nat_tests)
 
-at_most_one : (a b : RecordLocale) (d : ScriptedLocale) → is_better_of a b d ≡ true → suits_of a d ≡ true → suits_of b d ≡ true → is_better_of b a d ≡ false
+at_most_one : (a b : RecordLocale) (d : DeviceLocale) → is_better_of a b d ≡ true → suits_of a d ≡ true → suits_of b d ≡ true → is_better_of b a d ≡ false
 unfolding is_better_of
 at_most_one a b d is suits also =
     let one = locale_of_record a in
@@ -120,7 +120,7 @@ at_most_one a b d is suits also =
     (is_better_in_region-one a b d)
     is)
 
-pub one_sided : (a b : RecordLocale) (d : ScriptedLocale) (result : Bool) → result ≡ is_better_of a b d → result ≡ true → suits_of a d ≡ true → suits_of b d ≡ true → is_better_of b a d ≡ false
+pub one_sided : (a b : RecordLocale) (d : DeviceLocale) (result : Bool) → result ≡ is_better_of a b d → result ≡ true → suits_of a d ≡ true → suits_of b d ≡ true → is_better_of b a d ≡ false
 one_sided a b d result value is = at_most_one a b d (sym value ∙ is)
 
 -- ---- a record and itself
@@ -131,7 +131,7 @@ variant_by-self true false = refl
 variant_by-self false true = refl
 variant_by-self false false = refl
 
-is_better_in_region-self : (a : RecordLocale) (d : ScriptedLocale) → is_better_in_region a a d ≡ false
+is_better_in_region-self : (a : RecordLocale) (d : DeviceLocale) → is_better_in_region a a d ≡ false
 unfolding is_better_in_region
 is_better_in_region-self a d = variant_by-self a.has_variant (language_of (locale_of_record a) == language_of (locale_of_device d))
 
@@ -139,7 +139,7 @@ better_by-self : (silent x n v : Bool) → v ≡ false → better_by silent true
 better_by-self true x n v none = refl
 better_by-self false x n v none = none
 
-pub not_itself : (a : RecordLocale) (d : ScriptedLocale) → is_better_of a a d ≡ false
+pub not_itself : (a : RecordLocale) (d : DeviceLocale) → is_better_of a a d ≡ false
 unfolding is_better_of
 not_itself a d =
     let one = locale_of_record a in

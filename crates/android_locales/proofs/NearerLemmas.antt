@@ -5,8 +5,8 @@ use Rattle.std.proofs.lemmas.Bool.{cases_eq, ne_eqb}
 use Rattle.std.proofs.lemmas.Bool.Decides.{nat_tests}
 use Rattle.locale_data.specs.Facts.{language_of, region_of, is_representative_of}
 use Rattle.locale_data.specs.Line.{line_of, first_met}
-use Rattle.android_locales.specs.declared.scripted_locale.ScriptedLocale.{ScriptedLocale}
-use Rattle.android_locales.specs.Words.{number_of_script, exactly_one, locale_of_device}
+use Rattle.android_locales.specs.declared.compared.DeviceLocale.{DeviceLocale}
+use Rattle.android_locales.specs.Words.{exactly_one, locale_of_device}
 use Rattle.android_locales.specs.Nearer.{latin_american, is_special_spanish, stand_in, distance, is_nearer_aside, is_nearer_locale, is_nearer_of}
 
 -- ---- of two that differ the stand-ins differ too
@@ -69,11 +69,11 @@ is_nearer_locale-one x y script line apart is =
     met None is = is_nearer_aside-one x y script line is
     met (Some locale) is = let here = eqb-true locale x is in ne_eqb locale y (λ there. apart (sym here ∙ there))
 
-pub is_nearer_of-one : (one other : ℕ) (d : ScriptedLocale) → one ≢ other → is_nearer_of one other d ≡ true → is_nearer_of other one d ≡ false
+pub is_nearer_of-one : (one other : ℕ) (d : DeviceLocale) → one ≢ other → is_nearer_of one other d ≡ true → is_nearer_of other one d ≡ false
 unfolding is_nearer_of
 is_nearer_of-one one other d apart is =
     let language = language_of (locale_of_device d) in
-    let script = number_of_script d.script in
+    let script = d.script in
     let x = language + one in
     let y = language + other in
     is_nearer_locale-one (stand_in x y) (stand_in y x) script (line_of (locale_of_device d) script) (stand_in-apart x y (λ same. apart (omega (arith, same)))) is

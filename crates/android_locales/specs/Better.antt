@@ -4,8 +4,8 @@ use Rattle.std.specs.Prelude.{ℕ, ◌==◌, ◌&&◌, ◌||◌, not, Bool, fals
 use Rattle.locale_data.specs.LocaleNumber.{number_of_text}
 use Rattle.locale_data.specs.Facts.{language_of, region_of}
 use Rattle.locale_data.specs.Line.{is_near_us_english_of}
-use Rattle.android_locales.specs.declared.record_locale.RecordLocale.{RecordLocale}
-use Rattle.android_locales.specs.declared.scripted_locale.ScriptedLocale.{ScriptedLocale}
+use Rattle.android_locales.specs.declared.compared.RecordLocale.{RecordLocale}
+use Rattle.android_locales.specs.declared.compared.DeviceLocale.{DeviceLocale}
 use Rattle.android_locales.specs.Words.{locale_of_device, locale_of_record, says_nothing, exactly_one, are_alike}
 use Rattle.android_locales.specs.Nearer.{is_nearer_of}
 
@@ -35,7 +35,7 @@ is_better_language a b d =
 -- ---- where both have one, and these are alike
 
 -- in one region: the one without a variant, which no device has; else that of the device's own language, of Tagalog and Filipino
-unfoldable pub is_better_in_region : RecordLocale → RecordLocale → ScriptedLocale → Bool
+unfoldable pub is_better_in_region : RecordLocale → RecordLocale → DeviceLocale → Bool
 is_better_in_region a b d =
     let wanted = language_of (locale_of_device d) in
     if exactly_one a.has_variant b.has_variant then b.has_variant
@@ -43,7 +43,7 @@ is_better_in_region a b d =
 
 -- ---- two records
 
-unfoldable pub is_better_of : RecordLocale → RecordLocale → ScriptedLocale → Bool
+unfoldable pub is_better_of : RecordLocale → RecordLocale → DeviceLocale → Bool
 is_better_of a b d =
     let one = locale_of_record a in
     let other = locale_of_record b in

@@ -1,8 +1,10 @@
-pub mod RecordLocale
+pub mod LocaleRule
+pub mod KeptScript
+pub mod Compared
 pub mod Words
 pub mod Text
 pub mod Suits
 pub mod Nearer
 pub mod Better
-pub use Rattle.config_record.specs as config_record
+pub use Rattle.locale_data.specs.locales
 pub use Rattle.locale_data.specs as locale_data

@@ -6,8 +6,8 @@ use Rattle.std.specs.Option.{option_map_or}
 use Rattle.locale_data.specs.LocaleNumber.{number_of_text}
 use Rattle.locale_data.specs.Facts.{language_of, region_of, is_representative_of}
 use Rattle.locale_data.specs.Line.{line_of, first_met}
-use Rattle.android_locales.specs.declared.scripted_locale.ScriptedLocale.{ScriptedLocale}
-use Rattle.android_locales.specs.Words.{number_of_script, exactly_one, locale_of_device}
+use Rattle.android_locales.specs.declared.compared.DeviceLocale.{DeviceLocale}
+use Rattle.android_locales.specs.Words.{exactly_one, locale_of_device}
 
 -- ---- Spanish in the US and in Mexico
 
@@ -50,9 +50,9 @@ unfoldable pub is_nearer_locale : ℕ → ℕ → ℕ → List ℕ → Bool
 is_nearer_locale x y script line = option_map_or (λ met. met == x) (first_met line x y) (is_nearer_aside x y script line)
 
 -- of two regions, which are not equal, the first
-unfoldable pub is_nearer_of : ℕ → ℕ → ScriptedLocale → Bool
+unfoldable pub is_nearer_of : ℕ → ℕ → DeviceLocale → Bool
 is_nearer_of one other d =
     let x = language_of (locale_of_device d) + one in
     let y = language_of (locale_of_device d) + other in
-    let script = number_of_script d.script in
+    let script = d.script in
     is_nearer_locale (stand_in x y) (stand_in y x) script (line_of (locale_of_device d) script)

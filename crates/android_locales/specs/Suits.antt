@@ -2,8 +2,8 @@
 use Rattle.std.specs.Prelude.{◌==◌, ◌&&◌, ◌||◌, not, nat_eq, Bool, true, false, if◌then◌else◌, is_none}
 use Rattle.std.specs.Option.{option_eq}
 use Rattle.locale_data.specs.Facts.{language_of, region_of}
-use Rattle.android_locales.specs.declared.record_locale.RecordLocale.{RecordLocale}
-use Rattle.android_locales.specs.declared.scripted_locale.ScriptedLocale.{ScriptedLocale}
+use Rattle.android_locales.specs.declared.compared.RecordLocale.{RecordLocale}
+use Rattle.android_locales.specs.declared.compared.DeviceLocale.{DeviceLocale}
 use Rattle.android_locales.specs.Words.{locale_of_device, script_of_device, locale_of_record, says_nothing, script_of_record, are_alike}
 
 -- it has no script, none was computed, and it has no likely one
@@ -12,7 +12,7 @@ has_unknown_script r = is_none (script_of_record r) && not r.script_was_computed
 
 -- Where both scripts can be told they are compared, and regions do not matter. A record of which a script was computed, and
 -- that has none, suits no device that has one.
-unfoldable pub suits_of : RecordLocale → ScriptedLocale → Bool
+unfoldable pub suits_of : RecordLocale → DeviceLocale → Bool
 suits_of r d =
     let locale = locale_of_record r in
     let wanted = locale_of_device d in

@@ -4,11 +4,10 @@ ghost use Rattle.std.specs.Prelude.{◌≡◌, IsTrue, IsFalse};
 ghost use Rattle.android_locales.specs.Suits.{suits_of};
 ghost use Rattle.android_locales.specs.Better.{is_us_english, is_good_region, is_better_language, is_better_in_region, is_better_of};
 
+use crate::compared::{DeviceLocale, RecordLocale};
 use crate::nearer::is_nearer;
-use crate::record_locale::RecordLocale;
-use crate::scripted_locale::ScriptedLocale;
 use crate::words::{are_alike, exactly_one};
-use locale_data::{is_near_us_english, language_of, number_of, region_of};
+use locale_data::{is_near_us_english, language_of, region_of};
 
 // en
 const ENGLISH: u32 = 0x656E_0000;
@@ -19,17 +18,24 @@ const UNITED_STATES: u16 = 0x5553;
 impl RecordLocale {
     /// Whether it is better than another record that suits the device too (AOSP: `isLocaleBetterThan`). Where it is not,
     /// nothing is said: the other one need not be better.
-    #[tactic(auto, unfolding(crate::specs::Better::is_better_of), using(crate::proofs::BetterLaws::one_sided, crate::proofs::BetterLaws::not_itself))]
-    pub fn is_better(self, other: RecordLocale, device: ScriptedLocale) -> bool
+    #[tactic(auto, using(crate::proofs::BetterLaws::one_sided, crate::proofs::BetterLaws::not_itself))]
+    pub fn is_better(self, other: RecordLocale, device: DeviceLocale) -> bool
         ensures value { result ≡ is_better_of self other device }
         ensures one_sided { IsTrue result → IsTrue (suits_of self device) → IsTrue (suits_of other device) → IsFalse (is_better_of other self device) }
         ensures not_itself { IsFalse (is_better_of self self device) }
     {
-        let wanted = number_of(device.locale);
+        self.is_better_by_steps(other, device)
+    }
+
+    #[tactic(auto, unfolding(crate::specs::Better::is_better_of))]
+    fn is_better_by_steps(self, other: RecordLocale, device: DeviceLocale) -> bool
+        ensures { result ≡ is_better_of self other device }
+    {
+        let wanted = device.locale;
         if wanted == 0 || (self.says_nothing() && other.says_nothing()) {
             return false;
         }
-        let (here, there) = (number_of(self.locale), number_of(other.locale));
+        let (here, there) = (self.locale, other.locale);
         if !are_alike(language_of(here), language_of(there)) {
             return is_better_language(here, there, wanted);
         }
@@ -41,15 +47,15 @@ impl RecordLocale {
 
     // In one region a variant is worse, since no device has one. Of Tagalog and Filipino one is the device's own.
     #[tactic(auto, unfolding(crate::specs::Better::is_better_in_region))]
-    fn is_better_in_region(self, other: RecordLocale, device: ScriptedLocale) -> bool
+    fn is_better_in_region(self, other: RecordLocale, device: DeviceLocale) -> bool
         ensures { result ≡ is_better_in_region self other device }
     {
-        let wanted = language_of(number_of(device.locale));
+        let wanted = language_of(device.locale);
         if exactly_one(self.has_variant, other.has_variant) {
             return other.has_variant;
         }
-        let is_own = language_of(number_of(self.locale)) == wanted;
-        is_own && language_of(number_of(other.locale)) != wanted
+        let is_own = language_of(self.locale) == wanted;
+        is_own && language_of(other.locale) != wanted
     }
 }
 

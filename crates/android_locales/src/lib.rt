@@ -1,25 +1,30 @@
-//! Which records suit a device by their locales, and which of two is better: as a phone does it. It knows the script of
-//! each language and a tree of regions, and has exceptions for English, for Spanish and for Tagalog.
+//! Locales by either of two rules: by language and region alone, or as a phone compares them. It knows the script of each
+//! language and a tree of regions, and has exceptions for English, for Spanish and for Tagalog. Texts are read by a rule, and
+//! the script of a locale says by which; which records suit a device by the phone's rule, and which of two is better, stands
+//! here too.
 //!
-//! For the crates above: a device's locale is the one that its text gives, with the script in which it is likely written
-//! where the text has none. A record is not better than itself, and of two records that suit a device at most one is
-//! better than the other.
+//! For the crates above: a locale that was read is given by the text that is written of it, by its rule. By the phone's rule a
+//! record is not better than itself, and of two records that suit a device at most one is better than the other.
 //!
 //! ```text
-//! let device = ScriptedLocale::read("es-AR")?;
-//! let record = RecordLocale::read(bytes)?; // es-US
+//! let device = DeviceLocale::of_number(read_locale("es-AR", LocaleRule::Android)?.number());
+//! let record = RecordLocale::of_number(record.compared_number(Coord::Locale));
 //! record.suits(device) // true
 //! record.is_better(spanish, device) // true: es-US counts as es-419 there, which stands between es-AR and es
 //! ```
 #![tactic(auto)]
 
 mod better;
+mod compared;
+mod locale_rule;
 mod nearer;
-mod record_locale;
-mod scripted_locale;
+mod record_script;
 mod suits;
+mod text;
 mod words;
 
-pub use config_record::{Locale, LocaleFault, RecordFault};
-pub use record_locale::RecordLocale;
-pub use scripted_locale::{ScriptedLocale, write_scripted_locale};
+pub use compared::{DeviceLocale, RecordLocale};
+pub use locale_data::{Locale, LocaleFault, is_zero, u32_at, write_hex};
+pub use locale_rule::LocaleRule;
+pub use record_script::kept_script;
+pub use text::{read_locale, write_locale};

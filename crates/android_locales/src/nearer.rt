@@ -3,9 +3,9 @@
 ghost use Rattle.std.specs.Prelude.{◌≡◌, ◌==◌, position};
 ghost use Rattle.android_locales.specs.Nearer.{is_special_spanish, stand_in, stands_in, distance, is_nearer_aside, is_nearer_locale, is_nearer_of};
 
-use crate::scripted_locale::ScriptedLocale;
-use crate::words::{exactly_one, number_of_script};
-use locale_data::{first_of, is_representative, language_of, line, number_of, region_of};
+use crate::compared::DeviceLocale;
+use crate::words::exactly_one;
+use locale_data::{first_of, is_representative, language_of, line, region_of};
 
 // es-US
 const US_SPANISH: u32 = 0x6573_5553;
@@ -18,13 +18,13 @@ const LATIN_AMERICAN: u32 = 0x6573_A424;
 
 /// Whether the first of two regions is nearer to a device than the second (AOSP: `localeDataCompareRegions`).
 #[tactic(auto, unfolding(crate::specs::Nearer::is_nearer_of))]
-pub(crate) fn is_nearer(one: u16, other: u16, device: ScriptedLocale) -> bool
+pub(crate) fn is_nearer(one: u16, other: u16, device: DeviceLocale) -> bool
     ensures { result ≡ is_nearer_of one other device }
 {
-    let wanted = number_of(device.locale);
+    let wanted = device.locale;
     let x = language_of(wanted) + u32::from(one);
     let y = language_of(wanted) + u32::from(other);
-    let script = number_of_script(device.script);
+    let script = device.script;
     is_nearer_locale(
         stand_in(x, y),
         stand_in(y, x),

@@ -3,19 +3,18 @@
 ghost use Rattle.std.specs.Prelude.{◌≡◌};
 ghost use Rattle.android_locales.specs.Suits.{suits_of};
 
-use crate::record_locale::RecordLocale;
-use crate::scripted_locale::ScriptedLocale;
+use crate::compared::{DeviceLocale, RecordLocale};
 use crate::words::are_alike;
-use locale_data::{language_of, number_of, region_of};
+use locale_data::{language_of, region_of};
 
 impl RecordLocale {
     /// Whether it suits a device (AOSP: `ResTable_config::match`): it says nothing, or the language is the device's and so
     /// is the script; where that cannot be told, the region is the device's, or there is none.
     #[tactic(auto, unfolding(crate::specs::Suits::suits_of))]
-    pub fn suits(self, device: ScriptedLocale) -> bool
+    pub fn suits(self, device: DeviceLocale) -> bool
         ensures { result ≡ suits_of self device }
     {
-        let (locale, wanted) = (number_of(self.locale), number_of(device.locale));
+        let (locale, wanted) = (self.locale, device.locale);
         if self.says_nothing() {
             return true;
         }

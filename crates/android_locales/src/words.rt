@@ -1,7 +1,10 @@
 //! The words by which locales are compared, over the numbers of their bytes.
 
 ghost use Rattle.std.specs.Prelude.{◌≡◌};
-ghost use Rattle.android_locales.specs.Words.{number_of_script, script_in, exactly_one, are_alike};
+ghost use Rattle.android_locales.specs.Words.{number_of_script, exactly_one, are_alike};
+
+/// In the place of a device's script, that none is known.
+pub(crate) const UNKNOWN_SCRIPT: u32 = 1;
 
 // tl
 const TAGALOG: u32 = 0x746C_0000;
@@ -9,21 +12,11 @@ const TAGALOG: u32 = 0x746C_0000;
 // fil
 const FILIPINO: u32 = 0xAD05_0000;
 
-/// The number of a script, the first byte the highest; 0 is none.
+/// The number of a script, the first byte the highest.
 pub(crate) fn number_of_script(script: [u8; 4]) -> u32
     ensures { result ≡ number_of_script script }
 {
     u32::from_be_bytes(script)
-}
-
-/// The same where there is one.
-pub(crate) fn script_in(script: [u8; 4]) -> Option<u32>
-    ensures { result ≡ script_in script }
-{
-    match number_of_script(script) {
-        0 => None,
-        number => Some(number),
-    }
 }
 
 /// Whether two languages are one to Android.

@@ -11,7 +11,7 @@ ghost use Rattle.answer_text.specs.CellText.{format_of, string_behind, value_wit
 
 use crate::last_record::LastRecord;
 use crate::named::write_named_id;
-use bags_themes::reference_resolver::{
+use bags_themes::{
     Cell, MapRows, Pool, ResId, Row, Value, kind, write_id, write_string, write_value,
 };
 use std::io::{self, Write};

@@ -5,7 +5,7 @@ ghost use Rattle.contract_words.specs.Writes.{Writes};
 ghost use Rattle.answer_text.specs.ExplainText.{rule_text, decision_text};
 
 use crate::named::write_named_coord;
-use bags_themes::reference_resolver::Decision;
+use bags_themes::Decision;
 use std::io::{self, Write};
 
 /// Writes what a candidate does, and the rule that decided.

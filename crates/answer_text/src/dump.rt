@@ -11,7 +11,7 @@ use crate::cell::{RowFormat, write_row_end};
 use crate::last_record::LastRecord;
 use crate::last_type_name::LastTypeName;
 use crate::line::Line;
-use bags_themes::reference_resolver::{
+use bags_themes::{
     Package, PackageRows, Row, Table, write_hex, write_id, write_string, write_word,
 };
 use std::io::{self, Write};

@@ -9,7 +9,7 @@ use crate::cell::write_value_with_string;
 use crate::layer::write_layer;
 use crate::name::write_name_beside;
 use crate::named::write_named_id;
-use bags_themes::reference_resolver::{End, Pool, Stack, Value};
+use bags_themes::{End, Pool, Stack, Value};
 use std::io::{self, Write};
 
 /// Writes an end: a value with the place of its layer, counted from 0; the id that selected a bag, or

@@ -16,9 +16,7 @@ use crate::end::write_named_end_line;
 use crate::layer::write_layer;
 use crate::name::write_name_beside;
 use crate::named::{write_named_id, write_named_number};
-use bags_themes::reference_resolver::{
-    Cand, Decision, Device, End, Next, REFERENCES_FOLLOWED, ResId, Stack,
-};
+use bags_themes::{Cand, Decision, Device, End, Next, REFERENCES_FOLLOWED, ResId, Stack};
 use std::io::{self, Write};
 
 /// Writes how an id comes to its end at a device: a line for each id that is looked up, behind it one for

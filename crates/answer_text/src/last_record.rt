@@ -7,7 +7,7 @@ ghost use Rattle.bags_themes.specs.config_record.Record.{record_bytes};
 ghost use Rattle.bags_themes.specs.config_record.Qualifiers.{record_text};
 
 use arrayvec::ArrayVec;
-use bags_themes::reference_resolver::Record;
+use bags_themes::Record;
 use std::io::{self, Write};
 
 /// How many bytes of text are kept; a longer text is written anew each time.

@@ -10,7 +10,7 @@ ghost use Rattle.bags_themes.specs.resource_table.Names.{type_name_in};
 ghost use Rattle.answer_text.specs.LastTypeName.{KeepsNameIn};
 
 use arrayvec::ArrayVec;
-use bags_themes::reference_resolver::{Row, Table, write_string};
+use bags_themes::{Row, Table, write_string};
 use std::io::{self, Write};
 
 /// How many bytes of text are kept; a longer text is written anew each time.

@@ -34,14 +34,11 @@ mod on_line;
 mod query;
 mod rows;
 
-pub use bags_themes::reference_resolver::overlay_map::{
-    DeviceFault, IdMap, MOST_LAYERS, MapFault, PoolFault, StackFault, TableFault,
+pub use bags_themes::{
+    BagFault, BagRow, Cell, Device, DeviceFault, End, IdMap, MOST_LAYERS, MapFault, MapRows, Pool,
+    PoolFault, ResId, Row, Stack, StackFault, Table, TableFault, Theme, Value, bag, kind, resolve,
+    write_hex, write_id, write_string, write_value,
 };
-pub use bags_themes::reference_resolver::{
-    Cell, Device, End, MapRows, Pool, ResId, Row, Stack, Table, Value, kind, write_hex, write_id,
-    write_string, write_value,
-};
-pub use bags_themes::{BagFault, BagRow, Theme, bag, resolve};
 pub use dump::dump_text;
 pub use end::{end_text, write_end_line, write_end_with_name, write_end_with_string};
 pub use explanation::explain;

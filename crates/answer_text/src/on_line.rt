@@ -6,7 +6,7 @@ ghost use Rattle.contract_words.specs.Writes.{Writes};
 ghost use Rattle.bags_themes.specs.string_pool.Shown.{unit_escape};
 ghost use Rattle.answer_text.specs.OnLine.{breaks_line, character_on_line, on_line};
 
-use bags_themes::reference_resolver::write_hex;
+use bags_themes::write_hex;
 use bstr::{ByteSlice, Chars};
 use std::io::{self, Write};
 

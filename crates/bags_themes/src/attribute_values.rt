@@ -8,8 +8,7 @@ ghost use Rattle.bags_themes.specs.Theme.{value_of, is_undefined, AppliesRows, a
 use crate::bag_row::BagRow;
 use crate::theme_value::ThemeValue;
 use indexmap::IndexMap;
-use reference_resolver::ResId;
-use reference_resolver::overlay_map::{ContentKeys, Contents};
+use reference_resolver::{ContentKeys, Contents, ResId};
 use std::alloc::{AllocError, Global};
 
 /// The values of attributes.

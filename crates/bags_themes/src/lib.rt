@@ -42,8 +42,12 @@ pub use bag_row::BagRow;
 pub use bag_rows::BagRows;
 pub use bags::{bag, chain};
 pub use course::{Course, CourseStep, attribute_under};
-pub use reference_resolver;
-pub use reference_resolver::{Cand, Device, End, ResId, Stack, Step, resolve};
+pub use reference_resolver::{
+    Cand, Cell, Coord, Decision, Device, DeviceFault, End, IdMap, MOST_LAYERS, MapFault, MapRows,
+    Next, Package, PackageRows, Pool, PoolFault, REFERENCES_FOLLOWED, Record, ResId, Row, Stack,
+    StackFault, Step, Table, TableFault, Value, kind, resolve, same, write_hex, write_id,
+    write_string, write_value, write_word,
+};
 pub use slot::Slot;
 pub use style_course::StyleCourse;
 pub use theme::Theme;

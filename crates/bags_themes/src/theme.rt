@@ -17,8 +17,9 @@ use crate::bags::{bag, merged};
 use crate::parents::FoundBags;
 use crate::slot::{AttributeStep, Slot};
 use indexmap::IndexMap;
-use reference_resolver::overlay_map::Contents;
-use reference_resolver::{Device, End, REFERENCES_FOLLOWED, ResId, Stack, resolve_within};
+use reference_resolver::{
+    Contents, Device, End, REFERENCES_FOLLOWED, ResId, Stack, resolve_within,
+};
 use std::alloc::{AllocError, Global};
 use std::marker::Model;
 

@@ -1,5 +1,5 @@
 -- A comparison of two records that say the same passes at every device.
-use Rattle.std.proofs.Common.{◌≡◌, ◌≢◌, ℕ, refl, ap, sym, ◌∙◌, arith, Bool}
+use Rattle.std.proofs.Common.{true, false, ◌⊎◌, inl, inr, ◌≡◌, ◌≢◌, ℕ, refl, ap, sym, ◌∙◌, arith, Bool}
 use Rattle.std.proofs.lemmas.Bool.{and_parts, eqb-true}
 use Rattle.std.proofs.lemmas.Bool.Decides.{nat_tests}
 use Rattle.std.proofs.lemmas.Int.{ints}
@@ -10,8 +10,9 @@ use Rattle.config_precedence.specs.config_rules.declared.kind.Kind.{Kind}
 use Rattle.config_precedence.specs.config_rules.declared.kind.Kind.TheVariants as kinds
 use Rattle.config_precedence.specs.config_rules.declared.kind.Numbers.{Numbers}
 use Rattle.config_precedence.specs.config_rules.declared.rule.Rule.{Rule}
-use Rattle.config_precedence.specs.config_rules.Comparisons.{given_answer, larger_answer, always_larger_answer, locale_rank, smaller_answer, dimensions_answer, rest_of_both, screen_size_answer, density_answer, keys_answer, navigation_answer}
+use Rattle.config_precedence.specs.config_rules.Comparisons.{given_answer, larger_answer, always_larger_answer, smaller_answer, dimensions_answer, rest_of_both, screen_size_answer, density_answer, keys_answer, navigation_answer}
 use Rattle.config_precedence.specs.config_rules.Kind.{kind_answer}
+use Rattle.config_precedence.proofs.config_rules.LocaleLemmas.{locale_suits-nothing, locale_answer-same}
 use Rattle.config_precedence.specs.config_rules.Rule.{numbers_at, rule_answer}
 use Rattle.box_answers.specs.Changes.{PassesEverywhere}
 
@@ -49,7 +50,7 @@ unfolding kind_answer
 kind-same kinds.Given x d e m k l = given-same x.first d.first
 kind-same kinds.Larger x d e m k l = larger-same x.first d.first
 kind-same kinds.AlwaysLarger x d e m k l = always_larger-same x.first
-kind-same kinds.LocaleRank x d e m k l = always_larger-same (locale_rank x.first)
+kind-same kinds.LocaleRank x d e m k l = locale_answer-same x.first d.first
 kind-same kinds.Dimensions x d e m k l = dimensions-same x d
 kind-same kinds.ScreenSize x d e m k l = screen_size-same x.first d.first
 kind-same kinds.Density x d e m k l = density-same x.first d.first
@@ -74,11 +75,37 @@ numbers-same x y same is holds =
     ap (λ (n : ℕ). record { first = n; second = x.second }) (eqb-true x.first y.first parts.0)
     ∙ ap (λ (n : ℕ). record { first = y.first; second = n }) (eqb-true x.second y.second parts.1)
 
+-- a kind that asks of one record whether it suits
+abbrev pub is_condition : Kind → Bool
+is_condition kinds.Equal = true
+is_condition kinds.AtMost = true
+is_condition kinds.KeysSuit = true
+is_condition kinds.LocaleSuits = true
+is_condition kind = false
+
+pub are_conditions : (kind : Kind) → (kind ≡ kinds.Equal) ⊎ (kind ≡ kinds.AtMost) ⊎ (kind ≡ kinds.KeysSuit) ⊎ (kind ≡ kinds.LocaleSuits) → is_condition kind ≡ true
+are_conditions kind (inl is) = rw is refl
+are_conditions kind (inr (inl is)) = rw is refl
+are_conditions kind (inr (inr (inl is))) = rw is refl
+are_conditions kind (inr (inr (inr is))) = rw is refl
+
+condition-nothing : (kind : Kind) (x y d : Numbers) → is_condition kind ≡ true → x.first ≡ 0 → kind_answer kind x y d ≡ Pass
+unfolding kind_answer
+condition-nothing kinds.Equal x y d is e = rw e refl
+condition-nothing kinds.AtMost x y d is e = rw e refl
+condition-nothing kinds.KeysSuit x y d is e = rw e refl
+condition-nothing kinds.LocaleSuits x y d is e = rw (e, locale_suits-nothing d.first) refl
+condition-nothing kind x y d is e = absurd cc
+
+pub nothing-passes : (rule : Rule) (a b : Coord → ℕ) → is_condition rule.kind ≡ true → (numbers_at rule.coord a).first ≡ 0 → PassesEverywhere rule a b
+unfolding rule_answer
+nothing-passes rule a b is none d = condition-nothing rule.kind (numbers_at rule.coord a) (numbers_at rule.coord b) (numbers_at rule.coord d) is none
+
 -- a condition of a record that says nothing passes, and so does each comparison of a record with itself
 pub kind-nothing : (kind : Kind) (x d : Numbers) → x.first ≡ 0 → kind_answer kind x x d ≡ Pass
 unfolding kind_answer
 kind-nothing kinds.Equal x d e = rw e refl
 kind-nothing kinds.AtMost x d e = rw e refl
 kind-nothing kinds.KeysSuit x d e = rw e refl
-kind-nothing kinds.LocaleSuits x d e = rw e refl
+kind-nothing kinds.LocaleSuits x d e = rw (e, locale_suits-nothing d.first) refl
 kind-nothing kind x d e = kind-same kind x d (λ q. cc) (λ q. cc) (λ q. cc) (λ q. cc)

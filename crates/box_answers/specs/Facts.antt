@@ -1,9 +1,8 @@
 -- Four facts about the rules, by which few numbers of a set are enough to know what all of them say.
-use Rattle.std.specs.Prelude.{◌≡◌, ◌⊎◌, ℕ, ◌<◌, ◌≤◌, ◌==◌, true, List, Contains}
+use Rattle.std.specs.Prelude.{◌≡◌, ℕ, ◌<◌, ◌≤◌, ◌==◌, true, List, Contains}
 use Rattle.config_precedence.specs.config_record.declared.coord.Coord as coord
 use Rattle.config_precedence.specs.config_record.declared.coord.Coord.TheVariants as coords
 use Rattle.config_precedence.specs.config_record.ComparedNumber.{record_number}
-use Rattle.config_precedence.specs.config_record.Record.{is_set_aside}
 use Rattle.config_precedence.specs.config_rules.declared.answer.Answer.TheVariants.{Yes, Pass}
 use Rattle.config_precedence.specs.config_rules.declared.kind.Kind.TheVariants as kinds
 use Rattle.config_precedence.specs.config_rules.declared.rule.Rule.{Rule}
@@ -42,6 +41,6 @@ DimensionsAskWhichAreZero a b =
 abbrev pub OneFails : List SetOf → List Rule → (coord.Coord → ℕ) → (coord.Coord → ℕ) → Type 0
 OneFails sets rules a b = (rule : Rule) × Contains rules rule × IsNowhere sets rule a b Pass
 
--- a record that matches no member of a box is set aside, or one of its conditions fails on the whole box
+-- of a record that matches no member of a box one condition fails on the whole box
 abbrev pub FailsOnOneSide : List SetOf → List ℕ → Type 0
-FailsOnOneSide sets r = (is_set_aside r ≡ true) ⊎ OneFails sets all_conditions (record_number r) (record_number r)
+FailsOnOneSide sets r = OneFails sets all_conditions (record_number r) (record_number r)

@@ -1,8 +1,8 @@
 //! The numbers that a box allows at a coordinate.
 
-ghost use Rattle.std.specs.Prelude.{◌≡◌, ◌<◌, ◌↔◌, ◌==◌, IsTrue, length, slice_index};
+ghost use Rattle.std.specs.Prelude.{◌≡◌, ◌<◌, ◌↔◌, ◌==◌, IsTrue, MatchOption, length, slice_index};
 ghost use Rattle.std.specs.List.{list_any};
-ghost use Rattle.box_answers.specs.NumberSet.{set_of, locale_numbers, IsIn, named_numbers, IsProper, IsLeastIn};
+ghost use Rattle.box_answers.specs.NumberSet.{RangeOf, set_of, locale_numbers, IsIn, named_numbers, IsProper, IsLeastIn};
 ghost use Rattle.box_answers.specs.SearchedSet.{IsGreatestIn};
 
 use config_precedence::Locale;
@@ -21,6 +21,17 @@ pub enum NumberSet {
 }
 
 impl NumberSet {
+    /// The range from the first to the second; none where it would be empty.
+    pub fn range(low: u32, high: u32) -> Option<NumberSet>
+        ensures { MatchOption result (high < low) (λ set. (set_of set ≡ RangeOf low high) × IsProper (set_of set)) }
+    {
+        if low <= high {
+            Some(NumberSet::Range(low, high))
+        } else {
+            None
+        }
+    }
+
     pub fn contains(&self, number: u64) -> bool
         ensures { IsTrue result ↔ IsIn (set_of self.now) number }
     {

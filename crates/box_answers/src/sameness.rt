@@ -39,9 +39,6 @@ pub fn match_all(sets: &[NumberSet], stored: &Record) -> Sameness
     ensures value { IsExact result (sets_of sets.now) (is_match (record_bytes stored.now)) }
     ensures one_side { result ≡ Sameness.Never → FailsOnOneSide (sets_of sets.now) (record_bytes stored.now) }
 {
-    if stored.set_aside() {
-        return Sameness::Never;
-    }
     pass_all(sets, conditions(), stored)
 }
 

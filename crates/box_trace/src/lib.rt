@@ -28,8 +28,7 @@ mod waiting;
 mod walk;
 mod weight;
 
-pub use bags_themes::reference_resolver::MOST_LAYERS;
-pub use bags_themes::{Cand, Device, End, ResId, Stack, attribute_under, resolve};
+pub use bags_themes::{Cand, Device, End, MOST_LAYERS, ResId, Stack, attribute_under, resolve};
 pub use common::CommonTrace;
 pub use config_box::{ConfigBox, Coord, Locale, MemberPair, OutOfMemory, Values};
 pub use live::Live;

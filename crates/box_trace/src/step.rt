@@ -12,8 +12,7 @@ ghost use Rattle.box_trace.specs.CommonStep.{IsCommonStep};
 
 use crate::common::CommonStep;
 use crate::parting::{Asked, Parting};
-use bags_themes::Cand;
-use bags_themes::reference_resolver::same;
+use bags_themes::{Cand, same};
 use config_box::{ConfigBox, MemberPair, Sameness};
 
 /// The best after the next candidate, for all members. Whether the candidate matches is asked first; of

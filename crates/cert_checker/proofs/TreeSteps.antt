@@ -2,7 +2,7 @@
 use Rattle.std.proofs.Common.{◌≡◌, ℕ, ◌+◌, ◌<◌, ◌≤◌, inl, inr, arith, List, [], ◌∷◌, ◌++◌, length, take, get_or, reverse, Option, Some, None, sym, ◌∙◌, ap, refl, subst}
 use Rattle.std.specs.Prelude.{slice_get, map}
 use Rattle.std.specs.Option.{option_map}
-use Rattle.std.proofs.lemmas.List.{take_more, take_all}
+use Rattle.std.proofs.lemmas.List.{take_more, take_all, length-reverse, nil_from_length}
 use Rattle.std.proofs.lemmas.Bool.{cases_lt}
 use Rattle.std.proofs.lemmas.Option.{slice_get_past, slice_get_within, slice_get_read, slice_get-map, get_or_from_slice_get}
 use Rattle.box_trace.specs.reference_resolver.Trace.{Trace}
@@ -98,30 +98,32 @@ none_past trace sets nodes none k rule past f =
     subst (λ (paths : List Path). FailsAt trace sets None paths rule) (open_at-past nodes k past ∙ none)
     (subst (λ (o : Option NodeOf). FailsAt trace sets o (open_at nodes k) rule) (slice_get_past nodes k past) f)
 
-pub whole_tree : (trace : List ℕ → Trace) (sets : List SetOf) (nodes : List NodeOf) (k : ℕ) (boxes : List (List SetOf)) → k ≡ length nodes → boxes ≡ [] → PassedTo trace sets nodes k boxes → NoRuleFails trace sets nodes
+pub whole_tree : (trace : List ℕ → Trace) (sets : List SetOf) (nodes : List NodeOf) (k : ℕ) (boxes : List (List SetOf)) → k ≡ length nodes → length boxes ≡ 0 → PassedTo trace sets nodes k boxes → NoRuleFails trace sets nodes
 whole_tree trace sets nodes k boxes e none p j rule f =
     elim (cases_lt j k) [
       | inl lt ↦ p.passed j rule lt f
       | inr le ↦ none_past trace sets nodes
-          (no_paths sets (open_at nodes (length nodes)) (subst (λ (i : ℕ). Stand sets [] (open_at nodes i)) e (subst (λ (parts : List (List SetOf)). Stand sets parts (open_at nodes k)) (ap reverse none) p.stand)))
+          (no_paths sets (open_at nodes (length nodes)) (subst (λ (i : ℕ). Stand sets [] (open_at nodes i)) e (subst (λ (parts : List (List SetOf)). Stand sets parts (open_at nodes k)) (ap reverse (nil_from_length boxes none)) p.stand)))
           j rule (omega arith) f
     ]
 
 -- a path is open
-early : (trace : List ℕ → Trace) (sets part : List SetOf) (parts : List (List SetOf)) (paths : List Path) → Stand sets (part ∷ parts) paths
+early : (trace : List ℕ → Trace) (sets : List SetOf) (parts : List (List SetOf)) (paths : List Path) → Stand sets parts paths → 0 < length parts
     → FailsAt trace sets None paths EndsEarly × ((other : Rule) → number_of other < 2 → FailsAt trace sets None paths other → ⊥)
-early trace sets part parts [] stand = absurd stand
-early trace sets part parts (path ∷ paths) stand = (refl, none_lower)
+early trace sets [] paths stand some = absurd (omega arith)
+early trace sets (part ∷ parts) [] stand some = absurd stand
+early trace sets (part ∷ parts) (path ∷ paths) stand some = (refl, none_lower)
   where
     none_lower : (other : Rule) → number_of other < 2 → other ≡ EndsEarly → ⊥
     none_lower other p f = let same = ap number_of f in omega arith
 
-pub ends_early : (trace : List ℕ → Trace) (sets part : List SetOf) (nodes : List NodeOf) (k : ℕ) (boxes rest : List (List SetOf)) → k ≡ length nodes → reverse boxes ≡ part ∷ reverse rest → PassedTo trace sets nodes k boxes
+pub ends_early : (trace : List ℕ → Trace) (sets : List SetOf) (nodes : List NodeOf) (k : ℕ) (boxes : List (List SetOf)) → k ≡ length nodes → 0 < length boxes → PassedTo trace sets nodes k boxes
     → IsOutcome trace sets nodes (Some (length nodes, record { rule = EndsEarly; shown = Nothing }))
 unfolding Fails
-ends_early trace sets part nodes k boxes rest e last p =
-    let stand = subst (λ (i : ℕ). Stand sets (part ∷ reverse rest) (open_at nodes i)) e (subst (λ (parts : List (List SetOf)). Stand sets parts (open_at nodes k)) last p.stand) in
-    let h = early trace sets part (reverse rest) (open_at nodes (length nodes)) stand in
+ends_early trace sets nodes k boxes e some p =
+    let stand = subst (λ (i : ℕ). Stand sets (reverse boxes) (open_at nodes i)) e p.stand in
+    let count = length-reverse boxes in
+    let h = early trace sets (reverse boxes) (open_at nodes (length nodes)) stand (omega (arith, count)) in
     let past = slice_get_past nodes (length nodes) (omega arith) in (
       record {
         fails = subst (λ (o : Option NodeOf). FailsAt trace sets o (open_at nodes (length nodes)) EndsEarly) (sym past) h.0;

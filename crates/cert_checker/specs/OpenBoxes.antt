@@ -1,9 +1,13 @@
--- The boxes of open paths, and what one node does to them. (Cited by contracts of this crate alone.)
-use Rattle.std.specs.Prelude.{◌↔◌, ℕ, ◌<◌, List, [], ◌∷◌, Option, Some, None, reverse, IfNone}
+-- The boxes of open paths, and what one node does to them. (Cited by contracts of this crate and of the maker alone.)
+use Rattle.std.specs.Prelude.{◌≡◌, ◌↔◌, ℕ, ◌<◌, List, [], ◌∷◌, Option, Some, None, reverse, IfNone}
+use Rattle.std.specs.List.{All}
 use Rattle.box_trace.specs.config_record.declared.coord.Coord.{Coord}
 use Rattle.box_trace.specs.reference_resolver.declared.end.End.{End}
 use Rattle.box_trace.specs.reference_resolver.declared.end.End.TheVariants as ends
 use Rattle.box_trace.specs.reference_resolver.Trace.{Trace}
+use Rattle.box_trace.specs.overlay_map.Layer.{LayerOf}
+use Rattle.box_trace.specs.declared.open_box.OpenBox.{OpenBox}
+use Rattle.box_trace.specs.OpenBox.{boxes_of, IsReached}
 use Rattle.cert_tree.specs.box_answers.NumberSet.{SetOf}
 use Rattle.cert_tree.specs.box_answers.Members.{set_at, IsMember, IsBox}
 use Rattle.cert_tree.specs.config_box.Marks.{AreMarkedAlike}
@@ -72,6 +76,12 @@ TakesLeaf trace claimed part outcome =
     → IsLowest (FailsAtLeaf trace (IsAt sets path) claimed) (Shows trace sets (IsAt sets path)) outcome
 
 -- ---- a whole tree
+
+-- nothing is asked yet: one box is open, which is the whole one, and its walk is where it begins
+pub record IsWholeBox (stack : List LayerOf) (trace : List ℕ → Trace) (sets : List SetOf) (boxes : List OpenBox) : Type 0 where
+  pub is_box : IsBox sets
+  pub alone : boxes_of boxes ≡ sets ∷ []
+  pub reached : All (IsReached stack trace) boxes
 
 -- no rule fails; or the first node at which one does
 abbrev pub IsOutcome : (List ℕ → Trace) → List SetOf → List NodeOf → Option (ℕ × Failure) → Type 0

@@ -40,4 +40,3 @@ pub use one_device::goal_end;
 pub use open_boxes::OpenBoxes;
 pub use rule::Rule;
 pub use verdict::{Shown, Verdict};
-pub use whole_box::goal_box;

@@ -1,7 +1,8 @@
 //! The list of the boxes of open paths.
 
-use box_trace::OpenBox;
-use cert_tree::OutOfMemory;
+use crate::whole_box::goal_box;
+use box_trace::{OpenBox, Stack};
+use cert_tree::{ConfigBox, Goal, OutOfMemory};
 use smallvec::SmallVec;
 use std::alloc::Global;
 use std::marker::Model;
@@ -28,15 +29,34 @@ impl<'a, 's> Model for OpenBoxes<'a, 's> {
 }
 
 impl<'a, 's> OpenBoxes<'a, 's> {
-    ghost use Rattle.std.specs.Prelude.{◌≡◌, [], ◌∷◌, ◌++◌, length, OnOk, OnErr, IfNone};
+    ghost use Rattle.cert_tree.specs.res_value.Goal.{goal_seen};
+    ghost use Rattle.cert_checker.specs.FirstFault.{goal_trace};
+    ghost use Rattle.cert_checker.specs.OpenBoxes.{IsWholeBox};
+    ghost use Rattle.std.specs.Prelude.{◌≡◌, [], ◌∷◌, ◌++◌, length, IfOk, OnOk, OnErr, IfNone};
     ghost use Rattle.std.specs.Option.{option_to_list};
 
-    pub fn new(alloc: Global) -> OpenBoxes<'a, 's>
-        ensures { result ≡ [] }
+    /// The whole box of a goal, and no other.
+    pub fn of_goal(
+        alloc: Global,
+        stack: &Stack<'a>,
+        goal: &'s Goal,
+        members: &ConfigBox,
+    ) -> Result<OpenBoxes<'a, 's>, OutOfMemory>
+        ensures { IfOk result (IsWholeBox stack.now (goal_trace stack.now (goal_seen goal.now)) members.now) }
     {
-        OpenBoxes {
+        let whole = goal_box(alloc, stack, goal, members.shared(alloc)?)?;
+        OpenBoxes::of(alloc, whole)
+    }
+
+    /// One box, and no other.
+    fn of(alloc: Global, part: OpenBox<'a, 's>) -> Result<OpenBoxes<'a, 's>, OutOfMemory>
+        ensures { IfOk result (λ boxes. boxes ≡ part.entry ∷ []) }
+    {
+        let mut boxes = OpenBoxes {
             places: SmallVec::new(alloc),
-        }
+        };
+        boxes.push(part)?;
+        Ok(boxes)
     }
 
     pub fn len(&self) -> usize

@@ -10,7 +10,7 @@ use cert_tree::{ConfigBox, Goal, OutOfMemory};
 use std::alloc::Global;
 
 /// A whole box, where nothing of a goal is asked yet.
-pub fn goal_box<'a, 's>(
+pub(crate) fn goal_box<'a, 's>(
     alloc: Global,
     stack: &Stack<'a>,
     goal: &'s Goal,

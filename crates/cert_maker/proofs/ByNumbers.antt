@@ -1,12 +1,11 @@
 -- A trace asks a device for its numbers alone.
 use Rattle.std.specs.Option.{option_map}
-use Rattle.std.proofs.Common.{◌≡◌, ℕ, zero, suc, not, List, [], ◌∷◌, Option, Some, None, refl, ◌∙◌, ap}
+use Rattle.std.proofs.Common.{◌≡◌, ℕ, zero, suc, List, [], ◌∷◌, Option, Some, None, refl, ◌∙◌, ap}
 use Rattle.std.proofs.Math.Path.{fun_ext}
-use Rattle.std.specs.Prelude.{◌&&◌, Bool}
+use Rattle.std.specs.Prelude.{Bool}
 use Rattle.std.specs.List.{flat_map}
 use Rattle.cert_checker.specs.config_record.declared.coord.Coord.{Coord}
 use Rattle.cert_checker.specs.config_record.ComparedNumber.{record_number, device_number}
-use Rattle.cert_checker.specs.config_record.Record.{is_set_aside}
 use Rattle.cert_checker.specs.config_rules.Answer.{is_pass, is_yes}
 use Rattle.cert_checker.specs.config_rules.Table.{answer_of_table}
 use Rattle.cert_checker.specs.config_match.Conditions.{all_conditions}
@@ -32,7 +31,7 @@ SameNumbers x y = device_number x ≡ device_number y
 
 matches-same : (r x y : List ℕ) → SameNumbers x y → is_match r x ≡ is_match r y
 unfolding is_match
-matches-same r x y e = ap (λ numbers. not (is_set_aside r) && is_pass (answer_of_table all_conditions (record_number r) (record_number r) numbers)) e
+matches-same r x y e = ap (λ numbers. is_pass (answer_of_table all_conditions (record_number r) (record_number r) numbers)) e
 
 beats-same : (a b : CandOf) (x y : List ℕ) → SameNumbers x y → beats a b x ≡ beats a b y
 unfolding beats is_better

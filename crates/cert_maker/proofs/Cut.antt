@@ -78,10 +78,10 @@ cut-range answer sets x y c m s range right e =
 
 -- ---- a choice: all its numbers with which x answers yes
 
-numbers-count : (x : List ℕ) → length (numbers_of x) ≡ 25
+pub numbers-count : (x : List ℕ) → length (numbers_of x) ≡ 25
 numbers-count x = length-map all_coords (device_number x) ∙ all_coords-count
 
-number-kept : (x : List ℕ) (k : coord.Coord) → device_number (numbers_of x) k ≡ device_number x k
+pub number-kept : (x : List ℕ) (k : coord.Coord) → device_number (numbers_of x) k ≡ device_number x k
 number-kept x k = get_or-map (device_number x) all_coords (place_of k) coords.Mcc 0 (place_of-within k) ∙ ap (device_number x) (coordinate-at_place k)
 
 -- a device that agrees with x but there answers as x does with its number

@@ -10,9 +10,10 @@ use Rattle.cert_checker.proofs.HeadlineSteps.{rules_end}
 use Rattle.cert_checker.specs.overlay_map.Layer.{LayerOf}
 use Rattle.cert_checker.specs.box_answers.NumberSet.{SetOf}
 use Rattle.cert_checker.specs.cert_tree.declared.cert.CertGoal.{CertGoal}
-use Rattle.cert_checker.specs.cert_tree.Certificate.{BagAt, GoalOf, NodeFits, goal_of, node_of, node_count}
+use Rattle.cert_checker.specs.cert_tree.Certificate.{BagAt, GoalOf, goal_of, node_of, node_count}
 use Rattle.cert_checker.specs.res_value.Goal.{GoalSeen, goal_seen}
 use Rattle.cert_checker.specs.FirstFault.{goal_trace, goals_in, IsAccepted}
+use Rattle.cert_maker.specs.FitsBox.{FitsBox}
 use Rattle.cert_maker.specs.Needed.{IsNeeded}
 use Rattle.cert_maker.specs.Made.{AreNeeded, IsCounterexample}
 use Rattle.cert_maker.specs.Growth.{IsCounterexampleOf}
@@ -71,8 +72,8 @@ accepted stack sets asked most spare trees h =
       omega (arith, room),
     )
 
-pub written : (stack : List LayerOf) (sets : List SetOf) (trees : List GoalOf) → All (IsGoodTree stack sets) trees → All (λ (tree : GoalOf). All NodeFits tree.nodes) trees
-written stack sets trees good = All-weaker (IsGoodTree stack sets) (λ (tree : GoalOf). All NodeFits tree.nodes) (λ tree is. is.fits) trees good
+pub written : (stack : List LayerOf) (sets : List SetOf) (trees : List GoalOf) → All (IsGoodTree stack sets) trees → All (λ (tree : GoalOf). All (FitsBox sets) tree.nodes) trees
+written stack sets trees good = All-weaker (IsGoodTree stack sets) (λ (tree : GoalOf). All (FitsBox sets) tree.nodes) (λ tree is. is.fits) trees good
 
 -- ---- the trees have more nodes than the limit
 

@@ -1,9 +1,10 @@
 -- The values of a choice with which the first member of a parting answers yes.
-use Rattle.std.proofs.Common.{◌≡◌, ◌≢◌, ℕ, inl, inr, arith, ◌≤◌, List, length, filter, get_or, Bool, true, false, sym, ◌∙◌, ap, refl, subst}
+use Rattle.std.proofs.Common.{◌≡◌, ◌≢◌, ℕ, inl, inr, arith, ◌≤◌, List, [], ◌∷◌, set, length, filter, get_or, Bool, true, false, sym, ◌∙◌, ap, refl, subst}
 use Rattle.std.specs.Prelude.{◌==◌, ◌&&◌, Contains}
 use Rattle.std.specs.List.{All, list_any}
 use Rattle.std.proofs.lemmas.Bool.{cases_Bool, eq-eqb, eqb-true}
-use Rattle.std.proofs.lemmas.List.{length-map}
+use Rattle.std.proofs.lemmas.List.{get_or-map, length-map}
+use Rattle.std.proofs.lemmas.List.Elements.{All-cons, All-head, All-tail}
 use Rattle.std.proofs.lemmas.List.Folds.{list_any_at}
 use Rattle.std.proofs.lemmas.List.Sums.{length-filter, count_by-le-length}
 use Rattle.std.proofs.lemmas.Map.Views.{any-filter_same}
@@ -12,8 +13,11 @@ use Rattle.cert_checker.specs.config_record.declared.coord.Coord.TheVariants as 
 use Rattle.cert_checker.specs.config_record.locales.declared.locale.Locale.{Locale}
 use Rattle.cert_checker.specs.config_record.ComparedNumber.{device_number}
 use Rattle.cert_checker.specs.config_record.locales.LocaleNumber.{locale_number, locale_of_number}
-use Rattle.cert_checker.specs.config_record.locales.Locale.{IsGiven, IsOfSomeText, locale_text}
-use Rattle.cert_checker.proofs.config_record.locales.LocaleGiven.{TwoBytes, FourBytes, given, numbered}
+use Rattle.cert_checker.specs.config_record.android_locales.declared.locale_rule.LocaleRule.{LocaleRule}
+use Rattle.cert_checker.specs.config_record.android_locales.LocaleRule.{rule_of}
+use Rattle.cert_checker.specs.config_record.android_locales.Text.{IsGiven, IsGivenBy}
+use Rattle.cert_checker.specs.config_record.Coord.{place_of}
+use Rattle.cert_checker.proofs.config_record.ChangedNumber.{by_coord, number_at-set_same, number_at-set_other}
 use Rattle.cert_checker.specs.config_record.Device.{CanHave}
 use Rattle.cert_checker.specs.box_trace.declared.parting.Parting.{Parting}
 use Rattle.cert_checker.specs.box_trace.Parting.{answer_of}
@@ -22,13 +26,15 @@ use Rattle.cert_checker.specs.box_answers.NumberSet.{SetOf, RangeOf, NumbersOf, 
 use Rattle.cert_checker.specs.box_answers.Members.{set_at, IsMember, IsOfKind, IsBox}
 use Rattle.cert_checker.specs.config_box.Tests.{is_listed, is_range, has_wrong_kind}
 use Rattle.cert_checker.specs.config_box.Tests as seen
-use Rattle.cert_checker.specs.cert_tree.Certificate.{ChoiceFits}
+use Rattle.cert_checker.specs.config_box.ByRule.{IsByRule}
+use Rattle.cert_checker.specs.cert_tree.Certificate.{TestAt, ChoiceFits}
 use Rattle.cert_checker.proofs.box_trace.BoxValues.{can-have-locales}
 use Rattle.cert_maker.specs.Needed.{AgreeBut, IsNeededTest}
 use Rattle.cert_checker.proofs.config_box.Filters.{map-filter}
-use Rattle.cert_maker.specs.Listed.{answer_with, answer_in}
+use Rattle.cert_maker.specs.FitsBox.{FitsBox}
+use Rattle.cert_maker.specs.Listed.{numbers_of, answer_with, answer_in}
 use Rattle.cert_maker.proofs.ByNumbers.{parting-by-numbers}
-use Rattle.cert_maker.proofs.Cut.{on-line, ListsYes, cut-choice}
+use Rattle.cert_maker.proofs.Cut.{numbers-count, number-kept, on-line, ListsYes, cut-choice}
 
 -- a changed device answers as x does with its number
 pub changed-answers : (parting : Parting) (x z : List ℕ) (c : coord.Coord) (n : ℕ) → device_number z c ≡ n → AgreeBut c z x → answer_of parting z ≡ answer_with (answer_of parting) x c n
@@ -87,27 +93,49 @@ pub can-locales : (sets : List SetOf) (c : coord.Coord) (locales : List Locale) 
 can-locales sets c locales b e k locale q =
     subst (λ (at : coord.Coord). CanHave at (locale_number (get_or locales k locale))) (at-locale sets c (locale_numbers locales) (b.each c).kind (sym e)) (can-have-locales sets c locales b e k locale q)
 
-pub of-some-text : (locale : Locale) → TwoBytes locale.language → TwoBytes locale.region → FourBytes locale.script → IsGiven (locale_of_number (locale_number locale)) → IsOfSomeText locale
-of-some-text locale language region script is =
-    (locale_text locale, given locale language region script (subst (λ (l : Locale). IsGiven l) (numbered locale language region script) is))
-
-pub numbers-fit : (sets : List SetOf) (c : coord.Coord) (f : ℕ → Bool) (numbers kept : List ℕ) → IsBox sets → NumbersOf numbers ≡ set_at sets c → kept ≡ filter f numbers → ChoiceFits c (seen.NumbersOf kept)
-numbers-fit sets c f numbers kept b e is =
+pub numbers-fit : (sets : List SetOf) (c : coord.Coord) (f : ℕ → Bool) (numbers kept : List ℕ) → IsBox sets → NumbersOf numbers ≡ set_at sets c → kept ≡ filter f numbers → FitsBox sets (TestAt (seen.AmongOf c (seen.NumbersOf kept)))
+numbers-fit sets c f numbers kept b e is rule by =
     let few : length numbers ≤ 512 = subst (λ (s : SetOf). length (named_numbers s) ≤ 512) (sym e) (b.each c).few in
     let count : length kept ≤ length numbers = omega (arith, ap length is, length-filter f numbers, count_by-le-length f numbers) in
     at c (no-numbers c (set_at sets c) numbers (sym e) (b.each c).kind) (omega (arith, few, count))
   where
-    at : (k : coord.Coord) → k ≢ coords.Locale → length kept ≤ 512 → ChoiceFits k (seen.NumbersOf kept)
+    at : (k : coord.Coord) → k ≢ coords.Locale → length kept ≤ 512 → ChoiceFits rule k (seen.NumbersOf kept)
     at coords.Locale other h = absurd (other refl)
     at k other h = h
 
-pub locales-fit : (sets : List SetOf) (c : coord.Coord) (f : Locale → Bool) (locales kept : List Locale) → IsBox sets → LocalesOf (locale_numbers locales) ≡ set_at sets c → kept ≡ filter f locales → All IsOfSomeText kept
-    → ChoiceFits c (seen.LocalesOf kept)
-locales-fit sets c f locales kept b e is texts =
+-- with a locale of the box in its place a member is still one, so that its rule is that of the box
+of-rule : (rule : LocaleRule) (sets : List SetOf) (x : List ℕ) (n : ℕ) → IsMember sets x → IsIn (set_at sets coords.Locale) n → IsByRule rule sets → rule_of (locale_of_number n) ≡ rule
+of-rule rule sets x n member is by =
+    let z = set (numbers_of x) (place_of coords.Locale) n in
+    let here : device_number z coords.Locale ≡ n = number_at-set_same (numbers_of x) coords.Locale n (numbers-count x) in
+    let changed : IsMember sets z = λ k. by_coord k coords.Locale
+    (λ at. subst (λ (c : coord.Coord). IsIn (set_at sets c) (device_number z c)) (sym at) (subst (IsIn (set_at sets coords.Locale)) (sym here) is))
+    (λ other. subst (IsIn (set_at sets k)) (sym (number_at-set_other (numbers_of x) coords.Locale k n other ∙ number-kept x k)) (member k)) in
+    ap (λ (m : ℕ). rule_of (locale_of_number m)) (sym here) ∙ by z changed
+
+all-filter : {X : Type 0} (P : X → Type 0) (f : X → Bool) (xs : List X) → All P xs → All P (filter f xs)
+all-filter P f [] all = all
+all-filter P f (x ∷ xs) all = elim (cases_Bool (f x)) [
+  | inl kept ↦ rw kept (All-cons P x (filter f xs) (All-head P x xs all) (all-filter P f xs (All-tail P x xs all)))
+  | inr left ↦ rw left (all-filter P f xs (All-tail P x xs all))
+]
+
+pub locales-fit : (sets : List SetOf) (x : List ℕ) (c : coord.Coord) (f : Locale → Bool) (locales kept : List Locale) → IsBox sets → IsMember sets x → LocalesOf (locale_numbers locales) ≡ set_at sets c → kept ≡ filter f locales
+    → All (λ locale. locale_of_number (locale_number locale) ≡ locale) kept → FitsBox sets (TestAt (seen.AmongOf c (seen.LocalesOf kept)))
+locales-fit sets x c f locales kept b member e is back rule by =
     let few : length (locale_numbers locales) ≤ 512 = subst (λ (s : SetOf). length (named_numbers s) ≤ 512) (sym e) (b.each c).few in
     let of_numbers = length-map locales locale_number in
     let count : length kept ≤ length locales = omega (arith, ap length is, length-filter f locales, count_by-le-length f locales) in
-    subst (λ (k : coord.Coord). ChoiceFits k (seen.LocalesOf kept)) (sym (at-locale sets c (locale_numbers locales) (b.each c).kind (sym e))) (omega (arith, few, of_numbers, count), texts)
+    let at = at-locale sets c (locale_numbers locales) (b.each c).kind (sym e) in
+    let by_number : Locale → Type 0 = λ locale. IsGivenBy rule (locale_of_number (locale_number locale)) in
+    let each : All by_number locales = λ k locale q.
+    let n = locale_number (get_or locales k locale) in
+    let there : IsIn (set_at sets c) n = subst (λ (s : SetOf). IsIn s n) e (k, omega (arith, of_numbers, q), get_or-map locale_number locales k locale n q) in
+    let here : IsIn (set_at sets coords.Locale) n = subst (λ (k : coord.Coord). IsIn (set_at sets k) n) at there in
+    subst (λ (r : LocaleRule). IsGivenBy r (locale_of_number n)) (of-rule rule sets x n member here by) (can-locales sets c locales b e k locale q) in
+    let passed : All by_number kept = subst (All by_number) (sym is) (all-filter by_number f locales each) in
+    let all : All (IsGivenBy rule) kept = λ k locale q. subst (IsGivenBy rule) (back k locale q) (passed k locale q) in
+    subst (λ (k : coord.Coord). ChoiceFits rule k (seen.LocalesOf kept)) (sym at) (omega (arith, few, of_numbers, count), all)
 
 -- ---- the tests are of the right kind
 

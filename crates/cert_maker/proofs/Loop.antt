@@ -1,15 +1,16 @@
 -- A tree that grows until no path is open, or it is too large.
-use Rattle.std.proofs.Common.{◌≡◌, ℕ, ◌+◌, ◌<◌, arith, List, [], ◌∷◌, ◌++◌, length, length-append, reverse, sym, ◌∙◌, ap, refl, subst}
+use Rattle.std.proofs.Common.{◌≡◌, ℕ, ◌+◌, ◌<◌, arith, List, [], ◌∷◌, ◌++◌, length, length-append, reverse, sym, ap, refl, subst}
 use Rattle.std.specs.List.{All}
 use Rattle.std.proofs.lemmas.List.{length-reverse}
 use Rattle.cert_checker.specs.reference_resolver.Trace.{Trace}
 use Rattle.cert_checker.specs.box_answers.NumberSet.{SetOf}
 use Rattle.cert_checker.specs.box_answers.Members.{IsMember, IsBox}
-use Rattle.cert_checker.specs.cert_tree.Certificate.{NodeOf, NodeFits}
+use Rattle.cert_checker.specs.cert_tree.Certificate.{NodeOf}
 use Rattle.cert_checker.specs.Paths.{Path, after, root}
 use Rattle.cert_checker.specs.Fails.{NoRuleFails}
 use Rattle.cert_checker.specs.OpenBoxes.{Stand}
 use Rattle.cert_checker.proofs.BoxSteps.{whole, popped}
+use Rattle.cert_maker.specs.FitsBox.{FitsBox}
 use Rattle.cert_maker.specs.Walk.{Walk}
 use Rattle.cert_maker.specs.Needed.{IsNeeded, IsNeededAt}
 use Rattle.cert_maker.proofs.Passing.{Passes, walk-passes}
@@ -21,9 +22,6 @@ pub record Going (trace : List ℕ → Trace) (sets : List SetOf) (nodes : List 
   pub paths : List Path
   pub part : Part (IsGood trace sets) nodes root paths
   pub stand : Stand sets boxes paths
-
-pub only-box : (before after : List (List SetOf)) (part sets : List SetOf) → before ≡ [] → after ≡ before ++ part ∷ [] → part ≡ sets → after ≡ sets ∷ []
-only-box before after part sets none pushed same = pushed ∙ ap (λ (boxes : List (List SetOf)). boxes ++ part ∷ []) none ∙ ap (λ (s : List SetOf). s ∷ []) same
 
 pub started : (trace : List ℕ → Trace) (sets : List SetOf) (nodes : List NodeOf) (boxes : List (List SetOf)) → IsBox sets → nodes ≡ [] → boxes ≡ sets ∷ [] → Going trace sets nodes (reverse boxes)
 started trace sets nodes boxes b e f =
@@ -67,8 +65,8 @@ pub done-needed : (trace : List ℕ → Trace) (sets : List SetOf) (nodes : List
 done-needed trace sets nodes boxes e going =
     walk-map (IsGood trace sets) (IsNeededAt trace sets) (λ node path g. g.needed) nodes root (done trace sets nodes boxes e going)
 
-pub done-fits : (trace : List ℕ → Trace) (sets : List SetOf) (nodes : List NodeOf) (boxes : List (List SetOf)) → boxes ≡ [] → Going trace sets nodes (reverse boxes) → All NodeFits nodes
-done-fits trace sets nodes boxes e going = walk-all (IsGood trace sets) NodeFits (λ node path g. g.fits) nodes root (done trace sets nodes boxes e going)
+pub done-fits : (trace : List ℕ → Trace) (sets : List SetOf) (nodes : List NodeOf) (boxes : List (List SetOf)) → boxes ≡ [] → Going trace sets nodes (reverse boxes) → All (FitsBox sets) nodes
+done-fits trace sets nodes boxes e going = walk-all (IsGood trace sets) (FitsBox sets) (λ node path g. g.fits) nodes root (done trace sets nodes boxes e going)
 
 -- with a bare leaf at each open path it is a tree of needed tests
 pub too-large : (trace : List ℕ → Trace) (sets : List SetOf) (nodes : List NodeOf) (boxes : List (List SetOf)) (most : ℕ) → Going trace sets nodes (reverse boxes) → most < length nodes + length boxes

@@ -14,7 +14,7 @@ use Rattle.cert_checker.proofs.box_answers.SomeMember.{some_member}
 use Rattle.cert_checker.specs.config_box.Tests.{TestOf, AtMostOf, AmongOf, coord_of, answers, has_wrong_kind}
 use Rattle.cert_checker.specs.config_box.Halves.{IsHalf}
 use Rattle.cert_checker.specs.box_answers.MemberAnswers.{AllAnswer}
-use Rattle.cert_checker.specs.cert_tree.Certificate.{NodeOf, TestAt, ValueAt, BagAt, NodeFits}
+use Rattle.cert_checker.specs.cert_tree.Certificate.{NodeOf, TestAt, ValueAt, BagAt}
 use Rattle.cert_checker.specs.declared.rule.Rule.{Rule}
 use Rattle.cert_checker.specs.declared.rule.Rule.TheVariants.{TestKind, EmptyHalf}
 use Rattle.cert_checker.specs.Paths.{Path, IsAt, leaf_end}
@@ -23,6 +23,7 @@ use Rattle.cert_checker.specs.OpenBoxes.{IsBoxAt}
 use Rattle.cert_checker.proofs.MarkSteps.{alike-kind, alike-range}
 use Rattle.cert_checker.proofs.LeafSteps.{as_claimed}
 use Rattle.cert_checker.proofs.NodeSteps.{halves}
+use Rattle.cert_maker.specs.FitsBox.{FitsBox}
 use Rattle.cert_maker.specs.Needed.{NoneBetween, IsNeededTest}
 use Rattle.cert_maker.specs.Growth.{Grows}
 use Rattle.cert_checker.proofs.bags_themes.EndLayers.{EndBelow}
@@ -77,7 +78,7 @@ grows-value trace part t layer value old new boxes e shared ends_at low sets pat
     record {
       node = ValueAt layer value;
       added = e;
-      good = record { passes = as_claimed trace t (ends.Value layer value) part refl shared ends_at sets path b; needed = tt; fits = omega (arith, below) };
+      good = record { passes = as_claimed trace t (ends.Value layer value) part refl shared ends_at sets path b; needed = tt; fits = λ rule by. omega (arith, below) };
       stand = stand;
     }
 
@@ -87,7 +88,7 @@ grows-bag trace part t id old new boxes e shared ends_at sets path paths b stand
     record {
       node = BagAt id;
       added = e;
-      good = record { passes = as_claimed trace t (ends.Bag id) part refl shared ends_at sets path b; needed = tt; fits = tt };
+      good = record { passes = as_claimed trace t (ends.Bag id) part refl shared ends_at sets path b; needed = tt; fits = λ rule by. tt };
       stand = stand;
     }
 
@@ -105,13 +106,13 @@ grows-leaf trace part t (BagAt id) old new boxes e shared says low =
 
 pub grows-test : (trace : List ℕ → Trace) (part yes_half no_half : List SetOf) (test : TestOf) (old new : List NodeOf) (before after_it : List (List SetOf)) → new ≡ old ++ TestAt test ∷ []
     → reverse after_it ≡ yes_half ∷ no_half ∷ reverse before → has_wrong_kind part test ≡ false → IsHalf part test true yes_half → IsHalf part test false no_half
-    → IsNeededTest trace part (IsMember part) test → NodeFits (TestAt test) → Grows trace part old new before after_it
+    → IsNeededTest trace part (IsMember part) test → FitsBox part (TestAt test) → Grows trace part old new before after_it
 grows-test trace part yes_half no_half test old new before after_it e f right is isnt s fits sets path paths b stand =
     let taken = halves part yes_half no_half test before after_it right is isnt f trace sets path paths b stand in
     record {
       node = TestAt test;
       added = e;
-      good = record { passes = taken.0; needed = moved trace sets part path test b s; fits = fits };
+      good = record { passes = taken.0; needed = moved trace sets part path test b s; fits = λ rule by. fits rule (λ d is. by d ((b.members d).0 is).0) };
       stand = taken.1;
     }
 

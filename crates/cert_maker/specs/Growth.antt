@@ -10,7 +10,7 @@ use Rattle.cert_checker.specs.box_trace.OpenBox.{boxes_of, IsReached}
 use Rattle.cert_checker.specs.box_answers.NumberSet.{SetOf}
 use Rattle.cert_checker.specs.box_answers.Members.{IsMember}
 use Rattle.cert_checker.specs.config_box.Tests.{TestOf}
-use Rattle.cert_checker.specs.cert_tree.Certificate.{NodeOf, NodeFits, node_of}
+use Rattle.cert_checker.specs.cert_tree.Certificate.{NodeOf, node_of}
 use Rattle.cert_checker.specs.res_value.Goal.{GoalSeen}
 use Rattle.cert_checker.specs.declared.rule.Rule.{Rule}
 use Rattle.cert_checker.specs.Paths.{Path, IsAt, after}
@@ -19,6 +19,7 @@ use Rattle.cert_checker.specs.Fails.{FailsAtTest, FailsAtNode, NoRuleFails}
 use Rattle.cert_checker.specs.FirstFault.{goal_trace}
 use Rattle.cert_checker.specs.OpenBoxes.{IsBoxAt, Stand}
 use Rattle.cert_maker.specs.Needed.{IsNeededAt, IsNeeded}
+use Rattle.cert_maker.specs.FitsBox.{FitsBox}
 use Rattle.cert_maker.specs.declared.tree.Grown.{Grown}
 use Rattle.cert_maker.specs.declared.tree.Grown.TheVariants.{Tree, Counterexample, TooLarge}
 
@@ -26,7 +27,7 @@ use Rattle.cert_maker.specs.declared.tree.Grown.TheVariants.{Tree, Counterexampl
 pub record IsGood (trace : List ℕ → Trace) (sets : List SetOf) (node : NodeOf) (path : Path) : Type 0 where
   pub passes : (rule : Rule) → FailsAtNode trace sets (IsAt sets path) node rule → ⊥
   pub needed : IsNeededAt trace sets node path
-  pub fits : NodeFits node
+  pub fits : FitsBox sets node
 
 -- one good node more, and these boxes stand for the open paths after it
 pub record AddsNode (trace : List ℕ → Trace) (sets : List SetOf) (path : Path) (paths : List Path) (old new : List NodeOf) (boxes : List (List SetOf)) : Type 0 where
@@ -57,7 +58,7 @@ pub record IsCounterexampleOf (trace : List ℕ → Trace) (sets : List SetOf) (
 -- no rule fails in the tree, its tests are needed, it is within the limit, and its nodes within what JSON can say; or a
 -- member ends at no value; or there is a tree of needed tests above the limit
 abbrev pub IsGrown : (List ℕ → Trace) → List SetOf → ℕ → Grown → Type 0
-IsGrown trace sets most (Tree nodes) = NoRuleFails trace sets (map node_of nodes.items) × IsNeeded trace sets (map node_of nodes.items) × (length nodes.items ≤ most) × All NodeFits (map node_of nodes.items)
+IsGrown trace sets most (Tree nodes) = NoRuleFails trace sets (map node_of nodes.items) × IsNeeded trace sets (map node_of nodes.items) × (length nodes.items ≤ most) × All (FitsBox sets) (map node_of nodes.items)
 IsGrown trace sets most (Counterexample device end) = IsCounterexampleOf trace sets (device_numbers device) end
 IsGrown trace sets most TooLarge = (nodes : List NodeOf) × IsNeeded trace sets nodes × (most < length nodes)
 

@@ -6,11 +6,12 @@ use Rattle.cert_checker.specs.reference_resolver.declared.end.End.{End}
 use Rattle.cert_checker.specs.overlay_map.Layer.{LayerOf}
 use Rattle.cert_checker.specs.box_answers.NumberSet.{SetOf}
 use Rattle.cert_checker.specs.box_answers.Members.{IsMember}
-use Rattle.cert_checker.specs.cert_tree.Certificate.{GoalOf, NodeFits, goals_of, node_count}
+use Rattle.cert_checker.specs.cert_tree.Certificate.{GoalOf, goals_of, node_count}
 use Rattle.cert_checker.specs.res_value.Goal.{GoalSeen}
 use Rattle.cert_checker.specs.reference_resolver.Ends.{is_value}
 use Rattle.cert_checker.specs.FirstFault.{goal_trace, goals_in, IsAccepted}
 use Rattle.cert_checker.specs.Headline.{RulesEndAt}
+use Rattle.cert_maker.specs.FitsBox.{FitsBox}
 use Rattle.cert_maker.specs.Needed.{IsNeeded}
 use Rattle.cert_maker.specs.declared.made.Made.{Made}
 use Rattle.cert_maker.specs.declared.made.Made.TheVariants.{Cert, Counter, NodeLimit}
@@ -40,7 +41,7 @@ IsMade stack sets asked most NodeLimit =
 
 -- What each node says is within the limits of the format. So the certificate reads back if it has not too many nodes, and no
 -- goal that is asked has too many styles.
-abbrev pub CanBeWritten : Made → Type 0
-CanBeWritten (Cert certificate) = All (λ tree. All NodeFits tree.nodes) (goals_of certificate)
-CanBeWritten (Counter g device end) = Unit {0}
-CanBeWritten NodeLimit = Unit {0}
+abbrev pub CanBeWritten : List SetOf → Made → Type 0
+CanBeWritten sets (Cert certificate) = All (λ tree. All (FitsBox sets) tree.nodes) (goals_of certificate)
+CanBeWritten sets (Counter g device end) = Unit {0}
+CanBeWritten sets NodeLimit = Unit {0}

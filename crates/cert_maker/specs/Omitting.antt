@@ -46,7 +46,7 @@ pub record IsMadeWithout (stack : List LayerOf) (sets : List SetOf) (asked : Lis
   pub left_out : AreLeftOut stack sets asked omitted
   pub right : IsMade stack sets (without (places_of omitted) asked) most made
   pub least : IsLeast stack sets (without (places_of omitted) asked) most made
-  pub fits : CanBeWritten made
+  pub fits : CanBeWritten sets made
 
 -- The limit is passed at a goal. Of the goals before it those without a value are left out, and the others go beyond the limit
 -- together with it. It may itself have no value at some member.

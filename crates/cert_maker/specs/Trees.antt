@@ -3,9 +3,10 @@ use Rattle.std.specs.Prelude.{◌≡◌, ℕ, ◌+◌, List, ◌∷◌, ◌++◌
 use Rattle.std.specs.List.{All}
 use Rattle.cert_checker.specs.overlay_map.Layer.{LayerOf}
 use Rattle.cert_checker.specs.box_answers.NumberSet.{SetOf}
-use Rattle.cert_checker.specs.cert_tree.Certificate.{GoalOf, NodeFits, goal_of, node_count}
+use Rattle.cert_checker.specs.cert_tree.Certificate.{GoalOf, goal_of, node_count}
 use Rattle.cert_checker.specs.res_value.Goal.{GoalSeen}
 use Rattle.cert_checker.specs.FirstFault.{goal_trace, goals_in, NoRuleFailsIn}
+use Rattle.cert_maker.specs.FitsBox.{FitsBox}
 use Rattle.cert_maker.specs.Needed.{IsNeeded}
 use Rattle.cert_maker.specs.declared.made.Made.{Made}
 use Rattle.cert_maker.specs.declared.trees.Trees.{Trees}
@@ -15,7 +16,7 @@ use Rattle.cert_maker.specs.Made.{IsMade, CanBeWritten}
 pub record IsGoodTree (stack : List LayerOf) (sets : List SetOf) (tree : GoalOf) : Type 0 where
   pub passes : NoRuleFailsIn stack sets tree
   pub needed : IsNeeded (goal_trace stack tree.goal) sets tree.nodes
-  pub fits : All NodeFits tree.nodes
+  pub fits : All (FitsBox sets) tree.nodes
 
 -- The goals but these have their trees. With one node for each of these there are so many nodes to spare.
 pub record AreDone (stack : List LayerOf) (sets : List SetOf) (asked left : List GoalSeen) (most : ℕ) (trees : List GoalOf) (spare : ℕ) : Type 0 where
@@ -33,4 +34,4 @@ TakesGoal stack sets goal old new None =
     (asked left : List GoalSeen) (most : ℕ) → AreGrown stack sets asked (goal ∷ left) most old → AreGrown stack sets asked left most new
 TakesGoal stack sets goal old new (Some made) =
     (asked left : List GoalSeen) (most : ℕ) → AreGrown stack sets asked (goal ∷ left) most old
-    → IsMade stack sets asked most made × CanBeWritten made
+    → IsMade stack sets asked most made × CanBeWritten sets made

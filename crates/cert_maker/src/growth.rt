@@ -8,7 +8,8 @@ ghost use Rattle.cert_checker.specs.reference_resolver.Trace.{Trace};
 ghost use Rattle.cert_checker.specs.box_answers.Members.{IsMember};
 ghost use Rattle.cert_checker.specs.box_trace.OpenBox.{boxes_of, IsReached};
 ghost use Rattle.cert_checker.specs.config_box.Tests.{test_of};
-ghost use Rattle.cert_checker.specs.cert_tree.Certificate.{TestAt, NodeFits, node_of};
+ghost use Rattle.cert_checker.specs.cert_tree.Certificate.{TestAt, node_of};
+ghost use Rattle.cert_maker.specs.FitsBox.{FitsBox};
 ghost use Rattle.cert_checker.specs.Paths.{leaf_end};
 ghost use Rattle.cert_maker.specs.Needed.{IsNeededTest};
 ghost use Rattle.cert_maker.specs.Growth.{Grows, GrowsOn, IsCounterexampleOf, CanBeAsked};
@@ -62,7 +63,7 @@ fn add_test<'a, 's>(
     open_boxes: &mut OpenBoxes<'a, 's>,
 ) -> Result<(), OutOfMemory>
     requires asked { CanBeAsked whole.now.members (test_of test) }
-    requires fits { NodeFits (TestAt (test_of test)) }
+    requires fits { FitsBox whole.now.members (TestAt (test_of test)) }
     ensures grows { IfOk result (λ _. (trace : List ℕ → Trace) → IsNeededTest trace whole.now.members (IsMember whole.now.members) (test_of test) → Grows trace whole.now.members (map node_of nodes.old.items) (map node_of nodes.new.items) (boxes_of open_boxes.old) (boxes_of open_boxes.new)) }
     ensures reached { IfOk result (λ _. (stack : List LayerOf) (trace : List ℕ → Trace) → IsReached stack trace whole.now → All (IsReached stack trace) open_boxes.old → All (IsReached stack trace) open_boxes.new) }
     ensures one_more { IfOk result (λ _. length nodes.new.items ≡ length nodes.old.items + 1) }

@@ -31,7 +31,7 @@ mod trees;
 
 pub use cert_checker::{
     Cert, CommonTrace, ConfigBox, Goal, OpenBox, OutOfMemory, Parting, Progress, ResId, Rule,
-    Shown, Split, Stack, Test, Unwatched, Verdict, check,
+    Shown, Split, Stack, Test, Unwatched, Verdict,
 };
 pub use laws::{least_tree, trace_equality};
 pub use made::Made;

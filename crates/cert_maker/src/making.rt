@@ -22,7 +22,7 @@ pub fn make(
 ) -> Result<Made, OutOfMemory>
     ensures made { IfOk result (IsMade stack.now members.now (map goal_seen asked.now) max_nodes) }
     ensures least { IfOk result (IsLeast stack.now members.now (map goal_seen asked.now) max_nodes) }
-    ensures fits { IfOk result CanBeWritten }
+    ensures fits { IfOk result (CanBeWritten members.now) }
 {
     make_watched(alloc, stack, members, asked, max_nodes, &mut Unwatched)
 }
@@ -38,7 +38,7 @@ pub fn make_watched<P: Progress>(
 ) -> Result<Made, OutOfMemory>
     ensures made { IfOk result (IsMade stack.now members.now (map goal_seen asked.now) max_nodes) }
     ensures least { IfOk result (IsLeast stack.now members.now (map goal_seen asked.now) max_nodes) }
-    ensures fits { IfOk result CanBeWritten }
+    ensures fits { IfOk result (CanBeWritten members.now) }
 {
     // The tree of each goal has one node at least.
     let Some(spare) = (max_nodes as usize).checked_sub(asked.len()) else {

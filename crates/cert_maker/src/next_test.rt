@@ -1,7 +1,7 @@
 //! The test that parts members where they part.
 
 ghost use Rattle.std.specs.Prelude.{◌≡◌, ℕ, ◌<◌, All, List, length, filter, slice_index, IfOk};
-ghost use Rattle.cert_checker.specs.config_record.locales.Locale.{IsGiven, IsOfSomeText};
+ghost use Rattle.cert_checker.specs.config_record.android_locales.Text.{IsGiven};
 ghost use Rattle.cert_checker.specs.config_record.locales.LocaleNumber.{locale_number, locale_of_number};
 ghost use Rattle.cert_checker.specs.config_record.Device.{CanHave};
 ghost use Rattle.cert_checker.specs.config_record.DeviceSeen.{device_numbers};
@@ -9,7 +9,8 @@ ghost use Rattle.cert_checker.specs.box_answers.Members.{IsMember};
 ghost use Rattle.cert_checker.specs.box_answers.Sameness.{Separates};
 ghost use Rattle.cert_checker.specs.box_trace.Parting.{answer_of};
 ghost use Rattle.cert_checker.specs.config_box.Tests.{test_of};
-ghost use Rattle.cert_checker.specs.cert_tree.Certificate.{TestAt, NodeFits};
+ghost use Rattle.cert_checker.specs.cert_tree.Certificate.{TestAt};
+ghost use Rattle.cert_maker.specs.FitsBox.{FitsBox};
 ghost use Rattle.cert_maker.specs.Needed.{IsNeededTest};
 ghost use Rattle.cert_maker.specs.Listed.{answer_with, answer_in};
 
@@ -25,7 +26,7 @@ pub fn parting_test(
 ) -> Result<Test, OutOfMemory>
     requires { Separates members.now (answer_of parting.now) (device_numbers parting.now.pair.yes) (device_numbers parting.now.pair.no) parting.now.pair.coord }
     ensures needed { IfOk result (λ test. IsNeededTest (answer_of parting.now) members.now (IsMember members.now) (test_of test)) }
-    ensures fits { IfOk result (λ test. NodeFits (TestAt (test_of test))) }
+    ensures fits { IfOk result (λ test. FitsBox members.now (TestAt (test_of test))) }
 {
     let coord = parting.pair.coord;
     match members.values(coord) {
@@ -72,7 +73,7 @@ fn listed_locales(
 ) -> Result<Vec<Locale>, OutOfMemory>
     requires { All (λ locale. IsGiven (locale_of_number (locale_number locale))) locales.now }
     ensures listed { IfOk result (λ listed. listed.items ≡ filter (answer_in (answer_of parting.now) (device_numbers parting.now.pair.yes)) locales.now) }
-    ensures of_text { IfOk result (λ listed. All IsOfSomeText listed.items) }
+    ensures back { IfOk result (λ listed. All (λ locale. locale_of_number (locale_number locale) ≡ locale) listed.items) }
 {
     let mut listed = Vec::new(alloc);
     for locale in locales {
@@ -95,7 +96,7 @@ fn answers_yes(parting: &Parting<'_>, at: Coord, number: u64) -> bool
 fn answers_yes_in(parting: &Parting<'_>, locale: Locale) -> bool
     requires { IsGiven (locale_of_number (locale_number locale)) }
     ensures value { result ≡ answer_in (answer_of parting.now) (device_numbers parting.now.pair.yes) locale }
-    ensures of_text { IsOfSomeText locale }
+    ensures back { locale_of_number (locale_number locale) ≡ locale }
 {
     answers_yes(parting, Coord::Locale, locale.number())
 }

@@ -1,12 +1,14 @@
 //! The tree of one goal.
 
-ghost use Rattle.std.specs.Prelude.{IfOk};
-ghost use Rattle.cert_checker.specs.res_value.Goal.{goal_seen};
+ghost use Rattle.std.specs.Prelude.{List, IfOk};
+ghost use Rattle.cert_checker.specs.box_answers.NumberSet.{SetOf};
+ghost use Rattle.cert_checker.specs.res_value.Goal.{GoalSeen, goal_seen};
 ghost use Rattle.cert_checker.specs.FirstFault.{goal_trace};
+ghost use Rattle.cert_checker.specs.OpenBoxes.{IsWholeBox};
 ghost use Rattle.cert_maker.specs.Growth.{IsGrown};
 
 use crate::growth::add_node;
-use cert_checker::{ConfigBox, Device, End, Goal, Node, OpenBoxes, OutOfMemory, Stack, goal_box};
+use cert_checker::{ConfigBox, Device, End, Goal, Node, OpenBoxes, OutOfMemory, Stack};
 use std::alloc::Global;
 
 /// What became of a tree.
@@ -21,8 +23,7 @@ pub(crate) enum Grown {
 }
 
 /// The tree of a goal for a box, of at most so many nodes. The boxes of open paths are kept in a list, the next one
-/// last. Each of them needs at least one node, so a tree is given up where its nodes and the open boxes together
-/// exceed the limit.
+/// last.
 pub(crate) fn grow_tree(
     alloc: Global,
     stack: &Stack<'_>,
@@ -32,12 +33,25 @@ pub(crate) fn grow_tree(
 ) -> Result<Grown, OutOfMemory>
     ensures { IfOk result (IsGrown (goal_trace stack.now (goal_seen goal.now)) members.now most) }
 {
+    let mut open_boxes = OpenBoxes::of_goal(alloc, stack, goal, members)?;
+    let grown = grow_nodes(alloc, stack, most, &mut open_boxes);
+    drop(open_boxes);
+    grown
+}
+
+// The same from a whole box on. Each open box needs at least one node, so a tree is given up where its nodes and the open
+// boxes together exceed the limit.
+fn grow_nodes<'a, 's>(
+    alloc: Global,
+    stack: &Stack<'a>,
+    most: usize,
+    open_boxes: &mut OpenBoxes<'a, 's>,
+) -> Result<Grown, OutOfMemory>
+    ensures { IfOk result (λ grown. (goal : GoalSeen) (sets : List SetOf) → IsWholeBox stack.now (goal_trace stack.now goal) sets open_boxes.old → IsGrown (goal_trace stack.now goal) sets most grown) }
+{
     let mut nodes = Vec::new(alloc);
-    let whole = goal_box(alloc, stack, goal, members.shared(alloc)?)?;
-    let mut open_boxes = OpenBoxes::new(alloc);
-    open_boxes.push(whole)?;
     'boxes: while let Some(mut part) = open_boxes.pop() {
-        let found = add_node(alloc, stack, &mut part, &mut nodes, &mut open_boxes);
+        let found = add_node(alloc, stack, &mut part, &mut nodes, open_boxes);
         drop(part);
         if let Some((device, end)) = found? {
             return Ok(Grown::Counterexample(device, end));

@@ -22,8 +22,8 @@ use Rattle.config_box.specs.config_record.declared.coord.Coord.TheVariants as co
 use Rattle.config_box.specs.config_record.locales.declared.locale.Locale.{Locale}
 use Rattle.config_box.specs.config_record.locales.declared.locale.LocaleFault.{LocaleFault}
 use Rattle.config_box.specs.config_record.Coord.{all_coords, name_of}
-use Rattle.config_box.specs.config_record.locales.Locale.{IsOfSomeText, locale_of, locale_text}
-use Rattle.config_box.proofs.config_record.locales.LocaleLemmas.{locale_of-gives}
+use Rattle.config_box.specs.config_record.android_locales.declared.locale_rule.LocaleRule.{LocaleRule}
+use Rattle.config_box.specs.config_record.android_locales.Text.{locale_by, locale_text, IsGivenBy}
 use Rattle.res_value.specs.declared.res_id.ResId.{ResId}
 use Rattle.res_value.specs.declared.value.Value.{Value}
 use Rattle.res_value.specs.ResId.{id_of, id_text}
@@ -33,7 +33,7 @@ use Rattle.config_box.specs.Tests.{ChoiceOf, NumbersOf, LocalesOf, AtMostOf, Amo
 use Rattle.cert_tree.specs.Certificate.{NodeOf, TestAt, ValueAt, BagAt, GoalOf, ChoiceFits, NodeFits, GoalFits, CertFits, node_count, most_nodes, most_listed, last_layer}
 use Rattle.res_value.specs.Goal.{GoalSeen, IdGoal, AttrGoal, most_styles}
 use Rattle.cert_tree.specs.ReadOn.{read_on}
-use Rattle.cert_tree.specs.CertJson.{last_word, last_kind, number_within, number_at, id_at, list_at, coord_named, coord_at, number_item, locale_item, choice_in, at_most_in, among_in, value_in, bag_in, node_in, node_after, id_goal_in, id_item, attr_goal_in, asked_in, goal_in, goal_after, is_version, goal_list, goals_in_value, cert_in}
+use Rattle.cert_tree.specs.CertJson.{last_word, last_kind, number_within, number_at, id_at, list_at, coord_named, coord_at, number_item, locale_item, choice_in, at_most_in, among_in, value_in, bag_in, node_in, node_after, id_goal_in, id_item, attr_goal_in, asked_in, goal_in, goal_after, is_version, goal_list, goals_in_value, cert_in_by}
 use Rattle.cert_tree.specs.WrittenJson.{number_data, id_data, locale_data, list_data, choice_items, node_data, asked_data, goal_data, is_id_goal, version_of, cert_data}
 use Rattle.cert_tree.specs.ReadsBack.{NumberReadsBack, IdReadsBack, ChoiceReadsBack, NodeReadsBack, CanBeRead, GoalReadsBack}
 use Rattle.cert_tree.proofs.ReadOnSteps.{read_on-ok, read_on-none}
@@ -65,10 +65,9 @@ id_item-back id back shape = rw back refl
 locale-read : (shape : CertFault) (r : Result Locale LocaleFault) (locale : Locale) → r ≡ Ok locale → ok_or (result_ok r) shape ≡ Ok locale
 locale-read shape r locale given = rw given refl
 
-locale-back : (locale : Locale) → IsOfSomeText locale → (shape : CertFault) → locale_item shape (locale_data locale) ≡ Ok locale
+locale-back : (rule : LocaleRule) (locale : Locale) → IsGivenBy rule locale → (shape : CertFault) → locale_item rule shape (locale_data locale) ≡ Ok locale
 unfolding locale_item
-locale-back locale given shape =
-    locale-read shape (locale_of (locale_text locale)) locale (ap locale_of (locale_of-gives given.0 locale given.1).printed ∙ given.1)
+locale-back rule locale given shape = locale-read shape (locale_by rule (locale_text locale)) locale given
 
 coord-back : (c : coord.Coord) → coord_named (name_of c) ≡ Some c
 unfolding coord_named all_coords name_of
@@ -103,54 +102,54 @@ coord-back coords.Minor = refl
 numbers-read : (numbers : List ℕ) → All NumberReadsBack numbers → (shape : CertFault) → each (number_item shape) (map number_data numbers) ≡ Ok numbers
 numbers-read numbers back shape = each-back (number_item shape) number_data numbers (λ k d on. back k d on shape)
 
-locales-read : (locales : List Locale) → All IsOfSomeText locales → (shape : CertFault) → each (locale_item shape) (map locale_data locales) ≡ Ok locales
-locales-read locales given shape = each-back (locale_item shape) locale_data locales (λ k d on. locale-back (get_or locales k d) (given k d on) shape)
+locales-read : (rule : LocaleRule) (locales : List Locale) → All (IsGivenBy rule) locales → (shape : CertFault) → each (locale_item rule shape) (map locale_data locales) ≡ Ok locales
+locales-read rule locales given shape = each-back (locale_item rule shape) locale_data locales (λ k d on. locale-back rule (get_or locales k d) (given k d on) shape)
 
 pub numbers-back : (numbers : List ℕ) → All NumberReadsBack numbers → ChoiceReadsBack (NumbersOf numbers)
 unfolding choice_in
-numbers-back numbers back coords.Locale fits shape = absurd fits
-numbers-back numbers back c fits shape = ap (λ (r : Result (List ℕ) CertFault). r >>= λ ns. Ok (NumbersOf ns)) (numbers-read numbers back shape)
+numbers-back numbers back rule coords.Locale fits shape = absurd fits
+numbers-back numbers back rule c fits shape = ap (λ (r : Result (List ℕ) CertFault). r >>= λ ns. Ok (NumbersOf ns)) (numbers-read numbers back shape)
 
 pub locales-back : (locales : List Locale) → ChoiceReadsBack (LocalesOf locales)
 unfolding choice_in
-locales-back locales coords.Locale fits shape = ap (λ (r : Result (List Locale) CertFault). r >>= λ ls. Ok (LocalesOf ls)) (locales-read locales fits.1 shape)
-locales-back locales c fits shape = absurd fits
+locales-back locales rule coords.Locale fits shape = ap (λ (r : Result (List Locale) CertFault). r >>= λ ls. Ok (LocalesOf ls)) (locales-read rule locales fits.1 shape)
+locales-back locales rule c fits shape = absurd fits
 
-few-listed : (c : coord.Coord) (choice : ChoiceOf) → ChoiceFits c choice → length (choice_items choice) ≤ most_listed
-few-listed coords.Locale (NumbersOf numbers) fits = absurd fits
-few-listed coords.Locale (LocalesOf locales) fits = simp length-map fits.0
-few-listed c (NumbersOf numbers) fits = simp length-map fits
-few-listed c (LocalesOf locales) fits = absurd fits
+few-listed : (rule : LocaleRule) (c : coord.Coord) (choice : ChoiceOf) → ChoiceFits rule c choice → length (choice_items choice) ≤ most_listed
+few-listed rule coords.Locale (NumbersOf numbers) fits = absurd fits
+few-listed rule coords.Locale (LocalesOf locales) fits = simp length-map fits.0
+few-listed rule c (NumbersOf numbers) fits = simp length-map fits
+few-listed rule c (LocalesOf locales) fits = absurd fits
 
 -- ---- nodes
 
 pub at_most-back : (c : coord.Coord) (most : ℕ) → most ≤ last_word → NodeReadsBack (TestAt (AtMostOf c most))
 unfolding node_in at_most_in coord_at number_at number_within has_only are_among is_among
-at_most-back c most le fits shape = rw (coord-back c, le-leb most last_word le) refl
+at_most-back c most le rule fits shape = rw (coord-back c, le-leb most last_word le) refl
 
 pub among-back : (c : coord.Coord) (choice : ChoiceOf) → ChoiceReadsBack choice → NodeReadsBack (TestAt (AmongOf c choice))
 unfolding node_in among_in coord_at list_at has_only are_among is_among
-among-back c choice back fits shape =
-    rw (coord-back c, list_items-items_of (choice_items choice), le-ltb most_listed (length (choice_items choice)) (few-listed c choice fits))
-    (ap (λ (r : Result ChoiceOf CertFault). r >>= λ ch. Ok (TestAt (AmongOf c ch))) (back c fits shape))
+among-back c choice back rule fits shape =
+    rw (coord-back c, list_items-items_of (choice_items choice), le-ltb most_listed (length (choice_items choice)) (few-listed rule c choice fits))
+    (ap (λ (r : Result ChoiceOf CertFault). r >>= λ ch. Ok (TestAt (AmongOf c ch))) (back rule c fits shape))
 
 pub value-back : (layer : ℕ) (value : Value) → value.kind ≤ last_kind → value.word ≤ last_word → NodeReadsBack (ValueAt layer value)
 unfolding node_in value_in number_at number_within has_only are_among is_among
-value-back layer value kind word fits shape = rw (le-leb layer last_layer fits, le-leb value.kind last_kind kind, le-leb value.word last_word word) refl
+value-back layer value kind word rule fits shape = rw (le-leb layer last_layer fits, le-leb value.kind last_kind kind, le-leb value.word last_word word) refl
 
 pub bag-back : (id : ResId) → id_of (id_text id.0) ≡ Some id → NodeReadsBack (BagAt id)
 unfolding node_in bag_in id_at has_only are_among is_among
-bag-back id back fits shape = rw back refl
+bag-back id back rule fits shape = rw back refl
 
-nodes-read : (goal : ℕ) (before nodes : List NodeOf) → All NodeReadsBack nodes → All NodeFits nodes → read_on (node_after goal) before (map node_data nodes) ≡ Ok (before ++ nodes)
-nodes-read goal before [] back fits =
+nodes-read : (rule : LocaleRule) (goal : ℕ) (before nodes : List NodeOf) → All NodeReadsBack nodes → All (NodeFits rule) nodes → read_on (node_after rule goal) before (map node_data nodes) ≡ Ok (before ++ nodes)
+nodes-read rule goal before [] back fits =
     let wrapped : List NodeOf → Result (List NodeOf) CertFault = λ t. Ok t in
-    read_on-none (node_after goal) before ∙ ap wrapped (sym (append-nil before))
-nodes-read goal before (node ∷ nodes) back fits =
+    read_on-none (node_after rule goal) before ∙ ap wrapped (sym (append-nil before))
+nodes-read rule goal before (node ∷ nodes) back fits =
     let wrapped : List NodeOf → Result (List NodeOf) CertFault = λ t. Ok t in
-    read_on-ok (node_after goal) before (node_data node) (map node_data nodes) node
-    (All-head NodeReadsBack node nodes back (All-head NodeFits node nodes fits) (Shape goal (length before)))
-    ∙ nodes-read goal (before ++ node ∷ []) nodes (All-tail NodeReadsBack node nodes back) (All-tail NodeFits node nodes fits)
+    read_on-ok (node_after rule goal) before (node_data node) (map node_data nodes) node
+    (All-head NodeReadsBack node nodes back rule (All-head (NodeFits rule) node nodes fits) (Shape goal (length before)))
+    ∙ nodes-read rule goal (before ++ node ∷ []) nodes (All-tail NodeReadsBack node nodes back) (All-tail (NodeFits rule) node nodes fits)
     ∙ ap wrapped (append_assoc before (node ∷ []) nodes)
 
 -- ---- goals
@@ -160,15 +159,15 @@ ids-read ids back shape = each-back (id_item shape) id_data ids (λ k d on. id_i
 
 pub id_goal-back : (id : ResId) (nodes : List NodeOf) → IdReadsBack id → All NodeReadsBack nodes → GoalReadsBack (record { goal = IdGoal id; nodes = nodes })
 unfolding goal_in asked_in id_goal_in id_at list_at has_only are_among is_among
-id_goal-back id nodes same back styles fits attributes can place nodes_before few =
+id_goal-back id nodes same back rule styles fits attributes can place nodes_before few =
     let count : length (map node_data nodes) ≡ length nodes = length-map nodes node_data in
     rw (same, list_items-items_of (map node_data nodes), le-ltb most_nodes (nodes_before + length (map node_data nodes)) (omega arith))
-    (ap (λ (r : Result (List NodeOf) CertFault). r >>= λ ns. Ok (record { goal = IdGoal id; nodes = ns })) (nodes-read place [] nodes back fits))
+    (ap (λ (r : Result (List NodeOf) CertFault). r >>= λ ns. Ok (record { goal = IdGoal id; nodes = ns })) (nodes-read rule place [] nodes back fits))
 
 pub attr_goal-back : (attr : ResId) (styles : List ResId) (nodes : List NodeOf) → IdReadsBack attr → All IdReadsBack styles → All NodeReadsBack nodes
     → GoalReadsBack (record { goal = AttrGoal attr styles; nodes = nodes })
 unfolding goal_in asked_in attr_goal_in id_at list_at has_only are_among is_among
-attr_goal-back attr styles nodes same ids back few_styles fits attributes can place nodes_before few =
+attr_goal-back attr styles nodes same ids back rule few_styles fits attributes can place nodes_before few =
     let count : length (map node_data nodes) ≡ length nodes = length-map nodes node_data in
     let style_count : length (map id_data styles) ≡ length styles = length-map styles id_data in
     rw (
@@ -180,21 +179,21 @@ attr_goal-back attr styles nodes same ids back few_styles fits attributes can pl
       list_items-items_of (map node_data nodes),
       le-ltb most_nodes (nodes_before + length (map node_data nodes)) (omega arith),
     )
-    (ap (λ (r : Result (List NodeOf) CertFault). r >>= λ ns. Ok (record { goal = AttrGoal attr styles; nodes = ns })) (nodes-read place [] nodes back fits))
+    (ap (λ (r : Result (List NodeOf) CertFault). r >>= λ ns. Ok (record { goal = AttrGoal attr styles; nodes = ns })) (nodes-read rule place [] nodes back fits))
 
-goals-read : (attributes : Bool) (before goals : List GoalOf) → All GoalReadsBack goals → All (λ g. GoalFits g.goal) goals → All (λ g. All NodeFits g.nodes) goals
+goals-read : (rule : LocaleRule) (attributes : Bool) (before goals : List GoalOf) → All GoalReadsBack goals → All (λ g. GoalFits g.goal) goals → All (λ g. All (NodeFits rule) g.nodes) goals
     → All (λ g. CanBeRead attributes g.goal) goals → node_count before + node_count goals ≤ most_nodes
-    → read_on (goal_after attributes) before (map goal_data goals) ≡ Ok (before ++ goals)
-goals-read attributes before [] back styles fits can few =
+    → read_on (goal_after rule attributes) before (map goal_data goals) ≡ Ok (before ++ goals)
+goals-read rule attributes before [] back styles fits can few =
     let wrapped : List GoalOf → Result (List GoalOf) CertFault = λ t. Ok t in
-    read_on-none (goal_after attributes) before ∙ ap wrapped (sym (append-nil before))
-goals-read attributes before (g ∷ goals) back styles fits can few =
+    read_on-none (goal_after rule attributes) before ∙ ap wrapped (sym (append-nil before))
+goals-read rule attributes before (g ∷ goals) back styles fits can few =
     let wrapped : List GoalOf → Result (List GoalOf) CertFault = λ t. Ok t in
     let pushed : node_count (before ++ g ∷ []) ≡ node_count before + length g.nodes = count-push before g in
-    read_on-ok (goal_after attributes) before (goal_data g) (map goal_data goals) g
-    (All-head GoalReadsBack g goals back (All-head (λ h. GoalFits h.goal) g goals styles) (All-head (λ h. All NodeFits h.nodes) g goals fits)
+    read_on-ok (goal_after rule attributes) before (goal_data g) (map goal_data goals) g
+    (All-head GoalReadsBack g goals back rule (All-head (λ h. GoalFits h.goal) g goals styles) (All-head (λ h. All (NodeFits rule) h.nodes) g goals fits)
     attributes (All-head (λ h. CanBeRead attributes h.goal) g goals can) (length before) (node_count before) (omega arith))
-    ∙ goals-read attributes (before ++ g ∷ []) goals (All-tail GoalReadsBack g goals back) (All-tail (λ h. GoalFits h.goal) g goals styles) (All-tail (λ h. All NodeFits h.nodes) g goals fits)
+    ∙ goals-read rule attributes (before ++ g ∷ []) goals (All-tail GoalReadsBack g goals back) (All-tail (λ h. GoalFits h.goal) g goals styles) (All-tail (λ h. All (NodeFits rule) h.nodes) g goals fits)
     (All-tail (λ h. CanBeRead attributes h.goal) g goals can) (omega arith)
     ∙ ap wrapped (append_assoc before (g ∷ []) goals)
 
@@ -214,14 +213,14 @@ is_written_version goals = by (list_all is_id_goal goals) refl
     by true e = rw e refl
     by false e = rw e refl
 
-pub cert-back : (goals : List GoalOf) → All GoalReadsBack goals → CertFits goals → goals_in_value (cert_data goals) ≡ Ok goals
+pub cert-back : (rule : LocaleRule) (goals : List GoalOf) → All GoalReadsBack goals → CertFits rule goals → goals_in_value rule (cert_data goals) ≡ Ok goals
 unfolding goals_in_value goal_list is_version list_at has_only are_among is_among
-cert-back goals back fits =
+cert-back rule goals back fits =
     rw (is_written_version goals, list_items-items_of (map goal_data goals))
-    (goals-read (version_of goals == 2) [] goals back fits.styles fits.nodes (can_be_read goals) (omega (arith, fits.few)))
+    (goals-read rule (version_of goals == 2) [] goals back fits.styles fits.nodes (can_be_read goals) (omega (arith, fits.few)))
 
-pub cert_in-back : (json : List ℕ) (value : Data) (goals : List GoalOf) → value_of json ≡ Some value → value ≡ cert_data goals → goals_in_value (cert_data goals) ≡ Ok goals → cert_in json ≡ Ok goals
-cert_in-back json value goals was is back = ap (λ (o : Option Data). ok_or o Syntax >>= goals_in_value) was ∙ ap goals_in_value is ∙ back
+pub cert_in-back : (rule : LocaleRule) (json : List ℕ) (value : Data) (goals : List GoalOf) → value_of json ≡ Some value → value ≡ cert_data goals → goals_in_value rule (cert_data goals) ≡ Ok goals → cert_in_by rule json ≡ Ok goals
+cert_in-back rule json value goals was is back = ap (λ (o : Option Data). ok_or o Syntax >>= goals_in_value rule) was ∙ ap (goals_in_value rule) is ∙ back
 
 pub in_any_case : {X E P : Type 0} (r : Result X E) → P → IfOk r (λ _. P)
 in_any_case (Ok x) holds = holds

@@ -1,13 +1,15 @@
 -- The texts of locales are UTF-8.
-use Rattle.std.proofs.Common.{◌≡◌, ℕ, ◌<◌, Bool, true, false, ◌&&◌, ◌||◌, cond, List, [], ◌∷◌, ◌++◌, Some, None, is_some, IsUtf8, refl, arith}
+use Rattle.std.proofs.Common.{◌≡◌, ℕ, ◌<◌, Bool, true, false, ◌&&◌, ◌||◌, ◌==◌, not, cond, List, [], ◌∷◌, ◌++◌, Some, None, is_some, IsUtf8, refl, arith}
 use Rattle.std.specs.Str.{IsAscii}
 use Rattle.std.proofs.lemmas.Bool.{and_parts}
 use Rattle.std.proofs.lemmas.Str.{IsUtf8-from_ascii, IsAscii-append}
 use Rattle.std.proofs.lemmas.Str.Ascii.{IsAscii-nil, IsAscii-cons}
 use Rattle.hex.specs.Hex.{encode_lower}
 use Rattle.config_box.specs.config_record.locales.declared.locale.Locale.{Locale}
-use Rattle.config_box.specs.config_record.locales.Locale.{first_letter, first_digit, is_small_letter, is_capital_letter, is_digit, packed, part_of, language_of, region_of, unpacked, is_spelled, language_text, region_text, locale_text}
+use Rattle.config_box.specs.config_record.locales.Locale.{dash, first_letter, first_digit, is_small_letter, is_capital_letter, is_digit, packed, part_of, language_of, region_of, unpacked, is_spelled, language_text, region_text, plain_text}
 use Rattle.config_box.specs.config_record.locales.Zero.{is_zero}
+use Rattle.config_box.specs.config_record.android_locales.Words.{number_of_script}
+use Rattle.config_box.specs.config_record.android_locales.Text.{written_script, likely_number, language_alone, region_alone, text_with_script, shows_script, locale_text}
 use Rattle.config_box.proofs.config_record.locales.LocaleLemmas.{of_languages, of_regions}
 use Rattle.res_value.proofs.IdText.{digits-ascii}
 
@@ -71,6 +73,39 @@ either-ascii true l e =
     spelled-ascii l.language l.region h.0 h.1
 either-ascii false l e = other-ascii l.language l.region
 
+plain_text-ascii : (l : Locale) → IsAscii (plain_text l)
+unfolding plain_text
+plain_text-ascii l = either-ascii (is_spelled l) l refl
+
+letters : (a b c d : ℕ) → is_some (written_script (a ∷ b ∷ c ∷ d ∷ [])) ≡ true → (is_capital_letter a && is_small_letter b && is_small_letter c && is_small_letter d) ≡ true
+letters a b c d e = where_some (is_capital_letter a && is_small_letter b && is_small_letter c && is_small_letter d) e
+  where
+    where_some : (are : Bool) → is_some (cond are (Some (a ∷ b ∷ c ∷ d ∷ [])) None) ≡ true → are ≡ true
+    where_some true e = refl
+    where_some false e = absurd cc
+
+script-ascii : (script : List ℕ) → is_some (written_script script) ≡ true → IsAscii script
+script-ascii [] e = IsAscii-nil
+script-ascii (a ∷ []) e = absurd cc
+script-ascii (a ∷ b ∷ []) e = absurd cc
+script-ascii (a ∷ b ∷ c ∷ []) e = absurd cc
+script-ascii (a ∷ b ∷ c ∷ d ∷ []) e =
+    let all = and_parts _ _ (letters a b c d e) in
+    let three = and_parts _ _ all.0 in
+    let two = and_parts _ _ three.0 in
+    IsAscii-cons a (b ∷ c ∷ d ∷ []) (capital-ascii a two.0) (IsAscii-cons b (c ∷ d ∷ []) (small-ascii b two.1) (IsAscii-cons c (d ∷ []) (small-ascii c three.1) (IsAscii-cons d [] (small-ascii d all.1) IsAscii-nil)))
+script-ascii (a ∷ b ∷ c ∷ d ∷ f ∷ script) e = absurd cc
+
+shown-ascii : (l : Locale) → is_some (written_script l.script) ≡ true → IsAscii (text_with_script l)
+shown-ascii l written =
+    IsAscii-append (plain_text (language_alone l) ++ dash ∷ l.script) (plain_text (region_alone l))
+    (IsAscii-append (plain_text (language_alone l)) (dash ∷ l.script) (plain_text-ascii (language_alone l)) (IsAscii-cons dash l.script (omega arith) (script-ascii l.script written)))
+    (plain_text-ascii (region_alone l))
+
+text-ascii : (l : Locale) (shown : Bool) → shows_script l ≡ shown → IsAscii (cond shown (text_with_script l) (plain_text l))
+text-ascii l true e = shown-ascii l (and_parts (is_some (written_script l.script)) (not (number_of_script l.script == likely_number l)) e).0
+text-ascii l false e = plain_text-ascii l
+
 pub locale_text-utf8 : (l : Locale) → IsUtf8 (locale_text l)
 unfolding locale_text
-locale_text-utf8 l = IsUtf8-from_ascii (locale_text l) (either-ascii (is_spelled l) l refl)
+locale_text-utf8 l = IsUtf8-from_ascii (locale_text l) (text-ascii l (shows_script l) refl)

@@ -12,7 +12,9 @@ use Rattle.config_box.specs.config_record.declared.coord.Coord as coord
 use Rattle.config_box.specs.config_record.declared.coord.Coord.TheVariants as coords
 use Rattle.config_box.specs.config_record.locales.declared.locale.Locale.{Locale}
 use Rattle.config_box.specs.config_record.Coord.{all_coords, name_of}
-use Rattle.config_box.specs.config_record.locales.Locale.{locale_of}
+use Rattle.config_box.specs.config_record.android_locales.declared.locale_rule.LocaleRule.{LocaleRule}
+use Rattle.config_box.specs.config_record.android_locales.declared.locale_rule.LocaleRule.TheVariants.{LanguageAndRegion}
+use Rattle.config_box.specs.config_record.android_locales.Text.{locale_by}
 use Rattle.res_value.specs.declared.res_id.ResId.{ResId}
 use Rattle.res_value.specs.ResId.{id_of}
 use Rattle.cert_tree.specs.declared.cert_fault.CertFault.{CertFault}
@@ -65,21 +67,21 @@ at_most_in shape value = do
 abbrev pub number_item : CertFault → Data → Result ℕ CertFault
 number_item shape value = number_within shape last_word value
 
--- a text that gives a locale
-unfoldable pub locale_item : CertFault → Data → Result Locale CertFault
-locale_item shape value = ok_or (option_and_then (λ text. result_ok (locale_of text)) (text_of value)) shape
+-- a text that gives a locale, by this rule
+unfoldable pub locale_item : LocaleRule → CertFault → Data → Result Locale CertFault
+locale_item rule shape value = ok_or (option_and_then (λ text. result_ok (locale_by rule text)) (text_of value)) shape
 
 -- texts at the locale, elsewhere numbers
-unfoldable pub choice_in : CertFault → coord.Coord → List Data → Result ChoiceOf CertFault
-choice_in shape coords.Locale items = each (locale_item shape) items >>= λ locales. Ok (LocalesOf locales)
-choice_in shape c items = each (number_item shape) items >>= λ numbers. Ok (NumbersOf numbers)
+unfoldable pub choice_in : LocaleRule → CertFault → coord.Coord → List Data → Result ChoiceOf CertFault
+choice_in rule shape coords.Locale items = each (locale_item rule shape) items >>= λ locales. Ok (LocalesOf locales)
+choice_in rule shape c items = each (number_item shape) items >>= λ numbers. Ok (NumbersOf numbers)
 
-unfoldable pub among_in : CertFault → Data → Result NodeOf CertFault
-among_in shape value = do
+unfoldable pub among_in : LocaleRule → CertFault → Data → Result NodeOf CertFault
+among_in rule shape value = do
   c ← coord_at shape value
   items ← list_at shape (codes "in") value
   _ ← refuse (nat_lt most_listed (length items)) shape
-  choice ← choice_in shape c items
+  choice ← choice_in rule shape c items
   Ok (TestAt (AmongOf c choice))
 
 unfoldable pub value_in : CertFault → Data → Result NodeOf CertFault
@@ -93,17 +95,17 @@ unfoldable pub bag_in : CertFault → Data → Result NodeOf CertFault
 bag_in shape value = id_at shape (codes "bag") value >>= λ id. Ok (BagAt id)
 
 -- an object with the members of one kind of node, and no other
-unfoldable pub node_in : CertFault → Data → Result NodeOf CertFault
-node_in shape value =
+unfoldable pub node_in : LocaleRule → CertFault → Data → Result NodeOf CertFault
+node_in rule shape value =
     if has_only (codes "coord" ∷ codes "atMost" ∷ []) value then at_most_in shape value
-    else if has_only (codes "coord" ∷ codes "in" ∷ []) value then among_in shape value
+    else if has_only (codes "coord" ∷ codes "in" ∷ []) value then among_in rule shape value
     else if has_only (codes "layer" ∷ codes "kind" ∷ codes "word" ∷ []) value then value_in shape value
     else if has_only (codes "bag" ∷ []) value then bag_in shape value
     else Err shape
 
 -- a node of a goal, after those before it
-abbrev pub node_after : ℕ → List NodeOf → Data → Result NodeOf CertFault
-node_after goal before value = node_in (Shape goal (length before)) value
+abbrev pub node_after : LocaleRule → ℕ → List NodeOf → Data → Result NodeOf CertFault
+node_after rule goal before value = node_in rule (Shape goal (length before)) value
 
 -- ---- goals
 
@@ -131,16 +133,16 @@ asked_in attributes shape value =
 
 -- the goal of this number, where so many nodes stand in those before it: first its shape, then how
 -- many nodes there are, then the nodes
-unfoldable pub goal_in : Bool → ℕ → ℕ → Data → Result GoalOf CertFault
-goal_in attributes goal nodes_before value = do
+unfoldable pub goal_in : LocaleRule → Bool → ℕ → ℕ → Data → Result GoalOf CertFault
+goal_in rule attributes goal nodes_before value = do
   asked ← asked_in attributes (Shape goal 0) value
   items ← list_at (Shape goal 0) (codes "nodes") value
   _ ← refuse (nat_lt most_nodes (nodes_before + length items)) TooManyNodes
-  nodes ← read_on (node_after goal) [] items
+  nodes ← read_on (node_after rule goal) [] items
   Ok (record { goal = asked; nodes = nodes })
 
-abbrev pub goal_after : Bool → List GoalOf → Data → Result GoalOf CertFault
-goal_after attributes before value = goal_in attributes (length before) (node_count before) value
+abbrev pub goal_after : LocaleRule → Bool → List GoalOf → Data → Result GoalOf CertFault
+goal_after rule attributes before value = goal_in rule attributes (length before) (node_count before) value
 
 -- ---- the whole
 
@@ -157,8 +159,13 @@ goal_list value = do
   list_at (Shape 0 0) (codes "goals") value
 
 -- goals of attributes can be there from version 2 on
-unfoldable pub goals_in_value : Data → Result (List GoalOf) CertFault
-goals_in_value value = goal_list value >>= read_on (goal_after (is_version 2 value)) []
+unfoldable pub goals_in_value : LocaleRule → Data → Result (List GoalOf) CertFault
+goals_in_value rule value = goal_list value >>= read_on (goal_after rule (is_version 2 value)) []
 
+-- the certificate that bytes mean, where locales are read by this rule
+abbrev pub cert_in_by : LocaleRule → List ℕ → Result (List GoalOf) CertFault
+cert_in_by rule json = ok_or (value_of json) Syntax >>= goals_in_value rule
+
+-- by language and region
 abbrev pub cert_in : List ℕ → Result (List GoalOf) CertFault
-cert_in json = ok_or (value_of json) Syntax >>= goals_in_value
+cert_in = cert_in_by LanguageAndRegion

@@ -3,7 +3,8 @@ use Rattle.std.specs.Prelude.{ℕ, ◌+◌, ◌≤◌, Bool, true, false, List, 
 use Rattle.std.specs.List.{All}
 use Rattle.config_box.specs.config_record.declared.coord.Coord as coord
 use Rattle.config_box.specs.config_record.declared.coord.Coord.TheVariants as coords
-use Rattle.config_box.specs.config_record.locales.Locale.{IsOfSomeText}
+use Rattle.config_box.specs.config_record.android_locales.declared.locale_rule.LocaleRule.{LocaleRule}
+use Rattle.config_box.specs.config_record.android_locales.Text.{IsGivenBy}
 use Rattle.config_box.specs.Tests.{ChoiceOf, NumbersOf, LocalesOf, TestOf, AtMostOf, AmongOf, test_of}
 use Rattle.res_value.specs.declared.res_id.ResId.{ResId}
 use Rattle.res_value.specs.declared.value.Value.{Value}
@@ -59,25 +60,25 @@ last_layer = 63
 abbrev pub most_listed : ℕ
 most_listed = 512
 
--- numbers for a number; for the locale locales, each of which some text stands for
-abbrev pub ChoiceFits : coord.Coord → ChoiceOf → Type 0
-ChoiceFits coords.Locale (LocalesOf locales) = (length locales ≤ most_listed) × All IsOfSomeText locales
-ChoiceFits coords.Locale (NumbersOf numbers) = ⊥
-ChoiceFits c (NumbersOf numbers) = length numbers ≤ most_listed
-ChoiceFits c (LocalesOf locales) = ⊥
+-- numbers for a number; for the locale locales, each of which some text gives by this rule
+abbrev pub ChoiceFits : LocaleRule → coord.Coord → ChoiceOf → Type 0
+ChoiceFits rule coords.Locale (LocalesOf locales) = (length locales ≤ most_listed) × All (IsGivenBy rule) locales
+ChoiceFits rule coords.Locale (NumbersOf numbers) = ⊥
+ChoiceFits rule c (NumbersOf numbers) = length numbers ≤ most_listed
+ChoiceFits rule c (LocalesOf locales) = ⊥
 
-abbrev pub NodeFits : NodeOf → Type 0
-NodeFits (TestAt (AtMostOf c most)) = Unit {0}
-NodeFits (TestAt (AmongOf c choice)) = ChoiceFits c choice
-NodeFits (ValueAt layer value) = layer ≤ last_layer
-NodeFits (BagAt id) = Unit {0}
+abbrev pub NodeFits : LocaleRule → NodeOf → Type 0
+NodeFits rule (TestAt (AtMostOf c most)) = Unit {0}
+NodeFits rule (TestAt (AmongOf c choice)) = ChoiceFits rule c choice
+NodeFits rule (ValueAt layer value) = layer ≤ last_layer
+NodeFits rule (BagAt id) = Unit {0}
 
 abbrev pub GoalFits : GoalSeen → Type 0
 GoalFits (IdGoal id) = Unit {0}
 GoalFits (AttrGoal attr styles) = length styles ≤ most_styles
 
--- a certificate within the limits, whose lists are of their coordinates' kinds
-pub record CertFits (goals : List GoalOf) : Type 0 where
+-- a certificate within the limits, whose lists are of their coordinates' kinds, and whose locales are of this rule
+pub record CertFits (rule : LocaleRule) (goals : List GoalOf) : Type 0 where
   pub few : node_count goals ≤ most_nodes
   pub styles : All (λ g. GoalFits g.goal) goals
-  pub nodes : All (λ g. All NodeFits g.nodes) goals
+  pub nodes : All (λ g. All (NodeFits rule) g.nodes) goals

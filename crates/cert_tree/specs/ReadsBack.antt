@@ -3,6 +3,7 @@
 use Rattle.std.specs.Prelude.{◌≡◌, ◌+◌, ◌≤◌, ◌||◌, ℕ, Bool, true, length, Some, Ok}
 use Rattle.std.specs.List.{All}
 use Rattle.config_box.specs.config_record.declared.coord.Coord.{Coord}
+use Rattle.config_box.specs.config_record.android_locales.declared.locale_rule.LocaleRule.{LocaleRule}
 use Rattle.res_value.specs.declared.res_id.ResId.{ResId}
 use Rattle.res_value.specs.ResId.{id_of, id_text}
 use Rattle.cert_tree.specs.declared.cert_fault.CertFault.{CertFault}
@@ -19,10 +20,10 @@ abbrev pub IdReadsBack : ResId → Type 0
 IdReadsBack id = id_of (id_text id.0) ≡ Some id
 
 abbrev pub ChoiceReadsBack : ChoiceOf → Type 0
-ChoiceReadsBack choice = (c : Coord) → ChoiceFits c choice → (shape : CertFault) → choice_in shape c (choice_items choice) ≡ Ok choice
+ChoiceReadsBack choice = (rule : LocaleRule) (c : Coord) → ChoiceFits rule c choice → (shape : CertFault) → choice_in rule shape c (choice_items choice) ≡ Ok choice
 
 abbrev pub NodeReadsBack : NodeOf → Type 0
-NodeReadsBack node = NodeFits node → (shape : CertFault) → node_in shape (node_data node) ≡ Ok node
+NodeReadsBack node = (rule : LocaleRule) → NodeFits rule node → (shape : CertFault) → node_in rule shape (node_data node) ≡ Ok node
 
 -- a goal of an attribute is there only where such can be read
 abbrev pub CanBeRead : Bool → GoalSeen → Type 0
@@ -30,7 +31,7 @@ CanBeRead attributes goal = is_id goal || attributes ≡ true
 
 abbrev pub GoalReadsBack : GoalOf → Type 0
 GoalReadsBack g =
-    GoalFits g.goal → All NodeFits g.nodes
+    (rule : LocaleRule) → GoalFits g.goal → All (NodeFits rule) g.nodes
     → (attributes : Bool) → CanBeRead attributes g.goal
     → (place nodes_before : ℕ) → nodes_before + length g.nodes ≤ most_nodes
-    → goal_in attributes place nodes_before (goal_data g) ≡ Ok g
+    → goal_in rule attributes place nodes_before (goal_data g) ≡ Ok g

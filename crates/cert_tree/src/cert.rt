@@ -9,6 +9,7 @@ use crate::cert_fault::CertFault;
 use crate::node::Node;
 use crate::read::goals_in_value;
 use crate::write::cert_value;
+use config_box::LocaleRule;
 use json_input::read_value;
 use res_value::Goal;
 use std::alloc::{AllocError, Global};
@@ -31,15 +32,23 @@ pub struct CertGoal {
 
 impl Cert {
     ghost use Rattle.cert_tree.specs.Certificate.{goals_of, CertFits};
-    ghost use Rattle.cert_tree.specs.CertJson.{cert_in};
+    ghost use Rattle.cert_tree.specs.CertJson.{cert_in, cert_in_by};
+    ghost use Rattle.config_box.specs.config_record.android_locales.declared.locale_rule.LocaleRule as locale_rule;
     ghost use Rattle.cert_tree.specs.WrittenJson.{cert_data};
 
     /// The certificate of a JSON text.
     pub fn read(alloc: Global, json: &[u8]) -> Result<Cert, CertFault>
         ensures { GivesOr OutOfMemory goals_of result (cert_in json.now) }
     {
+        Cert::read_by(alloc, json, LocaleRule::LanguageAndRegion)
+    }
+
+    /// The same, where the texts of locales are read by a rule. A certificate does not say by which it was made.
+    pub fn read_by(alloc: Global, json: &[u8], rule: LocaleRule) -> Result<Cert, CertFault>
+        ensures { GivesOr OutOfMemory goals_of result (cert_in_by rule json.now) }
+    {
         let value = read_value(alloc, json)?;
-        let goals = goals_in_value(alloc, &value)?;
+        let goals = goals_in_value(alloc, &value, rule)?;
         Ok(Cert { goals })
     }
 
@@ -48,8 +57,8 @@ impl Cert {
     pub fn write(&self, alloc: Global) -> Result<Vec<u8>, OutOfMemory>
         ensures text { IfOk result (λ bytes. bytes.items ≡ compact_text (cert_data (goals_of self.now))) }
 
-        // What is written is read as the same goals and nodes.
-        ensures reads_back { IfOk result (λ bytes. CertFits (goals_of self.now) → cert_in bytes.items ≡ Ok (goals_of self.now)) }
+        // What is written is read as the same goals and nodes, by the rule of its locales.
+        ensures reads_back { IfOk result (λ bytes. (rule : locale_rule.LocaleRule) → CertFits rule (goals_of self.now) → cert_in_by rule bytes.items ≡ Ok (goals_of self.now)) }
     {
         let value = cert_value(alloc, self)?;
         let bytes = value.to_vec(alloc)?;

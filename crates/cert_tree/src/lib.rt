@@ -32,9 +32,8 @@ mod write;
 pub use cert::{Cert, CertGoal, OutOfMemory};
 pub use cert_fault::CertFault;
 pub use config_box::{
-    BoxFault, Choice, ConfigBox, Coord, Locale, Split, Test, Values, write_locale,
+    BoxFault, Choice, ConfigBox, Coord, Locale, LocaleRule, Split, Test, Values, write_locale,
 };
-pub use json_input;
 pub use node::Node;
 pub use progress::{Progress, Unwatched};
 pub use res_value::{ChunkFault, Goal, GoalFault, MOST_STYLES, ResId};

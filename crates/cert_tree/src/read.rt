@@ -15,6 +15,7 @@ use crate::cert::CertGoal;
 use crate::cert_fault::CertFault;
 use crate::members::{id_at, id_item, list_at};
 use crate::read_nodes::nodes_in;
+use config_box::LocaleRule;
 use json_input::has_only;
 use res_value::{Goal, MOST_STYLES, ResId};
 use serde_json::Value;
@@ -41,11 +42,15 @@ const MOST_NODES: usize = 1_000_000;
 
 /// The goals of the certificate that a value is.
 #[tactic(auto, unfolding(crate::specs::CertJson::goals_in_value))]
-pub(crate) fn goals_in_value(alloc: Global, value: &Value) -> Result<Vec<CertGoal>, CertFault>
-    ensures { GivesOr OutOfMemory (λ goals. map goal_of goals.items) result (goals_in_value (view value.now)) }
+pub(crate) fn goals_in_value(
+    alloc: Global,
+    value: &Value,
+    rule: LocaleRule,
+) -> Result<Vec<CertGoal>, CertFault>
+    ensures { GivesOr OutOfMemory (λ goals. map goal_of goals.items) result (goals_in_value rule (view value.now)) }
 {
     let items = goal_list(value)?;
-    goals_of_items(alloc, items, is_version(value, 2))
+    goals_of_items(alloc, items, is_version(value, 2), rule)
 }
 
 // What stands at the goals of a certificate.
@@ -81,13 +86,14 @@ fn goals_of_items(
     alloc: Global,
     items: &[Value],
     attributes: bool,
+    rule: LocaleRule,
 ) -> Result<Vec<CertGoal>, CertFault>
-    ensures { GivesOr OutOfMemory (λ goals. map goal_of goals.items) result (read_on (goal_after attributes) [] (map view items.now)) }
+    ensures { GivesOr OutOfMemory (λ goals. map goal_of goals.items) result (read_on (goal_after rule attributes) [] (map view items.now)) }
 {
     let mut goals = Vec::with_capacity(alloc, items.len())?;
     let mut nodes_before = 0;
     for item in items {
-        let goal = goal_in(alloc, item, attributes, goals.len(), nodes_before)?;
+        let goal = goal_in(alloc, item, attributes, goals.len(), nodes_before, rule)?;
         nodes_before += goal.nodes.len();
         goals.push(goal)?;
     }
@@ -102,9 +108,10 @@ fn goal_in(
     attributes: bool,
     place: usize,
     nodes_before: usize,
+    rule: LocaleRule,
 ) -> Result<CertGoal, CertFault>
     requires { nodes_before ≤ most_nodes }
-    ensures value { GivesOr OutOfMemory goal_of result (goal_in attributes place nodes_before (view value.now)) }
+    ensures value { GivesOr OutOfMemory goal_of result (goal_in rule attributes place nodes_before (view value.now)) }
     ensures few { IfOk result (λ goal. nodes_before + length goal.nodes.items ≤ most_nodes) }
 {
     let shape = CertFault::Shape(place, 0);
@@ -113,7 +120,7 @@ fn goal_in(
     if items.len() > MOST_NODES - nodes_before {
         return Err(CertFault::TooManyNodes);
     }
-    let nodes = nodes_in(alloc, items, place)?;
+    let nodes = nodes_in(alloc, items, place, rule)?;
     Ok(CertGoal { goal, nodes })
 }
 

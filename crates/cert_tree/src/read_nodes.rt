@@ -14,7 +14,7 @@ ghost use Rattle.cert_tree.specs.CertJson.{number_item, locale_item, choice_in, 
 use crate::cert_fault::CertFault;
 use crate::members::{COORD, coord_at, id_at, list_at, number_at, number_within};
 use crate::node::Node;
-use config_box::{Choice, Coord, Locale, Test};
+use config_box::{Choice, Coord, Locale, LocaleRule, Test, read_locale};
 use json_input::has_only;
 use serde_json::Value;
 use std::alloc::Global;
@@ -47,26 +47,36 @@ const MOST_LISTED: usize = 512;
 
 /// The nodes of the goal of this number.
 #[tactic(auto, using(crate::proofs::ReadOnSteps::read_on_steps))]
-pub(crate) fn nodes_in(alloc: Global, items: &[Value], goal: usize) -> Result<Vec<Node>, CertFault>
-    ensures value { GivesOr OutOfMemory (λ nodes. map node_of nodes.items) result (read_on (node_after goal) [] (map view items.now)) }
+pub(crate) fn nodes_in(
+    alloc: Global,
+    items: &[Value],
+    goal: usize,
+    rule: LocaleRule,
+) -> Result<Vec<Node>, CertFault>
+    ensures value { GivesOr OutOfMemory (λ nodes. map node_of nodes.items) result (read_on (node_after rule goal) [] (map view items.now)) }
     ensures count { IfOk result (λ nodes. length nodes.items ≡ length items.now) }
 {
     let mut nodes = Vec::with_capacity(alloc, items.len())?;
     for item in items {
-        let node = node_in(alloc, item, CertFault::Shape(goal, nodes.len()))?;
+        let node = node_in(alloc, item, CertFault::Shape(goal, nodes.len()), rule)?;
         nodes.push(node)?;
     }
     Ok(nodes)
 }
 
 #[tactic(auto, unfolding(crate::specs::CertJson::node_in))]
-fn node_in(alloc: Global, value: &Value, shape: CertFault) -> Result<Node, CertFault>
-    ensures { GivesOr OutOfMemory node_of result (node_in shape (view value.now)) }
+fn node_in(
+    alloc: Global,
+    value: &Value,
+    shape: CertFault,
+    rule: LocaleRule,
+) -> Result<Node, CertFault>
+    ensures { GivesOr OutOfMemory node_of result (node_in rule shape (view value.now)) }
 {
     if has_only(value, &[COORD, AT_MOST]) {
         at_most_in(value, shape)
     } else if has_only(value, &[COORD, IN]) {
-        among_in(alloc, value, shape)
+        among_in(alloc, value, shape, rule)
     } else if has_only(value, &[LAYER, KIND, WORD]) {
         value_in(value, shape)
     } else if has_only(value, &[BAG]) {
@@ -86,15 +96,20 @@ fn at_most_in(value: &Value, shape: CertFault) -> Result<Node, CertFault>
 }
 
 #[tactic(auto, unfolding(crate::specs::CertJson::among_in))]
-fn among_in(alloc: Global, value: &Value, shape: CertFault) -> Result<Node, CertFault>
-    ensures { GivesOr OutOfMemory node_of result (among_in shape (view value.now)) }
+fn among_in(
+    alloc: Global,
+    value: &Value,
+    shape: CertFault,
+    rule: LocaleRule,
+) -> Result<Node, CertFault>
+    ensures { GivesOr OutOfMemory node_of result (among_in rule shape (view value.now)) }
 {
     let coord = coord_at(value, shape)?;
     let items = list_at(value, IN, shape)?;
     if items.len() > MOST_LISTED {
         return Err(shape);
     }
-    let choice = choice_in(alloc, coord, items, shape)?;
+    let choice = choice_in(alloc, coord, items, shape, rule)?;
     Ok(Node::Test(Test::Among(coord, choice)))
 }
 
@@ -104,12 +119,13 @@ fn choice_in(
     at: Coord,
     items: &[Value],
     shape: CertFault,
+    rule: LocaleRule,
 ) -> Result<Choice, CertFault>
-    ensures { GivesOr OutOfMemory choice_of result (choice_in shape at (map view items.now)) }
+    ensures { GivesOr OutOfMemory choice_of result (choice_in rule shape at (map view items.now)) }
 {
     match at {
         Coord::Locale => {
-            let locales = locale_items(alloc, items, shape)?;
+            let locales = locale_items(alloc, items, shape, rule)?;
             Ok(Choice::Locales(locales))
         }
         _ => {
@@ -132,23 +148,28 @@ fn number_items(alloc: Global, items: &[Value], shape: CertFault) -> Result<Vec<
 }
 
 #[tactic(auto, using(json_input::proofs::EachSteps::each_item_steps))]
-fn locale_items(alloc: Global, items: &[Value], shape: CertFault) -> Result<Vec<Locale>, CertFault>
-    ensures { GivesOr OutOfMemory (λ locales. locales.items) result (each (locale_item shape) (map view items.now)) }
+fn locale_items(
+    alloc: Global,
+    items: &[Value],
+    shape: CertFault,
+    rule: LocaleRule,
+) -> Result<Vec<Locale>, CertFault>
+    ensures { GivesOr OutOfMemory (λ locales. locales.items) result (each (locale_item rule shape) (map view items.now)) }
 {
     let mut locales = Vec::with_capacity(alloc, items.len())?;
     for item in items {
-        let locale = locale_item(item, shape)?;
+        let locale = locale_item(item, shape, rule)?;
         locales.push(locale)?;
     }
     Ok(locales)
 }
 
 #[tactic(auto, unfolding(crate::specs::CertJson::locale_item))]
-fn locale_item(value: &Value, shape: CertFault) -> Result<Locale, CertFault>
-    ensures { result ≡ locale_item shape (view value.now) }
+fn locale_item(value: &Value, shape: CertFault, rule: LocaleRule) -> Result<Locale, CertFault>
+    ensures { result ≡ locale_item rule shape (view value.now) }
 {
     match value.as_str() {
-        Some(text) => Locale::read(text).map_err(|_| shape),
+        Some(text) => read_locale(text, rule).map_err(|_| shape),
         None => Err(shape),
     }
 }

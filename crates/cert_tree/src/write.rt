@@ -7,6 +7,7 @@ ghost use Rattle.cert_tree.specs.WrittenJson.{number_data, id_data, locale_data,
 ghost use Rattle.config_box.specs.Tests.{choice_of, test_of};
 ghost use Rattle.cert_tree.specs.Certificate.{TestAt, is_id, node_of, goal_of, goals_of, CertFits};
 ghost use Rattle.res_value.specs.Goal.{goal_seen};
+ghost use Rattle.config_box.specs.config_record.android_locales.declared.locale_rule.LocaleRule as locale_rule;
 ghost use Rattle.cert_tree.specs.CertJson.{goals_in_value};
 ghost use Rattle.cert_tree.specs.ReadsBack.{NumberReadsBack, IdReadsBack, ChoiceReadsBack, NodeReadsBack, GoalReadsBack};
 
@@ -22,7 +23,7 @@ use std::alloc::{AllocError, Global};
 /// The value that a certificate is written as.
 pub(crate) fn cert_value(alloc: Global, cert: &Cert) -> Result<Value, AllocError>
     ensures data { IfOk result (λ value. view value ≡ cert_data (goals_of cert.now)) }
-    ensures reads_back { IfOk result (λ _. CertFits (goals_of cert.now) → goals_in_value (cert_data (goals_of cert.now)) ≡ Ok (goals_of cert.now)) }
+    ensures reads_back { IfOk result (λ _. (rule : locale_rule.LocaleRule) → CertFits rule (goals_of cert.now) → goals_in_value rule (cert_data (goals_of cert.now)) ≡ Ok (goals_of cert.now)) }
 {
     let goals = Value::Array(goal_values(alloc, cert.goals.as_slice())?);
     let version = Value::from(version_of(cert.goals.as_slice()));

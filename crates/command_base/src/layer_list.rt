@@ -14,7 +14,7 @@ ghost use Rattle.command_base.specs.LayerListSeen.{path_seen, optional_path_seen
 use crate::layer_parts::LayerParts;
 use crate::layers_fault::LayersFault;
 use answer_text::MOST_LAYERS;
-use cert_tree::json_input::{has_only, list_of, read_value};
+use json_input::{has_only, list_of, read_value};
 use serde_json::Value;
 use std::alloc::{AllocError, Global};
 

@@ -6,7 +6,7 @@ ghost use Rattle.cert_tree.specs.json_input.Fault.{fault_of_text};
 ghost use Rattle.command_base.specs.declared.layers_fault.LayersFault.TheVariants.{Syntax, OutOfMemory};
 ghost use Rattle.command_base.specs.LayersFaultText.{layers_fault_text};
 
-use cert_tree::json_input::JsonFault;
+use json_input::JsonFault;
 use std::alloc::{AllocError, AllocFailed};
 use std::io::{self, Write};
 use thiserror::Error;

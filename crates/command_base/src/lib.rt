@@ -50,9 +50,14 @@ mod status;
 mod stop;
 mod table_fault;
 
-pub use answer_text;
-pub use cert_tree;
-pub use cert_tree::Progress;
+pub use answer_text::{
+    BagFault, BagRow, Cell, Device, End, MapRows, Pool, ResId, Row, Stack, Table, Theme, Value,
+    kind,
+};
+pub use cert_tree::{
+    Cert, CertGoal, Choice, ConfigBox, Coord, Goal, Locale, LocaleRule, Node, Progress, Test,
+    Values, write_locale,
+};
 pub use device_files::{AskedFiles, DeviceFiles};
 pub use exit_status::ExitStatus;
 pub use fault::{ToolFault, fault_text};
@@ -63,10 +68,7 @@ pub use layer_files::LayerFiles;
 pub use layer_list::LayerList;
 pub use layer_parts::LayerParts;
 pub use layers_fault::LayersFault;
-pub use names::{
-    GoalFault, Name, Named, NamedGoal, NamedSet, NamedStack, SharedNames, file_path, find_names,
-    first_goals, goals_named, id_named, ids_named, ids_of_type, name_text, pairs_named,
-};
+pub use names::{GoalFault, Name, Named, NamedGoal, NamedSet, NamedStack, SharedNames, file_path};
 pub use place::{Place, STANDARD_INPUT};
 pub use side::Side;
 pub use stack::{open_side, open_stack, open_table};

@@ -12,7 +12,9 @@ use Rattle.box_answers.specs.config_record.locales.declared.locale.LocaleFault.{
 use Rattle.box_answers.specs.config_record.locales.declared.locale.LocaleFault.TheVariants as of_locale
 use Rattle.box_answers.specs.config_record.Coord.{is_outside}
 use Rattle.box_answers.specs.config_record.locales.LocaleNumber.{locale_number}
-use Rattle.box_answers.specs.config_record.locales.Locale.{locale_of}
+use Rattle.box_answers.specs.config_record.android_locales.declared.locale_rule.LocaleRule.{LocaleRule}
+use Rattle.box_answers.specs.config_record.android_locales.declared.locale_rule.LocaleRule.TheVariants.{LanguageAndRegion, Android}
+use Rattle.box_answers.specs.config_record.android_locales.Text.{locale_by}
 use Rattle.box_answers.specs.NumberSet as sets
 use Rattle.box_answers.specs.Members.{most_values}
 use Rattle.config_box.specs.declared.box_fault.BoxFault.{BoxFault}
@@ -47,56 +49,66 @@ malformed (Ok locale) = false
 malformed (Err of_locale.Malformed) = true
 malformed (Err of_locale.RegionAlone) = false
 
-abbrev pub is_malformed : List ℕ → Bool
-is_malformed text = malformed (locale_of text)
+abbrev pub is_malformed : LocaleRule → List ℕ → Bool
+is_malformed rule text = malformed (locale_by rule text)
 
 abbrev pub alone : Result Locale LocaleFault → Bool
 alone (Ok locale) = false
 alone (Err of_locale.Malformed) = false
 alone (Err of_locale.RegionAlone) = true
 
-abbrev pub is_region_alone : List ℕ → Bool
-is_region_alone text = alone (locale_of text)
+abbrev pub is_region_alone : LocaleRule → List ℕ → Bool
+is_region_alone rule text = alone (locale_by rule text)
 
-abbrev pub number_or_0 : Result Locale LocaleFault → ℕ
-number_or_0 (Ok locale) = locale_number locale
-number_or_0 (Err fault) = 0
+-- the number of no locale: on a phone it says that no script is known
+abbrev pub number_of_none : LocaleRule → ℕ
+number_of_none LanguageAndRegion = 0
+number_of_none Android = 1
+
+abbrev pub number_or_none : LocaleRule → Result Locale LocaleFault → ℕ
+number_or_none rule (Ok locale) = locale_number locale
+number_or_none rule (Err fault) = number_of_none rule
 
 -- the number of a text's locale
-abbrev pub number_of_text : List ℕ → ℕ
-number_of_text text = number_or_0 (locale_of text)
+abbrev pub number_of_text : LocaleRule → List ℕ → ℕ
+number_of_text rule text = number_or_none rule (locale_by rule text)
 
-unfoldable pub set_of_texts : List (List ℕ) → Result sets.SetOf BoxFault
-set_of_texts texts =
+unfoldable pub set_of_texts : LocaleRule → List (List ℕ) → Result sets.SetOf BoxFault
+set_of_texts rule texts =
     checked_by
     ((length texts == 0, Empty coords.Locale)
     ∷ (nat_lt most_values (length texts), TooMany coords.Locale)
-    ∷ (list_any is_malformed texts, FieldRange coords.Locale)
-    ∷ (list_any is_region_alone texts, RegionAlone)
+    ∷ (list_any (is_malformed rule) texts, FieldRange coords.Locale)
+    ∷ (list_any (is_region_alone rule) texts, RegionAlone)
     ∷ [])
-    (Ok (sets.LocalesOf (rising (map number_of_text texts))))
+    (Ok (sets.LocalesOf (rising (map (number_of_text rule) texts))))
 
 -- ---- a coordinate of which nothing is said: 0, or no locale; the density has to be there
 
-unfoldable pub set_of_nothing : coord.Coord → Result sets.SetOf BoxFault
-set_of_nothing coords.Density = Err Density
-set_of_nothing coords.Locale = Ok (sets.LocalesOf (0 ∷ []))
-set_of_nothing c = Ok (sets.NumbersOf (0 ∷ []))
+unfoldable pub set_of_nothing : LocaleRule → coord.Coord → Result sets.SetOf BoxFault
+set_of_nothing rule coords.Density = Err Density
+set_of_nothing rule coords.Locale = Ok (sets.LocalesOf (number_of_none rule ∷ []))
+set_of_nothing rule c = Ok (sets.NumbersOf (0 ∷ []))
 
 -- ---- the box
 
 -- at the locale stands no number, elsewhere no text
-unfoldable pub set_in : (coord.Coord × written.WrittenOf) → Result sets.SetOf BoxFault
-set_in (c, written.NothingOf) = set_of_nothing c
-set_in (coords.Locale, written.TextsOf texts) = set_of_texts texts
-set_in (coords.Locale, w) = Err Shape
-set_in (c, written.RangeOf from to) = set_of_range c from to
-set_in (c, written.NumbersOf numbers) = set_of_numbers c numbers
-set_in (c, written.TextsOf texts) = Err Shape
+unfoldable pub set_in : LocaleRule → (coord.Coord × written.WrittenOf) → Result sets.SetOf BoxFault
+set_in rule (c, written.NothingOf) = set_of_nothing rule c
+set_in rule (coords.Locale, written.TextsOf texts) = set_of_texts rule texts
+set_in rule (coords.Locale, w) = Err Shape
+set_in rule (c, written.RangeOf from to) = set_of_range c from to
+set_in rule (c, written.NumbersOf numbers) = set_of_numbers c numbers
+set_in rule (c, written.TextsOf texts) = Err Shape
 
 -- The shape of the whole comes before any coordinate; then they are looked at one after the other.
-unfoldable pub box_in_value : Data → Result (List sets.SetOf) BoxFault
-box_in_value value = written.written_in value >>= each set_in
+unfoldable pub box_in_value : LocaleRule → Data → Result (List sets.SetOf) BoxFault
+box_in_value rule value = written.written_in value >>= each (set_in rule)
 
+-- where locales are read by this rule
+abbrev pub box_in_by : LocaleRule → List ℕ → Result (List sets.SetOf) BoxFault
+box_in_by rule json = ok_or (value_of json) Syntax >>= box_in_value rule
+
+-- by language and region
 abbrev pub box_in : List ℕ → Result (List sets.SetOf) BoxFault
-box_in json = ok_or (value_of json) Syntax >>= box_in_value
+box_in = box_in_by LanguageAndRegion

@@ -1,5 +1,6 @@
 pub mod Written
 pub mod Choices
+pub mod ByRule
 pub mod BoxJson
 pub mod BoxSeen
 pub mod Tests

@@ -21,7 +21,7 @@ use crate::read::sets_in_value;
 use crate::split::{OutOfMemory, Split, has_wrong_kind, shared_sets, with_set};
 use crate::test::Test;
 use crate::values::{Values, values_of};
-use box_answers::{Coord, Device, NumberSet, Record, Sameness, set_at};
+use box_answers::{Coord, Device, LocaleRule, NumberSet, Record, Sameness, set_at};
 use json_input::read_value;
 use std::alloc::Global;
 use std::cmp::Ordering;
@@ -47,7 +47,9 @@ impl Model for ConfigBox {
 }
 
 impl ConfigBox {
-    ghost use Rattle.config_box.specs.BoxJson.{box_in};
+    ghost use Rattle.config_box.specs.BoxJson.{box_in, box_in_by};
+    ghost use Rattle.config_box.specs.ByRule.{IsByRule};
+    ghost use Rattle.box_answers.specs.config_record.android_locales.declared.locale_rule.LocaleRule.TheVariants.{LanguageAndRegion};
     ghost use Rattle.config_box.specs.BoxSeen.{values_seen};
     ghost use Rattle.config_box.specs.Halves.{IsSplit, HalvesKeepAnswers};
     ghost use Rattle.config_box.specs.Joined.{IsJoined, HasJoinedSets, CannotJoin};
@@ -58,10 +60,20 @@ impl ConfigBox {
     pub fn read(alloc: Global, json: &[u8]) -> Result<ConfigBox, BoxFault>
         ensures value { GivesOr WantOfMemory (λ b. b) result (box_in json.now) }
         ensures sets { IfOk result IsBox }
+        ensures by_rule { IfOk result (IsByRule LanguageAndRegion) }
+    {
+        ConfigBox::read_by(alloc, json, LocaleRule::LanguageAndRegion)
+    }
+
+    /// The same, where the texts of locales are read by a rule, by which they are then compared.
+    pub fn read_by(alloc: Global, json: &[u8], rule: LocaleRule) -> Result<ConfigBox, BoxFault>
+        ensures value { GivesOr WantOfMemory (λ b. b) result (box_in_by rule json.now) }
+        ensures sets { IfOk result IsBox }
+        ensures by_rule { IfOk result (IsByRule rule) }
     {
         let value = read_value(alloc, json)?;
         Ok(ConfigBox {
-            sets: sets_in_value(alloc, &value)?,
+            sets: sets_in_value(alloc, &value, rule)?,
         })
     }
 

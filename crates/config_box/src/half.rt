@@ -49,16 +49,10 @@ fn half_of_range(low: u32, high: u32, test: &Test, answer: bool) -> Option<Numbe
     ensures { MatchOption result (NoneAnswers (RangeOf low high) (test_of test.now) answer) (λ half. IsHalfSet (RangeOf low high) (test_of test.now) answer (set_of half)) }
 {
     match test {
-        Test::AtMost(_, most) if answer => {
-            if low <= *most {
-                Some(NumberSet::Range(low, high.min(*most)))
-            } else {
-                None
-            }
-        }
+        Test::AtMost(_, most) if answer => NumberSet::range(low, high.min(*most)),
         Test::AtMost(_, most) => {
             if *most < high {
-                Some(NumberSet::Range(low.max(*most + 1), high))
+                NumberSet::range(low.max(*most + 1), high)
             } else {
                 None
             }

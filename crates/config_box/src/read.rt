@@ -8,18 +8,17 @@ ghost use Rattle.json_input.specs.Each.{each};
 ghost use Rattle.box_answers.specs.NumberSet.{NumbersOf, LocalesOf, set_of};
 ghost use Rattle.box_answers.specs.config_record.declared.coord.Coord.TheVariants as coords;
 ghost use Rattle.box_answers.specs.config_record.Coord.{all_coords, is_outside};
-ghost use Rattle.box_answers.specs.config_record.locales.LocaleNumber.{locale_of_number};
-ghost use Rattle.box_answers.specs.config_record.locales.Locale.{IsGiven};
 ghost use Rattle.box_answers.specs.Members.{sets_of, IsSetAt, IsBox};
 ghost use Rattle.config_box.specs.declared.box_fault.BoxFault.TheVariants.{OutOfMemory};
-ghost use Rattle.config_box.specs.BoxJson.{outside_fault, set_of_range, set_of_numbers, is_malformed, is_region_alone, number_of_text, set_of_texts, set_of_nothing, set_in, box_in_value};
+ghost use Rattle.config_box.specs.BoxJson.{outside_fault, set_of_range, set_of_numbers, is_malformed, is_region_alone, number_of_none, number_of_text, set_of_texts, set_of_nothing, set_in, box_in_value};
+ghost use Rattle.config_box.specs.ByRule.{IsOfRule, IsSetBy, IsByRule};
 ghost use Rattle.config_box.specs.Choices.{rising};
 ghost use Rattle.config_box.specs.BoxSeen.{written_seen, pair_seen, set_seen};
 
 use crate::box_fault::BoxFault;
 use crate::choice::{locales_of, narrowed, rising};
 use crate::written::{Written, written_in};
-use box_answers::{Coord, Locale, LocaleFault, NumberSet};
+use box_answers::{Coord, LocaleFault, LocaleRule, NumberSet, read_locale};
 use serde_json::Value;
 use std::alloc::{AllocError, Global};
 use std::rc::Rc;
@@ -29,36 +28,51 @@ pub(crate) const MOST_VALUES: usize = 512;
 
 /// The sets of all coordinates.
 #[tactic(auto, unfolding(crate::specs::BoxJson::box_in_value))]
-pub(crate) fn sets_in_value(alloc: Global, value: &Value) -> Result<Vec<NumberSet>, BoxFault>
-    ensures value { GivesOr OutOfMemory (λ sets. sets_of sets.items) result (box_in_value (view value.now)) }
+pub(crate) fn sets_in_value(
+    alloc: Global,
+    value: &Value,
+    rule: LocaleRule,
+) -> Result<Vec<NumberSet>, BoxFault>
+    ensures value { GivesOr OutOfMemory (λ sets. sets_of sets.items) result (box_in_value rule (view value.now)) }
     ensures sets { IfOk result (λ sets. IsBox (sets_of sets.items)) }
+    ensures by_rule { IfOk result (λ sets. IsByRule rule (sets_of sets.items)) }
 {
     let written = written_in(alloc, value)?;
-    sets_of_each(alloc, written.as_slice())
+    sets_of_each(alloc, written.as_slice(), rule)
 }
 
 #[tactic(auto, using(json_input::proofs::EachSteps::each_item_steps))]
-fn sets_of_each(alloc: Global, written: &[(Coord, Written)]) -> Result<Vec<NumberSet>, BoxFault>
+fn sets_of_each(
+    alloc: Global,
+    written: &[(Coord, Written)],
+    rule: LocaleRule,
+) -> Result<Vec<NumberSet>, BoxFault>
     requires { map (λ pair. pair.0) written.now ≡ all_coords }
-    ensures value { GivesOr OutOfMemory (λ sets. sets_of sets.items) result (each set_in (map pair_seen written.now)) }
+    ensures value { GivesOr OutOfMemory (λ sets. sets_of sets.items) result (each (set_in rule) (map pair_seen written.now)) }
     ensures sets { IfOk result (λ sets. IsBox (sets_of sets.items)) }
+    ensures by_rule { IfOk result (λ sets. IsByRule rule (sets_of sets.items)) }
 {
     let mut sets = Vec::with_capacity(alloc, written.len())?;
     for (coord, what) in written {
-        let set = set_in(alloc, *coord, what)?;
+        let set = set_in(alloc, *coord, what, rule)?;
         sets.push(set)?;
     }
     Ok(sets)
 }
 
 #[tactic(auto, unfolding(crate::specs::BoxJson::set_in))]
-fn set_in(alloc: Global, at: Coord, written: &Written) -> Result<NumberSet, BoxFault>
-    ensures value { GivesOr OutOfMemory set_of result (set_in (at, written_seen written.now)) }
-    ensures fits { IfOk result (λ set. IsSetAt at (set_of set)) }
+fn set_in(
+    alloc: Global,
+    at: Coord,
+    written: &Written,
+    rule: LocaleRule,
+) -> Result<NumberSet, BoxFault>
+    ensures value { GivesOr OutOfMemory set_of result (set_in rule (at, written_seen written.now)) }
+    ensures fits { IfOk result (λ set. IsSetBy rule at (set_of set)) }
 {
     match (at, written) {
-        (_, Written::Nothing) => set_of_nothing(alloc, at),
-        (Coord::Locale, Written::Texts(texts)) => set_of_texts(alloc, texts.as_slice()),
+        (_, Written::Nothing) => set_of_nothing(alloc, at, rule),
+        (Coord::Locale, Written::Texts(texts)) => set_of_texts(alloc, texts.as_slice(), rule),
         (Coord::Locale, _) => Err(BoxFault::Shape),
         (_, Written::Range(from, to)) => set_of_range(at, *from, *to),
         (_, Written::Numbers(numbers)) => set_of_numbers(alloc, at, numbers.as_slice()),
@@ -131,61 +145,75 @@ fn numbers_set(alloc: Global, numbers: &[u64]) -> Result<NumberSet, AllocError>
 
 // ---- locales
 
-fn is_malformed(text: &str) -> bool
-    ensures { result ≡ is_malformed text.now }
+fn is_malformed(text: &str, rule: LocaleRule) -> bool
+    ensures { result ≡ is_malformed rule text.now }
 {
-    match Locale::read(text) {
+    match read_locale(text, rule) {
         Err(LocaleFault::Malformed) => true,
         Ok(_) | Err(LocaleFault::RegionAlone) => false,
     }
 }
 
-fn is_region_alone(text: &str) -> bool
-    ensures { result ≡ is_region_alone text.now }
+fn is_region_alone(text: &str, rule: LocaleRule) -> bool
+    ensures { result ≡ is_region_alone rule text.now }
 {
-    match Locale::read(text) {
+    match read_locale(text, rule) {
         Err(LocaleFault::RegionAlone) => true,
         Ok(_) | Err(LocaleFault::Malformed) => false,
     }
 }
 
-fn any_malformed(texts: &[&str]) -> bool
-    ensures { result ≡ list_any is_malformed (map (λ text. text.now) texts.now) }
+fn any_malformed(texts: &[&str], rule: LocaleRule) -> bool
+    ensures { result ≡ list_any (is_malformed rule) (map (λ text. text.now) texts.now) }
 {
     for text in texts {
-        if is_malformed(text) {
+        if is_malformed(text, rule) {
             return true;
         }
     }
     false
 }
 
-fn any_region_alone(texts: &[&str]) -> bool
-    ensures { result ≡ list_any is_region_alone (map (λ text. text.now) texts.now) }
+fn any_region_alone(texts: &[&str], rule: LocaleRule) -> bool
+    ensures { result ≡ list_any (is_region_alone rule) (map (λ text. text.now) texts.now) }
 {
     for text in texts {
-        if is_region_alone(text) {
+        if is_region_alone(text, rule) {
             return true;
         }
     }
     false
 }
 
-// The number of a text's locale, 0 where it has none.
-fn number_of_text(text: &str) -> u64
-    ensures value { result ≡ number_of_text text.now }
-    ensures given { IsGiven (locale_of_number result) }
+/// That no script is known, where locales are compared as a phone does it, is all that the number of no locale says.
+const NO_LOCALE_OF_A_PHONE: u64 = 1;
+
+// The number of no locale.
+fn number_of_none(rule: LocaleRule) -> u64
+    ensures value { result ≡ number_of_none rule }
+    ensures of_rule { IsOfRule rule result }
 {
-    match Locale::read(text) {
+    match rule {
+        LocaleRule::LanguageAndRegion => 0,
+        LocaleRule::Android => NO_LOCALE_OF_A_PHONE,
+    }
+}
+
+// The number of a text's locale, that of no locale where it has none.
+fn number_of_text(text: &str, rule: LocaleRule) -> u64
+    ensures value { result ≡ number_of_text rule text.now }
+    ensures of_rule { IsOfRule rule result }
+{
+    match read_locale(text, rule) {
         Ok(locale) => locale.number(),
-        Err(_) => 0,
+        Err(_) => number_of_none(rule),
     }
 }
 
 #[tactic(auto, unfolding(crate::specs::BoxJson::set_of_texts))]
-fn set_of_texts(alloc: Global, texts: &[&str]) -> Result<NumberSet, BoxFault>
-    ensures value { GivesOr OutOfMemory set_of result (set_of_texts (map (λ text. text.now) texts.now)) }
-    ensures fits { IfOk result (λ set. IsSetAt coords.Locale (set_of set)) }
+fn set_of_texts(alloc: Global, texts: &[&str], rule: LocaleRule) -> Result<NumberSet, BoxFault>
+    ensures value { GivesOr OutOfMemory set_of result (set_of_texts rule (map (λ text. text.now) texts.now)) }
+    ensures fits { IfOk result (λ set. IsSetBy rule coords.Locale (set_of set)) }
 {
     let at = Coord::Locale;
     if texts.is_empty() {
@@ -194,23 +222,23 @@ fn set_of_texts(alloc: Global, texts: &[&str]) -> Result<NumberSet, BoxFault>
     if texts.len() > MOST_VALUES {
         return Err(BoxFault::TooMany(at));
     }
-    if any_malformed(texts) {
+    if any_malformed(texts, rule) {
         return Err(BoxFault::FieldRange(at));
     }
-    if any_region_alone(texts) {
+    if any_region_alone(texts, rule) {
         return Err(BoxFault::RegionAlone);
     }
-    let numbers = numbers_of_texts(alloc, texts)?;
+    let numbers = numbers_of_texts(alloc, texts, rule)?;
     Ok(locales_set(alloc, numbers.as_slice())?)
 }
 
-fn numbers_of_texts(alloc: Global, texts: &[&str]) -> Result<Vec<u64>, AllocError>
-    ensures value { IfOk result (λ numbers. numbers.items ≡ map number_of_text (map (λ text. text.now) texts.now)) }
-    ensures given { IfOk result (λ numbers. (k : ℕ) → k < length numbers.items → IsGiven (locale_of_number (slice_index numbers.items k))) }
+fn numbers_of_texts(alloc: Global, texts: &[&str], rule: LocaleRule) -> Result<Vec<u64>, AllocError>
+    ensures value { IfOk result (λ numbers. numbers.items ≡ map (number_of_text rule) (map (λ text. text.now) texts.now)) }
+    ensures of_rule { IfOk result (λ numbers. (k : ℕ) → k < length numbers.items → IsOfRule rule (slice_index numbers.items k)) }
 {
     let mut numbers = Vec::with_capacity(alloc, texts.len())?;
     for text in texts {
-        numbers.push(number_of_text(text))?;
+        numbers.push(number_of_text(text, rule))?;
     }
     Ok(numbers)
 }
@@ -226,13 +254,13 @@ fn locales_set(alloc: Global, numbers: &[u64]) -> Result<NumberSet, AllocError>
 // ---- a coordinate of which nothing is said
 
 #[tactic(auto, unfolding(crate::specs::BoxJson::set_of_nothing))]
-fn set_of_nothing(alloc: Global, at: Coord) -> Result<NumberSet, BoxFault>
-    ensures value { GivesOr OutOfMemory set_of result (set_of_nothing at) }
-    ensures fits { IfOk result (λ set. IsSetAt at (set_of set)) }
+fn set_of_nothing(alloc: Global, at: Coord, rule: LocaleRule) -> Result<NumberSet, BoxFault>
+    ensures value { GivesOr OutOfMemory set_of result (set_of_nothing rule at) }
+    ensures fits { IfOk result (λ set. IsSetBy rule at (set_of set)) }
 {
     match at {
         Coord::Density => Err(BoxFault::Density),
-        Coord::Locale => Ok(locales_set(alloc, &[0])?),
+        Coord::Locale => Ok(locales_set(alloc, &[number_of_none(rule)])?),
         _ => Ok(numbers_set(alloc, &[0])?),
     }
 }

@@ -148,8 +148,8 @@ better-tie a b d tied decided =
     ∙ density_yes (record_number a) (record_number b) (device_number d) tied
 
 pub both_or_neither : (a b d : List ℕ) → BothOrNeitherIsBetter a b d
-both_or_neither a b d t =
-    (better-tie a b d t.densities t.decided, better-tie b a d (turned (density a) (density b) t.densities) (sym (either_order a b d) ∙ t.decided))
+both_or_neither a b d plain t =
+    (better-tie a b d t.densities t.decided, better-tie b a d (turned (density a) (density b) t.densities) (sym (either_order a b d plain) ∙ t.decided))
   where
     turned : (x y : ℕ) → tie x y ≡ true → tie y x ≡ true
     turned x y e = grind (arith, nat_tests)

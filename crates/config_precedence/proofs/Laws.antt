@@ -14,9 +14,10 @@ use Rattle.config_match.specs.config_rules.declared.kind.Kind.{Kind}
 use Rattle.config_match.specs.config_rules.declared.kind.Kind.TheVariants as kinds
 use Rattle.config_match.specs.config_rules.declared.rule.Rule.{Rule}
 use Rattle.config_match.specs.config_rules.Answer.{is_pass, is_yes, or_else}
-use Rattle.config_match.specs.config_rules.Comparisons.{always_larger_answer, locale_rank, dimensions_answer, rest_of_both}
+use Rattle.config_match.specs.config_rules.Comparisons.{always_larger_answer, locale_rank, locale_answer, dimensions_answer, rest_of_both}
 use Rattle.config_match.specs.config_rules.Conditions.{is_equal, is_at_most}
 use Rattle.config_match.specs.config_rules.Kind.{kind_answer}
+use Rattle.config_match.specs.config_rules.Locale.{is_by_language_and_region}
 use Rattle.config_match.specs.config_rules.Rule.{at, rule_answer, numbers_at}
 use Rattle.config_match.specs.config_rules.Table.{answer_of_table}
 use Rattle.config_match.specs.Conditions.{all_conditions}
@@ -89,9 +90,13 @@ always_larger_order : (d : Coord → ℕ) (c : Coord) → IsOrder d (at c kinds.
 unfolding rule_answer kind_answer
 always_larger_order d c = by_rank d (at c kinds.AlwaysLarger) (λ a. a c) (λ a b s t. refl)
 
-locale_order : (d : Coord → ℕ) (c : Coord) → IsOrder d (at c kinds.LocaleRank)
+plain-ranked : (a b d : ℕ) → is_by_language_and_region d ≡ true → locale_answer a b d ≡ always_larger_answer (locale_rank a) (locale_rank b)
+unfolding locale_answer
+plain-ranked a b d plain = rw plain refl
+
+locale_order : (d : Coord → ℕ) (c : Coord) → is_by_language_and_region (d c) ≡ true → IsOrder d (at c kinds.LocaleRank)
 unfolding rule_answer kind_answer
-locale_order d c = by_rank d (at c kinds.LocaleRank) (λ a. locale_rank (a c)) (λ a b s t. refl)
+locale_order d c plain = by_rank d (at c kinds.LocaleRank) (λ a. locale_rank (a c)) (λ a b s t. plain-ranked (a c) (b c) (d c) plain)
 
 screen_size_order : (d : Coord → ℕ) (c : Coord) → kind_at c ≡ kinds.AtMost → IsOrder d (at c kinds.ScreenSize)
 unfolding rule_answer kind_answer
@@ -119,14 +124,14 @@ density_order d = record {
   three = λ a b c _ _ _. density-composes (a coords.Density) (b coords.Density) (c coords.Density) (d coords.Density);
 }
 
-orders : (d : Coord → ℕ) → AllByRecursion (IsOrder d) all_rules
+orders : (d : Coord → ℕ) → is_by_language_and_region (d coords.Locale) ≡ true → AllByRecursion (IsOrder d) all_rules
 unfolding all_rules all_conditions kind_at place_of
-orders d = (
+orders d plain = (
   given_order d coords.Mcc refl,
   (
     given_order d coords.Mnc refl,
     (
-      locale_order d coords.Locale,
+      locale_order d coords.Locale plain,
       (
         larger_order_equal d coords.LayoutDirection refl,
         (
@@ -198,12 +203,12 @@ each : {P Q : Rule → Type 0} → ((rule : Rule) → P rule → Q rule) → (ru
 each f [] all = tt
 each f (rule ∷ rules) all = (f rule all.0, each f rules all.1)
 
-all_oppose : (a b d : Coord → ℕ) → Suits a d → Suits b d → tie (a coords.Density) (b coords.Density) ≡ false → Opposes (answer_of_table all_rules a b d) (answer_of_table all_rules b a d)
-all_oppose a b d s t untied = opposes all_rules a b d (each (λ rule o. o.two a b s t (and_right (is_density rule.kind) _ untied)) all_rules (orders d))
+all_oppose : (a b d : Coord → ℕ) → is_by_language_and_region (d coords.Locale) ≡ true → Suits a d → Suits b d → tie (a coords.Density) (b coords.Density) ≡ false → Opposes (answer_of_table all_rules a b d) (answer_of_table all_rules b a d)
+all_oppose a b d plain s t untied = opposes all_rules a b d (each (λ rule o. o.two a b s t (and_right (is_density rule.kind) _ untied)) all_rules (orders d plain))
 
-earlier_oppose : (a b d : Coord → ℕ) → Suits a d → Suits b d → Opposes (answer_of_table earlier_rules a b d) (answer_of_table earlier_rules b a d)
+earlier_oppose : (a b d : Coord → ℕ) → is_by_language_and_region (d coords.Locale) ≡ true → Suits a d → Suits b d → Opposes (answer_of_table earlier_rules a b d) (answer_of_table earlier_rules b a d)
 unfolding all_rules
-earlier_oppose a b d s t = opposes earlier_rules a b d (not_density earlier_rules refl (front 14 all_rules (orders d)))
+earlier_oppose a b d plain s t = opposes earlier_rules a b d (not_density earlier_rules refl (front 14 all_rules (orders d plain)))
   where
     front : (n : ℕ) (rules : List Rule) → AllByRecursion (IsOrder d) rules → AllByRecursion (IsOrder d) (take n rules)
     front zero rules all = tt
@@ -227,14 +232,14 @@ decided_alone No x' y y' o some h = absurd cc
 decided_alone Pass x' y y' o some h = absurd cc
 
 -- one of the earlier rules decides
-earlier_alone : (a b d : Coord → ℕ) → Suits a d → Suits b d → is_pass (answer_of_table earlier_rules a b d) ≡ false
+earlier_alone : (a b d : Coord → ℕ) → is_by_language_and_region (d coords.Locale) ≡ true → Suits a d → Suits b d → is_pass (answer_of_table earlier_rules a b d) ≡ false
     → is_yes (answer_of_table all_rules a b d) ≡ true → is_yes (answer_of_table all_rules b a d) ≡ false
-earlier_alone a b d s t some better =
-    ap is_yes (answer-parted b a d) ∙ decided_alone _ _ _ _ (earlier_oppose a b d s t) some (sym (ap is_yes (answer-parted a b d)) ∙ better)
+earlier_alone a b d plain s t some better =
+    ap is_yes (answer-parted b a d) ∙ decided_alone _ _ _ _ (earlier_oppose a b d plain s t) some (sym (ap is_yes (answer-parted a b d)) ∙ better)
 
 pub at_most_one : (a b d : List ℕ) → AtMostOneIsBetter a b d
 unfolding is_better record_number coordinate
-at_most_one a b d ma mb not_tie better = densities (densities_tie a b) refl
+at_most_one a b d plain ma mb not_tie better = densities (densities_tie a b) refl
   where
     suits_a : Suits (record_number a) (device_number d)
     suits_a = match_suits a d ma
@@ -244,18 +249,18 @@ at_most_one a b d ma mb not_tie better = densities (densities_tie a b) refl
 
     earlier : densities_tie a b ≡ true → (pass : Bool) → is_pass (answer_of_table earlier_rules (record_number a) (record_number b) (device_number d)) ≡ pass → is_better b a d ≡ false
     earlier tied true pass = absurd (not_tie (record { densities = tied; decided = deciding-tie a b d tied pass }))
-    earlier tied false some = earlier_alone (record_number a) (record_number b) (device_number d) suits_a suits_b some better
+    earlier tied false some = earlier_alone (record_number a) (record_number b) (device_number d) plain suits_a suits_b some better
 
     densities : (t : Bool) → densities_tie a b ≡ t → is_better b a d ≡ false
-    densities false untied = yes_alone _ _ (all_oppose (record_number a) (record_number b) (device_number d) suits_a suits_b untied) better
+    densities false untied = yes_alone _ _ (all_oppose (record_number a) (record_number b) (device_number d) plain suits_a suits_b untied) better
     densities true tied = earlier tied (is_pass (answer_of_table earlier_rules (record_number a) (record_number b) (device_number d))) refl
 
 pub transitive : (a b d : List ℕ) → IsTransitiveFrom a b d
 unfolding is_better
-transitive a b d c ma mb mc first second =
+transitive a b d plain c ma mb mc first second =
     let s = match_suits a d ma in
     let t = match_suits b d mb in
     let u = match_suits c d mc in
     composes all_rules (record_number a) (record_number b) (record_number c) (device_number d)
-    (each (λ rule o. o.three (record_number a) (record_number b) (record_number c) s t u) all_rules (orders (device_number d)))
+    (each (λ rule o. o.three (record_number a) (record_number b) (record_number c) s t u) all_rules (orders (device_number d) plain))
     first second

@@ -2,7 +2,6 @@
 use Rattle.std.proofs.Common.{◌≡◌, ℕ, Bool, true, false, List, [], ◌∷◌, refl, lit<}
 use Rattle.std.specs.Prelude.{slice_index_or}
 use Rattle.std.specs.List.{All, AllByRecursion}
-use Rattle.std.proofs.lemmas.Bool.{and_parts}
 use Rattle.std.proofs.lemmas.List.Elements.{All-from_recursion}
 use Rattle.config_match.specs.config_record.declared.coord.Coord.{Coord}
 use Rattle.config_match.specs.config_record.declared.coord.Coord.TheVariants as coords
@@ -48,7 +47,7 @@ suits r d h = at_each (All-from_recursion (λ rule. rule_answer rule r r d ≡ P
 
 pub match_suits : (r d : List ℕ) → is_match r d ≡ true → Suits (record_number r) (device_number d)
 unfolding is_match
-match_suits r d h = suits _ _ (and_parts _ _ h).1
+match_suits r d h = suits _ _ h
 
 -- ---- what that says of the numbers
 

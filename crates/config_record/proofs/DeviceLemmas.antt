@@ -2,25 +2,26 @@
 use Rattle.std.proofs.Common.{◌≡◌, ℕ, zero, suc, ◌<◌, ◌≤◌, ◌≢◌, ◌==◌, nat_lt, Bool, true, false, List, [], ◌∷◌, length, get_or, ◌⊎◌, inl, inr, Result, Ok, Err, IfOk, refl, sym, ap, subst, ◌∙◌, arith}
 use Rattle.std.specs.Prelude.{IfErr}
 use Rattle.std.proofs.lemmas.Bool.{ltb-false, eqb-false, or_parts}
-use Rattle.locales.specs.contract_words.Faults.{◌>>=◌, checked_by}
-use Rattle.locales.specs.contract_words.Sequences.{with_front}
-use Rattle.locales.proofs.contract_words.FaultSteps.{checked_by-ok}
+use Rattle.android_locales.specs.locales.contract_words.Faults.{◌>>=◌, checked_by}
+use Rattle.android_locales.specs.locales.contract_words.Sequences.{with_front}
+use Rattle.android_locales.proofs.locales.contract_words.FaultSteps.{checked_by-ok}
 use Rattle.json_input.specs.Each.{each}
 use Rattle.config_record.specs.declared.coord.Coord.{Coord}
 use Rattle.config_record.specs.declared.coord.Coord.TheVariants as coords
-use Rattle.locales.specs.declared.locale.Locale.{Locale}
-use Rattle.locales.specs.declared.locale.LocaleFault.{LocaleFault}
-use Rattle.locales.specs.declared.locale.LocaleFault.TheVariants as of_locale
+use Rattle.android_locales.specs.locales.declared.locale.Locale.{Locale}
+use Rattle.android_locales.specs.locales.declared.locale.LocaleFault.{LocaleFault}
+use Rattle.android_locales.specs.locales.declared.locale.LocaleFault.TheVariants as of_locale
 use Rattle.config_record.specs.declared.fields.DeviceFault.{DeviceFault}
 use Rattle.config_record.specs.declared.fields.DeviceFault.TheVariants.{FieldRange, RegionAlone, Density}
 use Rattle.config_record.specs.Coord.{all_coords, place_of, number_at, greatest_of, greatest_of_device, is_outside}
 use Rattle.config_record.specs.declared.device.Device.{Device}
 use Rattle.config_record.specs.ComparedNumber.{device_number}
-use Rattle.locales.specs.LocaleNumber.{locale_number, locale_of_number}
+use Rattle.android_locales.specs.locales.LocaleNumber.{locale_number, locale_of_number}
 use Rattle.config_record.specs.DeviceSeen.{device_numbers, seen}
 use Rattle.config_record.specs.Device.{density_in, field_in, locale_number_in, number_in, device_with, device_locale, CanHave}
-use Rattle.locales.proofs.LocaleLemmas.{locale_of-gives}
-use Rattle.locales.specs.Locale.{locale_of, locale_faults, checked_locale, IsOfSomeText, IsGiven, locale_text}
+use Rattle.android_locales.proofs.locales.LocaleLemmas.{locale_of-gives}
+use Rattle.android_locales.specs.locales.Locale.{locale_of, locale_faults, checked_locale, IsOfSomeText, plain_text}
+use Rattle.android_locales.specs.Text.{IsGiven}
 
 -- ---- the number of each coordinate stands at its place
 
@@ -176,14 +177,14 @@ device-locale_asked asked own l (Err fault) e checked back = tt
 
 -- ---- which some text stands for
 
-some_text-asked : (own : Locale) (l : Result Locale LocaleFault) (n : ℕ) → l ≡ checked_locale own → IfOk l (λ m. locale_of (locale_text m) ≡ Ok m)
+some_text-asked : (own : Locale) (l : Result Locale LocaleFault) (n : ℕ) → l ≡ checked_locale own → IfOk l (λ m. locale_of (plain_text m) ≡ Ok m)
     → locale_number_in l ≡ Ok n → IsOfSomeText own
-some_text-asked own (Ok m) n checked read e = subst (λ (l : Locale). IsOfSomeText l) (sym (same_locale own m (sym checked))) (locale_text m, read)
+some_text-asked own (Ok m) n checked read e = subst (λ (l : Locale). IsOfSomeText l) (sym (same_locale own m (sym checked))) (plain_text m, read)
 some_text-asked own (Err of_locale.RegionAlone) n checked read e = absurd cc
 some_text-asked own (Err of_locale.Malformed) n checked read e = absurd cc
 
 pub device-some_text : (asked : List ℕ) (own : Locale) (l : Result Locale LocaleFault) (r : Result Device DeviceFault) → seen r ≡ device_with asked l
-    → l ≡ checked_locale own → IfOk l (λ m. locale_of_number (locale_number m) ≡ m) → IfOk l (λ m. locale_of (locale_text m) ≡ Ok m)
+    → l ≡ checked_locale own → IfOk l (λ m. locale_of_number (locale_number m) ≡ m) → IfOk l (λ m. locale_of (plain_text m) ≡ Ok m)
     → IfOk r (λ d. IsOfSomeText (device_locale (device_numbers d)))
 unfolding device_with number_in
 device-some_text asked own l (Ok d) e checked back read =

@@ -3,4 +3,6 @@ pub mod QualifierLemmas
 pub mod FillSteps
 pub mod DeviceLemmas
 pub mod ChangedNumber
-pub use Rattle.locales.proofs as locales
+pub mod SetAside
+pub use Rattle.android_locales.proofs as android_locales
+pub use Rattle.android_locales.proofs.locales

@@ -1,6 +1,6 @@
 -- The device that a JSON text means.
 use Rattle.std.specs.Prelude.{ℕ, List, [], map, not, Option, Some, None, ok_or, Result, Ok}
-use Rattle.locales.specs.contract_words.Faults.{◌>>=◌, refuse}
+use Rattle.android_locales.specs.locales.contract_words.Faults.{◌>>=◌, refuse}
 use Rattle.serde_json.specs.Data.{Data}
 use Rattle.serde_json.specs.Find.{get}
 use Rattle.json_input.specs.Json.{value_of}
@@ -11,7 +11,9 @@ use Rattle.config_record.specs.declared.coord.Coord.TheVariants as coords
 use Rattle.config_record.specs.declared.fields.DeviceFault.{DeviceFault}
 use Rattle.config_record.specs.declared.fields.DeviceFault.TheVariants.{Syntax, Shape}
 use Rattle.config_record.specs.Coord.{all_coords, name_of}
-use Rattle.locales.specs.Locale.{locale_of}
+use Rattle.android_locales.specs.declared.locale_rule.LocaleRule.{LocaleRule}
+use Rattle.android_locales.specs.declared.locale_rule.LocaleRule.TheVariants.{LanguageAndRegion}
+use Rattle.android_locales.specs.Text.{locale_by}
 use Rattle.config_record.specs.Device.{device_with}
 
 -- ---- what is asked for at a coordinate: a member of its name, or 0 or no text where there is none
@@ -39,13 +41,17 @@ locale_asked value = ok_or (text_or_empty (get (name_of coords.Locale) value)) S
 
 -- The shape of the whole comes before any coordinate: an object whose members are coordinates, a text at
 -- the locale and numbers elsewhere.
-unfoldable pub device_in_value : Data → Result (List ℕ) DeviceFault
-device_in_value value = do
+unfoldable pub device_in_value : LocaleRule → Data → Result (List ℕ) DeviceFault
+device_in_value rule value = do
   _ ← refuse (not (has_only (map name_of all_coords) value)) Shape
   numbers ← numbers_asked value
   text ← locale_asked value
-  device_with numbers (locale_of text)
+  device_with numbers (locale_by rule text)
 
--- the device that bytes mean, or the first fault
+-- the device that bytes mean, where locales are read by this rule, or the first fault
+abbrev pub device_in_json_by : LocaleRule → List ℕ → Result (List ℕ) DeviceFault
+device_in_json_by rule bytes = ok_or (value_of bytes) Syntax >>= device_in_value rule
+
+-- by language and region
 abbrev pub device_in_json : List ℕ → Result (List ℕ) DeviceFault
-device_in_json bytes = ok_or (value_of bytes) Syntax >>= device_in_value
+device_in_json = device_in_json_by LanguageAndRegion

@@ -6,4 +6,5 @@ pub mod DeviceJson
 pub mod DeviceSeen
 pub mod Separator
 pub mod Qualifiers
-pub use Rattle.locales.specs as locales
+pub use Rattle.android_locales.specs as android_locales
+pub use Rattle.android_locales.specs.locales

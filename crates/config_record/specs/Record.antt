@@ -1,16 +1,16 @@
 -- Records: the configurations that type chunks hold (AOSP: ResTable_config). A record is the list of
 -- its bytes.
-use Rattle.std.specs.Prelude.{ℕ, ◌+◌, ◌*◌, ◌/◌, ◌%◌, ◌||◌, not, nat_lt, Bool, List, [], ◌∷◌, length, take, slice_index, Result, Ok, Err}
-use Rattle.locales.specs.contract_words.Faults.{checked_by}
-use Rattle.locales.specs.chunk_walk.Number.{number}
+use Rattle.std.specs.Prelude.{ℕ, ◌+◌, ◌*◌, ◌/◌, ◌%◌, ◌==◌, ◌||◌, not, nat_lt, Bool, List, [], ◌∷◌, length, take, slice_index, Result, Ok, Err}
+use Rattle.android_locales.specs.locales.contract_words.Faults.{checked_by}
+use Rattle.android_locales.specs.locales.chunk_walk.Number.{number}
 use Rattle.config_record.specs.declared.coord.Coord as coord
 use Rattle.config_record.specs.declared.coord.Coord.TheVariants as coords
-use Rattle.locales.specs.declared.locale.Locale.{Locale}
+use Rattle.android_locales.specs.locales.declared.locale.Locale.{Locale}
 use Rattle.config_record.specs.declared.record.Record.{Record}
 use Rattle.config_record.specs.declared.record.RecordFault.{RecordFault}
 use Rattle.config_record.specs.declared.record.RecordFault.TheVariants.{Size, Outside}
-use Rattle.locales.specs.Zero.{is_zero}
-use Rattle.locales.specs.Locale.{without_script}
+use Rattle.android_locales.specs.locales.Zero.{is_zero}
+use Rattle.android_locales.specs.locales.Locale.{without_script}
 
 abbrev pub record_bytes : Record → List ℕ
 record_bytes r = r.bytes.now
@@ -121,6 +121,10 @@ screen_layout2 r = byte r 48
 abbrev pub color_mode : List ℕ → ℕ
 color_mode r = byte r 49
 
+-- Android has looked for the script of its locale, which is then in its place or is not known (AOSP: localeScriptWasComputed)
+abbrev pub script_was_computed : List ℕ → Bool
+script_was_computed r = not (byte r 52 == 0)
+
 -- ---- what the fields say
 
 -- The number at each coordinate. Some fields hold several, cut from them by their bits.
@@ -154,6 +158,6 @@ coordinate r coords.Minor = minor_version r
 unfoldable pub locale_in : List ℕ → Locale
 locale_in r = without_script (language r) (country r)
 
--- A record with a script or a variant is set aside: neither is compared with a device.
+-- By language and region a record with a script or a variant is set aside: neither is compared with a device.
 unfoldable pub is_set_aside : List ℕ → Bool
 is_set_aside r = not (is_zero (locale_script r)) || not (is_zero (locale_variant r))

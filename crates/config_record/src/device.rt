@@ -5,13 +5,13 @@ ghost use Rattle.config_record.specs.declared.coord.Coord as coord;
 ghost use Rattle.config_record.specs.declared.coord.Coord.TheVariants as coords;
 ghost use Rattle.config_record.specs.Coord.{greatest_of_device, number_at};
 ghost use Rattle.config_record.specs.Device.{device_locale, CanHave};
-ghost use Rattle.locales.specs.Locale.{IsGiven};
+ghost use Rattle.android_locales.specs.Text.{IsGiven};
 
 use crate::coord::{COORD_COUNT, Coord};
 use crate::fields::{DeviceFault, Fields, fill_numbers, locale_number_in};
 use crate::json::device_in_value;
+use android_locales::{Locale, LocaleFault, LocaleRule};
 use json_input::read_value;
-use locales::{Locale, LocaleFault};
 use std::alloc::Global;
 
 /// A configuration that is asked for: 24 numbers, none above the greatest of its coordinate, and a
@@ -27,12 +27,12 @@ pub struct Device {
 
 impl Device {
     ghost use Rattle.std.specs.Prelude.{IfOk, IfErr};
-    ghost use Rattle.locales.specs.contract_words.Exact.{GivesOr};
+    ghost use Rattle.android_locales.specs.locales.contract_words.Exact.{GivesOr};
     ghost use Rattle.config_record.specs.declared.fields.DeviceFault.TheVariants.{FieldRange, RegionAlone, OutOfMemory};
     ghost use Rattle.config_record.specs.ComparedNumber.{device_number};
     ghost use Rattle.config_record.specs.Device.{device_with, device_in, device_coordinate};
-    ghost use Rattle.config_record.specs.DeviceJson.{device_in_json};
-    ghost use Rattle.locales.specs.Locale.{IsOfSomeText};
+    ghost use Rattle.config_record.specs.DeviceJson.{device_in_json, device_in_json_by};
+    ghost use Rattle.android_locales.specs.locales.Locale.{IsOfSomeText};
     ghost use Rattle.config_record.specs.DeviceSeen.{device_numbers, seen};
 
     /// The device of these fields. For callers that have numbers and a locale, as one that asks the
@@ -61,8 +61,15 @@ impl Device {
     pub fn read(alloc: Global, json: &[u8]) -> Result<Device, DeviceFault>
         ensures { GivesOr OutOfMemory device_numbers result (device_in_json json.now) }
     {
+        Device::read_by(alloc, json, LocaleRule::LanguageAndRegion)
+    }
+
+    /// The same, where the text of the locale is read by a rule, by which it is then compared.
+    pub fn read_by(alloc: Global, json: &[u8], rule: LocaleRule) -> Result<Device, DeviceFault>
+        ensures { GivesOr OutOfMemory device_numbers result (device_in_json_by rule json.now) }
+    {
         let value = read_value(alloc, json)?;
-        device_in_value(&value)
+        device_in_value(&value, rule)
     }
 
     /// The device of the numbers that are compared at each coordinate, in their order.
@@ -99,17 +106,18 @@ impl Device {
     }
 
     /// The number that is compared with that of a record: the one of a coordinate, or of the bytes of the
-    /// locale, language first. A locale without a language is none at all.
+    /// locale, language first. A locale without a language has no region, and
+    /// no script is known.
     pub fn compared_number(&self, coord: Coord) -> u64
         ensures value { result ≡ device_number (device_numbers self.now) coord }
         ensures within { coord ≢ coords.Locale → result ≤ greatest_of_device coord }
         ensures with_density { coord ≡ coords.Density → 1 ≤ result }
-        ensures with_language { coord ≡ coords.Locale → result < 65536 * 2 ^ 32 → result ≡ 0 }
+        ensures with_language { coord ≡ coords.Locale → result < 65536 * 2 ^ 32 → result ≤ 1 }
     {
         self.numbers[coord.place()]
     }
 
-    /// Its language and region; each may be missing.
+    /// Its locale, with the script by which it is compared.
     pub fn locale(&self) -> Locale
         ensures value { result ≡ device_locale (device_numbers self.now) }
         ensures given { IsGiven result }

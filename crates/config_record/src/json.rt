@@ -9,20 +9,20 @@ ghost use Rattle.config_record.specs.DeviceSeen.{filled, seen, text_seen};
 use crate::coord::{COORD_COUNT, Coord};
 use crate::device::Device;
 use crate::fields::DeviceFault;
+use android_locales::{LocaleRule, read_locale};
 use json_input::has_only;
-use locales::Locale;
 use serde_json::Value;
 
 #[tactic(auto, unfolding(crate::specs::DeviceJson::device_in_value))]
-pub(crate) fn device_in_value(value: &Value) -> Result<Device, DeviceFault>
-    ensures { seen result ≡ device_in_value (view value.now) }
+pub(crate) fn device_in_value(value: &Value, rule: LocaleRule) -> Result<Device, DeviceFault>
+    ensures { seen result ≡ device_in_value rule (view value.now) }
 {
     if !has_only(value, &Coord::names()) {
         return Err(DeviceFault::Shape);
     }
     let numbers = numbers_asked(value)?;
     let text = locale_asked(value)?;
-    Device::with(&numbers, Locale::read(text))
+    Device::with(&numbers, read_locale(text, rule))
 }
 
 #[tactic(auto, unfolding(crate::specs::DeviceJson::numbers_asked, crate::specs::Coord::all_coords))]

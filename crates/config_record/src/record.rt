@@ -3,7 +3,7 @@
 ghost use Rattle.std.specs.Prelude.{◌≡◌, ◌≢◌, ◌<◌, ◌≤◌, true, MatchBool};
 
 use crate::coord::Coord;
-use locales::{Locale, is_zero, u32_at};
+use android_locales::{Locale, is_zero, kept_script, u32_at};
 use thiserror::Error;
 
 mod fields;
@@ -66,7 +66,7 @@ impl<'a> Record<'a> {
     ghost use Rattle.config_record.specs.Coord.{greatest_of};
     ghost use Rattle.config_record.specs.Record.{record_bytes, seen, record_in, coordinate, locale_in, is_set_aside};
     ghost use Rattle.config_record.specs.declared.coord.Coord.TheVariants as coords;
-    ghost use Rattle.config_record.specs.ComparedNumber.{record_number};
+    ghost use Rattle.config_record.specs.ComparedNumber.{record_number, compared_locale, has_script_or_variant};
 
     /// Whether another record has the same bytes: then all that is said of the one is said of the other.
     pub fn has_bytes_of(&self, other: &Record<'_>) -> bool
@@ -124,15 +124,26 @@ impl<'a> Record<'a> {
     }
 
     /// The number that is compared with that of a device: the one of a coordinate, or of the bytes of the
-    /// locale, language first.
+    /// locale, language first, with what is kept of its script and its variant.
     #[tactic(auto, unfolding(crate::specs::ComparedNumber::record_number))]
     pub fn compared_number(&self, coord: Coord) -> u64
         ensures value { result ≡ record_number (record_bytes self.now) coord }
         ensures within { coord ≢ coords.Locale → result ≤ greatest_of coord }
     {
         match coord {
-            Coord::Locale => self.locale().number(),
+            Coord::Locale => self.compared_locale().number(),
             _ => u64::from(self.get(coord)),
+        }
+    }
+
+    // With what is kept of its script and its variant.
+    fn compared_locale(&self) -> Locale
+        ensures { result ≡ compared_locale (record_bytes self.now) }
+    {
+        let script = kept_script(self.script(), &self.variant(), self.script_was_computed());
+        Locale {
+            script,
+            ..self.locale()
         }
     }
 
@@ -144,10 +155,12 @@ impl<'a> Record<'a> {
         Locale::without_script(self.language(), self.country())
     }
 
-    /// Whether there is a script or a variant. Such a record is shown, and matches no device.
+    /// Whether there is a script or a variant. Such a record is shown, and matches no device that is compared by
+    /// language and region.
     #[tactic(auto, unfolding(crate::specs::Record::is_set_aside))]
     pub fn set_aside(&self) -> bool
-        ensures { result ≡ is_set_aside (record_bytes self.now) }
+        ensures value { result ≡ is_set_aside (record_bytes self.now) }
+        ensures compared { result ≡ has_script_or_variant (record_number (record_bytes self.now) coords.Locale) }
     {
         !is_zero(&self.script()) || !is_zero(&self.variant())
     }

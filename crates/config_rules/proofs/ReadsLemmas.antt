@@ -34,7 +34,7 @@ unfolding kind_answer
 kind-depends kinds.Given c a b d x y z e f g = same_of given_answer _ _ _ _ _ _ e.0 f.0 g.0
 kind-depends kinds.Larger c a b d x y z e f g = same_of larger_answer _ _ _ _ _ _ e.0 f.0 g.0
 kind-depends kinds.AlwaysLarger c a b d x y z e f g = same_of (λ m n _. always_larger_answer m n) _ _ _ _ _ _ e.0 f.0 g.0
-kind-depends kinds.LocaleRank c a b d x y z e f g = same_of (λ m n _. locale_answer m n) _ _ _ _ _ _ e.0 f.0 g.0
+kind-depends kinds.LocaleRank c a b d x y z e f g = same_of locale_answer _ _ _ _ _ _ e.0 f.0 g.0
 kind-depends kinds.Dimensions c a b d x y z e f g = by_both c a b d x y z e f g
 kind-depends kinds.ScreenSize c a b d x y z e f g = same_of screen_size_answer _ _ _ _ _ _ e.0 f.0 g.0
 kind-depends kinds.Density c a b d x y z e f g = same_of density_answer _ _ _ _ _ _ e.0 f.0 g.0

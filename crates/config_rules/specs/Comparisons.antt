@@ -5,7 +5,9 @@ use Rattle.config_rules.specs.declared.answer.Answer.{Answer}
 use Rattle.config_rules.specs.declared.answer.Answer.TheVariants.{Yes, No, Pass}
 use Rattle.config_rules.specs.declared.kind.Numbers.{Numbers}
 use Rattle.config_rules.specs.Answer.{answer_where}
-use Rattle.config_rules.specs.Locale.{language, region}
+use Rattle.config_record.specs.android_locales.Compared.{record_locale_of, device_locale_of}
+use Rattle.config_record.specs.android_locales.Better.{is_better_of}
+use Rattle.config_rules.specs.Locale.{language, region, is_by_language_and_region}
 
 abbrev pub is_given : ℕ → Bool
 is_given n = not (n == 0)
@@ -36,9 +38,17 @@ locale_rank l =
     else if is_given (language l) || is_given (region l) then 1
     else 0
 
--- decides where the ranks differ; then a is better where its rank is larger
-abbrev pub locale_answer : ℕ → ℕ → Answer
-locale_answer a b = always_larger_answer (locale_rank a) (locale_rank b)
+-- by language and region it decides where the ranks differ; then a is better where its rank is larger
+abbrev pub plain_answer : ℕ → ℕ → Answer
+plain_answer a b = always_larger_answer (locale_rank a) (locale_rank b)
+
+-- as a phone does it never says that a is not better
+abbrev pub phone_answer : ℕ → ℕ → ℕ → Answer
+phone_answer a b d = if is_better_of (record_locale_of a) (record_locale_of b) (device_locale_of d) then Yes else Pass
+
+-- the device says by which rule
+unfoldable pub locale_answer : ℕ → ℕ → ℕ → Answer
+locale_answer a b d = if is_by_language_and_region d then plain_answer a b else phone_answer a b d
 
 -- ---- two dimensions
 

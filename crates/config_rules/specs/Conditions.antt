@@ -1,7 +1,10 @@
 -- The conditions under which a number of a record suits that of a device (AOSP: ResTable_config::match).
 -- A record that says 0 suits every device.
-use Rattle.std.specs.Prelude.{ℕ, ◌==◌, ◌&&◌, ◌||◌, nat_le, Bool}
-use Rattle.config_rules.specs.Locale.{language, region}
+use Rattle.std.specs.Prelude.{ℕ, ◌==◌, ◌&&◌, ◌||◌, not, nat_le, Bool, if◌then◌else◌}
+use Rattle.config_record.specs.android_locales.Compared.{record_locale_of, device_locale_of}
+use Rattle.config_record.specs.android_locales.Suits.{suits_of}
+use Rattle.config_rules.specs.Locale.{language, region, says_nothing, is_by_language_and_region}
+use Rattle.config_record.specs.ComparedNumber.{has_script_or_variant}
 
 abbrev pub is_equal : ℕ → ℕ → Bool
 is_equal a d = a == 0 || a == d
@@ -21,7 +24,14 @@ soft_keys = 3
 abbrev pub keys_suit : ℕ → ℕ → Bool
 keys_suit a d = is_equal a d || (a == exposed_keys && d == soft_keys)
 
--- It says nothing, or the languages are equal, and the record's region is the device's, if it has one. A
--- region alone suits no device, since none has a region without a language.
-abbrev pub locale_suits : ℕ → ℕ → Bool
-locale_suits a d = a == 0 || (language a == language d && is_equal (region a) (region d))
+-- By language and region: it has no script and no variant; and it says nothing, or the languages are equal, and the record's
+-- region is the device's, if it has one. A region alone suits no device, since none has a region without a language.
+abbrev pub plain_suits : ℕ → ℕ → Bool
+plain_suits a d =
+    not (has_script_or_variant a) && (says_nothing a || (language a == language d && is_equal (region a) (region d)))
+
+-- the device says by which rule
+unfoldable pub locale_suits : ℕ → ℕ → Bool
+locale_suits a d =
+    if is_by_language_and_region d then plain_suits a d
+    else suits_of (record_locale_of a) (device_locale_of d)

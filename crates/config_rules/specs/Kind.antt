@@ -14,7 +14,7 @@ unfoldable pub kind_answer : Kind → Numbers → Numbers → Numbers → Answer
 kind_answer kinds.Given a b d = given_answer a.first b.first d.first
 kind_answer kinds.Larger a b d = larger_answer a.first b.first d.first
 kind_answer kinds.AlwaysLarger a b d = always_larger_answer a.first b.first
-kind_answer kinds.LocaleRank a b d = locale_answer a.first b.first
+kind_answer kinds.LocaleRank a b d = locale_answer a.first b.first d.first
 kind_answer kinds.Dimensions a b d = dimensions_answer a b d
 kind_answer kinds.ScreenSize a b d = screen_size_answer a.first b.first d.first
 kind_answer kinds.Density a b d = density_answer a.first b.first d.first

@@ -5,10 +5,13 @@ ghost use Rattle.config_record.specs.declared.coord.Coord.TheVariants as coords;
 ghost use Rattle.config_record.specs.ComparedNumber.{record_number, device_number};
 ghost use Rattle.config_record.specs.DeviceSeen.{device_numbers};
 ghost use Rattle.config_record.specs.Record.{record_bytes};
-ghost use Rattle.config_rules.specs.Conditions.{is_equal, is_at_most, keys_suit, locale_suits};
+ghost use Rattle.config_rules.specs.Locale.{is_by_language_and_region};
+ghost use Rattle.config_rules.specs.Conditions.{is_equal, is_at_most, keys_suit, plain_suits, locale_suits};
 
-use crate::locale::{language, region};
-use config_record::{Coord, Device, Record};
+use crate::locale::{
+    has_script_or_variant, is_by_language_and_region, language, region, says_nothing,
+};
+use config_record::{Coord, Device, DeviceLocale, Record, RecordLocale};
 
 /// Exposed keys, as a number of `Coord::KeysHidden`.
 const EXPOSED_KEYS: u64 = 1;
@@ -44,9 +47,28 @@ pub fn suits_locale(stored: &Record, device: &Device) -> bool
     locale_suits(stored, device.compared_number(Coord::Locale))
 }
 
+/// Whether a device is compared by language and region alone, and not as a phone is.
+pub fn is_compared_plainly(device: &Device) -> bool
+    ensures { result ≡ is_by_language_and_region (device_number (device_numbers device.now) coords.Locale) }
+{
+    is_by_language_and_region(device.compared_number(Coord::Locale))
+}
+
+#[tactic(auto, unfolding(crate::specs::Conditions::locale_suits))]
 pub(crate) fn locale_suits(stored: u64, device: u64) -> bool
     ensures { result ≡ locale_suits stored device }
 {
-    stored == 0
-        || (language(stored) == language(device) && is_equal(region(stored), region(device)))
+    if is_by_language_and_region(device) {
+        plain_suits(stored, device)
+    } else {
+        RecordLocale::of_number(stored).suits(DeviceLocale::of_number(device))
+    }
+}
+
+fn plain_suits(stored: u64, device: u64) -> bool
+    ensures { result ≡ plain_suits stored device }
+{
+    !has_script_or_variant(stored)
+        && (says_nothing(stored)
+            || (language(stored) == language(device) && is_equal(region(stored), region(device))))
 }

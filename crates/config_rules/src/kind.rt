@@ -9,7 +9,7 @@ use crate::density::by_density;
 use crate::dimensions::by_dimensions;
 use crate::given::{always_larger, given, larger};
 use crate::hidden::{by_keys, by_navigation};
-use crate::locale::by_rank;
+use crate::locale::by_locale;
 use crate::screen_size::by_screen_size;
 
 /// What a rule may look at in a configuration.
@@ -31,7 +31,8 @@ pub enum Kind {
     Larger,
     /// Where the two differ: the larger is better.
     AlwaysLarger,
-    /// The locale with more parts is better.
+    /// By language and region the locale with more parts is better; on a phone the one that is nearer to the device's, and
+    /// else nothing is said.
     LocaleRank,
     /// The pair of dimensions that leaves less of the device's is better.
     Dimensions,
@@ -52,7 +53,8 @@ pub enum Kind {
     /// A condition: the record's keys are the device's; exposed keys suit keys on the screen.
     KeysSuit,
     /// A condition: the record says nothing, or the device's language and, where it has a region, the
-    /// device's region too. A region alone suits no device.
+    /// device's region too; one with a script or a variant suits no device. On a phone the script counts, and the region
+    /// only where that is not known. A region alone suits no device.
     LocaleSuits,
     /// A condition that always holds.
     Always,
@@ -69,7 +71,7 @@ impl Kind {
             Kind::Given => given(x, y, d),
             Kind::Larger => larger(x, y, d),
             Kind::AlwaysLarger => always_larger(x, y),
-            Kind::LocaleRank => by_rank(x, y),
+            Kind::LocaleRank => by_locale(x, y, d),
             Kind::Dimensions => by_dimensions(a, b, device),
             Kind::ScreenSize => by_screen_size(x, y, d),
             Kind::Density => by_density(x, y, d),

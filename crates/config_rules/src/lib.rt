@@ -27,8 +27,10 @@ mod screen_size;
 mod table;
 
 pub use answer::Answer;
-pub use conditions::{SOFT_KEYS, suits_locale};
-pub use config_record::{COORD_COUNT, Coord, Device, Locale, LocaleFault, Record, write_locale};
+pub use conditions::{SOFT_KEYS, is_compared_plainly, suits_locale};
+pub use config_record::{
+    COORD_COUNT, Coord, Device, Locale, LocaleFault, LocaleRule, Record, read_locale, write_locale,
+};
 pub use kind::{Kind, Numbers};
 pub use rule::{Rule, beside};
-pub use table::{deciding_place, deciding_rule, table_answer};
+pub use table::{deciding_place, deciding_rule, place_keeping_out, table_answer};

@@ -5,7 +5,7 @@ ghost use Rattle.config_record.specs.Record.{record_bytes};
 ghost use Rattle.config_record.specs.ComparedNumber.{record_number, device_number};
 ghost use Rattle.config_record.specs.DeviceSeen.{device_numbers};
 ghost use Rattle.config_rules.specs.Answer.{is_pass};
-ghost use Rattle.config_rules.specs.Table.{answer_of_table, rule_of_table, place_of_table};
+ghost use Rattle.config_rules.specs.Table.{answer_of_table, rule_of_table, place_of_table, place_keeping_out};
 
 use crate::answer::Answer;
 use crate::rule::Rule;
@@ -69,4 +69,21 @@ fn first_place(rules: &[Rule], a: &Record, b: &Record, device: &Device) -> Optio
     rules
         .iter()
         .position(|rule| !rule.answer(a, b, device).is_pass())
+}
+
+/// The place of the rule that keeps the first record out, where it is not better: the first that decides, or by which the second
+/// is better than the first.
+pub fn place_keeping_out<'a>(
+    rules: &[Rule],
+    a: &Record<'a>,
+    b: &Record<'a>,
+    device: &Device,
+) -> Option<usize>
+    ensures value { result ≡ place_keeping_out rules.now (record_number (record_bytes a.now))
+        (record_number (record_bytes b.now)) (device_number (device_numbers device.now)) }
+    ensures within { IfSome result (λ place. place < length rules.now) }
+{
+    rules.iter().position(|rule| {
+        !rule.answer(a, b, device).is_pass() || rule.answer(b, a, device).is_yes()
+    })
 }

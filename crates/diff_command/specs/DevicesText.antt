@@ -1,11 +1,11 @@
 -- The devices of a part of a box as text: what the part has at the coordinates where it is narrower.
-use Rattle.std.specs.Prelude.{ℕ, ◌+◌, ◌-◌, ◌==◌, nat_lt, Bool, List, [], ◌∷◌, ◌++◌, length, codes, if◌then◌else◌}
+use Rattle.std.specs.Prelude.{ℕ, ◌^◌, ◌/◌, ◌+◌, ◌-◌, ◌==◌, nat_lt, Bool, List, [], ◌∷◌, ◌++◌, length, codes, if◌then◌else◌}
 use Rattle.std.specs.List.{flat_map, list_any}
 use Rattle.std.specs.Fmt.{decimal}
 use Rattle.stack_diff.specs.config_box.config_record.declared.coord.Coord.{Coord}
 use Rattle.stack_diff.specs.config_box.config_record.Coord.{all_coords, name_of}
 use Rattle.stack_diff.specs.config_box.config_record.locales.LocaleNumber.{locale_of_number}
-use Rattle.stack_diff.specs.config_box.config_record.locales.Locale.{locale_text}
+use Rattle.stack_diff.specs.config_box.config_record.android_locales.Text.{locale_text}
 use Rattle.stack_diff.specs.config_box.box_answers.NumberSet.{SetOf, RangeOf, NumbersOf, LocalesOf}
 use Rattle.stack_diff.specs.config_box.box_answers.Members.{set_at}
 
@@ -17,7 +17,7 @@ range_text low high = if low == high then decimal low else decimal low ++ codes 
 
 -- a locale by its number; `none` is that of a device without one
 unfoldable pub locale_value : ℕ → List ℕ
-locale_value number = if number == 0 then codes "none" else locale_text (locale_of_number number)
+locale_value number = if number / 2 ^ 32 == 0 then codes "none" else locale_text (locale_of_number number)
 
 -- `,VALUE`
 unfoldable pub next_value : (ℕ → List ℕ) → ℕ → List ℕ

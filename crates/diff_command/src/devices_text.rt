@@ -192,11 +192,14 @@ fn write_next_locale<W: Write + Drop>(locale: Locale, out: &mut W) -> io::Result
     write_locale_value(locale, out)
 }
 
+/// How many scripts there are to a language and a region.
+const SCRIPTS: u64 = 0x1_0000_0000;
+
 #[tactic(auto, unfolding(crate::specs::DevicesText::locale_value))]
 fn write_locale_value<W: Write + Drop>(locale: Locale, out: &mut W) -> io::Result<()>
     ensures { Writes W.contents out.old out.new result (locale_value (locale_number locale)) }
 {
-    if locale.number() == 0 {
+    if locale.number() / SCRIPTS == 0 {
         out.write_all(b"none")
     } else {
         write_locale(locale, out)

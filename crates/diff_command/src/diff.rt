@@ -20,8 +20,9 @@ use crate::opened::{NamedDiff, OpenedDiff};
 use crate::told::Told;
 use command_base::{
     Inputs, LayerFiles, LayerParts, Side, Status, Stop, ToolFault, asked_sets, asked_words,
-    file_bytes, pairs_named,
+    file_bytes,
 };
+use names::pairs_named;
 use stack_diff::{NamePair, Stacks};
 use std::alloc::Global;
 use std::io::Write;

@@ -44,4 +44,4 @@ pub use diff::{Diff, diff_bytes};
 pub use difference_text::write_difference;
 pub use laws::devices_are_named;
 pub use opened::{NamedDiff, OpenedDiff};
-pub use stack_diff::{ConfigBox, Label, NamePair, Sides};
+pub use stack_diff::{ConfigBox, Label, NamePair, NamedStack, Sides, difference_at, name_pairs};

@@ -3,3 +3,4 @@ pub mod Keys
 pub mod InOrder
 pub mod ListsAgree
 pub mod Above
+pub use Rattle.locales.proofs as locales

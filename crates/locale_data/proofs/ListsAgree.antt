@@ -1,7 +1,7 @@
 -- The tables of the code have the lines of the lists, in order.
-use Rattle.std.proofs.Common.{◌≡◌, ℕ, ◌==◌, ◌&&◌, true, is_some, option_map, refl, sym, ap, ap₂, ◌∙◌, eqb-true}
-use Rattle.std.specs.List.{list_any}
-use Rattle.std.proofs.lemmas.Bool.{and_parts}
+use Rattle.std.proofs.Common.{◌≡◌, ℕ, ◌<◌, ◌==◌, ◌&&◌, true, List, [], ◌∷◌, nat_lt, is_some, option_map, IfSome, inl, inr, refl, sym, ap, ap₂, ◌∙◌, eqb-true, ltb-true}
+use Rattle.std.specs.List.{list_any, list_all}
+use Rattle.std.proofs.lemmas.Bool.{and_parts, cases_Bool}
 use Rattle.locale_data.specs.declared.lines.ScriptLine.{ScriptLine}
 use Rattle.locale_data.specs.declared.lines.ParentLine.{ParentLine}
 use Rattle.locale_data.specs.declared.tables.likely_scripts.TheConstants.{LIKELY_SCRIPTS}
@@ -33,6 +33,21 @@ one_key script locale a b c d first second =
 pub IsRising-LIKELY_SCRIPTS : IsRising (λ line. line.locale) LIKELY_SCRIPTS
 unfolding rises_from
 IsRising-LIKELY_SCRIPTS = refl
+
+AreNamed-LIKELY_SCRIPTS : list_all (λ line. nat_lt 1 line.script) LIKELY_SCRIPTS ≡ true
+AreNamed-LIKELY_SCRIPTS = refl
+
+named_in : (lines : List ScriptLine) (locale : ℕ) → list_all (λ line. nat_lt 1 line.script) lines ≡ true → IfSome (script_in lines locale) (λ script. 1 < script)
+named_in [] locale all = tt
+named_in (line ∷ lines) locale all =
+    let parts = and_parts (nat_lt 1 line.script) (list_all (λ line. nat_lt 1 line.script) lines) all in
+    elim (cases_Bool (line.locale == locale)) [
+      | inl here ↦ rw here (ltb-true 1 line.script parts.0)
+      | inr other ↦ rw other (named_in lines locale parts.1)
+    ]
+
+pub named-LIKELY_SCRIPTS : (locale : ℕ) → IfSome (script_in LIKELY_SCRIPTS locale) (λ script. 1 < script)
+named-LIKELY_SCRIPTS locale = named_in LIKELY_SCRIPTS locale AreNamed-LIKELY_SCRIPTS
 
 same_likely_scripts : in_order (λ line. line.locale) likely_scripts ≡ LIKELY_SCRIPTS
 unfolding insert in_order number_of likely_scripts

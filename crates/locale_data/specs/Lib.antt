@@ -5,3 +5,4 @@ pub mod Parents
 pub mod Representatives
 pub mod Facts
 pub mod Line
+pub use Rattle.locales.specs as locales

@@ -2,9 +2,9 @@
 use Rattle.std.specs.Prelude.{ℕ, ◌++◌, codes, Result, Ok, Err}
 use Rattle.std.specs.Int.{w32, from_be_bytes}
 use Prim.Native.String.{String}
-use Rattle.config_record.specs.locales.declared.locale.Locale.{Locale}
-use Rattle.config_record.specs.locales.declared.locale.LocaleFault.{LocaleFault}
-use Rattle.config_record.specs.locales.Locale.{locale_of}
+use Rattle.locales.specs.declared.locale.Locale.{Locale}
+use Rattle.locales.specs.declared.locale.LocaleFault.{LocaleFault}
+use Rattle.locales.specs.Locale.{locale_of}
 
 -- the four bytes of its language and its region
 unfoldable pub number_of : Locale → ℕ

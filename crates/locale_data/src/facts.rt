@@ -1,6 +1,6 @@
 //! What CLDR says of a locale: its likely script, its parent, and whether it stands for its language.
 
-ghost use Rattle.std.specs.Prelude.{◌≡◌};
+ghost use Rattle.std.specs.Prelude.{◌≡◌, ◌<◌, IfSome};
 ghost use Rattle.locale_data.specs.Lines.{script_in, parent_in};
 ghost use Rattle.locale_data.specs.LikelyScripts.{likely_scripts};
 ghost use Rattle.locale_data.specs.Parents.{parents};
@@ -17,7 +17,8 @@ use crate::tables::representatives::REPRESENTATIVES;
 /// and `~~~B`.
 #[tactic(auto, unfolding(crate::specs::Facts::likely_of))]
 pub fn likely(locale: u32) -> Option<u32>
-    ensures { result ≡ likely_of locale }
+    ensures value { result ≡ likely_of locale }
+    ensures letters { IfSome result (λ script. 1 < script) }
 {
     let language = language_of(locale);
     if language == 0 {
@@ -49,7 +50,8 @@ pub fn is_representative(locale: u32, script: u32) -> bool
 }
 
 fn listed_script(locale: u32) -> Option<u32>
-    ensures { result ≡ script_in likely_scripts locale }
+    ensures value { result ≡ script_in likely_scripts locale }
+    ensures letters { IfSome result (λ script. 1 < script) }
 {
     script_in(&LIKELY_SCRIPTS, locale)
 }

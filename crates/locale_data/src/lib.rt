@@ -23,5 +23,6 @@ mod tree;
 
 pub use facts::{is_representative, likely, parent};
 pub use locale_number::number_of;
+pub use locales::{Locale, LocaleFault, is_zero, u32_at, write_hex, write_plain_locale};
 pub use parts::{language_of, region_of};
 pub use tree::{LONGEST_LINE, first_of, is_near_us_english, line};

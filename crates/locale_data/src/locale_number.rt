@@ -3,7 +3,7 @@
 ghost use Rattle.std.specs.Prelude.{◌≡◌};
 ghost use Rattle.locale_data.specs.LocaleNumber.{number_of};
 
-use config_record::Locale;
+use locales::Locale;
 
 /// The number of the four bytes of its language and its region, the first one the highest. Its script does not count.
 #[tactic(auto, unfolding(crate::specs::LocaleNumber::number_of))]

@@ -11,7 +11,7 @@ use Rattle.locales.specs.declared.locale.Locale.{Locale}
 use Rattle.locales.specs.declared.locale.LocaleFault.{LocaleFault}
 use Rattle.locales.specs.Zero.{is_zero}
 use Rattle.locales.specs.LocaleNumber.{locale_number, locale_of_number}
-use Rattle.locales.specs.Locale.{first_letter, first_digit, dash, packed, part_of, language_of, region_of, no_part, no_script, without_script, unpacked, is_spelled, locale_faults, checked_locale, IsGiven, locale_of, locale_text, language_text, region_text, cut_at, with_region}
+use Rattle.locales.specs.Locale.{first_letter, first_digit, dash, packed, part_of, language_of, region_of, no_part, no_script, without_script, unpacked, is_spelled, locale_faults, checked_locale, locale_of, plain_text, language_text, region_text, cut_at, with_region}
 use Rattle.contract_words.proofs.FaultSteps.{checked_by-ok}
 use Rattle.locales.proofs.LocaleLemmas.{Symbolic, of_languages, of_regions}
 
@@ -184,13 +184,13 @@ whole l false false some_language some_region a b plain c d e =
     language-region (unpacked first_letter l.language) (unpacked first_digit l.region) l.language l.region (part-back _ _ _ of_languages l.language a c) (part-back _ _ _ of_regions l.region b d)
     ∙ in_script l plain
 
-pub given : (l : Locale) → TwoBytes l.language → TwoBytes l.region → FourBytes l.script → checked_locale l ≡ Ok l → locale_of (locale_text l) ≡ Ok l
-unfolding checked_locale locale_text
+pub given : (l : Locale) → TwoBytes l.language → TwoBytes l.region → FourBytes l.script → checked_locale l ≡ Ok l → locale_of (plain_text l) ≡ Ok l
+unfolding checked_locale plain_text
 given l a b s e =
     let met = (checked_by-ok (locale_faults l) (Ok l) l e).0 in
     let spelled : is_spelled l ≡ true = not-false (is_spelled l) met.1.0 in
     let parts = and_parts _ _ spelled in
-    let printed : locale_text l ≡ language_text l.language ++ region_text l.region = rw spelled refl in
+    let printed : plain_text l ≡ language_text l.language ++ region_text l.region = rw spelled refl in
     ap locale_of printed ∙ whole l (is_zero l.language) (is_zero l.region) refl refl a b (zero_script l.script s (not-false (is_zero l.script) met.0)) parts.0 parts.1 met.1.1.0
 
 -- ---- its number gives the bytes back
@@ -243,32 +243,9 @@ four_bytes (a ∷ b ∷ c ∷ d ∷ f ∷ part) e fits = absurd (omega arith)
 
 -- ---- a locale that a text gives has no region without a language
 
-no_region : (l : Locale) → checked_locale l ≡ Ok l → is_zero l.language ≡ true → is_zero l.region ≡ true
+pub no_region : (l : Locale) → checked_locale l ≡ Ok l → is_zero l.language ≡ true → is_zero l.region ≡ true
 unfolding checked_locale
 no_region l e none =
     let met = (checked_by-ok (locale_faults l) (Ok l) l e).0 in
     let alone : (is_zero l.language && not (is_zero l.region)) ≡ false = met.1.1.0 in
     not-false (is_zero l.region) (rw none at alone)
-
--- and no script
-no_script_in : (l : Locale) → checked_locale l ≡ Ok l → is_zero l.script ≡ true
-unfolding checked_locale
-no_script_in l e = not-false (is_zero l.script) (checked_by-ok (locale_faults l) (Ok l) l e).0.0
-
-pub no_language : (n : ℕ) → IsGiven (locale_of_number n) → n < 65536 * 2 ^ 32 → n ≡ 0
-unfolding locale_of_number
-no_language n given low =
-    let first : n / 72057594037927936 % 256 ≡ 0 = omega arith in
-    let second : n / 281474976710656 % 256 ≡ 0 = omega arith in
-    let none : is_zero (take 2 (to_be_bytes w64 n)) ≡ true = rw (first, second) refl in
-    let region = and_parts _ _ (no_region (locale_of_number n) given none) in
-    let third = eqb-true (n / 1099511627776 % 256) 0 region.0 in
-    let fourth = eqb-true (n / 4294967296 % 256) 0 (and_parts _ _ region.1).0 in
-    let script = and_parts _ _ (no_script_in (locale_of_number n) given) in
-    let more = and_parts _ _ script.1 in
-    let last = and_parts _ _ more.1 in
-    let fifth = eqb-true (n / 16777216 % 256) 0 script.0 in
-    let sixth = eqb-true (n / 65536 % 256) 0 more.0 in
-    let seventh = eqb-true (n / 256 % 256) 0 last.0 in
-    let eighth = eqb-true (n % 256) 0 (and_parts _ _ last.1).0 in
-    omega arith

@@ -10,7 +10,7 @@ use Rattle.locales.specs.declared.locale.Locale.{Locale}
 use Rattle.locales.specs.declared.locale.LocaleFault.{LocaleFault}
 use Rattle.locales.specs.declared.locale.LocaleFault.TheVariants.{RegionAlone, Malformed}
 use Rattle.locales.specs.Zero.{is_zero}
-use Rattle.locales.specs.Locale.{first_letter, first_digit, dash, is_small_letter, is_capital_letter, is_digit, packed, part_of, language_of, region_of, no_part, no_script, without_script, unpacked, without_region, with_region, cut_at, locale_of, checked_locale, IsGiven, locale_text}
+use Rattle.locales.specs.Locale.{first_letter, first_digit, dash, is_small_letter, is_capital_letter, is_digit, packed, part_of, language_of, region_of, no_part, no_script, without_script, unpacked, without_region, with_region, cut_at, locale_of, checked_locale, plain_text}
 
 some_if : {X : Type 0} (b : Bool) (x y : X) → cond b (Some x) None ≡ Some y → (b ≡ true) × (x ≡ y)
 some_if true x y e = (refl, cc)
@@ -77,7 +77,7 @@ three_stand base a b c part al ah bl bh cl ch same =
     subst (λ (p : List ℕ). StandsFor base p (a ∷ b ∷ c ∷ [])) same
     (record { not_zero = is_zero-positive (128 + 4 * (c - base) + (b - base) / 8) (((b - base) % 8 * 32 + (a - base)) ∷ []) (omega arith); symbols = unpacked-packed base a b c al ah bl bh cl ch })
 
-part_of-stands : (two three : ℕ → Bool) (base : ℕ) → Symbolic two three base → (text part : List ℕ) → part_of two three base text ≡ Some part → StandsFor base part text
+pub part_of-stands : (two three : ℕ → Bool) (base : ℕ) → Symbolic two three base → (text part : List ℕ) → part_of two three base text ≡ Some part → StandsFor base part text
 part_of-stands two three base sy [] part e = absurd cc
 part_of-stands two three base sy (a ∷ []) part e = absurd cc
 part_of-stands two three base sy (a ∷ b ∷ []) part e =
@@ -99,11 +99,11 @@ part_of-stands two three base sy (a ∷ b ∷ c ∷ d ∷ text) part e = absurd 
 
 -- a text gives a locale: it is the one that is printed, and the bytes pass the check
 pub record Gives (text : List ℕ) (l : Locale) : Type 0 where
-  pub printed : locale_text l ≡ text
+  pub printed : plain_text l ≡ text
   pub passes : checked_locale l ≡ Ok l
 
 gives-both : (l : Locale) (before after : List ℕ) → language_of before ≡ Some l.language → region_of after ≡ Some l.region → l.script ≡ no_script → Gives (before ++ dash ∷ after) l
-unfolding locale_text checked_locale
+unfolding plain_text checked_locale
 gives-both l before after e f plain =
     let language = part_of-stands _ _ _ of_languages before l.language e in
     let region = part_of-stands _ _ _ of_regions after l.region f in
@@ -113,7 +113,7 @@ gives-both l before after e f plain =
     }
 
 gives-language : (l : Locale) (text : List ℕ) → language_of text ≡ Some l.language → l.region ≡ no_part → l.script ≡ no_script → Gives text l
-unfolding locale_text checked_locale
+unfolding plain_text checked_locale
 gives-language l text e none plain =
     let language = part_of-stands _ _ _ of_languages text l.language e in
     record {
@@ -135,7 +135,7 @@ same_locale language region l e =
     (ap (λ (m : Locale). m.language) same, ap (λ (m : Locale). m.region) same, ap (λ (m : Locale). m.script) same)
 
 without_region-gives : (text : List ℕ) (l : Locale) → without_region text ≡ Ok l → Gives text l
-unfolding locale_text checked_locale
+unfolding plain_text checked_locale
 without_region-gives [] l e =
     let same = same_locale no_part no_part l e in
     record { printed = rw (← same.0, ← same.1) refl; passes = rw (← same.0, ← same.1, ← same.2) refl }
@@ -166,13 +166,9 @@ locale_of-gives text l e = at (position (λ b. b == dash) text) refl e
     at None p e = without_region-gives text l e
     at (Some place) p e = subst (λ (t : List ℕ). Gives t l) (dash_between text place p) (with_region-gives (take place text) (drop (place + 1) text) l e)
 
-pub printed_back : (text : List ℕ) (r : Result Locale LocaleFault) → r ≡ locale_of text → IfOk r (λ l. locale_text l ≡ text)
+pub printed_back : (text : List ℕ) (r : Result Locale LocaleFault) → r ≡ locale_of text → IfOk r (λ l. plain_text l ≡ text)
 printed_back text (Ok l) e = (locale_of-gives text l (sym e)).printed
 printed_back text (Err fault) e = tt
-
-pub read_given : (text : List ℕ) (r : Result Locale LocaleFault) → r ≡ locale_of text → IfOk r (λ l. IsGiven l)
-read_given text (Ok l) e = (locale_of-gives text l (sym e)).passes
-read_given text (Err fault) e = tt
 
 -- bytes that do not pass the check are given by no text
 pub not_given : (l : Locale) (fault : LocaleFault) → Err fault ≡ checked_locale l → (text : List ℕ) → locale_of text ≢ Ok l

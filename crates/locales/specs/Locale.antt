@@ -134,10 +134,6 @@ checked_locale l = checked_by (locale_faults l) (Ok l)
 abbrev pub IsOfSomeText : Locale → Type 0
 IsOfSomeText l = (text : List ℕ) × (locale_of text ≡ Ok l)
 
--- a text gives it, as the check of its bytes says
-abbrev pub IsGiven : Locale → Type 0
-IsGiven l = checked_locale l ≡ Ok l
-
 abbrev pub language_text : List ℕ → List ℕ
 language_text language = if is_zero language then [] else unpacked first_letter language
 
@@ -146,7 +142,7 @@ abbrev pub region_text : List ℕ → List ℕ
 region_text region = if is_zero region then [] else dash ∷ unpacked first_digit region
 
 -- where a part is not of the grammar, the digits of all four bytes
-unfoldable pub locale_text : Locale → List ℕ
-locale_text l =
+unfoldable pub plain_text : Locale → List ℕ
+plain_text l =
     if is_spelled l then language_text l.language ++ region_text l.region
     else codes "x" ++ encode_lower l.language ++ encode_lower l.region

@@ -5,7 +5,7 @@
 //!
 //! ```text
 //! let locale = Locale::read("es-419")?;
-//! write_locale(locale, &mut out)?; // es-419
+//! write_plain_locale(locale, &mut out)?; // es-419
 //! ```
 #![tactic(auto)]
 
@@ -13,5 +13,5 @@ mod locale;
 mod zero;
 
 pub use chunk_walk::{u32_at, write_hex};
-pub use locale::{Locale, LocaleFault, write_locale};
+pub use locale::{Locale, LocaleFault, write_plain_locale};
 pub use zero::is_zero;

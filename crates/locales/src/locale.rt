@@ -3,7 +3,7 @@
 ghost use Rattle.std.specs.Prelude.{◌≡◌, ◌≢◌, ℕ, ◌<◌, ◌≤◌, ◌+◌, ◌==◌, ◌++◌, List, Ok, codes, position, OnOk, IfOk, IfErr};
 ghost use Rattle.hex.specs.Hex.{encode_lower};
 ghost use Rattle.contract_words.specs.Writes.{Writes};
-ghost use Rattle.locales.specs.Locale.{dash, is_small_letter, is_capital_letter, is_digit, packed, language_of, region_of, without_region, with_region, locale_of, without_script, symbol_bytes, unpacked, is_spelled, checked_locale, IsGiven, language_text, region_text, locale_text};
+ghost use Rattle.locales.specs.Locale.{dash, is_small_letter, is_capital_letter, is_digit, packed, language_of, region_of, without_region, with_region, locale_of, without_script, symbol_bytes, unpacked, is_spelled, checked_locale, language_text, region_text, plain_text};
 ghost use Rattle.locales.specs.LocaleNumber.{locale_number, locale_of_number};
 
 use crate::zero::is_zero;
@@ -73,11 +73,10 @@ impl Locale {
 
     /// The locale of a text: of `""`, of two or three small letters, or of these, a dash, and two
     /// capital letters or three digits.
-    #[tactic(auto, using(crate::proofs::LocaleLemmas::printed_back, crate::proofs::LocaleLemmas::read_given))]
+    #[tactic(auto, using(crate::proofs::LocaleLemmas::printed_back))]
     pub fn read(text: &str) -> Result<Locale, LocaleFault>
         ensures value { result ≡ locale_of text.now }
-        ensures printed_back { IfOk result (λ locale. locale_text locale ≡ text.now) }
-        ensures given { IfOk result (λ locale. IsGiven locale) }
+        ensures printed_back { IfOk result (λ locale. plain_text locale ≡ text.now) }
     {
         locale_of(text.as_bytes())
     }
@@ -86,8 +85,7 @@ impl Locale {
     #[tactic(auto, unfolding(crate::specs::Locale::checked_locale))]
     pub fn checked(self) -> Result<Locale, LocaleFault>
         ensures value { result ≡ checked_locale self }
-        ensures passes { IfOk result (λ locale. IsGiven locale) }
-        ensures given { IfOk result (λ locale. locale_of (locale_text locale) ≡ Ok locale) }
+        ensures given { IfOk result (λ locale. locale_of (plain_text locale) ≡ Ok locale) }
         ensures not_given { IfErr result (λ _. (text : List ℕ) → locale_of text ≢ Ok self) }
         ensures numbered { IfOk result (λ locale. locale_of_number (locale_number locale) ≡ locale) }
     {
@@ -277,11 +275,11 @@ impl Symbols {
 /// show a locale by itself; `write_qualifiers` shows it with all others.
 ///
 /// ```text
-/// write_locale(record.locale(), &mut out)?; // fr-CA
+/// write_plain_locale(record.locale(), &mut out)?; // fr-CA
 /// ```
-#[tactic(auto, unfolding(crate::specs::Locale::locale_text))]
-pub fn write_locale<W: Write + Drop>(locale: Locale, out: &mut W) -> io::Result<()>
-    ensures { Writes W.contents out.old out.new result (locale_text locale) }
+#[tactic(auto, unfolding(crate::specs::Locale::plain_text))]
+pub fn write_plain_locale<W: Write + Drop>(locale: Locale, out: &mut W) -> io::Result<()>
+    ensures { Writes W.contents out.old out.new result (plain_text locale) }
 {
     if !is_spelled(locale) {
         return write_bytes(locale, out);

@@ -5,6 +5,7 @@ use Rattle.std.proofs.lemmas.Bool.{cases_eq, cases_order}
 use Rattle.std.proofs.lemmas.Option.{slice_get_within, slice_get_read, get_or_from_slice_get}
 use Rattle.std.proofs.lemmas.List.Sorted.{IsPermutation-keeps}
 use Rattle.config_precedence.specs.config_match.Matching.{is_match}
+use Rattle.config_precedence.specs.Laws.{IsComparedPlainly}
 use Rattle.overlay_map.specs.Candidates.{CandOf}
 use Rattle.reference_resolver.specs.Selection.{best_of}
 use Rattle.reference_resolver.specs.Takers.{IsTheSelected}
@@ -17,6 +18,7 @@ use Rattle.reference_resolver.proofs.Best.{IsDecided, best_is_better, not_both}
 
 decided_swapped : (d : List ℕ) (all : List CandOf) (i j : ℕ) → i < length all → j < length all → IsDecided d all → IsDecided d (swap all i j)
 decided_swapped d all i j p q h = record {
+  plain = h.plain;
   bases = λ k c e. h.bases (other i j k) c (swapped_back all i j k c p q e);
   place = other i j h.place;
   found = h.found;
@@ -84,8 +86,9 @@ pair_at d all pairs i j a b lt at_i at_j =
     let second : get_or all j a ≡ b = get_or_from_slice_get all j b a at_j in
     subst (λ (y : CandOf). ExactlyOneIsBetter d a y) second (subst (λ (x : CandOf). ExactlyOneIsBetter d x (get_or all j a)) first pair)
 
-decided_from : (d : List ℕ) (all : List CandOf) → All (λ candidate. IsFalse candidate.overlay) all → Any (λ candidate. IsTrue (is_match candidate.row.config d)) all → AllPairs (ExactlyOneIsBetter d) all → IsDecided d all
-decided_from d all bases some pairs = record {
+decided_from : (d : List ℕ) (all : List CandOf) → IsComparedPlainly d → All (λ candidate. IsFalse candidate.overlay) all → Any (λ candidate. IsTrue (is_match candidate.row.config d)) all → AllPairs (ExactlyOneIsBetter d) all → IsDecided d all
+decided_from d all plain bases some pairs = record {
+  plain = plain;
   bases = λ i c e. subst (λ (x : CandOf). x.overlay ≡ false) (get_or_from_slice_get all i c c e) (bases i c (slice_get_within all i c e));
   place = some.0;
   found = some.1;
@@ -101,4 +104,4 @@ decided_from d all bases some pairs = record {
 }
 
 pub order_does_not_matter : (all : List CandOf) (d : List ℕ) → OrderDoesNotMatter all d (best_of None all d)
-order_does_not_matter all d bases some pairs = any_order d all (decided_from d all bases some pairs)
+order_does_not_matter all d plain bases some pairs = any_order d all (decided_from d all plain bases some pairs)

@@ -5,6 +5,7 @@ use Rattle.std.proofs.lemmas.Bool.{cases_lt, cases_eq, cases_Bool}
 use Rattle.std.proofs.lemmas.Option.{slice_get_within}
 use Rattle.config_precedence.specs.config_match.Matching.{is_match}
 use Rattle.config_precedence.specs.Precedence.{is_better}
+use Rattle.config_precedence.specs.Laws.{IsComparedPlainly}
 use Rattle.config_precedence.proofs.Laws.{transitive}
 use Rattle.overlay_map.specs.Candidates.{CandOf}
 use Rattle.reference_resolver.specs.Selection.{beats, best_of}
@@ -17,8 +18,9 @@ Matches d c = is_match c.row.config d ≡ true
 abbrev pub IsBetter : List ℕ → CandOf → CandOf → Type 0
 IsBetter d a b = is_better a.row.config b.row.config d ≡ true
 
--- none is of an overlay, one matches, and of any two that match exactly one is better
+-- the device is compared by language and region; none is of an overlay, one matches, and of any two that match exactly one is better
 pub record IsDecided (d : List ℕ) (all : List CandOf) : Type 0 where
+  pub plain : IsComparedPlainly d
   pub bases : (i : ℕ) (c : CandOf) → slice_get all i ≡ Some c → c.overlay ≡ false
   pub place : ℕ
   pub found : CandOf
@@ -91,7 +93,7 @@ climbs d all end best c decided at_end fits_c over h = record {
         let before = h.before in
         let first : end ≢ h.place = λ same. absurd (omega arith) in
         let second : h.place ≢ other = λ same. differ (sym same) in
-        (transitive c.row.config best.row.config d x.row.config fits_c h.matches fits
+        (transitive c.row.config best.row.config d decided.plain x.row.config fits_c h.matches fits
         (over, not_both d c best over (decided.one end h.place c best first at_end h.stands) fits_c h.matches)
         (under, not_both d best x under (decided.one h.place other best x second h.stands e) h.matches fits)).0)
   ];

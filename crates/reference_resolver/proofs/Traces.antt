@@ -7,7 +7,7 @@ use Rattle.config_precedence.specs.config_match.declared.reason.Mismatch.{Mismat
 use Rattle.config_precedence.specs.config_match.declared.reason.Mismatch.TheVariants as mismatches
 use Rattle.config_precedence.specs.config_match.Matching.{is_match, mismatch_of}
 use Rattle.config_precedence.proofs.config_match.NoMismatch.{no_mismatch}
-use Rattle.config_precedence.specs.Precedence.{is_better, deciding_of}
+use Rattle.config_precedence.specs.Precedence.{is_better, deciding_of, keeping_out_of}
 use Rattle.overlay_map.specs.Layer.{LayerOf}
 use Rattle.overlay_map.specs.Candidates.{CandOf, candidates_of}
 use Rattle.reference_resolver.specs.declared.step.Step.{Step}
@@ -31,7 +31,7 @@ unfolding decision_against
 step_of_match None candidate d = refl
 step_of_match (Some best) candidate d =
     by_beating (beats candidate best d) (is_better candidate.row.config best.row.config d)
-    (deciding_of candidate.row.config best.row.config d) (deciding_of candidate.row.config best.row.config d)
+    (deciding_of candidate.row.config best.row.config d) (keeping_out_of candidate.row.config best.row.config d)
 
 by_mismatch : (mismatch : Option Mismatch) (matches : Bool) (best : Option CandOf) (candidate : CandOf) (d : List ℕ) → is_none mismatch ≡ matches
     → step_by (decision_by mismatch best candidate d) ≡ (if matches then (if beats_best best candidate d then steps.TookOver else steps.KeptOut) else steps.NoMatch)

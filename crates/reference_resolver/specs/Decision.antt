@@ -3,7 +3,7 @@ use Rattle.std.specs.Prelude.{ℕ, not, List, Option, Some, None, if◌then◌el
 use Rattle.config_precedence.specs.config_match.declared.reason.Mismatch.{Mismatch}
 use Rattle.config_precedence.specs.config_match.declared.reason.Mismatch.TheVariants as mismatches
 use Rattle.config_precedence.specs.config_match.Matching.{mismatch_of}
-use Rattle.config_precedence.specs.Precedence.{is_better, deciding_of}
+use Rattle.config_precedence.specs.Precedence.{is_better, deciding_of, keeping_out_of}
 use Rattle.overlay_map.specs.Candidates.{CandOf}
 use Rattle.reference_resolver.specs.declared.step.Step.{Step}
 use Rattle.reference_resolver.specs.declared.step.Step.TheVariants as steps
@@ -16,7 +16,7 @@ use Rattle.reference_resolver.specs.Selection.{beats}
 unfoldable pub decision_against : CandOf → CandOf → List ℕ → Decision
 decision_against best candidate d =
     if not (beats candidate best d)
-    then KeptOut (deciding_of candidate.row.config best.row.config d)
+    then KeptOut (keeping_out_of candidate.row.config best.row.config d)
     else if is_better candidate.row.config best.row.config d
     then TookOver (deciding_of candidate.row.config best.row.config d)
     else TookOverEqual

@@ -2,6 +2,7 @@
 use Rattle.std.specs.Prelude.{ℕ, ◌≡◌, ◌≢◌, not, List, Option, Some, All, Any, AllPairs, IsPermutation, IsTrue, IsFalse, slice_get}
 use Rattle.config_precedence.specs.config_match.Matching.{is_match}
 use Rattle.config_precedence.specs.Precedence.{is_better}
+use Rattle.config_precedence.specs.Laws.{IsComparedPlainly}
 use Rattle.overlay_map.specs.Candidates.{CandOf}
 use Rattle.reference_resolver.specs.Takers.{IsTheSelected}
 
@@ -20,14 +21,15 @@ pub record IsBetterThanAllOthers (candidates : List CandOf) (d : List ℕ) (best
   pub better : (other : ℕ) (candidate : CandOf) → other ≢ place → slice_get candidates other ≡ Some candidate
       → IsTrue (is_match candidate.row.config d) → IsTrue (is_better best.row.config candidate.row.config d)
 
--- Take candidates of bases alone, of which some match, and of any two of these exactly one is better than the
+-- Take a device that is compared by language and region, and candidates of bases alone, of which some match, and of any two of these exactly one is better than the
 -- other. Then the one that is selected is better than all others that match, and it is what selection gives of
 -- these candidates in any order. It rests on 'better' being transitive among records that match a device: were
 -- the first better than the second, the second than the third and the third than the first, none would be better
 -- than both others.
 abbrev pub OrderDoesNotMatter : List CandOf → List ℕ → Option CandOf → Type 0
 OrderDoesNotMatter candidates d chosen =
-    All (λ candidate. IsFalse candidate.overlay) candidates
+    IsComparedPlainly d
+    → All (λ candidate. IsFalse candidate.overlay) candidates
     → Any (λ candidate. IsTrue (is_match candidate.row.config d)) candidates
     → AllPairs (ExactlyOneIsBetter d) candidates
     → (best : CandOf) × (chosen ≡ Some best) × IsBetterThanAllOthers candidates d best

@@ -7,7 +7,7 @@ ghost use Rattle.overlay_map.specs.Candidates.{cand_of};
 ghost use Rattle.reference_resolver.specs.Decision.{decision_of_match, decision_against};
 
 use crate::step::{Step, beats};
-use config_precedence::{Coord, Device, Mismatch, better, deciding, mismatch};
+use config_precedence::{Coord, Device, Mismatch, better, deciding, keeping_out, mismatch};
 use overlay_map::Cand;
 
 /// What a candidate does to the best before it, and why. A rule is named by its number, where one
@@ -81,7 +81,7 @@ fn against(best: &Cand<'_>, candidate: &Cand<'_>, device: &Device) -> Decision
 {
     let (config, best_config) = (&candidate.row.config, &best.row.config);
     if !beats(candidate, best, device) {
-        Decision::KeptOut(deciding(config, best_config, device))
+        Decision::KeptOut(keeping_out(config, best_config, device))
     } else if better(config, best_config, device) {
         Decision::TookOver(deciding(config, best_config, device))
     } else {

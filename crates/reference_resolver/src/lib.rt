@@ -25,10 +25,10 @@ pub use config_precedence::{Coord, Device, Locale, Record, same};
 pub use decision::Decision;
 pub use end::End;
 pub use next::{Next, is_reference};
-pub use overlay_map;
 pub use overlay_map::{
-    Cand, Cell, MOST_LAYERS, MapRows, Package, PackageRows, Pool, ResId, Row, Stack, Table, Value,
-    kind, write_hex, write_id, write_string, write_value, write_word,
+    Cand, Cell, ContentKeys, Contents, DeviceFault, IdMap, MOST_LAYERS, MapFault, MapRows, Package,
+    PackageRows, Pool, PoolFault, ResId, Row, Stack, StackFault, Table, TableFault, Value, kind,
+    write_hex, write_id, write_string, write_value, write_word,
 };
 pub use references::{REFERENCES_FOLLOWED, resolve, resolve_within};
 pub use selection::{Pick, select};

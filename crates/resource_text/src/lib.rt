@@ -13,12 +13,9 @@
 
 mod verdict;
 
+pub use answer_text::{dump_text, end_text, explain, rows_text};
 pub use cert_maker::{
     Cert, ConfigBox, Goal, Made, Omitted, Omitting, Progress, Rule, Shown, Unwatched, Verdict,
-    check, make_omitting, make_watched,
-};
-pub use command_base::answer_text::{
-    dump_text, end_text, explain, rows_text, set_aside_line, write_goal_words,
 };
 pub use command_base::{LayersFault, Side, ToolFault, fault_text};
 pub use verdict::{device_with_end, verdict_text};

@@ -6,8 +6,9 @@ ghost use Rattle.command_base.specs.answer_text.config_record.DeviceSeen.{device
 ghost use Rattle.cert_maker.specs.cert_tree.Certificate.{goals_of, node_count};
 ghost use Rattle.resource_text.specs.VerdictText.{accepted_line, accepted_text, rejected_line, named_device_line, device_with_end, shown_text, verdict_text};
 
+use answer_text::write_end_line;
 use cert_maker::{Cert, Shown, Verdict};
-use command_base::answer_text::{Device, End, write_end_line};
+use command_base::{Device, End};
 use std::io::{self, Write};
 
 /// Writes whether a certificate is accepted, with the number of its goals and nodes; or the first node that

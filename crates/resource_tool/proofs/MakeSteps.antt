@@ -3,6 +3,11 @@ use Rattle.std.proofs.Common.{◌≡◌, ℕ, ◌≤◌, Bool, List, Option, Res
 use Rattle.std.specs.List.{All}
 use Rattle.std.specs.Io.KnownBytes.{Appends}
 use Rattle.std.proofs.lemmas.List.{get_or-map, length-map}
+use Rattle.std.proofs.lemmas.List.Elements.{All-weaker}
+use Rattle.table_commands.specs.config_record.android_locales.declared.locale_rule.LocaleRule.TheVariants.{LanguageAndRegion}
+use Rattle.resource_text.specs.cert_maker.box_answers.NumberSet.{SetOf}
+use Rattle.resource_text.specs.cert_maker.config_box.ByRule.{IsByRule}
+use Rattle.resource_text.specs.cert_maker.FitsBox.{FitsBox}
 use Rattle.resource_text.specs.cert_maker.cert_tree.Certificate.{GoalOf, GoalFits, NodeFits, goals_of, most_nodes, node_count}
 use Rattle.resource_text.specs.cert_maker.res_value.Goal.{GoalSeen}
 use Rattle.resource_text.specs.cert_maker.declared.made.Made.{Made}
@@ -36,7 +41,7 @@ not_done e = absurd cc
 
 -- the line of trees that are accepted, and have few enough nodes
 pub line-read : (asked : List GoalSeen) (most : ℕ) (inputs : MakeInputs) (trees : List GoalOf) → TreesReadBack trees → IsAccepted inputs.stack inputs.sets asked trees → node_count trees ≤ most
-    → All (λ (tree : GoalOf). All NodeFits tree.nodes) trees → most ≤ most_nodes → All GoalFits asked → IsReadAccepted asked inputs (certificate_line trees)
+    → All (λ (tree : GoalOf). All (NodeFits LanguageAndRegion) tree.nodes) trees → most ≤ most_nodes → All GoalFits asked → IsReadAccepted asked inputs (certificate_line trees)
 unfolding TreesReadBack
 line-read asked most inputs trees again accepted within fits few styles =
     record {
@@ -45,19 +50,25 @@ line-read asked most inputs trees again accepted within fits few styles =
       accepted = accepted;
     }
 
-reads-back : (asked : List GoalSeen) (most : ℕ) (inputs : MakeInputs) (made : Made) → LineReadsBack made → IsMade inputs.stack inputs.sets asked most made → CanBeWritten made
+-- the trees of a box fit by the rule of its locales
+pub trees-fit : (sets : List SetOf) (trees : List GoalOf) → IsByRule LanguageAndRegion sets → All (λ (tree : GoalOf). All (FitsBox sets) tree.nodes) trees → All (λ (tree : GoalOf). All (NodeFits LanguageAndRegion) tree.nodes) trees
+trees-fit sets trees by fit =
+    All-weaker (λ (tree : GoalOf). All (FitsBox sets) tree.nodes) (λ (tree : GoalOf). All (NodeFits LanguageAndRegion) tree.nodes)
+    (λ tree each. All-weaker (FitsBox sets) (NodeFits LanguageAndRegion) (λ node fits. fits LanguageAndRegion by) tree.nodes each) trees fit
+
+reads-back : (asked : List GoalSeen) (most : ℕ) (inputs : MakeInputs) (made : Made) → IsByRule LanguageAndRegion inputs.sets → LineReadsBack made → IsMade inputs.stack inputs.sets asked most made → CanBeWritten inputs.sets made
     → (made_output made).status ≡ Done → most ≤ most_nodes → All GoalFits asked → IsReadAccepted asked inputs (made_output made).text
 unfolding made_text
-reads-back asked most inputs (Cert certificate) again right fits done few styles = line-read asked most inputs (goals_of certificate) again right.0 right.2 fits few styles
-reads-back asked most inputs (Counter g device end) again right fits done few styles = absurd (not_done done)
-reads-back asked most inputs NodeLimit again right fits done few styles = absurd (not_done done)
+reads-back asked most inputs (Cert certificate) by again right fits done few styles = line-read asked most inputs (goals_of certificate) again right.0 right.2 (trees-fit inputs.sets (goals_of certificate) by fits) few styles
+reads-back asked most inputs (Counter g device end) by again right fits done few styles = absurd (not_done done)
+reads-back asked most inputs NodeLimit by again right fits done few styles = absurd (not_done done)
 
 -- the answer that was printed is allowed, and about this goal
-pub printed-about : {W : Type 0} (contents : W → Option (List ℕ)) (old new : W) (asked : List GoalSeen) (most : ℕ) (inputs : MakeInputs) (status : Status) (made : Made) (about : Option ℕ)
+pub printed-about : {W : Type 0} (contents : W → Option (List ℕ)) (old new : W) (asked : List GoalSeen) (most : ℕ) (inputs : MakeInputs) (status : Status) (made : Made) (about : Option ℕ) → IsByRule LanguageAndRegion inputs.sets
     → Prints contents old new (Ok status) (Ok (made_output made)) → LineReadsBack made → IsMade inputs.stack inputs.sets asked most made
-    → IsLeast inputs.stack inputs.sets asked most made → CanBeWritten made → about ≡ goal_of_made made
+    → IsLeast inputs.stack inputs.sets asked most made → CanBeWritten inputs.sets made → about ≡ goal_of_made made
     → PrintsOneOf (IsMakeOutputAbout asked most about) contents old new (Ok status) (Ok inputs)
-printed-about contents old new asked most inputs status made about (text, is, put) again right least fits of =
+printed-about contents old new asked most inputs status made about by (text, is, put) again right least fits of =
     let same : record { status = status; text = text } ≡ made_output made = same-output (record { status = status; text = text }) (made_output made) _ is refl in (
       inputs,
       text,
@@ -68,7 +79,7 @@ printed-about contents old new asked most inputs status made about (text, is, pu
           right = right;
           least = least;
           printed = same;
-          reads_back = subst (λ (o : Output). o.status ≡ Done → most ≤ most_nodes → All GoalFits asked → IsReadAccepted asked inputs o.text) (sym same) (reads-back asked most inputs made again right fits);
+          reads_back = subst (λ (o : Output). o.status ≡ Done → most ≤ most_nodes → All GoalFits asked → IsReadAccepted asked inputs o.text) (sym same) (reads-back asked most inputs made by again right fits);
         };
         goal = of;
       },

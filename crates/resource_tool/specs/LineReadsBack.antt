@@ -1,5 +1,6 @@
 -- The line of a certificate, read again. (Cited by contracts of this crate alone.)
 use Rattle.std.specs.Prelude.{◌≡◌, List, Result, Ok, Err}
+use Rattle.table_commands.specs.config_record.android_locales.declared.locale_rule.LocaleRule.TheVariants.{LanguageAndRegion}
 use Rattle.resource_text.specs.cert_maker.cert_tree.Certificate.{GoalOf, CertFits, goals_of}
 use Rattle.resource_text.specs.cert_maker.cert_tree.CertJson.{cert_in}
 use Rattle.resource_text.specs.cert_maker.declared.made.Made.{Made}
@@ -13,7 +14,7 @@ use Rattle.resource_tool.specs.MakeOutput.{certificate_line}
 
 -- what is printed of trees within the limits is read as the same
 unfoldable pub TreesReadBack : List GoalOf → Type 0
-TreesReadBack trees = CertFits trees → cert_in (certificate_line trees) ≡ Ok trees
+TreesReadBack trees = CertFits LanguageAndRegion trees → cert_in (certificate_line trees) ≡ Ok trees
 
 abbrev pub LineReadsBack : Made → Type 0
 LineReadsBack (Cert certificate) = TreesReadBack (goals_of certificate)

@@ -1,7 +1,7 @@
 -- How contracts see inputs that were opened: by their content, not their address.
 use Rattle.resource_text.specs.cert_maker.cert_tree.Certificate.{goals_of}
 use Rattle.resource_tool.specs.declared.check.OpenedCert.{OpenedCert}
-use Rattle.resource_tool.specs.declared.make.OpenedBox.{OpenedBox}
+use Rattle.resource_tool.specs.declared.opened_box.OpenedBox.{OpenedBox}
 use Rattle.resource_tool.specs.CheckOutput.{CheckInputs}
 use Rattle.resource_tool.specs.MakeOutput.{MakeInputs}
 

@@ -16,12 +16,15 @@ ghost use Rattle.resource_tool.specs.OpenedSeen.{opened_cert};
 ghost use Rattle.table_commands.specs.command_base.CarriesOut.{IsKept};
 
 use crate::goal_told::write_goal_told;
-use resource_text::{Cert, ConfigBox, Goal, Verdict, check, set_aside_line, verdict_text};
+use answer_text::set_aside_line;
+use cert_checker::check;
+use names::first_goals;
+use resource_text::{Cert, ConfigBox, Goal, Verdict, verdict_text};
 use std::alloc::Global;
 use std::io::{self, Write, sink};
 use table_commands::{
     DeviceFiles, Inputs, LayerFiles, LayerParts, Stack, Status, Stop, ToolFault, asked_goals,
-    asked_words, file_bytes, first_goals, open_stack,
+    asked_words, file_bytes, open_stack,
 };
 
 /// What the words of `check` ask: whether a certificate is true of some goals for a box of devices.

@@ -5,7 +5,8 @@ ghost use Rattle.contract_words.specs.Writes.{Writes};
 ghost use Rattle.resource_text.specs.cert_maker.res_value.Goal.{goal_seen};
 ghost use Rattle.resource_tool.specs.GoalTold.{named_words, goal_line, line_about, goal_told};
 
-use resource_text::{Goal, write_goal_words};
+use answer_text::write_goal_words;
+use resource_text::Goal;
 use std::io::{self, Write};
 use table_commands::Stack;
 

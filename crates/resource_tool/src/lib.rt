@@ -1,5 +1,5 @@
 //! The commands `make` and `check`, over bytes and a writer. Those that are asked for tables alone or for one device
-//! are handed on; `show`, `survey` and `diff` have crates of their own.
+//! are handed on; `show`, `survey` and `diff` stand in other crates.
 //!
 //! For the program above: a command prints the text that its input means and nothing else, or it
 //! names the first fault of that input and has printed nothing. `answer` reads what the words of a command name, in the
@@ -27,18 +27,20 @@ mod check;
 mod goal_told;
 mod make;
 mod omit;
+mod opened_box;
 mod progress;
 
 pub use answered::Answered;
 pub use check::{Check, OpenedCert, check_bytes};
 pub use goal_told::write_goal_told;
-pub use make::{Make, OpenedBox, make_bytes, make_bytes_watched};
+pub use make::{Make, make_bytes, make_bytes_watched};
 pub use omit::make_omitting_bytes;
+pub use opened_box::OpenedBox;
 pub use progress::Watch;
 pub use resource_text::{Goal, Omitted, Omitting, Progress, Unwatched};
 pub use table_commands::{
     Attr, Bag, Dump, ExitStatus, Explain, GoalFault, Ids, InputFault, Inputs, LayerList,
-    LayerParts, LayersFault, Map, Named, NamedGoal, NamedSet, Opened, ProcessInputs, Query, Rows,
-    STANDARD_INPUT, Status, Stop, ToolFault, attr_bytes, bag_bytes, dump_bytes, explain_bytes,
-    fault_text, file_path, map_bytes, query_bytes, read_input, rows_bytes,
+    LayerParts, LayersFault, LocaleRule, Map, Named, NamedGoal, NamedSet, Opened, ProcessInputs,
+    Query, Rows, STANDARD_INPUT, Status, Stop, ToolFault, attr_bytes, bag_bytes, dump_bytes,
+    explain_bytes, fault_text, file_path, map_bytes, query_bytes, read_input, rows_bytes,
 };

@@ -23,16 +23,17 @@ ghost use Rattle.table_commands.specs.command_base.CarriesOut.{IsKept};
 
 use crate::answered::Answered;
 use crate::goal_told::write_goal_told;
+use crate::opened_box::OpenedBox;
 use crate::progress::{ProgressLine, Watch};
-use resource_text::{
-    Cert, ConfigBox, Goal, Made, Progress, Unwatched, device_with_end, make_watched,
-};
+use cert_maker::make_watched;
+use names::first_goals;
+use resource_text::{Cert, ConfigBox, Goal, Made, Progress, Unwatched, device_with_end};
 use std::alloc::{AllocError, Global};
 use std::io::{self, Write, sink};
 use std::time::Clock;
 use table_commands::{
     AskedFiles, Device, End, Inputs, LayerParts, Stack, Status, Stop, ToolFault, asked_goals,
-    first_goals, open_stack,
+    open_stack,
 };
 
 /// What the words of `make` ask: a certificate of some goals for a box of devices.
@@ -235,13 +236,6 @@ pub fn make_bytes_watched<W: Write + Drop, P: Progress>(
 {
     let opened = OpenedBox::read(alloc, layers, box_json)?;
     opened.make(alloc, goals, max_nodes, false, progress, out, &mut sink())
-}
-
-/// The layers and the box that `make` is asked of.
-#[derive(Drop)]
-pub struct OpenedBox<'a> {
-    pub stack: Stack<'a>,
-    pub members: ConfigBox,
 }
 
 impl<'a> OpenedBox<'a> {

@@ -13,8 +13,10 @@ ghost use Rattle.resource_tool.specs.LineReadsBack.{OmittingReadsBack, UnlessMem
 ghost use Rattle.resource_tool.specs.OpenedSeen.{opened_box};
 
 use crate::goal_told::write_goal_told;
-use crate::make::{OpenedBox, certificate_text, write_line};
-use resource_text::{Goal, Omitted, Omitting, Progress, Unwatched, device_with_end, make_omitting};
+use crate::make::{certificate_text, write_line};
+use crate::opened_box::OpenedBox;
+use cert_maker::make_omitting;
+use resource_text::{Goal, Omitted, Omitting, Progress, Unwatched, device_with_end};
 use std::alloc::{AllocError, Global};
 use std::io::{self, Write};
 use table_commands::{LayerParts, Stack, Status, ToolFault};

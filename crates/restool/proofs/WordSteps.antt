@@ -5,7 +5,7 @@ use Rattle.std.specs.Borrow.{Bor}
 use Rattle.json_input.specs.Each.{each}
 use Rattle.json_input.proofs.EachSteps.{EachAllBut, EachAllBut-stops_item}
 use Rattle.restool.specs.declared.words_fault.WordsFault.{WordsFault}
-use Rattle.restool.specs.declared.words_fault.WordsFault.TheVariants.{CommandLine, NotText, BadId, OutOfMemory}
+use Rattle.restool.specs.declared.words_fault.WordsFault.TheVariants.{CommandLine, NotText, BadRule, BadId, OutOfMemory}
 use Rattle.restool.specs.AskedWords.{ReadsWord, ReadsWords}
 
 -- a word that is lent
@@ -18,5 +18,6 @@ pub words_stop : (f : List ℕ → Result (List ℕ) (List ℕ)) (so_far : List 
     → ReadsWord (Err fault) (f (get_or words place d).now) → ReadsWords (Err fault) (each f (map word_of words))
 words_stop f so_far place words d (CommandLine error) before on told = absurd told
 words_stop f so_far place words d NotText before on told = absurd told
+words_stop f so_far place words d (BadRule word) before on told = absurd told
 words_stop f so_far place words d (BadId word) before on told = EachAllBut-stops_item f word_of so_far place words d word.now before on told
 words_stop f so_far place words d OutOfMemory before on told = tt

@@ -28,9 +28,9 @@ use Rattle.resource_tool.specs.MakeOutput.{IsMakeAnswer}
 use Rattle.resource_tool.specs.OmitOutput.{IsOmitOutput, LinesFirst}
 use Rattle.resource_tool.specs.Check.{OpenCheckOf}
 use Rattle.resource_tool.specs.CheckOutput.{IsCheckAnswer}
-use Rattle.survey_command.specs.Survey.{SurveyBytes}
-use Rattle.survey_command.specs.SurveyOutput.{survey_output}
-use Rattle.show_command.specs.Show.{ShowBytes, shown_output}
+use Rattle.report_commands.specs.Survey.{SurveyBytes}
+use Rattle.report_commands.specs.SurveyOutput.{survey_output}
+use Rattle.report_commands.specs.Show.{ShowBytes, shown_output}
 use Rattle.diff_command.specs.Diff.{OpenDiffOf}
 use Rattle.diff_command.specs.DiffOutput.{IsDiffOutput}
 use Rattle.restool.specs.declared.request.Request.{Request}

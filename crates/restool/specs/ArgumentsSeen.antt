@@ -6,9 +6,9 @@ use Rattle.clap.specs.declared.builder.command.Command.{Command}
 use Rattle.clap.specs.declared.builder.command.Command.TheViews.{out-Command}
 use Rattle.restool.specs.declared.command_line.Usage.{Usage}
 use Rattle.restool.specs.declared.command_line.Argument.{Argument}
-use Rattle.restool.specs.declared.command_line.Takes.TheVariants.{OneWord, MaybeOneWord, Words, MaybeWords, Nothing, Nodes, GoalNumber}
+use Rattle.restool.specs.declared.command_line.Takes.TheVariants.{OneWord, MaybeOneWord, Words, MaybeWords, Nothing, OptionWord, Nodes, GoalNumber}
 use Rattle.restool.specs.declared.command_line.Takes.{Takes}
-use Rattle.restool.specs.CommandLine.{one_word, maybe_one_word, several_words, maybe_words, flag, nodes, goal_number}
+use Rattle.restool.specs.CommandLine.{one_word, maybe_one_word, several_words, maybe_words, flag, option_word, nodes, goal_number}
 
 abbrev pub rule_taking : Takes → List ℕ → Rule
 rule_taking OneWord name = one_word name
@@ -16,6 +16,7 @@ rule_taking MaybeOneWord name = maybe_one_word name
 rule_taking Words name = several_words name
 rule_taking MaybeWords name = maybe_words name
 rule_taking Nothing name = flag name
+rule_taking OptionWord name = option_word name
 rule_taking Nodes name = nodes name
 rule_taking GoalNumber name = goal_number name
 

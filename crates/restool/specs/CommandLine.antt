@@ -64,6 +64,10 @@ goal_number name = record (new_rule name) {
   parser = Some (parsers.Signed (pos 0) (pos greatest_goal));
 }
 
+-- a word after `--NAME`, which may be left out
+abbrev pub option_word : List ℕ → Rule
+option_word name = record (new_rule name) { long = Some name; value_names = 1 }
+
 -- ---- commands
 
 abbrev pub command : List ℕ → List Rule → Shape
@@ -80,6 +84,10 @@ ids = several_words (codes "ID")
 
 abbrev pub goals : Rule
 goals = several_words (codes "GOAL")
+
+-- by which rule locales are compared
+abbrev pub locales : Rule
+locales = option_word (codes "locales")
 
 -- the names of ids are asked for
 abbrev pub names : Rule

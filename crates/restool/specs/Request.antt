@@ -8,6 +8,7 @@ use Rattle.clap.specs.Values.{kind_of}
 use Rattle.clap.specs.Walk.{Row, first_of, one_of}
 use Rattle.contract_words.specs.Faults.{◌>>=◌}
 use Rattle.json_input.specs.Each.{each}
+use Rattle.resource_tool.specs.command_base.answer_text.config_record.android_locales.declared.locale_rule.LocaleRule.{LocaleRule}
 use Rattle.resource_tool.specs.command_base.names.Named.{NamedOf, named_of}
 use Rattle.restool.specs.declared.words_fault.WordsFault.{WordsFault}
 use Rattle.restool.specs.declared.words_fault.WordsFault.TheVariants as faults
@@ -15,8 +16,8 @@ use Rattle.restool.specs.declared.request.Request.{Request}
 use Rattle.restool.specs.declared.request.Request.TheVariants as requests
 use Rattle.restool.specs.declared.request.Command.{Command}
 use Rattle.restool.specs.declared.request.Command.TheVariants.{Rows, Dump, Map, Ids, Survey, Show, Query, Explain, Bag, Attr, Make, Check, Diff}
-use Rattle.restool.specs.CommandLine.{command, device, flag, goal_number, goals, ids, layers, maybe_one_word, maybe_words, names, nodes, one_word, several_words}
-use Rattle.restool.specs.Given.{IsGiven, IsGoalNumber, IsNodeLimit, ReadsAlong, word_at, words_at}
+use Rattle.restool.specs.CommandLine.{command, device, flag, goal_number, goals, ids, layers, locales, maybe_one_word, maybe_words, names, nodes, one_word, several_words}
+use Rattle.restool.specs.Given.{IsGiven, IsGoalNumber, IsNodeLimit, ReadsAlong, ReadsByRule, rule_named, word_at, words_at}
 use Rattle.restool.specs.AskedWords.{asked_word, named_word}
 use Rattle.resource_tool.specs.command_base.FileWords.{texts_of}
 use Rattle.restool.specs.declared.asked_words.Asks.TheVariants.{Resources, Goals}
@@ -31,8 +32,8 @@ use Rattle.resource_tool.specs.table_commands.BagOutput.{PrintsBag}
 use Rattle.resource_tool.specs.table_commands.AttrOutput.{PrintsAttr}
 use Rattle.resource_tool.specs.Make.{Makes}
 use Rattle.resource_tool.specs.Check.{Checks}
-use Rattle.survey_command.specs.Survey.{Surveys}
-use Rattle.show_command.specs.Show.{ShowsTrees}
+use Rattle.report_commands.specs.Survey.{Surveys}
+use Rattle.report_commands.specs.Show.{ShowsTrees}
 use Rattle.diff_command.specs.Diff.{Diffs}
 use Rattle.resource_tool.specs.command_base.CarriesOut.{IsKept}
 
@@ -54,11 +55,11 @@ commands =
     ∷ command (codes "ids") (layers ∷ [])
     ∷ command (codes "survey") (layers ∷ maybe_one_word (codes "BOX") ∷ [])
     ∷ command (codes "show") (goal_number (codes "dot") ∷ layers ∷ one_word (codes "CERT") ∷ [])
-    ∷ command (codes "query") (names ∷ layers ∷ device ∷ ids ∷ [])
-    ∷ command (codes "explain") (names ∷ layers ∷ device ∷ one_word (codes "ID") ∷ [])
-    ∷ command (codes "bag") (names ∷ layers ∷ device ∷ one_word (codes "ID") ∷ [])
+    ∷ command (codes "query") (locales ∷ names ∷ layers ∷ device ∷ ids ∷ [])
+    ∷ command (codes "explain") (locales ∷ names ∷ layers ∷ device ∷ one_word (codes "ID") ∷ [])
+    ∷ command (codes "bag") (locales ∷ names ∷ layers ∷ device ∷ one_word (codes "ID") ∷ [])
     ∷ command (codes "attr")
-    (flag (codes "keep") ∷ names ∷ layers ∷ device ∷ one_word (codes "ATTR") ∷ several_words (codes "STYLE") ∷ [])
+    (locales ∷ flag (codes "keep") ∷ names ∷ layers ∷ device ∷ one_word (codes "ATTR") ∷ several_words (codes "STYLE") ∷ [])
     ∷ command (codes "make")
     (nodes (codes "max-nodes") ∷ flag (codes "omit") ∷ names ∷ layers ∷ one_word (codes "BOX") ∷ goals ∷ [])
     ∷ command (codes "check") (names ∷ layers ∷ one_word (codes "BOX") ∷ one_word (codes "CERT") ∷ goals ∷ [])
@@ -92,6 +93,10 @@ command_of name =
     else if bytes_eq name (codes "check") then Some Check
     else if bytes_eq name (codes "diff") then Some Diff
     else None
+
+-- the rule of locales
+abbrev pub locales_at : List Row → Result LocaleRule (List ℕ)
+locales_at rows = rule_named (first_of (codes "locales") rows)
 
 -- the words of an argument, each of which asks for some resources, or for some goals
 
@@ -142,30 +147,30 @@ IsShowOf rows (requests.Show it) =
     × IsGoalNumber (one_of (codes "dot") rows) it.pictured
 IsShowOf rows _ = ⊥
 
-abbrev pub IsQueryOf : List Row → List (List ℕ) → Request → Type 0
-IsQueryOf rows asked (requests.Query it) =
-    (it.layers.now ≡ word_at (codes "LAYERS") rows) × (it.device.now ≡ word_at (codes "DEVICE") rows)
+abbrev pub IsQueryOf : LocaleRule → List Row → List (List ℕ) → Request → Type 0
+IsQueryOf rule rows asked (requests.Query it) =
+    (it.locales ≡ rule) × (it.layers.now ≡ word_at (codes "LAYERS") rows) × (it.device.now ≡ word_at (codes "DEVICE") rows)
     × IsGiven (codes "names") rows it.names × (asked ≡ texts_of it.words)
-IsQueryOf rows asked _ = ⊥
+IsQueryOf rule rows asked _ = ⊥
 
-abbrev pub IsExplainOf : List Row → NamedOf → Request → Type 0
-IsExplainOf rows asked (requests.Explain it) =
-    (it.layers.now ≡ word_at (codes "LAYERS") rows) × (it.device.now ≡ word_at (codes "DEVICE") rows)
+abbrev pub IsExplainOf : LocaleRule → List Row → NamedOf → Request → Type 0
+IsExplainOf rule rows asked (requests.Explain it) =
+    (it.locales ≡ rule) × (it.layers.now ≡ word_at (codes "LAYERS") rows) × (it.device.now ≡ word_at (codes "DEVICE") rows)
     × IsGiven (codes "names") rows it.names × (asked ≡ named_of it.resource)
-IsExplainOf rows asked _ = ⊥
+IsExplainOf rule rows asked _ = ⊥
 
-abbrev pub IsBagOf : List Row → NamedOf → Request → Type 0
-IsBagOf rows asked (requests.Bag it) =
-    (it.layers.now ≡ word_at (codes "LAYERS") rows) × (it.device.now ≡ word_at (codes "DEVICE") rows)
+abbrev pub IsBagOf : LocaleRule → List Row → NamedOf → Request → Type 0
+IsBagOf rule rows asked (requests.Bag it) =
+    (it.locales ≡ rule) × (it.layers.now ≡ word_at (codes "LAYERS") rows) × (it.device.now ≡ word_at (codes "DEVICE") rows)
     × IsGiven (codes "names") rows it.names × (asked ≡ named_of it.resource)
-IsBagOf rows asked _ = ⊥
+IsBagOf rule rows asked _ = ⊥
 
-abbrev pub IsAttrOf : List Row → AttrAsked → Request → Type 0
-IsAttrOf rows asked (requests.Attr it) =
-    (it.layers.now ≡ word_at (codes "LAYERS") rows) × (it.device.now ≡ word_at (codes "DEVICE") rows)
+abbrev pub IsAttrOf : LocaleRule → List Row → AttrAsked → Request → Type 0
+IsAttrOf rule rows asked (requests.Attr it) =
+    (it.locales ≡ rule) × (it.layers.now ≡ word_at (codes "LAYERS") rows) × (it.device.now ≡ word_at (codes "DEVICE") rows)
     × IsGiven (codes "names") rows it.names × IsGiven (codes "keep") rows (not it.force)
     × (asked ≡ record { attr = named_of it.attr; styles = texts_of it.styles })
-IsAttrOf rows asked _ = ⊥
+IsAttrOf rule rows asked _ = ⊥
 
 abbrev pub IsMakeOf : List Row → List (List ℕ) → Request → Type 0
 IsMakeOf rows asked (requests.Make it) =
@@ -194,10 +199,10 @@ ReadsCommand Map rows result = IsOkAnd result (IsMapOf rows)
 ReadsCommand Ids rows result = IsOkAnd result (IsIdsOf rows)
 ReadsCommand Survey rows result = IsOkAnd result (IsSurveyOf rows)
 ReadsCommand Show rows result = IsOkAnd result (IsShowOf rows)
-ReadsCommand Query rows result = ReadsAlong (resources_at (codes "ID") rows) (IsQueryOf rows) result
-ReadsCommand Explain rows result = ReadsAlong (named_word (word_at (codes "ID") rows)) (IsExplainOf rows) result
-ReadsCommand Bag rows result = ReadsAlong (named_word (word_at (codes "ID") rows)) (IsBagOf rows) result
-ReadsCommand Attr rows result = ReadsAlong (attr_asked rows) (IsAttrOf rows) result
+ReadsCommand Query rows result = ReadsByRule (locales_at rows) (λ rule. ReadsAlong (resources_at (codes "ID") rows) (IsQueryOf rule rows)) result
+ReadsCommand Explain rows result = ReadsByRule (locales_at rows) (λ rule. ReadsAlong (named_word (word_at (codes "ID") rows)) (IsExplainOf rule rows)) result
+ReadsCommand Bag rows result = ReadsByRule (locales_at rows) (λ rule. ReadsAlong (named_word (word_at (codes "ID") rows)) (IsBagOf rule rows)) result
+ReadsCommand Attr rows result = ReadsByRule (locales_at rows) (λ rule. ReadsAlong (attr_asked rows) (IsAttrOf rule rows)) result
 ReadsCommand Make rows result = ReadsAlong (goals_at (codes "GOAL") rows) (IsMakeOf rows) result
 ReadsCommand Check rows result = ReadsAlong (goals_at (codes "GOAL") rows) (IsCheckOf rows) result
 ReadsCommand Diff rows result = ReadsAlong (resources_at (codes "NAME") rows) (IsDiffOf rows) result

@@ -39,6 +39,7 @@ is_output _ = false
 abbrev pub words_line : WordsFault → Option (List ℕ)
 words_line (faults.CommandLine error) = None
 words_line faults.NotText = Some (codes "command: a word is not UTF-8" ++ 10 ∷ [])
+words_line (faults.BadRule word) = Some (codes "command: bad rule of locales " ++ word.now ++ 10 ∷ [])
 words_line (faults.BadId word) = Some (codes "command: bad id " ++ word.now ++ 10 ∷ [])
 words_line faults.OutOfMemory = Some (fault_line tools.OutOfMemory)
 
@@ -47,5 +48,6 @@ abbrev pub status_after_words : Bool → WordsFault → ExitStatus
 status_after_words was_written (faults.CommandLine error) =
     if is_asked_for (kind_of error) then (if was_written then Done else Failed) else BadCommandLine
 status_after_words was_written faults.NotText = BadCommandLine
+status_after_words was_written (faults.BadRule word) = BadCommandLine
 status_after_words was_written (faults.BadId word) = BadCommandLine
 status_after_words was_written faults.OutOfMemory = Memory

@@ -4,13 +4,14 @@ ghost use Rattle.std.specs.Prelude.{◌≡◌, map, codes, option_map};
 ghost use Rattle.clap.specs.Words.{all_of, first_of, found_of, one_of, rows_of};
 ghost use Rattle.json_input.specs.Each.{each};
 ghost use Rattle.restool.specs.AskedWords.{ReadsNamed, ReadsWords, asked_word, named_word};
-ghost use Rattle.restool.specs.Given.{IsGiven, IsGoalNumber, IsNodeLimit, word_at, words_at};
+ghost use Rattle.restool.specs.Given.{IsGiven, IsGoalNumber, IsNodeLimit, ReadsRule, word_at, words_at};
+ghost use Rattle.restool.specs.Request.{locales_at};
 
 use crate::asked_words::{Asks, asked_words, named_word};
-use crate::command_line::{Argument, DOT, MAX_NODES, MOST_NODES, NODES_IF_LEFT_OUT};
+use crate::command_line::{Argument, DOT, LOCALES, MAX_NODES, MOST_NODES, NODES_IF_LEFT_OUT};
 use crate::words_fault::WordsFault;
 use clap::ArgMatches;
-use resource_tool::Named;
+use resource_tool::{LocaleRule, Named};
 use std::alloc::Global;
 
 /// The word of an argument that takes one, which is required.
@@ -27,6 +28,20 @@ pub(crate) fn given_maybe_word<'a>(given: &ArgMatches<'a>, argument: &Argument) 
     ensures { option_map (λ word. word.now) result ≡ first_of argument.now.name.now (rows_of (found_of given.now)) }
 {
     given.get_str(argument.name)
+}
+
+/// The word by which locales are compared as a phone does it.
+const ANDROID: &str = "android";
+
+/// By which rule locales are compared.
+pub(crate) fn given_rule<'a>(given: &ArgMatches<'a>) -> Result<LocaleRule, WordsFault<'a>>
+    ensures { ReadsRule result (locales_at (rows_of (found_of given.now))) }
+{
+    match given_maybe_word(given, &LOCALES) {
+        None => Ok(LocaleRule::LanguageAndRegion),
+        Some(word) if word == ANDROID => Ok(LocaleRule::Android),
+        Some(word) => Err(WordsFault::BadRule(word)),
+    }
 }
 
 /// The resource that the word of an argument asks for.

@@ -58,6 +58,8 @@ enum Takes {
     MaybeWords,
     /// Nothing: it is a flag.
     Nothing,
+    /// One word, after the argument's name.
+    OptionWord,
     /// A number of nodes, after the argument's name.
     Nodes,
     /// The number of a goal, after the argument's name.
@@ -184,6 +186,12 @@ pub(crate) const KEEP: Argument = Argument {
     help: "Keep what an earlier style has set, as applyStyle(style, false) does",
 };
 
+pub(crate) const LOCALES: Argument = Argument {
+    name: "locales",
+    takes: Takes::OptionWord,
+    help: "With android compare locales as a phone does; without it by language and region alone",
+};
+
 pub(crate) const NAMES: Argument = Argument {
     name: "names",
     takes: Takes::Nothing,
@@ -306,6 +314,7 @@ fn built_argument<'a>(alloc: Global, argument: &Argument) -> Arg<'a>
         Takes::Words => arg.required(true).num_args(1..).action(ArgAction::Append),
         Takes::MaybeWords => arg.num_args(1..).action(ArgAction::Append),
         Takes::Nothing => arg.long(argument.name).action(ArgAction::SetTrue),
+        Takes::OptionWord => arg.long(argument.name).value_name("RULE"),
         Takes::Nodes => {
             let number = value_parser!(u32).range(1..=i64::from(MOST_NODES));
             arg.long(argument.name).value_name("N").value_parser(number)

@@ -9,25 +9,24 @@ ghost use Rattle.resource_tool.specs.command_base.CarriesOut.{IsKept};
 
 use crate::arguments::{
     given_asked, given_flag, given_goal_number, given_maybe_word, given_named, given_nodes,
-    given_word,
+    given_rule, given_word,
 };
 use crate::asked_words::Asks;
 use crate::command_line::{
     ATTRIBUTE, BAG_ID, BOX, CERTIFICATE, COMPARED, DEVICE, DIFF_NODES, DOT, GOAL_NAMES, GOALS, ID,
-    IDS, KEEP, LAYERS, MAX_NODES, MAYBE_BOX, NAMES, NEW, OLD, OMIT, OVERLAY, STYLES, TABLE, TARGET,
-    Usage,
+    IDS, KEEP, LAYERS, LOCALES, MAX_NODES, MAYBE_BOX, NAMES, NEW, OLD, OMIT, OVERLAY, STYLES,
+    TABLE, TARGET, Usage,
 };
 use crate::words_fault::WordsFault;
 use clap::ArgMatches;
 use diff_command::Diff;
+use report_commands::{Show, Survey};
 use resource_tool::{
     Attr, Bag, Check, Dump, Explain, Ids, Inputs, Make, Map, Query, Rows, Status, Stop, Watch,
 };
-use show_command::Show;
 use std::alloc::Global;
 use std::io::Write;
 use std::time::Clock;
-use survey_command::Survey;
 
 /// What words ask for: a command, with what its words ask. The words of resources and of goals are kept as they are: each
 /// asks for some, or names a file of such words.
@@ -109,22 +108,22 @@ pub(crate) const USAGES: &[Usage] = &[
     Usage {
         name: QUERY,
         about: "Prints the value that a device loads for each id",
-        arguments: &[NAMES, LAYERS, DEVICE, IDS],
+        arguments: &[LOCALES, NAMES, LAYERS, DEVICE, IDS],
     },
     Usage {
         name: EXPLAIN,
         about: "Prints each candidate for an id, and the rule by which it won or lost",
-        arguments: &[NAMES, LAYERS, DEVICE, ID],
+        arguments: &[LOCALES, NAMES, LAYERS, DEVICE, ID],
     },
     Usage {
         name: BAG,
         about: "Prints the rows of a style, an array or plurals, with those that it inherits",
-        arguments: &[NAMES, LAYERS, DEVICE, BAG_ID],
+        arguments: &[LOCALES, NAMES, LAYERS, DEVICE, BAG_ID],
     },
     Usage {
         name: ATTR,
         about: "Prints an attribute's value in the theme that those styles build",
-        arguments: &[KEEP, NAMES, LAYERS, DEVICE, ATTRIBUTE, STYLES],
+        arguments: &[LOCALES, KEEP, NAMES, LAYERS, DEVICE, ATTRIBUTE, STYLES],
     },
     Usage {
         name: MAKE,
@@ -233,9 +232,11 @@ pub(crate) fn request_of<'a>(
 fn query_of<'a>(alloc: Global, given: &ArgMatches<'a>) -> Result<Request<'a>, WordsFault<'a>>
     ensures { ReadsCommand Command.Query (rows_of (found_of given.now)) result }
 {
+    let locales = given_rule(given)?;
     Ok(Request::Query(Query {
         layers: given_word(given, &LAYERS),
         device: given_word(given, &DEVICE),
+        locales,
         names: given_flag(given, &NAMES),
         words: given_asked(alloc, given, &IDS, Asks::Resources)?,
     }))
@@ -244,9 +245,11 @@ fn query_of<'a>(alloc: Global, given: &ArgMatches<'a>) -> Result<Request<'a>, Wo
 fn explain_of<'a>(given: &ArgMatches<'a>) -> Result<Request<'a>, WordsFault<'a>>
     ensures { ReadsCommand Command.Explain (rows_of (found_of given.now)) result }
 {
+    let locales = given_rule(given)?;
     Ok(Request::Explain(Explain {
         layers: given_word(given, &LAYERS),
         device: given_word(given, &DEVICE),
+        locales,
         names: given_flag(given, &NAMES),
         resource: given_named(given, &ID)?,
     }))
@@ -255,9 +258,11 @@ fn explain_of<'a>(given: &ArgMatches<'a>) -> Result<Request<'a>, WordsFault<'a>>
 fn bag_of<'a>(given: &ArgMatches<'a>) -> Result<Request<'a>, WordsFault<'a>>
     ensures { ReadsCommand Command.Bag (rows_of (found_of given.now)) result }
 {
+    let locales = given_rule(given)?;
     Ok(Request::Bag(Bag {
         layers: given_word(given, &LAYERS),
         device: given_word(given, &DEVICE),
+        locales,
         names: given_flag(given, &NAMES),
         resource: given_named(given, &BAG_ID)?,
     }))
@@ -267,9 +272,11 @@ fn bag_of<'a>(given: &ArgMatches<'a>) -> Result<Request<'a>, WordsFault<'a>>
 fn attr_of<'a>(alloc: Global, given: &ArgMatches<'a>) -> Result<Request<'a>, WordsFault<'a>>
     ensures { ReadsCommand Command.Attr (rows_of (found_of given.now)) result }
 {
+    let locales = given_rule(given)?;
     Ok(Request::Attr(Attr {
         layers: given_word(given, &LAYERS),
         device: given_word(given, &DEVICE),
+        locales,
         names: given_flag(given, &NAMES),
         attr: given_named(given, &ATTRIBUTE)?,
         styles: given_asked(alloc, given, &STYLES, Asks::Resources)?,

@@ -20,6 +20,8 @@ pub enum WordsFault<'a> {
     CommandLine(clap::Error),
     /// A word is not UTF-8.
     NotText,
+    /// This word names no rule of locales.
+    BadRule(&'a str),
     /// This word asks for no resource, or for no goal where goals are asked.
     BadId(&'a str),
     OutOfMemory,
@@ -53,6 +55,7 @@ impl WordsFault<'_> {
             WordsFault::CommandLine(error) if is_asked_for(error) => write!(out, "{error}"),
             WordsFault::CommandLine(error) => write!(errors, "{error}"),
             WordsFault::NotText => errors.write_all(b"command: a word is not UTF-8\n"),
+            WordsFault::BadRule(word) => write_line("command: bad rule of locales ", word, errors),
             WordsFault::BadId(word) => write_line("command: bad id ", word, errors),
             WordsFault::OutOfMemory => fault_text(&ToolFault::OutOfMemory, errors),
         }
@@ -70,9 +73,10 @@ impl WordsFault<'_> {
                     ExitStatus::Failed
                 }
             }
-            WordsFault::CommandLine(_) | WordsFault::NotText | WordsFault::BadId(_) => {
-                ExitStatus::BadCommandLine
-            }
+            WordsFault::CommandLine(_)
+            | WordsFault::NotText
+            | WordsFault::BadRule(_)
+            | WordsFault::BadId(_) => ExitStatus::BadCommandLine,
             WordsFault::OutOfMemory => ExitStatus::Memory,
         }
     }

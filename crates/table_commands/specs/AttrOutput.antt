@@ -2,6 +2,7 @@
 use Rattle.std.specs.Prelude.{ℕ, Bool, false, List, [], ◌∷◌, ◌++◌, codes, Option, None, Result, Ok, Err}
 use Rattle.contract_words.specs.Faults.{◌>>=◌}
 use Rattle.json_input.specs.Each.{each}
+use Rattle.command_base.specs.answer_text.config_record.android_locales.declared.locale_rule.LocaleRule.{LocaleRule}
 use Rattle.command_base.specs.answer_text.res_value.declared.res_id.ResId.{ResId}
 use Rattle.command_base.specs.answer_text.res_value.ResId.{id_text}
 use Rattle.command_base.specs.overlay_map.Layer.{LayerOf}
@@ -26,7 +27,7 @@ use Rattle.command_base.specs.names.Named.{NamedOf, named_of}
 use Rattle.command_base.specs.names.NamedIds.{ids_named}
 use Rattle.table_commands.specs.declared.attr.Attr.{Attr}
 use Rattle.table_commands.specs.declared.attr.OpenAttr.{OpenAttr}
-use Rattle.table_commands.specs.Opened.{OpenedOf, opened_in}
+use Rattle.table_commands.specs.Opened.{OpenedOf, opened_in, opened_by}
 use Rattle.table_commands.specs.OpenedSeen.{opened_of}
 use Rattle.table_commands.specs.EndStatus.{status_of_end}
 use Rattle.table_commands.specs.BagOutput.{no_bag}
@@ -69,10 +70,10 @@ attr_seen asked = record { opened = opened_of asked.opened; attr = asked.attr; s
 
 -- First come the words of files, then the faults of inputs, and then the name of the attribute, and those of styles, that
 -- are not there.
-unfoldable pub attr_opened : List LayerBytes → List ℕ → NamedOf → List (List ℕ) → Result OpenAttrOf StopOf
-attr_opened layers device attr words = do
+unfoldable pub attr_opened : LocaleRule → List LayerBytes → List ℕ → NamedOf → List (List ℕ) → Result OpenAttrOf StopOf
+attr_opened rule layers device attr words = do
   sets ← each set_asked words
-  opened ← read_or_stop (opened_in layers device)
+  opened ← read_or_stop (opened_by rule layers device)
   attr ← id_named opened.stack attr
   styles ← found_or_stop (ids_named opened.stack sets)
   Ok (record { opened = opened; attr = attr; styles = styles })
@@ -81,7 +82,7 @@ attr_opened layers device attr words = do
 abbrev pub PrintsAttrFiles : {W : Type 0} → (W → Option (List ℕ)) → W → W → Attr → Result AskedBytes StopOf → Result Status Stop → Type 0
 PrintsAttrFiles contents old new attr read result =
     CarriesOut (λ asked done. Prints contents old new done (Ok (attr_answer asked.opened asked.attr.0 asked.styles attr.force attr.names)))
-    (read >>= λ files. attr_opened files.layers files.devices (named_of attr.attr) files.words) result
+    (read >>= λ files. attr_opened attr.locales files.layers files.devices (named_of attr.attr) files.words) result
 
 -- the answer from what the places have
 abbrev pub PrintsAttr : {W : Type 0} → (W → Option (List ℕ)) → W → W → Places → Attr → Result Status Stop → Type 0

@@ -4,6 +4,10 @@ use Rattle.std.specs.List.{flat_map, list_any}
 use Rattle.contract_words.specs.Faults.{◌>>=◌}
 use Rattle.json_input.specs.Each.{each}
 use Rattle.command_base.specs.answer_text.res_value.declared.res_id.ResId.{ResId}
+use Rattle.command_base.specs.answer_text.config_record.android_locales.declared.locale_rule.LocaleRule.{LocaleRule}
+use Rattle.command_base.specs.answer_text.config_record.android_locales.declared.locale_rule.LocaleRule.TheVariants.{LanguageAndRegion, Android}
+use Rattle.command_base.specs.answer_text.config_record.android_locales.LocaleRule.{rule_of}
+use Rattle.command_base.specs.answer_text.config_record.Device.{device_locale}
 use Rattle.command_base.specs.overlay_map.Layer.{LayerOf}
 use Rattle.command_base.specs.overlay_map.SetAside.{set_aside_in_stack}
 use Rattle.command_base.specs.answer_text.reference_resolver.declared.end.End.{End}
@@ -23,7 +27,7 @@ use Rattle.command_base.specs.Stop.{StopOf}
 use Rattle.command_base.specs.names.NamedIds.{ids_named}
 use Rattle.table_commands.specs.declared.query.Query.{Query}
 use Rattle.table_commands.specs.declared.query.OpenQuery.{OpenQuery}
-use Rattle.table_commands.specs.Opened.{OpenedOf, opened_in}
+use Rattle.table_commands.specs.Opened.{OpenedOf, opened_in, opened_by}
 use Rattle.table_commands.specs.OpenedSeen.{opened_of}
 use Rattle.table_commands.specs.EndStatus.{is_unresolved}
 
@@ -43,9 +47,17 @@ query_status stack device ids = if list_any (is_unresolved_for stack device) ids
 abbrev pub line_of : List LayerOf → List ℕ → Bool → ResId → List ℕ
 line_of stack device names id = query_line stack id.0 (end_for stack device id) names
 
+-- how many rows of all layers are set aside at a device: on a phone none is
+abbrev pub aside_by : LocaleRule → List LayerOf → ℕ
+aside_by LanguageAndRegion stack = set_aside_in_stack stack
+aside_by Android stack = 0
+
+abbrev pub rows_set_aside : List LayerOf → List ℕ → ℕ
+rows_set_aside stack device = aside_by (rule_of (device_locale device)) stack
+
 -- a line for each id in the order asked, and one with the number of rows of all layers that are set aside
 unfoldable pub query_text : List LayerOf → List ℕ → List ResId → Bool → List ℕ
-query_text stack device ids names = flat_map (line_of stack device names) ids ++ set_aside_line (set_aside_in_stack stack)
+query_text stack device ids names = flat_map (line_of stack device names) ids ++ set_aside_line (rows_set_aside stack device)
 
 -- What `query` prints of layers and a device that were opened. Where names are asked for, they stand beside the ids.
 abbrev pub query_answer : OpenedOf → List ResId → Bool → Output
@@ -68,10 +80,10 @@ abbrev pub query_seen : OpenQuery → OpenQueryOf
 query_seen query = record { opened = opened_of query.opened; ids = query.ids.items }
 
 -- First come the words of files, then the faults of inputs, and then the first name that is not there.
-unfoldable pub query_opened : List LayerBytes → List ℕ → List (List ℕ) → Result OpenQueryOf StopOf
-query_opened layers device words = do
+unfoldable pub query_opened : LocaleRule → List LayerBytes → List ℕ → List (List ℕ) → Result OpenQueryOf StopOf
+query_opened rule layers device words = do
   sets ← each set_asked words
-  opened ← read_or_stop (opened_in layers device)
+  opened ← read_or_stop (opened_by rule layers device)
   ids ← found_or_stop (ids_named opened.stack sets)
   Ok (record { opened = opened; ids = ids })
 
@@ -79,7 +91,7 @@ query_opened layers device words = do
 abbrev pub QueriesFiles : {W : Type 0} → (W → Option (List ℕ)) → W → W → Query → Result AskedBytes StopOf → Result Status Stop → Type 0
 QueriesFiles contents old new query read result =
     CarriesOut (λ asked done. Prints contents old new done (Ok (query_answer asked.opened asked.ids query.names)))
-    (read >>= λ files. query_opened files.layers files.devices files.words) result
+    (read >>= λ files. query_opened query.locales files.layers files.devices files.words) result
 
 -- the answer from what the places have
 abbrev pub Queries : {W : Type 0} → (W → Option (List ℕ)) → W → W → Places → Query → Result Status Stop → Type 0

@@ -11,7 +11,7 @@ ghost use Rattle.table_commands.specs.AstraySeen.{astray_of, map_of, overlay_of}
 
 use crate::first_rows::FirstRows;
 use crate::mapped_ids::MappedIds;
-use command_base::answer_text::{Cell, MapRows, ResId, Row, Table, Value, kind};
+use command_base::{Cell, MapRows, ResId, Row, Table, Value, kind};
 use std::alloc::{AllocError, Global};
 
 /// A row of an overlay that refers to an id of the overlay which the map does not keep.

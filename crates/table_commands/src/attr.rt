@@ -15,12 +15,12 @@ ghost use Rattle.command_base.specs.CarriesOut.{IsKept};
 use crate::end_status::status_of_end;
 use crate::no_bag::print_no_bag;
 use crate::opened::Opened;
-use command_base::answer_text::{
-    End, ResId, Stack, Theme, write_end_with_name, write_id, write_name_beside,
-};
+use answer_text::{write_end_with_name, write_id, write_name_beside};
 use command_base::{
-    AskedFiles, Inputs, LayerParts, Named, Status, Stop, ToolFault, asked_sets, id_named, ids_named,
+    AskedFiles, End, Inputs, LayerParts, LocaleRule, Named, ResId, Stack, Status, Stop, Theme,
+    ToolFault, asked_sets,
 };
+use names::{id_named, ids_named};
 use std::alloc::Global;
 use std::io::{self, Write};
 
@@ -31,6 +31,8 @@ pub struct Attr<'a> {
     pub layers: &'a str,
     /// Where the device lies.
     pub device: &'a str,
+    /// By which rule its locale is compared.
+    pub locales: LocaleRule,
     /// Whether the name of each id is printed beside it.
     pub names: bool,
     /// Whether the styles are applied with force.
@@ -66,7 +68,14 @@ impl<'a> Attr<'a> {
         ensures unwritten { IsKept out.old out.new result }
     {
         let layers = files.layers.layers(alloc)?;
-        let asked = OpenAttr::open(alloc, &layers, &files.devices, self.attr, &files.words)?;
+        let asked = OpenAttr::open(
+            alloc,
+            &layers,
+            &files.devices,
+            self.locales,
+            self.attr,
+            &files.words,
+        )?;
         Ok(asked.print(alloc, self.force, self.names, out)?)
     }
 }
@@ -86,14 +95,15 @@ impl<'a> OpenAttr<'a> {
         alloc: Global,
         layers: &[LayerParts<&'a [u8]>],
         device: &[u8],
+        rule: LocaleRule,
         attr: Named<'_>,
         words: &[String],
     ) -> Result<OpenAttr<'a>, Stop<'static>>
         ensures { GivesOrStops attr_seen result
-            (attr_opened (map layer_bytes layers.now) device.now (named_of attr.entry) (map string_bytes words.now)) }
+            (attr_opened rule (map layer_bytes layers.now) device.now (named_of attr.entry) (map string_bytes words.now)) }
     {
         let sets = asked_sets(alloc, words)?;
-        let opened = Opened::read(alloc, layers, device)?;
+        let opened = Opened::read_by(alloc, layers, device, rule)?;
         let attr = id_named(alloc, &opened.stack, attr)?;
         let styles = ids_named(alloc, &opened.stack, &sets)?;
         Ok(OpenAttr {

@@ -13,10 +13,11 @@ ghost use Rattle.command_base.specs.CarriesOut.{IsKept};
 
 use crate::no_bag::print_no_bag;
 use crate::opened::{OpenId, Opened};
-use command_base::answer_text::{
-    BagRow, ResId, Stack, bag, write_id, write_layer, write_name_beside, write_value,
+use answer_text::{bag, write_id, write_layer, write_name_beside, write_value};
+use command_base::{
+    BagRow, DeviceFiles, Inputs, LayerParts, LocaleRule, Named, ResId, Stack, Status, Stop,
+    ToolFault,
 };
-use command_base::{DeviceFiles, Inputs, LayerParts, Named, Status, Stop, ToolFault};
 use std::alloc::Global;
 use std::io::{self, Write};
 
@@ -27,6 +28,8 @@ pub struct Bag<'a> {
     pub layers: &'a str,
     /// Where the device lies.
     pub device: &'a str,
+    /// By which rule its locale is compared.
+    pub locales: LocaleRule,
     /// Whether the name of each id is printed beside it.
     pub names: bool,
     /// The resource, by its id or by its name.
@@ -58,7 +61,7 @@ impl<'a> Bag<'a> {
         ensures unwritten { IsKept out.old out.new result }
     {
         let layers = files.layers.layers(alloc)?;
-        let asked = OpenId::open(alloc, &layers, &files.devices, self.resource)?;
+        let asked = OpenId::open(alloc, &layers, &files.devices, self.locales, self.resource)?;
         Ok(asked.opened.bag(alloc, asked.id, self.names, out)?)
     }
 }

@@ -3,8 +3,7 @@
 ghost use Rattle.std.specs.Prelude.{◌≡◌};
 ghost use Rattle.table_commands.specs.EndStatus.{is_unresolved, status_of_end};
 
-use command_base::Status;
-use command_base::answer_text::End;
+use command_base::{End, Status};
 
 /// Whether nothing was found, or too many references.
 pub(crate) fn is_unresolved(end: End) -> bool

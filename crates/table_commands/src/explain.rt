@@ -12,8 +12,10 @@ ghost use Rattle.command_base.specs.CarriesOut.{IsKept};
 
 use crate::end_status::status_of_end;
 use crate::opened::{OpenId, Opened};
-use command_base::answer_text::{ResId, explain};
-use command_base::{DeviceFiles, Inputs, LayerParts, Named, Status, Stop, ToolFault};
+use answer_text::explain;
+use command_base::{
+    DeviceFiles, Inputs, LayerParts, LocaleRule, Named, ResId, Status, Stop, ToolFault,
+};
 use std::alloc::Global;
 use std::io::{self, Write};
 
@@ -24,6 +26,8 @@ pub struct Explain<'a> {
     pub layers: &'a str,
     /// Where the device lies.
     pub device: &'a str,
+    /// By which rule its locale is compared.
+    pub locales: LocaleRule,
     /// Whether the name of each id is printed beside it.
     pub names: bool,
     /// The resource, by its id or by its name.
@@ -55,7 +59,7 @@ impl<'a> Explain<'a> {
         ensures unwritten { IsKept out.old out.new result }
     {
         let layers = files.layers.layers(alloc)?;
-        let asked = OpenId::open(alloc, &layers, &files.devices, self.resource)?;
+        let asked = OpenId::open(alloc, &layers, &files.devices, self.locales, self.resource)?;
         Ok(asked.explain(self.names, out)?)
     }
 }

@@ -10,7 +10,7 @@ ghost use Rattle.command_base.specs.answer_text.type_chunks.Row.{row_of};
 ghost use Rattle.table_commands.specs.FirstRows.{first_row, first_rows};
 ghost use Rattle.table_commands.specs.FirstRowsSeen.{AreFirstOf, AreIdsOf, row_at, row_for};
 
-use command_base::answer_text::{ResId, Row, Table};
+use command_base::{ResId, Row, Table};
 use std::alloc::{AllocError, Global};
 use std::collections::BTreeMap;
 

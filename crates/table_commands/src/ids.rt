@@ -9,10 +9,11 @@ ghost use Rattle.command_base.specs.declared.fault.ToolFault.TheVariants.{Write}
 ghost use Rattle.table_commands.specs.TableOutput.{ListsIds, id_line, ids_output, ids_text};
 ghost use Rattle.command_base.specs.CarriesOut.{IsKept};
 
-use command_base::answer_text::{ResId, Stack, write_id, write_its_name};
+use answer_text::{write_id, write_its_name};
 use command_base::{
-    Inputs, LayerFiles, LayerParts, Status, Stop, ToolFault, ids_of_type, open_stack,
+    Inputs, LayerFiles, LayerParts, ResId, Stack, Status, Stop, ToolFault, open_stack,
 };
+use names::ids_of_type;
 use std::alloc::Global;
 use std::io::{self, Write};
 

@@ -54,12 +54,11 @@ mod unmapped;
 
 pub use attr::{Attr, attr_bytes};
 pub use bag::{Bag, bag_bytes};
-pub use command_base::answer_text::{Device, End, Stack};
 pub use command_base::{
-    AskedFiles, DeviceFiles, ExitStatus, GoalFault, InputFault, Inputs, LayerFiles, LayerList,
-    LayerParts, LayersFault, Named, NamedGoal, NamedSet, ProcessInputs, STANDARD_INPUT, Status,
-    Stop, ToolFault, asked_goals, asked_words, fault_text, file_bytes, file_path, first_goals,
-    open_stack, read_input,
+    AskedFiles, Device, DeviceFiles, End, ExitStatus, GoalFault, InputFault, Inputs, LayerFiles,
+    LayerList, LayerParts, LayersFault, LocaleRule, Named, NamedGoal, NamedSet, ProcessInputs,
+    STANDARD_INPUT, Stack, Status, Stop, ToolFault, asked_goals, asked_words, fault_text,
+    file_bytes, file_path, open_stack, read_input,
 };
 pub use dump::{Dump, dump_bytes};
 pub use explain::{Explain, explain_bytes};

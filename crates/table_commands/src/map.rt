@@ -15,8 +15,8 @@ use crate::map_text::{write_left, write_map};
 use crate::mapped_ids::MappedIds;
 use crate::pairs::made_pairs;
 use crate::unmapped::unmapped_rows;
-use command_base::answer_text::{Row, Table, write_on_line};
-use command_base::{Inputs, Status, Stop, ToolFault, open_table, table_bytes};
+use answer_text::write_on_line;
+use command_base::{Inputs, Row, Status, Stop, Table, ToolFault, open_table, table_bytes};
 use std::alloc::{AllocError, Global};
 use std::io::Write;
 

@@ -11,7 +11,8 @@ ghost use Rattle.table_commands.specs.MapOutput.{pair_text, next_pair_text, map_
 ghost use Rattle.table_commands.specs.PairSeen.{IdsReadBack, pair_seen};
 
 use crate::astray::Astray;
-use command_base::answer_text::{ResId, Row, Table, write_id, write_string};
+use answer_text::{write_id, write_string};
+use command_base::{ResId, Row, Table};
 use std::io::{self, Write};
 
 /// Writes a map as a JSON list, with a line for each pair.

@@ -5,7 +5,7 @@ ghost use Rattle.command_base.specs.overlay_map.IdMap.{pairs_of};
 ghost use Rattle.table_commands.specs.MappedIdsSeen.{AreCarried, AreKept};
 ghost use Rattle.table_commands.specs.MadeMap.{carries, keeps};
 
-use command_base::answer_text::ResId;
+use command_base::ResId;
 use std::alloc::{AllocError, Global};
 use std::collections::BTreeSet;
 

@@ -7,8 +7,7 @@ ghost use Rattle.command_base.specs.declared.fault.ToolFault.TheVariants.{OutOfM
 ghost use Rattle.command_base.specs.Output.{Prints};
 ghost use Rattle.table_commands.specs.BagOutput.{no_bag, no_bag_line};
 
-use command_base::answer_text::BagFault;
-use command_base::{Status, ToolFault};
+use command_base::{BagFault, Status, ToolFault};
 use std::io::{self, Write};
 
 /// Prints the line that says why there is no bag. Want of memory is the command's own fault.

@@ -7,10 +7,12 @@ ghost use Rattle.command_base.specs.Output.{IsOfInput};
 ghost use Rattle.command_base.specs.StackBytesSeen.{layer_bytes};
 ghost use Rattle.command_base.specs.Stop.{GivesOrStops};
 ghost use Rattle.command_base.specs.names.Named.{named_of};
-ghost use Rattle.table_commands.specs.Opened.{opened_in, id_opened};
+ghost use Rattle.table_commands.specs.Opened.{opened_in, opened_by, id_opened};
 
-use command_base::answer_text::{Device, ResId, Stack};
-use command_base::{LayerParts, Named, Stop, ToolFault, id_named, open_stack};
+use command_base::{
+    Device, LayerParts, LocaleRule, Named, ResId, Stack, Stop, ToolFault, open_stack,
+};
+use names::id_named;
 use std::alloc::Global;
 
 /// The layers that a command is asked of, and the device. The commands are its methods, so that one stack answers
@@ -25,7 +27,6 @@ impl<'a> Opened<'a> {
     ghost use Rattle.table_commands.specs.OpenedSeen.{opened_of};
 
     /// Opens the layers, and then reads the device.
-    #[tactic(auto, unfolding(crate::specs::Opened::opened_in))]
     pub fn read(
         alloc: Global,
         layers: &[LayerParts<&'a [u8]>],
@@ -34,8 +35,22 @@ impl<'a> Opened<'a> {
         ensures value { GivesOr OutOfMemory opened_of result (opened_in (map layer_bytes layers.now) device.now) }
         ensures of_input { IsOfInput result }
     {
+        Opened::read_by(alloc, layers, device, LocaleRule::LanguageAndRegion)
+    }
+
+    /// The same, where the text of the device's locale is read by a rule, by which it is then compared.
+    #[tactic(auto, unfolding(crate::specs::Opened::opened_by))]
+    pub fn read_by(
+        alloc: Global,
+        layers: &[LayerParts<&'a [u8]>],
+        device: &[u8],
+        rule: LocaleRule,
+    ) -> Result<Opened<'a>, ToolFault>
+        ensures value { GivesOr OutOfMemory opened_of result (opened_by rule (map layer_bytes layers.now) device.now) }
+        ensures of_input { IsOfInput result }
+    {
         let stack = open_stack(alloc, layers)?;
-        let device = Device::read(alloc, device)?;
+        let device = Device::read_by(alloc, device, rule)?;
         Ok(Opened { stack, device })
     }
 }
@@ -56,11 +71,12 @@ impl<'a> OpenId<'a> {
         alloc: Global,
         layers: &[LayerParts<&'a [u8]>],
         device: &[u8],
+        rule: LocaleRule,
         resource: Named<'_>,
     ) -> Result<OpenId<'a>, Stop<'static>>
-        ensures { GivesOrStops id_seen result (id_opened (map layer_bytes layers.now) device.now (named_of resource.entry)) }
+        ensures { GivesOrStops id_seen result (id_opened rule (map layer_bytes layers.now) device.now (named_of resource.entry)) }
     {
-        let opened = Opened::read(alloc, layers, device)?;
+        let opened = Opened::read_by(alloc, layers, device, rule)?;
         let id = id_named(alloc, &opened.stack, resource)?;
         Ok(OpenId { opened, id })
     }

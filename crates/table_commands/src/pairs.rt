@@ -11,8 +11,8 @@ ghost use Rattle.table_commands.specs.MadeMap.{pairs_in, made_map};
 ghost use Rattle.table_commands.specs.NamedTarget.{named_in, named_seen, own_seen, pairs_with};
 
 use crate::first_rows::FirstRows;
-use command_base::answer_text::{ResId, Row, Table};
-use command_base::{Name, find_names, name_text};
+use command_base::{Name, ResId, Row, Table};
+use names::{find_names, name_text};
 use std::alloc::{AllocError, Global};
 use std::borrow::CowStr;
 use std::slice;

@@ -9,15 +9,17 @@ ghost use Rattle.command_base.specs.StackBytesSeen.{layer_bytes};
 ghost use Rattle.command_base.specs.Stop.{GivesOrStops};
 ghost use Rattle.command_base.specs.declared.fault.ToolFault.TheVariants.{Write};
 ghost use Rattle.table_commands.specs.OpenedSeen.{opened_of};
-ghost use Rattle.table_commands.specs.QueryOutput.{query_status, query_text, query_answer, query_output, query_seen, query_opened, Queries, QueriesFiles};
+ghost use Rattle.table_commands.specs.QueryOutput.{rows_set_aside, query_status, query_text, query_answer, query_output, query_seen, query_opened, Queries, QueriesFiles};
 ghost use Rattle.command_base.specs.CarriesOut.{IsKept};
 
 use crate::end_status::is_unresolved;
 use crate::opened::Opened;
-use command_base::answer_text::{Device, ResId, Stack, query_line, resolve, set_aside_line};
+use answer_text::{query_line, resolve, set_aside_line};
 use command_base::{
-    AskedFiles, Inputs, LayerParts, Status, Stop, ToolFault, asked_sets, ids_named,
+    AskedFiles, Device, Inputs, LayerParts, LocaleRule, ResId, Stack, Status, Stop, ToolFault,
+    asked_sets,
 };
+use names::ids_named;
 use std::alloc::Global;
 use std::io::{self, Write};
 
@@ -28,6 +30,8 @@ pub struct Query<'a> {
     pub layers: &'a str,
     /// Where the device lies.
     pub device: &'a str,
+    /// By which rule its locale is compared.
+    pub locales: LocaleRule,
     /// Whether the name of each id is printed beside it.
     pub names: bool,
     /// The words that ask for resources, or name a file of such words.
@@ -59,7 +63,7 @@ impl<'a> Query<'a> {
         ensures unwritten { IsKept out.old out.new result }
     {
         let layers = files.layers.layers(alloc)?;
-        let asked = OpenQuery::open(alloc, &layers, &files.devices, &files.words)?;
+        let asked = OpenQuery::open(alloc, &layers, &files.devices, self.locales, &files.words)?;
         Ok(asked.print(self.names, out)?)
     }
 }
@@ -78,12 +82,13 @@ impl<'a> OpenQuery<'a> {
         alloc: Global,
         layers: &[LayerParts<&'a [u8]>],
         device: &[u8],
+        rule: LocaleRule,
         words: &[String],
     ) -> Result<OpenQuery<'a>, Stop<'static>>
-        ensures { GivesOrStops query_seen result (query_opened (map layer_bytes layers.now) device.now (map string_bytes words.now)) }
+        ensures { GivesOrStops query_seen result (query_opened rule (map layer_bytes layers.now) device.now (map string_bytes words.now)) }
     {
         let sets = asked_sets(alloc, words)?;
-        let opened = Opened::read(alloc, layers, device)?;
+        let opened = Opened::read_by(alloc, layers, device, rule)?;
         let ids = ids_named(alloc, &opened.stack, &sets)?;
         Ok(OpenQuery { opened, ids })
     }
@@ -147,6 +152,16 @@ fn write_ends<W: Write + Drop>(
             status = Status::Negative;
         }
     }
-    set_aside_line(stack.set_aside(), out)?;
+    set_aside_line(rows_set_aside(stack, device), out)?;
     Ok(status)
+}
+
+// How many rows of all layers are set aside: on a phone none is.
+fn rows_set_aside(stack: &Stack<'_>, device: &Device) -> u128
+    ensures { result ≡ rows_set_aside stack.now (device_numbers device.now) }
+{
+    match LocaleRule::of(device.locale()) {
+        LocaleRule::LanguageAndRegion => stack.set_aside(),
+        LocaleRule::Android => 0,
+    }
 }

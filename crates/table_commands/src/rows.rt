@@ -6,8 +6,8 @@ ghost use Rattle.command_base.specs.declared.fault.ToolFault.TheVariants.{Write}
 ghost use Rattle.table_commands.specs.TableOutput.{rows_output, PrintsRows};
 ghost use Rattle.command_base.specs.CarriesOut.{IsKept};
 
-use command_base::answer_text::{Table, rows_text};
-use command_base::{Inputs, Status, Stop, ToolFault, table_bytes};
+use answer_text::rows_text;
+use command_base::{Inputs, Status, Stop, Table, ToolFault, table_bytes};
 use std::alloc::Global;
 use std::io::Write;
 

@@ -7,7 +7,7 @@ ghost use Rattle.table_commands.specs.MadeMap.{unmapped};
 
 use crate::first_rows::FirstRows;
 use crate::mapped_ids::MappedIds;
-use command_base::answer_text::Row;
+use command_base::Row;
 use std::alloc::{AllocError, Global};
 
 /// The first row of each id of an overlay that stands for no target, in the order of the ids.

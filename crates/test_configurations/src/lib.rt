@@ -3,7 +3,7 @@
 //! by the crate that hands it on. Nothing stands on this crate.
 #![tactic(auto)]
 
-pub mod handed_on;
+mod handed_on;
 #[cfg(test)]
 mod locale_facts;
 #[cfg(test)]

@@ -1,7 +1,7 @@
 //! Which of some records a phone loads by their locales.
 
-use android_locales::{RecordLocale, ScriptedLocale, write_scripted_locale};
-use config_record::{Locale, LocaleFault};
+use android_locales::{DeviceLocale, LocaleRule, RecordLocale, read_locale, write_locale};
+use config_record::{Coord, Locale, LocaleFault, Record};
 use locale_data::number_of;
 use std::alloc::Global;
 
@@ -105,12 +105,17 @@ fn record_of(text: &str, size: u8) -> Option<RecordLocale> {
     put(&mut bytes, 8, &locale);
     put(&mut bytes, 36, script.as_bytes());
     put(&mut bytes, 40, variant.as_bytes());
-    RecordLocale::read(&bytes).ok()
+    let record = Record::read(&bytes).ok()?;
+    Some(RecordLocale::of_number(record.compared_number(Coord::Locale)))
+}
+
+fn read(text: &str) -> Result<Locale, LocaleFault> {
+    read_locale(text, LocaleRule::Android)
 }
 
 // The first that suits is held, and then each that suits and is better takes over.
 fn end_of(row: &Row, size: u8) -> Option<usize> {
-    let device = ScriptedLocale::read(row.device).ok()?;
+    let device = DeviceLocale::of_number(read(row.device).ok()?.number());
     let mut held: Option<RecordLocale> = None;
     let mut end = 0;
     for (place, text) in row.records.iter().enumerate() {
@@ -150,9 +155,12 @@ struct Text {
     printed: &'static str,
 }
 
+/// In the place of a script, that none is known.
+const UNKNOWN: [u8; 4] = [0, 0, 0, 1];
+
 #[rattlefmt::skip]
 const TEXTS: [Text; 12] = [
-    Text { text: "", script: [0; 4], printed: "" },
+    Text { text: "", script: UNKNOWN, printed: "" },
     Text { text: "zh-HK", script: *b"Hant", printed: "zh-HK" },
     Text { text: "zh-Hant-HK", script: *b"Hant", printed: "zh-HK" },
     Text { text: "zh-Hant", script: *b"Hant", printed: "zh-Hant" },
@@ -160,19 +168,19 @@ const TEXTS: [Text; 12] = [
     Text { text: "sr-Cyrl", script: *b"Cyrl", printed: "sr" },
     Text { text: "es-Latn-419", script: *b"Latn", printed: "es-419" },
     Text { text: "fil-Tglg", script: *b"Tglg", printed: "fil-Tglg" },
-    Text { text: "xx-YY", script: [0; 4], printed: "xx-YY" },
+    Text { text: "xx-YY", script: UNKNOWN, printed: "xx-YY" },
     Text { text: "xx-Latn", script: *b"Latn", printed: "xx-Latn" },
     Text { text: "en-XA", script: *b"~~~A", printed: "en-XA" },
     Text { text: "en-Latn-XA", script: *b"Latn", printed: "en-Latn-XA" },
 ];
 
 fn is_read_and_printed(alloc: Global, row: &Text) -> bool {
-    let Ok(locale) = ScriptedLocale::read(row.text) else {
+    let Ok(locale) = read(row.text) else {
         return false;
     };
     let mut out = Vec::new(alloc);
     locale.script == row.script
-        && write_scripted_locale(locale, &mut out).is_ok()
+        && write_locale(locale, &mut out).is_ok()
         && out.as_slice() == row.printed.as_bytes()
 }
 
@@ -204,14 +212,14 @@ const REFUSED: [(&str, LocaleFault); 12] = [
 // The first text that has another fault.
 fn other_fault() -> Option<&'static str> {
     for (text, fault) in &REFUSED {
-        if ScriptedLocale::read(text) != Err(*fault) {
+        if read(text) != Err(*fault) {
             return Some(*text);
         }
     }
     None
 }
 
-/// In the order of their numbers.
+/// In the order of their numbers: by language, then by region, then by script.
 const IN_ORDER: [&str; 10] = [
     "",
     "sr",
@@ -225,27 +233,11 @@ const IN_ORDER: [&str; 10] = [
     "fil",
 ];
 
-// That of the eight bytes: in the order of these numbers locales stand by language, then by region, then by script.
-fn number_with_script(device: ScriptedLocale) -> u64 {
-    let Locale {
-        language,
-        region,
-        ..
-    } = device.locale;
-    let script = device.script;
-    Locale {
-        language,
-        region,
-        script,
-    }
-    .number()
-}
-
 // The first locale that is not above the one before it.
 fn out_of_order() -> Option<&'static str> {
     let mut last = None;
     for text in &IN_ORDER {
-        let number = ScriptedLocale::read(text).ok().map(number_with_script);
+        let number = read(text).ok().map(Locale::number);
         if number <= last {
             return Some(*text);
         }

@@ -1,6 +1,6 @@
 //! What is called of the crates of tables, of stacks and of certificates, by the crate that hands it on: who uses the library
 //! finds it there.
 
-pub mod certificates;
-pub mod stacks;
-pub mod tables;
+mod certificates;
+mod stacks;
+mod tables;

@@ -2,17 +2,16 @@
 //! gave them. So does what all members of a box have in common outlive the styles that were asked.
 
 use crate::small_tables::{bag_table, value_table};
-use box_trace::{CommonTrace, OpenBox};
+use cert_checker::{CommonTrace, OpenBox};
 use config_box::ConfigBox;
 use overlay_map::Stack;
 use reference_resolver::End;
 use res_value::{Cell, MapRows, ResId, Value, kind};
-use resource_table::Table;
+use resource_table::{Row, Table};
 use std::alloc::Global;
 use std::test::Fail;
 use string_pool::Text;
 use test_layers::{LayerFault, push_base, push_overlay, stack_of_base};
-use type_chunks::Row;
 
 const FIRST: ResId = ResId(0x7f01_0000);
 

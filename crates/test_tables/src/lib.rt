@@ -5,7 +5,7 @@
 
 #[cfg(test)]
 mod faults;
-pub mod handed_on;
+mod handed_on;
 #[cfg(test)]
 mod lent;
 #[cfg(test)]

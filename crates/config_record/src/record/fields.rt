@@ -54,10 +54,12 @@ const SCREEN_LAYOUT2: usize = 48;
 
 const COLOR_MODE: usize = 49;
 
+const LOCALE_SCRIPT_WAS_COMPUTED: usize = 52;
+
 /// The fields but the size. Those past the end of a short record are zero. What their numbers mean is
 /// said at `Coord`; where a field holds several, it is given whole.
 impl Record<'_> {
-    ghost use Rattle.config_record.specs.Record.{record_bytes, byte, two_bytes, mcc, mnc, language, country, orientation, touchscreen, density, keyboard, navigation, input_flags, input_pad, screen_width, screen_height, sdk_version, minor_version, screen_layout, ui_mode, smallest_screen_width_dp, screen_width_dp, screen_height_dp, locale_script, locale_variant, screen_layout2, color_mode};
+    ghost use Rattle.config_record.specs.Record.{record_bytes, byte, two_bytes, mcc, mnc, language, country, orientation, touchscreen, density, keyboard, navigation, input_flags, input_pad, screen_width, screen_height, sdk_version, minor_version, screen_layout, ui_mode, smallest_screen_width_dp, screen_width_dp, screen_height_dp, locale_script, locale_variant, screen_layout2, color_mode, script_was_computed};
 
     /// Mobile country code.
     pub fn mcc(&self) -> u16
@@ -239,6 +241,13 @@ impl Record<'_> {
         ensures { result ≡ color_mode (record_bytes self.now) }
     {
         self.byte(COLOR_MODE)
+    }
+
+    /// Whether Android has looked for its script. No tool is known to set this.
+    pub fn script_was_computed(&self) -> bool
+        ensures { result ≡ script_was_computed (record_bytes self.now) }
+    {
+        self.byte(LOCALE_SCRIPT_WAS_COMPUTED) != 0
     }
 
     // The byte at an offset; zero past the end.

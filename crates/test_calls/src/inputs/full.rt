@@ -1,7 +1,7 @@
 //! The pushes of layers over as many as there can be, which take no memory and hand back what was not pushed.
 
 use crate::marked::{begin, bytes_of, end, tell};
-use bags_themes::reference_resolver::overlay_map::{IdMap, MOST_LAYERS, ResId, Stack, Table};
+use bags_themes::{IdMap, MOST_LAYERS, ResId, Stack, Table};
 use std::alloc::Global;
 use std::test::Fail;
 use test_layers::{LayerFault, SAME, push_base};

@@ -1,7 +1,7 @@
 //! What is read of bytes without memory.
 
 use crate::marked::{begin, bytes_of, end, tell};
-use bags_themes::reference_resolver::overlay_map::Table;
+use bags_themes::Table;
 use chunk_walk::Chunks;
 use std::test::Fail;
 

@@ -4,8 +4,8 @@ use crate::faults::other_text;
 use chunk_walk::ChunkFault;
 use config_record::RecordFault;
 use res_value::MapRowsFault;
+use resource_table::TableFault;
 use string_pool::{PoolFault, StringFault};
-use type_chunks::TableFault;
 
 const CHUNKS: [(ChunkFault, &str); 5] = [
     (ChunkFault::Truncated(0), "Truncated 0"),

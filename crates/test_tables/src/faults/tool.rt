@@ -6,9 +6,9 @@ use cert_tree::CertFault;
 use config_box::BoxFault;
 use config_record::DeviceFault;
 use overlay_map::{MapFault, StackFault};
+use resource_table::TableFault;
 use resource_text::Side;
 use resource_tool::{InputFault, LayersFault, ToolFault};
-use type_chunks::TableFault;
 
 const STACKS: [(StackFault, &str); 2] = [
     (StackFault::TooManyLayers, "TooManyLayers"),

@@ -1,10 +1,10 @@
 //! What is called of the crates of certificates, and of that of the commands, by the crate that hands it on: who uses the
 //! library finds it there.
 
-pub use cert_checker::{Live, Shown, Verdict, check, goal_end};
-pub use cert_maker::{Made, make};
-pub use cert_tree::{Cert, CertFault, CertGoal, Goal, GoalFault, Node};
-pub use resource_tool::{
+use cert_checker::{Live, Shown, Verdict, check, goal_end};
+use cert_maker::{Made, make};
+use cert_tree::{Cert, CertFault, CertGoal, Goal, GoalFault, Node};
+use resource_tool::{
     InputFault, LayerList, LayersFault, Status, ToolFault, attr_bytes, bag_bytes, check_bytes,
     dump_bytes, explain_bytes, make_bytes, query_bytes, read_input, rows_bytes,
 };

@@ -1,5 +1,5 @@
 //! What is called of the crates of stacks, by the crate that hands it on: who uses the library finds it there.
 
-pub use bags_themes::{BagFault, BagRows, Chain, Slot, Theme, bag, chain};
-pub use overlay_map::{Cand, Cands, IdMap, MapFault, Stack, StackFault};
-pub use reference_resolver::{End, Pick, resolve, resolve_within, select};
+use bags_themes::{BagFault, BagRows, Chain, Slot, Theme, bag, chain};
+use overlay_map::{Cand, Cands, IdMap, MapFault, Stack, StackFault};
+use reference_resolver::{End, Pick, resolve, resolve_within, select};

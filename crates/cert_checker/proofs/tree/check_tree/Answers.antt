@@ -1,4 +1,5 @@
-use Rattle.std.proofs.Common.{List, map, IfOk, subst}
+use Rattle.std.proofs.Common.{List, map, subst}
+use Rattle.std.proofs.lemmas.Result.{IfOk-weaker}
 use Rattle.cert_tree.specs.declared.node.Node.{Node}
 use Rattle.cert_tree.specs.Certificate.{node_of}
 use Rattle.cert_tree.specs.res_value.Goal.{goal_seen}
@@ -8,5 +9,8 @@ use Rattle.cert_checker.proofs.tree.check_tree.Goals as goal
 
 pub returns : goal.returns
 returns c =
-    subst (λ (nodes : List Node). IfOk c.check_nodes.result (IsOutcome (goal_trace c.args.stack.now (goal_seen c.args.tree.now.goal)) c.args.members.now (map node_of nodes)))
-    c.as_slice.ensures.value c.check_nodes.ensures
+    let trace = goal_trace c.args.stack.now (goal_seen c.args.tree.now.goal) in
+    let sets = c.args.members.now in
+    IfOk-weaker c.check_nodes-outcome.result _ _
+    (λ outcome is. subst (λ (nodes : List Node). IsOutcome trace sets (map node_of nodes) outcome) c.as_slice.ensures.value (is trace sets c.in_ok-open_boxes.ensures))
+    c.check_nodes-outcome.ensures

@@ -38,7 +38,7 @@ loop-place-preserved g c =
     subst (TakesGoal _ _ _ l.trees c.add.new.self) c.in_default-2.is c.in_ok-made.ensures (map goal_seen asked) (map goal_seen (drop (l.place + 1) asked)) c.args.max_nodes
     (at-turn c.args.stack.now c.args.members.now (map goal_seen asked) asked l.place c.args.max_nodes c.index-asked-place.result l.trees c.loop-place-test.true c.index-asked-place.is l.invariant)
 
-answer : (g : Over) (c : goal.After-drop-trees-in-Some-2 g) → IsMade c.args.stack.now c.args.members.now (map goal_seen c.args.asked.now) c.args.max_nodes c.in-Some-2.made × CanBeWritten c.in-Some-2.made
+answer : (g : Over) (c : goal.After-drop-trees-in-Some-2 g) → IsMade c.args.stack.now c.args.members.now (map goal_seen c.args.asked.now) c.args.max_nodes c.in-Some-2.made × CanBeWritten c.args.members.now c.in-Some-2.made
 answer g c =
     let asked = c.args.asked.now in
     let l = c.loop-place in

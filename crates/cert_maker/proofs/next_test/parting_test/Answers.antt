@@ -44,5 +44,5 @@ returns-in_ok-listed-in-Numbers-clause-fits c =
 
 pub returns-in_ok-listed-in-Locales-clause-fits : goal.returns-in_ok-listed-in-Locales-clause-fits
 returns-in_ok-listed-in-Locales-clause-fits c =
-    locales-fit c.args.members.now c.args.parting.now.pair.coord (answer_in (answer_of c.args.parting.now) (device_numbers c.args.parting.now.pair.yes)) c.in-Locales.locales.now c.in_ok-listed-in-Locales.listed.items
-    c.in-Locales.ensures.sets c.in-Locales.ensures.value c.in_ok-listed-in-Locales.ensures.listed c.in_ok-listed-in-Locales.ensures.of_text
+    locales-fit c.args.members.now (device_numbers c.args.parting.now.pair.yes) c.args.parting.now.pair.coord (answer_in (answer_of c.args.parting.now) (device_numbers c.args.parting.now.pair.yes)) c.in-Locales.locales.now c.in_ok-listed-in-Locales.listed.items
+    c.in-Locales.ensures.sets c.requires.parts.yes.member c.in-Locales.ensures.value c.in_ok-listed-in-Locales.ensures.listed c.in_ok-listed-in-Locales.ensures.back

@@ -7,7 +7,7 @@ use Rattle.cert_tree.proofs.read.goals_of_items.Given as goal
 
 abbrev pub invariant-loop-item : goal.invariant-loop-item
 invariant-loop-item l = record {
-  read : ReadOnAllBut (goal_after l.attributes) (map goal_of l.goals.items) l.item-index (map view l.items);
+  read : ReadOnAllBut (goal_after l.rule l.attributes) (map goal_of l.goals.items) l.item-index (map view l.items);
   count : l.nodes_before ≡ node_count (map goal_of l.goals.items);
   few : l.nodes_before ≤ most_nodes;
 }

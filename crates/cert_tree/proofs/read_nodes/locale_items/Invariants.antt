@@ -5,4 +5,4 @@ use Rattle.cert_tree.specs.CertJson.{locale_item}
 use Rattle.cert_tree.proofs.read_nodes.locale_items.Given as goal
 
 abbrev pub invariant-loop-item : goal.invariant-loop-item
-invariant-loop-item l = EachAllBut (locale_item l.shape) l.locales.items l.item-index (map view l.items)
+invariant-loop-item l = EachAllBut (locale_item l.rule l.shape) l.locales.items l.item-index (map view l.items)

@@ -7,6 +7,6 @@ use Rattle.cert_tree.proofs.read_nodes.nodes_in.Given as goal
 
 abbrev pub invariant-loop-item : goal.invariant-loop-item
 invariant-loop-item l = record {
-  read : ReadOnAllBut (node_after l.goal) (map node_of l.nodes.items) l.item-index (map view l.items);
+  read : ReadOnAllBut (node_after l.rule l.goal) (map node_of l.nodes.items) l.item-index (map view l.items);
   count : length l.nodes.items ≡ l.item-index;
 }

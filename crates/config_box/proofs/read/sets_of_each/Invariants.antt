@@ -8,6 +8,6 @@ use Rattle.config_box.proofs.read.sets_of_each.Given as goal
 
 abbrev pub invariant-loop-coord : goal.invariant-loop-coord
 invariant-loop-coord l = record {
-  read : EachAllBut set_in (sets_of l.sets.items) l.coord-index (map pair_seen l.written);
-  sets : SetsSoFar l.sets.items l.coord-index;
+  read : EachAllBut (set_in l.rule) (sets_of l.sets.items) l.coord-index (map pair_seen l.written);
+  sets : SetsSoFar l.rule l.sets.items l.coord-index;
 }

@@ -14,7 +14,7 @@ returns-clause-text c =
     ∙ ap compact_text c.in_ok-value.ensures.data
 
 pub returns-clause-reads_back : goal.returns-clause-reads_back
-returns-clause-reads_back c = λ fits.
+returns-clause-reads_back c = λ rule fits.
     let nests : depth (view c.in_ok-value.value) ≤ max_depth = rw c.in_ok-value.ensures.data (cert-shallow (goals_of c.args.self.now)) in
-    cert_in-back _ _ (goals_of c.args.self.now) (value_of-read _ _ c.in_ok-bytes.ensures.utf8 (c.in_ok-bytes.ensures.reads_back nests)) c.in_ok-value.ensures.data
-    (c.in_ok-value.ensures.reads_back fits)
+    cert_in-back rule _ _ (goals_of c.args.self.now) (value_of-read _ _ c.in_ok-bytes.ensures.utf8 (c.in_ok-bytes.ensures.reads_back nests)) c.in_ok-value.ensures.data
+    (c.in_ok-value.ensures.reads_back rule fits)

@@ -1,5 +1,9 @@
 use Rattle.config_record.proofs.DeviceLemmas.{device-asked, device-locale_asked, device-some_text, device-not_refused}
+use Rattle.android_locales.proofs.GivenLemmas.{plain_is_given}
 use Rattle.config_record.proofs.device.Device.check.Goals as goal
+
+pub with-requires : goal.with-requires
+with-requires c = plain_is_given c.checked.result c.checked.ensures.given
 
 pub returns-clause-numbers : goal.returns-clause-numbers
 returns-clause-numbers c = device-asked _ _ c.with.result c.with.ensures

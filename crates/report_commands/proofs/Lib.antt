@@ -1,0 +1,13 @@
+pub mod AnySteps
+pub mod ToldSteps
+pub mod LayerLaws
+pub mod WarningSteps
+pub mod QualifierSteps
+pub mod QualifierLaws
+pub mod FindingsSteps
+pub mod EntriesSteps
+pub mod CountedSteps
+pub mod DiffersSteps
+pub mod LineSteps
+pub mod GoalSteps
+pub mod WholeTreeLemmas

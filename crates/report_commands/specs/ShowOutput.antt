@@ -1,0 +1,54 @@
+-- What the command `show` prints.
+use Rattle.std.specs.Prelude.{ℕ, List, slice_get, Option, Some, None, Result, Ok}
+use Rattle.contract_words.specs.Faults.{◌>>=◌}
+use Rattle.command_base.specs.overlay_map.Layer.{LayerOf}
+use Rattle.command_base.specs.declared.fault.ToolFault.{ToolFault}
+use Rattle.command_base.specs.ToolFault.{fault_of_certificate}
+use Rattle.command_base.specs.declared.status.Status.TheVariants.{Done, Negative}
+use Rattle.command_base.specs.Output.{Output}
+use Rattle.command_base.specs.StackBytes.{LayerBytes, stack_in}
+use Rattle.command_base.specs.MapErr.{map_err}
+use Rattle.command_base.specs.answer_text.OnLine.{on_line}
+use Rattle.command_base.specs.cert_tree.Certificate.{GoalOf}
+use Rattle.command_base.specs.cert_tree.CertJson.{cert_in}
+use Rattle.report_commands.specs.TreeText.{certificate_text}
+use Rattle.report_commands.specs.DotText.{dot_text, no_goal_line}
+
+-- layers, and a certificate's goals with their trees
+pub record ShowInputs : Type 0 where
+  pub stack : List LayerOf
+  pub trees : List GoalOf
+
+-- What these layers and a certificate's text mean, or the first fault. The layers are read before the certificate.
+unfoldable pub show_inputs : List LayerBytes → List ℕ → Result ShowInputs ToolFault
+show_inputs layers cert_json = do
+  stack ← stack_in layers
+  trees ← map_err fault_of_certificate (cert_in cert_json)
+  Ok (record { stack = stack; trees = trees })
+
+-- What `show` prints of layers and a certificate that were read: it is done.
+abbrev pub show_answer : ShowInputs → Output
+show_answer inputs = record { status = Done; text = on_line (certificate_text inputs.stack inputs.trees) }
+
+-- What `show` prints of these layers and a certificate's text.
+unfoldable pub show_output : List LayerBytes → List ℕ → Result Output ToolFault
+show_output layers cert_json = do
+  inputs ← show_inputs layers cert_json
+  Ok (show_answer inputs)
+
+-- ---- a picture
+
+-- that of a goal by its number, or that there is no such goal
+abbrev pub picture : List LayerOf → ℕ → Option GoalOf → Output
+picture stack number None = record { status = Negative; text = no_goal_line number }
+picture stack number (Some goal) = record { status = Done; text = dot_text stack number goal }
+
+-- What `show --dot` prints of layers and a certificate that were read, for the goal of this number, counted from 0.
+abbrev pub show_dot_answer : ShowInputs → ℕ → Output
+show_dot_answer inputs number = picture inputs.stack number (slice_get inputs.trees number)
+
+-- What `show --dot` prints of these layers, a certificate's text and this number of a goal.
+unfoldable pub show_dot_output : List LayerBytes → List ℕ → ℕ → Result Output ToolFault
+show_dot_output layers cert_json number = do
+  inputs ← show_inputs layers cert_json
+  Ok (show_dot_answer inputs number)

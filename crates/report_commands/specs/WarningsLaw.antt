@@ -1,0 +1,20 @@
+-- Why the lines of a survey tell its status.
+use Rattle.std.specs.Prelude.{◌≡◌, ℕ, ◌==◌, ◌&&◌, not, Bool, List}
+use Rattle.std.specs.List.{list_any}
+use Rattle.command_base.specs.overlay_map.Layer.{LayerOf}
+use Rattle.command_base.specs.StackBytes.{LayerBytes}
+use Rattle.report_commands.specs.declared.finding.Finding.{Finding}
+use Rattle.report_commands.specs.Finding.{all_findings, differs}
+use Rattle.report_commands.specs.Findings.{Note}
+use Rattle.report_commands.specs.Counted.{notes_with, tally_of}
+use Rattle.report_commands.specs.LayerNotes.{notes_of_layer, layer_differs}
+
+-- a finding of some notes has a line, and that is a warning
+abbrev pub is_warned : List Note → Finding → Bool
+is_warned notes finding = differs finding && not ((tally_of (notes_with finding notes)).count == 0)
+
+-- An answer can differ by a layer exactly where one of the layer's lines is a warning.
+abbrev pub WarningsTell : Type 0
+WarningsTell =
+    (stack : List LayerOf) (locales : List ℕ) (numbered : ℕ × LayerBytes)
+    → layer_differs stack locales numbered ≡ list_any (is_warned (notes_of_layer stack locales numbered)) all_findings

@@ -1,0 +1,259 @@
+//! The command `show`.
+
+ghost use Rattle.std.specs.Prelude.{◌≡◌, ◌++◌, map, Ok, IfOk, IfSome};
+ghost use Rattle.std.specs.List.{flat_map};
+ghost use Rattle.contract_words.specs.Exact.{GivesOr};
+ghost use Rattle.contract_words.specs.Writes.{Writes};
+ghost use Rattle.command_base.specs.declared.fault.ToolFault.TheVariants.{OutOfMemory, Write};
+ghost use Rattle.command_base.specs.Output.{Prints, IsOfInput};
+ghost use Rattle.command_base.specs.StackBytesSeen.{layer_bytes};
+ghost use Rattle.command_base.specs.Stop.{GivesOrStops};
+ghost use Rattle.report_commands.specs.NumberedGoal.{numbered_of};
+ghost use Rattle.report_commands.specs.OpenedSeen.{opened_trees};
+ghost use Rattle.command_base.specs.cert_tree.Certificate.{goal_of};
+ghost use Rattle.report_commands.specs.TreeText.{certificate_text, goal_text, goals_line};
+ghost use Rattle.report_commands.specs.DotText.{no_goal_line};
+ghost use Rattle.report_commands.specs.Show.{ShowsFiles, ShowsTrees, show_files, show_held};
+ghost use Rattle.report_commands.specs.ShowOutput.{show_inputs, show_answer, show_output, show_dot_answer, show_dot_output};
+ghost use Rattle.command_base.specs.CarriesOut.{IsKept};
+
+use crate::dot_text::dot_text;
+use crate::goal_text::write_goal_line;
+use crate::line_text::write_lines;
+use crate::numbered_goal::NumberedGoal;
+use crate::numbered_goals::numbered_goals;
+use answer_text::write_on_line;
+use command_base::{
+    Cert, CertGoal, Inputs, LayerFiles, LayerParts, Stack, Status, Stop, ToolFault, file_bytes,
+    open_stack,
+};
+use std::alloc::{AllocError, Global};
+use std::io::{self, Write};
+
+/// What the words of `show` ask: the trees of a certificate.
+#[derive(Drop)]
+pub struct Show<'a> {
+    /// Where the list of layers lies.
+    pub layers: &'a str,
+    /// Where the certificate lies.
+    pub certificate: &'a str,
+    /// The number of the goal that is shown as a picture; without one all goals are shown as text.
+    pub pictured: Option<u32>,
+}
+
+impl<'a> Show<'a> {
+    /// Reads what the words name, and answers them. Where it is not answered, nothing is written, unless a write fails.
+    pub fn answer<I: Inputs, W: Write + Drop>(
+        &self,
+        alloc: Global,
+        inputs: &I,
+        out: &mut W,
+    ) -> Result<Status, Stop<'a>>
+        ensures answers { IfSome (I.places inputs.now) (λ places. ShowsTrees W.contents out.old out.new places self.now result) }
+        ensures unwritten { IsKept out.old out.new result }
+    {
+        let files = ShowFiles::read(alloc, inputs, self.layers, self.certificate)?;
+        self.answer_of(alloc, &files, out)
+    }
+
+    fn answer_of<W: Write + Drop>(
+        &self,
+        alloc: Global,
+        files: &ShowFiles,
+        out: &mut W,
+    ) -> Result<Status, Stop<'static>>
+        ensures answers { ShowsFiles W.contents out.old out.new self.now.pictured (Ok (show_held files.now)) result }
+        ensures unwritten { IsKept out.old out.new result }
+    {
+        let layers = files.layers.layers(alloc)?;
+        let certificate = &files.certificate;
+        match self.pictured {
+            None => Ok(show_bytes(alloc, &layers, certificate, out)?),
+            Some(goal) => Ok(show_dot_bytes(alloc, &layers, certificate, goal as usize, out)?),
+        }
+    }
+}
+
+/// The bytes of layers, and of a certificate.
+#[derive(Drop)]
+struct ShowFiles {
+    layers: LayerFiles,
+    certificate: Vec<u8>,
+}
+
+impl ShowFiles {
+    /// Reads a list of layers with the files that it names, and then the certificate.
+    #[tactic(auto, unfolding(crate::specs::Show::show_files))]
+    fn read<'a, I: Inputs>(
+        alloc: Global,
+        inputs: &I,
+        layers_path: &'a str,
+        certificate_path: &'a str,
+    ) -> Result<ShowFiles, Stop<'a>>
+        ensures { IfSome (I.places inputs.now) (λ places. GivesOrStops show_held result
+            (show_files places layers_path.entry.now certificate_path.entry.now)) }
+    {
+        let layers = LayerFiles::read(alloc, inputs, layers_path)?;
+        let certificate = file_bytes(inputs, certificate_path)?;
+        Ok(ShowFiles {
+            layers,
+            certificate,
+        })
+    }
+}
+
+/// Prints the goals of a certificate with their trees, a line for each node, and a line with the number of goals.
+#[tactic(auto, unfolding(crate::specs::ShowOutput::show_output))]
+pub fn show_bytes<W: Write + Drop>(
+    alloc: Global,
+    layers: &[LayerParts<&[u8]>],
+    certificate: &[u8],
+    out: &mut W,
+) -> Result<Status, ToolFault>
+    ensures { Prints W.contents out.old out.new result (show_output (map layer_bytes layers.now) certificate.now) }
+{
+    let opened = OpenedTrees::read(alloc, layers, certificate)?;
+    opened.show(alloc, out)
+}
+
+/// Prints the tree of the goal of this number, counted from 0, as a picture in the language DOT; or a line that says that
+/// there is no such goal, and then the status is Negative.
+#[tactic(auto, unfolding(crate::specs::ShowOutput::show_dot_output))]
+pub fn show_dot_bytes<W: Write + Drop>(
+    alloc: Global,
+    layers: &[LayerParts<&[u8]>],
+    certificate: &[u8],
+    goal: usize,
+    out: &mut W,
+) -> Result<Status, ToolFault>
+    ensures { Prints W.contents out.old out.new result (show_dot_output (map layer_bytes layers.now) certificate.now goal) }
+{
+    let opened = OpenedTrees::read(alloc, layers, certificate)?;
+    opened.show_dot(alloc, goal, out)
+}
+
+/// The layers and the certificate that `show` is asked of.
+#[derive(Drop)]
+pub struct OpenedTrees<'a> {
+    pub stack: Stack<'a>,
+    pub certificate: Cert,
+}
+
+impl<'a> OpenedTrees<'a> {
+    /// Opens the layers, and then reads the certificate.
+    #[tactic(auto, unfolding(crate::specs::ShowOutput::show_inputs))]
+    pub fn read(
+        alloc: Global,
+        layers: &[LayerParts<&'a [u8]>],
+        certificate: &[u8],
+    ) -> Result<OpenedTrees<'a>, ToolFault>
+        ensures value { GivesOr OutOfMemory opened_trees result (show_inputs (map layer_bytes layers.now) certificate.now) }
+        ensures of_input { IsOfInput result }
+    {
+        let stack = open_stack(alloc, layers)?;
+        let certificate = Cert::read(alloc, certificate)?;
+        Ok(OpenedTrees { stack, certificate })
+    }
+
+    /// What `show_bytes` prints of the same layers and certificate.
+    pub fn show<W: Write + Drop>(&self, alloc: Global, out: &mut W) -> Result<Status, ToolFault>
+        ensures { Prints W.contents out.old out.new result (Ok (show_answer (opened_trees self.now))) }
+    {
+        let text = certificate_text(alloc, &self.stack, self.certificate.goals.as_slice())?;
+        write_on_line(&text, out)?;
+        Ok(Status::Done)
+    }
+
+    /// What `show_dot_bytes` prints of the same layers, certificate and goal.
+    pub fn show_dot<W: Write + Drop>(
+        &self,
+        alloc: Global,
+        goal: usize,
+        out: &mut W,
+    ) -> Result<Status, ToolFault>
+        ensures { Prints W.contents out.old out.new result (Ok (show_dot_answer (opened_trees self.now) goal)) }
+    {
+        match self.certificate.goals.as_slice().get(goal) {
+            Some(tree) => {
+                let text = dot_text(alloc, &self.stack, goal, tree)?;
+                out.write_all(&text)?;
+                Ok(Status::Done)
+            }
+            None => {
+                write_no_goal(goal, out)?;
+                Ok(Status::Negative)
+            }
+        }
+    }
+}
+
+#[tactic(auto, unfolding(crate::specs::DotText::no_goal_line))]
+fn write_no_goal<W: Write + Drop>(goal: usize, out: &mut W) -> io::Result<()>
+    ensures { Writes W.contents out.old out.new result (no_goal_line goal) }
+{
+    writeln!(out, "no goal {goal}")
+}
+
+// The goals with their trees, in memory: all of it is taken before the first line is written.
+#[tactic(auto, unfolding(crate::specs::TreeText::certificate_text))]
+fn certificate_text(
+    alloc: Global,
+    stack: &Stack<'_>,
+    goals: &[CertGoal],
+) -> Result<Vec<u8>, AllocError>
+    ensures { IfOk result (λ text. text.items ≡ certificate_text stack.now (map goal_of goals.now)) }
+{
+    let numbered = numbered_goals(alloc, goals)?;
+    let mut text = Vec::new(alloc);
+    match write_certificate(stack, &numbered, goals.len(), &mut text) {
+        Ok(()) => Ok(text),
+        // To a `Vec` only a want of memory is a fault.
+        Err(_) => Err(AllocError),
+    }
+}
+
+fn write_certificate<W: Write + Drop>(
+    stack: &Stack<'_>,
+    goals: &[NumberedGoal<'_>],
+    count: usize,
+    out: &mut W,
+) -> io::Result<()>
+    ensures { Writes W.contents out.old out.new result (flat_map (goal_text stack.now) (map numbered_of goals.now) ++ goals_line count) }
+{
+    write_goals(stack, goals, out)?;
+    write_count(count, out)
+}
+
+#[tactic(auto, using(contract_words::proofs::TextSteps::puts_slice))]
+fn write_goals<W: Write + Drop>(
+    stack: &Stack<'_>,
+    goals: &[NumberedGoal<'_>],
+    out: &mut W,
+) -> io::Result<()>
+    ensures { Writes W.contents out.old out.new result (flat_map (goal_text stack.now) (map numbered_of goals.now)) }
+{
+    for goal in goals {
+        write_goal(stack, goal, out)?;
+    }
+    Ok(())
+}
+
+#[tactic(auto, unfolding(crate::specs::TreeText::goal_text))]
+fn write_goal<W: Write + Drop>(
+    stack: &Stack<'_>,
+    goal: &NumberedGoal<'_>,
+    out: &mut W,
+) -> io::Result<()>
+    ensures { Writes W.contents out.old out.new result (goal_text stack.now (numbered_of goal.now)) }
+{
+    let asked = goal.goal;
+    write_goal_line(stack, goal.number, &asked.goal, asked.nodes.len(), out)?;
+    write_lines(stack, goal.lines.as_slice(), out)
+}
+
+#[tactic(auto, unfolding(crate::specs::TreeText::goals_line))]
+fn write_count<W: Write + Drop>(count: usize, out: &mut W) -> io::Result<()>
+    ensures { Writes W.contents out.old out.new result (goals_line count) }
+{
+    writeln!(out, "goals {count}")
+}

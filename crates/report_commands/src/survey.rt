@@ -1,0 +1,231 @@
+//! The command `survey`.
+
+ghost use Rattle.std.specs.Prelude.{◌≡◌, map, Ok, IfOk, IfSome};
+ghost use Rattle.std.specs.List.{flat_map, list_any};
+ghost use Rattle.std.specs.Option.{option_map};
+ghost use Rattle.contract_words.specs.Writes.{Writes};
+ghost use Rattle.command_base.specs.cert_tree.config_box.config_record.declared.coord.Coord as coord;
+ghost use Rattle.command_base.specs.cert_tree.config_box.config_record.Coord.{all_coords};
+ghost use Rattle.command_base.specs.Output.{Prints};
+ghost use Rattle.command_base.specs.StackBytesSeen.{layer_bytes};
+ghost use Rattle.command_base.specs.Stop.{GivesOrStops};
+ghost use Rattle.command_base.specs.declared.fault.ToolFault.TheVariants.{Write};
+ghost use Rattle.command_base.specs.names.Shared.{shared_ids, shared_of};
+ghost use Rattle.report_commands.specs.Qualifiers.{rows_in_stack, numbers_at, spread_of};
+ghost use Rattle.report_commands.specs.Counting.{spread_in};
+ghost use Rattle.report_commands.specs.BoxGaps.{lacks};
+ghost use Rattle.report_commands.specs.OpenedSeen.{opened_of};
+ghost use Rattle.report_commands.specs.Survey.{Surveys, SurveysFiles, survey_files, survey_held};
+ghost use Rattle.report_commands.specs.SurveyText.{qualifier_line, lacking_line};
+ghost use Rattle.report_commands.specs.SurveyOutput.{qualifiers_text, lacking_text, lacks_some, survey_answer, survey_output};
+ghost use Rattle.command_base.specs.CarriesOut.{IsKept};
+
+use crate::layers::write_layers;
+use crate::opened::Opened;
+use crate::qualifiers::Qualifiers;
+use crate::refused::survey_refused;
+use crate::text::{write_lacks, write_qualifier, write_shared};
+use command_base::{
+    Coord, Inputs, LayerFiles, LayerParts, Stack, Status, Stop, ToolFault, file_bytes,
+};
+use std::alloc::Global;
+use std::io::{self, Write};
+
+/// What the words of `survey` ask: what of some layers a device may read otherwise, and what a box lacks.
+#[derive(Drop)]
+pub struct Survey<'a> {
+    /// Where the list of layers lies.
+    pub layers: &'a str,
+    /// Where the box lies, if one is asked about.
+    pub box_path: Option<&'a str>,
+}
+
+impl<'a> Survey<'a> {
+    /// Reads what the words name, and answers them. Where it is not answered, nothing is written, unless a write fails.
+    pub fn answer<I: Inputs, W: Write + Drop>(
+        &self,
+        alloc: Global,
+        inputs: &I,
+        out: &mut W,
+    ) -> Result<Status, Stop<'a>>
+        ensures answers { IfSome (I.places inputs.now) (λ places. Surveys W.contents out.old out.new places self.now result) }
+        ensures unwritten { IsKept out.old out.new result }
+    {
+        let files = SurveyFiles::read(alloc, inputs, self.layers, self.box_path)?;
+        answer_of(alloc, &files, out)
+    }
+}
+
+fn answer_of<W: Write + Drop>(
+    alloc: Global,
+    files: &SurveyFiles,
+    out: &mut W,
+) -> Result<Status, Stop<'static>>
+    ensures answers { SurveysFiles W.contents out.old out.new (Ok (survey_held files.now)) result }
+    ensures unwritten { IsKept out.old out.new result }
+{
+    let layers = files.layers.layers(alloc)?;
+    Ok(survey_bytes(alloc, &layers, files.box_json.as_deref(), out)?)
+}
+
+/// The bytes of layers, and of a box of devices, if one is named.
+#[derive(Drop)]
+struct SurveyFiles {
+    layers: LayerFiles,
+    box_json: Option<Vec<u8>>,
+}
+
+impl SurveyFiles {
+    /// Reads a list of layers with the files that it names, and then the box.
+    #[tactic(auto, unfolding(crate::specs::Survey::survey_files))]
+    fn read<'a, I: Inputs>(
+        alloc: Global,
+        inputs: &I,
+        layers_path: &'a str,
+        box_path: Option<&'a str>,
+    ) -> Result<SurveyFiles, Stop<'a>>
+        ensures { IfSome (I.places inputs.now) (λ places. GivesOrStops survey_held result
+            (survey_files places layers_path.entry.now (option_map (λ path. path.now) box_path.entry))) }
+    {
+        let layers = LayerFiles::read(alloc, inputs, layers_path)?;
+        match box_path {
+            Some(path) => {
+                let box_json = Some(file_bytes(inputs, path)?);
+                Ok(SurveyFiles { layers, box_json })
+            }
+            None => Ok(SurveyFiles {
+                layers,
+                box_json: None,
+            }),
+        }
+    }
+}
+
+/// Prints what of some layers is read otherwise than a device would read it, the qualifiers that their rows have, and
+/// those that the box lacks. The status is Negative where an answer can differ by it from a device's. Where a table is
+/// refused, this is told of the chunks of all tables, if an answer could differ by those of the one that is refused.
+#[tactic(auto, unfolding(crate::specs::SurveyOutput::survey_output))]
+pub fn survey_bytes<W: Write + Drop>(
+    alloc: Global,
+    layers: &[LayerParts<&[u8]>],
+    box_json: Option<&[u8]>,
+    out: &mut W,
+) -> Result<Status, ToolFault>
+    ensures { Prints W.contents out.old out.new result
+        (survey_output (map layer_bytes layers.now) (option_map (λ json. json.now) box_json.entry)) }
+{
+    match Opened::read(alloc, layers, box_json) {
+        Ok(opened) => Ok(write_answer(layers, &opened, out)?),
+        Err(fault) if matches!(fault, ToolFault::LayerTable(..)) => {
+            survey_refused(alloc, layers, fault, out)
+        }
+        Err(fault) => Err(fault),
+    }
+}
+
+#[tactic(auto, unfolding(crate::specs::SurveyOutput::survey_answer))]
+fn write_answer<W: Write + Drop>(
+    layers: &[LayerParts<&[u8]>],
+    opened: &Opened<'_>,
+    out: &mut W,
+) -> io::Result<Status>
+    requires { opened.now.shared ≡ shared_of (shared_ids opened.now.stack) }
+    ensures text { Writes W.contents out.old out.new result (survey_answer (map layer_bytes layers.now) (opened_of opened.now)).text }
+    ensures status { IfOk result (λ status. status ≡ (survey_answer (map layer_bytes layers.now) (opened_of opened.now)).status) }
+{
+    let differs = write_layers(&opened.stack, opened.locales(), layers, out)?;
+    write_shared(opened.shared, out)?;
+    let qualifiers = write_qualifiers(&opened.stack, out)?;
+    let lacks = write_all_lacking(opened, &qualifiers, out)?;
+    let shares = opened.shared.is_some();
+    Ok(Status::negative_if(differs || shares || lacks))
+}
+
+// Writes the qualifiers of all rows, and hands them on.
+fn write_qualifiers<W: Write + Drop>(stack: &Stack<'_>, out: &mut W) -> io::Result<Qualifiers>
+    ensures text { Writes W.contents out.old out.new result (qualifiers_text stack.now) }
+    ensures spreads { IfOk result (λ qualifiers. (c : coord.Coord) → spread_in qualifiers c ≡ spread_of (numbers_at c (rows_in_stack stack.now))) }
+{
+    let qualifiers = Qualifiers::of_stack(stack);
+    write_lines(&qualifiers, out)?;
+    Ok(qualifiers)
+}
+
+#[tactic(auto, unfolding(crate::specs::Unfolded::all_coords))]
+fn write_lines<W: Write + Drop>(qualifiers: &Qualifiers, out: &mut W) -> io::Result<()>
+    ensures { Writes W.contents out.old out.new result (flat_map (λ c. qualifier_line c (spread_in qualifiers.now c)) all_coords) }
+{
+    write_each_line(qualifiers, &Coord::ALL, out)
+}
+
+#[tactic(auto, using(crate::proofs::AnySteps::finds))]
+fn write_each_line<W: Write + Drop>(
+    qualifiers: &Qualifiers,
+    coords: &[Coord],
+    out: &mut W,
+) -> io::Result<()>
+    ensures { Writes W.contents out.old out.new result (flat_map (λ c. qualifier_line c (spread_in qualifiers.now c)) coords.now) }
+{
+    for coord in coords {
+        write_line(qualifiers, *coord, out)?;
+    }
+    Ok(())
+}
+
+fn write_line<W: Write + Drop>(qualifiers: &Qualifiers, at: Coord, out: &mut W) -> io::Result<()>
+    ensures { Writes W.contents out.old out.new result (qualifier_line at (spread_in qualifiers.now at)) }
+{
+    write_qualifier(at, qualifiers.spread(at), out)
+}
+
+// Writes the qualifiers that the box lacks, and says whether there are some.
+#[tactic(auto, unfolding(crate::specs::SurveyOutput::lacking_text, crate::specs::SurveyOutput::lacks_some, crate::specs::Unfolded::all_coords))]
+fn write_all_lacking<W: Write + Drop>(
+    opened: &Opened<'_>,
+    qualifiers: &Qualifiers,
+    out: &mut W,
+) -> io::Result<bool>
+    requires { (c : coord.Coord) → spread_in qualifiers.now c ≡ spread_of (numbers_at c (rows_in_stack opened.now.stack)) }
+    ensures text { Writes W.contents out.old out.new result (lacking_text (opened_of opened.now)) }
+    ensures lacks { IfOk result (λ some. some ≡ lacks_some (opened_of opened.now)) }
+{
+    write_each_lacking(opened, qualifiers, &Coord::ALL, out)
+}
+
+#[tactic(auto, using(crate::proofs::AnySteps::finds))]
+fn write_each_lacking<W: Write + Drop>(
+    opened: &Opened<'_>,
+    qualifiers: &Qualifiers,
+    coords: &[Coord],
+    out: &mut W,
+) -> io::Result<bool>
+    requires { (c : coord.Coord) → spread_in qualifiers.now c ≡ spread_of (numbers_at c (rows_in_stack opened.now.stack)) }
+    ensures text { Writes W.contents out.old out.new result
+        (flat_map (λ c. lacking_line (lacks (opened_of opened.now).sets (rows_in_stack opened.now.stack) c) c) coords.now) }
+    ensures lacks { IfOk result (λ some. some ≡ list_any (lacks (opened_of opened.now).sets (rows_in_stack opened.now.stack)) coords.now) }
+{
+    let mut some = false;
+    for coord in coords {
+        some |= write_lacking_at(opened, qualifiers, *coord, out)?;
+    }
+    Ok(some)
+}
+
+#[tactic(auto, unfolding(crate::specs::SurveyText::lacking_line))]
+fn write_lacking_at<W: Write + Drop>(
+    opened: &Opened<'_>,
+    qualifiers: &Qualifiers,
+    at: Coord,
+    out: &mut W,
+) -> io::Result<bool>
+    requires { (c : coord.Coord) → spread_in qualifiers.now c ≡ spread_of (numbers_at c (rows_in_stack opened.now.stack)) }
+    ensures text { Writes W.contents out.old out.new result
+        (lacking_line (lacks (opened_of opened.now).sets (rows_in_stack opened.now.stack) at) at) }
+    ensures lacks { IfOk result (λ lacking. lacking ≡ lacks (opened_of opened.now).sets (rows_in_stack opened.now.stack) at) }
+{
+    let lacking = opened.lacks(at, qualifiers.spread(at));
+    if lacking {
+        write_lacks(at, out)?;
+    }
+    Ok(lacking)
+}

@@ -1,0 +1,81 @@
+//! Tests, written in words.
+
+ghost use Rattle.std.specs.List.{flat_map};
+ghost use Rattle.contract_words.specs.Writes.{Writes};
+ghost use Rattle.command_base.specs.cert_tree.config_box.Tests.{choice_of, test_of};
+ghost use Rattle.report_commands.specs.TreeText.{number_item, locale_item, choice_text, test_text};
+
+use command_base::{Choice, Locale, Test, write_locale};
+use std::io::{self, Write};
+
+/// Writes a test: `density at most 197`, `locale one of de-AT de-DE`.
+#[tactic(auto, unfolding(crate::specs::TreeText::test_text))]
+pub(crate) fn write_test<W: Write + Drop>(test: &Test, out: &mut W) -> io::Result<()>
+    ensures { Writes W.contents out.old out.new result (test_text (test_of test.now)) }
+{
+    match test {
+        Test::AtMost(coord, most) => {
+            out.write_all(coord.name().as_bytes())?;
+            write!(out, " at most {most}")
+        }
+        Test::Among(coord, choice) => {
+            out.write_all(coord.name().as_bytes())?;
+            out.write_all(b" one of")?;
+            write_choice(choice, out)
+        }
+    }
+}
+
+#[tactic(auto, unfolding(crate::specs::TreeText::choice_text))]
+fn write_choice<W: Write + Drop>(choice: &Choice, out: &mut W) -> io::Result<()>
+    ensures { Writes W.contents out.old out.new result (choice_text (choice_of choice.now)) }
+{
+    match choice {
+        Choice::Numbers(numbers) if numbers.is_empty() => out.write_all(b" nothing"),
+        Choice::Numbers(numbers) => write_numbers(numbers.as_slice(), out),
+        Choice::Locales(locales) if locales.is_empty() => out.write_all(b" nothing"),
+        Choice::Locales(locales) => write_locales(locales.as_slice(), out),
+    }
+}
+
+#[tactic(auto, using(contract_words::proofs::TextSteps::puts))]
+fn write_numbers<W: Write + Drop>(numbers: &[u32], out: &mut W) -> io::Result<()>
+    ensures { Writes W.contents out.old out.new result (flat_map number_item numbers.now) }
+{
+    for number in numbers {
+        write_number(*number, out)?;
+    }
+    Ok(())
+}
+
+#[tactic(auto, unfolding(crate::specs::TreeText::number_item))]
+fn write_number<W: Write + Drop>(number: u32, out: &mut W) -> io::Result<()>
+    ensures { Writes W.contents out.old out.new result (number_item number) }
+{
+    write!(out, " {number}")
+}
+
+#[tactic(auto, using(contract_words::proofs::TextSteps::puts))]
+fn write_locales<W: Write + Drop>(locales: &[Locale], out: &mut W) -> io::Result<()>
+    ensures { Writes W.contents out.old out.new result (flat_map locale_item locales.now) }
+{
+    for locale in locales {
+        write_listed(*locale, out)?;
+    }
+    Ok(())
+}
+
+/// How many scripts there are to a language and a region.
+const SCRIPTS: u64 = 0x1_0000_0000;
+
+#[tactic(auto, unfolding(crate::specs::TreeText::locale_item))]
+fn write_listed<W: Write + Drop>(locale: Locale, out: &mut W) -> io::Result<()>
+    ensures { Writes W.contents out.old out.new result (locale_item locale) }
+{
+    out.write_all(b" ")?;
+    if locale.number() / SCRIPTS == 0 {
+        out.write_all(b"none")
+    } else {
+        write_locale(locale, out)
+    }
+}

@@ -1,3 +1,0 @@
-pub mod LineSteps
-pub mod GoalSteps
-pub mod WholeTreeLemmas

@@ -1,5 +1,0 @@
-use Rattle.show_command.proofs.WholeTreeLemmas.{whole_trees}
-use Rattle.show_command.proofs.whole_tree.whole_trees_are_shown.Goals as goal
-
-pub returns : goal.returns
-returns c = whole_trees
