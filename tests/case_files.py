@@ -19,11 +19,11 @@ def device_of(words):
 
 
 class Files:
-    """The layers and the box of a case, in a folder of their own. What is asked of a device is asked with these options."""
+    """The layers and the box of a case, in a folder of their own."""
 
-    def __init__(self, program, folder, case, options=()):
+    def __init__(self, program, folder, case):
         self.program = program
-        self.options = options
+        self.options = case.options
         self.folder = folder
         self.write("box", case.box.json())
         layers = []
@@ -40,10 +40,16 @@ class Files:
         with open(os.path.join(self.folder, name), "w") as text:
             json.dump(said, text)
 
+    def streams(self, command, *words):
+        """What is printed, what is said on the standard error, and the status."""
+        words = [self.program, command, *self.options, *words]
+        done = subprocess.run(words, cwd=self.folder, capture_output=True, text=True)
+        return done.stdout, done.stderr, done.returncode
+
     def printed(self, *words):
         """What is printed, messages after it, and the status."""
-        done = subprocess.run([self.program, *words], cwd=self.folder, capture_output=True, text=True)
-        return done.stdout + done.stderr, done.returncode
+        printed, messages, status = self.streams(*words)
+        return printed + messages, status
 
     def run(self, *words):
         """The lines that are printed, and the status. A message is a line too."""
@@ -53,7 +59,7 @@ class Files:
     def answer(self, command, device, *names):
         """The lines that a command prints of a device, and the status."""
         self.write("device", {coord: value for coord, value in device.items() if value})
-        return self.run(command, *self.options, "layers", "device", *map(id_text, names))
+        return self.run(command, "layers", "device", *map(id_text, names))
 
     def ask(self, command, device, *names):
         """The lines alone."""

@@ -1,7 +1,7 @@
 #!/usr/bin/env python3
 """Holds `restool check` against a plain reading of the rules, which asks every device of a box:
 
-    check_certificates.py PROGRAM CASES [JOBS [FIRST]]
+    check_certificates.py [--locales android] PROGRAM CASES [JOBS [FIRST]]
 
 for so many random layers, boxes of at most some thousand devices, and certificates, of which some are true and most
 have a fault. Every second one has styles, and goals of attributes. Goal, node, rule, and what is shown have to be the same. Of two devices that are shown for a mixed leaf it
@@ -9,18 +9,20 @@ is asked whether they stand at it, whether they differ in one coordinate alone, 
 at the first question that devices at the leaf answer differently the first answers yes and the second no; and what
 `restool explain` or `restool attr` says of them, and of some other device of the box, has to be what the rules say. The cases are
 numbered from FIRST on, which is 0 if it is not given. The last line counts the certificates by their verdicts."""
-import os
 import random
 import sys
 import tempfile
 from collections import Counter
 from concurrent.futures import ProcessPoolExecutor
+from functools import partial
 
 from case_files import Files, device_of
+from case_words import read_words
 from plain_bags import Attribute
 from plain_certificates import certificate_json, goal_word, verdict, verdict_lines
 from plain_rules import COORDS, end_text
 from random_cases import CertifiedCase
+from random_locales import CertifiedLocaleCase
 
 
 def check_explanation(files, case, goal, device):
@@ -58,7 +60,7 @@ def faults_of_pair(case, goal, members, first, second):
 def faults_of_verdict(files, case):
     """The faults of a verdict, and what it is."""
     rejected = verdict(case.layers, case.box, case.asked, case.goals)
-    wanted = verdict_lines(case.layers, case.asked, case.goals, rejected)
+    wanted = verdict_lines(case.layers, case.box, case.asked, case.goals, rejected)
     lines, status = files.run("check", "layers", "box", "certificate", *map(goal_word, case.asked))
     counted = Counter([f"N{rejected[1].rule}" if rejected else "accepted"])
     faults = [] if status == int(rejected is not None) else [f"status {status}"]
@@ -75,9 +77,9 @@ def faults_of_verdict(files, case):
     return faults + faults_of_pair(case, goal, rejected[1].members, *shown), counted
 
 
-def check_case(program, number):
+def check_case(program, case_of, number):
     chance = random.Random(number)
-    case = CertifiedCase(chance, has_styles=number % 2 == 1)
+    case = case_of(chance, has_styles=number % 2 == 1)
     with tempfile.TemporaryDirectory() as folder:
         files = Files(program, folder, case)
         files.write("certificate", certificate_json(case.goals))
@@ -87,18 +89,17 @@ def check_case(program, number):
 
 
 def main():
-    program, cases = os.path.abspath(sys.argv[1]), int(sys.argv[2])
-    jobs, first = (int(word) for word in (sys.argv[3:] + ["1", "0"][len(sys.argv) - 3 :])[:2])
+    as_phone, program, numbers, jobs = read_words()
+    check = partial(check_case, program, CertifiedLocaleCase if as_phone else CertifiedCase)
     counted = Counter()
     wrong = 0
     with ProcessPoolExecutor(jobs) as pool:
-        numbers = range(first, first + cases)
-        for faults, verdicts in pool.map(check_case, [program] * cases, numbers, chunksize=8):
+        for faults, verdicts in pool.map(check, numbers, chunksize=8):
             counted += verdicts
             wrong += bool(faults)
             for fault in faults:
                 print(fault)
-    print(f"{cases} certificates: {', '.join(f'{name} {counted[name]}' for name in sorted(counted))}")
+    print(f"{len(numbers)} certificates: {', '.join(f'{name} {counted[name]}' for name in sorted(counted))}")
     sys.exit(wrong > 0)
 
 

@@ -1,7 +1,7 @@
 #!/usr/bin/env python3
 """Holds what `restool diff` prints against a plain reading of the rules, which asks every device of a box:
 
-    check_diff.py PROGRAM CASES [JOBS [FIRST]]
+    check_diff.py [--locales android] PROGRAM CASES [JOBS [FIRST]]
 
 Two stacks of layers are drawn, mostly an app with overlays before a few changes and after them (random_apps.py), else tables with
 odd names (named_tables.py); a box; and now and then words that ask for some resources, or a limit of nodes. Each label is to be
@@ -18,8 +18,10 @@ import sys
 import tempfile
 from collections import Counter
 from concurrent.futures import ProcessPoolExecutor
+from functools import partial
 from itertools import groupby
 
+from case_words import read_words
 from check_names import Missing, Words, written
 from named_tables import Table
 from plain_certificates import id_text
@@ -27,6 +29,7 @@ from plain_diff import Both, Stack, asks_for, devices_text, label_text, pairs_of
 from plain_trees import Traces, have_larger_trees, varying
 from random_apps import SIZES, Apps, layers_of
 from random_cases import Focus
+from random_locales import LocaleApps, LocaleFocus
 
 CASES_OF_A_JOB = 25
 DEVICES = re.compile(r"( on(?: [A-Za-z]+=[A-Za-z0-9.,-]+)+)?$")
@@ -37,18 +40,20 @@ SHOWN = 700
 class Case:
     """Two stacks of layers, a box, words, and a limit of nodes, None where that is left out."""
 
-    def __init__(self, number):
+    def __init__(self, as_phone, number):
         self.chance = chance = random.Random(number)
+        focus_of = LocaleFocus if as_phone else Focus
+        self.options = focus_of.options
         if chance.random() < 0.85:
-            apps = Apps(chance)
+            apps = (LocaleApps if as_phone else Apps)(chance)
             self.old, self.new, self.box = layers_of(apps.before), layers_of(apps.after), apps.box
         else:
             self.old, self.new = (
                 [(Table(chance), {} if chance.random() < 0.2 else None) for _ in range(chance.randint(1, 3))] for _ in range(2)
             )
-            self.box = Focus(chance).random_box(SIZES)
+            self.box = focus_of(chance).random_box(SIZES)
         self.members = self.box.members()
-        self.stacks = Both(Stack(self.old), Stack(self.new))
+        self.stacks = Both(*(Stack(layers, focus_of.layers_of) for layers in (self.old, self.new)))
         known = [(table, own is not None) for table, own in self.old + self.new]
         words = Words(chance, known) if chance.random() < 0.2 else None
         self.words = [words.several() for _ in range(chance.randint(1, 4))] if words else []
@@ -68,7 +73,7 @@ class Case:
         """The files, and the words of the command."""
         write_inputs(folder, self.old, self.new, self.box.json())
         limit = [] if self.limit is None else ["--max-nodes", str(self.limit)]
-        return ["diff", *limit, "old", "new", "box", *written(self.chance, folder, self.words)]
+        return ["diff", *self.options, *limit, "old", "new", "box", *written(self.chance, folder, self.words)]
 
 
 def write_inputs(folder, old, new, box):
@@ -138,7 +143,8 @@ def faults_of_lines(case, lines, changes):
         yield "lines in another order"
     for line in lines:
         part = line.part(case.box)
-        if devices_text(case.box, part) != line.devices or not all(is_rising(case.box, *named) for named in part.items()):
+        is_rising = all(list(values) == case.box.in_order(name, values) for name, values in part.items())
+        if devices_text(case.box, part) != line.devices or not is_rising:
             yield f"devices written as{line.devices}"
         here = [place for place, device in enumerate(case.members) if all(device[name] in part[name] for name in part)]
         if not here:
@@ -155,10 +161,6 @@ def faults_of_lines(case, lines, changes):
             return
     if len(varying(case.members)) <= 1 and len(lines) > lines_needed(case, changes):
         yield f"{len(lines)} lines, where {lines_needed(case, changes)} would do"
-
-
-def is_rising(box, name, values):
-    return list(values) == [value for value in box.sets[name] if value in values]
 
 
 # ---- all lines
@@ -224,8 +226,8 @@ def faults_of(case, said):
     return faults, "same" if is_same else "changed"
 
 
-def check_case(program, folder, number):
-    case = Case(number)
+def check_case(program, as_phone, folder, number):
+    case = Case(as_phone, number)
     done = subprocess.run([program, *case.write(folder)], cwd=folder, capture_output=True)
     said = done.stdout.decode(), done.stderr.decode(), done.returncode
     faults, told = faults_of(case, said)
@@ -233,22 +235,22 @@ def check_case(program, folder, number):
     return [f"case {number}: {fault}, of {str(said)[:SHOWN]}" for fault in faults], told, changes
 
 
-def check_cases(program, numbers):
+def check_cases(program, as_phone, numbers):
     with tempfile.TemporaryDirectory() as folder:
-        return [check_case(program, folder, number) for number in numbers]
+        return [check_case(program, as_phone, folder, number) for number in numbers]
 
 
 def main():
-    program, cases = os.path.abspath(sys.argv[1]), int(sys.argv[2])
-    jobs, first = (int(word) for word in (sys.argv[3:] + ["1", "0"][len(sys.argv) - 3 :])[:2])
-    parts = [range(at, min(at + CASES_OF_A_JOB, first + cases)) for at in range(first, first + cases, CASES_OF_A_JOB)]
+    as_phone, program, numbers, jobs = read_words()
+    parts = [numbers[at : at + CASES_OF_A_JOB] for at in range(0, len(numbers), CASES_OF_A_JOB)]
+    check = partial(check_cases, program, as_phone)
     told, wrong, lines = Counter(), 0, 0
     with ProcessPoolExecutor(jobs) as pool:
-        for faults, what, count in (case for done in pool.map(check_cases, [program] * len(parts), parts) for case in done):
+        for faults, what, count in (case for done in pool.map(check, parts) for case in done):
             told[what] += 1
             wrong, lines = wrong + bool(faults), lines + count
             print(*faults, sep="\n", end="\n" if faults else "")
-    print(f"{cases} cases: {', '.join(f'{what} {told[what]}' for what in sorted(told))}; {lines} changes")
+    print(f"{len(numbers)} cases: {', '.join(f'{what} {told[what]}' for what in sorted(told))}; {lines} changes")
     sys.exit(wrong > 0)
 
 

@@ -22,7 +22,6 @@ from plain_rules import device_text, end_text
 from random_cases import ENTRIES, FIRST_ID
 from random_locales import LocaleCase
 
-OPTION = "--locales", "android"
 CASES, DEVICES = 1000, 3
 NAMES = range(FIRST_ID, FIRST_ID + ENTRIES + 1)
 
@@ -61,6 +60,8 @@ def faults_at(files, layers, device, names, name):
 class WorkedCase:
     """A layer of these rows of an id."""
 
+    options = LocaleCase.options
+
     def __init__(self, rows):
         self.layers = layers_of(rows)
         self.tables = [[(NAME, candidate.record, candidate.cell) for candidate in self.layers.candidates(NAME)]]
@@ -71,14 +72,14 @@ class WorkedCase:
 def faults_of_rows(program, locale, rows, numbers):
     case = WorkedCase(rows)
     with tempfile.TemporaryDirectory() as folder:
-        return faults_at(Files(program, folder, case, OPTION), case.layers, device_in(locale, **numbers), [NAME], NAME)
+        return faults_at(Files(program, folder, case), case.layers, device_in(locale, **numbers), [NAME], NAME)
 
 
 def faults_of_texts(program):
     """The faults of how texts are read, and wrong ones refused, at a device."""
     case = WorkedCase("[]")
     with tempfile.TemporaryDirectory() as folder:
-        files = Files(program, folder, case, OPTION)
+        files = Files(program, folder, case)
         for text, _ in TEXTS:
             yield from faults_at(files, case.layers, device_in(text), [NAME], NAME)
         for text, fault in WRONG_TEXTS:
@@ -103,7 +104,7 @@ def check_case(program, number):
     chance, counted = random.Random(number), Counter()
     case = LocaleCase(chance)
     with tempfile.TemporaryDirectory() as folder:
-        files = Files(program, folder, case, OPTION)
+        files = Files(program, folder, case)
         faults = []
         devices = chance.sample(case.members, min(DEVICES, len(case.members)))
         for device in devices:

@@ -1,7 +1,7 @@
 #!/usr/bin/env python3
 """Holds `restool make` against a plain reading of the rules, which asks every device of a box:
 
-    check_made.py PROGRAM CASES [JOBS [FIRST]]
+    check_made.py [--locales android] PROGRAM CASES [JOBS [FIRST]]
 
 for so many random layers, boxes of at most some thousand devices, of which in some at most one qualifier varies, and
 lists of goals, in every second one with attributes under styles. A certificate has to be one that `restool check` accepts, each of its tests has to be needed, and
@@ -18,12 +18,15 @@ import sys
 import tempfile
 from collections import Counter
 from concurrent.futures import ProcessPoolExecutor
+from functools import partial
 
 from case_files import Files, device_of
-from plain_certificates import certificate_json, goal_word, order_of, says
+from case_words import read_words
+from plain_certificates import certificate_json, goal_word, says
 from plain_rules import end_text
 from plain_trees import Traces, fault_of_need, have_larger_trees, places, runs, varying
 from random_cases import Case
+from random_locales import LocaleCase
 
 NODE_LIMIT = ("node limit\n", 1)
 DEVICES_ASKED = 3
@@ -58,7 +61,7 @@ def faults_of_tree(case, asked, nodes):
     faults = []
     for place, (node, members) in enumerate(places(case.members, nodes)):
         fault = fault_of_need(case.box, node, members, traces) if "coord" in node else None
-        if "in" in node and node["in"] != sorted(node["in"], key=order_of):
+        if "in" in node and node["in"] != case.box.in_order(node["coord"], node["in"]):
             fault = "the values of a list do not rise"
         faults += [f"{goal_word(asked)} node {place}: {fault}"] if fault else []
     if len(varying(case.members)) <= 1:
@@ -128,16 +131,16 @@ def faults_of_counter(files, case, text):
 # ---- cases
 
 
-def case_of(number):
+def numbered(case_of, number):
     """The case of a number. In two of five at most one qualifier varies."""
-    case = Case(random.Random(number), has_styles=number % 2 == 1)
+    case = case_of(random.Random(number), has_styles=number % 2 == 1)
     if number % 5 < 2:
         case.narrow()
     return case
 
 
-def check_case(program, number):
-    case = case_of(number)
+def check_case(program, case_of, number):
+    case = numbered(case_of, number)
     with tempfile.TemporaryDirectory() as folder:
         files = Files(program, folder, case)
         text, status = make(files, case)
@@ -152,18 +155,17 @@ def check_case(program, number):
 
 def check_cases(check_case):
     """Checks the cases that the words of the command line ask for, and counts what was made."""
-    program, cases = os.path.abspath(sys.argv[1]), int(sys.argv[2])
-    jobs, first = (int(word) for word in (sys.argv[3:] + ["1", "0"][len(sys.argv) - 3 :])[:2])
+    as_phone, program, numbers, jobs = read_words()
+    check = partial(check_case, program, LocaleCase if as_phone else Case)
     told = Counter()
     wrong = 0
     with ProcessPoolExecutor(jobs) as pool:
-        numbers = range(first, first + cases)
-        for faults, made in pool.map(check_case, [program] * cases, numbers, chunksize=8):
+        for faults, made in pool.map(check, numbers, chunksize=8):
             told[made] += 1
             wrong += bool(faults)
             for fault in faults:
                 print(fault)
-    print(f"{cases} boxes: {', '.join(f'{name} {told[name]}' for name in sorted(told))}")
+    print(f"{len(numbers)} boxes: {', '.join(f'{name} {told[name]}' for name in sorted(told))}")
     sys.exit(wrong > 0)
 
 

@@ -1,7 +1,7 @@
 #!/usr/bin/env python3
 """Holds `restool make --omit` against a plain reading of the rules, which asks every device of a box:
 
-    check_omitted.py PROGRAM CASES [JOBS [FIRST]]
+    check_omitted.py [--locales android] PROGRAM CASES [JOBS [FIRST]]
 
 for the random cases of check_made.py, some with goals that have no value. The goals that are left out have to be those
 that have none at some device; each is told once, in their order, with its place, its word and such a device. The
@@ -12,11 +12,10 @@ that pass it: those of goals that are kept, and behind them at most that of one 
 The cases are numbered from FIRST on, which is 0 if it is not given. The last line counts what was made."""
 import copy
 import json
-import subprocess
 import tempfile
 
 from case_files import Files
-from check_made import NODE_LIMIT, case_of, check_cases, faults_of_certificate, faults_of_shown, may_pass
+from check_made import NODE_LIMIT, check_cases, faults_of_certificate, faults_of_shown, may_pass, numbered
 from plain_certificates import goal_word
 from plain_trees import Traces
 
@@ -24,10 +23,7 @@ LINES_OF_A_GOAL = 3
 
 
 def make(files, case, *limit):
-    """What is printed, what is said on the standard error, and the status."""
-    words = [files.program, "make", "--omit", *limit, "layers", "box", *map(goal_word, case.asked)]
-    done = subprocess.run(words, cwd=files.folder, capture_output=True, text=True)
-    return done.stdout, done.stderr, done.returncode
+    return files.streams("make", "--omit", *limit, "layers", "box", *map(goal_word, case.asked))
 
 
 def size_of(text):
@@ -82,8 +78,8 @@ def faults_of_limit(files, case, places, made):
     return [] if told == made and size <= limit else [f"with a limit of {limit} nodes: {told}"]
 
 
-def check_case(program, number):
-    case = case_of(number)
+def check_case(program, case_of, number):
+    case = numbered(case_of, number)
     with tempfile.TemporaryDirectory() as folder:
         files = Files(program, folder, case)
         text, said, status = made = make(files, case)

@@ -1,7 +1,7 @@
 #!/usr/bin/env python3
 """Holds what `survey` prints of random layers, with a box and without one, against a plain reading:
 
-    check_survey.py PROGRAM CASES [JOBS [FIRST]]
+    check_survey.py [--locales android] PROGRAM CASES [JOBS [FIRST]]
 
 PROGRAM is restool. In each case some bytes of the tables are changed: flags of types and entries, kinds of chunks and
 values, bytes of configurations. Some tables are written as newer tools do, with 16-bit offsets and compact entries. A table
@@ -16,13 +16,16 @@ import subprocess
 import sys
 import tempfile
 from concurrent.futures import ProcessPoolExecutor
+from functools import partial
 
 from case_files import id_text
+from case_words import read_words
 from check_sparse import Twins, table_bytes
 from made_layers import Pool, chunk, type_header, type_spec
 from named_tables import Table as Named
 from plain_survey import NO_ENTRY, SHORT, survey_of, survey_of_refused
 from random_cases import Case
+from random_locales import LocaleCase
 
 NEWER = os.path.join(os.path.dirname(os.path.abspath(__file__)), "newer_format.py")
 LOCALES = ("de", "de-DE", "en", "en-US", "en-GB", "en-XA", "ar", "ar-XB", "fil", "fil-PH", "tl", "zh", "zh-TW", "sr", "sr-ME", "es-419", "es-MX", "yue", "yue-CN")
@@ -106,9 +109,8 @@ def newer_table(chance, case):
 
 
 class Run:
-    def __init__(self, program, folder, chance):
-        self.program, self.folder, self.chance = program, folder, chance
-        case = Case(chance)
+    def __init__(self, program, folder, chance, case):
+        self.program, self.folder, self.chance, self.options = program, folder, chance, case.options
         self.box = case.box.json()
         if chance.random() < 0.7:
             self.box["locale"] = chance.sample(LOCALES, chance.randint(1, 3))
@@ -143,6 +145,9 @@ class Run:
     def run(self, *words):
         done = subprocess.run([self.program, *words], cwd=self.folder, capture_output=True, text=True)
         return done.stdout + done.stderr, done.returncode
+
+    def survey(self, *words):
+        return self.run("survey", *self.options, *words)
 
     def newer_found(self, tables):
         """How often the script for newer tables finds something, in all of these tables."""
@@ -181,7 +186,7 @@ def check_refused(run, number):
     for table, message in run.refused:
         run.write("table", table)
         lines, status = survey_of_refused(table, message)
-        got, want = run.run("survey", "alone"), ("".join(line + "\n" for line in lines), status)
+        got, want = run.survey("alone"), ("".join(line + "\n" for line in lines), status)
         if got != want:
             sys.exit(f"case {number}, refused: printed\n{got}\nand not\n{want}")
         check_newer(run, number, [table], got[0])
@@ -192,37 +197,36 @@ def check_no_table(run):
     table = newer_table(run.chance, Case(run.chance))
     run.write("alone", b'[{"table":"table"}]')
     run.write("table", b"\0\2" + table[2:])
-    done = subprocess.run([run.program, "survey", "alone"], cwd=run.folder, capture_output=True, text=True)
+    done = subprocess.run([run.program, "survey", *run.options, "alone"], cwd=run.folder, capture_output=True, text=True)
     if (done.stdout, done.stderr, done.returncode) != ("", "refused: layer 0 table: NotTable\n", 3):
         sys.exit(f"no table: {done}")
 
 
-def check(program, number):
+def check(program, as_phone, number):
     chance = random.Random(number)
     warned = 0
     with tempfile.TemporaryDirectory() as folder:
-        run = Run(program, folder, chance)
+        run = Run(program, folder, chance, (LocaleCase if as_phone else Case)(chance))
         for words, box in ((("layers",), None), (("layers", "box"), run.box)):
-            lines, status = survey_of(run.tables, box, run.are_bases)
+            lines, status = survey_of(run.tables, box, run.are_bases, as_phone)
             want = "".join(line + "\n" for line in lines), status
-            got = run.run("survey", *words)
+            got = run.survey(*words)
             if got != want:
                 sys.exit(f"case {number}, {words}: printed\n{got}\nand not\n{want}")
             warned += status
-        check_newer(run, number, run.tables, run.run("survey", "layers")[0])
+        check_newer(run, number, run.tables, run.survey("layers")[0])
         check_refused(run, number)
         check_no_table(run)
     return warned, len(run.refused)
 
 
 def main():
-    program, cases = os.path.abspath(sys.argv[1]), int(sys.argv[2])
-    jobs, first = (int(word) for word in (sys.argv[3:] + ["1", "0"][len(sys.argv) - 3 :])[:2])
+    as_phone, program, numbers, jobs = read_words()
     warned = refused = 0
     with ProcessPoolExecutor(jobs) as pool:
-        for in_case, refused_tables in pool.map(check, [program] * cases, range(first, first + cases), chunksize=8):
+        for in_case, refused_tables in pool.map(partial(check, program, as_phone), numbers, chunksize=8):
             warned, refused = warned + in_case, refused + refused_tables
-    print(f"{2 * cases} surveys, {warned} with a warning; {refused} of tables that are refused")
+    print(f"{2 * len(numbers)} surveys, {warned} with a warning; {refused} of tables that are refused")
 
 
 if __name__ == "__main__":

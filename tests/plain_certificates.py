@@ -57,6 +57,14 @@ class Box:
     def is_range(self, name):
         return isinstance(self.said.get(name), tuple)
 
+    def in_order(self, name, values):
+        """These values of a coordinate, each once, in their order."""
+        return [value for value in self.sets[name] if value in values]
+
+    def read(self, node):
+        """A node whose list has the values as they stand in a box."""
+        return {**node, "in": self.set_of(node["in"])} if "in" in node else node
+
     def members(self):
         return [dict(zip(COORDS, values)) for values in itertools.product(*self.sets.values())]
 
@@ -66,9 +74,9 @@ def answer(test, device):
     return value <= test["atMost"] if "atMost" in test else value in test["in"]
 
 
-def corner(members):
+def corner(box, members):
     """The least value of each coordinate."""
-    return {name: min((device[name] for device in members), key=order_of) for name in COORDS}
+    return {name: box.in_order(name, {device[name] for device in members})[0] for name in COORDS}
 
 
 def leaf_of(end):
@@ -117,7 +125,7 @@ def fault_of_nodes(box, nodes, trace_of):
     """The first node that fails, with the lowest rule that fails there. The devices of the open halves wait in a
     list, the next one last."""
     waiting = [box.members()]
-    for place, node in enumerate(nodes):
+    for place, node in enumerate(map(box.read, nodes)):
         if not waiting:
             return Fault(place, 3)
         members = waiting.pop()
@@ -184,7 +192,7 @@ def certificate_json(goals):
     return {"version": version, "goals": [{**goal_json(goal), "nodes": nodes} for goal, nodes in goals]}
 
 
-def verdict_lines(layers, asked, goals, rejected):
+def verdict_lines(layers, box, asked, goals, rejected):
     """What `restool check` prints. Of the two devices that rule 6 shows only the words before them, since there may
     be several such pairs."""
     aside = f"set-aside {layers.set_aside()}"
@@ -195,7 +203,7 @@ def verdict_lines(layers, asked, goals, rejected):
     if fault.rule == 6:
         lines += ["first ", "second "]
     elif fault.rule in (7, 8):
-        shown = corner(fault.members)
+        shown = corner(box, fault.members)
         end = layers.trace(asked[goal], fault.members[0])[1]
         lines += [f"device {device_text(shown)}", f"end {end_text(end)}"]
     return lines + [aside]

@@ -80,8 +80,8 @@ def in_order(label):
 class Stack:
     """Layers over one another: each a table with its rows and strings, and the id map of an overlay, None at a base."""
 
-    def __init__(self, layers):
-        self.layers = Layers([(by_id((row.id, row.record, row.cell) for row in table.rows), own) for table, own in layers])
+    def __init__(self, layers, layers_of=Layers):
+        self.layers = layers_of([(by_id((row.id, row.record, row.cell) for row in table.rows), own) for table, own in layers])
         self.strings = [table.strings for table, _ in layers]
         rows = [row for table, own in layers if own is None for row in table.rows]
         self.first = first_rows(rows)

@@ -18,6 +18,8 @@ NAMES = (
     "unknown-chunk dynamic-reference dynamic-attribute broken-string set-aside locale box-locale"
 ).split()
 INFORM = ("overlayable", "set-aside", "locale")
+OF_LOCALES = "set-aside", "locale", "box-locale"
+"""What is told only of rows that a phone may compare otherwise by their locales."""
 
 
 def number(form, bytes_, at):
@@ -246,8 +248,8 @@ class Table:
         }
         self.row_notes += [(name, f"0x{id_:08x}") for name, is_so in found.items() if is_so]
 
-    def lines(self, layer):
-        for name in NAMES:
+    def lines(self, layer, names=NAMES):
+        for name in names:
             places = [place for other, place in self.notes + self.row_notes if other == name]
             if places:
                 yield f"{'note' if name in INFORM else 'warning'} layer {layer} {name} {len(places)} first {places[0]}"
@@ -269,12 +271,13 @@ def shared_lines(bases):
     return [f"warning shared-names {len(shared)} first 0x{min(shared):08x}"] if shared else []
 
 
-def survey_of(tables, box, are_bases):
+def survey_of(tables, box, are_bases, as_phone=False):
     """The lines of a survey of the bytes of tables, with a box as it is written, or without one; and the status. Some of the
-    tables are overlays."""
+    tables are overlays. Locales may be compared as a phone does."""
+    names = [name for name in NAMES if not as_phone or name not in OF_LOCALES]
     locales = [] if box is None else box.get("locale", [""])
     read = [Table(table, locales) for table in tables]
-    lines = [line for layer, table in enumerate(read) for line in table.lines(layer)]
+    lines = [line for layer, table in enumerate(read) for line in table.lines(layer, names)]
     lines += shared_lines([table for table, is_base in zip(read, are_bases) if is_base])
     lacking = []
     for name in COORDS:

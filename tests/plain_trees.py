@@ -2,7 +2,7 @@
 beside it.
 
 A node is what its JSON says of it, and members are the devices that stand at it."""
-from plain_certificates import answer, order_of
+from plain_certificates import answer
 from plain_rules import COORDS
 
 TREES_TRIED = 40
@@ -34,8 +34,8 @@ def places(members, nodes):
 
 
 def values_of(members, name):
-    """The values of a coordinate, in their order."""
-    return sorted({device[name] for device in members}, key=order_of)
+    """The values of a coordinate."""
+    return {device[name] for device in members}
 
 
 def lines_along(members, name):
@@ -54,7 +54,7 @@ def beside(test, members):
     """The members that a test may part: of a number, those with the two values next to it on both sides."""
     if "in" in test:
         return members
-    values = values_of(members, test["coord"])
+    values = sorted(values_of(members, test["coord"]))
     below = [value for value in values if value <= test["atMost"]]
     near = below[-1:] + values[len(below) :][:1]
     return [device for device in members if device[test["coord"]] in near]
@@ -98,9 +98,9 @@ def runs(box, members, traces):
     return 1 + sum(traces.of(first) != traces.of(second) for first, second in zip(along, along[1:]))
 
 
-def neighbours_apart(line, name, traces):
+def neighbours_apart(box, line, name, traces):
     """The first of each two neighbours along a line that have different traces."""
-    along = sorted(line, key=lambda device: order_of(device[name]))
+    along = sorted(line, key=lambda device: box.sets[name].index(device[name]))
     return [first for first, second in zip(along, along[1:]) if traces.of(first) != traces.of(second)]
 
 
@@ -116,7 +116,7 @@ def any_needed_test(box, members, traces, chance):
     lines = [(name, line) for name in varying(members) for line in lines_along(members, name)]
     chance.shuffle(lines)
     for name, line in lines:
-        apart = neighbours_apart(line, name, traces)
+        apart = neighbours_apart(box, line, name, traces)
         if apart:
             return parting_test(box, name, line, chance.choice(apart), traces)
     return None

@@ -4,7 +4,6 @@ from collections import namedtuple
 
 from made_layers import Broken, NamedTable, Resource, Text, ids_of
 from plain_bags import Bag
-from plain_certificates import Box
 from plain_map import made_map
 from plain_rules import COORDS, Record
 from random_cases import NUMBERS, Focus
@@ -56,7 +55,7 @@ class Apps(Focus):
     def __init__(self, chance):
         super().__init__(chance)
         self.often = 1.2 / len(self.focus)
-        self.numbers = {**NUMBERS, **{name: self.two_numbers(NUMBERS[name]) for name in self.focus}}
+        self.numbers = {**NUMBERS, **{name: self.two_numbers(name) for name in self.focus}}
         self.records = [Record({})] + [self.record() for _ in range(chance.randint(1, 4))]
         self.before = [self.app(False)]
         if chance.random() < 0.2:
@@ -81,8 +80,9 @@ class Apps(Focus):
             if math.prod(map(len, box.sets.values())) <= MOST_MEMBERS:
                 return box
 
-    def two_numbers(self, numbers):
+    def two_numbers(self, name):
         """Two numbers for rows; the last two densities are those of no device, so that the first is another."""
+        numbers = NUMBERS[name]
         return self.chance.choice(numbers[:-2] or numbers), self.chance.choice(numbers)
 
     def widened(self, box):
@@ -95,7 +95,7 @@ class Apps(Focus):
             else:
                 low = max(number - self.chance.randint(1, 3), 1 if name == "density" else 0)
                 said[name] = low, number + (number < COORDS[name] and self.chance.random() < 0.5)
-        return Box(said)
+        return self.box_of(said)
 
     # ---- apps
 

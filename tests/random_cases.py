@@ -49,6 +49,8 @@ OTHER_CELLS = ((1, 0), (2, 0x01010001), (3, 0), (0, 0), (0, 1), (0x12, 0xFFFFFFF
 class Focus:
     """A few coordinates that most rows and boxes are about. A row has each of them often, with one of these numbers."""
 
+    options = ()
+    """How the program is asked about them."""
     often = 0.6
     numbers = NUMBERS
     box_of = Box

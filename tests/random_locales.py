@@ -4,7 +4,8 @@ from typing import NamedTuple
 
 from plain_locales import LIKELY_SCRIPTS, PARENTS, REPRESENTATIVES, AndroidBox, AndroidLayers, joined, likely, locale_of
 from plain_rules import Record, parts
-from random_cases import Case, Focus
+from random_apps import Apps
+from random_cases import Case, CertifiedCase, Focus
 
 LISTED = sorted({*LIKELY_SCRIPTS, *(locale for _, locale in PARENTS), *(locale for locale, _ in REPRESENTATIVES)})
 """The locales of which CLDR says something."""
@@ -48,6 +49,7 @@ def any_family(chance):
 class LocaleFocus(Focus):
     """Rows and boxes that are mostly about the locales of one family, and about a few other coordinates."""
 
+    options = "--locales", "android"
     box_of = AndroidBox
     layers_of = AndroidLayers
 
@@ -122,3 +124,23 @@ class LocaleFocus(Focus):
 
 class LocaleCase(Case, LocaleFocus):
     """Layers, and a box, about locales."""
+
+
+class CertifiedLocaleCase(CertifiedCase, LocaleCase):
+    """The same with a certificate, in whose lists locales are spelled otherwise than in the box."""
+
+    def __init__(self, chance, has_styles=False):
+        super().__init__(chance, has_styles)
+        self.goals = [(goal, [self.respelled_node(node) for node in nodes]) for goal, nodes in self.goals]
+
+    def respelled_node(self, node):
+        if "in" not in node:
+            return node
+        return {**node, "in": [self.respelled(value) if isinstance(value, str) else value for value in node["in"]]}
+
+
+class LocaleApps(Apps, LocaleFocus):
+    """Apps over one another, and a box, about locales."""
+
+    def two_numbers(self, name):
+        return (self.text(), self.text()) if name == "locale" else super().two_numbers(name)
