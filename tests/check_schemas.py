@@ -5,7 +5,8 @@
 
 for each input, or for those that are named: layers, id-map, device, box, certificate. Texts that a schema judges
 as restool does stand in ALIKE with the fault that restool tells, none where the text is accepted. In BEYOND are texts
-that restool refuses for what a schema can't say. The last line is the number of texts."""
+that restool refuses for what a schema can't say, and in AS_PHONE those of them that it reads with `--locales android`. The
+last line is the number of texts."""
 import json
 import os
 import re
@@ -15,6 +16,7 @@ import tempfile
 
 from made_layers import table_bytes
 from plain_rules import COORDS
+from random_locales import LocaleFocus
 
 SCHEMAS = os.path.join(os.path.dirname(os.path.abspath(__file__)), "..", "schemas")
 
@@ -201,6 +203,9 @@ ALIKE = {
         ('{"density":160,"locale":"d"}', "FieldRange locale"),
         ('{"density":160,"locale":"de\\n"}', "FieldRange locale"),
         ('{"density":160,"locale":"-DE"}', "RegionAlone"),
+        ('{"density":160,"locale":"-Latn-DE"}', "FieldRange locale"),
+        ('{"density":160,"locale":"de-latn"}', "FieldRange locale"),
+        ('{"density":160,"locale":"de-DE-Latn"}', "FieldRange locale"),
     ],
     "box": [
         ('{"density":[160]}', None),
@@ -342,6 +347,15 @@ BEYOND = {
 }
 
 
+AS_PHONE = {
+    "device": [
+        ('{"density":160,"locale":"zh-Hant"}', "FieldRange locale"),
+        ('{"density":160,"locale":"sr-Latn-RS"}', "FieldRange locale"),
+        ('{"density":160,"locale":"fil-Latn-419"}', "FieldRange locale"),
+    ],
+}
+
+
 def at_the_limits():
     """Texts of devices and boxes with the greatest number of each coordinate, and with the one above it."""
     for name, greatest in GREATEST.items():
@@ -367,7 +381,7 @@ FILES = {
 PARTS = {"id-map": "layer 1 map"}
 
 
-def fault_told(program, name, text):
+def fault_told(program, options, name, text):
     """What restool refuses the text for, None where it is read."""
     files = {**FILES, name: text}
     if name == "id-map":
@@ -377,15 +391,15 @@ def fault_told(program, name, text):
             out.write(content)
     inputs = ["box", "certificate"] if name in ("box", "certificate") else ["device"]
     command = "query" if inputs == ["device"] else "check"
-    done = subprocess.run([program, command, "layers", *inputs, "0x7f010000"], capture_output=True, text=True)
+    done = subprocess.run([program, command, *options, "layers", *inputs, "0x7f010000"], capture_output=True, text=True)
     start = f"refused: {PARTS.get(name, name)}: "
     if done.returncode == 3 and done.stderr.startswith(start):
         return done.stderr[len(start) : -1]
     return None if done.returncode in (0, 1) else f"status {done.returncode}: {done.stderr}"
 
 
-def check(program, name, schema, text, fault, is_schema_valid):
-    told = fault_told(program, name, text)
+def check(program, name, schema, text, fault, is_schema_valid, options=()):
+    told = fault_told(program, options, name, text)
     valid = is_valid(schema, schema, json.loads(text))
     if told == fault and valid == is_schema_valid:
         return []
@@ -398,7 +412,10 @@ def main():
     schemas = {name: json.load(open(os.path.join(SCHEMAS, f"{name}.json"))) for name in names}
     texts = [(name, text, fault, fault is None) for name in names for text, fault in ALIKE[name]]
     texts += [(name, text, fault, fault is None) for name, (text, fault) in at_the_limits() if name in names]
-    texts += [(name, text, fault, True) for name in names for text, fault in BEYOND[name]]
+    for name in names:
+        as_phone = AS_PHONE.get(name, [])
+        texts += [(name, text, fault, True) for text, fault in BEYOND[name] + as_phone]
+        texts += [(name, text, None, True, LocaleFocus.options) for text, _ in as_phone]
     with tempfile.TemporaryDirectory() as folder:
         os.chdir(folder)
         with open("table", "wb") as table:
