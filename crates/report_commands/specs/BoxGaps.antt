@@ -6,6 +6,7 @@ use Rattle.command_base.specs.cert_tree.config_box.config_record.declared.coord.
 use Rattle.command_base.specs.cert_tree.box_answers.NumberSet.{SetOf, RangeOf, NumbersOf, LocalesOf, named_numbers}
 use Rattle.command_base.specs.cert_tree.box_answers.Members.{set_at}
 use Rattle.command_base.specs.overlay_map.type_chunks.Row.{RowOf}
+use Rattle.report_commands.specs.Locales.{says_nothing}
 use Rattle.report_commands.specs.Qualifiers.{numbers_at}
 
 -- the locales of a set, by their numbers
@@ -19,8 +20,9 @@ unfoldable pub locales_of_box : Option (List SetOf) → List ℕ
 locales_of_box None = []
 locales_of_box (Some sets) = locales_of_set (set_at sets coords.Locale)
 
--- a coordinate is unknown, 0, at all members
+-- a coordinate is unknown at all members: 0, or a locale without a language and a region
 abbrev pub is_unknown : SetOf → Bool
+is_unknown (LocalesOf numbers) = list_all says_nothing numbers
 is_unknown set = list_all (λ n. n == 0) (named_numbers set)
 
 -- a box leaves unknown what some row has

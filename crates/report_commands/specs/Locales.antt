@@ -3,6 +3,10 @@ use Rattle.std.specs.Prelude.{ℕ, ◌+◌, ◌*◌, ◌/◌, ◌%◌, ◌^◌, 
 use Rattle.std.specs.List.{list_any}
 use Rattle.command_base.specs.cert_tree.config_box.config_record.locales.Locale.{language_of, no_part}
 
+-- neither a language nor a region, whatever the script
+abbrev pub says_nothing : ℕ → Bool
+says_nothing locale = locale / 2 ^ 32 == 0
+
 abbrev pub language_in : ℕ → ℕ
 language_in locale = locale / 2 ^ 32 / 65536
 

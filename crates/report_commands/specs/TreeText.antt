@@ -1,5 +1,5 @@
 -- A certificate as text for people.
-use Rattle.std.specs.Prelude.{ℕ, ◌^◌, ◌/◌, ◌*◌, ◌==◌, nat_lt, if◌then◌else◌, List, [], ◌∷◌, ◌++◌, codes, length, take, Option, Some, None}
+use Rattle.std.specs.Prelude.{ℕ, ◌*◌, ◌==◌, nat_lt, if◌then◌else◌, List, [], ◌∷◌, ◌++◌, codes, length, take, Option, Some, None}
 use Rattle.std.specs.List.{flat_map, enumerate_from}
 use Rattle.std.specs.Fmt.{decimal}
 use Rattle.command_base.specs.answer_text.config_record.locales.declared.locale.Locale.{Locale}
@@ -21,6 +21,7 @@ use Rattle.command_base.specs.cert_tree.res_value.Goal.{GoalSeen, IdGoal, AttrGo
 use Rattle.report_commands.specs.declared.path_end.LastAnswer.{LastAnswer}
 use Rattle.report_commands.specs.declared.path_end.LastAnswer.TheVariants.{Nothing, Yes, No}
 use Rattle.report_commands.specs.declared.path_end.PathEnd.{PathEnd}
+use Rattle.report_commands.specs.Locales.{says_nothing}
 use Rattle.report_commands.specs.TreeLines.{LineOf, NodeAt, Unreached, Missing, most_depth, tree_lines}
 
 -- ---- tests
@@ -31,7 +32,7 @@ number_item number = codes " " ++ decimal number
 
 -- ` LOCALE`; ` none` is that of a device without one
 unfoldable pub locale_item : Locale → List ℕ
-locale_item locale = codes " " ++ (if locale_number locale / 2 ^ 32 == 0 then codes "none" else locale_text locale)
+locale_item locale = codes " " ++ (if says_nothing (locale_number locale) then codes "none" else locale_text locale)
 
 -- what is listed, or ` nothing`
 unfoldable pub choice_text : ChoiceOf → List ℕ

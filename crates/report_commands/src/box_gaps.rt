@@ -5,7 +5,9 @@ ghost use Rattle.std.specs.List.{list_all};
 ghost use Rattle.command_base.specs.cert_tree.config_box.BoxSeen.{values_seen};
 ghost use Rattle.command_base.specs.cert_tree.box_answers.NumberSet.{locale_numbers};
 ghost use Rattle.report_commands.specs.BoxGaps.{locales_of_set, is_unknown};
+ghost use Rattle.report_commands.specs.Locales.{says_nothing};
 
+use crate::locale_differences::says_nothing;
 use command_base::{Locale, Values};
 
 /// The locales of a coordinate that has some.
@@ -24,16 +26,22 @@ pub(crate) fn is_unknown(values: Values<'_>) -> bool
 {
     match values {
         Values::Range(low, high) => low == 0 && high == 0,
-        Values::Numbers(numbers) => numbers.iter().all(|number| *number == 0),
+        Values::Numbers(numbers) => are_zero(numbers),
         Values::Locales(locales) => are_unknown(locales),
     }
 }
 
+fn are_zero(numbers: &[u32]) -> bool
+    ensures { result ≡ list_all (λ n. n == 0) numbers.now }
+{
+    numbers.iter().all(|number| *number == 0)
+}
+
 fn are_unknown(locales: &[Locale]) -> bool
-    ensures { result ≡ list_all (λ n. n == 0) (locale_numbers locales.now) }
+    ensures { result ≡ list_all says_nothing (locale_numbers locales.now) }
 {
     for locale in locales {
-        if locale.number() != 0 {
+        if !says_nothing(locale.number()) {
             return false;
         }
     }

@@ -1,7 +1,7 @@
 //! Locales that AOSP compares otherwise, by the numbers of their bytes.
 
 ghost use Rattle.std.specs.Prelude.{◌≡◌};
-ghost use Rattle.report_commands.specs.Locales.{language_in, region_in, is_one_of, is_filipino, has_scripts, is_pseudolocale, has_pseudolocale, regions_differ, differs_at, differs_somewhere};
+ghost use Rattle.report_commands.specs.Locales.{says_nothing, language_in, region_in, is_one_of, is_filipino, has_scripts, is_pseudolocale, has_pseudolocale, regions_differ, differs_at, differs_somewhere};
 
 /// How far the region stands above the script.
 const SCRIPTS: u64 = 0x1_0000_0000;
@@ -24,6 +24,13 @@ const PSEUDOLOCALES: [u64; 2] = [0x656e_5841_0000_0000, 0x6172_5842_0000_0000];
 
 /// Their languages.
 const LANGUAGES_OF_PSEUDOLOCALES: [u64; 2] = [0x656e, 0x6172];
+
+/// Whether a locale has neither a language nor a region.
+pub(crate) fn says_nothing(locale: u64) -> bool
+    ensures { result ≡ says_nothing locale }
+{
+    locale / SCRIPTS == 0
+}
 
 fn language_in(locale: u64) -> u64
     ensures { result ≡ language_in locale }

@@ -5,6 +5,7 @@ ghost use Rattle.contract_words.specs.Writes.{Writes};
 ghost use Rattle.command_base.specs.cert_tree.config_box.Tests.{choice_of, test_of};
 ghost use Rattle.report_commands.specs.TreeText.{number_item, locale_item, choice_text, test_text};
 
+use crate::locale_differences::says_nothing;
 use command_base::{Choice, Locale, Test, write_locale};
 use std::io::{self, Write};
 
@@ -65,15 +66,12 @@ fn write_locales<W: Write + Drop>(locales: &[Locale], out: &mut W) -> io::Result
     Ok(())
 }
 
-/// How many scripts there are to a language and a region.
-const SCRIPTS: u64 = 0x1_0000_0000;
-
 #[tactic(auto, unfolding(crate::specs::TreeText::locale_item))]
 fn write_listed<W: Write + Drop>(locale: Locale, out: &mut W) -> io::Result<()>
     ensures { Writes W.contents out.old out.new result (locale_item locale) }
 {
     out.write_all(b" ")?;
-    if locale.number() / SCRIPTS == 0 {
+    if says_nothing(locale.number()) {
         out.write_all(b"none")
     } else {
         write_locale(locale, out)
