@@ -85,4 +85,4 @@ some_warned notes =
 -- ---- a layer
 
 pub warnings_tell : WarningsTell
-warnings_tell stack locales numbered = sym (some_warned (notes_of_layer stack locales numbered) ∙ differs-of_layer stack locales numbered)
+warnings_tell rule stack locales numbered = sym (some_warned (notes_of_layer rule stack locales numbered) ∙ differs-of_layer rule stack locales numbered)

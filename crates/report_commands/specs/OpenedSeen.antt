@@ -5,9 +5,9 @@ use Rattle.report_commands.specs.declared.show.OpenedTrees.{OpenedTrees}
 use Rattle.report_commands.specs.ShowOutput.{ShowInputs}
 use Rattle.report_commands.specs.SurveyOutput.{SurveyInputs}
 
--- layers and a box
+-- layers and a box, with the rule
 abbrev pub opened_of : Opened → SurveyInputs
-opened_of opened = record { stack = opened.stack; sets = opened.members }
+opened_of opened = record { stack = opened.stack; sets = opened.members; rule = opened.rule }
 
 -- layers and a certificate
 abbrev pub opened_trees : OpenedTrees → ShowInputs

@@ -1,7 +1,9 @@
 -- What rows have that a device may read otherwise.
-use Rattle.std.specs.Prelude.{ℕ, ◌==◌, ◌&&◌, ◌||◌, not, is_ok, Bool, List, ◌++◌}
+use Rattle.std.specs.Prelude.{ℕ, ◌==◌, ◌&&◌, ◌||◌, not, is_ok, Bool, false, List, [], ◌++◌}
 use Rattle.std.specs.List.{list_any}
 use Rattle.command_base.specs.cert_tree.config_box.config_record.declared.coord.Coord.TheVariants as coords
+use Rattle.command_base.specs.cert_tree.config_box.config_record.android_locales.declared.locale_rule.LocaleRule.{LocaleRule}
+use Rattle.command_base.specs.cert_tree.config_box.config_record.android_locales.declared.locale_rule.LocaleRule.TheVariants.{LanguageAndRegion, Android}
 use Rattle.report_commands.specs.NumberSaid.{number_said}
 use Rattle.command_base.specs.cert_tree.config_box.config_record.Record.{is_set_aside}
 use Rattle.command_base.specs.overlay_map.string_pool.Pool.{PoolOf}
@@ -65,19 +67,26 @@ notes_of_values strings row =
     note_row_if (has_kind dynamic_reference row.cell) DynamicReference row
     ++ (note_row_if (has_kind dynamic_attribute row.cell) DynamicAttribute row ++ note_row_if (has_broken strings row.cell) BrokenString row)
 
-unfoldable pub notes_of_locale : List ℕ → RowOf → List Note
-notes_of_locale locales row =
+-- what its locale is, where these are the locales of the box: nothing where locales are compared as AOSP does it
+unfoldable pub notes_of_locale : LocaleRule → List ℕ → RowOf → List Note
+notes_of_locale LanguageAndRegion locales row =
     note_row_if (is_set_aside row.config) SetAside row
     ++ (note_row_if (is_for_other_locales row) Locale row ++ note_row_if (is_for_one_of locales row) BoxLocale row)
+notes_of_locale Android locales row = []
 
--- what a row has, where these are the locales of the box and the strings of its table
-unfoldable pub notes_of_row : List ℕ → PoolOf → RowOf → List Note
-notes_of_row locales strings row = notes_of_values strings row ++ notes_of_locale locales row
+-- what a row has, where locales are compared by this rule, and these are those of the box and the strings of its table
+unfoldable pub notes_of_row : LocaleRule → List ℕ → PoolOf → RowOf → List Note
+notes_of_row rule locales strings row = notes_of_values strings row ++ notes_of_locale rule locales row
 
 -- one of its values is of such a kind, or cannot be read
 abbrev pub values_differ : PoolOf → CellOf → Bool
 values_differ strings cell = has_kind dynamic_reference cell || (has_kind dynamic_attribute cell || has_broken strings cell)
 
+-- it is for a locale of the box, and AOSP compares it otherwise there
+abbrev pub locale_differs : LocaleRule → List ℕ → RowOf → Bool
+locale_differs LanguageAndRegion locales row = is_for_one_of locales row
+locale_differs Android locales row = false
+
 -- An answer can differ by a row with such a value, and by one for a locale of the box.
-unfoldable pub row_differs : List ℕ → PoolOf → RowOf → Bool
-row_differs locales strings row = values_differ strings row.cell || is_for_one_of locales row
+unfoldable pub row_differs : LocaleRule → List ℕ → PoolOf → RowOf → Bool
+row_differs rule locales strings row = values_differ strings row.cell || locale_differs rule locales row

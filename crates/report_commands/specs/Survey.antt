@@ -1,6 +1,7 @@
 -- What the words of `survey` ask, from what the places have to the answer.
 use Rattle.std.specs.Prelude.{ℕ, List, Option, option_map, Result, Ok}
 use Rattle.contract_words.specs.Faults.{◌>>=◌}
+use Rattle.command_base.specs.cert_tree.config_box.config_record.android_locales.declared.locale_rule.LocaleRule.{LocaleRule}
 use Rattle.command_base.specs.declared.status.Status.{Status}
 use Rattle.command_base.specs.declared.stop.Stop.{Stop}
 use Rattle.command_base.specs.CarriesOut.{CarriesOut}
@@ -11,7 +12,7 @@ use Rattle.command_base.specs.StackBytes.{LayerBytes}
 use Rattle.command_base.specs.Stop.{StopOf}
 use Rattle.report_commands.specs.declared.survey.Survey.{Survey}
 use Rattle.report_commands.specs.declared.survey.SurveyFiles.{SurveyFiles}
-use Rattle.report_commands.specs.SurveyOutput.{survey_output}
+use Rattle.report_commands.specs.SurveyOutput.{survey_output_by}
 
 -- ---- the files
 
@@ -32,12 +33,12 @@ survey_files places layers_path box_path = do
 
 -- ---- the answer
 
--- from the files, if they are read
-abbrev pub SurveysFiles : {W : Type 0} → (W → Option (List ℕ)) → W → W → Result SurveyBytes StopOf → Result Status Stop → Type 0
-SurveysFiles contents old new read result =
-    CarriesOut (λ files done. Prints contents old new done (survey_output files.layers files.box_json)) read result
+-- from the files, if they are read, where locales are compared by this rule
+abbrev pub SurveysFiles : {W : Type 0} → (W → Option (List ℕ)) → W → W → LocaleRule → Result SurveyBytes StopOf → Result Status Stop → Type 0
+SurveysFiles contents old new rule read result =
+    CarriesOut (λ files done. Prints contents old new done (survey_output_by rule files.layers files.box_json)) read result
 
 -- from what the places have
 abbrev pub Surveys : {W : Type 0} → (W → Option (List ℕ)) → W → W → Places → Survey → Result Status Stop → Type 0
 Surveys contents old new places survey result =
-    SurveysFiles contents old new (survey_files places survey.layers.now (option_map (λ path. path.now) survey.box_path)) result
+    SurveysFiles contents old new survey.locales (survey_files places survey.layers.now (option_map (λ path. path.now) survey.box_path)) result

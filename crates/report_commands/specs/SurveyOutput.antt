@@ -3,8 +3,10 @@ use Rattle.std.specs.Prelude.{ℕ, ◌||◌, Bool, List, ◌++◌, Option, Some,
 use Rattle.std.specs.List.{flat_map, list_any, enumerate_from}
 use Rattle.contract_words.specs.Faults.{◌>>=◌}
 use Rattle.command_base.specs.cert_tree.config_box.config_record.Coord.{all_coords}
+use Rattle.command_base.specs.cert_tree.config_box.config_record.android_locales.declared.locale_rule.LocaleRule.{LocaleRule}
+use Rattle.command_base.specs.cert_tree.config_box.config_record.android_locales.declared.locale_rule.LocaleRule.TheVariants.{LanguageAndRegion}
 use Rattle.command_base.specs.cert_tree.box_answers.NumberSet.{SetOf}
-use Rattle.command_base.specs.cert_tree.config_box.BoxJson.{box_in}
+use Rattle.command_base.specs.cert_tree.config_box.BoxJson.{box_in_by}
 use Rattle.command_base.specs.overlay_map.Layer.{LayerOf}
 use Rattle.command_base.specs.declared.fault.ToolFault.{ToolFault}
 use Rattle.command_base.specs.declared.fault.ToolFault.TheVariants.{LayerTable}
@@ -22,21 +24,23 @@ use Rattle.report_commands.specs.Refused.{refused_output}
 
 -- ---- the inputs
 
--- layers, and the sets of a box where there is one
+-- layers, and the sets of a box where there is one; and the rule by which locales are compared
 pub record SurveyInputs : Type 0 where
   pub stack : List LayerOf
   pub sets : Option (List SetOf)
+  pub rule : LocaleRule
 
-abbrev pub sets_in : Option (List ℕ) → Result (Option (List SetOf)) ToolFault
-sets_in None = Ok None
-sets_in (Some json) = map_err fault_of_box (box_in json) >>= λ sets. Ok (Some sets)
+abbrev pub sets_in : LocaleRule → Option (List ℕ) → Result (Option (List SetOf)) ToolFault
+sets_in rule None = Ok None
+sets_in rule (Some json) = map_err fault_of_box (box_in_by rule json) >>= λ sets. Ok (Some sets)
 
--- What these layers and a box's text mean, or the first fault. The layers are read before the box.
-unfoldable pub survey_inputs : List LayerBytes → Option (List ℕ) → Result SurveyInputs ToolFault
-survey_inputs layers box_json = do
+-- What these layers and a box's text mean, whose locales are read by this rule, or the first fault. The layers are read before
+-- the box.
+unfoldable pub survey_inputs_by : LocaleRule → List LayerBytes → Option (List ℕ) → Result SurveyInputs ToolFault
+survey_inputs_by rule layers box_json = do
   stack ← stack_in layers
-  sets ← sets_in box_json
-  Ok (record { stack = stack; sets = sets })
+  sets ← sets_in rule box_json
+  Ok (record { stack = stack; sets = sets; rule = rule })
 
 -- ---- the text
 
@@ -51,8 +55,8 @@ lacking_text inputs = flat_map (λ c. lacking_line (lacks inputs.sets (rows_in_s
 -- ---- the status
 
 -- an answer can differ by what is in a layer
-unfoldable pub layers_differ : List LayerOf → List ℕ → List LayerBytes → Bool
-layers_differ stack locales layers = list_any (layer_differs stack locales) (enumerate_from 0 layers)
+unfoldable pub layers_differ : LocaleRule → List LayerOf → List ℕ → List LayerBytes → Bool
+layers_differ rule stack locales layers = list_any (layer_differs rule stack locales) (enumerate_from 0 layers)
 
 -- the box lacks a qualifier
 unfoldable pub lacks_some : SurveyInputs → Bool
@@ -63,8 +67,8 @@ lacks_some inputs = list_any (lacks inputs.sets (rows_in_stack inputs.stack)) al
 -- What is printed of layers and a box that were opened. It is done where nothing makes an answer differ.
 unfoldable pub survey_answer : List LayerBytes → SurveyInputs → Output
 survey_answer layers inputs = let locales = locales_of_box inputs.sets in let shared = shared_of (shared_ids inputs.stack) in record {
-  status = negative_if (layers_differ inputs.stack locales layers || is_some shared || lacks_some inputs);
-  text = layers_text inputs.stack locales layers ++ (shared_line shared ++ (qualifiers_text inputs.stack ++ lacking_text inputs));
+  status = negative_if (layers_differ inputs.rule inputs.stack locales layers || is_some shared || lacks_some inputs);
+  text = layers_text inputs.rule inputs.stack locales layers ++ (shared_line shared ++ (qualifiers_text inputs.stack ++ lacking_text inputs));
 }
 
 -- what is printed of what layers and a box mean
@@ -73,6 +77,10 @@ surveyed layers (Ok inputs) = Ok (survey_answer layers inputs)
 surveyed layers (Err (LayerTable place fault)) = refused_output layers (LayerTable place fault)
 surveyed layers (Err fault) = Err fault
 
--- What `survey` prints of these layers and a box's text.
-unfoldable pub survey_output : List LayerBytes → Option (List ℕ) → Result Output ToolFault
-survey_output layers box_json = surveyed layers (survey_inputs layers box_json)
+-- What `survey` prints of these layers and a box's text, where locales are compared by this rule.
+unfoldable pub survey_output_by : LocaleRule → List LayerBytes → Option (List ℕ) → Result Output ToolFault
+survey_output_by rule layers box_json = surveyed layers (survey_inputs_by rule layers box_json)
+
+-- by language and region
+abbrev pub survey_output : List LayerBytes → Option (List ℕ) → Result Output ToolFault
+survey_output = survey_output_by LanguageAndRegion

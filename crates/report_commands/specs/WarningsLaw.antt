@@ -1,6 +1,7 @@
 -- Why the lines of a survey tell its status.
 use Rattle.std.specs.Prelude.{◌≡◌, ℕ, ◌==◌, ◌&&◌, not, Bool, List}
 use Rattle.std.specs.List.{list_any}
+use Rattle.command_base.specs.cert_tree.config_box.config_record.android_locales.declared.locale_rule.LocaleRule.{LocaleRule}
 use Rattle.command_base.specs.overlay_map.Layer.{LayerOf}
 use Rattle.command_base.specs.StackBytes.{LayerBytes}
 use Rattle.report_commands.specs.declared.finding.Finding.{Finding}
@@ -16,5 +17,5 @@ is_warned notes finding = differs finding && not ((tally_of (notes_with finding 
 -- An answer can differ by a layer exactly where one of the layer's lines is a warning.
 abbrev pub WarningsTell : Type 0
 WarningsTell =
-    (stack : List LayerOf) (locales : List ℕ) (numbered : ℕ × LayerBytes)
-    → layer_differs stack locales numbered ≡ list_any (is_warned (notes_of_layer stack locales numbered)) all_findings
+    (rule : LocaleRule) (stack : List LayerOf) (locales : List ℕ) (numbered : ℕ × LayerBytes)
+    → layer_differs rule stack locales numbered ≡ list_any (is_warned (notes_of_layer rule stack locales numbered)) all_findings

@@ -13,24 +13,25 @@ ghost use Rattle.report_commands.specs.LayersText.{layer_lines, layers_text};
 use crate::findings::Findings;
 use crate::rows::note_rows;
 use crate::text::write_findings;
-use command_base::{LayerParts, Locale, Stack};
+use command_base::{LayerParts, Locale, LocaleRule, Stack};
 use std::io::{self, Write};
 
-/// Writes what is found in each layer, where these are the locales of the box, and says whether an answer can differ
-/// by it from a device's.
+/// Writes what is found in each layer, where locales are compared by a rule, and these are those of the box. Says whether
+/// an answer can differ by it from a device's.
 #[tactic(auto, using(crate::proofs::AnySteps::finds), unfolding(crate::specs::LayersText::layers_text, crate::specs::SurveyOutput::layers_differ))]
 pub(crate) fn write_layers<W: Write + Drop>(
     stack: &Stack<'_>,
+    rule: LocaleRule,
     locales: &[Locale],
     layers: &[LayerParts<&[u8]>],
     out: &mut W,
 ) -> io::Result<bool>
-    ensures text { Writes W.contents out.old out.new result (layers_text stack.now (locale_numbers locales.now) (map layer_bytes layers.now)) }
-    ensures differs { IfOk result (λ differs. differs ≡ layers_differ stack.now (locale_numbers locales.now) (map layer_bytes layers.now)) }
+    ensures text { Writes W.contents out.old out.new result (layers_text rule stack.now (locale_numbers locales.now) (map layer_bytes layers.now)) }
+    ensures differs { IfOk result (λ differs. differs ≡ layers_differ rule stack.now (locale_numbers locales.now) (map layer_bytes layers.now)) }
 {
     let mut differs = false;
     for (place, layer) in layers.iter().enumerate() {
-        differs |= write_layer(stack, locales, place, *layer, out)?;
+        differs |= write_layer(stack, rule, locales, place, *layer, out)?;
     }
     Ok(differs)
 }
@@ -38,15 +39,16 @@ pub(crate) fn write_layers<W: Write + Drop>(
 #[tactic(auto, unfolding(crate::specs::LayersText::layer_lines))]
 fn write_layer<W: Write + Drop>(
     stack: &Stack<'_>,
+    rule: LocaleRule,
     locales: &[Locale],
     place: usize,
     layer: LayerParts<&[u8]>,
     out: &mut W,
 ) -> io::Result<bool>
-    ensures text { Writes W.contents out.old out.new result (layer_lines stack.now (locale_numbers locales.now) (place, layer_bytes layer.entry)) }
-    ensures differs { IfOk result (λ differs. differs ≡ layer_differs stack.now (locale_numbers locales.now) (place, layer_bytes layer.entry)) }
+    ensures text { Writes W.contents out.old out.new result (layer_lines rule stack.now (locale_numbers locales.now) (place, layer_bytes layer.entry)) }
+    ensures differs { IfOk result (λ differs. differs ≡ layer_differs rule stack.now (locale_numbers locales.now) (place, layer_bytes layer.entry)) }
 {
-    let findings = layer_findings(stack, locales, place, layer);
+    let findings = layer_findings(stack, rule, locales, place, layer);
     write_findings(place, &findings, out)?;
     Ok(findings.differs())
 }
@@ -54,25 +56,32 @@ fn write_layer<W: Write + Drop>(
 // What the layer at a place has.
 fn layer_findings(
     stack: &Stack<'_>,
+    rule: LocaleRule,
     locales: &[Locale],
     place: usize,
     layer: LayerParts<&[u8]>,
 ) -> Findings
-    ensures notes { Counts result (notes_of_layer stack.now (locale_numbers locales.now) (place, layer_bytes layer.entry)) }
-    ensures differs { result.differs ≡ layer_differs stack.now (locale_numbers locales.now) (place, layer_bytes layer.entry) }
+    ensures notes { Counts result (notes_of_layer rule stack.now (locale_numbers locales.now) (place, layer_bytes layer.entry)) }
+    ensures differs { result.differs ≡ layer_differs rule stack.now (locale_numbers locales.now) (place, layer_bytes layer.entry) }
 {
     let (bytes, _) = layer;
     let mut findings = Findings::none();
     findings.add_chunks(bytes);
-    note_rows_at(stack, locales, place, &mut findings);
+    note_rows_at(stack, rule, locales, place, &mut findings);
     findings
 }
 
 #[tactic(auto, unfolding(crate::specs::LayerNotes::rows_at, crate::specs::LayerNotes::strings_at), using(crate::proofs::FindingsSteps::noted_steps))]
-fn note_rows_at(stack: &Stack<'_>, locales: &[Locale], place: usize, findings: &mut Findings)
-    ensures { findings.new ≡ noted findings.old (notes_of_rows stack.now (locale_numbers locales.now) place) }
+fn note_rows_at(
+    stack: &Stack<'_>,
+    rule: LocaleRule,
+    locales: &[Locale],
+    place: usize,
+    findings: &mut Findings,
+)
+    ensures { findings.new ≡ noted findings.old (notes_of_rows rule stack.now (locale_numbers locales.now) place) }
 {
     if let Some(table) = stack.layer_table(place) {
-        note_rows(locales, table, findings);
+        note_rows(rule, locales, table, findings);
     }
 }

@@ -8,15 +8,15 @@
 //! A survey tells what of these tables is read otherwise than a device would read it, which qualifiers their rows have, and
 //! which of these the box lacks. Its status is Done exactly where no chunk, type, record, entry or row of the
 //! tables makes an answer differ (`layer_differs`), the box lacks no qualifier that rows have (`lacks`), and no name stands
-//! for another id: where no line is a warning (`warnings_tell`). A table that is refused is surveyed too, by its chunks
-//! alone, if an answer could differ by them. `Findings` says of each `Finding` how many of it a table has, and where the
-//! first is.
+//! for another id: where no line is a warning (`warnings_tell`). By `LocaleRule::Android` rows are compared as a phone does
+//! it, so no row is found for its locale. A table that is refused is surveyed too, by its chunks alone, if an answer could
+//! differ by them. `Findings` says of each `Finding` how many of it a table has, and where the first is.
 //!
 //! A certificate is shown as text, or the tree of one goal as a picture in DOT. Whatever the nodes of a goal are, each has a
 //! line: also those that no path of the tree leads to, and where the list ends early each path without a node has one.
 //!
 //! ```text
-//! let survey = Survey { layers: "layers.json", box_path: Some("box.json") };
+//! let survey = Survey { layers: "layers.json", box_path: Some("box.json"), locales: LocaleRule::Android };
 //! survey.answer(alloc, &inputs, &mut out)?; // reads the files first
 //!
 //! survey_bytes(alloc, &layers, Some(&box_json), &mut out)?; // warning layer 0 compact-entry 12 first 348
@@ -65,7 +65,7 @@ mod tree_lines;
 mod types;
 mod whole_tree;
 
-pub use command_base::{LayerParts, Status, ToolFault};
+pub use command_base::{LayerParts, LocaleRule, Status, ToolFault};
 pub use finding::{FINDING_COUNT, Finding};
 pub use findings::Findings;
 pub use laws::warnings_tell;

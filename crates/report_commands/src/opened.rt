@@ -11,12 +11,13 @@ ghost use Rattle.command_base.specs.StackBytesSeen.{layer_bytes};
 ghost use Rattle.command_base.specs.names.Shared.{shared_ids, shared_of};
 ghost use Rattle.report_commands.specs.Qualifiers.{rows_in_stack, numbers_at, spread_of};
 ghost use Rattle.report_commands.specs.BoxGaps.{locales_of_box, lacks};
-ghost use Rattle.report_commands.specs.SurveyOutput.{sets_in, survey_inputs};
+ghost use Rattle.report_commands.specs.SurveyOutput.{sets_in, survey_inputs_by};
 
 use crate::box_gaps::{is_unknown, locales_of};
 use crate::qualifiers::Spread;
 use command_base::{
-    ConfigBox, Coord, LayerParts, Locale, NamedStack, SharedNames, Stack, ToolFault, open_stack,
+    ConfigBox, Coord, LayerParts, Locale, LocaleRule, NamedStack, SharedNames, Stack, ToolFault,
+    open_stack,
 };
 use std::alloc::{AllocError, Global};
 
@@ -25,29 +26,34 @@ use std::alloc::{AllocError, Global};
 pub(crate) struct Opened<'a> {
     pub stack: Stack<'a>,
     pub members: Option<ConfigBox>,
+    /// By which rule locales are compared.
+    pub rule: LocaleRule,
     pub shared: Option<SharedNames>,
 }
 
 impl<'a> Opened<'a> {
     ghost use Rattle.report_commands.specs.OpenedSeen.{opened_of};
 
-    /// Opens the layers, and then reads the box.
-    #[tactic(auto, unfolding(crate::specs::SurveyOutput::survey_inputs))]
+    /// Opens the layers, and then reads the box, where the texts of locales are read by a rule, by which they are then
+    /// compared.
+    #[tactic(auto, unfolding(crate::specs::SurveyOutput::survey_inputs_by))]
     pub fn read(
         alloc: Global,
         layers: &[LayerParts<&'a [u8]>],
         box_json: Option<&[u8]>,
+        rule: LocaleRule,
     ) -> Result<Opened<'a>, ToolFault>
-        ensures value { GivesOr OutOfMemory opened_of result (survey_inputs (map layer_bytes layers.now) (option_map (λ json. json.now) box_json.entry)) }
+        ensures value { GivesOr OutOfMemory opened_of result (survey_inputs_by rule (map layer_bytes layers.now) (option_map (λ json. json.now) box_json.entry)) }
         ensures of_input { IsOfInput result }
         ensures shared { IfOk result (λ opened. opened.shared ≡ shared_of (shared_ids opened.stack)) }
     {
         let stack = open_stack(alloc, layers)?;
-        let members = read_box(alloc, box_json)?;
+        let members = read_box(alloc, box_json, rule)?;
         let shared = shared_names(alloc, &stack)?;
         Ok(Opened {
             stack,
             members,
+            rule,
             shared,
         })
     }
@@ -84,13 +90,17 @@ fn shared_names(alloc: Global, stack: &Stack<'_>) -> Result<Option<SharedNames>,
     Ok(named.shared_names())
 }
 
-fn read_box(alloc: Global, box_json: Option<&[u8]>) -> Result<Option<ConfigBox>, ToolFault>
-    ensures value { GivesOr OutOfMemory (λ members. members) result (sets_in (option_map (λ json. json.now) box_json.entry)) }
+fn read_box(
+    alloc: Global,
+    box_json: Option<&[u8]>,
+    rule: LocaleRule,
+) -> Result<Option<ConfigBox>, ToolFault>
+    ensures value { GivesOr OutOfMemory (λ members. members) result (sets_in rule (option_map (λ json. json.now) box_json.entry)) }
     ensures of_input { IsOfInput result }
 {
     let Some(json) = box_json else {
         return Ok(None);
     };
-    let members = ConfigBox::read(alloc, json)?;
+    let members = ConfigBox::read_by(alloc, json, rule)?;
     Ok(Some(members))
 }

@@ -9,7 +9,7 @@ ghost use Rattle.report_commands.specs.Refused.{chunks_differ, differs_where_ref
 
 use crate::findings::Findings;
 use crate::layers::write_layers;
-use command_base::{LayerParts, Stack, Status, ToolFault, fault_text};
+use command_base::{LayerParts, LocaleRule, Stack, Status, ToolFault, fault_text};
 use std::alloc::Global;
 use std::io::{self, Write};
 
@@ -41,7 +41,9 @@ fn write_refused<W: Write + Drop>(
 ) -> io::Result<()>
     ensures { Writes W.contents out.old out.new result (refused_text (map layer_bytes layers.now) fault.now) }
 {
-    write_layers(&Stack::new(alloc), &[], layers, out)?;
+    // Without layers there are no rows, whose locales a rule would compare.
+    let no_rows = Stack::new(alloc);
+    write_layers(&no_rows, LocaleRule::LanguageAndRegion, &[], layers, out)?;
     fault_text(fault, out)
 }
 

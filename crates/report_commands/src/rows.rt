@@ -17,7 +17,7 @@ use crate::findings::Findings;
 use crate::locale_differences::{differs_at, differs_somewhere};
 use crate::said_numbers::number_said;
 use crate::site::Site;
-use command_base::{Cell, Coord, Locale, MapRows, Pool, Row, Table, Value, kind};
+use command_base::{Cell, Coord, Locale, LocaleRule, MapRows, Pool, Row, Table, Value, kind};
 
 /// A value that is an attribute of a shared library (AOSP: `Res_value::TYPE_DYNAMIC_ATTRIBUTE`).
 const DYNAMIC_ATTRIBUTE: u8 = 0x08;
@@ -138,30 +138,46 @@ fn note_values(strings: &Pool<'_>, row: &Row<'_>, findings: &mut Findings)
 }
 
 #[tactic(auto, using(crate::proofs::FindingsSteps::noted_steps), unfolding(crate::specs::RowNotes::notes_of_locale))]
-fn note_locale(locales: &[Locale], row: &Row<'_>, findings: &mut Findings)
-    ensures { findings.new ≡ noted findings.old (notes_of_locale (locale_numbers locales.now) (row_of row.now)) }
+fn note_locale(rule: LocaleRule, locales: &[Locale], row: &Row<'_>, findings: &mut Findings)
+    ensures { findings.new ≡ noted findings.old (notes_of_locale rule (locale_numbers locales.now) (row_of row.now)) }
 {
-    let site = Site::Row(row.id);
-    findings.note_if(row.config.set_aside(), Finding::SetAside, site);
-    findings.note_if(is_for_other_locales(row), Finding::Locale, site);
-    findings.note_if(is_for_one_of(locales, row), Finding::BoxLocale, site);
+    match rule {
+        LocaleRule::LanguageAndRegion => {
+            let site = Site::Row(row.id);
+            findings.note_if(row.config.set_aside(), Finding::SetAside, site);
+            findings.note_if(is_for_other_locales(row), Finding::Locale, site);
+            findings.note_if(is_for_one_of(locales, row), Finding::BoxLocale, site);
+        }
+        LocaleRule::Android => {}
+    }
 }
 
 #[tactic(auto, using(crate::proofs::FindingsSteps::noted_steps), unfolding(crate::specs::RowNotes::notes_of_row))]
-fn note_row(locales: &[Locale], strings: &Pool<'_>, row: &Row<'_>, findings: &mut Findings)
-    ensures { findings.new ≡ noted findings.old (notes_of_row (locale_numbers locales.now) (pool_of strings.now) (row_of row.now)) }
+fn note_row(
+    rule: LocaleRule,
+    locales: &[Locale],
+    strings: &Pool<'_>,
+    row: &Row<'_>,
+    findings: &mut Findings,
+)
+    ensures { findings.new ≡ noted findings.old (notes_of_row rule (locale_numbers locales.now) (pool_of strings.now) (row_of row.now)) }
 {
     note_values(strings, row, findings);
-    note_locale(locales, row, findings);
+    note_locale(rule, locales, row, findings);
 }
 
-/// Adds what the rows of a table have, where these are the locales of the box.
+/// Adds what the rows of a table have, where locales are compared by a rule, and these are those of the box.
 #[tactic(auto, using(crate::proofs::FindingsSteps::noted_steps))]
-pub(crate) fn note_rows(locales: &[Locale], table: &Table<'_>, findings: &mut Findings)
-    ensures { findings.new ≡ noted findings.old (flat_map (notes_of_row (locale_numbers locales.now) table.now.strings) (rows_of table.now)) }
+pub(crate) fn note_rows(
+    rule: LocaleRule,
+    locales: &[Locale],
+    table: &Table<'_>,
+    findings: &mut Findings,
+)
+    ensures { findings.new ≡ noted findings.old (flat_map (notes_of_row rule (locale_numbers locales.now) table.now.strings) (rows_of table.now)) }
 {
     let strings = table.strings();
     for row in table.all_rows() {
-        note_row(locales, &strings, &row, findings);
+        note_row(rule, locales, &strings, &row, findings);
     }
 }

@@ -17,7 +17,7 @@ ghost use Rattle.report_commands.specs.BoxGaps.{lacks};
 ghost use Rattle.report_commands.specs.OpenedSeen.{opened_of};
 ghost use Rattle.report_commands.specs.Survey.{Surveys, SurveysFiles, survey_files, survey_held};
 ghost use Rattle.report_commands.specs.SurveyText.{qualifier_line, lacking_line};
-ghost use Rattle.report_commands.specs.SurveyOutput.{qualifiers_text, lacking_text, lacks_some, survey_answer, survey_output};
+ghost use Rattle.report_commands.specs.SurveyOutput.{qualifiers_text, lacking_text, lacks_some, survey_answer, survey_output, survey_output_by};
 ghost use Rattle.command_base.specs.CarriesOut.{IsKept};
 
 use crate::layers::write_layers;
@@ -26,7 +26,7 @@ use crate::qualifiers::Qualifiers;
 use crate::refused::survey_refused;
 use crate::text::{write_lacks, write_qualifier, write_shared};
 use command_base::{
-    Coord, Inputs, LayerFiles, LayerParts, Stack, Status, Stop, ToolFault, file_bytes,
+    Coord, Inputs, LayerFiles, LayerParts, LocaleRule, Stack, Status, Stop, ToolFault, file_bytes,
 };
 use std::alloc::Global;
 use std::io::{self, Write};
@@ -38,6 +38,8 @@ pub struct Survey<'a> {
     pub layers: &'a str,
     /// Where the box lies, if one is asked about.
     pub box_path: Option<&'a str>,
+    /// By which rule locales are compared.
+    pub locales: LocaleRule,
 }
 
 impl<'a> Survey<'a> {
@@ -52,20 +54,22 @@ impl<'a> Survey<'a> {
         ensures unwritten { IsKept out.old out.new result }
     {
         let files = SurveyFiles::read(alloc, inputs, self.layers, self.box_path)?;
-        answer_of(alloc, &files, out)
+        self.answer_of(alloc, &files, out)
     }
-}
 
-fn answer_of<W: Write + Drop>(
-    alloc: Global,
-    files: &SurveyFiles,
-    out: &mut W,
-) -> Result<Status, Stop<'static>>
-    ensures answers { SurveysFiles W.contents out.old out.new (Ok (survey_held files.now)) result }
-    ensures unwritten { IsKept out.old out.new result }
-{
-    let layers = files.layers.layers(alloc)?;
-    Ok(survey_bytes(alloc, &layers, files.box_json.as_deref(), out)?)
+    fn answer_of<W: Write + Drop>(
+        &self,
+        alloc: Global,
+        files: &SurveyFiles,
+        out: &mut W,
+    ) -> Result<Status, Stop<'static>>
+        ensures answers { SurveysFiles W.contents out.old out.new self.now.locales (Ok (survey_held files.now)) result }
+        ensures unwritten { IsKept out.old out.new result }
+    {
+        let layers = files.layers.layers(alloc)?;
+        let box_json = files.box_json.as_deref();
+        Ok(survey_by(alloc, &layers, box_json, self.locales, out)?)
+    }
 }
 
 /// The bytes of layers, and of a box of devices, if one is named.
@@ -104,7 +108,7 @@ impl SurveyFiles {
 /// Prints what of some layers is read otherwise than a device would read it, the qualifiers that their rows have, and
 /// those that the box lacks. The status is Negative where an answer can differ by it from a device's. Where a table is
 /// refused, this is told of the chunks of all tables, if an answer could differ by those of the one that is refused.
-#[tactic(auto, unfolding(crate::specs::SurveyOutput::survey_output))]
+/// Locales are compared by language and region.
 pub fn survey_bytes<W: Write + Drop>(
     alloc: Global,
     layers: &[LayerParts<&[u8]>],
@@ -114,7 +118,22 @@ pub fn survey_bytes<W: Write + Drop>(
     ensures { Prints W.contents out.old out.new result
         (survey_output (map layer_bytes layers.now) (option_map (λ json. json.now) box_json.entry)) }
 {
-    match Opened::read(alloc, layers, box_json) {
+    survey_by(alloc, layers, box_json, LocaleRule::LanguageAndRegion, out)
+}
+
+// The same, where locales are compared by a rule.
+#[tactic(auto, unfolding(crate::specs::SurveyOutput::survey_output_by))]
+fn survey_by<W: Write + Drop>(
+    alloc: Global,
+    layers: &[LayerParts<&[u8]>],
+    box_json: Option<&[u8]>,
+    rule: LocaleRule,
+    out: &mut W,
+) -> Result<Status, ToolFault>
+    ensures { Prints W.contents out.old out.new result
+        (survey_output_by rule (map layer_bytes layers.now) (option_map (λ json. json.now) box_json.entry)) }
+{
+    match Opened::read(alloc, layers, box_json, rule) {
         Ok(opened) => Ok(write_answer(layers, &opened, out)?),
         Err(fault) if matches!(fault, ToolFault::LayerTable(..)) => {
             survey_refused(alloc, layers, fault, out)
@@ -133,7 +152,7 @@ fn write_answer<W: Write + Drop>(
     ensures text { Writes W.contents out.old out.new result (survey_answer (map layer_bytes layers.now) (opened_of opened.now)).text }
     ensures status { IfOk result (λ status. status ≡ (survey_answer (map layer_bytes layers.now) (opened_of opened.now)).status) }
 {
-    let differs = write_layers(&opened.stack, opened.locales(), layers, out)?;
+    let differs = write_layers(&opened.stack, opened.rule, opened.locales(), layers, out)?;
     write_shared(opened.shared, out)?;
     let qualifiers = write_qualifiers(&opened.stack, out)?;
     let lacks = write_all_lacking(opened, &qualifiers, out)?;

@@ -8,6 +8,6 @@ use Rattle.report_commands.proofs.layers.write_layers.Given as goal
 -- the lines of all layers were written but of those that are left, and whether an answer can differ is that of those so far
 abbrev pub invariant-loop-place : goal.invariant-loop-place
 invariant-loop-place g l = record {
-  texts : PutsAllBut (layer_lines l.stack (locale_numbers l.locales)) (g.W.Write.contents l.fn.out) (g.W.Write.contents l.out) (layers_from 0 l.layers) (layers_from l.place l.layers);
-  differs : FindsAllBut (layer_differs l.stack (locale_numbers l.locales)) l.differs (layers_from 0 l.layers) (layers_from l.place l.layers);
+  texts : PutsAllBut (layer_lines l.rule l.stack (locale_numbers l.locales)) (g.W.Write.contents l.fn.out) (g.W.Write.contents l.out) (layers_from 0 l.layers) (layers_from l.place l.layers);
+  differs : FindsAllBut (layer_differs l.rule l.stack (locale_numbers l.locales)) l.differs (layers_from 0 l.layers) (layers_from l.place l.layers);
 }

@@ -11,5 +11,5 @@ abbrev pub invariant-loop-row : goal.invariant-loop-row
 invariant-loop-row l = record {
   can : (goal.iterator-loop-row).can_next l.row-iterator;
   ends : (goal.iterator-loop-row).is_finite l.row-iterator;
-  left : noted l.findings (flat_map (notes_of_row (locale_numbers l.locales) l.table.strings) l.row-iterator) ≡ noted l.fn.findings (flat_map (notes_of_row (locale_numbers l.locales) l.table.strings) (rows_of l.table));
+  left : noted l.findings (flat_map (notes_of_row l.rule (locale_numbers l.locales) l.table.strings) l.row-iterator) ≡ noted l.fn.findings (flat_map (notes_of_row l.rule (locale_numbers l.locales) l.table.strings) (rows_of l.table));
 }
