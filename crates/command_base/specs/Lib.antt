@@ -4,6 +4,7 @@ pub mod LayerListSeen
 pub mod MapErr
 pub mod StackBytes
 pub mod StackBytesSeen
+pub mod SetAside
 pub mod Output
 pub mod ToolFault
 pub mod TableFaultText

@@ -15,10 +15,11 @@ use Rattle.command_base.specs.Output.{PrintsOneOf}
 use Rattle.command_base.specs.StackBytes.{LayerBytes}
 use Rattle.command_base.specs.Stop.{StopOf}
 use Rattle.command_base.specs.names.NamedPairs.{pairs_named}
+use Rattle.stack_diff.specs.config_box.config_record.android_locales.declared.locale_rule.LocaleRule.{LocaleRule}
 use Rattle.stack_diff.specs.names.Pairs.{PairOf, name_pairs}
 use Rattle.diff_command.specs.declared.diff.Diff.{Diff}
 use Rattle.diff_command.specs.declared.diff.DiffFiles.{DiffFiles}
-use Rattle.diff_command.specs.DiffInputs.{DiffInputs, diff_inputs}
+use Rattle.diff_command.specs.DiffInputs.{DiffInputs, diff_inputs_by}
 use Rattle.diff_command.specs.DiffOutput.{IsDiffOutput}
 
 -- ---- the files
@@ -49,10 +50,10 @@ pub record OpenDiffOf : Type 0 where
   pub opened : DiffInputs
   pub pairs : List PairOf
 
-unfoldable pub diff_opened : List LayerBytes → List LayerBytes → List ℕ → List (List ℕ) → Result OpenDiffOf StopOf
-diff_opened old new box_json words = do
+unfoldable pub diff_opened : LocaleRule → List LayerBytes → List LayerBytes → List ℕ → List (List ℕ) → Result OpenDiffOf StopOf
+diff_opened rule old new box_json words = do
   sets ← each set_asked words
-  opened ← read_or_stop (diff_inputs old new box_json)
+  opened ← read_or_stop (diff_inputs_by rule old new box_json)
   pairs ← found_or_stop (pairs_named sets (name_pairs opened.stacks.old opened.stacks.new))
   Ok (record { opened = opened; pairs = pairs })
 
@@ -64,12 +65,12 @@ DiffsOpened contents old new max_nodes opened result =
     CarriesOut (λ diff done. PrintsOneOf (IsDiffOutput diff.pairs max_nodes) contents old new done (Ok diff.opened)) opened result
 
 -- from the files, if they are read
-abbrev pub DiffsFiles : {W : Type 0} → (W → Option (List ℕ)) → W → W → ℕ → Result DiffBytes StopOf → Result Status Stop → Type 0
-DiffsFiles contents old new max_nodes read result =
-    DiffsOpened contents old new max_nodes (read >>= λ files. diff_opened files.old files.new files.box_json files.words) result
+abbrev pub DiffsFiles : {W : Type 0} → (W → Option (List ℕ)) → W → W → Diff → Result DiffBytes StopOf → Result Status Stop → Type 0
+DiffsFiles contents old new diff read result =
+    DiffsOpened contents old new diff.max_nodes (read >>= λ files. diff_opened diff.locales files.old files.new files.box_json files.words) result
 
 -- from what the places have
 abbrev pub Diffs : {W : Type 0} → (W → Option (List ℕ)) → W → W → Places → Diff → Result Status Stop → Type 0
 Diffs contents old new places diff result =
-    DiffsFiles contents old new diff.max_nodes
+    DiffsFiles contents old new diff
     (diff_files places diff.old.now diff.new.now diff.box_path.now (texts_of diff.words)) result

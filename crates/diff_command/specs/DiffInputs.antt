@@ -4,8 +4,10 @@ use Rattle.std.specs.Cmp.Lexicographic.{pointwise}
 use Rattle.std.specs.Option.{option_eq}
 use Rattle.std.specs.Str.{bytes_eq}
 use Rattle.contract_words.specs.Faults.{◌>>=◌}
+use Rattle.stack_diff.specs.config_box.config_record.android_locales.declared.locale_rule.LocaleRule.{LocaleRule}
+use Rattle.stack_diff.specs.config_box.config_record.android_locales.declared.locale_rule.LocaleRule.TheVariants.{LanguageAndRegion}
 use Rattle.stack_diff.specs.config_box.box_answers.NumberSet.{SetOf}
-use Rattle.stack_diff.specs.config_box.BoxJson.{box_in}
+use Rattle.stack_diff.specs.config_box.BoxJson.{box_in_by}
 use Rattle.command_base.specs.declared.fault.ToolFault.{ToolFault}
 use Rattle.command_base.specs.declared.side.Side.TheVariants.{Old, New}
 use Rattle.command_base.specs.ToolFault.{fault_of_box}
@@ -20,15 +22,22 @@ is_same_layer old new = bytes_eq old.table new.table && option_eq bytes_eq old.m
 unfoldable pub have_same_bytes : List LayerBytes → List LayerBytes → Bool
 have_same_bytes old new = pointwise is_same_layer old new
 
--- the stacks before a change and after it, which are one where their layers have the same bytes; and the sets of a box
+-- the stacks before a change and after it, which are one where their layers have the same bytes; the sets of a box, and the
+-- rule by which its locales are compared
 pub record DiffInputs : Type 0 where
   pub stacks : StacksOf
   pub sets : List SetOf
+  pub rule : LocaleRule
 
--- What these layers and a box's text mean, or the first fault. The old layers are read first, and the box last.
-unfoldable pub diff_inputs : List LayerBytes → List LayerBytes → List ℕ → Result DiffInputs ToolFault
-diff_inputs old_bytes new_bytes box_json = do
+-- What these layers and a box's text mean, whose locales are read by this rule, or the first fault. The old layers are read
+-- first, and the box last.
+unfoldable pub diff_inputs_by : LocaleRule → List LayerBytes → List LayerBytes → List ℕ → Result DiffInputs ToolFault
+diff_inputs_by rule old_bytes new_bytes box_json = do
   old ← stack_on_side Old old_bytes
   new ← stack_on_side New new_bytes
-  sets ← map_err fault_of_box (box_in box_json)
-  Ok (record { stacks = record { old = old; new = new; are_one = have_same_bytes old_bytes new_bytes }; sets = sets })
+  sets ← map_err fault_of_box (box_in_by rule box_json)
+  Ok (record { stacks = record { old = old; new = new; are_one = have_same_bytes old_bytes new_bytes }; sets = sets; rule = rule })
+
+-- by language and region
+abbrev pub diff_inputs : List LayerBytes → List LayerBytes → List ℕ → Result DiffInputs ToolFault
+diff_inputs = diff_inputs_by LanguageAndRegion

@@ -2,7 +2,8 @@
 use Rattle.std.specs.Prelude.{ℕ, ◌+◌, ◌==◌, Bool, true, false, nat_lt, List, [], ◌∷◌, ◌++◌, length, codes, if◌then◌else◌}
 use Rattle.std.specs.Fmt.{decimal}
 use Rattle.std.specs.List.{flat_map, count_by, zip}
-use Rattle.command_base.specs.overlay_map.SetAside.{set_aside_in_stack}
+use Rattle.command_base.specs.SetAside.{rows_set_aside}
+use Rattle.stack_diff.specs.config_box.config_record.android_locales.declared.locale_rule.LocaleRule.{LocaleRule}
 use Rattle.stack_diff.specs.names.Label.{LabelOf}
 use Rattle.stack_diff.specs.names.Pairs.{PairOf}
 use Rattle.stack_diff.specs.names.Shared.{shared_ids}
@@ -58,10 +59,10 @@ counts_line words old new = if old + new == 0 then [] else words ++ codes " " ++
 unfoldable pub shared_names_line : StacksOf → List ℕ
 shared_names_line stacks = counts_line (codes "warning shared-names") (length (shared_ids stacks.old)) (length (shared_ids stacks.new))
 
--- how many rows of either stack have a script or a variant in their locale, and match no device
-unfoldable pub set_aside_line : StacksOf → List ℕ
-set_aside_line stacks = counts_line (codes "set-aside") (set_aside_in_stack stacks.old) (set_aside_in_stack stacks.new)
+-- how many rows of either stack are set aside by this rule
+unfoldable pub set_aside_line : LocaleRule → StacksOf → List ℕ
+set_aside_line rule stacks = counts_line (codes "set-aside") (rows_set_aside rule stacks.old) (rows_set_aside rule stacks.new)
 
 -- the lines of labels, then what holds of the stacks, and then how many labels say the same
-unfoldable pub diff_lines : StacksOf → List PairOf → List ToldOf → List ℕ
-diff_lines stacks pairs told = label_lines pairs told ++ shared_names_line stacks ++ set_aside_line stacks ++ same_line (same_count told)
+unfoldable pub diff_lines : LocaleRule → StacksOf → List PairOf → List ToldOf → List ℕ
+diff_lines rule stacks pairs told = label_lines pairs told ++ shared_names_line stacks ++ set_aside_line rule stacks ++ same_line (same_count told)

@@ -2,6 +2,7 @@
 use Rattle.std.specs.Prelude.{◌≡◌, ℕ, List, [], ◌∷◌, ◌++◌, Option, Some, None, codes}
 use Rattle.command_base.specs.declared.status.Status.TheVariants.{Negative}
 use Rattle.command_base.specs.Output.{Output, negative_if}
+use Rattle.stack_diff.specs.config_box.config_record.android_locales.declared.locale_rule.LocaleRule.{LocaleRule}
 use Rattle.stack_diff.specs.names.Pairs.{PairOf, name_pairs}
 use Rattle.stack_diff.specs.Stacks.{StacksOf}
 use Rattle.diff_command.specs.DiffInputs.{DiffInputs}
@@ -9,16 +10,16 @@ use Rattle.diff_command.specs.DiffLines.{some_differ, diff_lines}
 use Rattle.diff_command.specs.Telling.{ToldOf, AreTold}
 
 -- what is told of labels, in lines, and it is done where nothing differs; or the line `node limit`
-abbrev pub told_output : StacksOf → List PairOf → Option (List ToldOf) → Output
-told_output stacks pairs (Some told) = record { status = negative_if (some_differ told); text = diff_lines stacks pairs told }
-told_output stacks pairs None = record { status = Negative; text = codes "node limit" ++ 10 ∷ [] }
+abbrev pub told_output : LocaleRule → StacksOf → List PairOf → Option (List ToldOf) → Output
+told_output rule stacks pairs (Some told) = record { status = negative_if (some_differ told); text = diff_lines rule stacks pairs told }
+told_output rule stacks pairs None = record { status = Negative; text = codes "node limit" ++ 10 ∷ [] }
 
 -- What is printed of some labels tells exactly what becomes of each, on which devices of the box; or trees for them have more
 -- nodes than the limit.
 pub record IsDiffOutput (pairs : List PairOf) (most : ℕ) (inputs : DiffInputs) (output : Output) : Type 0 where
   pub told : Option (List ToldOf)
   pub right : AreTold inputs.stacks inputs.sets pairs most told
-  pub printed : output ≡ told_output inputs.stacks pairs told
+  pub printed : output ≡ told_output inputs.rule inputs.stacks pairs told
 
 -- the same of all labels of both stacks
 abbrev pub IsWholeDiff : ℕ → DiffInputs → Output → Type 0

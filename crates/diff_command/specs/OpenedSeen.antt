@@ -12,7 +12,7 @@ stacks_seen old None = one_stack old
 stacks_seen old (Some new) = two_stacks old new
 
 abbrev pub opened_diff : OpenedDiff → DiffInputs
-opened_diff opened = record { stacks = stacks_seen opened.old opened.changed; sets = opened.members }
+opened_diff opened = record { stacks = stacks_seen opened.old opened.changed; sets = opened.members; rule = opened.rule }
 
 abbrev pub named_diff : NamedDiff → DiffInputs
-named_diff named = record { stacks = stacks_seen named.old named.changed; sets = named.members.now }
+named_diff named = record { stacks = stacks_seen named.old named.changed; sets = named.members.now; rule = named.rule }

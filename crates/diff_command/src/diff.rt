@@ -19,8 +19,8 @@ use crate::lines::{some_differ, write_lines};
 use crate::opened::{NamedDiff, OpenedDiff};
 use crate::told::Told;
 use command_base::{
-    Inputs, LayerFiles, LayerParts, Side, Status, Stop, ToolFault, asked_sets, asked_words,
-    file_bytes,
+    Inputs, LayerFiles, LayerParts, LocaleRule, Side, Status, Stop, ToolFault, asked_sets,
+    asked_words, file_bytes,
 };
 use names::pairs_named;
 use stack_diff::{NamePair, Stacks};
@@ -36,6 +36,8 @@ pub struct Diff<'a> {
     pub new: &'a str,
     /// Where the box lies.
     pub box_path: &'a str,
+    /// By which rule locales are compared.
+    pub locales: LocaleRule,
     /// How many nodes the trees that part the devices have together at most.
     pub max_nodes: u32,
     /// The words that ask for resources, or name a file of such words.
@@ -70,43 +72,36 @@ impl<'a> Diff<'a> {
         files: &DiffFiles,
         out: &mut W,
     ) -> Result<Status, Stop<'static>>
-        ensures answers { DiffsFiles W.contents out.old out.new self.now.max_nodes (Ok (diff_held files.now)) result }
+        ensures answers { DiffsFiles W.contents out.old out.new self.now (Ok (diff_held files.now)) result }
         ensures unwritten { IsKept out.old out.new result }
     {
         let old = files.old.layers(alloc)?;
         let new = files.new.layers(alloc)?;
-        diff_of(
-            alloc,
-            &old,
-            &new,
-            &files.box_json,
-            &files.words,
-            self.max_nodes,
-            out,
-        )
+        self.diff_of(alloc, &old, &new, &files.box_json, &files.words, out)
     }
-}
 
-// Reads the words, opens the layers, reads the box, finds what the words ask for, and then prints what becomes of it.
-#[tactic(auto, unfolding(crate::specs::Diff::diff_opened))]
-fn diff_of<W: Write + Drop>(
-    alloc: Global,
-    old: &[LayerParts<&[u8]>],
-    new: &[LayerParts<&[u8]>],
-    box_json: &[u8],
-    words: &[String],
-    max_nodes: u32,
-    out: &mut W,
-) -> Result<Status, Stop<'static>>
-    ensures answers { DiffsOpened W.contents out.old out.new max_nodes (diff_opened (map layer_bytes old.now) (map layer_bytes new.now) box_json.now (map string_bytes words.now)) result }
-    ensures unwritten { IsKept out.old out.new result }
-{
-    let sets = asked_sets(alloc, words)?;
-    let opened = OpenedDiff::read(alloc, old, new, box_json)?;
-    let named = opened.named(alloc)?;
-    let all = named.pairs(alloc)?;
-    let pairs = pairs_named(alloc, all, &sets)?;
-    Ok(named.diff(alloc, &pairs, max_nodes, out)?)
+    // Reads the words, opens the layers, reads the box, finds what the words ask for, and then prints what becomes of it.
+    #[tactic(auto, unfolding(crate::specs::Diff::diff_opened))]
+    fn diff_of<W: Write + Drop>(
+        &self,
+        alloc: Global,
+        old: &[LayerParts<&[u8]>],
+        new: &[LayerParts<&[u8]>],
+        box_json: &[u8],
+        words: &[String],
+        out: &mut W,
+    ) -> Result<Status, Stop<'static>>
+        ensures answers { DiffsOpened W.contents out.old out.new self.now.max_nodes
+            (diff_opened self.now.locales (map layer_bytes old.now) (map layer_bytes new.now) box_json.now (map string_bytes words.now)) result }
+        ensures unwritten { IsKept out.old out.new result }
+    {
+        let sets = asked_sets(alloc, words)?;
+        let opened = OpenedDiff::read_by(alloc, old, new, box_json, self.locales)?;
+        let named = opened.named(alloc)?;
+        let all = named.pairs(alloc)?;
+        let pairs = pairs_named(alloc, all, &sets)?;
+        Ok(named.diff(alloc, &pairs, self.max_nodes, out)?)
+    }
 }
 
 /// The bytes of two stacks of layers that are compared, and of a box, and the words of the argument that takes several.
@@ -179,22 +174,23 @@ impl<'o, 'a> NamedDiff<'o, 'a> {
     {
         let stacks = self.stacks();
         let told = tell_all(alloc, stacks, pairs, self.members, max_nodes)?;
-        print_told(stacks, pairs, told, out)
+        print_told(self.rule, stacks, pairs, told, out)
     }
 }
 
 fn print_told<W: Write + Drop>(
+    rule: LocaleRule,
     stacks: Stacks<'_, '_>,
     pairs: &[NamePair<'_>],
     told: Option<Vec<Told>>,
     out: &mut W,
 ) -> Result<Status, ToolFault>
-    ensures { Prints W.contents out.old out.new result (Ok (told_output (stacks_of stacks.entry) (map pair_of pairs.now) (option_map (λ all. map told_of all.items) told))) }
+    ensures { Prints W.contents out.old out.new result (Ok (told_output rule (stacks_of stacks.entry) (map pair_of pairs.now) (option_map (λ all. map told_of all.items) told))) }
 {
     let Some(told) = told else {
         out.write_all(b"node limit\n")?;
         return Ok(Status::Negative);
     };
-    write_lines(stacks, pairs, &told, out)?;
+    write_lines(rule, stacks, pairs, &told, out)?;
     Ok(Status::negative_if(some_differ(&told)))
 }

@@ -12,22 +12,24 @@ ghost use Rattle.diff_command.specs.DiffLines.{changed_block, told_lines, label_
 
 use crate::name_lines::{write_added, write_removed, write_same};
 use crate::told::Told;
+use command_base::{LocaleRule, rows_set_aside};
 use stack_diff::{Label, NamePair, NamedStack, Stacks, write_label};
 use std::io::{self, Write};
 
 /// Writes the lines of labels, of which this is told, and those of the stacks.
 #[tactic(auto, unfolding(crate::specs::DiffLines::diff_lines))]
 pub(crate) fn write_lines<W: Write + Drop>(
+    rule: LocaleRule,
     stacks: Stacks<'_, '_>,
     pairs: &[NamePair<'_>],
     told: &[Told],
     out: &mut W,
 ) -> io::Result<()>
-    ensures { Writes W.contents out.old out.new result (diff_lines (stacks_of stacks.entry) (map pair_of pairs.now) (map told_of told.now)) }
+    ensures { Writes W.contents out.old out.new result (diff_lines rule (stacks_of stacks.entry) (map pair_of pairs.now) (map told_of told.now)) }
 {
     write_labels(pairs, told, out)?;
     write_shared_names(stacks, out)?;
-    write_set_aside(stacks, out)?;
+    write_set_aside(rule, stacks, out)?;
     write_same(same_count(told), out)
 }
 
@@ -103,11 +105,15 @@ fn shared_count(stack: &NamedStack<'_, '_>) -> usize
 }
 
 #[tactic(auto, unfolding(crate::specs::DiffLines::set_aside_line))]
-fn write_set_aside<W: Write + Drop>(stacks: Stacks<'_, '_>, out: &mut W) -> io::Result<()>
-    ensures { Writes W.contents out.old out.new result (set_aside_line (stacks_of stacks.entry)) }
+fn write_set_aside<W: Write + Drop>(
+    rule: LocaleRule,
+    stacks: Stacks<'_, '_>,
+    out: &mut W,
+) -> io::Result<()>
+    ensures { Writes W.contents out.old out.new result (set_aside_line rule (stacks_of stacks.entry)) }
 {
-    let old = stacks.old_stack().stack().set_aside();
-    let new = stacks.new_stack().stack().set_aside();
+    let old = rows_set_aside(stacks.old_stack().stack(), rule);
+    let new = rows_set_aside(stacks.new_stack().stack(), rule);
     write_counts(b"set-aside", old, new, out)
 }
 

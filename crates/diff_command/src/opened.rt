@@ -7,9 +7,9 @@ ghost use Rattle.command_base.specs.Output.{IsOfInput};
 ghost use Rattle.command_base.specs.StackBytes.{stack_on_side};
 ghost use Rattle.command_base.specs.StackBytesSeen.{layer_bytes};
 ghost use Rattle.command_base.specs.declared.side.Side.TheVariants.{New};
-ghost use Rattle.diff_command.specs.DiffInputs.{have_same_bytes, diff_inputs};
+ghost use Rattle.diff_command.specs.DiffInputs.{have_same_bytes, diff_inputs, diff_inputs_by};
 
-use command_base::{LayerParts, Side, ToolFault, open_side};
+use command_base::{LayerParts, LocaleRule, Side, ToolFault, open_side};
 use stack_diff::{ConfigBox, NamePair, NamedStack, Stack, Stacks, name_pairs};
 use std::alloc::{AllocError, Global};
 
@@ -20,6 +20,8 @@ pub struct OpenedDiff<'a> {
     /// The new stack; none where its layers have the same bytes as the old ones, so that the old stack serves for both.
     changed: Option<Stack<'a>>,
     members: ConfigBox,
+    /// By which rule the locales of the box are compared.
+    rule: LocaleRule,
 }
 
 /// The same, with the names of both stacks.
@@ -28,13 +30,13 @@ pub struct NamedDiff<'o, 'a> {
     old: NamedStack<'o, 'a>,
     changed: Option<NamedStack<'o, 'a>>,
     pub(crate) members: &'o ConfigBox,
+    pub(crate) rule: LocaleRule,
 }
 
 impl<'a> OpenedDiff<'a> {
     ghost use Rattle.diff_command.specs.OpenedSeen.{named_diff, opened_diff};
 
     /// Opens the old layers, then the new ones, and then reads the box.
-    #[tactic(auto, unfolding(crate::specs::DiffInputs::diff_inputs))]
     pub fn read(
         alloc: Global,
         old: &[LayerParts<&'a [u8]>],
@@ -44,13 +46,29 @@ impl<'a> OpenedDiff<'a> {
         ensures value { GivesOr OutOfMemory opened_diff result (diff_inputs (map layer_bytes old.now) (map layer_bytes new.now) box_json.now) }
         ensures of_input { IsOfInput result }
     {
+        OpenedDiff::read_by(alloc, old, new, box_json, LocaleRule::LanguageAndRegion)
+    }
+
+    /// The same, where locales are read and compared by a rule.
+    #[tactic(auto, unfolding(crate::specs::DiffInputs::diff_inputs_by))]
+    pub fn read_by(
+        alloc: Global,
+        old: &[LayerParts<&'a [u8]>],
+        new: &[LayerParts<&'a [u8]>],
+        box_json: &[u8],
+        rule: LocaleRule,
+    ) -> Result<OpenedDiff<'a>, ToolFault>
+        ensures value { GivesOr OutOfMemory opened_diff result (diff_inputs_by rule (map layer_bytes old.now) (map layer_bytes new.now) box_json.now) }
+        ensures of_input { IsOfInput result }
+    {
         let stack = open_side(alloc, Side::Old, old)?;
         let changed = open_changed(alloc, old, new)?;
-        let members = ConfigBox::read(alloc, box_json)?;
+        let members = ConfigBox::read_by(alloc, box_json, rule)?;
         Ok(OpenedDiff {
             old: stack,
             changed,
             members,
+            rule,
         })
     }
 
@@ -67,6 +85,7 @@ impl<'a> OpenedDiff<'a> {
             old,
             changed,
             members: &self.members,
+            rule: self.rule,
         })
     }
 }

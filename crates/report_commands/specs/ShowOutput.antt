@@ -9,8 +9,9 @@ use Rattle.command_base.specs.Output.{Output}
 use Rattle.command_base.specs.StackBytes.{LayerBytes, stack_in}
 use Rattle.command_base.specs.MapErr.{map_err}
 use Rattle.command_base.specs.answer_text.OnLine.{on_line}
+use Rattle.command_base.specs.answer_text.config_record.android_locales.declared.locale_rule.LocaleRule.TheVariants.{Android}
 use Rattle.command_base.specs.cert_tree.Certificate.{GoalOf}
-use Rattle.command_base.specs.cert_tree.CertJson.{cert_in}
+use Rattle.command_base.specs.cert_tree.CertJson.{cert_in_by}
 use Rattle.report_commands.specs.TreeText.{certificate_text}
 use Rattle.report_commands.specs.DotText.{dot_text, no_goal_line}
 
@@ -19,11 +20,12 @@ pub record ShowInputs : Type 0 where
   pub stack : List LayerOf
   pub trees : List GoalOf
 
--- What these layers and a certificate's text mean, or the first fault. The layers are read before the certificate.
+-- What these layers and a certificate's text mean, or the first fault. The layers are read before the certificate. It does not
+-- say by which rule it was made, so its locales are read as a phone compares them: the texts of the other rule are read so too.
 unfoldable pub show_inputs : List LayerBytes → List ℕ → Result ShowInputs ToolFault
 show_inputs layers cert_json = do
   stack ← stack_in layers
-  trees ← map_err fault_of_certificate (cert_in cert_json)
+  trees ← map_err fault_of_certificate (cert_in_by Android cert_json)
   Ok (record { stack = stack; trees = trees })
 
 -- What `show` prints of layers and a certificate that were read: it is done.

@@ -24,8 +24,8 @@ use crate::numbered_goal::NumberedGoal;
 use crate::numbered_goals::numbered_goals;
 use answer_text::write_on_line;
 use command_base::{
-    Cert, CertGoal, Inputs, LayerFiles, LayerParts, Stack, Status, Stop, ToolFault, file_bytes,
-    open_stack,
+    Cert, CertGoal, Inputs, LayerFiles, LayerParts, LocaleRule, Stack, Status, Stop, ToolFault,
+    file_bytes, open_stack,
 };
 use std::alloc::{AllocError, Global};
 use std::io::{self, Write};
@@ -151,7 +151,7 @@ impl<'a> OpenedTrees<'a> {
         ensures of_input { IsOfInput result }
     {
         let stack = open_stack(alloc, layers)?;
-        let certificate = Cert::read(alloc, certificate)?;
+        let certificate = Cert::read_by(alloc, certificate, LocaleRule::Android)?;
         Ok(OpenedTrees { stack, certificate })
     }
 

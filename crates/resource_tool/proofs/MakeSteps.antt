@@ -4,7 +4,7 @@ use Rattle.std.specs.List.{All}
 use Rattle.std.specs.Io.KnownBytes.{Appends}
 use Rattle.std.proofs.lemmas.List.{get_or-map, length-map}
 use Rattle.std.proofs.lemmas.List.Elements.{All-weaker}
-use Rattle.table_commands.specs.config_record.android_locales.declared.locale_rule.LocaleRule.TheVariants.{LanguageAndRegion}
+use Rattle.table_commands.specs.config_record.android_locales.declared.locale_rule.LocaleRule.{LocaleRule}
 use Rattle.resource_text.specs.cert_maker.box_answers.NumberSet.{SetOf}
 use Rattle.resource_text.specs.cert_maker.config_box.ByRule.{IsByRule}
 use Rattle.resource_text.specs.cert_maker.FitsBox.{FitsBox}
@@ -41,30 +41,30 @@ not_done e = absurd cc
 
 -- the line of trees that are accepted, and have few enough nodes
 pub line-read : (asked : List GoalSeen) (most : ℕ) (inputs : MakeInputs) (trees : List GoalOf) → TreesReadBack trees → IsAccepted inputs.stack inputs.sets asked trees → node_count trees ≤ most
-    → All (λ (tree : GoalOf). All (NodeFits LanguageAndRegion) tree.nodes) trees → most ≤ most_nodes → All GoalFits asked → IsReadAccepted asked inputs (certificate_line trees)
+    → All (λ (tree : GoalOf). All (NodeFits inputs.rule) tree.nodes) trees → most ≤ most_nodes → All GoalFits asked → IsReadAccepted asked inputs (certificate_line trees)
 unfolding TreesReadBack
 line-read asked most inputs trees again accepted within fits few styles =
     record {
       trees = trees;
-      means = again (record { few = omega (arith, few, within); styles = All-goals trees asked accepted.goals styles; nodes = fits });
+      means = again inputs.rule (record { few = omega (arith, few, within); styles = All-goals trees asked accepted.goals styles; nodes = fits });
       accepted = accepted;
     }
 
 -- the trees of a box fit by the rule of its locales
-pub trees-fit : (sets : List SetOf) (trees : List GoalOf) → IsByRule LanguageAndRegion sets → All (λ (tree : GoalOf). All (FitsBox sets) tree.nodes) trees → All (λ (tree : GoalOf). All (NodeFits LanguageAndRegion) tree.nodes) trees
-trees-fit sets trees by fit =
-    All-weaker (λ (tree : GoalOf). All (FitsBox sets) tree.nodes) (λ (tree : GoalOf). All (NodeFits LanguageAndRegion) tree.nodes)
-    (λ tree each. All-weaker (FitsBox sets) (NodeFits LanguageAndRegion) (λ node fits. fits LanguageAndRegion by) tree.nodes each) trees fit
+pub trees-fit : (rule : LocaleRule) (sets : List SetOf) (trees : List GoalOf) → IsByRule rule sets → All (λ (tree : GoalOf). All (FitsBox sets) tree.nodes) trees → All (λ (tree : GoalOf). All (NodeFits rule) tree.nodes) trees
+trees-fit rule sets trees by fit =
+    All-weaker (λ (tree : GoalOf). All (FitsBox sets) tree.nodes) (λ (tree : GoalOf). All (NodeFits rule) tree.nodes)
+    (λ tree each. All-weaker (FitsBox sets) (NodeFits rule) (λ node fits. fits rule by) tree.nodes each) trees fit
 
-reads-back : (asked : List GoalSeen) (most : ℕ) (inputs : MakeInputs) (made : Made) → IsByRule LanguageAndRegion inputs.sets → LineReadsBack made → IsMade inputs.stack inputs.sets asked most made → CanBeWritten inputs.sets made
+reads-back : (asked : List GoalSeen) (most : ℕ) (inputs : MakeInputs) (made : Made) → IsByRule inputs.rule inputs.sets → LineReadsBack made → IsMade inputs.stack inputs.sets asked most made → CanBeWritten inputs.sets made
     → (made_output made).status ≡ Done → most ≤ most_nodes → All GoalFits asked → IsReadAccepted asked inputs (made_output made).text
 unfolding made_text
-reads-back asked most inputs (Cert certificate) by again right fits done few styles = line-read asked most inputs (goals_of certificate) again right.0 right.2 (trees-fit inputs.sets (goals_of certificate) by fits) few styles
+reads-back asked most inputs (Cert certificate) by again right fits done few styles = line-read asked most inputs (goals_of certificate) again right.0 right.2 (trees-fit inputs.rule inputs.sets (goals_of certificate) by fits) few styles
 reads-back asked most inputs (Counter g device end) by again right fits done few styles = absurd (not_done done)
 reads-back asked most inputs NodeLimit by again right fits done few styles = absurd (not_done done)
 
 -- the answer that was printed is allowed, and about this goal
-pub printed-about : {W : Type 0} (contents : W → Option (List ℕ)) (old new : W) (asked : List GoalSeen) (most : ℕ) (inputs : MakeInputs) (status : Status) (made : Made) (about : Option ℕ) → IsByRule LanguageAndRegion inputs.sets
+pub printed-about : {W : Type 0} (contents : W → Option (List ℕ)) (old new : W) (asked : List GoalSeen) (most : ℕ) (inputs : MakeInputs) (status : Status) (made : Made) (about : Option ℕ) → IsByRule inputs.rule inputs.sets
     → Prints contents old new (Ok status) (Ok (made_output made)) → LineReadsBack made → IsMade inputs.stack inputs.sets asked most made
     → IsLeast inputs.stack inputs.sets asked most made → CanBeWritten inputs.sets made → about ≡ goal_of_made made
     → PrintsOneOf (IsMakeOutputAbout asked most about) contents old new (Ok status) (Ok inputs)

@@ -1,7 +1,6 @@
 -- What was made is printed where goals are left out, and a certificate reads back.
 use Rattle.std.proofs.Common.{◌≡◌, ℕ, ◌≤◌, inl, inr, List, [], ◌∷◌, Option, Result, Ok, Err, ap, subst, refl}
 use Rattle.std.specs.List.{All}
-use Rattle.table_commands.specs.config_record.android_locales.declared.locale_rule.LocaleRule.TheVariants.{LanguageAndRegion}
 use Rattle.resource_text.specs.cert_maker.config_box.ByRule.{IsByRule}
 use Rattle.resource_text.specs.cert_maker.cert_tree.Certificate.{GoalOf, GoalFits, NodeFits, goals_of, most_nodes, node_count}
 use Rattle.resource_text.specs.cert_maker.res_value.Goal.{GoalSeen}
@@ -21,18 +20,18 @@ use Rattle.resource_tool.specs.Answered.{PrintsBothOneOf}
 use Rattle.resource_tool.proofs.MakeSteps.{trees-fit, line-read, not_done}
 
 kept-read : (asked : List GoalSeen) (most : ℕ) (inputs : MakeInputs) (trees : List GoalOf) → TreesReadBack trees → IsAccepted inputs.stack inputs.sets asked trees → node_count trees ≤ most
-    → All (λ (tree : GoalOf). All (NodeFits LanguageAndRegion) tree.nodes) trees → (kept_output trees).status ≡ Done → most ≤ most_nodes → All GoalFits asked → IsReadAccepted asked inputs (kept_output trees).text
+    → All (λ (tree : GoalOf). All (NodeFits inputs.rule) tree.nodes) trees → (kept_output trees).status ≡ Done → most ≤ most_nodes → All GoalFits asked → IsReadAccepted asked inputs (kept_output trees).text
 kept-read asked most inputs [] again accepted within fits done few styles = absurd (not_done done)
 kept-read asked most inputs (tree ∷ trees) again accepted within fits done few styles = line-read asked most inputs (tree ∷ trees) again accepted within fits few styles
 
-reads-back : (asked : List GoalSeen) (most : ℕ) (inputs : MakeInputs) (omitting : Omitting) → IsByRule LanguageAndRegion inputs.sets → OmittingReadsBack omitting → IsOmitting inputs.stack inputs.sets asked most omitting
+reads-back : (asked : List GoalSeen) (most : ℕ) (inputs : MakeInputs) (omitting : Omitting) → IsByRule inputs.rule inputs.sets → OmittingReadsBack omitting → IsOmitting inputs.stack inputs.sets asked most omitting
     → (omit_output inputs.stack asked omitting).output.status ≡ Done → most ≤ most_nodes → All GoalFits (kept_goals asked omitting)
     → IsReadAccepted (kept_goals asked omitting) inputs (omit_output inputs.stack asked omitting).output.text
 reads-back asked most inputs (Cert certificate omitted) by again right done few styles =
-    kept-read (kept_goals asked (Cert certificate omitted)) most inputs (goals_of certificate) again right.right.0 right.right.2 (trees-fit inputs.sets (goals_of certificate) by right.fits) done few styles
+    kept-read (kept_goals asked (Cert certificate omitted)) most inputs (goals_of certificate) again right.right.0 right.right.2 (trees-fit inputs.rule inputs.sets (goals_of certificate) by right.fits) done few styles
 reads-back asked most inputs NodeLimit by again right done few styles = absurd (not_done done)
 
-allowed : (asked : List GoalSeen) (most : ℕ) (inputs : MakeInputs) (omitting : Omitting) → IsByRule LanguageAndRegion inputs.sets → OmittingReadsBack omitting → IsOmitting inputs.stack inputs.sets asked most omitting
+allowed : (asked : List GoalSeen) (most : ℕ) (inputs : MakeInputs) (omitting : Omitting) → IsByRule inputs.rule inputs.sets → OmittingReadsBack omitting → IsOmitting inputs.stack inputs.sets asked most omitting
     → IsOmitOutput asked most inputs (omit_output inputs.stack asked omitting).output (omit_output inputs.stack asked omitting).lines
 allowed asked most inputs omitting by again right = record { omitting = omitting; right = right; printed = refl; reads_back = reads-back asked most inputs omitting by again right }
 
@@ -41,7 +40,7 @@ output_or other (Ok output) = output
 output_or other (Err fault) = other
 
 pub omitting-printed : {W V : Type 0} (contents : W → Option (List ℕ)) (says : V → Option (List ℕ)) (old new : W) (before after : V) (asked : List GoalSeen) (most : ℕ) (inputs : MakeInputs) (result : Result Status ToolFault)
-    (omitting : Omitting) → IsByRule LanguageAndRegion inputs.sets → PrintsBoth contents says old new before after result (Ok (omit_output inputs.stack asked omitting)) → UnlessMemory result (OmittingReadsBack omitting)
+    (omitting : Omitting) → IsByRule inputs.rule inputs.sets → PrintsBoth contents says old new before after result (Ok (omit_output inputs.stack asked omitting)) → UnlessMemory result (OmittingReadsBack omitting)
     → IsOmitting inputs.stack inputs.sets asked most omitting → PrintsBothOneOf (IsOmitOutput asked most) contents says old new before after result (Ok inputs)
 omitting-printed contents says old new before after asked most inputs (Ok status) omitting by (text, lines, is, put, told) again right =
     let meant = omit_output inputs.stack asked omitting in
@@ -67,7 +66,7 @@ omitting-printed contents says old new before after asked most inputs (Err (faul
 omitting-printed contents says old new before after asked most inputs (Err (faults.Box fault)) omitting by printed again right = absurd (let e = printed.0 in cc)
 omitting-printed contents says old new before after asked most inputs (Err (faults.Certificate fault)) omitting by printed again right = absurd (let e = printed.0 in cc)
 
-told-first : {W V : Type 0} (says : V → Option (List ℕ)) (old new : W) (before after : V) (asked : List GoalSeen) (most : ℕ) (inputs : MakeInputs) (omitting : Omitting) → IsByRule LanguageAndRegion inputs.sets
+told-first : {W V : Type 0} (says : V → Option (List ℕ)) (old new : W) (before after : V) (asked : List GoalSeen) (most : ℕ) (inputs : MakeInputs) (omitting : Omitting) → IsByRule inputs.rule inputs.sets
     → ToldFirst says old new before after (omit_output inputs.stack asked omitting).lines → OmittingReadsBack omitting → IsOmitting inputs.stack inputs.sets asked most omitting
     → LinesFirst (IsOmitOutput asked most) says old new before after (Ok inputs)
 told-first says old new before after asked most inputs omitting by (inl same) again right = inl same
@@ -76,7 +75,7 @@ told-first says old new before after asked most inputs omitting by (inr told) ag
     inr (inputs, meant.output, meant.lines, refl, allowed asked most inputs omitting by again right, told)
 
 pub lines-first : {W V : Type 0} (contents : W → Option (List ℕ)) (says : V → Option (List ℕ)) (old new : W) (before after : V) (asked : List GoalSeen) (most : ℕ) (inputs : MakeInputs) (result : Result Status ToolFault)
-    (omitting : Omitting) → IsByRule LanguageAndRegion inputs.sets → PrintsBoth contents says old new before after result (Ok (omit_output inputs.stack asked omitting))
+    (omitting : Omitting) → IsByRule inputs.rule inputs.sets → PrintsBoth contents says old new before after result (Ok (omit_output inputs.stack asked omitting))
     → ToldFirst says old new before after (omit_output inputs.stack asked omitting).lines → UnlessMemory result (OmittingReadsBack omitting) → IsOmitting inputs.stack inputs.sets asked most omitting
     → LinesFirst (IsOmitOutput asked most) says old new before after (Ok inputs)
 lines-first contents says old new before after asked most inputs (Ok status) omitting by printed first again right = told-first says old new before after asked most inputs omitting by first again right

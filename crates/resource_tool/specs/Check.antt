@@ -1,6 +1,6 @@
 -- What the words of `check` ask, from what the places have to the answer. First come the words of files, then the faults of
 -- inputs, and then the first name that is not there.
-use Rattle.std.specs.Prelude.{ℕ, ◌+◌, Bool, List, map, length, take, Option, Result, Ok}
+use Rattle.std.specs.Prelude.{ℕ, ◌+◌, List, map, length, take, Option, Result, Ok}
 use Rattle.contract_words.specs.Faults.{◌>>=◌}
 use Rattle.contract_words.specs.Sequences.{joined_each}
 use Rattle.json_input.specs.Each.{each}
@@ -14,12 +14,13 @@ use Rattle.table_commands.specs.command_base.Inputs.{Places, file_of}
 use Rattle.table_commands.specs.command_base.StackBytes.{LayerBytes}
 use Rattle.table_commands.specs.command_base.Stop.{StopOf}
 use Rattle.table_commands.specs.command_base.names.NamedGoals.{goals_named}
+use Rattle.table_commands.specs.config_record.android_locales.declared.locale_rule.LocaleRule.{LocaleRule}
 use Rattle.resource_text.specs.cert_maker.res_value.Goal.{GoalSeen, goal_seen}
 use Rattle.resource_tool.specs.declared.check.Check.{Check}
 use Rattle.resource_tool.specs.declared.check.CheckFiles.{CheckFiles}
 use Rattle.resource_tool.specs.declared.check.OpenCheck.{OpenCheck}
 use Rattle.resource_tool.specs.Answered.{PrintsBothOneOf}
-use Rattle.resource_tool.specs.CheckOutput.{CheckInputs, IsCheckAnswer, check_inputs}
+use Rattle.resource_tool.specs.CheckOutput.{CheckInputs, IsCheckAnswer, check_inputs_by}
 use Rattle.resource_tool.specs.OpenedSeen.{opened_cert}
 
 -- ---- the files
@@ -57,10 +58,10 @@ pub record OpenCheckOf : Type 0 where
 abbrev pub check_seen : OpenCheck → OpenCheckOf
 check_seen check = record { opened = opened_cert check.opened; goals = map goal_seen check.goals.items }
 
-unfoldable pub check_opened : List LayerBytes → List ℕ → List ℕ → List (List ℕ) → Result OpenCheckOf StopOf
-check_opened layers box_json certificate words = do
+unfoldable pub check_opened : LocaleRule → List LayerBytes → List ℕ → List ℕ → List (List ℕ) → Result OpenCheckOf StopOf
+check_opened rule layers box_json certificate words = do
   named ← each goal_asked words
-  opened ← read_or_stop (check_inputs layers box_json certificate)
+  opened ← read_or_stop (check_inputs_by rule layers box_json certificate)
   goals ← found_or_stop (goals_named opened.stack named)
   Ok (record { opened = opened; goals = goals })
 
@@ -75,13 +76,13 @@ first_opened meant = meant >>= λ check. Ok (with_first check)
 -- ---- the answer
 
 -- from the files, if they are read
-abbrev pub ChecksFiles : {W V : Type 0} → (W → Option (List ℕ)) → (V → Option (List ℕ)) → W → W → V → V → Bool → Result CheckBytes StopOf → Result Status Stop → Type 0
-ChecksFiles contents says old new before after names read result =
-    CarriesOut (λ check done. PrintsBothOneOf (IsCheckAnswer check.goals names) contents says old new before after done (Ok check.opened))
-    (read >>= λ files. check_opened files.layers files.box_json files.certificate files.words) result
+abbrev pub ChecksFiles : {W V : Type 0} → (W → Option (List ℕ)) → (V → Option (List ℕ)) → W → W → V → V → Check → Result CheckBytes StopOf → Result Status Stop → Type 0
+ChecksFiles contents says old new before after check read result =
+    CarriesOut (λ asked done. PrintsBothOneOf (IsCheckAnswer asked.goals check.names) contents says old new before after done (Ok asked.opened))
+    (read >>= λ files. check_opened check.locales files.layers files.box_json files.certificate files.words) result
 
 -- from what the places have
 abbrev pub Checks : {W V : Type 0} → (W → Option (List ℕ)) → (V → Option (List ℕ)) → W → W → V → V → Places → Check → Result Status Stop → Type 0
 Checks contents says old new before after places check result =
-    ChecksFiles contents says old new before after check.names
+    ChecksFiles contents says old new before after check
     (check_files places check.layers.now check.box_path.now check.certificate.now (texts_of check.goals)) result

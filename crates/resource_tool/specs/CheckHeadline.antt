@@ -1,17 +1,12 @@
 -- What a verdict on a certificate promises, from the bytes of all inputs.
 use Rattle.std.specs.Prelude.{◌≡◌, ℕ, List, Option, Ok}
 use Rattle.std.specs.Io.KnownBytes.{Appends}
-use Rattle.resource_text.specs.cert_maker.box_answers.NumberSet.{SetOf}
-use Rattle.resource_text.specs.cert_maker.config_box.BoxJson.{box_in}
-use Rattle.table_commands.specs.overlay_map.Layer.{LayerOf}
-use Rattle.resource_text.specs.cert_maker.cert_tree.Certificate.{GoalOf}
 use Rattle.resource_text.specs.cert_maker.res_value.Goal.{GoalSeen}
-use Rattle.resource_text.specs.cert_maker.cert_tree.CertJson.{cert_in}
 use Rattle.resource_text.specs.cert_maker.cert_checker.declared.verdict.Verdict.{Verdict}
 use Rattle.resource_text.specs.cert_maker.cert_checker.Headline.{Headline}
 use Rattle.table_commands.specs.command_base.declared.status.Status.{Status}
-use Rattle.table_commands.specs.command_base.StackBytes.{LayerBytes, stack_in}
-use Rattle.resource_tool.specs.CheckOutput.{status_of_verdict, check_text}
+use Rattle.table_commands.specs.command_base.StackBytes.{LayerBytes}
+use Rattle.resource_tool.specs.CheckOutput.{CheckInputs, check_inputs, check_text, status_of_verdict}
 
 -- The bytes mean layers, a box and a certificate, and a verdict was printed, of which the headline holds: if the checker
 -- accepts a certificate for a stack of tables and overlays, a box and named goals, then for every configuration in the box
@@ -20,13 +15,9 @@ use Rattle.resource_tool.specs.CheckOutput.{status_of_verdict, check_text}
 -- stated rule fails. (Of an id no bag, theme or attribute is asked. The goals are those that are asked, in their order. A
 -- box is never empty: `ConfigBox::read` promises `IsBox` of what the bytes mean.)
 pub record HeadlineHolds (layers : List LayerBytes) (box_json cert_json : List ℕ) (asked : List GoalSeen) (old new : Option (List ℕ)) (status : Status) : Type 0 where
-  pub stack : List LayerOf
-  pub sets : List SetOf
-  pub trees : List GoalOf
+  pub inputs : CheckInputs
   pub verdict : Verdict
-  pub means_stack : stack_in layers ≡ Ok stack
-  pub means_box : box_in box_json ≡ Ok sets
-  pub means_certificate : cert_in cert_json ≡ Ok trees
+  pub means : check_inputs layers box_json cert_json ≡ Ok inputs
   pub ends : status ≡ status_of_verdict verdict
-  pub printed : Appends old new (check_text (record { stack = stack; sets = sets; trees = trees }) verdict)
-  pub holds : Headline stack sets asked trees verdict
+  pub printed : Appends old new (check_text inputs verdict)
+  pub holds : Headline inputs.stack inputs.sets asked inputs.trees verdict

@@ -1,13 +1,14 @@
 -- What the command `check` prints.
 use Rattle.std.specs.Prelude.{◌≡◌, ℕ, ◌++◌, Bool, List, Option, Some, None, Result, Ok}
 use Rattle.contract_words.specs.Faults.{◌>>=◌}
+use Rattle.table_commands.specs.config_record.android_locales.declared.locale_rule.LocaleRule.{LocaleRule}
+use Rattle.table_commands.specs.config_record.android_locales.declared.locale_rule.LocaleRule.TheVariants.{LanguageAndRegion}
 use Rattle.resource_text.specs.cert_maker.box_answers.NumberSet.{SetOf}
-use Rattle.resource_text.specs.cert_maker.config_box.BoxJson.{box_in}
+use Rattle.resource_text.specs.cert_maker.config_box.BoxJson.{box_in_by}
 use Rattle.table_commands.specs.overlay_map.Layer.{LayerOf}
-use Rattle.table_commands.specs.overlay_map.SetAside.{set_aside_in_stack}
 use Rattle.resource_text.specs.cert_maker.cert_tree.Certificate.{GoalOf}
 use Rattle.resource_text.specs.cert_maker.res_value.Goal.{GoalSeen}
-use Rattle.resource_text.specs.cert_maker.cert_tree.CertJson.{cert_in}
+use Rattle.resource_text.specs.cert_maker.cert_tree.CertJson.{cert_in_by}
 use Rattle.resource_text.specs.cert_maker.cert_checker.declared.verdict.Verdict.{Verdict}
 use Rattle.resource_text.specs.cert_maker.cert_checker.declared.verdict.Verdict.TheVariants.{Accepted, Rejected}
 use Rattle.resource_text.specs.cert_maker.cert_checker.Verdict.{IsVerdict}
@@ -19,26 +20,32 @@ use Rattle.resource_text.specs.VerdictText.{verdict_text}
 use Rattle.table_commands.specs.command_base.declared.status.Status.{Status}
 use Rattle.table_commands.specs.command_base.declared.status.Status.TheVariants.{Done, Negative}
 use Rattle.table_commands.specs.command_base.Output.{Output}
+use Rattle.table_commands.specs.command_base.SetAside.{rows_set_aside}
 use Rattle.table_commands.specs.command_base.StackBytes.{LayerBytes, stack_in}
 use Rattle.table_commands.specs.command_base.MapErr.{map_err}
 use Rattle.resource_tool.specs.GoalTold.{goal_told}
 
 -- ---- the inputs
 
--- layers, the sets of a box, and a certificate's goals with their trees
+-- layers, the sets of a box, a certificate's goals with their trees, and the rule by which locales are compared
 pub record CheckInputs : Type 0 where
   pub stack : List LayerOf
   pub sets : List SetOf
   pub trees : List GoalOf
+  pub rule : LocaleRule
 
--- What these layers, a box's text and a certificate's text mean, or the first fault. The layers are read before the
--- box, and that before the certificate.
-unfoldable pub check_inputs : List LayerBytes → List ℕ → List ℕ → Result CheckInputs ToolFault
-check_inputs layers box_json cert_json = do
+-- What these layers, a box's text and a certificate's text mean, whose locales are read by this rule, or the first fault. The
+-- layers are read before the box, and that before the certificate.
+unfoldable pub check_inputs_by : LocaleRule → List LayerBytes → List ℕ → List ℕ → Result CheckInputs ToolFault
+check_inputs_by rule layers box_json cert_json = do
   stack ← stack_in layers
-  sets ← map_err fault_of_box (box_in box_json)
-  trees ← map_err fault_of_certificate (cert_in cert_json)
-  Ok (record { stack = stack; sets = sets; trees = trees })
+  sets ← map_err fault_of_box (box_in_by rule box_json)
+  trees ← map_err fault_of_certificate (cert_in_by rule cert_json)
+  Ok (record { stack = stack; sets = sets; trees = trees; rule = rule })
+
+-- by language and region
+abbrev pub check_inputs : List LayerBytes → List ℕ → List ℕ → Result CheckInputs ToolFault
+check_inputs = check_inputs_by LanguageAndRegion
 
 -- ---- the output
 
@@ -49,7 +56,7 @@ status_of_verdict (Rejected goal node rule shown) = Negative
 
 -- the verdict, and a line with the number of rows of all layers that are set aside
 unfoldable pub check_text : CheckInputs → Verdict → List ℕ
-check_text inputs verdict = verdict_text verdict inputs.trees ++ set_aside_line (set_aside_in_stack inputs.stack)
+check_text inputs verdict = verdict_text verdict inputs.trees ++ set_aside_line (rows_set_aside inputs.rule inputs.stack)
 
 -- A verdict is printed that is right: accepted where no rule fails at any node; else the first fault, and devices that show
 -- it. What it says of all devices of the box holds.

@@ -1,8 +1,8 @@
 -- The line of a certificate, read again. (Cited by contracts of this crate alone.)
 use Rattle.std.specs.Prelude.{◌≡◌, List, Result, Ok, Err}
-use Rattle.table_commands.specs.config_record.android_locales.declared.locale_rule.LocaleRule.TheVariants.{LanguageAndRegion}
+use Rattle.table_commands.specs.config_record.android_locales.declared.locale_rule.LocaleRule.{LocaleRule}
 use Rattle.resource_text.specs.cert_maker.cert_tree.Certificate.{GoalOf, CertFits, goals_of}
-use Rattle.resource_text.specs.cert_maker.cert_tree.CertJson.{cert_in}
+use Rattle.resource_text.specs.cert_maker.cert_tree.CertJson.{cert_in_by}
 use Rattle.resource_text.specs.cert_maker.declared.made.Made.{Made}
 use Rattle.resource_text.specs.cert_maker.declared.made.Made.TheVariants.{Cert, Counter, NodeLimit}
 use Rattle.resource_text.specs.cert_maker.declared.omitted.Omitting.{Omitting}
@@ -12,9 +12,9 @@ use Rattle.table_commands.specs.command_base.declared.fault.ToolFault.{ToolFault
 use Rattle.table_commands.specs.command_base.declared.fault.ToolFault.TheVariants.{OutOfMemory}
 use Rattle.resource_tool.specs.MakeOutput.{certificate_line}
 
--- what is printed of trees within the limits is read as the same
+-- what is printed of trees within the limits is read as the same, by the rule by which they fit
 unfoldable pub TreesReadBack : List GoalOf → Type 0
-TreesReadBack trees = CertFits LanguageAndRegion trees → cert_in (certificate_line trees) ≡ Ok trees
+TreesReadBack trees = (rule : LocaleRule) → CertFits rule trees → cert_in_by rule (certificate_line trees) ≡ Ok trees
 
 abbrev pub LineReadsBack : Made → Type 0
 LineReadsBack (Cert certificate) = TreesReadBack (goals_of certificate)

@@ -14,11 +14,12 @@ use Rattle.table_commands.specs.command_base.Output.{Output}
 use Rattle.table_commands.specs.command_base.StackBytes.{LayerBytes}
 use Rattle.table_commands.specs.command_base.Stop.{StopOf}
 use Rattle.table_commands.specs.command_base.names.NamedGoals.{goals_named}
+use Rattle.table_commands.specs.config_record.android_locales.declared.locale_rule.LocaleRule.{LocaleRule}
 use Rattle.resource_text.specs.cert_maker.res_value.Goal.{GoalSeen, goal_seen}
 use Rattle.resource_tool.specs.declared.make.Make.{Make}
 use Rattle.resource_tool.specs.declared.make.OpenMake.{OpenMake}
 use Rattle.resource_tool.specs.Answered.{PrintsBothOneOf}
-use Rattle.resource_tool.specs.MakeOutput.{MakeInputs, IsMakeAnswer, make_inputs}
+use Rattle.resource_tool.specs.MakeOutput.{MakeInputs, IsMakeAnswer, make_inputs_by}
 use Rattle.resource_tool.specs.OmitOutput.{IsOmitOutput, LinesFirst}
 use Rattle.resource_tool.specs.OpenedSeen.{opened_box}
 
@@ -30,10 +31,10 @@ pub record OpenMakeOf : Type 0 where
 abbrev pub make_seen : OpenMake → OpenMakeOf
 make_seen make = record { opened = opened_box make.opened; goals = map goal_seen make.goals.items }
 
-unfoldable pub make_opened : List LayerBytes → List ℕ → List (List ℕ) → Result OpenMakeOf StopOf
-make_opened layers box_json words = do
+unfoldable pub make_opened : LocaleRule → List LayerBytes → List ℕ → List (List ℕ) → Result OpenMakeOf StopOf
+make_opened rule layers box_json words = do
   named ← each goal_asked words
-  opened ← read_or_stop (make_inputs layers box_json)
+  opened ← read_or_stop (make_inputs_by rule layers box_json)
   goals ← found_or_stop (goals_named opened.stack named)
   Ok (record { opened = opened; goals = goals })
 
@@ -74,14 +75,19 @@ PrintsMade is_terminal true names most contents says old new before after make r
 
 -- ---- the whole
 
+-- from what was opened, if it is
+abbrev pub MakesOpened : {W V : Type 0} → Bool → Bool → Bool → ℕ → (W → Option (List ℕ)) → (V → Option (List ℕ)) → W → W → V → V → Result OpenMakeOf StopOf → Result Status Stop → Type 0
+MakesOpened is_terminal omit names most contents says old new before after opened result =
+    CarriesOut (PrintsMade is_terminal omit names most contents says old new before after) opened result
+
 -- from the files, if they are read
-abbrev pub MakesFiles : {W V : Type 0} → Bool → Bool → Bool → ℕ → (W → Option (List ℕ)) → (V → Option (List ℕ)) → W → W → V → V → Result AskedBytes StopOf → Result Status Stop → Type 0
-MakesFiles is_terminal omit names most contents says old new before after read result =
-    CarriesOut (PrintsMade is_terminal omit names most contents says old new before after)
-    (read >>= λ files. make_opened files.layers files.devices files.words) result
+abbrev pub MakesFiles : {W V : Type 0} → Bool → Make → (W → Option (List ℕ)) → (V → Option (List ℕ)) → W → W → V → V → Result AskedBytes StopOf → Result Status Stop → Type 0
+MakesFiles is_terminal make contents says old new before after read result =
+    MakesOpened is_terminal make.omit make.names make.max_nodes contents says old new before after
+    (read >>= λ files. make_opened make.locales files.layers files.devices files.words) result
 
 -- from what the places have
 abbrev pub Makes : {W V : Type 0} → Bool → (W → Option (List ℕ)) → (V → Option (List ℕ)) → W → W → V → V → Places → Make → Result Status Stop → Type 0
 Makes is_terminal contents says old new before after places make result =
-    MakesFiles is_terminal make.omit make.names make.max_nodes contents says old new before after
+    MakesFiles is_terminal make contents says old new before after
     (asked_files places make.layers.now make.box_path.now (texts_of make.goals)) result

@@ -5,13 +5,15 @@ use Rattle.std.specs.List.{All}
 use Rattle.serde_json.specs.Written.{compact_text}
 use Rattle.contract_words.specs.Faults.{◌>>=◌}
 use Rattle.table_commands.specs.config_record.DeviceSeen.{device_numbers}
+use Rattle.table_commands.specs.config_record.android_locales.declared.locale_rule.LocaleRule.{LocaleRule}
+use Rattle.table_commands.specs.config_record.android_locales.declared.locale_rule.LocaleRule.TheVariants.{LanguageAndRegion}
 use Rattle.resource_text.specs.cert_maker.box_answers.NumberSet.{SetOf}
-use Rattle.resource_text.specs.cert_maker.config_box.BoxJson.{box_in}
+use Rattle.resource_text.specs.cert_maker.config_box.BoxJson.{box_in_by}
 use Rattle.table_commands.specs.overlay_map.Layer.{LayerOf}
 use Rattle.table_commands.specs.reference_resolver.declared.end.End.{End}
 use Rattle.resource_text.specs.cert_maker.cert_tree.Certificate.{GoalOf, GoalFits, goals_of, most_nodes}
 use Rattle.resource_text.specs.cert_maker.res_value.Goal.{GoalSeen}
-use Rattle.resource_text.specs.cert_maker.cert_tree.CertJson.{cert_in}
+use Rattle.resource_text.specs.cert_maker.cert_tree.CertJson.{cert_in_by}
 use Rattle.resource_text.specs.cert_maker.cert_tree.WrittenJson.{cert_data}
 use Rattle.resource_text.specs.cert_maker.cert_checker.FirstFault.{IsAccepted}
 use Rattle.resource_text.specs.cert_maker.declared.made.Made.{Made}
@@ -30,17 +32,23 @@ use Rattle.resource_tool.specs.GoalTold.{goal_told}
 
 -- ---- the inputs
 
--- layers, and the sets of a box
+-- layers, the sets of a box, and the rule by which its locales are compared
 pub record MakeInputs : Type 0 where
   pub stack : List LayerOf
   pub sets : List SetOf
+  pub rule : LocaleRule
 
--- What these layers and a box's text mean, or the first fault. The layers are read before the box.
-unfoldable pub make_inputs : List LayerBytes → List ℕ → Result MakeInputs ToolFault
-make_inputs layers box_json = do
+-- What these layers and a box's text mean, whose locales are read by this rule, or the first fault. The layers are read before
+-- the box.
+unfoldable pub make_inputs_by : LocaleRule → List LayerBytes → List ℕ → Result MakeInputs ToolFault
+make_inputs_by rule layers box_json = do
   stack ← stack_in layers
-  sets ← map_err fault_of_box (box_in box_json)
-  Ok (record { stack = stack; sets = sets })
+  sets ← map_err fault_of_box (box_in_by rule box_json)
+  Ok (record { stack = stack; sets = sets; rule = rule })
+
+-- by language and region
+abbrev pub make_inputs : List LayerBytes → List ℕ → Result MakeInputs ToolFault
+make_inputs = make_inputs_by LanguageAndRegion
 
 -- ---- the output
 
@@ -70,10 +78,10 @@ made_text NodeLimit = codes "node limit" ++ 10 ∷ []
 abbrev pub made_output : Made → Output
 made_output made = record { status = status_of_made made; text = made_text made }
 
--- a text is read as a certificate that is accepted for the layers, the box and the goals
+-- a text is read by that rule as a certificate that is accepted for the layers, the box and the goals
 pub record IsReadAccepted (asked : List GoalSeen) (inputs : MakeInputs) (text : List ℕ) : Type 0 where
   pub trees : List GoalOf
-  pub means : cert_in text ≡ Ok trees
+  pub means : cert_in_by inputs.rule text ≡ Ok trees
   pub accepted : IsAccepted inputs.stack inputs.sets asked trees
 
 -- An answer is printed that the maker may give for the layers, the box, the goals and the limit of nodes. Where that is done,

@@ -7,8 +7,8 @@ use Rattle.resource_tool.specs.MakeOutput.{MakeInputs}
 
 -- what `make` is asked of
 abbrev pub opened_box : OpenedBox → MakeInputs
-opened_box opened = record { stack = opened.stack; sets = opened.members }
+opened_box opened = record { stack = opened.stack; sets = opened.members; rule = opened.rule }
 
 -- what `check` is asked of
 abbrev pub opened_cert : OpenedCert → CheckInputs
-opened_cert opened = record { stack = opened.stack; sets = opened.members; trees = goals_of opened.certificate }
+opened_cert opened = record { stack = opened.stack; sets = opened.members; trees = goals_of opened.certificate; rule = opened.rule }

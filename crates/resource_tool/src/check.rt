@@ -10,7 +10,7 @@ ghost use Rattle.table_commands.specs.command_base.Stop.{GivesOrStops};
 ghost use Rattle.resource_text.specs.cert_maker.res_value.Goal.{goal_seen};
 ghost use Rattle.resource_tool.specs.Answered.{PrintsBothOneOf};
 ghost use Rattle.resource_tool.specs.Check.{Checks, ChecksFiles, check_files, check_held, check_opened, check_seen, first_opened};
-ghost use Rattle.resource_tool.specs.CheckOutput.{IsCheckOutput, IsCheckAnswer, check_inputs, check_text, status_of_verdict, goal_of_verdict};
+ghost use Rattle.resource_tool.specs.CheckOutput.{IsCheckOutput, IsCheckAnswer, check_inputs, check_inputs_by, check_text, status_of_verdict, goal_of_verdict};
 ghost use Rattle.resource_tool.specs.CheckHeadline.{HeadlineHolds};
 ghost use Rattle.resource_tool.specs.OpenedSeen.{opened_cert};
 ghost use Rattle.table_commands.specs.command_base.CarriesOut.{IsKept};
@@ -23,8 +23,8 @@ use resource_text::{Cert, ConfigBox, Goal, Verdict, verdict_text};
 use std::alloc::Global;
 use std::io::{self, Write, sink};
 use table_commands::{
-    DeviceFiles, Inputs, LayerFiles, LayerParts, Stack, Status, Stop, ToolFault, asked_goals,
-    asked_words, file_bytes, open_stack,
+    DeviceFiles, Inputs, LayerFiles, LayerParts, LocaleRule, Stack, Status, Stop, ToolFault,
+    asked_goals, asked_words, file_bytes, open_stack, rows_set_aside,
 };
 
 /// What the words of `check` ask: whether a certificate is true of some goals for a box of devices.
@@ -36,6 +36,8 @@ pub struct Check<'a> {
     pub box_path: &'a str,
     /// Where the certificate lies.
     pub certificate: &'a str,
+    /// By which rule locales are compared.
+    pub locales: LocaleRule,
     /// Whether the goal at which it is rejected is told with its names.
     pub names: bool,
     /// The words that ask for goals, or name a file of such words.
@@ -76,7 +78,7 @@ impl<'a> Check<'a> {
         out: &mut O,
         errors: &mut E,
     ) -> Result<Status, Stop<'static>>
-        ensures answers { ChecksFiles O.contents E.contents out.old out.new errors.old errors.new self.now.names
+        ensures answers { ChecksFiles O.contents E.contents out.old out.new errors.old errors.new self.now
             (Ok (check_held files.now)) result }
         ensures unwritten { IsKept out.old out.new result }
         ensures quiet { self.now.names ≡ false → errors.new ≡ errors.old }
@@ -88,6 +90,7 @@ impl<'a> Check<'a> {
             &layers,
             &files.box_json,
             &files.certificate,
+            self.locales,
             &files.words,
         )?;
         Ok(
@@ -154,13 +157,14 @@ impl<'a> OpenCheck<'a> {
         layers: &[LayerParts<&'a [u8]>],
         box_json: &[u8],
         certificate: &[u8],
+        rule: LocaleRule,
         words: &[String],
     ) -> Result<OpenCheck<'a>, Stop<'static>>
         ensures { GivesOrStops check_seen result
-            (first_opened (check_opened (map layer_bytes layers.now) box_json.now certificate.now (map string_bytes words.now))) }
+            (first_opened (check_opened rule (map layer_bytes layers.now) box_json.now certificate.now (map string_bytes words.now))) }
     {
         let named = asked_goals(alloc, words)?;
-        let opened = OpenedCert::read(alloc, layers, box_json, certificate)?;
+        let opened = OpenedCert::read_by(alloc, layers, box_json, certificate, rule)?;
         let most = opened.certificate.goals.len() + 1;
         let goals = first_goals(alloc, &opened.stack, &named, most)?;
         Ok(OpenCheck { opened, goals })
@@ -194,11 +198,12 @@ pub struct OpenedCert<'a> {
     pub stack: Stack<'a>,
     pub members: ConfigBox,
     pub certificate: Cert,
+    /// By which rule the locales of the box and of the certificate are compared.
+    pub rule: LocaleRule,
 }
 
 impl<'a> OpenedCert<'a> {
     /// Opens the layers, and then reads the box and the certificate.
-    #[tactic(auto, unfolding(crate::specs::CheckOutput::check_inputs))]
     pub fn read(
         alloc: Global,
         layers: &[LayerParts<&'a [u8]>],
@@ -208,13 +213,29 @@ impl<'a> OpenedCert<'a> {
         ensures value { GivesOr OutOfMemory opened_cert result (check_inputs (map layer_bytes layers.now) box_json.now cert.now) }
         ensures of_input { IsOfInput result }
     {
+        OpenedCert::read_by(alloc, layers, box_json, cert, LocaleRule::LanguageAndRegion)
+    }
+
+    /// The same, where locales are read and compared by a rule.
+    #[tactic(auto, unfolding(crate::specs::CheckOutput::check_inputs_by))]
+    pub fn read_by(
+        alloc: Global,
+        layers: &[LayerParts<&'a [u8]>],
+        box_json: &[u8],
+        cert: &[u8],
+        rule: LocaleRule,
+    ) -> Result<OpenedCert<'a>, ToolFault>
+        ensures value { GivesOr OutOfMemory opened_cert result (check_inputs_by rule (map layer_bytes layers.now) box_json.now cert.now) }
+        ensures of_input { IsOfInput result }
+    {
         let stack = open_stack(alloc, layers)?;
-        let members = ConfigBox::read(alloc, box_json)?;
-        let certificate = Cert::read(alloc, cert)?;
+        let members = ConfigBox::read_by(alloc, box_json, rule)?;
+        let certificate = Cert::read_by(alloc, cert, rule)?;
         Ok(OpenedCert {
             stack,
             members,
             certificate,
+            rule,
         })
     }
 
@@ -251,7 +272,7 @@ fn write_verdict<W: Write + Drop>(
     ensures { Writes W.contents out.old out.new result (check_text (opened_cert checked.now) verdict.now) }
 {
     verdict_text(verdict, &checked.certificate, out)?;
-    set_aside_line(checked.stack.set_aside(), out)
+    set_aside_line(rows_set_aside(&checked.stack, checked.rule), out)
 }
 
 fn status_of_verdict(verdict: Verdict) -> Status

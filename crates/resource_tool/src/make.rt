@@ -15,7 +15,7 @@ ghost use Rattle.resource_text.specs.cert_maker.cert_tree.WrittenJson.{cert_data
 ghost use Rattle.table_commands.specs.config_record.DeviceSeen.{device_numbers};
 ghost use Rattle.resource_tool.specs.Answered.{PrintsBothOneOf, status_in, goal_in};
 ghost use Rattle.resource_tool.specs.Make.{Makes, MakesFiles, PrintsTold, PrintsToldFirst, first_opened, make_opened, make_seen};
-ghost use Rattle.resource_tool.specs.MakeOutput.{IsMakeOutput, IsMakeOutputAbout, IsMakeAnswer, make_inputs, counterexample_line, counterexample_text, status_of_made, goal_of_made, made_output};
+ghost use Rattle.resource_tool.specs.MakeOutput.{IsMakeOutput, IsMakeOutputAbout, IsMakeAnswer, make_inputs, make_inputs_by, counterexample_line, counterexample_text, status_of_made, goal_of_made, made_output};
 ghost use Rattle.resource_tool.specs.OmitOutput.{IsOmitOutput};
 ghost use Rattle.resource_tool.specs.LineReadsBack.{LineReadsBack, TreesReadBack};
 ghost use Rattle.resource_tool.specs.OpenedSeen.{opened_box};
@@ -32,8 +32,8 @@ use std::alloc::{AllocError, Global};
 use std::io::{self, Write, sink};
 use std::time::Clock;
 use table_commands::{
-    AskedFiles, Device, End, Inputs, LayerParts, Stack, Status, Stop, ToolFault, asked_goals,
-    open_stack,
+    AskedFiles, Device, End, Inputs, LayerParts, LocaleRule, Stack, Status, Stop, ToolFault,
+    asked_goals, open_stack,
 };
 
 /// What the words of `make` ask: a certificate of some goals for a box of devices.
@@ -43,6 +43,8 @@ pub struct Make<'a> {
     pub layers: &'a str,
     /// Where the box lies.
     pub box_path: &'a str,
+    /// By which rule locales are compared.
+    pub locales: LocaleRule,
     /// Whether the goal of a counterexample is told with its names.
     pub names: bool,
     /// Whether goals without a value are left out.
@@ -82,7 +84,7 @@ impl<'a> Make<'a> {
         out: &mut O,
         errors: &mut E,
     ) -> Result<Status, Stop<'static>>
-        ensures answers { MakesFiles watch.entry.is_terminal self.now.omit self.now.names self.now.max_nodes O.contents E.contents
+        ensures answers { MakesFiles watch.entry.is_terminal self.now O.contents E.contents
             out.old out.new errors.old errors.new (Ok (asked_held files.now)) result }
         ensures unwritten { IsKept out.old out.new result }
         ensures quiet { watch.entry.is_terminal ≡ false → (self.now.names || self.now.omit) ≡ false → errors.new ≡ errors.old }
@@ -90,12 +92,19 @@ impl<'a> Make<'a> {
     {
         let layers = files.layers.layers(alloc)?;
         if self.omit {
-            let make = OpenMake::open(alloc, &layers, &files.devices, &files.words)?;
+            let make = OpenMake::open(alloc, &layers, &files.devices, self.locales, &files.words)?;
             Ok(make.make_omitting(alloc, self.max_nodes, watch, out, errors)?)
         } else {
             // The tree of each goal has one node at least, so these decide.
             let most = self.max_nodes as usize + 1;
-            let make = OpenMake::open_first(alloc, &layers, &files.devices, &files.words, most)?;
+            let make = OpenMake::open_first(
+                alloc,
+                &layers,
+                &files.devices,
+                self.locales,
+                &files.words,
+                most,
+            )?;
             Ok(make.make(alloc, self.names, self.max_nodes, watch, out, errors)?)
         }
     }
@@ -114,11 +123,12 @@ impl<'a> OpenMake<'a> {
         alloc: Global,
         layers: &[LayerParts<&'a [u8]>],
         box_json: &[u8],
+        rule: LocaleRule,
         words: &[String],
     ) -> Result<OpenMake<'a>, Stop<'static>>
-        ensures { GivesOrStops make_seen result (make_opened (map layer_bytes layers.now) box_json.now (map string_bytes words.now)) }
+        ensures { GivesOrStops make_seen result (make_opened rule (map layer_bytes layers.now) box_json.now (map string_bytes words.now)) }
     {
-        let make = OpenMake::open_first(alloc, layers, box_json, words, usize::MAX)?;
+        let make = OpenMake::open_first(alloc, layers, box_json, rule, words, usize::MAX)?;
         Ok(make)
     }
 
@@ -128,14 +138,15 @@ impl<'a> OpenMake<'a> {
         alloc: Global,
         layers: &[LayerParts<&'a [u8]>],
         box_json: &[u8],
+        rule: LocaleRule,
         words: &[String],
         most: usize,
     ) -> Result<OpenMake<'a>, Stop<'static>>
         ensures { GivesOrStops make_seen result
-            (first_opened most (make_opened (map layer_bytes layers.now) box_json.now (map string_bytes words.now))) }
+            (first_opened most (make_opened rule (map layer_bytes layers.now) box_json.now (map string_bytes words.now))) }
     {
         let named = asked_goals(alloc, words)?;
-        let opened = OpenedBox::read(alloc, layers, box_json)?;
+        let opened = OpenedBox::read_by(alloc, layers, box_json, rule)?;
         let goals = first_goals(alloc, &opened.stack, &named, most)?;
         Ok(OpenMake { opened, goals })
     }
@@ -240,7 +251,6 @@ pub fn make_bytes_watched<W: Write + Drop, P: Progress>(
 
 impl<'a> OpenedBox<'a> {
     /// Opens the layers, and then reads the box.
-    #[tactic(auto, unfolding(crate::specs::MakeOutput::make_inputs))]
     pub fn read(
         alloc: Global,
         layers: &[LayerParts<&'a [u8]>],
@@ -249,9 +259,27 @@ impl<'a> OpenedBox<'a> {
         ensures value { GivesOr OutOfMemory opened_box result (make_inputs (map layer_bytes layers.now) box_json.now) }
         ensures of_input { IsOfInput result }
     {
+        OpenedBox::read_by(alloc, layers, box_json, LocaleRule::LanguageAndRegion)
+    }
+
+    /// The same, where locales are read and compared by a rule.
+    #[tactic(auto, unfolding(crate::specs::MakeOutput::make_inputs_by))]
+    pub fn read_by(
+        alloc: Global,
+        layers: &[LayerParts<&'a [u8]>],
+        box_json: &[u8],
+        rule: LocaleRule,
+    ) -> Result<OpenedBox<'a>, ToolFault>
+        ensures value { GivesOr OutOfMemory opened_box result (make_inputs_by rule (map layer_bytes layers.now) box_json.now) }
+        ensures of_input { IsOfInput result }
+    {
         let stack = open_stack(alloc, layers)?;
-        let members = ConfigBox::read(alloc, box_json)?;
-        Ok(OpenedBox { stack, members })
+        let members = ConfigBox::read_by(alloc, box_json, rule)?;
+        Ok(OpenedBox {
+            stack,
+            members,
+            rule,
+        })
     }
 
     /// What `make_bytes_watched` prints of the same layers and box. Where names are asked for, and a device without a

@@ -11,7 +11,6 @@ use Rattle.resource_tool.specs.command_base.declared.fault.ToolFault.TheVariants
 use Rattle.resource_tool.specs.command_base.declared.status.Status.{Status}
 use Rattle.resource_tool.specs.command_base.declared.stop.Stop.{Stop}
 use Rattle.resource_tool.specs.command_base.CarriesOut.{CarriesOut}
-use Rattle.resource_tool.specs.command_base.DeviceFiles.{AskedBytes}
 use Rattle.resource_tool.specs.command_base.Inputs.{Places, layers_of, table_of}
 use Rattle.resource_tool.specs.command_base.Output.{Output, Prints, PrintsOneOf}
 use Rattle.resource_tool.specs.command_base.Stop.{StopOf, stop_of, tool}
@@ -23,13 +22,13 @@ use Rattle.resource_tool.specs.table_commands.ExplainOutput.{explain_answer}
 use Rattle.resource_tool.specs.table_commands.BagOutput.{bag_answer}
 use Rattle.resource_tool.specs.table_commands.AttrOutput.{OpenAttrOf, attr_answer}
 use Rattle.resource_tool.specs.Answered.{PrintsBothOneOf}
-use Rattle.resource_tool.specs.Make.{OpenMakeOf, MakesFiles, OnceShown}
+use Rattle.resource_tool.specs.Make.{OpenMakeOf, MakesOpened, OnceShown}
 use Rattle.resource_tool.specs.MakeOutput.{IsMakeAnswer}
 use Rattle.resource_tool.specs.OmitOutput.{IsOmitOutput, LinesFirst}
 use Rattle.resource_tool.specs.Check.{OpenCheckOf}
 use Rattle.resource_tool.specs.CheckOutput.{IsCheckAnswer}
 use Rattle.report_commands.specs.Survey.{SurveyBytes}
-use Rattle.report_commands.specs.SurveyOutput.{survey_output}
+use Rattle.report_commands.specs.SurveyOutput.{survey_output_by}
 use Rattle.report_commands.specs.Show.{ShowBytes, shown_output}
 use Rattle.diff_command.specs.Diff.{OpenDiffOf}
 use Rattle.diff_command.specs.DiffOutput.{IsDiffOutput}
@@ -227,12 +226,12 @@ module _ {W V E : Type 0} (is_terminal : Bool) (c : W → Option (List ℕ)) (d 
       → CarriesOut (OnceBefore Tells F) meant from → CarriesOut (OnceBehind Tells F) meant to)
       → ((X Y : Type 0) (Tells : X → Y → Output → List ℕ → Type 0) (F : X → Result Y ToolFault) (meant : Result X StopOf)
       → CarriesOut (OnceFirstBefore Tells F) meant from → CarriesOut (OnceFirstBehind Tells F) meant to)
-      → (omit names : Bool) (most : ℕ) (read : Result AskedBytes StopOf)
-      → MakesFiles is_terminal omit names most c says old new quiet said read from → MakesFiles is_terminal omit names most d says before after quiet said read to
-  makes-over from to carry_once carry_first false names most read p =
-      carry_once _ _ (λ (asked : OpenMakeOf). IsMakeAnswer asked.goals most names) (λ (asked : OpenMakeOf). Ok asked.opened) _ p
-  makes-over from to carry_once carry_first true names most read p =
-      carry_first _ _ (λ (asked : OpenMakeOf). IsOmitOutput asked.goals most) (λ (asked : OpenMakeOf). Ok asked.opened) _ p
+      → (omit names : Bool) (most : ℕ) (opened : Result OpenMakeOf StopOf)
+      → MakesOpened is_terminal omit names most c says old new quiet said opened from → MakesOpened is_terminal omit names most d says before after quiet said opened to
+  makes-over from to carry_once carry_first false names most opened p =
+      carry_once _ _ (λ (asked : OpenMakeOf). IsMakeAnswer asked.goals most names) (λ (asked : OpenMakeOf). Ok asked.opened) opened p
+  makes-over from to carry_once carry_first true names most opened p =
+      carry_first _ _ (λ (asked : OpenMakeOf). IsOmitOutput asked.goals most) (λ (asked : OpenMakeOf). Ok asked.opened) opened p
 
   -- an answer is one over the other writer too, where each command is
   answers-over : (from to : Result Status Stop)
@@ -255,7 +254,7 @@ module _ {W V E : Type 0} (is_terminal : Bool) (c : W → Option (List ℕ)) (d 
       carry_both _ (λ (inputs : MapBytes). map_output inputs.target inputs.overlay) (map_files places it.target.now it.overlay.now) p
   answers-over from to carry carry_any carry_once carry_first carry_told carry_both places (asks.Ids it) p = carry _ ids_output (layers_of places it.layers.now) p
   answers-over from to carry carry_any carry_once carry_first carry_told carry_both places (asks.Survey it) p =
-      carry _ (λ (files : SurveyBytes). survey_output files.layers files.box_json) _ p
+      carry _ (λ (files : SurveyBytes). survey_output_by it.locales files.layers files.box_json) _ p
   answers-over from to carry carry_any carry_once carry_first carry_told carry_both places (asks.Show it) p =
       carry _ (λ (files : ShowBytes). shown_output it.pictured files) _ p
   answers-over from to carry carry_any carry_once carry_first carry_told carry_both places (asks.Query it) p =

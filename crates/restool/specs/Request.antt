@@ -53,7 +53,7 @@ commands =
     ∷ command (codes "dump") (one_word (codes "TABLE") ∷ [])
     ∷ command (codes "map") (one_word (codes "TARGET") ∷ one_word (codes "OVERLAY") ∷ [])
     ∷ command (codes "ids") (layers ∷ [])
-    ∷ command (codes "survey") (layers ∷ maybe_one_word (codes "BOX") ∷ [])
+    ∷ command (codes "survey") (locales ∷ layers ∷ maybe_one_word (codes "BOX") ∷ [])
     ∷ command (codes "show") (goal_number (codes "dot") ∷ layers ∷ one_word (codes "CERT") ∷ [])
     ∷ command (codes "query") (locales ∷ names ∷ layers ∷ device ∷ ids ∷ [])
     ∷ command (codes "explain") (locales ∷ names ∷ layers ∷ device ∷ one_word (codes "ID") ∷ [])
@@ -61,10 +61,10 @@ commands =
     ∷ command (codes "attr")
     (locales ∷ flag (codes "keep") ∷ names ∷ layers ∷ device ∷ one_word (codes "ATTR") ∷ several_words (codes "STYLE") ∷ [])
     ∷ command (codes "make")
-    (nodes (codes "max-nodes") ∷ flag (codes "omit") ∷ names ∷ layers ∷ one_word (codes "BOX") ∷ goals ∷ [])
-    ∷ command (codes "check") (names ∷ layers ∷ one_word (codes "BOX") ∷ one_word (codes "CERT") ∷ goals ∷ [])
+    (locales ∷ nodes (codes "max-nodes") ∷ flag (codes "omit") ∷ names ∷ layers ∷ one_word (codes "BOX") ∷ goals ∷ [])
+    ∷ command (codes "check") (locales ∷ names ∷ layers ∷ one_word (codes "BOX") ∷ one_word (codes "CERT") ∷ goals ∷ [])
     ∷ command (codes "diff")
-    (nodes (codes "max-nodes") ∷ one_word (codes "OLD") ∷ one_word (codes "NEW") ∷ one_word (codes "BOX") ∷ maybe_words (codes "NAME") ∷ [])
+    (locales ∷ nodes (codes "max-nodes") ∷ one_word (codes "OLD") ∷ one_word (codes "NEW") ∷ one_word (codes "BOX") ∷ maybe_words (codes "NAME") ∷ [])
     ∷ []
 
 -- the program, which has a version, and has to be given a command
@@ -136,10 +136,10 @@ abbrev pub IsIdsOf : List Row → Request → Type 0
 IsIdsOf rows (requests.Ids it) = it.layers.now ≡ word_at (codes "LAYERS") rows
 IsIdsOf rows _ = ⊥
 
-abbrev pub IsSurveyOf : List Row → Request → Type 0
-IsSurveyOf rows (requests.Survey it) =
-    (it.layers.now ≡ word_at (codes "LAYERS") rows) × (option_map (λ path. path.now) it.box_path ≡ first_of (codes "BOX") rows)
-IsSurveyOf rows _ = ⊥
+abbrev pub IsSurveyOf : LocaleRule → List Row → Request → Type 0
+IsSurveyOf rule rows (requests.Survey it) =
+    (it.locales ≡ rule) × (it.layers.now ≡ word_at (codes "LAYERS") rows) × (option_map (λ path. path.now) it.box_path ≡ first_of (codes "BOX") rows)
+IsSurveyOf rule rows _ = ⊥
 
 abbrev pub IsShowOf : List Row → Request → Type 0
 IsShowOf rows (requests.Show it) =
@@ -172,24 +172,24 @@ IsAttrOf rule rows asked (requests.Attr it) =
     × (asked ≡ record { attr = named_of it.attr; styles = texts_of it.styles })
 IsAttrOf rule rows asked _ = ⊥
 
-abbrev pub IsMakeOf : List Row → List (List ℕ) → Request → Type 0
-IsMakeOf rows asked (requests.Make it) =
-    (it.layers.now ≡ word_at (codes "LAYERS") rows) × (it.box_path.now ≡ word_at (codes "BOX") rows)
+abbrev pub IsMakeOf : LocaleRule → List Row → List (List ℕ) → Request → Type 0
+IsMakeOf rule rows asked (requests.Make it) =
+    (it.locales ≡ rule) × (it.layers.now ≡ word_at (codes "LAYERS") rows) × (it.box_path.now ≡ word_at (codes "BOX") rows)
     × IsGiven (codes "names") rows it.names × IsNodeLimit (one_of (codes "max-nodes") rows) it.max_nodes
     × IsGiven (codes "omit") rows it.omit × (asked ≡ texts_of it.goals)
-IsMakeOf rows asked _ = ⊥
+IsMakeOf rule rows asked _ = ⊥
 
-abbrev pub IsCheckOf : List Row → List (List ℕ) → Request → Type 0
-IsCheckOf rows asked (requests.Check it) =
-    (it.layers.now ≡ word_at (codes "LAYERS") rows) × (it.box_path.now ≡ word_at (codes "BOX") rows)
+abbrev pub IsCheckOf : LocaleRule → List Row → List (List ℕ) → Request → Type 0
+IsCheckOf rule rows asked (requests.Check it) =
+    (it.locales ≡ rule) × (it.layers.now ≡ word_at (codes "LAYERS") rows) × (it.box_path.now ≡ word_at (codes "BOX") rows)
     × (it.certificate.now ≡ word_at (codes "CERT") rows) × IsGiven (codes "names") rows it.names × (asked ≡ texts_of it.goals)
-IsCheckOf rows asked _ = ⊥
+IsCheckOf rule rows asked _ = ⊥
 
-abbrev pub IsDiffOf : List Row → List (List ℕ) → Request → Type 0
-IsDiffOf rows asked (requests.Diff it) =
-    (it.old.now ≡ word_at (codes "OLD") rows) × (it.new.now ≡ word_at (codes "NEW") rows) × (it.box_path.now ≡ word_at (codes "BOX") rows)
+abbrev pub IsDiffOf : LocaleRule → List Row → List (List ℕ) → Request → Type 0
+IsDiffOf rule rows asked (requests.Diff it) =
+    (it.locales ≡ rule) × (it.old.now ≡ word_at (codes "OLD") rows) × (it.new.now ≡ word_at (codes "NEW") rows) × (it.box_path.now ≡ word_at (codes "BOX") rows)
     × IsNodeLimit (one_of (codes "max-nodes") rows) it.max_nodes × (asked ≡ texts_of it.words)
-IsDiffOf rows asked _ = ⊥
+IsDiffOf rule rows asked _ = ⊥
 
 -- a command was read, whose arguments have these rows; what they ask for is read from left to right
 abbrev pub ReadsCommand : Command → List Row → Result Request WordsFault → Type 0
@@ -197,15 +197,15 @@ ReadsCommand Rows rows result = IsOkAnd result (IsRowsOf rows)
 ReadsCommand Dump rows result = IsOkAnd result (IsDumpOf rows)
 ReadsCommand Map rows result = IsOkAnd result (IsMapOf rows)
 ReadsCommand Ids rows result = IsOkAnd result (IsIdsOf rows)
-ReadsCommand Survey rows result = IsOkAnd result (IsSurveyOf rows)
+ReadsCommand Survey rows result = ReadsByRule (locales_at rows) (λ rule read. IsOkAnd read (IsSurveyOf rule rows)) result
 ReadsCommand Show rows result = IsOkAnd result (IsShowOf rows)
 ReadsCommand Query rows result = ReadsByRule (locales_at rows) (λ rule. ReadsAlong (resources_at (codes "ID") rows) (IsQueryOf rule rows)) result
 ReadsCommand Explain rows result = ReadsByRule (locales_at rows) (λ rule. ReadsAlong (named_word (word_at (codes "ID") rows)) (IsExplainOf rule rows)) result
 ReadsCommand Bag rows result = ReadsByRule (locales_at rows) (λ rule. ReadsAlong (named_word (word_at (codes "ID") rows)) (IsBagOf rule rows)) result
 ReadsCommand Attr rows result = ReadsByRule (locales_at rows) (λ rule. ReadsAlong (attr_asked rows) (IsAttrOf rule rows)) result
-ReadsCommand Make rows result = ReadsAlong (goals_at (codes "GOAL") rows) (IsMakeOf rows) result
-ReadsCommand Check rows result = ReadsAlong (goals_at (codes "GOAL") rows) (IsCheckOf rows) result
-ReadsCommand Diff rows result = ReadsAlong (resources_at (codes "NAME") rows) (IsDiffOf rows) result
+ReadsCommand Make rows result = ReadsByRule (locales_at rows) (λ rule. ReadsAlong (goals_at (codes "GOAL") rows) (IsMakeOf rule rows)) result
+ReadsCommand Check rows result = ReadsByRule (locales_at rows) (λ rule. ReadsAlong (goals_at (codes "GOAL") rows) (IsCheckOf rule rows)) result
+ReadsCommand Diff rows result = ReadsByRule (locales_at rows) (λ rule. ReadsAlong (resources_at (codes "NAME") rows) (IsDiffOf rule rows)) result
 
 -- Words were read, of which the first is the program's name: a fault of the command line comes first, and else it is the
 -- command that they name.

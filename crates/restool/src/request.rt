@@ -98,7 +98,7 @@ pub(crate) const USAGES: &[Usage] = &[
     Usage {
         name: SURVEY,
         about: "Prints warnings about the tables, the qualifiers of their rows, and those that a box lacks",
-        arguments: &[LAYERS, MAYBE_BOX],
+        arguments: &[LOCALES, LAYERS, MAYBE_BOX],
     },
     Usage {
         name: SHOW,
@@ -128,17 +128,17 @@ pub(crate) const USAGES: &[Usage] = &[
     Usage {
         name: MAKE,
         about: "Prints a certificate for every device of a box, a device without a value, or node limit",
-        arguments: &[MAX_NODES, OMIT, GOAL_NAMES, LAYERS, BOX, GOALS],
+        arguments: &[LOCALES, MAX_NODES, OMIT, GOAL_NAMES, LAYERS, BOX, GOALS],
     },
     Usage {
         name: CHECK,
         about: "Checks whether a certificate is true for every device of a box",
-        arguments: &[GOAL_NAMES, LAYERS, BOX, CERTIFICATE, GOALS],
+        arguments: &[LOCALES, GOAL_NAMES, LAYERS, BOX, CERTIFICATE, GOALS],
     },
     Usage {
         name: DIFF,
         about: "Prints what a change of layers alters, for every device of a box",
-        arguments: &[DIFF_NODES, OLD, NEW, BOX, COMPARED],
+        arguments: &[LOCALES, DIFF_NODES, OLD, NEW, BOX, COMPARED],
     },
 ];
 
@@ -210,10 +210,7 @@ pub(crate) fn request_of<'a>(
         Command::Ids => Ok(Request::Ids(Ids {
             layers: given_word(given, &LAYERS),
         })),
-        Command::Survey => Ok(Request::Survey(Survey {
-            layers: given_word(given, &LAYERS),
-            box_path: given_maybe_word(given, &MAYBE_BOX),
-        })),
+        Command::Survey => survey_of(given),
         Command::Show => Ok(Request::Show(Show {
             layers: given_word(given, &LAYERS),
             certificate: given_word(given, &CERTIFICATE),
@@ -227,6 +224,17 @@ pub(crate) fn request_of<'a>(
         Command::Check => check_of(alloc, given),
         Command::Diff => diff_of(alloc, given),
     }
+}
+
+fn survey_of<'a>(given: &ArgMatches<'a>) -> Result<Request<'a>, WordsFault<'a>>
+    ensures { ReadsCommand Command.Survey (rows_of (found_of given.now)) result }
+{
+    let locales = given_rule(given)?;
+    Ok(Request::Survey(Survey {
+        layers: given_word(given, &LAYERS),
+        box_path: given_maybe_word(given, &MAYBE_BOX),
+        locales,
+    }))
 }
 
 fn query_of<'a>(alloc: Global, given: &ArgMatches<'a>) -> Result<Request<'a>, WordsFault<'a>>
@@ -287,9 +295,11 @@ fn attr_of<'a>(alloc: Global, given: &ArgMatches<'a>) -> Result<Request<'a>, Wor
 fn make_of<'a>(alloc: Global, given: &ArgMatches<'a>) -> Result<Request<'a>, WordsFault<'a>>
     ensures { ReadsCommand Command.Make (rows_of (found_of given.now)) result }
 {
+    let locales = given_rule(given)?;
     Ok(Request::Make(Make {
         layers: given_word(given, &LAYERS),
         box_path: given_word(given, &BOX),
+        locales,
         names: given_flag(given, &NAMES),
         max_nodes: given_nodes(given),
         omit: given_flag(given, &OMIT),
@@ -300,10 +310,12 @@ fn make_of<'a>(alloc: Global, given: &ArgMatches<'a>) -> Result<Request<'a>, Wor
 fn check_of<'a>(alloc: Global, given: &ArgMatches<'a>) -> Result<Request<'a>, WordsFault<'a>>
     ensures { ReadsCommand Command.Check (rows_of (found_of given.now)) result }
 {
+    let locales = given_rule(given)?;
     Ok(Request::Check(Check {
         layers: given_word(given, &LAYERS),
         box_path: given_word(given, &BOX),
         certificate: given_word(given, &CERTIFICATE),
+        locales,
         names: given_flag(given, &NAMES),
         goals: given_asked(alloc, given, &GOALS, Asks::Goals)?,
     }))
@@ -312,10 +324,12 @@ fn check_of<'a>(alloc: Global, given: &ArgMatches<'a>) -> Result<Request<'a>, Wo
 fn diff_of<'a>(alloc: Global, given: &ArgMatches<'a>) -> Result<Request<'a>, WordsFault<'a>>
     ensures { ReadsCommand Command.Diff (rows_of (found_of given.now)) result }
 {
+    let locales = given_rule(given)?;
     Ok(Request::Diff(Diff {
         old: given_word(given, &OLD),
         new: given_word(given, &NEW),
         box_path: given_word(given, &BOX),
+        locales,
         max_nodes: given_nodes(given),
         words: given_asked(alloc, given, &COMPARED, Asks::Resources)?,
     }))

@@ -5,11 +5,9 @@ use Rattle.contract_words.specs.Faults.{◌>>=◌}
 use Rattle.json_input.specs.Each.{each}
 use Rattle.command_base.specs.answer_text.res_value.declared.res_id.ResId.{ResId}
 use Rattle.command_base.specs.answer_text.config_record.android_locales.declared.locale_rule.LocaleRule.{LocaleRule}
-use Rattle.command_base.specs.answer_text.config_record.android_locales.declared.locale_rule.LocaleRule.TheVariants.{LanguageAndRegion, Android}
 use Rattle.command_base.specs.answer_text.config_record.android_locales.LocaleRule.{rule_of}
 use Rattle.command_base.specs.answer_text.config_record.Device.{device_locale}
 use Rattle.command_base.specs.overlay_map.Layer.{LayerOf}
-use Rattle.command_base.specs.overlay_map.SetAside.{set_aside_in_stack}
 use Rattle.command_base.specs.answer_text.reference_resolver.declared.end.End.{End}
 use Rattle.command_base.specs.answer_text.reference_resolver.Ends.{references_followed, end_of}
 use Rattle.command_base.specs.answer_text.QueryText.{query_line, set_aside_line}
@@ -22,6 +20,7 @@ use Rattle.command_base.specs.DeviceFiles.{AskedBytes, asked_files}
 use Rattle.command_base.specs.FileWords.{set_asked, texts_of}
 use Rattle.command_base.specs.Inputs.{Places}
 use Rattle.command_base.specs.Output.{Output, Prints}
+use Rattle.command_base.specs.SetAside.{rows_set_aside}
 use Rattle.command_base.specs.StackBytes.{LayerBytes}
 use Rattle.command_base.specs.Stop.{StopOf}
 use Rattle.command_base.specs.names.NamedIds.{ids_named}
@@ -47,17 +46,9 @@ query_status stack device ids = if list_any (is_unresolved_for stack device) ids
 abbrev pub line_of : List LayerOf → List ℕ → Bool → ResId → List ℕ
 line_of stack device names id = query_line stack id.0 (end_for stack device id) names
 
--- how many rows of all layers are set aside at a device: on a phone none is
-abbrev pub aside_by : LocaleRule → List LayerOf → ℕ
-aside_by LanguageAndRegion stack = set_aside_in_stack stack
-aside_by Android stack = 0
-
-abbrev pub rows_set_aside : List LayerOf → List ℕ → ℕ
-rows_set_aside stack device = aside_by (rule_of (device_locale device)) stack
-
 -- a line for each id in the order asked, and one with the number of rows of all layers that are set aside
 unfoldable pub query_text : List LayerOf → List ℕ → List ResId → Bool → List ℕ
-query_text stack device ids names = flat_map (line_of stack device names) ids ++ set_aside_line (rows_set_aside stack device)
+query_text stack device ids names = flat_map (line_of stack device names) ids ++ set_aside_line (rows_set_aside (rule_of (device_locale device)) stack)
 
 -- What `query` prints of layers and a device that were opened. Where names are asked for, they stand beside the ids.
 abbrev pub query_answer : OpenedOf → List ResId → Bool → Output

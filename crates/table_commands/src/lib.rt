@@ -58,7 +58,7 @@ pub use command_base::{
     AskedFiles, Device, DeviceFiles, End, ExitStatus, GoalFault, InputFault, Inputs, LayerFiles,
     LayerList, LayerParts, LayersFault, LocaleRule, Named, NamedGoal, NamedSet, ProcessInputs,
     STANDARD_INPUT, Stack, Status, Stop, ToolFault, asked_goals, asked_words, fault_text,
-    file_bytes, file_path, open_stack, read_input,
+    file_bytes, file_path, open_stack, read_input, rows_set_aside,
 };
 pub use dump::{Dump, dump_bytes};
 pub use explain::{Explain, explain_bytes};

@@ -9,7 +9,7 @@ ghost use Rattle.command_base.specs.StackBytesSeen.{layer_bytes};
 ghost use Rattle.command_base.specs.Stop.{GivesOrStops};
 ghost use Rattle.command_base.specs.declared.fault.ToolFault.TheVariants.{Write};
 ghost use Rattle.table_commands.specs.OpenedSeen.{opened_of};
-ghost use Rattle.table_commands.specs.QueryOutput.{rows_set_aside, query_status, query_text, query_answer, query_output, query_seen, query_opened, Queries, QueriesFiles};
+ghost use Rattle.table_commands.specs.QueryOutput.{query_status, query_text, query_answer, query_output, query_seen, query_opened, Queries, QueriesFiles};
 ghost use Rattle.command_base.specs.CarriesOut.{IsKept};
 
 use crate::end_status::is_unresolved;
@@ -17,7 +17,7 @@ use crate::opened::Opened;
 use answer_text::{query_line, resolve, set_aside_line};
 use command_base::{
     AskedFiles, Device, Inputs, LayerParts, LocaleRule, ResId, Stack, Status, Stop, ToolFault,
-    asked_sets,
+    asked_sets, rows_set_aside,
 };
 use names::ids_named;
 use std::alloc::Global;
@@ -152,16 +152,7 @@ fn write_ends<W: Write + Drop>(
             status = Status::Negative;
         }
     }
-    set_aside_line(rows_set_aside(stack, device), out)?;
+    let rule = LocaleRule::of(device.locale());
+    set_aside_line(rows_set_aside(stack, rule), out)?;
     Ok(status)
-}
-
-// How many rows of all layers are set aside: on a phone none is.
-fn rows_set_aside(stack: &Stack<'_>, device: &Device) -> u128
-    ensures { result ≡ rows_set_aside stack.now (device_numbers device.now) }
-{
-    match LocaleRule::of(device.locale()) {
-        LocaleRule::LanguageAndRegion => stack.set_aside(),
-        LocaleRule::Android => 0,
-    }
 }

@@ -9,7 +9,7 @@ pub returns-clause-answers : goal.returns-clause-answers
 returns-clause-answers g c =
     let make = c.args.self.now in
     rw (← c.deref.ensures.value) (
-    read_then (λ read. MakesFiles c.args.watch.is_terminal make.omit make.names make.max_nodes g.O.Write.contents g.E.Write.contents
+    read_then (λ read. MakesFiles c.args.watch.is_terminal make g.O.Write.contents g.E.Write.contents
     c.args.out.now c.answer_of.new.out c.args.errors.now c.answer_of.new.errors read c.answer_of.result)
     (g.I.Inputs.places c.args.inputs.now) (λ places. asked_files places make.layers.now make.box_path.now (map (λ word. word.now) c.deref.result.now))
     (asked_held c.in_ok-files.files) c.in_ok-files.ensures c.answer_of.ensures.answers

@@ -1,12 +1,12 @@
-use Rattle.std.proofs.Common.{◌≡◌, List, Ok, map, string_bytes, sym, ap, ◌∙◌}
+use Rattle.std.proofs.Common.{◌≡◌, Ok, map, string_bytes, sym, ap, ◌∙◌}
 use Rattle.command_base.specs.FileWords.{sets_held}
 use Rattle.command_base.specs.StackBytesSeen.{layer_bytes}
 use Rattle.command_base.specs.names.NamedPairs.{pairs_named}
 use Rattle.command_base.specs.names.NamedSet.{named_set_of}
-use Rattle.stack_diff.specs.names.Pairs.{PairOf, pair_of}
+use Rattle.stack_diff.specs.names.Pairs.{pair_of}
 use Rattle.diff_command.specs.OpenedSeen.{named_diff, opened_diff}
 use Rattle.diff_command.proofs.Asked.{opened-asked}
-use Rattle.diff_command.proofs.diff.diff_of.Goals as goal
+use Rattle.diff_command.proofs.diff.Diff.diff_of.Goals as goal
 
 pub returns-clause-answers : goal.returns-clause-answers
 returns-clause-answers g c =
@@ -15,7 +15,7 @@ returns-clause-answers g c =
     let found : pairs_named (sets_held c.in_ok-sets.sets) all ≡ Ok pairs =
     sym (ap (λ sets. pairs_named (map named_set_of sets) all) c.deref.ensures.value) ∙ c.in_ok-pairs.ensures ∙ ap (λ items. Ok (map pair_of items)) (sym c.deref-2.ensures.value) in (
       record { opened = named_diff c.in_ok-named.named; pairs = pairs },
-      opened-asked (map layer_bytes c.args.old.now) (map layer_bytes c.args.new.now) c.args.box_json.now (map string_bytes c.args.words.now) (sets_held c.in_ok-sets.sets)
+      opened-asked c.args.self.now.locales (map layer_bytes c.args.old.now) (map layer_bytes c.args.new.now) c.args.box_json.now (map string_bytes c.args.words.now) (sets_held c.in_ok-sets.sets)
           (opened_diff c.in_ok-opened.opened) (named_diff c.in_ok-named.named) all pairs c.in_ok-sets.ensures c.in_ok-opened.ensures.value c.in_ok-named.ensures c.in_ok-all.ensures found,
       c.in_ok-diff.ensures,
     )
