@@ -292,6 +292,8 @@ if command -v python3 >/dev/null; then
     ends "JSON Schemas" 0 "python3 '$here/tests/check_schemas.py' \"\$0\""
     ends "worked certificates" 0 "python3 '$here/tests/worked_certificates.py' \"\$0\" 4"
     ends "random certificates" 0 "python3 '$here/tests/check_certificates.py' \"\$0\" 400 4"
+    ends "worked boxes and certificates by a phone's locales" 0 "python3 '$here/tests/worked_locales.py' \"\$0\" 4"
+    ends "random certificates by a phone's locales" 0 "python3 '$here/tests/check_certificates.py' --locales android \"\$0\" 400 4"
 else
     echo "not run, since python3 is missing: JSON Schemas, worked and random certificates"
 fi
@@ -312,6 +314,7 @@ line wrong-box.err 'refused: box: Empty night'
 check "a survey with a wrong box" 3 $none wrong-box.err survey layers wrong-box
 if command -v python3 >/dev/null; then
     ends "random surveys" 0 "python3 '$here/tests/check_survey.py' \"\$0\" 400 4"
+    ends "random surveys by a phone's locales" 0 "python3 '$here/tests/check_survey.py' --locales android \"\$0\" 40 4"
 else
     echo "not run, since python3 is missing: random surveys"
 fi
@@ -367,6 +370,7 @@ ends "names of a table" 2 '"$0" rows --names table'
 ends "goals left out of a check" 2 '"$0" check --omit layers box certificate 0x7f010000'
 if command -v python3 >/dev/null; then
     ends "random certificates that leave goals out" 0 "python3 '$here/tests/check_omitted.py' \"\$0\" 400 4"
+    ends "random certificates that leave goals out, by a phone's locales" 0 "python3 '$here/tests/check_omitted.py' --locales android \"\$0\" 200 4"
 else
     echo "not run, since python3 is missing: random certificates that leave goals out"
 fi
@@ -382,6 +386,7 @@ ends "the map of a second overlay" 0 "cd '$here/examples' && \"\$0\" map teapot/
 if command -v python3 >/dev/null; then
     ends "worked certificates that are made" 0 "python3 '$here/tests/worked_made.py' \"\$0\" 4"
     ends "random certificates that are made" 0 "python3 '$here/tests/check_made.py' \"\$0\" 400 4"
+    ends "random certificates that are made by a phone's locales" 0 "python3 '$here/tests/check_made.py' --locales android \"\$0\" 400 4"
 else
     echo "not run, since python3 is missing: worked and random certificates that are made"
 fi
@@ -447,6 +452,7 @@ cd "$work" || exit 1
 if command -v python3 >/dev/null; then
     ends "worked changes of an app" 0 "python3 '$here/tests/worked_diff.py' \"\$0\""
     ends "random changes of layers" 0 "python3 '$here/tests/check_diff.py' \"\$0\" 400 4"
+    ends "random changes of layers by a phone's locales" 0 "python3 '$here/tests/check_diff.py' --locales android \"\$0\" 400 4"
 else
     echo "not run, since python3 is missing: worked and random changes of layers"
 fi
