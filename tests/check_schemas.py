@@ -226,6 +226,7 @@ ALIKE = {
         ('{"density":[160],"locale":' + listed('"de"', 513) + "}", "TooMany locale"),
         ('{"density":[160],"locale":["de","DE"]}', "FieldRange locale"),
         ('{"density":[160],"locale":["-FR"]}', "RegionAlone"),
+        ('{"density":[160],"locale":["fr-Latin"]}', "FieldRange locale"),
         ('{"night":[4]}', "FieldRange night"),
         ('{"touchscreen":[256]}', "Density"),
         ("[]", "Shape"),
@@ -314,6 +315,7 @@ ALIKE = {
         node('{"coord":"locale","in":[0]}', "Shape 0 0"),
         node('{"coord":"locale","in":["DE"]}', "Shape 0 0"),
         node('{"coord":"locale","in":["-DE"]}', "Shape 0 0"),
+        node('{"coord":"locale","in":["Latn"]}', "Shape 0 0"),
         (goals(f"[{goal_of(1000001)}]"), "TooManyNodes"),
     ],
 }
@@ -353,6 +355,8 @@ AS_PHONE = {
         ('{"density":160,"locale":"sr-Latn-RS"}', "FieldRange locale"),
         ('{"density":160,"locale":"fil-Latn-419"}', "FieldRange locale"),
     ],
+    "box": [('{"density":[160],"locale":["","sr-RS","sr-Latn-RS"]}', "FieldRange locale")],
+    "certificate": [node('{"coord":"locale","in":["","sr-RS","sr-Latn-RS"]}', "Shape 0 0")],
 }
 
 
