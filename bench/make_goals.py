@@ -1,9 +1,9 @@
 #!/usr/bin/env python3
 """Finds the goals for which a certificate can be made:
 
-    make_goals.py PROGRAM LAYERS BOX <WORDS >GOALS
+    make_goals.py PROGRAM LAYERS BOX [OPTION..] <WORDS >GOALS
 
-A goal that has no value on some device of the box is dropped, since `restool make` ends at the first of them. The ids
+The program is asked with these options. A goal that has no value on some device of the box is dropped, since `restool make` ends at the first of them. The ids
 that are absent on the device with the least value of each qualifier are found by one `restool query`. Of the others, and
 of attributes under styles, certificates are made in groups, and each that `restool make` names is dropped. What was
 dropped is counted on standard error."""
@@ -15,11 +15,16 @@ GOALS_AT_ONCE = 400
 MOST_NODES = "1000000"
 
 
-def run(program, *words):
-    done = subprocess.run([program, *words], capture_output=True, text=True)
-    if done.returncode > 1:
-        sys.exit(f"status {done.returncode}: {' '.join(words[:4])}: {done.stderr}")
-    return done.stdout
+class Program:
+    def __init__(self, path, options):
+        self.path = path
+        self.options = options
+
+    def run(self, command, *words):
+        done = subprocess.run([self.path, command, *self.options, *words], capture_output=True, text=True)
+        if done.returncode > 1:
+            sys.exit(f"status {done.returncode}: {command} {' '.join(words[:3])}: {done.stderr}")
+        return done.stdout
 
 
 def write_corner(box):
@@ -34,7 +39,7 @@ def write_corner(box):
 def with_value(program, layers, names):
     """The goals without the ids that end at no value and no bag on the device `corner`."""
     ids = [name for name in names if "@" not in name]
-    lines = run(program, "query", layers, "corner", *ids).splitlines() if ids else []
+    lines = program.run("query", layers, "corner", *ids).splitlines() if ids else []
     absent = {name for name, line in zip(ids, lines) if line.split(" ")[1] not in ("value", "bag")}
     return [name for name in names if name not in absent]
 
@@ -42,7 +47,7 @@ def with_value(program, layers, names):
 def made(program, layers, box, names):
     """Those of the goals for which a certificate is made."""
     while names:
-        told = run(program, "make", "--max-nodes", MOST_NODES, layers, box, *names)
+        told = program.run("make", "--max-nodes", MOST_NODES, layers, box, *names)
         if not told.startswith("counter goal "):
             if told.startswith("node limit"):
                 sys.exit(f"more than {MOST_NODES} nodes for {len(names)} goals from {names[0]} on")
@@ -53,7 +58,8 @@ def made(program, layers, box, names):
 
 
 def main():
-    program, layers, box = sys.argv[1:4]
+    path, layers, box, *options = sys.argv[1:]
+    program = Program(path, options)
     names = sys.stdin.read().split()
     write_corner(box)
     left = with_value(program, layers, names)
