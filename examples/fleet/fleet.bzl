@@ -9,7 +9,7 @@ def _step_impl(ctx):
         outputs = [printed],
         # the program runs in the app's folder, where the paths in layers.json begin
         command = """here=$PWD printed=$PWD/$1 verb=$2 program=$PWD/$4
-            cd "$3" && shift 4 && "$program" "$verb" layers.json "${@/#/$here/}" @goals.txt >"$printed" ||
+            cd "$3" && shift 4 && "$program" "$verb" --locales android layers.json "${@/#/$here/}" @goals.txt >"$printed" ||
             { cat "$printed" >&2; exit 1; }""",
         arguments = [printed.path, ctx.attr.verb, ctx.attr.folder] + [it.path for it in words],
     )

@@ -1,5 +1,5 @@
 -- Which of two regions is nearer to a device (AOSP: localeDataCompareRegions). Each is looked at with the device's language, as a
--- locale under the device's script; where that has none, the script is 0, under which CLDR lists nothing.
+-- locale under the device's script; under a script that is not known CLDR lists nothing.
 use Rattle.std.specs.Prelude.{ℕ, ◌+◌, ◌==◌, ◌&&◌, ◌||◌, not, nat_lt, Bool, if◌then◌else◌, List, position, slice_index, unwrap_or}
 use Rattle.std.specs.List.{list_any}
 use Rattle.std.specs.Option.{option_map_or}

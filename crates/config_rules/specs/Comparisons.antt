@@ -1,5 +1,5 @@
 -- How two records are compared at a coordinate (AOSP: ResTable_config::isBetterThan). Here a and b are
--- their numbers there, and d is the device's; 0 says nothing.
+-- their numbers there, and d is the device's; 0 says nothing. (The locale of a phone that has none is another number.)
 use Rattle.std.specs.Prelude.{ℕ, ◌-◌, ◌*◌, ◌==◌, ◌&&◌, ◌||◌, not, nat_lt, nat_le, Bool, true, false, if◌then◌else◌, ℤ, pos, ◌+ℤ◌, ◌-ℤ◌, int_lt}
 use Rattle.config_rules.specs.declared.answer.Answer.{Answer}
 use Rattle.config_rules.specs.declared.answer.Answer.TheVariants.{Yes, No, Pass}

@@ -28,7 +28,7 @@ pub enum LocaleFault {
 pub struct Locale {
     pub language: [u8; 2],
     pub region: [u8; 2],
-    /// Zeros where it is compared by language and region alone, which is so of all that texts give.
+    /// Zeros where it is compared by language and region alone, as each is that this crate reads.
     pub script: [u8; 4],
 }
 

@@ -1,4 +1,4 @@
--- Rows that are set aside: they have a script or a variant, and match no device.
+-- Rows that are set aside: they have a script or a variant, and by language and region match no device.
 use Rattle.std.specs.Prelude.{ℕ, List, map, sum}
 use Rattle.resource_table.specs.type_chunks.Row.{set_aside_count}
 use Rattle.resource_table.specs.Table.{rows_of}

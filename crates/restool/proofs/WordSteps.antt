@@ -1,6 +1,6 @@
 -- How words are read, one after the other, and what their first one asks for.
-use Rattle.std.proofs.Common.{◌≡◌, ℕ, ◌<◌, List, [], ◌∷◌, map, length, get_or, ap, subst, sym, ◌∙◌}
-use Rattle.std.specs.Prelude.{Ok, Err, Some, None, Result}
+use Rattle.std.proofs.Common.{ℕ, ◌<◌, List, map, length, get_or}
+use Rattle.std.specs.Prelude.{Err, Result}
 use Rattle.std.specs.Borrow.{Bor}
 use Rattle.json_input.specs.Each.{each}
 use Rattle.json_input.proofs.EachSteps.{EachAllBut, EachAllBut-stops_item}

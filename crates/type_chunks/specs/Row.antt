@@ -25,6 +25,6 @@ row_of row = record { id = row.id.0; config = record_bytes row.config; cell = ce
 abbrev pub with_id : ℕ → List RowOf → List RowOf
 with_id id rows = filter (λ row. row.id == id) rows
 
--- how many of the rows are set aside: those with a script or a variant, which match no device
+-- how many of the rows are set aside: those with a script or a variant, which by language and region match no device
 abbrev pub set_aside_count : List RowOf → ℕ
 set_aside_count rows = count_by (λ row. is_set_aside row.config) rows
