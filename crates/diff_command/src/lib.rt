@@ -8,7 +8,7 @@
 //!
 //! ```text
 //! let words = vec![in alloc; "dimen/*"]?;
-//! let diff = Diff { old: "old.json", new: "new.json", box_path: "box.json", max_nodes: 100_000, words };
+//! let diff = Diff { old: "old.json", new: "new.json", box_path: "box.json", locales: LocaleRule::Android, max_nodes: 100_000, words };
 //! diff.answer(alloc, &inputs, &mut out)?; // reads the files first
 //!
 //! let opened = OpenedDiff::read(alloc, &old_layers, &new_layers, &box_json)?;

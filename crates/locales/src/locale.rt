@@ -22,8 +22,8 @@ pub enum LocaleFault {
     Malformed,
 }
 
-/// A language and a region, each as the two bytes that a record has (AOSP: `language` and `country`
-/// of `ResTable_config`). Where both bytes are zero there is none.
+/// A language, a region and a script, each as the bytes that a record has (AOSP: `language`, `country` and
+/// `localeScript` of `ResTable_config`). Where all bytes are zero there is none.
 #[derive(Clone, Copy, Debug, PartialEq, Eq)]
 pub struct Locale {
     pub language: [u8; 2],

@@ -128,8 +128,8 @@ impl<'a> Stack<'a> {
         None
     }
 
-    /// How many rows of all layers are set aside: their locale has a script or a variant, and they match
-    /// no device.
+    /// How many rows of all layers are set aside: their locale has a script or a variant, and by
+    /// language and region they match no device.
     #[tactic(auto, unfolding(crate::specs::SetAside::set_aside_in_stack))]
     pub fn set_aside(&self) -> u128
         ensures { result ≡ set_aside_in_stack self.now }

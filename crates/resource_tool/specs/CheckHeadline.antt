@@ -1,4 +1,5 @@
--- What a verdict on a certificate promises, from the bytes of all inputs.
+-- What a verdict on a certificate promises, from the bytes of all inputs, by language and region. (By either rule of locales
+-- `IsCheckOutput` says it of inputs that were opened.)
 use Rattle.std.specs.Prelude.{◌≡◌, ℕ, List, Option, Ok}
 use Rattle.std.specs.Io.KnownBytes.{Appends}
 use Rattle.resource_text.specs.cert_maker.res_value.Goal.{GoalSeen}

@@ -6,7 +6,7 @@
 //! order of the definitions, and then does so, or it says the first that is not read or not found.
 //!
 //! ```text
-//! let make = Make { layers: "layers.json", box_path: "box.json", names: false, omit: false, max_nodes: 100_000, goals };
+//! let make = Make { layers: "layers.json", box_path: "box.json", locales: LocaleRule::Android, names: false, omit: false, max_nodes: 100_000, goals };
 //! make.answer(alloc, &inputs, Watch { clock: &rt, is_terminal: true }, &mut out, &mut errors)?; // with a line of the work
 //!
 //! make_bytes(alloc, &layers, &box_json, &goals, 100_000, &mut out)?; // {"goals":[{"id":"0x7f010000","nodes":[{"kind":16, ..

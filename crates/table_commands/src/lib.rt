@@ -7,7 +7,7 @@
 //! and stops at their first fault.
 //!
 //! ```text
-//! let query = Query { layers: "layers.json", device: "device.json", names: false, words }; // what its words ask
+//! let query = Query { layers: "layers.json", device: "device.json", locales: LocaleRule::Android, names: false, words };
 //! query.answer(alloc, &inputs, &mut out)?; // reads these files, and prints as `query_bytes` does
 //! Map { target: "app.arsc", overlay: "-" }.answer(alloc, &inputs, &mut out, &mut errors)?; // as `map_bytes`
 //!
