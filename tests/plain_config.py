@@ -1,6 +1,6 @@
 #!/usr/bin/env python3
-"""A plain reading of a device as Android writes it: the first line of `adb shell am get-config`, without its `config:`; and how
-a device is written so. By itself
+"""A plain reading of a device as Android writes it: the first line of `adb shell am get-config`, with its `config:` and
+without it; and how a device is written so. By itself
 
     plain_config.py [CASES [FIRST]]
 
@@ -116,6 +116,11 @@ def device_of(line):
     return {name: said[name] for name in NAMES if said.get(name, 0) != 0}
 
 
+def line_in(text):
+    """The line of the text that `am get-config` prints."""
+    return re.split("[\r\n]", text.removeprefix("config:").lstrip(" \t"))[0]
+
+
 # ---- write
 
 
@@ -145,6 +150,12 @@ def line_of(device):
     """The line of a device, or None where it says something that no word says."""
     line = "-".join(filter(None, (part_at(device, name) for name in ORDER)))
     return line if device_of(line) == device else None
+
+
+def printed_of(device):
+    """The text that `am get-config` begins with, or None where there is no line."""
+    line = line_of(device)
+    return line and "config: " + line
 
 
 # ---- made lines
@@ -255,6 +266,18 @@ KNOWN = {
     "xhdpi-mcc65536": "FieldRange mcc",
     "xhdpi-w18446744073709551616dp": "Qualifier w18446744073709551616dp",
 }
+PRINTED = {
+    f"config: {FULL}\nabi: arm64-v8a,armeabi-v7a\n": FULL,
+    f"config:\t  {FULL}\r\nconfig: port": FULL,
+    f"config:{FULL}": FULL,
+    f"{FULL}\n": FULL,
+    "config:\nxhdpi": "",
+    "config: xhdpi \n": "xhdpi ",
+    "config:config:xhdpi": "config:xhdpi",
+    " config: xhdpi": "config: xhdpi",
+    "": "",
+}
+"""The line of a text."""
 WRITTEN = {
     "mcc": 310,
     "mnc": MNC_ZERO,
@@ -283,10 +306,12 @@ def main(words):
     results.append(line_of(WRITTEN) == "mcc310-mnc00-b+fil+PH-vrheadset-mdpi-qwerty-navexposed-0x5-v0.1")
     results.append(line_of({"density": 160, "uiType": 1, "screenSize": 5}) is None)
     results.append(line_of(device_of(FULL)) == FULL)
+    results.extend(line_in(text) == line for text, line in PRINTED.items())
     for case in range(first, first + cases):
         device = some_device(random.Random(case))
         line = line_of(device)
         results.append(line is None or device_of("-".join(reversed(parts_of(line)))) == device)
+        results.append(line is None or line_in(printed_of(device) + "\nabi: x86") == line)
     print(f"{sum(results)} passed, {len(results) - sum(results)} failed")
     return 0 if all(results) else 1
 

@@ -11,3 +11,4 @@ pub mod Said
 pub mod Config
 pub mod LineParts
 pub mod Line
+pub mod Printed

@@ -19,6 +19,7 @@ mod line_parts;
 mod locale_part;
 mod numeral;
 mod parts;
+mod printed;
 mod qualifier;
 mod read;
 mod said;
@@ -26,4 +27,5 @@ mod words;
 
 pub use fault::ConfigWordFault;
 pub use line::{NoLine, config_line};
+pub use printed::{print_config, read_printed};
 pub use read::read_config;

@@ -1,0 +1,52 @@
+-- The text that `am get-config` prints: `config:`, a blank, and the line of the device; then lines of other kinds.
+use Rattle.std.specs.Prelude.{ℕ, ◌==◌, ◌||◌, not, Bool, List, [], ◌++◌, take, drop, position, codes, Option, Some, None, unwrap_or, Result, Ok, Err, if◌then◌else◌}
+use Rattle.config_words.specs.declared.line.NoLine.{NoLine}
+use Rattle.config_words.specs.declared.line.NoLine.TheVariants.{NoWord}
+use Rattle.config_words.specs.Cut.{behind}
+use Rattle.config_words.specs.Fault.{FaultOf}
+use Rattle.config_words.specs.Config.{device_of_config}
+use Rattle.config_words.specs.LineParts.{line_text}
+use Rattle.config_words.specs.Line.{is_device}
+
+-- ---- read
+
+-- a space or a tab
+abbrev pub is_blank : ℕ → Bool
+is_blank byte = byte == 32 || byte == 9
+
+abbrev pub from_place : List ℕ → Option ℕ → List ℕ
+from_place text None = []
+from_place text (Some place) = drop place text
+
+-- from the first byte on that is no blank
+abbrev pub without_blanks : List ℕ → List ℕ
+without_blanks text = from_place text (position (λ byte. not (is_blank byte)) text)
+
+-- a line feed or a carriage return
+abbrev pub ends_line : ℕ → Bool
+ends_line byte = byte == 10 || byte == 13
+
+abbrev pub up_to_place : List ℕ → Option ℕ → List ℕ
+up_to_place text None = text
+up_to_place text (Some place) = take place text
+
+abbrev pub first_line : List ℕ → List ℕ
+first_line text = up_to_place text (position ends_line text)
+
+-- A text without `config:` begins with the line.
+unfoldable pub line_in : List ℕ → List ℕ
+line_in text = first_line (without_blanks (unwrap_or (behind (codes "config:") text) text))
+
+-- the device of such a text, or the first fault of its line
+unfoldable pub device_of_printed : List ℕ → Result (List ℕ) FaultOf
+device_of_printed text = device_of_config (line_in text)
+
+-- ---- written
+
+abbrev pub printed_text : List ℕ → List ℕ
+printed_text device = codes "config: " ++ line_text device
+
+-- A device has a text where that reads as the device.
+unfoldable pub printed_of : List ℕ → Result (List ℕ) NoLine
+printed_of device =
+    if is_device (device_of_printed (printed_text device)) device then Ok (printed_text device) else Err NoWord

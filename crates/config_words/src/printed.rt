@@ -1,0 +1,122 @@
+//! The text that `am get-config` prints, of which the first line is of the device.
+
+ghost use Rattle.std.specs.Prelude.{◌≡◌, not, Ok, position, option_map, IfOk};
+ghost use Rattle.contract_words.specs.Exact.{GivesOr};
+ghost use Rattle.config_record.specs.DeviceSeen.{device_numbers};
+ghost use Rattle.config_words.specs.declared.line.NoLine.TheVariants.{OutOfMemory};
+ghost use Rattle.config_words.specs.Fault.{seen};
+ghost use Rattle.config_words.specs.Line.{is_device};
+ghost use Rattle.config_words.specs.Printed.{is_blank, without_blanks, ends_line, first_line, line_in, device_of_printed, printed_text, printed_of};
+
+use crate::cut::behind;
+use crate::fault::ConfigWordFault;
+use crate::line::NoLine;
+use crate::line_parts::line_text;
+use crate::read::read_line;
+use config_record::Device;
+use std::alloc::Global;
+use std::io::{self, Write};
+
+/// What stands before the line.
+const MARK: &[u8] = b"config:";
+
+/// The device of the text that `adb shell am get-config` prints: blanks may stand behind `config:`, and what stands behind
+/// the line is not looked at. A text without `config:` begins with the line.
+///
+/// ```text
+/// let device = read_printed("config: mcc310-mnc4-en-rUS-ldltr-sw411dp-560dpi-v27\nabi: arm64-v8a\n")?;
+/// ```
+pub fn read_printed(text: &str) -> Result<Device, ConfigWordFault<'_>>
+    ensures { seen device_numbers result ≡ device_of_printed text.now }
+{
+    read_text(text.as_bytes())
+}
+
+#[tactic(auto, unfolding(crate::specs::Printed::device_of_printed))]
+fn read_text(text: &[u8]) -> Result<Device, ConfigWordFault<'_>>
+    ensures { seen device_numbers result ≡ device_of_printed text.now }
+{
+    read_line(line_in(text))
+}
+
+#[tactic(auto, unfolding(crate::specs::Printed::line_in))]
+fn line_in(text: &[u8]) -> &[u8]
+    ensures { result.now ≡ line_in text.now }
+{
+    first_line(without_blanks(behind(MARK, text).unwrap_or(text)))
+}
+
+fn without_blanks(text: &[u8]) -> &[u8]
+    ensures { result.now ≡ without_blanks text.now }
+{
+    match first_other(text) {
+        Some(place) => &text[place..],
+        None => &[],
+    }
+}
+
+// The place of the first byte that is no blank.
+fn first_other(text: &[u8]) -> Option<usize>
+    ensures { result ≡ position (λ byte. not (is_blank byte)) text.now }
+{
+    text.iter()
+        .position(|byte| !(*byte == b' ' || *byte == b'\t'))
+}
+
+fn first_line(text: &[u8]) -> &[u8]
+    ensures { result.now ≡ first_line text.now }
+{
+    match first_end(text) {
+        Some(place) => &text[..place],
+        None => text,
+    }
+}
+
+// The place where the first line ends, if another follows.
+fn first_end(text: &[u8]) -> Option<usize>
+    ensures { result ≡ position ends_line text.now }
+{
+    text.iter()
+        .position(|byte| *byte == b'\n' || *byte == b'\r')
+}
+
+/// The text that `am get-config` begins with on a device: `config: `, and its line. It is read back before it is given.
+///
+/// ```text
+/// let text = print_config(alloc, &device)?; // config: mcc310-mnc4-en-rUS-ldltr-sw411dp-560dpi-v27
+/// ```
+#[tactic(auto, unfolding(crate::specs::Printed::printed_of))]
+pub fn print_config(alloc: Global, device: &Device) -> Result<Vec<u8>, NoLine>
+    ensures text { GivesOr OutOfMemory (λ text. text.items) result (printed_of (device_numbers device.now)) }
+
+    // It reads as that device.
+    ensures reads_back { IfOk result (λ text. device_of_printed text.items ≡ Ok (device_numbers device.now)) }
+{
+    // To a `Vec` only a want of memory is a fault.
+    let Ok(text) = printed_text(alloc, device) else {
+        return Err(NoLine::OutOfMemory);
+    };
+    if !is_text_of(&text, device) {
+        return Err(NoLine::NoWord);
+    }
+    Ok(text)
+}
+
+fn printed_text(alloc: Global, device: &Device) -> io::Result<Vec<u8>>
+    ensures { IfOk result (λ text. text.items ≡ printed_text (device_numbers device.now)) }
+{
+    let line = line_text(alloc, device)?;
+    let mut text = Vec::new(alloc);
+    text.write_all(b"config: ")?;
+    text.write_all(&line)?;
+    Ok(text)
+}
+
+fn is_text_of(text: &[u8], device: &Device) -> bool
+    ensures { result ≡ is_device (device_of_printed text.now) (device_numbers device.now) }
+{
+    match read_text(text) {
+        Ok(read) => read == *device,
+        Err(_) => false,
+    }
+}
