@@ -6,10 +6,13 @@ without it; and how a device is written so. By itself
 
 tries known lines, and then so many made ones, 5,000 if it is not said, numbered from FIRST on, which is 0 if it is not given:
 where a device can be written, its line reads as that device. Its last line is `N passed, M failed`. `--lines` before the
-numbers prints the made lines instead, and `--told` what each line of standard input says."""
+numbers prints the made lines instead, and `--told` what each line of standard input says; with `--android` locales are read as
+by a phone, which knows their scripts."""
 import random
 import re
 import sys
+
+from plain_locales import joined, likely
 
 NAMES = """mcc mnc locale layoutDirection smallestWidthDp widthDp heightDp screenSize long round wideColor hdr orientation uiType
 night density touchscreen keysHidden navHidden keyboard navigation width height sdk minor""".split()
@@ -67,15 +70,19 @@ def number(digits):
     return value if value < 1 << 64 else None
 
 
-def locale_in(part):
-    """The first locale of a part."""
+def locale_in(part, android):
+    """The first locale of a part. A phone knows its script, which its text has where it is not the likely one."""
     first = part.split(",")[0]
-    region = "[A-Z]{2}|[0-9]{3}"
-    found = re.fullmatch(rf"([a-z]{{2,3}})(?:-r({region}))?", first) or re.fullmatch(rf"b\+([a-z]{{2,3}})(?:\+({region}))?", first)
-    return found and "-".join(group for group in found.groups() if group)
+    language, region = "([a-z]{2,3})", "([A-Z]{2}|[0-9]{3})"
+    script = r"(?:\+([A-Z][a-z]{3}))?" if android else "()"
+    found = re.fullmatch(rf"{language}()(?:-r{region})?", first) or re.fullmatch(rf"b\+{language}{script}(?:\+{region})?", first)
+    if not found:
+        return None
+    language, script, region = (group or "" for group in found.groups())
+    return joined(language, "" if script == likely(language, region) else script, region)
 
 
-def qualifier_in(part):
+def qualifier_in(part, android):
     """The kind of a part, and what it says of which coordinates; None where it is no qualifier."""
     for name, words in WORDS.items():
         if part in words:
@@ -90,7 +97,7 @@ def qualifier_in(part):
         if found:
             values = [number(group) for group in (*found.groups(), "0")[:2]]
             return None not in values and (names[0], dict(zip(names, values)))
-    locale = locale_in(part)
+    locale = locale_in(part, android)
     return locale and ("locale", {"locale": locale})
 
 
@@ -99,11 +106,11 @@ def parts_of(line):
     return re.split("-(?!r[A-Z0-9])", line)
 
 
-def device_of(line):
+def device_of(line, android=False):
     """What the parts say, with their numbers in range."""
     said, kinds = {"uiType": 1}, set()
     for part in parts_of(line):
-        kind, says = qualifier_in(part) or (None, None)
+        kind, says = qualifier_in(part, android) or (None, None)
         if kind is None or kind in kinds:
             raise Refused("Qualifier " + part)
         kinds.add(kind)
@@ -128,10 +135,10 @@ def part_at(device, name):
     """The part of a coordinate; empty where there is none."""
     value = device.get(name, 0)
     if name == "locale":
-        language, _, region = (value or "").partition("-")
-        if len(language) == 2 and len(region) in (0, 2):
-            return language + (region and "-r" + region)
-        return language and "b+" + language + (region and "+" + region)
+        language, *others = (value or "").split("-")
+        if len(language) == 2 and [len(other) for other in others] in ([], [2]):
+            return "-r".join([language, *others])
+        return language and "b+" + "+".join([language, *others])
     if name == "width":
         size = value, device.get("height", 0)
         return "{}x{}".format(*size) if any(size) else ""
@@ -146,15 +153,18 @@ def part_at(device, name):
     return str(value).join(AROUND[name]) if name in AROUND else ""
 
 
-def line_of(device):
-    """The line of a device, or None where it says something that no word says."""
+def line_of(device, android=False):
+    """The line of a device, or None where it says something that no part says."""
     line = "-".join(filter(None, (part_at(device, name) for name in ORDER)))
-    return line if device_of(line) == device else None
+    try:
+        return line if device_of(line, android) == device else None
+    except Refused:
+        return None
 
 
-def printed_of(device):
+def printed_of(device, android=False):
     """The text that `am get-config` begins with, or None where there is no line."""
-    line = line_of(device)
+    line = line_of(device, android)
     return line and "config: " + line
 
 
@@ -169,7 +179,7 @@ def some_locale(chance):
     language = chance.choice("en es fil car b e xx2 EN de".split())
     region = chance.choice(["", "US", "419", "MX", "u", "12", "1234", "USA"])
     return chance.choice(
-        [language, f"{language}-r{region}", f"b+{language}", f"b+{language}+{region}", f"b+{language}+Latn", "b+sr+Latn+RS", f"{language}-{region}"]
+        [language, f"{language}-r{region}", f"b+{language}", f"b+{language}+{region}", f"b+{language}+Latn", "b+sr+Latn+RS", f"b+{language}+Hans+{region}", f"{language}-rHans", f"{language}-{region}"]
     )
 
 
@@ -188,12 +198,17 @@ def some_part(chance):
     return chance.choice(list(AROUND)) + "dp"
 
 
-def some_device(chance):
+SCRIPTED = "zh-Hant zh-HK zh-Hans-HK sr sr-Latn sr-Latn-RS en-Dsrt-US fil-Tglg-419 az-Arab xx-Latn".split()
+"""Texts of locales that a phone knows, without the script where it is the likely one."""
+
+
+def some_device(chance, android=False):
     """Numbers that words can say, mostly, at some of the coordinates."""
     device = {"density": chance.choice((120, 160, 213, 320, 420, 560, 640, 1, 32767)), "uiType": 1}
     for name in chance.sample(NAMES, chance.randrange(len(NAMES) + 1)):
         if name == "locale":
-            device[name] = chance.choice(["en", "en-US", "es-419", "fil", "fil-PH", "car", "car-BR", "eng-001"])
+            texts = ["en", "en-US", "es-419", "fil", "fil-PH", "car", "car-BR", "eng-001"]
+            device[name] = chance.choice(texts + (SCRIPTED if android else []))
         elif name != "density":
             limit = GREATEST.get(name, 65535)
             device[name] = min(limit, chance.choice((*WORDS.get(name, {}).values(), 1, 2, 3, limit if chance.random() < 0.1 else 2)))
@@ -230,13 +245,13 @@ def text_of(device):
     return " ".join(f"{name}={value}" for name, value in device.items())
 
 
-def told(line):
+def told(line, android=False):
     """Its device, and the line that Android writes of that; or its fault."""
     try:
-        device = device_of(line)
+        device = device_of(line, android)
     except Refused as refused:
         return str(refused)
-    return f"{text_of(device)} | {line_of(device) or 'NoWord'}"
+    return f"{text_of(device)} | {line_of(device, android) or 'NoWord'}"
 
 
 FULL = "-".join(
@@ -266,6 +281,21 @@ KNOWN = {
     "xhdpi-mcc65536": "FieldRange mcc",
     "xhdpi-w18446744073709551616dp": "Qualifier w18446744073709551616dp",
 }
+BY_ANDROID = {
+    "b+zh+Hans+CN-xhdpi": "locale=zh-CN uiType=1 density=320 | zh-rCN-xhdpi",
+    "b+zh+Hant+CN-xhdpi": "locale=zh-Hant-CN uiType=1 density=320 | b+zh+Hant+CN-xhdpi",
+    "b+sr+Latn-xhdpi": "locale=sr-Latn uiType=1 density=320 | b+sr+Latn-xhdpi",
+    "b+sr+Latn+RS,en-xhdpi": "locale=sr-Latn-RS uiType=1 density=320 | b+sr+Latn+RS-xhdpi",
+    "sr-rRS-xhdpi": "locale=sr-RS uiType=1 density=320 | sr-rRS-xhdpi",
+    "b+fil+419-xhdpi": "locale=fil-419 uiType=1 density=320 | b+fil+419-xhdpi",
+    "xhdpi": "uiType=1 density=320 | xhdpi",
+    "b+zh+CN+Hans-xhdpi": "Qualifier b+zh+CN+Hans",
+    "b+zh+Hans+CN+x-xhdpi": "Qualifier b+zh+Hans+CN+x",
+    "b+zh+hans-xhdpi": "Qualifier b+zh+hans",
+    "zh-rHans-xhdpi": "Qualifier zh-rHans",
+    "b++Hans-xhdpi": "Qualifier b++Hans",
+    "b+-xhdpi": "Qualifier b+",
+}
 PRINTED = {
     f"config: {FULL}\nabi: arm64-v8a,armeabi-v7a\n": FULL,
     f"config:\t  {FULL}\r\nconfig: port": FULL,
@@ -292,26 +322,28 @@ WRITTEN = {
 
 
 def main(words):
-    lines = "--lines" in words
+    lines, android = "--lines" in words, "--android" in words
     numbers = [int(word) for word in words if word.isdigit()]
     cases, first = (numbers + [CASES, 0][len(numbers) :])[:2]
     if "--told" in words:
         for line in sys.stdin:
-            print(told(line.rstrip("\n")))
+            print(told(line.rstrip("\n"), android))
         return 0
     if lines:
         print(*(made_line(case) for case in range(first, first + cases)), sep="\n")
         return 0
     results = [told(line).split(" | ")[0] == meant for line, meant in KNOWN.items()]
+    results.extend(told(line, True) == meant for line, meant in BY_ANDROID.items())
+    results.append(line_of({"locale": "sr-Latn-RS", "density": 160, "uiType": 1}) is None)
     results.append(line_of(WRITTEN) == "mcc310-mnc00-b+fil+PH-vrheadset-mdpi-qwerty-navexposed-0x5-v0.1")
     results.append(line_of({"density": 160, "uiType": 1, "screenSize": 5}) is None)
     results.append(line_of(device_of(FULL)) == FULL)
     results.extend(line_in(text) == line for text, line in PRINTED.items())
     for case in range(first, first + cases):
-        device = some_device(random.Random(case))
-        line = line_of(device)
-        results.append(line is None or device_of("-".join(reversed(parts_of(line)))) == device)
-        results.append(line is None or line_in(printed_of(device) + "\nabi: x86") == line)
+        device = some_device(random.Random(case), case % 2)
+        line = line_of(device, case % 2)
+        results.append(line is None or device_of("-".join(reversed(parts_of(line))), case % 2) == device)
+        results.append(line is None or line_in(printed_of(device, case % 2) + "\nabi: x86") == line)
     print(f"{sum(results)} passed, {len(results) - sum(results)} failed")
     return 0 if all(results) else 1
 

@@ -1,2 +1,4 @@
 pub mod PartSteps
 pub mod SaidSteps
+pub mod DeviceSteps
+pub mod GivenSteps

@@ -3,6 +3,7 @@ pub mod Cut
 pub mod Numeral
 pub mod Parts
 pub mod PartsSeen
+pub mod PhoneLocale
 pub mod LocalePart
 pub mod Words
 pub mod Forms

@@ -25,21 +25,29 @@ or_form_text None coord number = form_text number (form_for forms coord)
 unfoldable pub number_part : Coord → ℕ → Option (List ℕ)
 number_part coord number = if number == 0 then None else or_form_text (word_for words coord number) coord number
 
--- a region of two letters, or none
+-- What stands behind the language of a locale's text is a region, a script, or both with a dash between them.
+
+-- a region of two letters, or nothing
 abbrev pub is_short : Option (List ℕ) → Bool
 is_short None = true
-is_short (Some region) = length region == 2
+is_short (Some others) = length others == 2
 
 abbrev pub behind_sign : List ℕ → Option (List ℕ) → List ℕ
 behind_sign sign None = []
-behind_sign sign (Some region) = sign ++ region
+behind_sign sign (Some text) = sign ++ text
 
--- `es-rMX` where language and region have two letters; else with `b+`, as `b+es+419` and `b+fil`
+-- each with a plus in front
+abbrev pub behind_pluses : Option (List ℕ) → List ℕ
+behind_pluses None = []
+behind_pluses (Some others) = codes "+" ++ (cut_at dash others).0 ++ behind_sign (codes "+") (cut_at dash others).1
+
+-- `es-rMX` where the language has two letters and no more is there than a region of two; else with `b+`, as `b+es+419`,
+-- `b+fil` and `b+sr+Latn+RS`
 unfoldable pub locale_part : List ℕ → Option (List ℕ) → Option (List ℕ)
-locale_part language region =
+locale_part language others =
     if length language == 0 then None
-    else if length language == 2 && is_short region then Some (language ++ behind_sign (codes "-r") region)
-    else Some (codes "b+" ++ language ++ behind_sign (codes "+") region)
+    else if length language == 2 && is_short others then Some (language ++ behind_sign (codes "-r") others)
+    else Some (codes "b+" ++ language ++ behind_pluses others)
 
 abbrev pub cut_locale_part : List ℕ × Option (List ℕ) → Option (List ℕ)
 cut_locale_part parts = locale_part parts.0 parts.1

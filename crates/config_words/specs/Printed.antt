@@ -1,10 +1,12 @@
 -- The text that `am get-config` prints: `config:`, a blank, and the line of the device; then lines of other kinds.
 use Rattle.std.specs.Prelude.{ℕ, ◌==◌, ◌||◌, not, Bool, List, [], ◌++◌, take, drop, position, codes, Option, Some, None, unwrap_or, Result, Ok, Err, if◌then◌else◌}
+use Rattle.config_record.specs.android_locales.declared.locale_rule.LocaleRule.{LocaleRule}
+use Rattle.config_record.specs.android_locales.declared.locale_rule.LocaleRule.TheVariants.{LanguageAndRegion}
 use Rattle.config_words.specs.declared.line.NoLine.{NoLine}
 use Rattle.config_words.specs.declared.line.NoLine.TheVariants.{NoWord}
 use Rattle.config_words.specs.Cut.{behind}
 use Rattle.config_words.specs.Fault.{FaultOf}
-use Rattle.config_words.specs.Config.{device_of_config}
+use Rattle.config_words.specs.Config.{device_of_config_by}
 use Rattle.config_words.specs.LineParts.{line_text}
 use Rattle.config_words.specs.Line.{is_device}
 
@@ -38,15 +40,23 @@ unfoldable pub line_in : List ℕ → List ℕ
 line_in text = first_line (without_blanks (unwrap_or (behind (codes "config:") text) text))
 
 -- the device of such a text, or the first fault of its line
-unfoldable pub device_of_printed : List ℕ → Result (List ℕ) FaultOf
-device_of_printed text = device_of_config (line_in text)
+unfoldable pub device_of_printed_by : LocaleRule → List ℕ → Result (List ℕ) FaultOf
+device_of_printed_by rule text = device_of_config_by rule (line_in text)
+
+-- by language and region
+abbrev pub device_of_printed : List ℕ → Result (List ℕ) FaultOf
+device_of_printed = device_of_printed_by LanguageAndRegion
 
 -- ---- written
 
 abbrev pub printed_text : List ℕ → List ℕ
 printed_text device = codes "config: " ++ line_text device
 
--- A device has a text where that reads as the device.
-unfoldable pub printed_of : List ℕ → Result (List ℕ) NoLine
-printed_of device =
-    if is_device (device_of_printed (printed_text device)) device then Ok (printed_text device) else Err NoWord
+-- A device has a text where that reads as the device by this rule.
+unfoldable pub printed_of_by : LocaleRule → List ℕ → Result (List ℕ) NoLine
+printed_of_by rule device =
+    if is_device (device_of_printed_by rule (printed_text device)) device then Ok (printed_text device) else Err NoWord
+
+-- by language and region
+abbrev pub printed_of : List ℕ → Result (List ℕ) NoLine
+printed_of = printed_of_by LanguageAndRegion

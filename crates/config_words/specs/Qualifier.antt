@@ -3,11 +3,12 @@ use Rattle.std.specs.Prelude.{ℕ, List, codes, option_map, Option, Some, None}
 use Rattle.std.specs.Option.{option_and_then, option_or}
 use Rattle.config_record.specs.declared.coord.Coord.{Coord}
 use Rattle.config_record.specs.declared.coord.Coord.TheVariants as coords
+use Rattle.config_record.specs.android_locales.declared.locale_rule.LocaleRule.{LocaleRule}
 use Rattle.config_words.specs.declared.qualifier.Qualifier.{Qualifier}
 use Rattle.config_words.specs.declared.qualifier.Qualifier.TheVariants.{Number, Locale, Size, Version}
 use Rattle.config_words.specs.Cut.{cut_at, behind}
 use Rattle.config_words.specs.Numeral.{number_of}
-use Rattle.config_words.specs.LocalePart.{locale_in}
+use Rattle.config_words.specs.LocalePart.{locale_in, IsGivenFor}
 use Rattle.config_words.specs.Words.{words, find_word}
 use Rattle.config_words.specs.Forms.{forms, numbered_by}
 
@@ -43,14 +44,23 @@ version_of text = two_numbers Version (Some 0) (cut_at dot text).0 (cut_at dot t
 unfoldable pub version_in : List ℕ → Option Qualifier
 version_in part = option_and_then version_of (behind (codes "v") part)
 
-unfoldable pub locales_in : List ℕ → Option Qualifier
-locales_in part = option_map Locale (locale_in part)
+-- one or two numbers
+unfoldable pub numbers_in : List ℕ → Option Qualifier
+numbers_in part = option_or (word_in part) (option_or (number_in part) (option_or (size_in part) (version_in part)))
+
+unfoldable pub locales_in : LocaleRule → List ℕ → Option Qualifier
+locales_in rule part = option_map Locale (locale_in rule part)
 
 -- A word comes first: a part `car` is the type of a device's interface, and no language.
-unfoldable pub qualifier_in : List ℕ → Option Qualifier
-qualifier_in part = option_or (word_in part) (option_or (number_in part) (option_or (size_in part) (option_or (version_in part) (locales_in part))))
+unfoldable pub qualifier_in : LocaleRule → List ℕ → Option Qualifier
+qualifier_in rule part = option_or (numbers_in part) (locales_in rule part)
 
--- the first coordinate that it speaks of, which no two of a line may share
+-- its locale, if it is one
+abbrev pub HasGivenFor : LocaleRule → Qualifier → Type 0
+HasGivenFor rule (Locale locale) = IsGivenFor rule locale
+HasGivenFor rule _ = Unit {0}
+
+-- Two parts are of one kind where they speak of one coordinate. A size is told by its width, a version by its first number.
 abbrev pub kind_of : Qualifier → Coord
 kind_of (Number coord number) = coord
 kind_of (Locale locale) = coords.Locale

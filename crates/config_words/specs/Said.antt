@@ -5,6 +5,7 @@ use Rattle.config_record.specs.declared.coord.Coord.{Coord}
 use Rattle.config_record.specs.declared.coord.Coord.TheVariants as coords
 use Rattle.config_record.specs.declared.fields.Fields.{Fields}
 use Rattle.config_record.specs.Coord.{place_of}
+use Rattle.config_record.specs.android_locales.declared.locale_rule.LocaleRule.{LocaleRule}
 use Rattle.config_words.specs.declared.qualifier.Qualifier.{Qualifier}
 use Rattle.config_words.specs.declared.qualifier.Qualifier.TheVariants.{Number, Locale, Size, Version}
 use Rattle.config_words.specs.declared.said.Said.{Said}
@@ -38,10 +39,10 @@ with_read part None said = Err (NoQualifier part)
 with_read part (Some qualifier) said =
     if is_given said (kind_of qualifier) then Err (NoQualifier part) else Ok (with_given qualifier said)
 
-unfoldable pub with_part : List ℕ → Said → Result Said FaultOf
-with_part part said = with_read part (qualifier_in part) said
+unfoldable pub with_part : LocaleRule → List ℕ → Said → Result Said FaultOf
+with_part rule part said = with_read part (qualifier_in rule part) said
 
 -- from the left
-unfoldable pub with_parts : List (List ℕ) → Said → Result Said FaultOf
-with_parts [] said = Ok said
-with_parts (part ∷ parts) said = with_part part said >>= with_parts parts
+unfoldable pub with_parts : LocaleRule → List (List ℕ) → Said → Result Said FaultOf
+with_parts rule [] said = Ok said
+with_parts rule (part ∷ parts) said = with_part rule part said >>= with_parts rule parts

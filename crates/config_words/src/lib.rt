@@ -19,6 +19,7 @@ mod line_parts;
 mod locale_part;
 mod numeral;
 mod parts;
+mod phone_locale;
 mod printed;
 mod qualifier;
 mod read;
@@ -26,6 +27,6 @@ mod said;
 mod words;
 
 pub use fault::ConfigWordFault;
-pub use line::{NoLine, config_line};
-pub use printed::{print_config, read_printed};
-pub use read::read_config;
+pub use line::{NoLine, config_line, config_line_by};
+pub use printed::{print_config, print_config_by, read_printed, read_printed_by};
+pub use read::{read_config, read_config_by};

@@ -4,12 +4,12 @@ ghost use Rattle.std.specs.Prelude.{◌≡◌, Ok, IfOk};
 ghost use Rattle.contract_words.specs.Exact.{GivesOr};
 ghost use Rattle.config_record.specs.DeviceSeen.{device_numbers};
 ghost use Rattle.config_words.specs.declared.line.NoLine.TheVariants.{OutOfMemory};
-ghost use Rattle.config_words.specs.Config.{device_of_config};
-ghost use Rattle.config_words.specs.Line.{is_device, config_line_of};
+ghost use Rattle.config_words.specs.Config.{device_of_config, device_of_config_by};
+ghost use Rattle.config_words.specs.Line.{is_device, config_line_of, config_line_of_by};
 
 use crate::line_parts::line_text;
 use crate::read::read_line;
-use config_record::Device;
+use config_record::{Device, LocaleRule};
 use std::alloc::Global;
 use thiserror::Error;
 
@@ -28,27 +28,38 @@ pub enum NoLine {
 /// ```text
 /// let line = config_line(alloc, &device)?; // mcc310-mnc4-es-rMX-ldltr-sw411dp-port-560dpi-v27
 /// ```
-#[tactic(auto, unfolding(crate::specs::Line::config_line_of))]
 pub fn config_line(alloc: Global, device: &Device) -> Result<Vec<u8>, NoLine>
     ensures line { GivesOr OutOfMemory (λ line. line.items) result (config_line_of (device_numbers device.now)) }
 
     // It reads as that device.
     ensures reads_back { IfOk result (λ line. device_of_config line.items ≡ Ok (device_numbers device.now)) }
 {
+    config_line_by(alloc, device, LocaleRule::LanguageAndRegion)
+}
+
+/// The same, where the line is read back by a rule. For a phone a script is written that is not the likely one, as
+/// `b+sr+Latn+RS`.
+#[tactic(auto, unfolding(crate::specs::Line::config_line_of_by))]
+pub fn config_line_by(alloc: Global, device: &Device, rule: LocaleRule) -> Result<Vec<u8>, NoLine>
+    ensures line { GivesOr OutOfMemory (λ line. line.items) result (config_line_of_by rule (device_numbers device.now)) }
+
+    // It reads as that device.
+    ensures reads_back { IfOk result (λ line. device_of_config_by rule line.items ≡ Ok (device_numbers device.now)) }
+{
     // To a `Vec` only a want of memory is a fault.
     let Ok(line) = line_text(alloc, device) else {
         return Err(NoLine::OutOfMemory);
     };
-    if !is_line_of(&line, device) {
+    if !is_line_of(&line, device, rule) {
         return Err(NoLine::NoWord);
     }
     Ok(line)
 }
 
-fn is_line_of(line: &[u8], device: &Device) -> bool
-    ensures { result ≡ is_device (device_of_config line.now) (device_numbers device.now) }
+fn is_line_of(line: &[u8], device: &Device, rule: LocaleRule) -> bool
+    ensures { result ≡ is_device (device_of_config_by rule line.now) (device_numbers device.now) }
 {
-    match read_line(line) {
+    match read_line(line, rule) {
         Ok(read) => read == *device,
         Err(_) => false,
     }

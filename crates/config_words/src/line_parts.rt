@@ -7,7 +7,7 @@ ghost use Rattle.config_record.specs.android_locales.Text.{locale_text};
 ghost use Rattle.config_record.specs.DeviceSeen.{device_numbers};
 ghost use Rattle.config_words.specs.Forms.{form_of};
 ghost use Rattle.config_words.specs.Cut.{cut_at};
-ghost use Rattle.config_words.specs.LineParts.{form_text, number_part, is_short, behind_sign, locale_part, cut_locale_part, size_part, minor_text, version_part, part_at, with_line_part, line_from, line_order, line_text};
+ghost use Rattle.config_words.specs.LineParts.{form_text, number_part, is_short, behind_sign, behind_pluses, locale_part, cut_locale_part, size_part, minor_text, version_part, part_at, with_line_part, line_from, line_order, line_text};
 
 use crate::cut::cut_at;
 use crate::forms::{Form, form_for};
@@ -116,44 +116,57 @@ fn add_locale(alloc: Global, locale: Locale, line: &mut Vec<u8>) -> io::Result<(
 {
     let mut text = Vec::new(alloc);
     write_locale(locale, &mut text)?;
-    let (language, region) = cut_at(b'-', &text);
-    add_language(language, region, line)
+    let (language, others) = cut_at(b'-', &text);
+    add_language(language, others, line)
 }
 
 #[tactic(auto, unfolding(crate::specs::LineParts::locale_part))]
-fn add_language(language: &[u8], region: Option<&[u8]>, line: &mut Vec<u8>) -> io::Result<()>
-    ensures { OnOk result (line.new.items ≡ with_line_part line.old.items (locale_part language.now (option_map (λ region. region.now) region.entry))) }
+fn add_language(language: &[u8], others: Option<&[u8]>, line: &mut Vec<u8>) -> io::Result<()>
+    ensures { OnOk result (line.new.items ≡ with_line_part line.old.items (locale_part language.now (option_map (λ others. others.now) others.entry))) }
 {
     if language.is_empty() {
         return Ok(());
     }
     begin_part(line)?;
-    if language.len() == 2 && is_short(region) {
+    if language.len() == 2 && is_short(others) {
         line.write_all(language)?;
-        return write_region(b"-r", region, line);
+        return write_behind(b"-r", others, line);
     }
     line.write_all(b"b+")?;
     line.write_all(language)?;
-    write_region(b"+", region, line)
+    write_behind_pluses(others, line)
 }
 
-fn is_short(region: Option<&[u8]>) -> bool
-    ensures { result ≡ is_short (option_map (λ region. region.now) region.entry) }
+fn is_short(others: Option<&[u8]>) -> bool
+    ensures { result ≡ is_short (option_map (λ others. others.now) others.entry) }
 {
-    match region {
-        Some(region) => region.len() == 2,
+    match others {
+        Some(others) => others.len() == 2,
         None => true,
     }
 }
 
-fn write_region(sign: &[u8], region: Option<&[u8]>, line: &mut Vec<u8>) -> io::Result<()>
-    ensures { OnOk result (line.new.items ≡ line.old.items ++ behind_sign sign.now (option_map (λ region. region.now) region.entry)) }
+fn write_behind(sign: &[u8], text: Option<&[u8]>, line: &mut Vec<u8>) -> io::Result<()>
+    ensures { OnOk result (line.new.items ≡ line.old.items ++ behind_sign sign.now (option_map (λ text. text.now) text.entry)) }
 {
-    let Some(region) = region else {
+    let Some(text) = text else {
         return Ok(());
     };
     line.write_all(sign)?;
-    line.write_all(region)
+    line.write_all(text)
+}
+
+// A region, a script, or both.
+fn write_behind_pluses(others: Option<&[u8]>, line: &mut Vec<u8>) -> io::Result<()>
+    ensures { OnOk result (line.new.items ≡ line.old.items ++ behind_pluses (option_map (λ others. others.now) others.entry)) }
+{
+    let Some(others) = others else {
+        return Ok(());
+    };
+    let (first, second) = cut_at(b'-', others);
+    line.write_all(b"+")?;
+    line.write_all(first)?;
+    write_behind(b"+", second, line)
 }
 
 #[tactic(auto, unfolding(crate::specs::LineParts::size_part))]

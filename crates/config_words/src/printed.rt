@@ -6,14 +6,14 @@ ghost use Rattle.config_record.specs.DeviceSeen.{device_numbers};
 ghost use Rattle.config_words.specs.declared.line.NoLine.TheVariants.{OutOfMemory};
 ghost use Rattle.config_words.specs.Fault.{seen};
 ghost use Rattle.config_words.specs.Line.{is_device};
-ghost use Rattle.config_words.specs.Printed.{is_blank, without_blanks, ends_line, first_line, line_in, device_of_printed, printed_text, printed_of};
+ghost use Rattle.config_words.specs.Printed.{is_blank, without_blanks, ends_line, first_line, line_in, device_of_printed, device_of_printed_by, printed_text, printed_of, printed_of_by};
 
 use crate::cut::behind;
 use crate::fault::ConfigWordFault;
 use crate::line::NoLine;
 use crate::line_parts::line_text;
 use crate::read::read_line;
-use config_record::Device;
+use config_record::{Device, LocaleRule};
 use std::alloc::Global;
 use std::io::{self, Write};
 
@@ -29,14 +29,21 @@ const MARK: &[u8] = b"config:";
 pub fn read_printed(text: &str) -> Result<Device, ConfigWordFault<'_>>
     ensures { seen device_numbers result ≡ device_of_printed text.now }
 {
-    read_text(text.as_bytes())
+    read_printed_by(text, LocaleRule::LanguageAndRegion)
 }
 
-#[tactic(auto, unfolding(crate::specs::Printed::device_of_printed))]
-fn read_text(text: &[u8]) -> Result<Device, ConfigWordFault<'_>>
-    ensures { seen device_numbers result ≡ device_of_printed text.now }
+/// The same, where the locale is read by a rule, by which it is then compared.
+pub fn read_printed_by(text: &str, rule: LocaleRule) -> Result<Device, ConfigWordFault<'_>>
+    ensures { seen device_numbers result ≡ device_of_printed_by rule text.now }
 {
-    read_line(line_in(text))
+    read_text(text.as_bytes(), rule)
+}
+
+#[tactic(auto, unfolding(crate::specs::Printed::device_of_printed_by))]
+fn read_text(text: &[u8], rule: LocaleRule) -> Result<Device, ConfigWordFault<'_>>
+    ensures { seen device_numbers result ≡ device_of_printed_by rule text.now }
+{
+    read_line(line_in(text), rule)
 }
 
 #[tactic(auto, unfolding(crate::specs::Printed::line_in))]
@@ -85,18 +92,28 @@ fn first_end(text: &[u8]) -> Option<usize>
 /// ```text
 /// let text = print_config(alloc, &device)?; // config: mcc310-mnc4-en-rUS-ldltr-sw411dp-560dpi-v27
 /// ```
-#[tactic(auto, unfolding(crate::specs::Printed::printed_of))]
 pub fn print_config(alloc: Global, device: &Device) -> Result<Vec<u8>, NoLine>
     ensures text { GivesOr OutOfMemory (λ text. text.items) result (printed_of (device_numbers device.now)) }
 
     // It reads as that device.
     ensures reads_back { IfOk result (λ text. device_of_printed text.items ≡ Ok (device_numbers device.now)) }
 {
+    print_config_by(alloc, device, LocaleRule::LanguageAndRegion)
+}
+
+/// The same, where the text is read back by a rule.
+#[tactic(auto, unfolding(crate::specs::Printed::printed_of_by))]
+pub fn print_config_by(alloc: Global, device: &Device, rule: LocaleRule) -> Result<Vec<u8>, NoLine>
+    ensures text { GivesOr OutOfMemory (λ text. text.items) result (printed_of_by rule (device_numbers device.now)) }
+
+    // It reads as that device.
+    ensures reads_back { IfOk result (λ text. device_of_printed_by rule text.items ≡ Ok (device_numbers device.now)) }
+{
     // To a `Vec` only a want of memory is a fault.
     let Ok(text) = printed_text(alloc, device) else {
         return Err(NoLine::OutOfMemory);
     };
-    if !is_text_of(&text, device) {
+    if !is_text_of(&text, device, rule) {
         return Err(NoLine::NoWord);
     }
     Ok(text)
@@ -112,10 +129,10 @@ fn printed_text(alloc: Global, device: &Device) -> io::Result<Vec<u8>>
     Ok(text)
 }
 
-fn is_text_of(text: &[u8], device: &Device) -> bool
-    ensures { result ≡ is_device (device_of_printed text.now) (device_numbers device.now) }
+fn is_text_of(text: &[u8], device: &Device, rule: LocaleRule) -> bool
+    ensures { result ≡ is_device (device_of_printed_by rule text.now) (device_numbers device.now) }
 {
-    match read_text(text) {
+    match read_text(text, rule) {
         Ok(read) => read == *device,
         Err(_) => false,
     }

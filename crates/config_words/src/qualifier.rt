@@ -1,13 +1,13 @@
 //! What a part of a line says.
 
-ghost use Rattle.std.specs.Prelude.{◌≡◌};
+ghost use Rattle.std.specs.Prelude.{◌≡◌, IfSome};
 
 use crate::cut::{behind, cut_at};
 use crate::forms::numbered;
 use crate::locale_part::locale_in;
 use crate::numeral::number_of;
 use crate::words::find_word;
-use config_record::{Coord, Locale};
+use config_record::{Coord, Locale, LocaleRule};
 
 /// What a part says of a device.
 #[derive(Clone, Copy)]
@@ -22,18 +22,28 @@ pub(crate) enum Qualifier {
 }
 
 impl Qualifier {
-    ghost use Rattle.config_words.specs.Qualifier.{word_in, number_in, size_in, version_of, version_in, locales_in, qualifier_in, kind_of};
+    ghost use Rattle.config_words.specs.Qualifier.{word_in, number_in, size_in, version_of, version_in, numbers_in, locales_in, qualifier_in, HasGivenFor, kind_of};
 
     /// What a part says, if it is a qualifier.
     #[tactic(auto, unfolding(crate::specs::Qualifier::qualifier_in))]
-    pub fn read(part: &[u8]) -> Option<Qualifier>
-        ensures { result ≡ qualifier_in part.now }
+    pub fn read(part: &[u8], rule: LocaleRule) -> Option<Qualifier>
+        ensures value { result ≡ qualifier_in rule part.now }
+        ensures given { IfSome result (λ qualifier. HasGivenFor rule qualifier) }
+    {
+        match Qualifier::numbers_in(part) {
+            Some(qualifier) => Some(qualifier),
+            None => Qualifier::locales_in(part, rule),
+        }
+    }
+
+    #[tactic(auto, unfolding(crate::specs::Qualifier::numbers_in))]
+    fn numbers_in(part: &[u8]) -> Option<Qualifier>
+        ensures { result ≡ numbers_in part.now }
     {
         Qualifier::word_in(part)
             .or_else(|| Qualifier::number_in(part))
             .or_else(|| Qualifier::size_in(part))
             .or_else(|| Qualifier::version_in(part))
-            .or_else(|| Qualifier::locales_in(part))
     }
 
     #[tactic(auto, unfolding(crate::specs::Qualifier::word_in))]
@@ -80,13 +90,14 @@ impl Qualifier {
     }
 
     #[tactic(auto, unfolding(crate::specs::Qualifier::locales_in))]
-    fn locales_in(part: &[u8]) -> Option<Qualifier>
-        ensures { result ≡ locales_in part.now }
+    fn locales_in(part: &[u8], rule: LocaleRule) -> Option<Qualifier>
+        ensures value { result ≡ locales_in rule part.now }
+        ensures given { IfSome result (λ qualifier. HasGivenFor rule qualifier) }
     {
-        Some(Qualifier::Locale(locale_in(part)?))
+        Some(Qualifier::Locale(locale_in(part, rule)?))
     }
 
-    /// The first coordinate that it speaks of, which no two of a line may share.
+    /// Two parts are of one kind where they speak of one coordinate: of a size the width, of a version its first number.
     pub fn kind(self) -> Coord
         ensures { result ≡ kind_of self }
     {

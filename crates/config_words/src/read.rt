@@ -1,16 +1,20 @@
 //! The device of a line.
 
-ghost use Rattle.std.specs.Prelude.{◌≡◌};
+ghost use Rattle.std.specs.Prelude.{◌≡◌, IfOk};
 ghost use Rattle.config_record.specs.DeviceSeen.{device_numbers};
+ghost use Rattle.config_record.specs.DeviceSeen as device;
+ghost use Rattle.config_record.specs.android_locales.Text.{IsGiven};
+ghost use Rattle.config_record.specs.android_locales.declared.locale_rule.LocaleRule.TheVariants.{Android};
+ghost use Rattle.config_words.specs.LocalePart.{IsGivenFor};
 ghost use Rattle.config_words.specs.Fault.{seen};
 ghost use Rattle.config_words.specs.Parts.{parts_of};
 ghost use Rattle.config_words.specs.Said.{with_parts};
-ghost use Rattle.config_words.specs.Config.{nothing_said, device_said, device_of_config};
+ghost use Rattle.config_words.specs.Config.{nothing_said, or_no_device, device_of_fields, device_said, device_of_config, device_of_config_by, without_locale, with_locale};
 
 use crate::fault::ConfigWordFault;
 use crate::parts::first_part;
 use crate::said::Said;
-use config_record::Device;
+use config_record::{Coord, Device, DeviceFault, Fields, Locale, LocaleRule};
 
 /// The device of a line as Android writes it: its parts in any order, each kind at most once.
 ///
@@ -20,35 +24,76 @@ use config_record::Device;
 pub fn read_config(line: &str) -> Result<Device, ConfigWordFault<'_>>
     ensures { seen device_numbers result ≡ device_of_config line.now }
 {
-    read_line(line.as_bytes())
+    read_config_by(line, LocaleRule::LanguageAndRegion)
 }
 
-#[tactic(auto, unfolding(crate::specs::Config::device_of_config))]
-pub(crate) fn read_line(line: &[u8]) -> Result<Device, ConfigWordFault<'_>>
-    ensures { seen device_numbers result ≡ device_of_config line.now }
+/// The same, where the locale is read by a rule, by which it is then compared. For a phone it may have a script, as
+/// `b+zh+Hans+CN` has.
+pub fn read_config_by(line: &str, rule: LocaleRule) -> Result<Device, ConfigWordFault<'_>>
+    ensures { seen device_numbers result ≡ device_of_config_by rule line.now }
 {
-    device_said(said_in(line)?)
+    read_line(line.as_bytes(), rule)
 }
 
-fn said_in(line: &[u8]) -> Result<Said, ConfigWordFault<'_>>
-    ensures { seen (λ said. said) result ≡ with_parts (parts_of line.now) nothing_said }
+#[tactic(auto, unfolding(crate::specs::Config::device_of_config_by))]
+pub(crate) fn read_line(line: &[u8], rule: LocaleRule) -> Result<Device, ConfigWordFault<'_>>
+    ensures { seen device_numbers result ≡ device_of_config_by rule line.now }
 {
-    let mut said = Said::nothing();
+    device_said(said_in(line, rule)?, rule)
+}
+
+fn said_in(line: &[u8], rule: LocaleRule) -> Result<Said, ConfigWordFault<'_>>
+    ensures value { seen (λ said. said) result ≡ with_parts rule (parts_of line.now) (nothing_said rule) }
+    ensures given { IfOk result (λ said. IsGivenFor rule said.fields.locale) }
+{
+    let mut said = Said::nothing(rule);
     let mut left = Some(line);
     'parts: while let Some(text) = left {
         let (part, behind) = first_part(text);
-        said = said.with_part(part)?;
+        said = said.with_part(part, rule)?;
         left = behind;
     }
     Ok(said)
 }
 
 #[tactic(auto, unfolding(crate::specs::Config::device_said))]
-fn device_said(said: Said) -> Result<Device, ConfigWordFault<'static>>
-    ensures { seen device_numbers result ≡ device_said said }
+fn device_said(said: Said, rule: LocaleRule) -> Result<Device, ConfigWordFault<'static>>
+    requires { IsGivenFor rule said.fields.locale }
+    ensures { seen device_numbers result ≡ device_said rule said }
 {
-    match Device::check(&said.fields) {
+    match device_of_fields(&said.fields, rule) {
         Ok(device) => Ok(device),
         Err(fault) => Err(ConfigWordFault::Device(fault)),
     }
+}
+
+#[tactic(auto, unfolding(crate::specs::Config::device_of_fields))]
+fn device_of_fields(fields: &Fields, rule: LocaleRule) -> Result<Device, DeviceFault>
+    requires { IsGivenFor rule fields.now.locale }
+    ensures { device.seen result ≡ device_of_fields rule fields.now }
+{
+    match rule {
+        LocaleRule::LanguageAndRegion => Device::check(fields),
+        LocaleRule::Android => {
+            let plain = Device::check(&without_locale(fields))?;
+            Ok(with_locale(plain, fields.locale))
+        }
+    }
+}
+
+fn without_locale(fields: &Fields) -> Fields
+    ensures { result ≡ without_locale fields.now }
+{
+    Fields {
+        locale: Locale::NONE,
+        ..*fields
+    }
+}
+
+#[tactic(auto, using(crate::proofs::DeviceSteps::located))]
+fn with_locale(device: Device, locale: Locale) -> Device
+    requires { IsGiven locale }
+    ensures { device_numbers result ≡ with_locale locale (device_numbers device) }
+{
+    device.changed(Coord::Locale, locale.number())
 }

@@ -1,11 +1,14 @@
 //! What the parts of a line say together.
 
-ghost use Rattle.std.specs.Prelude.{◌≡◌};
+ghost use Rattle.std.specs.Prelude.{◌≡◌, [], IfOk};
+ghost use Rattle.config_words.specs.LocalePart.{IsGivenFor};
+ghost use Rattle.config_record.specs.android_locales.Text.{locale_by};
 ghost use Rattle.config_words.specs.Said.{with_number, with_qualifier};
+ghost use Rattle.config_words.specs.Config.{or_none};
 
 use crate::fault::ConfigWordFault;
 use crate::qualifier::Qualifier;
-use config_record::{COORD_COUNT, Coord, Fields, Locale};
+use config_record::{COORD_COUNT, Coord, Fields, Locale, LocaleRule, read_locale};
 
 /// The type of an interface that no word names.
 const NORMAL: u64 = 1;
@@ -23,28 +26,35 @@ impl Said {
     ghost use Rattle.config_words.specs.Said.{is_given, with_given, with_part};
     ghost use Rattle.config_words.specs.Config.{nothing_said};
 
-    /// What is said where nothing is: the type of the interface is normal, and all else 0.
+    /// What is said before any part is read: the type of the interface is normal, and each other number is 0.
     #[tactic(auto, unfolding(crate::specs::Config::nothing_said))]
-    pub fn nothing() -> Said
-        ensures { result ≡ nothing_said }
+    pub fn nothing(rule: LocaleRule) -> Said
+        ensures value { result ≡ nothing_said rule }
+        ensures given { IsGivenFor rule result.fields.locale }
     {
         let mut numbers = [0; COORD_COUNT];
         numbers[Coord::UiType.place()] = NORMAL;
         Said {
             fields: Fields {
                 numbers,
-                locale: Locale::NONE,
+                locale: no_locale(rule),
             },
             given: [false; COORD_COUNT],
         }
     }
 
     /// With one more part.
-    #[tactic(auto, unfolding(crate::specs::Said::with_part))]
-    pub fn with_part<'a>(self, part: &'a [u8]) -> Result<Said, ConfigWordFault<'a>>
-        ensures { seen (λ said. said) result ≡ with_part part.now self }
+    #[tactic(auto, unfolding(crate::specs::Said::with_part), using(crate::proofs::GivenSteps::with_given_for))]
+    pub fn with_part<'a>(
+        self,
+        part: &'a [u8],
+        rule: LocaleRule,
+    ) -> Result<Said, ConfigWordFault<'a>>
+        requires { IsGivenFor rule self.fields.locale }
+        ensures value { seen (λ said. said) result ≡ with_part rule part.now self }
+        ensures given { IfOk result (λ said. IsGivenFor rule said.fields.locale) }
     {
-        match Qualifier::read(part) {
+        match Qualifier::read(part, rule) {
             Some(qualifier) if !self.is_given(qualifier.kind()) => Ok(self.with_given(qualifier)),
             _ => Err(ConfigWordFault::Qualifier(part)),
         }
@@ -67,6 +77,18 @@ impl Said {
             fields: with_qualifier(qualifier, self.fields),
             given,
         }
+    }
+}
+
+// The locale of an empty text.
+#[tactic(auto, using(crate::proofs::GivenSteps::none_given))]
+fn no_locale(rule: LocaleRule) -> Locale
+    ensures value { result ≡ or_none (locale_by rule []) }
+    ensures given { IsGivenFor rule result }
+{
+    match read_locale("", rule) {
+        Ok(locale) => locale,
+        Err(_) => Locale::NONE,
     }
 }
 

@@ -1,5 +1,6 @@
 use Rattle.std.proofs.Common.{◌≡◌, ℕ, ◌+◌, List, length, Option, Some, None}
 use Rattle.std.specs.Borrow.{Bor}
+use Rattle.config_words.specs.LocalePart.{IsGivenFor}
 use Rattle.config_words.specs.PartsSeen.{parts_behind}
 use Rattle.config_words.specs.Parts.{parts_of}
 use Rattle.config_words.specs.Said.{with_parts}
@@ -8,7 +9,11 @@ use Rattle.config_words.proofs.read.said_in.Given as goal
 
 -- what is said so far, and the parts that are left
 abbrev pub invariant-parts : goal.invariant-parts
-invariant-parts l = with_parts (parts_behind l.left) l.said ≡ with_parts (parts_of l.line) nothing_said
+invariant-parts l =
+    record {
+      value : with_parts l.rule (parts_behind l.left) l.said ≡ with_parts l.rule (parts_of l.line) (nothing_said l.rule);
+      given : IsGivenFor l.rule l.said.fields.locale;
+    }
 
 abbrev pub size_of_left : Option (Bor (List ℕ)) → ℕ
 size_of_left None = 0
