@@ -153,13 +153,22 @@ def part_at(device, name):
     return str(value).join(AROUND[name]) if name in AROUND else ""
 
 
-def line_of(device, android=False):
-    """The line of a device, or None where it says something that no part says."""
-    line = "-".join(filter(None, (part_at(device, name) for name in ORDER)))
+def written(device):
+    return "-".join(filter(None, (part_at(device, name) for name in ORDER)))
+
+
+def unsaid(device, android=False):
+    """The first coordinate of which a device has what no part says, or None. A part that is refused is a locale's."""
     try:
-        return line if device_of(line, android) == device else None
+        read = device_of(written(device), android)
     except Refused:
-        return None
+        return "locale"
+    return next((name for name in NAMES if read.get(name) != device.get(name)), None)
+
+
+def line_of(device, android=False):
+    """The line of a device, or None where it has something that no part says."""
+    return None if unsaid(device, android) else written(device)
 
 
 def printed_of(device, android=False):
@@ -251,7 +260,7 @@ def told(line, android=False):
         device = device_of(line, android)
     except Refused as refused:
         return str(refused)
-    return f"{text_of(device)} | {line_of(device, android) or 'NoWord'}"
+    return f"{text_of(device)} | {line_of(device, android) or 'NoWord ' + unsaid(device, android)}"
 
 
 FULL = "-".join(
@@ -320,6 +329,15 @@ WRITTEN = {
     "navHidden": 1,
 }
 
+UNSAID = {
+    None: {"density": 160, "uiType": 1},
+    "uiType": {"density": 160, "keyboard": 9},
+    "screenSize": {"density": 160, "uiType": 1, "screenSize": 5, "long": 3},
+    "locale": {"locale": "sr-Latn-RS", "layoutDirection": 3, "density": 160, "uiType": 1},
+    "navigation": {"density": 160, "uiType": 1, "navigation": 5, "width": 5},
+}
+"""Devices, and the first coordinate of which no part says what they have."""
+
 
 def main(words):
     lines, android = "--lines" in words, "--android" in words
@@ -334,9 +352,8 @@ def main(words):
         return 0
     results = [told(line).split(" | ")[0] == meant for line, meant in KNOWN.items()]
     results.extend(told(line, True) == meant for line, meant in BY_ANDROID.items())
-    results.append(line_of({"locale": "sr-Latn-RS", "density": 160, "uiType": 1}) is None)
     results.append(line_of(WRITTEN) == "mcc310-mnc00-b+fil+PH-vrheadset-mdpi-qwerty-navexposed-0x5-v0.1")
-    results.append(line_of({"density": 160, "uiType": 1, "screenSize": 5}) is None)
+    results.extend(unsaid(device) == name for name, device in UNSAID.items())
     results.append(line_of(device_of(FULL)) == FULL)
     results.extend(line_in(text) == line for text, line in PRINTED.items())
     for case in range(first, first + cases):

@@ -1,21 +1,37 @@
 -- The line of a device, where it has one.
-use Rattle.std.specs.Prelude.{ℕ, Bool, false, List, Result, Ok, Err, bytes_eq, if◌then◌else◌}
+use Rattle.std.specs.Prelude.{ℕ, ◌==◌, List, [], ◌∷◌, Option, Some, None, Result, Ok, Err, if◌then◌else◌}
 use Rattle.config_record.specs.android_locales.declared.locale_rule.LocaleRule.{LocaleRule}
 use Rattle.config_record.specs.android_locales.declared.locale_rule.LocaleRule.TheVariants.{LanguageAndRegion}
+use Rattle.config_record.specs.declared.coord.Coord.{Coord}
+use Rattle.config_record.specs.declared.coord.Coord.TheVariants as coords
+use Rattle.config_record.specs.Coord.{all_coords}
+use Rattle.config_record.specs.ComparedNumber.{device_number}
 use Rattle.config_words.specs.declared.line.NoLine.{NoLine}
 use Rattle.config_words.specs.declared.line.NoLine.TheVariants.{NoWord}
 use Rattle.config_words.specs.Fault.{FaultOf}
 use Rattle.config_words.specs.Config.{device_of_config_by}
 use Rattle.config_words.specs.LineParts.{line_text}
 
-abbrev pub is_device : Result (List ℕ) FaultOf → List ℕ → Bool
-is_device (Ok read) device = bytes_eq read device
-is_device (Err fault) device = false
+-- the first of these coordinates at which two devices have other numbers
+unfoldable pub first_unlike : List Coord → List ℕ → List ℕ → Option Coord
+first_unlike [] read device = None
+first_unlike (coord ∷ others) read device =
+    if device_number read coord == device_number device coord then first_unlike others read device else Some coord
 
--- A device has a line where that reads as the device by this rule: not where it has a number that no part can say.
+-- What no part has said of a device: the first coordinate at which its line reads otherwise. Where a line does not read at all,
+-- it has a locale of the other rule.
+abbrev pub unsaid : Result (List ℕ) FaultOf → List ℕ → Option Coord
+unsaid (Ok read) device = first_unlike all_coords read device
+unsaid (Err fault) device = Some coords.Locale
+
+abbrev pub if_all_said : List ℕ → Option Coord → Result (List ℕ) NoLine
+if_all_said text None = Ok text
+if_all_said text (Some coord) = Err (NoWord coord)
+
+-- A device has a line where that reads as the device by this rule: not where it has a number that no part can say, as the
+-- type 0 of the interface.
 unfoldable pub config_line_of_by : LocaleRule → List ℕ → Result (List ℕ) NoLine
-config_line_of_by rule device =
-    if is_device (device_of_config_by rule (line_text device)) device then Ok (line_text device) else Err NoWord
+config_line_of_by rule device = if_all_said (line_text device) (unsaid (device_of_config_by rule (line_text device)) device)
 
 -- by language and region
 abbrev pub config_line_of : List ℕ → Result (List ℕ) NoLine

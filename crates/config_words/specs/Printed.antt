@@ -1,14 +1,13 @@
 -- The text that `am get-config` prints: `config:`, a blank, and the line of the device; then lines of other kinds.
-use Rattle.std.specs.Prelude.{ℕ, ◌==◌, ◌||◌, not, Bool, List, [], ◌++◌, take, drop, position, codes, Option, Some, None, unwrap_or, Result, Ok, Err, if◌then◌else◌}
+use Rattle.std.specs.Prelude.{ℕ, ◌==◌, ◌||◌, not, Bool, List, [], ◌++◌, take, drop, position, codes, Option, Some, None, unwrap_or, Result}
 use Rattle.config_record.specs.android_locales.declared.locale_rule.LocaleRule.{LocaleRule}
 use Rattle.config_record.specs.android_locales.declared.locale_rule.LocaleRule.TheVariants.{LanguageAndRegion}
 use Rattle.config_words.specs.declared.line.NoLine.{NoLine}
-use Rattle.config_words.specs.declared.line.NoLine.TheVariants.{NoWord}
 use Rattle.config_words.specs.Cut.{behind}
 use Rattle.config_words.specs.Fault.{FaultOf}
 use Rattle.config_words.specs.Config.{device_of_config_by}
 use Rattle.config_words.specs.LineParts.{line_text}
-use Rattle.config_words.specs.Line.{is_device}
+use Rattle.config_words.specs.Line.{unsaid, if_all_said}
 
 -- ---- read
 
@@ -54,8 +53,7 @@ printed_text device = codes "config: " ++ line_text device
 
 -- A device has a text where that reads as the device by this rule.
 unfoldable pub printed_of_by : LocaleRule → List ℕ → Result (List ℕ) NoLine
-printed_of_by rule device =
-    if is_device (device_of_printed_by rule (printed_text device)) device then Ok (printed_text device) else Err NoWord
+printed_of_by rule device = if_all_said (printed_text device) (unsaid (device_of_printed_by rule (printed_text device)) device)
 
 -- by language and region
 abbrev pub printed_of : List ℕ → Result (List ℕ) NoLine

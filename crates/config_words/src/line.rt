@@ -1,24 +1,24 @@
 //! The line of a device, as Android writes it.
 
-ghost use Rattle.std.specs.Prelude.{◌≡◌, Ok, IfOk};
+ghost use Rattle.std.specs.Prelude.{◌≡◌, None, Ok, IfOk};
 ghost use Rattle.contract_words.specs.Exact.{GivesOr};
 ghost use Rattle.config_record.specs.DeviceSeen.{device_numbers};
 ghost use Rattle.config_words.specs.declared.line.NoLine.TheVariants.{OutOfMemory};
 ghost use Rattle.config_words.specs.Config.{device_of_config, device_of_config_by};
-ghost use Rattle.config_words.specs.Line.{is_device, config_line_of, config_line_of_by};
+ghost use Rattle.config_words.specs.Line.{first_unlike, unsaid, config_line_of, config_line_of_by};
 
 use crate::line_parts::line_text;
 use crate::read::read_line;
-use config_record::{Device, LocaleRule};
+use config_record::{Coord, Device, LocaleRule};
 use std::alloc::Global;
 use thiserror::Error;
 
 /// Why there is no line of a device.
 #[derive(Clone, Copy, Debug, PartialEq, Eq, Error)]
 pub enum NoLine {
-    /// The device says something that no word says.
-    #[error("NoWord")]
-    NoWord,
+    /// What the device has at this coordinate no part can say. It is the first such one.
+    #[error("NoWord {0}")]
+    NoWord(Coord),
     #[error("OutOfMemory")]
     OutOfMemory,
 }
@@ -50,17 +50,31 @@ pub fn config_line_by(alloc: Global, device: &Device, rule: LocaleRule) -> Resul
     let Ok(line) = line_text(alloc, device) else {
         return Err(NoLine::OutOfMemory);
     };
-    if !is_line_of(&line, device, rule) {
-        return Err(NoLine::NoWord);
+    match unsaid(&line, *device, rule) {
+        None => Ok(line),
+        Some(coord) => Err(NoLine::NoWord(coord)),
     }
-    Ok(line)
 }
 
-fn is_line_of(line: &[u8], device: &Device, rule: LocaleRule) -> bool
-    ensures { result ≡ is_device (device_of_config_by rule line.now) (device_numbers device.now) }
+/// The first coordinate at which a line reads otherwise than a device. Where it does not read at all, that is the locale.
+pub(crate) fn unsaid(line: &[u8], device: Device, rule: LocaleRule) -> Option<Coord>
+    ensures value { result ≡ unsaid (device_of_config_by rule line.now) (device_numbers device) }
+    ensures all_said { result ≡ None → device_of_config_by rule line.now ≡ Ok (device_numbers device) }
 {
     match read_line(line, rule) {
-        Ok(read) => read == *device,
-        Err(_) => false,
+        Ok(read) => first_unlike(&Coord::ALL, &read, &device),
+        Err(_) => Some(Coord::Locale),
     }
+}
+
+#[tactic(auto, unfolding(crate::specs::Line::first_unlike))]
+fn first_unlike(coords: &[Coord], read: &Device, device: &Device) -> Option<Coord>
+    ensures { result ≡ first_unlike coords.now (device_numbers read.now) (device_numbers device.now) }
+{
+    'coords: for coord in coords {
+        if read.compared_number(*coord) != device.compared_number(*coord) {
+            return Some(*coord);
+        }
+    }
+    None
 }

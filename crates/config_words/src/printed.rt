@@ -5,12 +5,11 @@ ghost use Rattle.contract_words.specs.Exact.{GivesOr};
 ghost use Rattle.config_record.specs.DeviceSeen.{device_numbers};
 ghost use Rattle.config_words.specs.declared.line.NoLine.TheVariants.{OutOfMemory};
 ghost use Rattle.config_words.specs.Fault.{seen};
-ghost use Rattle.config_words.specs.Line.{is_device};
 ghost use Rattle.config_words.specs.Printed.{is_blank, without_blanks, ends_line, first_line, line_in, device_of_printed, device_of_printed_by, printed_text, printed_of, printed_of_by};
 
 use crate::cut::behind;
 use crate::fault::ConfigWordFault;
-use crate::line::NoLine;
+use crate::line::{NoLine, unsaid};
 use crate::line_parts::line_text;
 use crate::read::read_line;
 use config_record::{Device, LocaleRule};
@@ -102,7 +101,7 @@ pub fn print_config(alloc: Global, device: &Device) -> Result<Vec<u8>, NoLine>
 }
 
 /// The same, where the text is read back by a rule.
-#[tactic(auto, unfolding(crate::specs::Printed::printed_of_by))]
+#[tactic(auto, unfolding(crate::specs::Printed::printed_of_by, crate::specs::Printed::device_of_printed_by))]
 pub fn print_config_by(alloc: Global, device: &Device, rule: LocaleRule) -> Result<Vec<u8>, NoLine>
     ensures text { GivesOr OutOfMemory (λ text. text.items) result (printed_of_by rule (device_numbers device.now)) }
 
@@ -113,10 +112,10 @@ pub fn print_config_by(alloc: Global, device: &Device, rule: LocaleRule) -> Resu
     let Ok(text) = printed_text(alloc, device) else {
         return Err(NoLine::OutOfMemory);
     };
-    if !is_text_of(&text, device, rule) {
-        return Err(NoLine::NoWord);
+    match unsaid(line_in(&text), *device, rule) {
+        None => Ok(text),
+        Some(coord) => Err(NoLine::NoWord(coord)),
     }
-    Ok(text)
 }
 
 fn printed_text(alloc: Global, device: &Device) -> io::Result<Vec<u8>>
@@ -127,13 +126,4 @@ fn printed_text(alloc: Global, device: &Device) -> io::Result<Vec<u8>>
     text.write_all(b"config: ")?;
     text.write_all(&line)?;
     Ok(text)
-}
-
-fn is_text_of(text: &[u8], device: &Device, rule: LocaleRule) -> bool
-    ensures { result ≡ is_device (device_of_printed_by rule text.now) (device_numbers device.now) }
-{
-    match read_text(text, rule) {
-        Ok(read) => read == *device,
-        Err(_) => false,
-    }
 }
