@@ -31,7 +31,8 @@ forms =
     ∷ form "" "dpi" Density
     ∷ []
 
--- the network code 0 is 65535, since 0 says nothing (AOSP: `ACONFIGURATION_MNC_ZERO`)
+-- The number that a device has of the one that is written. A network code 0 is 65535 there, since a device's 0 says nothing
+-- (AOSP: `ACONFIGURATION_MNC_ZERO`).
 abbrev pub stored : Coord → ℕ → ℕ
 stored Mnc number = if number == 0 then 65535 else number
 stored coord number = number

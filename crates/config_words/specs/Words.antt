@@ -1,5 +1,5 @@
--- The words that are a number at a coordinate (AOSP: `Configuration.resourceQualifierString`). The network code 0 is 65535, since
--- 0 says nothing (AOSP: `Configuration.MNC_ZERO`).
+-- The words that are a number at a coordinate (AOSP: `Configuration.resourceQualifierString`). `mnc00` is one of them: the network
+-- code 0, of which a device has 65535 (`stored` in Forms.antt).
 use Rattle.std.specs.Prelude.{ℕ, ◌==◌, ◌&&◌, List, [], ◌∷◌, codes, Option, Some, None, bytes_eq, if◌then◌else◌}
 use Prim.Native.String.{String}
 use Rattle.config_record.specs.declared.coord.Coord.{Coord}
