@@ -42,12 +42,12 @@ without_locale fields = record fields { locale = NONE }
 abbrev pub with_locale : Locale → List ℕ → List ℕ
 with_locale locale device = slice_set device (place_of coords.Locale) (locale_number locale)
 
--- `device_in` knows no scripts.
+-- The numbers are checked. `device_in` refuses a locale with a script, so a phone's is put in when they have been checked.
 unfoldable pub device_of_fields : LocaleRule → Fields → Result (List ℕ) DeviceFault
 device_of_fields LanguageAndRegion fields = device_in fields
 device_of_fields Android fields = device_in (without_locale fields) >>= λ device. Ok (with_locale fields.locale device)
 
--- the device of what was said, its numbers checked
+-- the device of what was said
 unfoldable pub device_said : LocaleRule → Said → Result (List ℕ) FaultOf
 device_said rule said = or_no_device (device_of_fields rule said.fields)
 

@@ -68,6 +68,6 @@ locale_in rule part = one_locale rule (cut_at comma part).0
 
 -- ---- what a device can have
 
--- what is read for a phone is given by a text
+-- a phone has a locale that some text gives, with its script
 abbrev pub IsGivenFor : LocaleRule → Locale → Type 0
 IsGivenFor rule locale = rule ≡ Android → IsGiven locale

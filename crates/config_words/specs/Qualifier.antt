@@ -55,7 +55,7 @@ locales_in rule part = option_map Locale (locale_in rule part)
 unfoldable pub qualifier_in : LocaleRule → List ℕ → Option Qualifier
 qualifier_in rule part = option_or (numbers_in part) (locales_in rule part)
 
--- its locale, if it is one
+-- a qualifier that is a locale is one that a device can have
 abbrev pub HasGivenFor : LocaleRule → Qualifier → Type 0
 HasGivenFor rule (Locale locale) = IsGivenFor rule locale
 HasGivenFor rule _ = Unit {0}
