@@ -175,7 +175,7 @@ UNSTYLED = '{"attr":"0x01010001","nodes":[%s],"styles":[]}'
 BLANKS = ' { "version" : 1 , "goals" : [ { "nodes" : [ { "word" : 1 , "layer" : 0 , "kind" : 16 } ] , "id" : "0x7F01000A" } ] } '
 LINES = [
     ('{"density":320,"uiType":1,"locale":"fil-PH","width":5,"sdk":27}', "b+fil+PH-xhdpi-5x0-v27"),
-    ('{"density":320}', "NoWord uiType"),
+    ('{"density":320}', "NoWord(UiType)"),
 ]
 """Devices, and the lines that Android writes of them."""
 WRITTEN = [
