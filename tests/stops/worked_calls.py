@@ -178,6 +178,8 @@ LINES = [
     ('{"density":320}', "NoWord(UiType)"),
 ]
 """Devices, and the lines that Android writes of them."""
+PRINTED = [(LINES[0][0], f"config: {LINES[0][1]}"), LINES[1]]
+"""The same, as `am get-config` prints them."""
 WRITTEN = [
     # A certificate, and how it is written.
     *((text, text) for text in (NO_GOALS, ONE_LEAF, certificate(tree(*NODES), tree(id="0x00000000")))),
@@ -191,6 +193,7 @@ WRITTEN = [
 def certificate_rows():
     yield from (row("inputs", "Cert::write", [text], written) for text, written in WRITTEN)
     yield from (row("inputs", "config_line", [text], line) for text, line in LINES)
+    yield from (row("inputs", "print_config", [text], printed) for text, printed in PRINTED)
 
 
 # ---- commands over bytes and a writer; after a fault the number of writes is told

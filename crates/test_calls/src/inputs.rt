@@ -18,6 +18,7 @@ pub fn call(rt: &HostRuntime, words: &[String]) -> Result<(), Fail> {
         "Table::find" => tables::names(rt, given),
         "Cert::write" => certificates::written(rt, given),
         "config_line" => lines::line(rt, given),
+        "print_config" => lines::printed(rt, given),
         "Device::check" => parts::device(rt),
         "Goal::attr" => parts::goal(rt),
         "Stack::push_base" => full::base(rt, given),
