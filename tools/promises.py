@@ -104,7 +104,6 @@ CHAPTERS = {
     "string_pool": "Strings, ids, values and goals",
     "res_value": "Strings, ids, values and goals",
     "locales": "Locales",
-    "locale_data": "What CLDR says of locales",
     "android_locales": "Locales as a phone compares them",
     "config_record": "Configurations and devices",
     "config_rules": "What a rule asks",

@@ -1,7 +1,7 @@
 -- Languages that are alike: each to itself, in either order, and where two are alike to a third.
 use Rattle.std.proofs.Common.{◌≡◌, ℕ, ◌==◌, ◌&&◌, ◌||◌, Bool, true, arith}
 use Rattle.std.proofs.lemmas.Bool.Decides.{nat_tests}
-use Rattle.locale_data.specs.LocaleNumber.{number_of_text}
+use Rattle.android_locales.specs.LocaleNumber.{number_of_text}
 use Rattle.android_locales.specs.Words.{are_alike}
 
 -- of any two languages that count as one

@@ -2,7 +2,7 @@
 use Rattle.std.proofs.Common.{◌≡◌, ℕ, ◌==◌, ◌&&◌, ◌||◌, ◌⊎◌, not, Bool, true, false, if◌then◌else◌, refl, sym, subst, ◌∙◌, inl, inr, arith, eq-eqb}
 use Rattle.std.proofs.lemmas.Bool.{cases_Bool, cases_eq, ne_eqb}
 use Rattle.std.proofs.lemmas.Bool.Decides.{nat_tests}
-use Rattle.locale_data.specs.Facts.{language_of, region_of}
+use Rattle.android_locales.specs.Facts.{language_of, region_of}
 use Rattle.android_locales.specs.declared.compared.RecordLocale.{RecordLocale}
 use Rattle.android_locales.specs.declared.compared.DeviceLocale.{DeviceLocale}
 use Rattle.android_locales.specs.Words.{exactly_one, locale_of_device, locale_of_record, says_nothing, are_alike}

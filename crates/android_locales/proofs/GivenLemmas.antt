@@ -3,16 +3,16 @@ use Rattle.std.proofs.Common.{◌≡◌, ℕ, ◌+◌, ◌*◌, ◌/◌, ◌%◌
 use Rattle.std.specs.Option.{option_map_or}
 use Rattle.std.specs.Int.{w32, to_be_bytes}
 use Rattle.std.proofs.lemmas.Bool.{and_parts}
-use Rattle.locale_data.specs.locales.contract_words.Faults.{◌>>=◌}
-use Rattle.locale_data.specs.locales.declared.locale.Locale.{Locale}
-use Rattle.locale_data.specs.locales.declared.locale.LocaleFault.{LocaleFault}
-use Rattle.locale_data.specs.locales.Zero.{is_zero}
-use Rattle.locale_data.specs.locales.LocaleNumber.{locale_of_number}
-use Rattle.locale_data.specs.locales.Locale.{no_part, locale_of, checked_locale, plain_text}
-use Rattle.locale_data.proofs.locales.LocaleLemmas.{of_languages, part_of-stands, locale_of-gives}
-use Rattle.locale_data.proofs.locales.LocaleGiven.{no_region}
-use Rattle.locale_data.specs.LocaleNumber.{number_of}
-use Rattle.locale_data.specs.Facts.{likely_of}
+use Rattle.android_locales.specs.locales.contract_words.Faults.{◌>>=◌}
+use Rattle.android_locales.specs.locales.declared.locale.Locale.{Locale}
+use Rattle.android_locales.specs.locales.declared.locale.LocaleFault.{LocaleFault}
+use Rattle.android_locales.specs.locales.Zero.{is_zero}
+use Rattle.android_locales.specs.locales.LocaleNumber.{locale_of_number}
+use Rattle.android_locales.specs.locales.Locale.{no_part, locale_of, checked_locale, plain_text}
+use Rattle.android_locales.proofs.locales.LocaleLemmas.{of_languages, part_of-stands, locale_of-gives}
+use Rattle.android_locales.proofs.locales.LocaleGiven.{no_region}
+use Rattle.android_locales.specs.LocaleNumber.{number_of}
+use Rattle.android_locales.specs.Facts.{likely_of}
 use Rattle.android_locales.specs.declared.locale_rule.LocaleRule.{LocaleRule}
 use Rattle.android_locales.specs.declared.locale_rule.LocaleRule.TheVariants.{LanguageAndRegion, Android}
 use Rattle.android_locales.specs.LocaleRule.{rule_of}

@@ -1,7 +1,12 @@
+pub mod Rising
+pub mod Keys
+pub mod InOrder
+pub mod ListsAgree
+pub mod Above
 pub mod TextLemmas
 pub mod AlikeLemmas
 pub mod NearerLemmas
 pub mod BetterLaws
 pub mod ReadBack
 pub mod GivenLemmas
-pub use Rattle.locale_data.proofs.locales
+pub use Rattle.locales.proofs as locales

@@ -3,8 +3,8 @@ use Rattle.std.proofs.Common.{◌≡◌, ◌≢◌, ℕ, ◌+◌, ◌==◌, ◌&
 use Rattle.std.specs.Option.{option_map_or}
 use Rattle.std.proofs.lemmas.Bool.{cases_eq, ne_eqb}
 use Rattle.std.proofs.lemmas.Bool.Decides.{nat_tests}
-use Rattle.locale_data.specs.Facts.{language_of, region_of, is_representative_of}
-use Rattle.locale_data.specs.Line.{line_of, first_met}
+use Rattle.android_locales.specs.Facts.{language_of, region_of, is_representative_of}
+use Rattle.android_locales.specs.Line.{line_of, first_met}
 use Rattle.android_locales.specs.declared.compared.DeviceLocale.{DeviceLocale}
 use Rattle.android_locales.specs.Words.{exactly_one, locale_of_device}
 use Rattle.android_locales.specs.Nearer.{latin_american, is_special_spanish, stand_in, distance, is_nearer_aside, is_nearer_locale, is_nearer_of}

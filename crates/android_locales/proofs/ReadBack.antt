@@ -7,15 +7,15 @@ use Rattle.std.proofs.lemmas.List.{append-nil, append_cancel_left, drop_more, ta
 use Rattle.std.proofs.lemmas.List.Quantifiers.{position-Some}
 use Rattle.std.proofs.lemmas.Nat.{be_bytes_4}
 use Rattle.std.proofs.Math.Bool.{and-false}
-use Rattle.locale_data.specs.locales.contract_words.Faults.{◌>>=◌, refuse}
-use Rattle.locale_data.proofs.locales.contract_words.FaultSteps.{checked_by-ok}
-use Rattle.locale_data.specs.locales.declared.locale.Locale.{Locale}
-use Rattle.locale_data.specs.locales.declared.locale.LocaleFault.{LocaleFault}
-use Rattle.locale_data.specs.locales.declared.locale.LocaleFault.TheVariants.{Malformed}
-use Rattle.locale_data.specs.locales.Zero.{is_zero}
-use Rattle.locale_data.specs.locales.Locale.{dash, is_small_letter, is_capital_letter, is_digit, first_letter, first_digit, part_of, language_of, region_of, no_part, no_script, without_script, unpacked, without_region, with_region, with_region_faults, cut_at, locale_of, is_spelled, locale_faults, checked_locale, plain_text, language_text, region_text}
-use Rattle.locale_data.proofs.locales.LocaleLemmas.{locale_of-gives}
-use Rattle.locale_data.specs.LocaleNumber.{number_of}
+use Rattle.android_locales.specs.locales.contract_words.Faults.{◌>>=◌, refuse}
+use Rattle.android_locales.proofs.locales.contract_words.FaultSteps.{checked_by-ok}
+use Rattle.android_locales.specs.locales.declared.locale.Locale.{Locale}
+use Rattle.android_locales.specs.locales.declared.locale.LocaleFault.{LocaleFault}
+use Rattle.android_locales.specs.locales.declared.locale.LocaleFault.TheVariants.{Malformed}
+use Rattle.android_locales.specs.locales.Zero.{is_zero}
+use Rattle.android_locales.specs.locales.Locale.{dash, is_small_letter, is_capital_letter, is_digit, first_letter, first_digit, part_of, language_of, region_of, no_part, no_script, without_script, unpacked, without_region, with_region, with_region_faults, cut_at, locale_of, is_spelled, locale_faults, checked_locale, plain_text, language_text, region_text}
+use Rattle.android_locales.proofs.locales.LocaleLemmas.{locale_of-gives}
+use Rattle.android_locales.specs.LocaleNumber.{number_of}
 use Rattle.android_locales.specs.declared.locale_rule.LocaleRule.{LocaleRule}
 use Rattle.android_locales.specs.declared.locale_rule.LocaleRule.TheVariants.{LanguageAndRegion, Android}
 use Rattle.android_locales.specs.LocaleRule.{rule_of}

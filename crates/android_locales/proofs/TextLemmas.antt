@@ -1,7 +1,7 @@
 -- Where texts of locales are cut.
 use Rattle.std.proofs.Common.{◌≡◌, ℕ, ◌+◌, ◌<◌, ◌≤◌, Bool, List, [], ◌∷◌, ◌++◌, length, drop, position, Some, None, unwrap_or, refl, sym, ap, subst, ◌∙◌, arith, inl, inr, length-append, length-take, lt-ltb, le-ltb}
 use Rattle.std.specs.List.{position_or_len, before_first}
-use Rattle.locale_data.specs.locales.Locale.{without_region, with_region, cut_at, locale_of}
+use Rattle.android_locales.specs.locales.Locale.{without_region, with_region, cut_at, locale_of}
 use Rattle.android_locales.specs.Text.{is_dash, language_part, written_script}
 use Rattle.std.proofs.Math.Numerals.{one-add}
 use Rattle.std.proofs.Math.Seq.{take-append_seam, drop-append-add}

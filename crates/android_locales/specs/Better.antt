@@ -1,9 +1,9 @@
 -- Which of two records that suit a device is better by its locale (AOSP: isLocaleBetterThan)? It is said that the first is, or
 -- nothing; never that it is not.
 use Rattle.std.specs.Prelude.{ℕ, ◌==◌, ◌&&◌, ◌||◌, not, Bool, false, if◌then◌else◌}
-use Rattle.locale_data.specs.LocaleNumber.{number_of_text}
-use Rattle.locale_data.specs.Facts.{language_of, region_of}
-use Rattle.locale_data.specs.Line.{is_near_us_english_of}
+use Rattle.android_locales.specs.LocaleNumber.{number_of_text}
+use Rattle.android_locales.specs.Facts.{language_of, region_of}
+use Rattle.android_locales.specs.Line.{is_near_us_english_of}
 use Rattle.android_locales.specs.declared.compared.RecordLocale.{RecordLocale}
 use Rattle.android_locales.specs.declared.compared.DeviceLocale.{DeviceLocale}
 use Rattle.android_locales.specs.Words.{locale_of_device, locale_of_record, says_nothing, exactly_one, are_alike}

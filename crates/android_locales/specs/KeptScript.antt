@@ -1,7 +1,7 @@
 -- What is kept of a record's script and variant, beside its language and its region: four bytes that say what a rule may ask.
 use Rattle.std.specs.Prelude.{ℕ, ◌+◌, ◌&&◌, not, nat_lt, Bool, true, false, if◌then◌else◌, List, [], ◌∷◌, slice_index}
-use Rattle.locale_data.specs.locales.Zero.{is_zero}
-use Rattle.locale_data.specs.locales.Locale.{no_script}
+use Rattle.android_locales.specs.locales.Zero.{is_zero}
+use Rattle.android_locales.specs.locales.Locale.{no_script}
 
 -- a script that no device has
 abbrev pub other_script : List ℕ

@@ -1,3 +1,10 @@
+pub mod LocaleNumber
+pub mod Lines
+pub mod LikelyScripts
+pub mod Parents
+pub mod Representatives
+pub mod Facts
+pub mod Line
 pub mod LocaleRule
 pub mod KeptScript
 pub mod Compared
@@ -6,5 +13,4 @@ pub mod Text
 pub mod Suits
 pub mod Nearer
 pub mod Better
-pub use Rattle.locale_data.specs.locales
-pub use Rattle.locale_data.specs as locale_data
+pub use Rattle.locales.specs as locales

@@ -1,7 +1,7 @@
 -- By which rule is a locale compared?
 use Rattle.std.specs.Prelude.{if◌then◌else◌}
-use Rattle.locale_data.specs.locales.declared.locale.Locale.{Locale}
-use Rattle.locale_data.specs.locales.Zero.{is_zero}
+use Rattle.android_locales.specs.locales.declared.locale.Locale.{Locale}
+use Rattle.android_locales.specs.locales.Zero.{is_zero}
 use Rattle.android_locales.specs.declared.locale_rule.LocaleRule.{LocaleRule}
 use Rattle.android_locales.specs.declared.locale_rule.LocaleRule.TheVariants.{LanguageAndRegion, Android}
 

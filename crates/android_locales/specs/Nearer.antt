@@ -3,9 +3,9 @@
 use Rattle.std.specs.Prelude.{ℕ, ◌+◌, ◌==◌, ◌&&◌, ◌||◌, not, nat_lt, Bool, if◌then◌else◌, List, position, slice_index, unwrap_or}
 use Rattle.std.specs.List.{list_any}
 use Rattle.std.specs.Option.{option_map_or}
-use Rattle.locale_data.specs.LocaleNumber.{number_of_text}
-use Rattle.locale_data.specs.Facts.{language_of, region_of, is_representative_of}
-use Rattle.locale_data.specs.Line.{line_of, first_met}
+use Rattle.android_locales.specs.LocaleNumber.{number_of_text}
+use Rattle.android_locales.specs.Facts.{language_of, region_of, is_representative_of}
+use Rattle.android_locales.specs.Line.{line_of, first_met}
 use Rattle.android_locales.specs.declared.compared.DeviceLocale.{DeviceLocale}
 use Rattle.android_locales.specs.Words.{exactly_one, locale_of_device}
 

@@ -1,7 +1,7 @@
 -- Does a record suit a device? (AOSP: what ResTable_config::match asks of locales.)
 use Rattle.std.specs.Prelude.{◌==◌, ◌&&◌, ◌||◌, not, nat_eq, Bool, true, false, if◌then◌else◌, is_none}
 use Rattle.std.specs.Option.{option_eq}
-use Rattle.locale_data.specs.Facts.{language_of, region_of}
+use Rattle.android_locales.specs.Facts.{language_of, region_of}
 use Rattle.android_locales.specs.declared.compared.RecordLocale.{RecordLocale}
 use Rattle.android_locales.specs.declared.compared.DeviceLocale.{DeviceLocale}
 use Rattle.android_locales.specs.Words.{locale_of_device, script_of_device, locale_of_record, says_nothing, script_of_record, are_alike}

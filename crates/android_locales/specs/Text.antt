@@ -3,13 +3,13 @@ use Rattle.std.specs.Prelude.{◌≡◌, ℕ, ◌==◌, ◌&&◌, not, Bool, if�
 use Rattle.std.specs.List.{before_first, after_first}
 use Rattle.std.specs.Option.{option_map_or}
 use Rattle.std.specs.Int.{w32, to_be_bytes}
-use Rattle.locale_data.specs.locales.contract_words.Faults.{◌>>=◌, refuse}
-use Rattle.locale_data.specs.locales.declared.locale.Locale.{Locale}
-use Rattle.locale_data.specs.locales.declared.locale.LocaleFault.{LocaleFault}
-use Rattle.locale_data.specs.locales.declared.locale.LocaleFault.TheVariants.{Malformed}
-use Rattle.locale_data.specs.locales.Locale.{dash, is_small_letter, is_capital_letter, no_part, without_script, locale_of, plain_text}
-use Rattle.locale_data.specs.LocaleNumber.{number_of}
-use Rattle.locale_data.specs.Facts.{likely_of}
+use Rattle.android_locales.specs.locales.contract_words.Faults.{◌>>=◌, refuse}
+use Rattle.android_locales.specs.locales.declared.locale.Locale.{Locale}
+use Rattle.android_locales.specs.locales.declared.locale.LocaleFault.{LocaleFault}
+use Rattle.android_locales.specs.locales.declared.locale.LocaleFault.TheVariants.{Malformed}
+use Rattle.android_locales.specs.locales.Locale.{dash, is_small_letter, is_capital_letter, no_part, without_script, locale_of, plain_text}
+use Rattle.android_locales.specs.LocaleNumber.{number_of}
+use Rattle.android_locales.specs.Facts.{likely_of}
 use Rattle.android_locales.specs.declared.locale_rule.LocaleRule.{LocaleRule}
 use Rattle.android_locales.specs.declared.locale_rule.LocaleRule.TheVariants.{LanguageAndRegion, Android}
 use Rattle.android_locales.specs.LocaleRule.{rule_of}

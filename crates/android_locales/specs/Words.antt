@@ -3,8 +3,8 @@
 -- is known that there is none.
 use Rattle.std.specs.Prelude.{ℕ, ◌==◌, ◌&&◌, ◌||◌, not, nat_le, Bool, if◌then◌else◌, List, Option, Some, None}
 use Rattle.std.specs.Int.{w32, from_be_bytes}
-use Rattle.locale_data.specs.LocaleNumber.{number_of_text}
-use Rattle.locale_data.specs.Facts.{likely_of}
+use Rattle.android_locales.specs.LocaleNumber.{number_of_text}
+use Rattle.android_locales.specs.Facts.{likely_of}
 use Rattle.android_locales.specs.declared.compared.RecordLocale.{RecordLocale}
 use Rattle.android_locales.specs.declared.compared.DeviceLocale.{DeviceLocale}
 

@@ -6,8 +6,9 @@ ghost use Rattle.android_locales.specs.Better.{is_us_english, is_good_region, is
 
 use crate::compared::{DeviceLocale, RecordLocale};
 use crate::nearer::is_nearer;
+use crate::parts::{language_of, region_of};
+use crate::tree::is_near_us_english;
 use crate::words::{are_alike, exactly_one};
-use locale_data::{is_near_us_english, language_of, region_of};
 
 // en
 const ENGLISH: u32 = 0x656E_0000;
@@ -75,7 +76,7 @@ fn is_better_language(here: u32, there: u32, wanted: u32) -> bool
     }
 }
 
-#[tactic(auto, unfolding(crate::specs::Better::is_us_english, locale_data::specs::LocaleNumber::number_of))]
+#[tactic(auto, unfolding(crate::specs::Better::is_us_english, crate::specs::LocaleNumber::number_of))]
 fn is_us_english(wanted: u32) -> bool
     ensures { result ≡ is_us_english wanted }
 {
@@ -83,7 +84,7 @@ fn is_us_english(wanted: u32) -> bool
         && (region_of(wanted) == UNITED_STATES || is_near_us_english(region_of(wanted)))
 }
 
-#[tactic(auto, unfolding(crate::specs::Better::is_good_region, locale_data::specs::LocaleNumber::number_of))]
+#[tactic(auto, unfolding(crate::specs::Better::is_good_region, crate::specs::LocaleNumber::number_of))]
 fn is_good_region(wanted: u32, region: u16) -> bool
     ensures { result ≡ is_good_region wanted region }
 {

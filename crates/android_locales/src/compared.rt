@@ -3,8 +3,8 @@
 ghost use Rattle.std.specs.Prelude.{◌≡◌};
 ghost use Rattle.android_locales.specs.Compared.{record_locale_of, device_locale_of};
 
+use crate::facts::likely;
 use crate::words::UNKNOWN_SCRIPT;
-use locale_data::likely;
 
 /// How many scripts there are to a language and a region.
 const SCRIPTS: u64 = 0x1_0000_0000;

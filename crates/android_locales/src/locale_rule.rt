@@ -3,7 +3,7 @@
 ghost use Rattle.std.specs.Prelude.{◌≡◌};
 ghost use Rattle.android_locales.specs.LocaleRule.{rule_of};
 
-use locale_data::{Locale, is_zero};
+use locales::{Locale, is_zero};
 
 /// By which rule locales are read and compared.
 #[derive(Clone, Copy, Debug, PartialEq, Eq)]

@@ -4,8 +4,10 @@ ghost use Rattle.std.specs.Prelude.{◌≡◌, ◌==◌, position};
 ghost use Rattle.android_locales.specs.Nearer.{is_special_spanish, stand_in, stands_in, distance, is_nearer_aside, is_nearer_locale, is_nearer_of};
 
 use crate::compared::DeviceLocale;
+use crate::facts::is_representative;
+use crate::parts::{language_of, region_of};
+use crate::tree::{first_of, line};
 use crate::words::exactly_one;
-use locale_data::{first_of, is_representative, language_of, line, region_of};
 
 // es-US
 const US_SPANISH: u32 = 0x6573_5553;
@@ -34,7 +36,7 @@ pub(crate) fn is_nearer(one: u16, other: u16, device: DeviceLocale) -> bool
 }
 
 // Spanish of the US or of Mexico gives way to that of Latin America.
-#[tactic(auto, unfolding(crate::specs::Nearer::stand_in, locale_data::specs::LocaleNumber::number_of))]
+#[tactic(auto, unfolding(crate::specs::Nearer::stand_in, crate::specs::LocaleNumber::number_of))]
 fn stand_in(locale: u32, other: u32) -> u32
     ensures { result ≡ stand_in locale other }
 {
@@ -45,7 +47,7 @@ fn stand_in(locale: u32, other: u32) -> u32
     }
 }
 
-#[tactic(auto, unfolding(locale_data::specs::LocaleNumber::number_of))]
+#[tactic(auto, unfolding(crate::specs::LocaleNumber::number_of))]
 fn is_special_spanish(locale: u32) -> bool
     ensures { result ≡ is_special_spanish locale }
 {

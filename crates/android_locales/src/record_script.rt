@@ -3,7 +3,7 @@
 ghost use Rattle.std.specs.Prelude.{◌≡◌, ◌<◌, slice_index};
 ghost use Rattle.android_locales.specs.KeptScript.{own_script, kept_script, with_variant};
 
-use locale_data::is_zero;
+use locales::is_zero;
 
 const NONE: [u8; 4] = [0; 4];
 

@@ -4,8 +4,8 @@ ghost use Rattle.std.specs.Prelude.{◌≡◌};
 ghost use Rattle.android_locales.specs.Suits.{suits_of};
 
 use crate::compared::{DeviceLocale, RecordLocale};
+use crate::parts::{language_of, region_of};
 use crate::words::are_alike;
-use locale_data::{language_of, region_of};
 
 impl RecordLocale {
     /// Whether it suits a device (AOSP: `ResTable_config::match`): it says nothing, or the language is the device's and so

@@ -2,16 +2,18 @@
 
 ghost use Rattle.std.specs.Prelude.{◌≡◌, ◌≢◌, ◌==◌, ◌≤◌, length, [], ◌++◌, Some, is_some, position, Ok, IfOk};
 ghost use Rattle.std.specs.List.{position_or_len};
-ghost use Rattle.locale_data.specs.locales.contract_words.Writes.{Writes};
-ghost use Rattle.locale_data.specs.locales.Locale.{locale_of};
+ghost use Rattle.android_locales.specs.locales.contract_words.Writes.{Writes};
+ghost use Rattle.android_locales.specs.locales.Locale.{locale_of};
 ghost use Rattle.android_locales.specs.declared.locale_rule.LocaleRule.TheVariants.{LanguageAndRegion, Android};
 ghost use Rattle.android_locales.specs.LocaleRule.{rule_of};
 ghost use Rattle.android_locales.specs.Words.{number_of_script};
 ghost use Rattle.android_locales.specs.Text.{likely_number, in_script, in_likely_script, written_script, is_dash, language_part, behind_language, with_script, with_likely_script, scripted_locale_of, locale_by, language_alone, region_alone, text_with_script, shows_script, locale_text, IsGiven, IsGivenBy};
 
+use crate::facts::likely;
+use crate::locale_number::number_of;
 use crate::locale_rule::LocaleRule;
 use crate::words::{UNKNOWN_SCRIPT, number_of_script};
-use locale_data::{Locale, LocaleFault, likely, number_of, write_plain_locale};
+use locales::{Locale, LocaleFault, write_plain_locale};
 use std::io::{self, Write};
 
 /// The locale of a text, read by a rule. By language and region it is `""`, or a language and, if it has one, a dash and a

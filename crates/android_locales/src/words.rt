@@ -20,7 +20,7 @@ pub(crate) fn number_of_script(script: [u8; 4]) -> u32
 }
 
 /// Whether two languages are one to Android.
-#[tactic(auto, unfolding(crate::specs::Words::are_alike, locale_data::specs::LocaleNumber::number_of))]
+#[tactic(auto, unfolding(crate::specs::Words::are_alike, crate::specs::LocaleNumber::number_of))]
 pub(crate) fn are_alike(one: u32, other: u32) -> bool
     ensures { result ≡ are_alike one other }
 {

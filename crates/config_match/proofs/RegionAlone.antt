@@ -12,8 +12,8 @@ use Rattle.config_rules.specs.Answer.{is_pass, or_else}
 use Rattle.config_rules.specs.Conditions.{is_equal, plain_suits, locale_suits}
 use Rattle.config_rules.specs.Kind.{kind_answer}
 use Rattle.config_rules.specs.Locale.{language, region, says_nothing, is_by_language_and_region}
-use Rattle.config_rules.specs.config_record.android_locales.locale_data.LocaleNumber.{number_of}
-use Rattle.config_rules.specs.config_record.android_locales.locale_data.Facts.{language_of, region_of}
+use Rattle.config_rules.specs.config_record.android_locales.LocaleNumber.{number_of}
+use Rattle.config_rules.specs.config_record.android_locales.Facts.{language_of, region_of}
 use Rattle.config_rules.specs.config_record.android_locales.Compared.{record_locale_of, device_locale_of}
 use Rattle.config_rules.specs.config_record.android_locales.Words.{unknown_script, script_of_device, are_alike}
 use Rattle.config_rules.specs.config_record.android_locales.Suits.{suits_of}

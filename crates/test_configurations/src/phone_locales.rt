@@ -1,8 +1,9 @@
 //! Which of some records a phone loads by their locales.
 
-use android_locales::{DeviceLocale, LocaleRule, RecordLocale, read_locale, write_locale};
+use android_locales::{
+    DeviceLocale, LocaleRule, RecordLocale, number_of, read_locale, write_locale,
+};
 use config_record::{Coord, Locale, LocaleFault, Record};
-use locale_data::number_of;
 use std::alloc::Global;
 
 /// The locale of a device; records in their order, each a language and region, and behind slashes a script and a variant; and
