@@ -103,6 +103,8 @@ if command -v python3 >/dev/null; then
     ends "worked reports of small tables and certificates" 0 "python3 '$here/tests/worked_reports.py' \"\$0\" 4"
     ends "worked styles and bags" 0 "python3 '$here/tests/worked_styles.py' \"\$0\" 4"
     ends "worked devices and configurations" 0 "python3 '$here/tests/worked_configurations.py' \"\$0\" 4"
+    ends "worked words: apks, lists of layers, devices" 0 "python3 '$here/tests/worked_words.py' \"\$0\" 4"
+    ends "random apks" 0 "python3 '$here/tests/check_apks.py' \"\$0\" 600 4"
     ends "worked boxes" 0 "python3 '$here/tests/worked_boxes.py' \"\$0\" 4"
 else
     echo "not run, since python3 is missing: random tables with sparse types, hostile bytes, worked cases"

@@ -1,34 +1,35 @@
--- The files of a command for a device or for a box of devices, and what its words have that name files. They are read in the
--- order in which the words name them.
+-- The files of a command for a device, and what its words have that name files. They are read in the order in which the words
+-- name them.
 use Rattle.std.specs.Prelude.{ℕ, List, Result, Ok}
 use Rattle.contract_words.specs.Faults.{◌>>=◌}
 use Rattle.contract_words.specs.Sequences.{joined_each}
 use Rattle.command_base.specs.StackBytes.{LayerBytes}
+use Rattle.command_base.specs.DeviceText.{DeviceTextOf, device_text_at}
 use Rattle.command_base.specs.FileWords.{words_at}
-use Rattle.command_base.specs.Inputs.{Places, file_of, layers_of}
+use Rattle.command_base.specs.Inputs.{Places, layers_of}
 use Rattle.command_base.specs.Stop.{StopOf}
 
--- layers, and the bytes of a device or of a box of devices
+-- layers, and the text of a device
 pub record DeviceBytes : Type 0 where
   pub layers : List LayerBytes
-  pub devices : List ℕ
+  pub device : DeviceTextOf
 
--- layers and then the device or the box
+-- layers and then the device
 unfoldable pub device_files : Places → List ℕ → List ℕ → Result DeviceBytes StopOf
-device_files places layers_path devices_path = do
+device_files places layers_path device_word = do
   layers ← layers_of places layers_path
-  devices ← file_of places devices_path
-  Ok (record { layers = layers; devices = devices })
+  device ← device_text_at places device_word
+  Ok (record { layers = layers; device = device })
 
--- layers, the bytes of a device or of a box of devices, and the words of the argument that takes several
+-- layers, the text of a device, and the words of the argument that takes several
 pub record AskedBytes : Type 0 where
   pub layers : List LayerBytes
-  pub devices : List ℕ
+  pub device : DeviceTextOf
   pub words : List (List ℕ)
 
--- layers, the device or the box, and then the files of words
+-- layers, the device, and then the files of words
 unfoldable pub asked_files : Places → List ℕ → List ℕ → List (List ℕ) → Result AskedBytes StopOf
-asked_files places layers_path devices_path words = do
-  files ← device_files places layers_path devices_path
+asked_files places layers_path device_word words = do
+  files ← device_files places layers_path device_word
   words ← joined_each (words_at places) words
-  Ok (record { layers = files.layers; devices = files.devices; words = words })
+  Ok (record { layers = files.layers; device = files.device; words = words })

@@ -10,7 +10,7 @@ use Rattle.names.specs.declared.fault.NameFault.TheVariants as names
 use Rattle.command_base.specs.declared.stop.Stop.{Stop}
 use Rattle.command_base.specs.declared.stop.Stop.TheVariants as stops
 use Rattle.command_base.specs.declared.exit_status.ExitStatus.{ExitStatus}
-use Rattle.command_base.specs.declared.exit_status.ExitStatus.TheVariants.{Negative, BadCommandLine, Failed}
+use Rattle.command_base.specs.declared.exit_status.ExitStatus.TheVariants.{Negative, BadCommandLine, Refused, Failed}
 use Rattle.command_base.specs.ExitStatus.{after_fault}
 use Rattle.command_base.specs.OneLine.{in_one_line}
 
@@ -28,6 +28,8 @@ pub data StopOf : Type 0 where
   layer_file : List ℕ → StopOf
   -- this word, a name or for `diff` an id, stands for no resource of the base layers
   no_resource : List ℕ → StopOf
+  -- this part of a device that is written as words is no qualifier, or of a kind that is there already
+  device_part : List ℕ → StopOf
   tool : ToolFault → StopOf
 
 abbrev pub stop_of : Stop → StopOf
@@ -37,6 +39,7 @@ stop_of (stops.WordOfFile word) = bad_word (string_bytes word)
 stop_of (stops.File path) = file path.now
 stop_of (stops.LayerFile path) = layer_file (string_bytes path)
 stop_of (stops.NoResource name) = no_resource (string_bytes name)
+stop_of (stops.DevicePart part) = device_part part.now
 stop_of (stops.Tool fault) = tool fault
 
 -- the same where two stacks are compared: a fault of layers names the side
@@ -64,6 +67,7 @@ stop_line (bad_word word) = codes "command: bad id " ++ in_one_line word ++ 10 �
 stop_line (file path) = codes "file: " ++ path ++ 10 ∷ []
 stop_line (layer_file path) = codes "file: " ++ in_one_line path ++ 10 ∷ []
 stop_line (no_resource name) = codes "no resource " ++ in_one_line name ++ 10 ∷ []
+stop_line (device_part part) = codes "refused: device: Qualifier " ++ part ++ 10 ∷ []
 stop_line (tool fault) = fault_line fault
 
 -- how the program ends where it stops
@@ -74,4 +78,5 @@ status_of_stop (bad_word word) = BadCommandLine
 status_of_stop (file path) = Failed
 status_of_stop (layer_file path) = Failed
 status_of_stop (no_resource name) = Negative
+status_of_stop (device_part part) = Refused
 status_of_stop (tool fault) = after_fault fault

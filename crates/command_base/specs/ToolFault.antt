@@ -46,6 +46,7 @@ fault_of_stack of_stack.OutOfMemory = of_tool.OutOfMemory
 -- The same in one of two stacks that are compared: what is wrong with a list of layers, or with a layer, names the side.
 abbrev pub fault_on_side : Side → ToolFault → ToolFault
 fault_on_side side (of_tool.Layers fault) = of_tool.SideLayers side fault
+fault_on_side side (of_tool.LayerApk layer fault) = of_tool.SideApk side layer fault
 fault_on_side side (of_tool.LayerTable layer fault) = of_tool.SideTable side layer fault
 fault_on_side side (of_tool.LayerMap layer fault) = of_tool.SideMap side layer fault
 fault_on_side side fault = fault

@@ -1,72 +1,68 @@
-//! The files of a command for a device or for a box of devices, in the order in which they are read.
+//! The files of a command for a device, in the order in which they are read.
 
 ghost use Rattle.std.specs.Prelude.{◌≡◌, map, IfSome};
 ghost use Rattle.command_base.specs.Stop.{GivesOrStops};
 ghost use Rattle.command_base.specs.DeviceFiles.{device_files, asked_files};
-ghost use Rattle.command_base.specs.FilesSeen.{devices_held, asked_held};
+ghost use Rattle.command_base.specs.FilesSeen.{device_held, asked_held};
 
+use crate::device_text::DeviceText;
 use crate::file_words::asked_words;
-use crate::inputs::{Inputs, file_bytes};
+use crate::inputs::Inputs;
 use crate::layer_files::LayerFiles;
 use crate::stop::Stop;
 use std::alloc::Global;
 
-/// The bytes of layers, and of a device or a box of devices.
+/// The bytes of layers, and the text of a device.
 #[derive(Drop)]
-pub struct DeviceFiles {
+pub struct DeviceFiles<'a> {
     pub layers: LayerFiles,
-    pub devices: Vec<u8>,
+    pub device: DeviceText<'a>,
 }
 
-impl DeviceFiles {
-    /// Reads a list of layers with the files that it names, and then the device or the box.
+impl<'a> DeviceFiles<'a> {
+    /// Reads a list of layers with the files that it names, and then the device.
     #[tactic(auto, unfolding(crate::specs::DeviceFiles::device_files))]
-    pub fn read<'a, I: Inputs>(
+    pub fn read<I: Inputs>(
         alloc: Global,
         inputs: &I,
         layers_path: &'a str,
-        devices_path: &'a str,
-    ) -> Result<DeviceFiles, Stop<'a>>
-        ensures { IfSome (I.places inputs.now) (λ places. GivesOrStops devices_held result
-            (device_files places layers_path.entry.now devices_path.entry.now)) }
+        device: &'a str,
+    ) -> Result<DeviceFiles<'a>, Stop<'a>>
+        ensures { IfSome (I.places inputs.now) (λ places. GivesOrStops device_held result
+            (device_files places layers_path.entry.now device.entry.now)) }
     {
         let layers = LayerFiles::read(alloc, inputs, layers_path)?;
-        let devices = file_bytes(inputs, devices_path)?;
-        Ok(DeviceFiles { layers, devices })
+        let device = DeviceText::read(inputs, device)?;
+        Ok(DeviceFiles { layers, device })
     }
 }
 
-/// The bytes of layers, and of a device or a box of devices, and the words of the argument that takes several.
+/// The bytes of layers, the text of a device, and the words of the argument that takes several.
 #[derive(Drop)]
-pub struct AskedFiles {
+pub struct AskedFiles<'a> {
     pub layers: LayerFiles,
-    pub devices: Vec<u8>,
+    pub device: DeviceText<'a>,
     pub words: Vec<String>,
 }
 
-impl AskedFiles {
-    /// Reads a list of layers with the files that it names, then the device or the box, and then the files of words.
+impl<'a> AskedFiles<'a> {
+    /// Reads a list of layers with the files that it names, then the device, and then the files of words.
     #[tactic(auto, unfolding(crate::specs::DeviceFiles::asked_files))]
-    pub fn read<'a, I: Inputs>(
+    pub fn read<I: Inputs>(
         alloc: Global,
         inputs: &I,
         layers_path: &'a str,
-        devices_path: &'a str,
+        device: &'a str,
         words: &[&'a str],
-    ) -> Result<AskedFiles, Stop<'a>>
+    ) -> Result<AskedFiles<'a>, Stop<'a>>
         ensures { IfSome (I.places inputs.now) (λ places. GivesOrStops asked_held result
-            (asked_files places layers_path.entry.now devices_path.entry.now (map (λ word. word.now) words.now))) }
+            (asked_files places layers_path.entry.now device.entry.now (map (λ word. word.now) words.now))) }
     {
-        let DeviceFiles { layers, devices } = DeviceFiles::read(
-            alloc,
-            inputs,
-            layers_path,
-            devices_path,
-        )?;
+        let DeviceFiles { layers, device } = DeviceFiles::read(alloc, inputs, layers_path, device)?;
         let words = asked_words(alloc, inputs, words)?;
         Ok(AskedFiles {
             layers,
-            devices,
+            device,
             words,
         })
     }

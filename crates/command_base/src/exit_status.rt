@@ -31,11 +31,14 @@ impl ExitStatus {
         ensures { result ≡ after_fault fault.now }
     {
         match fault {
-            ToolFault::Table(_)
+            ToolFault::Apk(_)
+            | ToolFault::Table(_)
             | ToolFault::Layers(_)
+            | ToolFault::LayerApk(_, _)
             | ToolFault::LayerTable(_, _)
             | ToolFault::LayerMap(_, _)
             | ToolFault::SideLayers(_, _)
+            | ToolFault::SideApk(_, _, _)
             | ToolFault::SideTable(_, _, _)
             | ToolFault::SideMap(_, _, _)
             | ToolFault::Device(_)

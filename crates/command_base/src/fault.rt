@@ -8,6 +8,7 @@ ghost use Rattle.command_base.specs.SideName.{side_name};
 ghost use Rattle.command_base.specs.ToolFault.{fault_of_layer_table, fault_of_layer_map, fault_on_side};
 ghost use Rattle.command_base.specs.declared.fault.ToolFault.TheVariants.{OutOfMemory, Write};
 
+use crate::apk_fault::write_apk_fault;
 use crate::box_fault::write_box_fault;
 use crate::cert_fault::write_cert_fault;
 use crate::device_fault::write_device_fault;
@@ -16,6 +17,7 @@ use crate::map_fault::write_map_fault;
 use crate::side::Side;
 use crate::table_fault::write_table_fault;
 use answer_text::{DeviceFault, MapFault, StackFault, TableFault, write_layer};
+use apk_member::ApkFault;
 use cert_tree::{BoxFault, CertFault};
 use std::alloc::AllocError;
 use std::io::{self, Write};
@@ -25,12 +27,17 @@ use thiserror::Error;
 /// are named by their place, from 0.
 #[derive(Clone, Copy, Debug, PartialEq, Eq, Error)]
 pub enum ToolFault {
+    /// The apk of a command that reads one table alone.
+    #[error("refused: apk: {0}")]
+    Apk(ApkFault),
     /// The table of a command that reads one alone.
     #[error("refused: table: {0}")]
     Table(TableFault),
     /// The list of the layers' files.
     #[error("refused: layers: {0}")]
     Layers(LayersFault),
+    #[error("refused: layer {0} apk: {1}")]
+    LayerApk(usize, ApkFault),
     #[error("refused: layer {0} table: {1}")]
     LayerTable(usize, TableFault),
     /// The id map of an overlay.
@@ -39,6 +46,8 @@ pub enum ToolFault {
     /// The list of the layers' files of one of two stacks that are compared.
     #[error("refused: {0} layers: {1}")]
     SideLayers(Side, LayersFault),
+    #[error("refused: {0} layer {1} apk: {2}")]
+    SideApk(Side, usize, ApkFault),
     #[error("refused: {0} layer {1} table: {2}")]
     SideTable(Side, usize, TableFault),
     /// The id map of an overlay in one of two stacks.
@@ -81,6 +90,7 @@ impl ToolFault {
     {
         match self {
             ToolFault::Layers(fault) => ToolFault::SideLayers(side, fault),
+            ToolFault::LayerApk(layer, fault) => ToolFault::SideApk(side, layer, fault),
             ToolFault::LayerTable(layer, fault) => ToolFault::SideTable(side, layer, fault),
             ToolFault::LayerMap(layer, fault) => ToolFault::SideMap(side, layer, fault),
             other => other,
@@ -204,14 +214,17 @@ fn write_part<W: Write + Drop>(fault: &ToolFault, out: &mut W) -> io::Result<()>
     ensures { Writes W.contents out.old out.new result (part_text fault.now) }
 {
     match *fault {
+        ToolFault::Apk(_) => out.write_all(b"refused: apk: "),
         ToolFault::Table(_) => out.write_all(b"refused: table: "),
         ToolFault::Layers(_) => out.write_all(b"refused: layers: "),
+        ToolFault::LayerApk(layer, _) => write_layer_part(layer, " apk: ", out),
         ToolFault::LayerTable(layer, _) => write_layer_part(layer, " table: ", out),
         ToolFault::LayerMap(layer, _) => write_layer_part(layer, " map: ", out),
         ToolFault::SideLayers(side, _) => {
             write_side(side, out)?;
             out.write_all(b"layers: ")
         }
+        ToolFault::SideApk(side, layer, _) => write_side_layer(side, layer, " apk: ", out),
         ToolFault::SideTable(side, layer, _) => write_side_layer(side, layer, " table: ", out),
         ToolFault::SideMap(side, layer, _) => write_side_layer(side, layer, " map: ", out),
         ToolFault::Device(_) => out.write_all(b"refused: device: "),
@@ -258,6 +271,8 @@ fn write_reason<W: Write + Drop>(fault: &ToolFault, out: &mut W) -> io::Result<(
     ensures { Writes W.contents out.old out.new result (reason_text fault.now) }
 {
     match *fault {
+        ToolFault::Apk(fault) | ToolFault::LayerApk(_, fault) | ToolFault::SideApk(_, _, fault) =>
+            write_apk_fault(fault, out),
         ToolFault::Table(fault)
         | ToolFault::LayerTable(_, fault)
         | ToolFault::SideTable(_, _, fault) => write_table_fault(fault, out),

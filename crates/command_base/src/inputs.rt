@@ -6,14 +6,16 @@ ghost use Rattle.command_base.specs.Input.{ReadsWithin};
 ghost use Rattle.command_base.specs.declared.input.InputFault.TheVariants as input_faults;
 ghost use Rattle.contract_words.specs.Exact.{GivesOr};
 ghost use Rattle.command_base.specs.Place.{place_of};
-ghost use Rattle.command_base.specs.Inputs.{Places, file_of, layer_file_of, most_bytes, stop_at, table_of};
+ghost use Rattle.command_base.specs.Inputs.{Places, file_of, layer_file_of, layer_table_of, listed_table_of, most_bytes, or_stop, stop_at, table_of, table_place};
 ghost use Rattle.command_base.specs.FilesSeen.{bytes_of};
 ghost use Rattle.command_base.specs.Stop.{GivesOrStops, stop_of};
+ghost use Rattle.command_base.specs.Stop as stops;
 
 use crate::fault::ToolFault;
 use crate::input::{InputFault, read_input};
 use crate::place::Place;
 use crate::stop::Stop;
+use apk_member::TableFile;
 use std::alloc::Global;
 use std::fs;
 use std::io::{self, ErrorKind, Read};
@@ -69,9 +71,38 @@ fn read_within_limit<R: Read>(alloc: Global, reader: &mut R) -> Result<Vec<u8>, 
     read_input(alloc, reader, MOST_BYTES)
 }
 
-/// The bytes of the table at a path, or on the standard input.
-pub fn table_bytes<'a, I: Inputs>(inputs: &I, path: &'a str) -> Result<Vec<u8>, Stop<'a>>
-    ensures { IfSome (I.places inputs.now) (λ places. GivesOrStops bytes_of result (table_of places path.entry.now)) }
+/// The file of a table, at a path or on the standard input.
+#[tactic(auto, unfolding(crate::specs::Inputs::table_at))]
+pub fn table_file<'a, I: Inputs>(inputs: &I, path: &'a str) -> Result<TableFile, Stop<'a>>
+    ensures { IfSome (I.places inputs.now) (λ places. GivesOrStops (λ table. table) result (table_of places path.entry.now)) }
+{
+    let bytes = table_bytes(inputs, path)?;
+    match TableFile::of(path, bytes) {
+        Ok(table) => Ok(table),
+        Err(fault) => Err(Stop::Tool(ToolFault::Apk(fault))),
+    }
+}
+
+/// The same of a table that is a layer by itself, which the fault of an apk names.
+#[tactic(auto, unfolding(crate::specs::Inputs::table_at))]
+pub fn layer_table_file<'a, I: Inputs>(
+    inputs: &I,
+    layer: usize,
+    path: &'a str,
+) -> Result<TableFile, Stop<'a>>
+    ensures { IfSome (I.places inputs.now) (λ places. GivesOrStops (λ table. table) result (layer_table_of layer places path.entry.now)) }
+{
+    let bytes = table_bytes(inputs, path)?;
+    match TableFile::of(path, bytes) {
+        Ok(table) => Ok(table),
+        Err(fault) => Err(Stop::Tool(ToolFault::LayerApk(layer, fault))),
+    }
+}
+
+// The bytes of the file of a table.
+fn table_bytes<'a, I: Inputs>(inputs: &I, path: &'a str) -> Result<Vec<u8>, Stop<'a>>
+    ensures { IfSome (I.places inputs.now) (λ places. GivesOrStops bytes_of result
+        (or_stop (stop_at (stops.file path.entry.now)) (places (table_place path.entry.now)))) }
 {
     match inputs.read(Place::of_table(path)) {
         Ok(bytes) => Ok(bytes),
@@ -86,6 +117,24 @@ pub fn file_bytes<'a, I: Inputs>(inputs: &I, path: &'a str) -> Result<Vec<u8>, S
     match inputs.read(Place::File(path)) {
         Ok(bytes) => Ok(bytes),
         Err(fault) => Err(stop_at(Stop::File(path), fault)),
+    }
+}
+
+/// The file of a layer's table, at a path that a list of layers names. The fault of an apk names the layer.
+#[tactic(auto, unfolding(crate::specs::Inputs::listed_table_of))]
+pub fn listed_table_file<I: Inputs>(
+    inputs: &I,
+    layer: usize,
+    path: String,
+) -> Result<TableFile, Stop<'static>>
+    ensures { IfSome (I.places inputs.now) (λ places. GivesOrStops (λ table. table) result (listed_table_of layer places (string_bytes path))) }
+{
+    match inputs.read(Place::File(path.as_str())) {
+        Ok(bytes) => match TableFile::of(path.as_str(), bytes) {
+            Ok(table) => Ok(table),
+            Err(fault) => Err(Stop::Tool(ToolFault::LayerApk(layer, fault))),
+        },
+        Err(fault) => Err(stop_at(Stop::LayerFile(path), fault)),
     }
 }
 

@@ -1,25 +1,34 @@
 //! The files of layers.
 
-ghost use Rattle.std.specs.Prelude.{◌≡◌, map, IfOk, IfSome};
+ghost use Rattle.std.specs.Prelude.{◌≡◌, [], map, IfOk, IfSome};
+ghost use Rattle.std.specs.List.{enumerate_from};
 ghost use Rattle.json_input.specs.Each.{each};
 ghost use Rattle.command_base.specs.LayerListSeen.{paths_of, all_paths_of};
 ghost use Rattle.command_base.specs.StackBytesSeen.{layer_bytes};
 ghost use Rattle.command_base.specs.Stop.{GivesOrStops};
-ghost use Rattle.command_base.specs.Inputs.{layer_of, layers_of, layers_on_side};
-ghost use Rattle.command_base.specs.FilesSeen.{layer_held, all_held, layers_held};
+ghost use Rattle.command_base.specs.contract_words.Exact.{GivesOr};
+ghost use Rattle.command_base.specs.declared.fault.ToolFault.TheVariants.{OutOfMemory};
+ghost use Rattle.command_base.specs.Inputs.{layer_of, layers_in_file, layers_named, layers_of, layers_on_side, made_json, named_layer, named_layers, table_at_place};
+ghost use Rattle.command_base.specs.ListWordSeen.{listed_of};
+ghost use Rattle.command_base.specs.FilesSeen.{bytes_of, layer_held, all_held, layers_held};
 
-use crate::inputs::{Inputs, file_bytes, layer_file_bytes};
-use crate::layer_list::LayerList;
+use crate::fault::ToolFault;
+use crate::inputs::{Inputs, file_bytes, layer_file_bytes, listed_table_file};
+use crate::layer_list::{LayerList, check_count};
 use crate::layer_parts::LayerParts;
+use crate::list_word::{ListedLayer, is_list_word, layers_in_word};
+use crate::made_map::MadeMap;
 use crate::side::Side;
+use crate::stack::open_table;
 use crate::stop::Stop;
+use apk_member::TableFile;
 use std::alloc::{AllocError, Global};
 
-/// The bytes of the files of a layer.
+/// The files of a layer.
 #[derive(Drop)]
 struct LayerBytes {
-    table: Vec<u8>,
-    /// Of the id map; None at a base.
+    table: TableFile,
+    /// The bytes of the id map; None at a base.
     map: Option<Vec<u8>>,
 }
 
@@ -30,14 +39,45 @@ pub struct LayerFiles {
 }
 
 impl LayerFiles {
-    /// Reads a list of layers, and then the files that it names, each table before its id map.
+    /// Reads the layers of a word: of the list that it is, or of that in the file at this path.
     #[tactic(auto, unfolding(crate::specs::Inputs::layers_of))]
     pub fn read<'a, I: Inputs>(
         alloc: Global,
         inputs: &I,
+        word: &'a str,
+    ) -> Result<LayerFiles, Stop<'a>>
+        ensures { IfSome (I.places inputs.now) (λ places. GivesOrStops layers_held result (layers_of places word.entry.now)) }
+    {
+        if is_list_word(word) {
+            LayerFiles::read_named(alloc, inputs, word)
+        } else {
+            LayerFiles::read_listed(alloc, inputs, word)
+        }
+    }
+
+    // Those of a word that is a list: each table, and the id map that is made of an overlay.
+    #[tactic(auto, unfolding(crate::specs::Inputs::layers_named))]
+    fn read_named<'a, I: Inputs>(
+        alloc: Global,
+        inputs: &I,
+        word: &'a str,
+    ) -> Result<LayerFiles, Stop<'a>>
+        ensures { IfSome (I.places inputs.now) (λ places. GivesOrStops layers_held result (layers_named places word.entry.now)) }
+    {
+        let layers = layers_in_word(alloc, word)?;
+        check_count(layers.len())?;
+        let files = read_each_named(alloc, inputs, &layers)?;
+        Ok(LayerFiles { files })
+    }
+
+    // Those of a list in a file: the list, and then the files that it names, each table before its id map.
+    #[tactic(auto, unfolding(crate::specs::Inputs::layers_in_file))]
+    fn read_listed<'a, I: Inputs>(
+        alloc: Global,
+        inputs: &I,
         path: &'a str,
     ) -> Result<LayerFiles, Stop<'a>>
-        ensures { IfSome (I.places inputs.now) (λ places. GivesOrStops layers_held result (layers_of places path.entry.now)) }
+        ensures { IfSome (I.places inputs.now) (λ places. GivesOrStops layers_held result (layers_in_file places path.entry.now)) }
     {
         let json = file_bytes(inputs, path)?;
         let list = LayerList::read(alloc, &json)?;
@@ -67,10 +107,76 @@ impl LayerFiles {
     {
         let mut layers = Vec::new(alloc);
         for layer in &self.files {
-            layers.push((layer.table.as_slice(), layer.map.as_deref()))?;
+            layers.push((layer.table.table(), layer.map.as_deref()))?;
         }
         Ok(layers)
     }
+}
+
+// Reads the layers of a word that is a list, one after the other.
+fn read_each_named<I: Inputs>(
+    alloc: Global,
+    inputs: &I,
+    layers: &[ListedLayer<'_>],
+) -> Result<Vec<LayerBytes>, Stop<'static>>
+    ensures { IfSome (I.places inputs.now) (λ places. GivesOrStops all_held result (named_layers places [] (map listed_of layers.now))) }
+{
+    let mut files = Vec::new(alloc);
+    for layer in layers {
+        let read = read_named_layer(alloc, inputs, *layer, &files)?;
+        files.push(read)?;
+    }
+    Ok(files)
+}
+
+// Reads such a layer, behind others.
+#[tactic(auto, unfolding(crate::specs::Inputs::named_layer))]
+fn read_named_layer<I: Inputs>(
+    alloc: Global,
+    inputs: &I,
+    layer: ListedLayer<'_>,
+    before: &[LayerBytes],
+) -> Result<LayerBytes, Stop<'static>>
+    ensures { IfSome (I.places inputs.now) (λ places. GivesOrStops layer_held result (named_layer places (map layer_held before.now) (listed_of layer.entry))) }
+{
+    let place = before.len();
+    let path = String::from_str(alloc, layer.path)?;
+    let table = listed_table_file(inputs, place, path)?;
+    match layer.base {
+        Some(base) => {
+            let target = table_at_place(before, base);
+            let map = Some(made_json(alloc, base, target, place, table.table())?);
+            Ok(LayerBytes { table, map })
+        }
+        None => Ok(LayerBytes { table, map: None }),
+    }
+}
+
+// The table of the layer at a place, which is there.
+fn table_at_place(layers: &[LayerBytes], place: usize) -> &[u8]
+    ensures { result.now ≡ table_at_place (map layer_held layers.now) place }
+{
+    match layers.get(place) {
+        Some(layer) => layer.table.table(),
+        None => &[],
+    }
+}
+
+// The text of the id map that is made of an overlay over the base at a place.
+#[tactic(auto, unfolding(crate::specs::Inputs::made_json))]
+fn made_json(
+    alloc: Global,
+    base: usize,
+    target: &[u8],
+    place: usize,
+    overlay: &[u8],
+) -> Result<Vec<u8>, ToolFault>
+    ensures { GivesOr OutOfMemory bytes_of result (made_json base target.now place overlay.now) }
+{
+    let target = open_table(alloc, base, target)?;
+    let overlay = open_table(alloc, place, overlay)?;
+    let made = MadeMap::of(alloc, &target, &overlay)?;
+    Ok(made.json)
 }
 
 fn read_each_layer<I: Inputs>(
@@ -78,22 +184,26 @@ fn read_each_layer<I: Inputs>(
     inputs: &I,
     paths: Vec<LayerParts<String>>,
 ) -> Result<Vec<LayerBytes>, Stop<'static>>
-    ensures { IfSome (I.places inputs.now) (λ places. GivesOrStops all_held result (each (layer_of places) (all_paths_of paths))) }
+    ensures { IfSome (I.places inputs.now) (λ places. GivesOrStops all_held result (each (layer_of places) (enumerate_from 0 (all_paths_of paths)))) }
 {
     let mut files = Vec::new(alloc);
     for layer in paths {
-        let read = read_layer(inputs, layer)?;
+        let read = read_layer(inputs, files.len(), layer)?;
         files.push(read)?;
     }
     Ok(files)
 }
 
 #[tactic(auto, unfolding(crate::specs::Inputs::layer_of))]
-fn read_layer<I: Inputs>(inputs: &I, paths: LayerParts<String>) -> Result<LayerBytes, Stop<'static>>
-    ensures { IfSome (I.places inputs.now) (λ places. GivesOrStops layer_held result (layer_of places (paths_of paths))) }
+fn read_layer<I: Inputs>(
+    inputs: &I,
+    place: usize,
+    paths: LayerParts<String>,
+) -> Result<LayerBytes, Stop<'static>>
+    ensures { IfSome (I.places inputs.now) (λ places. GivesOrStops layer_held result (layer_of places (place, paths_of paths))) }
 {
     let (table, map) = paths;
-    let table = layer_file_bytes(inputs, table)?;
+    let table = listed_table_file(inputs, place, table)?;
     match map {
         Some(path) => {
             let map = Some(layer_file_bytes(inputs, path)?);

@@ -58,8 +58,8 @@ fn read_list<'v>(alloc: Global, value: &'v Value) -> Result<LayerList, LayersFau
     Ok(LayerList { paths })
 }
 
-// Whether there may be so many layers.
-fn check_count(count: usize) -> Result<(), LayersFault>
+/// Whether there may be so many layers.
+pub(crate) fn check_count(count: usize) -> Result<(), LayersFault>
     ensures { result ≡ refuse (nat_lt most_layers count) TooManyLayers }
 {
     if count > MOST_LAYERS {

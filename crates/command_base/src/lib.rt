@@ -28,21 +28,30 @@
 //! ```
 #![tactic(auto)]
 
+mod apk_fault;
+mod astray;
 mod box_fault;
 mod cert_fault;
 mod device_fault;
 mod device_files;
+mod device_text;
 mod exit_status;
 mod fault;
 mod file_words;
+mod first_rows;
 mod input;
 mod inputs;
 mod layer_files;
 mod layer_list;
 mod layer_parts;
 mod layers_fault;
+mod list_word;
+mod made_map;
 mod map_fault;
+mod map_text;
+mod mapped_ids;
 mod one_line;
+mod pairs;
 mod place;
 mod set_aside;
 mod side;
@@ -50,25 +59,29 @@ mod stack;
 mod status;
 mod stop;
 mod table_fault;
+mod unmapped;
 
 pub use answer_text::{
     BagFault, BagRow, Cell, Device, End, MapRows, Pool, ResId, Row, Stack, Table, Theme, Value,
     kind,
 };
+pub use apk_member::TableFile;
 pub use cert_tree::{
     Cert, CertGoal, Choice, ConfigBox, Coord, Goal, Locale, LocaleRule, Node, Progress, Test,
     Values, write_locale,
 };
 pub use device_files::{AskedFiles, DeviceFiles};
+pub use device_text::DeviceText;
 pub use exit_status::ExitStatus;
 pub use fault::{ToolFault, fault_text};
 pub use file_words::{asked_goals, asked_sets, asked_words};
 pub use input::{InputFault, read_input};
-pub use inputs::{Inputs, ProcessInputs, file_bytes, table_bytes};
+pub use inputs::{Inputs, ProcessInputs, file_bytes, layer_table_file, table_file};
 pub use layer_files::LayerFiles;
 pub use layer_list::LayerList;
 pub use layer_parts::LayerParts;
 pub use layers_fault::LayersFault;
+pub use made_map::MadeMap;
 pub use names::{GoalFault, Name, Named, NamedGoal, NamedSet, NamedStack, SharedNames, file_path};
 pub use place::{Place, STANDARD_INPUT};
 pub use set_aside::rows_set_aside;

@@ -30,6 +30,8 @@ pub enum Stop<'a> {
     LayerFile(String),
     /// This word, a name or for `diff` an id, stands for no resource of the base layers.
     NoResource(String),
+    /// A device is written as words, and this part of them is no qualifier, or of a kind that is there already.
+    DevicePart(&'a [u8]),
     /// The command failed.
     Tool(ToolFault),
 }
@@ -58,6 +60,7 @@ impl Stop<'_> {
             Stop::File(path) => write_line("file: ", path, errors),
             Stop::LayerFile(path) => write_line_of_file("file: ", path.as_str(), errors),
             Stop::NoResource(name) => write_no_resource(name.as_str(), errors),
+            Stop::DevicePart(part) => write_device_part(part, errors),
             Stop::Tool(fault) => fault_text(fault, errors),
         }
     }
@@ -70,6 +73,7 @@ impl Stop<'_> {
             Stop::NotText | Stop::NoWords(_) | Stop::WordOfFile(_) => ExitStatus::BadCommandLine,
             Stop::File(_) | Stop::LayerFile(_) => ExitStatus::Failed,
             Stop::NoResource(_) => ExitStatus::Negative,
+            Stop::DevicePart(_) => ExitStatus::Refused,
             Stop::Tool(fault) => ExitStatus::after_fault(fault),
         }
     }
@@ -85,6 +89,14 @@ fn write_no_resource<E: Write + Drop>(name: &str, errors: &mut E) -> io::Result<
     ensures { Writes E.contents errors.old errors.new result (codes "no resource " ++ in_one_line name.now ++ 10 ∷ []) }
 {
     write_line_of_file("no resource ", name, errors)
+}
+
+fn write_device_part<E: Write + Drop>(part: &[u8], errors: &mut E) -> io::Result<()>
+    ensures { Writes E.contents errors.old errors.new result (codes "refused: device: Qualifier " ++ part.now ++ 10 ∷ []) }
+{
+    errors.write_all(b"refused: device: Qualifier ")?;
+    errors.write_all(part)?;
+    errors.write_all(b"\n")
 }
 
 fn write_line<E: Write + Drop>(before: &str, text: &str, errors: &mut E) -> io::Result<()>

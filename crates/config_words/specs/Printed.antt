@@ -1,5 +1,5 @@
 -- The text that `am get-config` prints: `config:`, a blank, and the line of the device; then lines of other kinds.
-use Rattle.std.specs.Prelude.{ℕ, ◌==◌, ◌||◌, not, Bool, List, [], ◌++◌, take, drop, position, codes, Option, Some, None, unwrap_or, Result}
+use Rattle.std.specs.Prelude.{ℕ, ◌==◌, ◌||◌, not, Bool, List, [], ◌++◌, take, drop, position, codes, Option, Some, None, is_some, unwrap_or, Result}
 use Rattle.config_record.specs.android_locales.declared.locale_rule.LocaleRule.{LocaleRule}
 use Rattle.config_record.specs.android_locales.declared.locale_rule.LocaleRule.TheVariants.{LanguageAndRegion}
 use Rattle.config_words.specs.declared.line.NoLine.{NoLine}
@@ -8,6 +8,10 @@ use Rattle.config_words.specs.Fault.{FaultOf}
 use Rattle.config_words.specs.Config.{device_of_config_by}
 use Rattle.config_words.specs.LineParts.{line_text}
 use Rattle.config_words.specs.Line.{unsaid, if_all_said}
+
+-- such a text
+abbrev pub is_printed : List ℕ → Bool
+is_printed text = is_some (behind (codes "config:") text)
 
 -- ---- read
 

@@ -28,5 +28,5 @@ mod words;
 
 pub use fault::ConfigWordFault;
 pub use line::{NoLine, config_line, config_line_by};
-pub use printed::{print_config, print_config_by, read_printed, read_printed_by};
+pub use printed::{is_printed, print_config, print_config_by, read_printed, read_printed_by};
 pub use read::{read_config, read_config_by};

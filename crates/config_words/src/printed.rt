@@ -5,7 +5,7 @@ ghost use Rattle.contract_words.specs.Exact.{GivesOr};
 ghost use Rattle.config_record.specs.DeviceSeen.{device_numbers};
 ghost use Rattle.config_words.specs.declared.line.NoLine.TheVariants.{OutOfMemory};
 ghost use Rattle.config_words.specs.Fault.{seen};
-ghost use Rattle.config_words.specs.Printed.{is_blank, without_blanks, ends_line, first_line, line_in, device_of_printed, device_of_printed_by, printed_text, printed_of, printed_of_by};
+ghost use Rattle.config_words.specs.Printed.{is_printed, is_blank, without_blanks, ends_line, first_line, line_in, device_of_printed, device_of_printed_by, printed_text, printed_of, printed_of_by};
 
 use crate::cut::behind;
 use crate::fault::ConfigWordFault;
@@ -18,6 +18,13 @@ use std::io::{self, Write};
 
 /// What stands before the line.
 const MARK: &[u8] = b"config:";
+
+/// Whether a text begins as the text that `am get-config` prints does, with `config:`.
+pub fn is_printed(text: &str) -> bool
+    ensures { result ≡ is_printed text.now }
+{
+    behind(MARK, text.as_bytes()).is_some()
+}
 
 /// The device of the text that `adb shell am get-config` prints: blanks may stand behind `config:`, and what stands behind
 /// the line is not looked at. A text without `config:` begins with the line.

@@ -55,11 +55,14 @@ omitting-printed contents says old new before after asked most inputs (Ok status
     )
 omitting-printed contents says old new before after asked most inputs (Err faults.OutOfMemory) omitting by printed again right = printed
 omitting-printed contents says old new before after asked most inputs (Err faults.Write) omitting by printed again right = printed
+omitting-printed contents says old new before after asked most inputs (Err (faults.Apk fault)) omitting by printed again right = absurd (let e = printed.0 in cc)
 omitting-printed contents says old new before after asked most inputs (Err (faults.Table fault)) omitting by printed again right = absurd (let e = printed.0 in cc)
 omitting-printed contents says old new before after asked most inputs (Err (faults.Layers fault)) omitting by printed again right = absurd (let e = printed.0 in cc)
+omitting-printed contents says old new before after asked most inputs (Err (faults.LayerApk layer fault)) omitting by printed again right = absurd (let e = printed.0 in cc)
 omitting-printed contents says old new before after asked most inputs (Err (faults.LayerTable layer fault)) omitting by printed again right = absurd (let e = printed.0 in cc)
 omitting-printed contents says old new before after asked most inputs (Err (faults.LayerMap layer fault)) omitting by printed again right = absurd (let e = printed.0 in cc)
 omitting-printed contents says old new before after asked most inputs (Err (faults.SideLayers side fault)) omitting by printed again right = absurd (let e = printed.0 in cc)
+omitting-printed contents says old new before after asked most inputs (Err (faults.SideApk side layer fault)) omitting by printed again right = absurd (let e = printed.0 in cc)
 omitting-printed contents says old new before after asked most inputs (Err (faults.SideTable side layer fault)) omitting by printed again right = absurd (let e = printed.0 in cc)
 omitting-printed contents says old new before after asked most inputs (Err (faults.SideMap side layer fault)) omitting by printed again right = absurd (let e = printed.0 in cc)
 omitting-printed contents says old new before after asked most inputs (Err (faults.Device fault)) omitting by printed again right = absurd (let e = printed.0 in cc)
@@ -81,11 +84,14 @@ pub lines-first : {W V : Type 0} (contents : W → Option (List ℕ)) (says : V 
 lines-first contents says old new before after asked most inputs (Ok status) omitting by printed first again right = told-first says old new before after asked most inputs omitting by first again right
 lines-first contents says old new before after asked most inputs (Err faults.OutOfMemory) omitting by printed first again right = inl printed.0
 lines-first contents says old new before after asked most inputs (Err faults.Write) omitting by printed first again right = told-first says old new before after asked most inputs omitting by first again right
+lines-first contents says old new before after asked most inputs (Err (faults.Apk fault)) omitting by printed first again right = inl printed.1
 lines-first contents says old new before after asked most inputs (Err (faults.Table fault)) omitting by printed first again right = inl printed.1
 lines-first contents says old new before after asked most inputs (Err (faults.Layers fault)) omitting by printed first again right = inl printed.1
+lines-first contents says old new before after asked most inputs (Err (faults.LayerApk layer fault)) omitting by printed first again right = inl printed.1
 lines-first contents says old new before after asked most inputs (Err (faults.LayerTable layer fault)) omitting by printed first again right = inl printed.1
 lines-first contents says old new before after asked most inputs (Err (faults.LayerMap layer fault)) omitting by printed first again right = inl printed.1
 lines-first contents says old new before after asked most inputs (Err (faults.SideLayers side fault)) omitting by printed first again right = inl printed.1
+lines-first contents says old new before after asked most inputs (Err (faults.SideApk side layer fault)) omitting by printed first again right = inl printed.1
 lines-first contents says old new before after asked most inputs (Err (faults.SideTable side layer fault)) omitting by printed first again right = inl printed.1
 lines-first contents says old new before after asked most inputs (Err (faults.SideMap side layer fault)) omitting by printed first again right = inl printed.1
 lines-first contents says old new before after asked most inputs (Err (faults.Device fault)) omitting by printed first again right = inl printed.1

@@ -1,18 +1,21 @@
 -- An answer that is not printed, and nothing is told; and one that is another answer too.
 use Rattle.std.proofs.Common.{◌≡◌, ℕ, List, Option, Result, Ok, Err, refl}
 use Rattle.table_commands.specs.command_base.declared.fault.ToolFault.{ToolFault}
-use Rattle.table_commands.specs.command_base.declared.fault.ToolFault.TheVariants.{Table, Layers, LayerTable, LayerMap, SideLayers, SideTable, SideMap, Device, Box, Certificate, OutOfMemory, Write}
+use Rattle.table_commands.specs.command_base.declared.fault.ToolFault.TheVariants.{Apk, Table, Layers, LayerApk, LayerTable, LayerMap, SideLayers, SideApk, SideTable, SideMap, Device, Box, Certificate, OutOfMemory, Write}
 use Rattle.table_commands.specs.command_base.declared.status.Status.{Status}
 use Rattle.table_commands.specs.command_base.Output.{Output, PrintsOneOf}
 use Rattle.resource_tool.specs.Answered.{PrintsBothOneOf}
 
 pub nothing-told : {W V X : Type 0} (Allows : X → Output → Type 0) (Tells : X → Output → List ℕ → Type 0) (contents : W → Option (List ℕ)) (says : V → Option (List ℕ)) (old new : W) (shown : V)
     (fault : ToolFault) (meant : Result X ToolFault) → PrintsOneOf Allows contents old new (Err fault) meant → PrintsBothOneOf Tells contents says old new shown shown (Err fault) meant
+nothing-told Allows Tells contents says old new shown (Apk f) meant p = (p.0, p.1, refl)
 nothing-told Allows Tells contents says old new shown (Table f) meant p = (p.0, p.1, refl)
 nothing-told Allows Tells contents says old new shown (Layers f) meant p = (p.0, p.1, refl)
+nothing-told Allows Tells contents says old new shown (LayerApk n f) meant p = (p.0, p.1, refl)
 nothing-told Allows Tells contents says old new shown (LayerTable n f) meant p = (p.0, p.1, refl)
 nothing-told Allows Tells contents says old new shown (LayerMap n f) meant p = (p.0, p.1, refl)
 nothing-told Allows Tells contents says old new shown (SideLayers s f) meant p = (p.0, p.1, refl)
+nothing-told Allows Tells contents says old new shown (SideApk s n f) meant p = (p.0, p.1, refl)
 nothing-told Allows Tells contents says old new shown (SideTable s n f) meant p = (p.0, p.1, refl)
 nothing-told Allows Tells contents says old new shown (SideMap s n f) meant p = (p.0, p.1, refl)
 nothing-told Allows Tells contents says old new shown (Device f) meant p = (p.0, p.1, refl)
@@ -27,11 +30,14 @@ pub told-otherwise : {W V X : Type 0} (Tells Others : X → Output → List ℕ 
     → PrintsBothOneOf Tells contents says old new before after result meant → PrintsBothOneOf Others contents says old new before after result meant
 told-otherwise Tells Others contents says old new before after (Ok status) meant more (input, text, lines, is, allowed, put, told) =
     (input, text, lines, is, more input (record { status = status; text = text }) lines is allowed, put, told)
+told-otherwise Tells Others contents says old new before after (Err (Apk f)) meant more p = p
 told-otherwise Tells Others contents says old new before after (Err (Table f)) meant more p = p
 told-otherwise Tells Others contents says old new before after (Err (Layers f)) meant more p = p
+told-otherwise Tells Others contents says old new before after (Err (LayerApk n f)) meant more p = p
 told-otherwise Tells Others contents says old new before after (Err (LayerTable n f)) meant more p = p
 told-otherwise Tells Others contents says old new before after (Err (LayerMap n f)) meant more p = p
 told-otherwise Tells Others contents says old new before after (Err (SideLayers s f)) meant more p = p
+told-otherwise Tells Others contents says old new before after (Err (SideApk s n f)) meant more p = p
 told-otherwise Tells Others contents says old new before after (Err (SideTable s n f)) meant more p = p
 told-otherwise Tells Others contents says old new before after (Err (SideMap s n f)) meant more p = p
 told-otherwise Tells Others contents says old new before after (Err (Device f)) meant more p = p

@@ -7,7 +7,6 @@ use Rattle.json_input.specs.Each.{each}
 use Rattle.table_commands.specs.command_base.declared.status.Status.{Status}
 use Rattle.table_commands.specs.command_base.declared.stop.Stop.{Stop}
 use Rattle.table_commands.specs.command_base.CarriesOut.{CarriesOut, read_or_stop, found_or_stop}
-use Rattle.table_commands.specs.command_base.DeviceFiles.{device_files}
 use Rattle.table_commands.specs.command_base.FilesSeen.{layers_held}
 use Rattle.table_commands.specs.command_base.FileWords.{goal_asked, strings_held, texts_of, words_at}
 use Rattle.table_commands.specs.command_base.Inputs.{Places, file_of}
@@ -20,6 +19,7 @@ use Rattle.resource_tool.specs.declared.check.Check.{Check}
 use Rattle.resource_tool.specs.declared.check.CheckFiles.{CheckFiles}
 use Rattle.resource_tool.specs.declared.check.OpenCheck.{OpenCheck}
 use Rattle.resource_tool.specs.Answered.{PrintsBothOneOf}
+use Rattle.resource_tool.specs.BoxFiles.{box_files}
 use Rattle.resource_tool.specs.CheckOutput.{CheckInputs, IsCheckAnswer, check_inputs_by}
 use Rattle.resource_tool.specs.OpenedSeen.{opened_cert}
 
@@ -43,10 +43,10 @@ check_held files = record {
 -- layers, a box, a certificate, and then the files of words
 unfoldable pub check_files : Places → List ℕ → List ℕ → List ℕ → List (List ℕ) → Result CheckBytes StopOf
 check_files places layers_path box_path certificate_path words = do
-  files ← device_files places layers_path box_path
+  files ← box_files places layers_path box_path
   certificate ← file_of places certificate_path
   words ← joined_each (words_at places) words
-  Ok (record { layers = files.layers; box_json = files.devices; certificate = certificate; words = words })
+  Ok (record { layers = files.layers; box_json = files.box_json; certificate = certificate; words = words })
 
 -- ---- the goals
 

@@ -5,6 +5,7 @@ pub mod CheckHeadline
 pub mod MakeOutput
 pub mod OmitOutput
 pub mod OpenedSeen
+pub mod BoxFiles
 pub mod LineReadsBack
 pub mod Make
 pub mod Check

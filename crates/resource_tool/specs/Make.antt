@@ -7,7 +7,6 @@ use Rattle.table_commands.specs.command_base.declared.fault.ToolFault.{ToolFault
 use Rattle.table_commands.specs.command_base.declared.status.Status.{Status}
 use Rattle.table_commands.specs.command_base.declared.stop.Stop.{Stop}
 use Rattle.table_commands.specs.command_base.CarriesOut.{CarriesOut, read_or_stop, found_or_stop}
-use Rattle.table_commands.specs.command_base.DeviceFiles.{AskedBytes, asked_files}
 use Rattle.table_commands.specs.command_base.FileWords.{goal_asked, texts_of}
 use Rattle.table_commands.specs.command_base.Inputs.{Places}
 use Rattle.table_commands.specs.command_base.Output.{Output}
@@ -16,6 +15,7 @@ use Rattle.table_commands.specs.command_base.Stop.{StopOf}
 use Rattle.table_commands.specs.command_base.names.NamedGoals.{goals_named}
 use Rattle.table_commands.specs.config_record.android_locales.declared.locale_rule.LocaleRule.{LocaleRule}
 use Rattle.resource_text.specs.cert_maker.res_value.Goal.{GoalSeen, goal_seen}
+use Rattle.resource_tool.specs.BoxFiles.{GoalBytes, goal_files}
 use Rattle.resource_tool.specs.declared.make.Make.{Make}
 use Rattle.resource_tool.specs.declared.make.OpenMake.{OpenMake}
 use Rattle.resource_tool.specs.Answered.{PrintsBothOneOf}
@@ -81,13 +81,13 @@ MakesOpened is_terminal omit names most contents says old new before after opene
     CarriesOut (PrintsMade is_terminal omit names most contents says old new before after) opened result
 
 -- from the files, if they are read
-abbrev pub MakesFiles : {W V : Type 0} → Bool → Make → (W → Option (List ℕ)) → (V → Option (List ℕ)) → W → W → V → V → Result AskedBytes StopOf → Result Status Stop → Type 0
+abbrev pub MakesFiles : {W V : Type 0} → Bool → Make → (W → Option (List ℕ)) → (V → Option (List ℕ)) → W → W → V → V → Result GoalBytes StopOf → Result Status Stop → Type 0
 MakesFiles is_terminal make contents says old new before after read result =
     MakesOpened is_terminal make.omit make.names make.max_nodes contents says old new before after
-    (read >>= λ files. make_opened make.locales files.layers files.devices files.words) result
+    (read >>= λ files. make_opened make.locales files.layers files.box_json files.words) result
 
 -- from what the places have
 abbrev pub Makes : {W V : Type 0} → Bool → (W → Option (List ℕ)) → (V → Option (List ℕ)) → W → W → V → V → Places → Make → Result Status Stop → Type 0
 Makes is_terminal contents says old new before after places make result =
     MakesFiles is_terminal make contents says old new before after
-    (asked_files places make.layers.now make.box_path.now (texts_of make.goals)) result
+    (goal_files places make.layers.now make.box_path.now (texts_of make.goals)) result

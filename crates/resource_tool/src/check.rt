@@ -15,6 +15,7 @@ ghost use Rattle.resource_tool.specs.CheckHeadline.{HeadlineHolds};
 ghost use Rattle.resource_tool.specs.OpenedSeen.{opened_cert};
 ghost use Rattle.table_commands.specs.command_base.CarriesOut.{IsKept};
 
+use crate::box_files::BoxFiles;
 use crate::goal_told::write_goal_told;
 use answer_text::set_aside_line;
 use cert_checker::check;
@@ -23,8 +24,8 @@ use resource_text::{Cert, ConfigBox, Goal, Verdict, verdict_text};
 use std::alloc::Global;
 use std::io::{self, Write, sink};
 use table_commands::{
-    DeviceFiles, Inputs, LayerFiles, LayerParts, LocaleRule, Stack, Status, Stop, ToolFault,
-    asked_goals, asked_words, file_bytes, open_stack, rows_set_aside,
+    Inputs, LayerFiles, LayerParts, LocaleRule, Stack, Status, Stop, ToolFault, asked_goals,
+    asked_words, file_bytes, open_stack, rows_set_aside,
 };
 
 /// What the words of `check` ask: whether a certificate is true of some goals for a box of devices.
@@ -124,17 +125,12 @@ impl CheckFiles {
         ensures { IfSome (I.places inputs.now) (λ places. GivesOrStops check_held result
             (check_files places layers_path.entry.now box_path.entry.now certificate_path.entry.now (map (λ word. word.now) words.now))) }
     {
-        let DeviceFiles { layers, devices } = DeviceFiles::read(
-            alloc,
-            inputs,
-            layers_path,
-            box_path,
-        )?;
+        let BoxFiles { layers, box_json } = BoxFiles::read(alloc, inputs, layers_path, box_path)?;
         let certificate = file_bytes(inputs, certificate_path)?;
         let words = asked_words(alloc, inputs, words)?;
         Ok(CheckFiles {
             layers,
-            box_json: devices,
+            box_json,
             certificate,
             words,
         })

@@ -23,6 +23,7 @@
 #![tactic(auto)]
 
 mod answered;
+mod box_files;
 mod check;
 mod goal_told;
 mod make;

@@ -5,7 +5,6 @@ ghost use Rattle.contract_words.specs.Exact.{GivesOr};
 ghost use Rattle.contract_words.specs.Writes.{Writes};
 ghost use Rattle.serde_json.specs.Written.{compact_text};
 ghost use Rattle.table_commands.specs.command_base.declared.fault.ToolFault.TheVariants.{OutOfMemory, Write};
-ghost use Rattle.table_commands.specs.command_base.FilesSeen.{asked_held};
 ghost use Rattle.table_commands.specs.command_base.Output.{IsOfInput, Prints, PrintsOneOf};
 ghost use Rattle.table_commands.specs.command_base.StackBytesSeen.{layer_bytes};
 ghost use Rattle.table_commands.specs.command_base.Stop.{GivesOrStops};
@@ -14,6 +13,7 @@ ghost use Rattle.resource_text.specs.cert_maker.res_value.Goal.{goal_seen};
 ghost use Rattle.resource_text.specs.cert_maker.cert_tree.WrittenJson.{cert_data};
 ghost use Rattle.table_commands.specs.config_record.DeviceSeen.{device_numbers};
 ghost use Rattle.resource_tool.specs.Answered.{PrintsBothOneOf, status_in, goal_in};
+ghost use Rattle.resource_tool.specs.BoxFiles.{goals_held};
 ghost use Rattle.resource_tool.specs.Make.{Makes, MakesFiles, PrintsTold, PrintsToldFirst, first_opened, make_opened, make_seen};
 ghost use Rattle.resource_tool.specs.MakeOutput.{IsMakeOutput, IsMakeOutputAbout, IsMakeAnswer, make_inputs, make_inputs_by, counterexample_line, counterexample_text, status_of_made, goal_of_made, made_output};
 ghost use Rattle.resource_tool.specs.OmitOutput.{IsOmitOutput};
@@ -22,6 +22,7 @@ ghost use Rattle.resource_tool.specs.OpenedSeen.{opened_box};
 ghost use Rattle.table_commands.specs.command_base.CarriesOut.{IsKept};
 
 use crate::answered::Answered;
+use crate::box_files::GoalFiles;
 use crate::goal_told::write_goal_told;
 use crate::opened_box::OpenedBox;
 use crate::progress::{ProgressLine, Watch};
@@ -32,8 +33,8 @@ use std::alloc::{AllocError, Global};
 use std::io::{self, Write, sink};
 use std::time::Clock;
 use table_commands::{
-    AskedFiles, Device, End, Inputs, LayerParts, LocaleRule, Stack, Status, Stop, ToolFault,
-    asked_goals, open_stack,
+    Device, End, Inputs, LayerParts, LocaleRule, Stack, Status, Stop, ToolFault, asked_goals,
+    open_stack,
 };
 
 /// What the words of `make` ask: a certificate of some goals for a box of devices.
@@ -72,27 +73,27 @@ impl<'a> Make<'a> {
         ensures quiet { watch.entry.is_terminal ≡ false → (self.now.names || self.now.omit) ≡ false → errors.new ≡ errors.old }
         ensures unsaid { watch.entry.is_terminal ≡ false → IsKept errors.old errors.new result }
     {
-        let files = AskedFiles::read(alloc, inputs, self.layers, self.box_path, &self.goals)?;
+        let files = GoalFiles::read(alloc, inputs, self.layers, self.box_path, &self.goals)?;
         self.answer_of(alloc, &files, watch, out, errors)
     }
 
     fn answer_of<C: Clock, O: Write + Drop, E: Write + Drop>(
         &self,
         alloc: Global,
-        files: &AskedFiles,
+        files: &GoalFiles,
         watch: Watch<'_, C>,
         out: &mut O,
         errors: &mut E,
     ) -> Result<Status, Stop<'static>>
         ensures answers { MakesFiles watch.entry.is_terminal self.now O.contents E.contents
-            out.old out.new errors.old errors.new (Ok (asked_held files.now)) result }
+            out.old out.new errors.old errors.new (Ok (goals_held files.now)) result }
         ensures unwritten { IsKept out.old out.new result }
         ensures quiet { watch.entry.is_terminal ≡ false → (self.now.names || self.now.omit) ≡ false → errors.new ≡ errors.old }
         ensures unsaid { watch.entry.is_terminal ≡ false → IsKept errors.old errors.new result }
     {
         let layers = files.layers.layers(alloc)?;
         if self.omit {
-            let make = OpenMake::open(alloc, &layers, &files.devices, self.locales, &files.words)?;
+            let make = OpenMake::open(alloc, &layers, &files.box_json, self.locales, &files.words)?;
             Ok(make.make_omitting(alloc, self.max_nodes, watch, out, errors)?)
         } else {
             // The tree of each goal has one node at least, so these decide.
@@ -100,7 +101,7 @@ impl<'a> Make<'a> {
             let make = OpenMake::open_first(
                 alloc,
                 &layers,
-                &files.devices,
+                &files.box_json,
                 self.locales,
                 &files.words,
                 most,

@@ -7,7 +7,7 @@ use Rattle.std.specs.Io.KnownBytes.{Appends, Keeps, append_known}
 use Rattle.std.specs.declared.alloc.Global.{Global}
 use Rattle.std.specs.declared.io.buffered.BufWriter.{BufWriter}
 use Rattle.resource_tool.specs.command_base.declared.fault.ToolFault.{ToolFault}
-use Rattle.resource_tool.specs.command_base.declared.fault.ToolFault.TheVariants.{Table, Layers, LayerTable, LayerMap, SideLayers, SideTable, SideMap, Device, Box, Certificate, OutOfMemory, Write}
+use Rattle.resource_tool.specs.command_base.declared.fault.ToolFault.TheVariants.{Apk, Table, Layers, LayerApk, LayerTable, LayerMap, SideLayers, SideApk, SideTable, SideMap, Device, Box, Certificate, OutOfMemory, Write}
 use Rattle.resource_tool.specs.command_base.declared.status.Status.{Status}
 use Rattle.resource_tool.specs.command_base.declared.stop.Stop.{Stop}
 use Rattle.resource_tool.specs.command_base.CarriesOut.{CarriesOut}
@@ -151,11 +151,14 @@ module _ {W V E : Type 0} (is_terminal : Bool) (c : W → Option (List ℕ)) (d 
   first-done Tells F read status shown p first = inr (p.0, record { status = status; text = p.1 }, p.2, p.3, p.4, p.6)
 
   prints-fault : (fault : ToolFault) (meant : Result Output ToolFault) → Stays → Prints c old new (Err fault) meant → Prints d before after (Err fault) meant
+  prints-fault (Apk f) meant stays p = (p.0, stays p.1)
   prints-fault (Table f) meant stays p = (p.0, stays p.1)
   prints-fault (Layers f) meant stays p = (p.0, stays p.1)
+  prints-fault (LayerApk n f) meant stays p = (p.0, stays p.1)
   prints-fault (LayerTable n f) meant stays p = (p.0, stays p.1)
   prints-fault (LayerMap n f) meant stays p = (p.0, stays p.1)
   prints-fault (SideLayers s f) meant stays p = (p.0, stays p.1)
+  prints-fault (SideApk s n f) meant stays p = (p.0, stays p.1)
   prints-fault (SideTable s n f) meant stays p = (p.0, stays p.1)
   prints-fault (SideMap s n f) meant stays p = (p.0, stays p.1)
   prints-fault (Device f) meant stays p = (p.0, stays p.1)
@@ -166,11 +169,14 @@ module _ {W V E : Type 0} (is_terminal : Bool) (c : W → Option (List ℕ)) (d 
 
   prints_one_of-fault : {X : Type 0} (Allows : X → Output → Type 0) (fault : ToolFault) (meant : Result X ToolFault) → Stays
       → PrintsOneOf Allows c old new (Err fault) meant → PrintsOneOf Allows d before after (Err fault) meant
+  prints_one_of-fault Allows (Apk f) meant stays p = (p.0, stays p.1)
   prints_one_of-fault Allows (Table f) meant stays p = (p.0, stays p.1)
   prints_one_of-fault Allows (Layers f) meant stays p = (p.0, stays p.1)
+  prints_one_of-fault Allows (LayerApk n f) meant stays p = (p.0, stays p.1)
   prints_one_of-fault Allows (LayerTable n f) meant stays p = (p.0, stays p.1)
   prints_one_of-fault Allows (LayerMap n f) meant stays p = (p.0, stays p.1)
   prints_one_of-fault Allows (SideLayers s f) meant stays p = (p.0, stays p.1)
+  prints_one_of-fault Allows (SideApk s n f) meant stays p = (p.0, stays p.1)
   prints_one_of-fault Allows (SideTable s n f) meant stays p = (p.0, stays p.1)
   prints_one_of-fault Allows (SideMap s n f) meant stays p = (p.0, stays p.1)
   prints_one_of-fault Allows (Device f) meant stays p = (p.0, stays p.1)
@@ -181,11 +187,14 @@ module _ {W V E : Type 0} (is_terminal : Bool) (c : W → Option (List ℕ)) (d 
 
   prints_both-fault : (fault : ToolFault) (meant : Result MapOutput ToolFault) → Stays
       → PrintsBoth c says old new quiet said (Err fault) meant → PrintsBoth d says before after quiet said (Err fault) meant
+  prints_both-fault (Apk f) meant stays p = (p.0, stays p.1, p.2)
   prints_both-fault (Table f) meant stays p = (p.0, stays p.1, p.2)
   prints_both-fault (Layers f) meant stays p = (p.0, stays p.1, p.2)
+  prints_both-fault (LayerApk n f) meant stays p = (p.0, stays p.1, p.2)
   prints_both-fault (LayerTable n f) meant stays p = (p.0, stays p.1, p.2)
   prints_both-fault (LayerMap n f) meant stays p = (p.0, stays p.1, p.2)
   prints_both-fault (SideLayers s f) meant stays p = (p.0, stays p.1, p.2)
+  prints_both-fault (SideApk s n f) meant stays p = (p.0, stays p.1, p.2)
   prints_both-fault (SideTable s n f) meant stays p = (p.0, stays p.1, p.2)
   prints_both-fault (SideMap s n f) meant stays p = (p.0, stays p.1, p.2)
   prints_both-fault (Device f) meant stays p = (p.0, stays p.1, p.2)
@@ -196,11 +205,14 @@ module _ {W V E : Type 0} (is_terminal : Bool) (c : W → Option (List ℕ)) (d 
 
   told-fault : {X Y : Type 0} (Tells : X → Y → Output → List ℕ → Type 0) (F : X → Result Y ToolFault) (read : X) (fault : ToolFault) → Stays
       → (shown : E) → ToldBefore Tells F read (Err fault) shown → ToldBehind Tells F read (Err fault) shown
+  told-fault Tells F read (Apk f) stays shown p = (p.0, stays p.1, p.2)
   told-fault Tells F read (Table f) stays shown p = (p.0, stays p.1, p.2)
   told-fault Tells F read (Layers f) stays shown p = (p.0, stays p.1, p.2)
+  told-fault Tells F read (LayerApk n f) stays shown p = (p.0, stays p.1, p.2)
   told-fault Tells F read (LayerTable n f) stays shown p = (p.0, stays p.1, p.2)
   told-fault Tells F read (LayerMap n f) stays shown p = (p.0, stays p.1, p.2)
   told-fault Tells F read (SideLayers s f) stays shown p = (p.0, stays p.1, p.2)
+  told-fault Tells F read (SideApk s n f) stays shown p = (p.0, stays p.1, p.2)
   told-fault Tells F read (SideTable s n f) stays shown p = (p.0, stays p.1, p.2)
   told-fault Tells F read (SideMap s n f) stays shown p = (p.0, stays p.1, p.2)
   told-fault Tells F read (Device f) stays shown p = (p.0, stays p.1, p.2)

@@ -75,43 +75,45 @@ pub(crate) const NODES_IF_LEFT_OUT: u32 = 100_000;
 pub(crate) const TABLE: Argument = Argument {
     name: "TABLE",
     takes: Takes::OneWord,
-    help: "Path of the resources.arsc, or - for standard input",
+    help: "Path of the apk or of its resources.arsc, or - for standard input",
 };
 
 pub(crate) const TARGET: Argument = Argument {
     name: "TARGET",
     takes: Takes::OneWord,
-    help: "Path of the resources.arsc that is overlaid, or - for standard input",
+    help: "Path of the apk, or resources.arsc, that is overlaid, or - for standard input",
 };
 
 pub(crate) const OVERLAY: Argument = Argument {
     name: "OVERLAY",
     takes: Takes::OneWord,
-    help: "Path of the overlay's resources.arsc, or - for standard input",
+    help: "Path of the overlay's apk, or resources.arsc, or - for standard input",
 };
 
 pub(crate) const LAYERS: Argument = Argument {
     name: "LAYERS",
     takes: Takes::OneWord,
-    help: "Path of the JSON list of layers",
+    help: "Paths of apks or tables, with `,` before each but the first and `+` before an overlay; \
+           or the path of a JSON list of layers",
 };
 
 pub(crate) const OLD: Argument = Argument {
     name: "OLD",
     takes: Takes::OneWord,
-    help: "Path of the JSON list of layers before the change",
+    help: "The layers before the change, as for other commands",
 };
 
 pub(crate) const NEW: Argument = Argument {
     name: "NEW",
     takes: Takes::OneWord,
-    help: "Path of the JSON list of layers after the change",
+    help: "The layers after the change",
 };
 
 pub(crate) const DEVICE: Argument = Argument {
     name: "DEVICE",
     takes: Takes::OneWord,
-    help: "Path of the JSON object with the device's qualifiers",
+    help: "What `adb shell am get-config` prints, which begins with `config:`; \
+           or the path of the JSON object with the device's qualifiers",
 };
 
 pub(crate) const BOX: Argument = Argument {

@@ -16,7 +16,8 @@ use Rattle.command_base.specs.answer_text.NameText.{name_beside}
 use Rattle.command_base.specs.declared.fault.ToolFault.{ToolFault}
 use Rattle.command_base.specs.declared.status.Status.{Status}
 use Rattle.command_base.specs.declared.stop.Stop.{Stop}
-use Rattle.command_base.specs.CarriesOut.{CarriesOut, read_or_stop, found_or_stop, id_named}
+use Rattle.command_base.specs.CarriesOut.{CarriesOut, found_or_stop, id_named}
+use Rattle.command_base.specs.DeviceText.{DeviceTextOf}
 use Rattle.command_base.specs.DeviceFiles.{AskedBytes, asked_files}
 use Rattle.command_base.specs.FileWords.{set_asked, texts_of}
 use Rattle.command_base.specs.Inputs.{Places}
@@ -70,10 +71,10 @@ attr_seen asked = record { opened = opened_of asked.opened; attr = asked.attr; s
 
 -- First come the words of files, then the faults of inputs, and then the name of the attribute, and those of styles, that
 -- are not there.
-unfoldable pub attr_opened : LocaleRule → List LayerBytes → List ℕ → NamedOf → List (List ℕ) → Result OpenAttrOf StopOf
+unfoldable pub attr_opened : LocaleRule → List LayerBytes → DeviceTextOf → NamedOf → List (List ℕ) → Result OpenAttrOf StopOf
 attr_opened rule layers device attr words = do
   sets ← each set_asked words
-  opened ← read_or_stop (opened_by rule layers device)
+  opened ← opened_by rule layers device
   attr ← id_named opened.stack attr
   styles ← found_or_stop (ids_named opened.stack sets)
   Ok (record { opened = opened; attr = attr; styles = styles })
@@ -82,7 +83,7 @@ attr_opened rule layers device attr words = do
 abbrev pub PrintsAttrFiles : {W : Type 0} → (W → Option (List ℕ)) → W → W → Attr → Result AskedBytes StopOf → Result Status Stop → Type 0
 PrintsAttrFiles contents old new attr read result =
     CarriesOut (λ asked done. Prints contents old new done (Ok (attr_answer asked.opened asked.attr.0 asked.styles attr.force attr.names)))
-    (read >>= λ files. attr_opened attr.locales files.layers files.devices (named_of attr.attr) files.words) result
+    (read >>= λ files. attr_opened attr.locales files.layers files.device (named_of attr.attr) files.words) result
 
 -- the answer from what the places have
 abbrev pub PrintsAttr : {W : Type 0} → (W → Option (List ℕ)) → W → W → Places → Attr → Result Status Stop → Type 0

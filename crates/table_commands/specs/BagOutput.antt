@@ -68,7 +68,7 @@ bag_output layers device_json id = do
 abbrev pub PrintsBagFiles : {W : Type 0} → (W → Option (List ℕ)) → W → W → Bag → Result DeviceBytes StopOf → Result Status Stop → Type 0
 PrintsBagFiles contents old new bag read result =
     CarriesOut (λ asked done. Prints contents old new done (Ok (bag_answer asked.opened asked.id.0 bag.names)))
-    (read >>= λ files. id_opened bag.locales files.layers files.devices (named_of bag.resource)) result
+    (read >>= λ files. id_opened bag.locales files.layers files.device (named_of bag.resource)) result
 
 -- the answer from what the places have
 abbrev pub PrintsBag : {W : Type 0} → (W → Option (List ℕ)) → W → W → Places → Bag → Result Status Stop → Type 0

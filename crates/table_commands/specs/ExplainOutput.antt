@@ -38,7 +38,7 @@ explain_output layers device_json id = do
 abbrev pub ExplainsFiles : {W : Type 0} → (W → Option (List ℕ)) → W → W → Explain → Result DeviceBytes StopOf → Result Status Stop → Type 0
 ExplainsFiles contents old new explain read result =
     CarriesOut (λ asked done. Prints contents old new done (Ok (explain_answer asked.opened asked.id.0 explain.names)))
-    (read >>= λ files. id_opened explain.locales files.layers files.devices (named_of explain.resource)) result
+    (read >>= λ files. id_opened explain.locales files.layers files.device (named_of explain.resource)) result
 
 -- the answer from what the places have
 abbrev pub Explains : {W : Type 0} → (W → Option (List ℕ)) → W → W → Places → Explain → Result Status Stop → Type 0

@@ -1,11 +1,4 @@
 pub mod TableOutput
-pub mod FirstRows
-pub mod FirstRowsSeen
-pub mod MadeMap
-pub mod MappedIdsSeen
-pub mod PairSeen
-pub mod NamedTarget
-pub mod AstraySeen
 pub mod MapOutput
 pub mod Opened
 pub mod OpenedSeen
@@ -14,7 +7,6 @@ pub mod QueryOutput
 pub mod ExplainOutput
 pub mod BagOutput
 pub mod AttrOutput
-pub mod Unfolded
 pub use Rattle.command_base.specs as command_base
 pub use Rattle.command_base.specs.answer_text
 pub use Rattle.command_base.specs.answer_text.config_record

@@ -15,7 +15,8 @@ use Rattle.command_base.specs.declared.fault.ToolFault.{ToolFault}
 use Rattle.command_base.specs.declared.status.Status.{Status}
 use Rattle.command_base.specs.declared.status.Status.TheVariants.{Done, Negative}
 use Rattle.command_base.specs.declared.stop.Stop.{Stop}
-use Rattle.command_base.specs.CarriesOut.{CarriesOut, read_or_stop, found_or_stop}
+use Rattle.command_base.specs.CarriesOut.{CarriesOut, found_or_stop}
+use Rattle.command_base.specs.DeviceText.{DeviceTextOf}
 use Rattle.command_base.specs.DeviceFiles.{AskedBytes, asked_files}
 use Rattle.command_base.specs.FileWords.{set_asked, texts_of}
 use Rattle.command_base.specs.Inputs.{Places}
@@ -71,10 +72,10 @@ abbrev pub query_seen : OpenQuery → OpenQueryOf
 query_seen query = record { opened = opened_of query.opened; ids = query.ids.items }
 
 -- First come the words of files, then the faults of inputs, and then the first name that is not there.
-unfoldable pub query_opened : LocaleRule → List LayerBytes → List ℕ → List (List ℕ) → Result OpenQueryOf StopOf
+unfoldable pub query_opened : LocaleRule → List LayerBytes → DeviceTextOf → List (List ℕ) → Result OpenQueryOf StopOf
 query_opened rule layers device words = do
   sets ← each set_asked words
-  opened ← read_or_stop (opened_by rule layers device)
+  opened ← opened_by rule layers device
   ids ← found_or_stop (ids_named opened.stack sets)
   Ok (record { opened = opened; ids = ids })
 
@@ -82,7 +83,7 @@ query_opened rule layers device words = do
 abbrev pub QueriesFiles : {W : Type 0} → (W → Option (List ℕ)) → W → W → Query → Result AskedBytes StopOf → Result Status Stop → Type 0
 QueriesFiles contents old new query read result =
     CarriesOut (λ asked done. Prints contents old new done (Ok (query_answer asked.opened asked.ids query.names)))
-    (read >>= λ files. query_opened query.locales files.layers files.devices files.words) result
+    (read >>= λ files. query_opened query.locales files.layers files.device files.words) result
 
 -- the answer from what the places have
 abbrev pub Queries : {W : Type 0} → (W → Option (List ℕ)) → W → W → Places → Query → Result Status Stop → Type 0

@@ -2,6 +2,7 @@
 
 ghost use Rattle.std.specs.Prelude.{◌≡◌, map, string_bytes, Ok, IfSome};
 ghost use Rattle.contract_words.specs.Writes.{Writes};
+ghost use Rattle.command_base.specs.DeviceText.{device_text_of};
 ghost use Rattle.command_base.specs.FilesSeen.{asked_held};
 ghost use Rattle.command_base.specs.Output.{Prints};
 ghost use Rattle.command_base.specs.StackBytesSeen.{layer_bytes};
@@ -17,8 +18,8 @@ use crate::no_bag::print_no_bag;
 use crate::opened::Opened;
 use answer_text::{write_end_with_name, write_id, write_name_beside};
 use command_base::{
-    AskedFiles, End, Inputs, LayerParts, LocaleRule, Named, ResId, Stack, Status, Stop, Theme,
-    ToolFault, asked_sets,
+    AskedFiles, DeviceText, End, Inputs, LayerParts, LocaleRule, Named, ResId, Stack, Status, Stop,
+    Theme, ToolFault, asked_sets,
 };
 use names::{id_named, ids_named};
 use std::alloc::Global;
@@ -61,9 +62,9 @@ impl<'a> Attr<'a> {
     fn answer_of<W: Write + Drop>(
         &self,
         alloc: Global,
-        files: &AskedFiles,
+        files: &AskedFiles<'a>,
         out: &mut W,
-    ) -> Result<Status, Stop<'static>>
+    ) -> Result<Status, Stop<'a>>
         ensures answers { PrintsAttrFiles W.contents out.old out.new self.now (Ok (asked_held files.now)) result }
         ensures unwritten { IsKept out.old out.new result }
     {
@@ -71,7 +72,7 @@ impl<'a> Attr<'a> {
         let asked = OpenAttr::open(
             alloc,
             &layers,
-            &files.devices,
+            &files.device,
             self.locales,
             self.attr,
             &files.words,
@@ -91,16 +92,16 @@ struct OpenAttr<'a> {
 impl<'a> OpenAttr<'a> {
     /// Opens the layers, reads the device, and then finds the attribute and what words ask for.
     #[tactic(auto, unfolding(crate::specs::AttrOutput::attr_opened))]
-    fn open(
+    fn open<'t>(
         alloc: Global,
         layers: &[LayerParts<&'a [u8]>],
-        device: &[u8],
+        device: &DeviceText<'t>,
         rule: LocaleRule,
         attr: Named<'_>,
         words: &[String],
-    ) -> Result<OpenAttr<'a>, Stop<'static>>
+    ) -> Result<OpenAttr<'a>, Stop<'t>>
         ensures { GivesOrStops attr_seen result
-            (attr_opened rule (map layer_bytes layers.now) device.now (named_of attr.entry) (map string_bytes words.now)) }
+            (attr_opened rule (map layer_bytes layers.now) (device_text_of device.now) (named_of attr.entry) (map string_bytes words.now)) }
     {
         let sets = asked_sets(alloc, words)?;
         let opened = Opened::read_by(alloc, layers, device, rule)?;

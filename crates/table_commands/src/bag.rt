@@ -3,7 +3,7 @@
 ghost use Rattle.std.specs.Prelude.{◌≡◌, map, Ok, IfSome};
 ghost use Rattle.std.specs.List.{flat_map};
 ghost use Rattle.contract_words.specs.Writes.{Writes};
-ghost use Rattle.command_base.specs.FilesSeen.{devices_held};
+ghost use Rattle.command_base.specs.FilesSeen.{device_held};
 ghost use Rattle.command_base.specs.Output.{Prints};
 ghost use Rattle.command_base.specs.StackBytesSeen.{layer_bytes};
 ghost use Rattle.command_base.specs.declared.fault.ToolFault.TheVariants.{Write};
@@ -54,14 +54,14 @@ impl<'a> Bag<'a> {
     fn answer_of<W: Write + Drop>(
         &self,
         alloc: Global,
-        files: &DeviceFiles,
+        files: &DeviceFiles<'a>,
         out: &mut W,
-    ) -> Result<Status, Stop<'static>>
-        ensures answers { PrintsBagFiles W.contents out.old out.new self.now (Ok (devices_held files.now)) result }
+    ) -> Result<Status, Stop<'a>>
+        ensures answers { PrintsBagFiles W.contents out.old out.new self.now (Ok (device_held files.now)) result }
         ensures unwritten { IsKept out.old out.new result }
     {
         let layers = files.layers.layers(alloc)?;
-        let asked = OpenId::open(alloc, &layers, &files.devices, self.locales, self.resource)?;
+        let asked = OpenId::open(alloc, &layers, &files.device, self.locales, self.resource)?;
         Ok(asked.opened.bag(alloc, asked.id, self.names, out)?)
     }
 }

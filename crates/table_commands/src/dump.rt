@@ -7,7 +7,7 @@ ghost use Rattle.table_commands.specs.TableOutput.{dump_output, PrintsDump};
 ghost use Rattle.command_base.specs.CarriesOut.{IsKept};
 
 use answer_text::dump_text;
-use command_base::{Inputs, Status, Stop, Table, ToolFault, table_bytes};
+use command_base::{Inputs, Status, Stop, Table, ToolFault, table_file};
 use std::alloc::Global;
 use std::io::Write;
 
@@ -29,8 +29,8 @@ impl<'a> Dump<'a> {
         ensures answers { IfSome (I.places inputs.now) (λ places. PrintsDump W.contents out.old out.new places self.now result) }
         ensures unwritten { IsKept out.old out.new result }
     {
-        let table = table_bytes(inputs, self.table)?;
-        Ok(dump_bytes(alloc, &table, out)?)
+        let file = table_file(inputs, self.table)?;
+        Ok(dump_bytes(alloc, file.table(), out)?)
     }
 }
 

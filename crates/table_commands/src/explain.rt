@@ -2,7 +2,7 @@
 
 ghost use Rattle.std.specs.Prelude.{◌≡◌, map, Ok, IfOk, IfSome};
 ghost use Rattle.contract_words.specs.Writes.{Writes};
-ghost use Rattle.command_base.specs.FilesSeen.{devices_held};
+ghost use Rattle.command_base.specs.FilesSeen.{device_held};
 ghost use Rattle.command_base.specs.Output.{Prints};
 ghost use Rattle.command_base.specs.StackBytesSeen.{layer_bytes};
 ghost use Rattle.command_base.specs.declared.fault.ToolFault.TheVariants.{Write};
@@ -52,14 +52,14 @@ impl<'a> Explain<'a> {
     fn answer_of<W: Write + Drop>(
         &self,
         alloc: Global,
-        files: &DeviceFiles,
+        files: &DeviceFiles<'a>,
         out: &mut W,
-    ) -> Result<Status, Stop<'static>>
-        ensures answers { ExplainsFiles W.contents out.old out.new self.now (Ok (devices_held files.now)) result }
+    ) -> Result<Status, Stop<'a>>
+        ensures answers { ExplainsFiles W.contents out.old out.new self.now (Ok (device_held files.now)) result }
         ensures unwritten { IsKept out.old out.new result }
     {
         let layers = files.layers.layers(alloc)?;
-        let asked = OpenId::open(alloc, &layers, &files.devices, self.locales, self.resource)?;
+        let asked = OpenId::open(alloc, &layers, &files.device, self.locales, self.resource)?;
         Ok(asked.explain(self.names, out)?)
     }
 }

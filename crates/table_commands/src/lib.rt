@@ -34,31 +34,25 @@
 //! ```
 #![tactic(auto)]
 
-mod astray;
 mod attr;
 mod bag;
 mod dump;
 mod end_status;
 mod explain;
-mod first_rows;
 mod ids;
 mod map;
-mod map_text;
-mod mapped_ids;
 mod no_bag;
 mod opened;
-mod pairs;
 mod query;
 mod rows;
-mod unmapped;
 
 pub use attr::{Attr, attr_bytes};
 pub use bag::{Bag, bag_bytes};
 pub use command_base::{
-    AskedFiles, Device, DeviceFiles, End, ExitStatus, GoalFault, InputFault, Inputs, LayerFiles,
-    LayerList, LayerParts, LayersFault, LocaleRule, Named, NamedGoal, NamedSet, ProcessInputs,
-    STANDARD_INPUT, Stack, Status, Stop, ToolFault, asked_goals, asked_words, fault_text,
-    file_bytes, file_path, open_stack, read_input, rows_set_aside,
+    Device, End, ExitStatus, GoalFault, InputFault, Inputs, LayerFiles, LayerList, LayerParts,
+    LayersFault, LocaleRule, Named, NamedGoal, NamedSet, ProcessInputs, STANDARD_INPUT, Stack,
+    Status, Stop, ToolFault, asked_goals, asked_words, fault_text, file_bytes, file_path,
+    open_stack, read_input, rows_set_aside,
 };
 pub use dump::{Dump, dump_bytes};
 pub use explain::{Explain, explain_bytes};

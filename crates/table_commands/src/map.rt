@@ -1,24 +1,25 @@
 //! The command `map`.
 
-ghost use Rattle.std.specs.Prelude.{◌≡◌, map, Ok, IfOk, IfSome, OnOk};
-ghost use Rattle.command_base.specs.answer_text.type_chunks.Row.{row_of};
+ghost use Rattle.std.specs.Prelude.{◌≡◌, Ok, IfSome, OnOk};
 ghost use Rattle.command_base.specs.Stop.{GivesOrStops};
 ghost use Rattle.command_base.specs.declared.fault.ToolFault.TheVariants.{Write};
-ghost use Rattle.table_commands.specs.AstraySeen.{astray_of};
-ghost use Rattle.table_commands.specs.MadeMap.{made_map};
-ghost use Rattle.table_commands.specs.MapOutput.{MadeMapReadsBack, PrintsBoth, PrintsMap, ReadsBack, left_lines, map_files, map_held, map_output, output_of_map, status_of_map};
+ghost use Rattle.command_base.specs.MadeMap.{made_map};
+ghost use Rattle.command_base.specs.MapText.{MadeMapReadsBack, ReadsBack};
+ghost use Rattle.table_commands.specs.MapOutput.{PrintsBoth, PrintsMap, map_files, map_held, overlay_held, map_output, output_of_map};
 ghost use Rattle.command_base.specs.CarriesOut.{IsKept};
 
-use crate::astray::{Astray, astray_references};
-use crate::first_rows::FirstRows;
-use crate::map_text::{write_left, write_map};
-use crate::mapped_ids::MappedIds;
-use crate::pairs::made_pairs;
-use crate::unmapped::unmapped_rows;
 use answer_text::write_on_line;
-use command_base::{Inputs, Row, Status, Stop, Table, ToolFault, open_table, table_bytes};
-use std::alloc::{AllocError, Global};
+use command_base::{
+    Inputs, MadeMap, Status, Stop, Table, TableFile, ToolFault, layer_table_file, open_table,
+};
+use std::alloc::Global;
 use std::io::Write;
+
+/// Which layer the target is, as a fault names it.
+const TARGET_LAYER: usize = 0;
+
+/// Which the overlay is.
+const OVERLAY_LAYER: usize = 1;
 
 /// What the words of `map` ask: the id map of an overlay.
 #[derive(Drop)]
@@ -44,15 +45,16 @@ impl<'a> Map<'a> {
         ensures unsaid { IsKept errors.old errors.new result }
     {
         let files = MapFiles::read(inputs, self.target, self.overlay)?;
-        Ok(map_bytes(alloc, &files.target, &files.overlay, out, errors)?)
+        Ok(map_bytes(alloc, files.target.table(), files.overlay(), out, errors)?)
     }
 }
 
-/// The bytes of a table, and of an overlay's.
+/// The files of a table, and of an overlay's.
 #[derive(Drop)]
 struct MapFiles {
-    target: Vec<u8>,
-    overlay: Vec<u8>,
+    target: TableFile,
+    /// None where both words name one file.
+    overlay: Option<TableFile>,
 }
 
 impl MapFiles {
@@ -66,13 +68,28 @@ impl MapFiles {
         ensures { IfSome (I.places inputs.now) (λ places. GivesOrStops map_held result
             (map_files places target_path.entry.now overlay_path.entry.now)) }
     {
-        let target = table_bytes(inputs, target_path)?;
+        let target = layer_table_file(inputs, TARGET_LAYER, target_path)?;
         if overlay_path == target_path {
-            let overlay = target.clone()?;
-            return Ok(MapFiles { target, overlay });
+            return Ok(MapFiles {
+                target,
+                overlay: None,
+            });
         }
-        let overlay = table_bytes(inputs, overlay_path)?;
-        Ok(MapFiles { target, overlay })
+        let overlay = layer_table_file(inputs, OVERLAY_LAYER, overlay_path)?;
+        Ok(MapFiles {
+            target,
+            overlay: Some(overlay),
+        })
+    }
+
+    /// The table of the overlay.
+    fn overlay(&self) -> &[u8]
+        ensures { result.now ≡ overlay_held self.now }
+    {
+        match &self.overlay {
+            Some(file) => file.table(),
+            None => self.target.table(),
+        }
     }
 }
 
@@ -91,8 +108,8 @@ pub fn map_bytes<W: Write + Drop, E: Write + Drop>(
     ensures prints { PrintsBoth W.contents E.contents out.old out.new errors.old errors.new result (map_output target.now overlay.now) }
     ensures reads_back { OnOk result (MadeMapReadsBack target.now overlay.now) }
 {
-    let target = open_table(alloc, 0, target)?;
-    let overlay = open_table(alloc, 1, overlay)?;
+    let target = open_table(alloc, TARGET_LAYER, target)?;
+    let overlay = open_table(alloc, OVERLAY_LAYER, overlay)?;
     print_map(alloc, &target, &overlay, out, errors)
 }
 
@@ -106,36 +123,8 @@ fn print_map<W: Write + Drop, E: Write + Drop>(
     ensures prints { PrintsBoth W.contents E.contents out.old out.new errors.old errors.new result (Ok (output_of_map overlay.now (made_map target.now overlay.now))) }
     ensures reads_back { OnOk result (ReadsBack (made_map target.now overlay.now)) }
 {
-    let pairs = made_pairs(alloc, target, overlay)?;
-    let first = FirstRows::new(alloc, overlay)?;
-    let mapped = MappedIds::new(alloc, &pairs)?;
-    let unmapped = unmapped_rows(alloc, &first, &mapped)?;
-    let astray = astray_references(alloc, overlay, &first, &mapped)?;
-    let lines = left_text(alloc, overlay, &unmapped, &astray)?;
-    write_map(&pairs, out)?;
-    write_on_line(&lines, errors)?;
-    Ok(status_of_map(&unmapped, &astray))
-}
-
-// The lines, in memory: all of it is taken before anything is written.
-fn left_text(
-    alloc: Global,
-    overlay: &Table<'_>,
-    unmapped: &[Row<'_>],
-    astray: &[Astray<'_>],
-) -> Result<Vec<u8>, AllocError>
-    ensures { IfOk result (λ text. text.items ≡ left_lines overlay.now (map row_of unmapped.now) (map astray_of astray.now)) }
-{
-    let mut text = Vec::new(alloc);
-    match write_left(overlay, unmapped, astray, &mut text) {
-        Ok(()) => Ok(text),
-        // To a `Vec` only a want of memory is a fault.
-        Err(_) => Err(AllocError),
-    }
-}
-
-fn status_of_map(unmapped: &[Row<'_>], astray: &[Astray<'_>]) -> Status
-    ensures { result ≡ status_of_map (map row_of unmapped.now) (map astray_of astray.now) }
-{
-    Status::negative_if(!unmapped.is_empty() || !astray.is_empty())
+    let made = MadeMap::of(alloc, target, overlay)?;
+    out.write_all(&made.json)?;
+    write_on_line(&made.left, errors)?;
+    Ok(Status::negative_if(!made.is_whole))
 }

@@ -3,6 +3,7 @@
 ghost use Rattle.std.specs.Prelude.{map};
 ghost use Rattle.contract_words.specs.Exact.{GivesOr};
 ghost use Rattle.command_base.specs.declared.fault.ToolFault.TheVariants.{OutOfMemory};
+ghost use Rattle.command_base.specs.DeviceText.{device_text_of};
 ghost use Rattle.command_base.specs.Output.{IsOfInput};
 ghost use Rattle.command_base.specs.StackBytesSeen.{layer_bytes};
 ghost use Rattle.command_base.specs.Stop.{GivesOrStops};
@@ -10,7 +11,7 @@ ghost use Rattle.command_base.specs.names.Named.{named_of};
 ghost use Rattle.table_commands.specs.Opened.{opened_in, opened_by, id_opened};
 
 use command_base::{
-    Device, LayerParts, LocaleRule, Named, ResId, Stack, Stop, ToolFault, open_stack,
+    Device, DeviceText, LayerParts, LocaleRule, Named, ResId, Stack, Stop, ToolFault, open_stack,
 };
 use names::id_named;
 use std::alloc::Global;
@@ -26,7 +27,8 @@ pub struct Opened<'a> {
 impl<'a> Opened<'a> {
     ghost use Rattle.table_commands.specs.OpenedSeen.{opened_of};
 
-    /// Opens the layers, and then reads the device.
+    /// Opens the layers, and then reads a device of JSON, by language and region.
+    #[tactic(auto, unfolding(crate::specs::Opened::opened_in))]
     pub fn read(
         alloc: Global,
         layers: &[LayerParts<&'a [u8]>],
@@ -35,22 +37,23 @@ impl<'a> Opened<'a> {
         ensures value { GivesOr OutOfMemory opened_of result (opened_in (map layer_bytes layers.now) device.now) }
         ensures of_input { IsOfInput result }
     {
-        Opened::read_by(alloc, layers, device, LocaleRule::LanguageAndRegion)
+        let stack = open_stack(alloc, layers)?;
+        let device = Device::read(alloc, device)?;
+        Ok(Opened { stack, device })
     }
 
-    /// The same, where the text of the device's locale is read by a rule, by which it is then compared.
+    /// The same of the text of a device, whose locale is read by a rule, by which it is then compared.
     #[tactic(auto, unfolding(crate::specs::Opened::opened_by))]
-    pub fn read_by(
+    pub fn read_by<'t>(
         alloc: Global,
         layers: &[LayerParts<&'a [u8]>],
-        device: &[u8],
+        device: &DeviceText<'t>,
         rule: LocaleRule,
-    ) -> Result<Opened<'a>, ToolFault>
-        ensures value { GivesOr OutOfMemory opened_of result (opened_by rule (map layer_bytes layers.now) device.now) }
-        ensures of_input { IsOfInput result }
+    ) -> Result<Opened<'a>, Stop<'t>>
+        ensures { GivesOrStops opened_of result (opened_by rule (map layer_bytes layers.now) (device_text_of device.now)) }
     {
         let stack = open_stack(alloc, layers)?;
-        let device = Device::read_by(alloc, device, rule)?;
+        let device = device.device(alloc, rule)?;
         Ok(Opened { stack, device })
     }
 }
@@ -67,14 +70,15 @@ impl<'a> OpenId<'a> {
 
     /// Opens the layers, reads the device, and then finds the resource.
     #[tactic(auto, unfolding(crate::specs::Opened::id_opened))]
-    pub fn open(
+    pub fn open<'t>(
         alloc: Global,
         layers: &[LayerParts<&'a [u8]>],
-        device: &[u8],
+        device: &DeviceText<'t>,
         rule: LocaleRule,
         resource: Named<'_>,
-    ) -> Result<OpenId<'a>, Stop<'static>>
-        ensures { GivesOrStops id_seen result (id_opened rule (map layer_bytes layers.now) device.now (named_of resource.entry)) }
+    ) -> Result<OpenId<'a>, Stop<'t>>
+        ensures { GivesOrStops id_seen result
+            (id_opened rule (map layer_bytes layers.now) (device_text_of device.now) (named_of resource.entry)) }
     {
         let opened = Opened::read_by(alloc, layers, device, rule)?;
         let id = id_named(alloc, &opened.stack, resource)?;

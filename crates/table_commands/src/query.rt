@@ -3,6 +3,7 @@
 ghost use Rattle.std.specs.Prelude.{◌≡◌, map, string_bytes, Ok, IfOk, IfSome};
 ghost use Rattle.contract_words.specs.Writes.{Writes};
 ghost use Rattle.command_base.specs.answer_text.config_record.DeviceSeen.{device_numbers};
+ghost use Rattle.command_base.specs.DeviceText.{device_text_of};
 ghost use Rattle.command_base.specs.FilesSeen.{asked_held};
 ghost use Rattle.command_base.specs.Output.{Prints};
 ghost use Rattle.command_base.specs.StackBytesSeen.{layer_bytes};
@@ -16,8 +17,8 @@ use crate::end_status::is_unresolved;
 use crate::opened::Opened;
 use answer_text::{query_line, resolve, set_aside_line};
 use command_base::{
-    AskedFiles, Device, Inputs, LayerParts, LocaleRule, ResId, Stack, Status, Stop, ToolFault,
-    asked_sets, rows_set_aside,
+    AskedFiles, Device, DeviceText, Inputs, LayerParts, LocaleRule, ResId, Stack, Status, Stop,
+    ToolFault, asked_sets, rows_set_aside,
 };
 use names::ids_named;
 use std::alloc::Global;
@@ -56,14 +57,14 @@ impl<'a> Query<'a> {
     fn answer_of<W: Write + Drop>(
         &self,
         alloc: Global,
-        files: &AskedFiles,
+        files: &AskedFiles<'a>,
         out: &mut W,
-    ) -> Result<Status, Stop<'static>>
+    ) -> Result<Status, Stop<'a>>
         ensures answers { QueriesFiles W.contents out.old out.new self.now (Ok (asked_held files.now)) result }
         ensures unwritten { IsKept out.old out.new result }
     {
         let layers = files.layers.layers(alloc)?;
-        let asked = OpenQuery::open(alloc, &layers, &files.devices, self.locales, &files.words)?;
+        let asked = OpenQuery::open(alloc, &layers, &files.device, self.locales, &files.words)?;
         Ok(asked.print(self.names, out)?)
     }
 }
@@ -78,14 +79,15 @@ struct OpenQuery<'a> {
 impl<'a> OpenQuery<'a> {
     /// Reads the words, opens the layers, reads the device, and then finds what the words ask for.
     #[tactic(auto, unfolding(crate::specs::QueryOutput::query_opened))]
-    fn open(
+    fn open<'t>(
         alloc: Global,
         layers: &[LayerParts<&'a [u8]>],
-        device: &[u8],
+        device: &DeviceText<'t>,
         rule: LocaleRule,
         words: &[String],
-    ) -> Result<OpenQuery<'a>, Stop<'static>>
-        ensures { GivesOrStops query_seen result (query_opened rule (map layer_bytes layers.now) device.now (map string_bytes words.now)) }
+    ) -> Result<OpenQuery<'a>, Stop<'t>>
+        ensures { GivesOrStops query_seen result
+            (query_opened rule (map layer_bytes layers.now) (device_text_of device.now) (map string_bytes words.now)) }
     {
         let sets = asked_sets(alloc, words)?;
         let opened = Opened::read_by(alloc, layers, device, rule)?;

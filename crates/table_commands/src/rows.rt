@@ -7,7 +7,7 @@ ghost use Rattle.table_commands.specs.TableOutput.{rows_output, PrintsRows};
 ghost use Rattle.command_base.specs.CarriesOut.{IsKept};
 
 use answer_text::rows_text;
-use command_base::{Inputs, Status, Stop, Table, ToolFault, table_bytes};
+use command_base::{Inputs, Status, Stop, Table, ToolFault, table_file};
 use std::alloc::Global;
 use std::io::Write;
 
@@ -29,8 +29,8 @@ impl<'a> Rows<'a> {
         ensures answers { IfSome (I.places inputs.now) (λ places. PrintsRows W.contents out.old out.new places self.now result) }
         ensures unwritten { IsKept out.old out.new result }
     {
-        let table = table_bytes(inputs, self.table)?;
-        Ok(rows_bytes(alloc, &table, out)?)
+        let file = table_file(inputs, self.table)?;
+        Ok(rows_bytes(alloc, file.table(), out)?)
     }
 }
 

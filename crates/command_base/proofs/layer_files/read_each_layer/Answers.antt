@@ -12,7 +12,7 @@ returns-in_err-read g c =
     let steps = rw c.in-Some.is at c.next.ensures.steps in
     let before = rw steps.0 at c.loop-layer.invariant.2 in
     let p = err_from_is_err_and c.from_residual.result c.from_residual.ensures.1 in
-    rw (p.1, p.2) (LayersLeft-stops (g.I.Inputs.places c.args.inputs.now) c.loop-layer.files.items c.in-Some.layer c.next.new.self.rest.items c.args.paths.items c.in_err-read.field-0.0 before c.in_err-read.ensures)
+    rw (p.1, p.2) (LayersLeft-stops (g.I.Inputs.places c.args.inputs.now) c.loop-layer.files.items c.len.result c.in-Some.layer c.next.new.self.rest.items c.args.paths.items c.in_err-read.field-0.0 before (c.len.ensures ∙ c.loop-layer.files.ok.0) c.in_err-read.ensures)
 
 pub loop-layer-preserved : goal.loop-layer-preserved
 loop-layer-preserved g c =
@@ -21,7 +21,7 @@ loop-layer-preserved g c =
       tt,
       tt,
       rw c.in_ok-push.ensures.items
-          (LayersLeft-next (g.I.Inputs.places c.args.inputs.now) c.loop-layer.files.items c.in-Some.layer c.next.new.self.rest.items c.args.paths.items c.in_ok-read.read before c.in_ok-read.ensures),
+          (LayersLeft-next (g.I.Inputs.places c.args.inputs.now) c.loop-layer.files.items c.len.result c.in-Some.layer c.next.new.self.rest.items c.args.paths.items c.in_ok-read.read before (c.len.ensures ∙ c.loop-layer.files.ok.0) c.in_ok-read.ensures),
     )
 
 pub returns : goal.returns

@@ -1,5 +1,5 @@
 use Rattle.std.proofs.lemmas.Result.{on_ok_weaker}
-use Rattle.table_commands.proofs.MapReadSteps.{opened-reads_back}
+use Rattle.command_base.proofs.MapReadSteps.{opened-reads_back}
 use Rattle.table_commands.proofs.map.map_bytes.Goals as goal
 
 pub returns-clause-reads_back : goal.returns-clause-reads_back

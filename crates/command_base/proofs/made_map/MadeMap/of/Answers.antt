@@ -1,0 +1,11 @@
+use Rattle.std.proofs.Common.{List, subst}
+use Rattle.std.specs.List.{All}
+use Rattle.command_base.specs.overlay_map.IdMap.{IdPair}
+use Rattle.command_base.specs.PairSeen.{IdsReadBack}
+use Rattle.command_base.proofs.MapReadSteps.{made-reads_back}
+use Rattle.command_base.proofs.made_map.MadeMap.of.Goals as goal
+
+pub returns-clause-reads_back : goal.returns-clause-reads_back
+returns-clause-reads_back c =
+    made-reads_back c.args.target.now c.args.overlay.now c.in_ok-pairs.pairs.items c.in_ok-pairs.ensures
+    (subst (λ (pairs : List IdPair). All IdsReadBack pairs) c.deref.ensures.value c.in_ok-json.ensures.reads_back)

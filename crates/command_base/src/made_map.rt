@@ -1,0 +1,80 @@
+//! The id map of an overlay, made from the names of its resources.
+
+ghost use Rattle.std.specs.Prelude.{◌≡◌, map, IfOk};
+ghost use Rattle.std.specs.List.{All};
+ghost use Rattle.command_base.specs.answer_text.type_chunks.Row.{row_of};
+ghost use Rattle.command_base.specs.overlay_map.IdMap.{pairs_of};
+ghost use Rattle.command_base.specs.AstraySeen.{astray_of};
+ghost use Rattle.command_base.specs.MadeMap.{made_map};
+ghost use Rattle.command_base.specs.MapText.{ReadsBack, is_whole, left_lines, lines_of_left, map_text};
+ghost use Rattle.command_base.specs.PairSeen.{IdsReadBack};
+
+use crate::astray::{Astray, astray_references};
+use crate::first_rows::FirstRows;
+use crate::map_text::{write_left, write_map};
+use crate::mapped_ids::MappedIds;
+use crate::pairs::made_pairs;
+use crate::unmapped::unmapped_rows;
+use answer_text::{ResId, Row, Table};
+use std::alloc::{AllocError, Global};
+
+/// The id map of an overlay: each id of the target, and the overlay's id of the same names (AOSP: `ResTable::createIdmap`).
+#[derive(Drop)]
+pub struct MadeMap {
+    /// Its JSON text, which is read as that map.
+    pub json: Vec<u8>,
+    /// A line for each id of the overlay that stands for no target, and one for each of its references to an id of its own
+    /// that does not lead there.
+    pub left: Vec<u8>,
+    /// Whether there is no such id and no such reference.
+    pub is_whole: bool,
+}
+
+impl MadeMap {
+    pub fn of(alloc: Global, target: &Table<'_>, overlay: &Table<'_>) -> Result<MadeMap, AllocError>
+        ensures json { IfOk result (λ made. made.json.items ≡ map_text (made_map target.now overlay.now)) }
+        ensures left { IfOk result (λ made. made.left.items ≡ lines_of_left overlay.now (made_map target.now overlay.now)) }
+        ensures whole { IfOk result (λ made. made.is_whole ≡ is_whole overlay.now (made_map target.now overlay.now)) }
+        ensures reads_back { IfOk result (λ _. ReadsBack (made_map target.now overlay.now)) }
+    {
+        let pairs = made_pairs(alloc, target, overlay)?;
+        let json = json_text(alloc, &pairs)?;
+        let first = FirstRows::new(alloc, overlay)?;
+        let mapped = MappedIds::new(alloc, &pairs)?;
+        let unmapped = unmapped_rows(alloc, &first, &mapped)?;
+        let astray = astray_references(alloc, overlay, &first, &mapped)?;
+        let left = left_text(alloc, overlay, &unmapped, &astray)?;
+        Ok(MadeMap {
+            json,
+            left,
+            is_whole: unmapped.is_empty() && astray.is_empty(),
+        })
+    }
+}
+
+fn json_text(alloc: Global, pairs: &[(ResId, ResId)]) -> Result<Vec<u8>, AllocError>
+    ensures text { IfOk result (λ text. text.items ≡ map_text (pairs_of pairs.now)) }
+    ensures reads_back { IfOk result (λ _. All IdsReadBack pairs.now) }
+{
+    let mut text = Vec::new(alloc);
+    match write_map(pairs, &mut text) {
+        Ok(()) => Ok(text),
+        // To a `Vec` only a want of memory is a fault.
+        Err(_) => Err(AllocError),
+    }
+}
+
+fn left_text(
+    alloc: Global,
+    overlay: &Table<'_>,
+    unmapped: &[Row<'_>],
+    astray: &[Astray<'_>],
+) -> Result<Vec<u8>, AllocError>
+    ensures { IfOk result (λ text. text.items ≡ left_lines overlay.now (map row_of unmapped.now) (map astray_of astray.now)) }
+{
+    let mut text = Vec::new(alloc);
+    match write_left(overlay, unmapped, astray, &mut text) {
+        Ok(()) => Ok(text),
+        Err(_) => Err(AllocError),
+    }
+}

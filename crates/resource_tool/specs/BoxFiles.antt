@@ -1,0 +1,43 @@
+-- The files of a command for a box of devices, and what its words have that name files. They are read in the order in which the
+-- words name them.
+use Rattle.std.specs.Prelude.{ℕ, List, Result, Ok}
+use Rattle.contract_words.specs.Faults.{◌>>=◌}
+use Rattle.contract_words.specs.Sequences.{joined_each}
+use Rattle.table_commands.specs.command_base.FilesSeen.{layers_held}
+use Rattle.table_commands.specs.command_base.FileWords.{strings_held, words_at}
+use Rattle.table_commands.specs.command_base.Inputs.{Places, file_of, layers_of}
+use Rattle.table_commands.specs.command_base.StackBytes.{LayerBytes}
+use Rattle.table_commands.specs.command_base.Stop.{StopOf}
+use Rattle.resource_tool.specs.declared.box_files.BoxFiles.{BoxFiles}
+use Rattle.resource_tool.specs.declared.box_files.GoalFiles.{GoalFiles}
+
+-- the bytes of layers and of a box
+pub record BoxBytes : Type 0 where
+  pub layers : List LayerBytes
+  pub box_json : List ℕ
+
+abbrev pub box_held : BoxFiles → BoxBytes
+box_held files = record { layers = layers_held files.layers; box_json = files.box_json.items }
+
+-- layers and then the box
+unfoldable pub box_files : Places → List ℕ → List ℕ → Result BoxBytes StopOf
+box_files places layers_path box_path = do
+  layers ← layers_of places layers_path
+  box_json ← file_of places box_path
+  Ok (record { layers = layers; box_json = box_json })
+
+-- the bytes of layers and of a box, and the words of goals
+pub record GoalBytes : Type 0 where
+  pub layers : List LayerBytes
+  pub box_json : List ℕ
+  pub words : List (List ℕ)
+
+abbrev pub goals_held : GoalFiles → GoalBytes
+goals_held files = record { layers = layers_held files.layers; box_json = files.box_json.items; words = strings_held files.words }
+
+-- layers, the box, and then the files of words
+unfoldable pub goal_files : Places → List ℕ → List ℕ → List (List ℕ) → Result GoalBytes StopOf
+goal_files places layers_path box_path words = do
+  files ← box_files places layers_path box_path
+  words ← joined_each (words_at places) words
+  Ok (record { layers = files.layers; box_json = files.box_json; words = words })

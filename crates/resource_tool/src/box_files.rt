@@ -1,0 +1,64 @@
+//! The files of a command for a box of devices, in the order in which they are read.
+
+ghost use Rattle.std.specs.Prelude.{◌≡◌, map, IfSome};
+ghost use Rattle.table_commands.specs.command_base.Stop.{GivesOrStops};
+ghost use Rattle.resource_tool.specs.BoxFiles.{box_files, box_held, goal_files, goals_held};
+
+use std::alloc::Global;
+use table_commands::{Inputs, LayerFiles, Stop, asked_words, file_bytes};
+
+/// The bytes of layers and of a box.
+#[derive(Drop)]
+pub(crate) struct BoxFiles {
+    pub layers: LayerFiles,
+    pub box_json: Vec<u8>,
+}
+
+impl BoxFiles {
+    /// Reads a list of layers with the files that it names, and then the box.
+    #[tactic(auto, unfolding(crate::specs::BoxFiles::box_files))]
+    pub fn read<'a, I: Inputs>(
+        alloc: Global,
+        inputs: &I,
+        layers_path: &'a str,
+        box_path: &'a str,
+    ) -> Result<BoxFiles, Stop<'a>>
+        ensures { IfSome (I.places inputs.now) (λ places. GivesOrStops box_held result
+            (box_files places layers_path.entry.now box_path.entry.now)) }
+    {
+        let layers = LayerFiles::read(alloc, inputs, layers_path)?;
+        let box_json = file_bytes(inputs, box_path)?;
+        Ok(BoxFiles { layers, box_json })
+    }
+}
+
+/// The bytes of layers and of a box, and the words of goals.
+#[derive(Drop)]
+pub(crate) struct GoalFiles {
+    pub layers: LayerFiles,
+    pub box_json: Vec<u8>,
+    pub words: Vec<String>,
+}
+
+impl GoalFiles {
+    /// Reads a list of layers with the files that it names, then the box, and then the files of words.
+    #[tactic(auto, unfolding(crate::specs::BoxFiles::goal_files))]
+    pub fn read<'a, I: Inputs>(
+        alloc: Global,
+        inputs: &I,
+        layers_path: &'a str,
+        box_path: &'a str,
+        words: &[&'a str],
+    ) -> Result<GoalFiles, Stop<'a>>
+        ensures { IfSome (I.places inputs.now) (λ places. GivesOrStops goals_held result
+            (goal_files places layers_path.entry.now box_path.entry.now (map (λ word. word.now) words.now))) }
+    {
+        let BoxFiles { layers, box_json } = BoxFiles::read(alloc, inputs, layers_path, box_path)?;
+        let words = asked_words(alloc, inputs, words)?;
+        Ok(GoalFiles {
+            layers,
+            box_json,
+            words,
+        })
+    }
+}

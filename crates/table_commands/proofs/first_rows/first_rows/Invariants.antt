@@ -1,6 +1,0 @@
-use Rattle.command_base.specs.answer_text.resource_table.Table.{rows_of}
-use Rattle.table_commands.proofs.FirstRowSteps.{FindsAllBut}
-use Rattle.table_commands.proofs.first_rows.first_rows.Given as goal
-
-abbrev pub invariant-loop-row : goal.invariant-loop-row
-invariant-loop-row l = FindsAllBut (rows_of l.table) l.row-iterator l.rows
