@@ -180,6 +180,26 @@ LINES = [
 """Devices, and the lines that Android writes of them."""
 PRINTED = [(LINES[0][0], f"config: {LINES[0][1]}"), LINES[1]]
 """The same, as `am get-config` prints them."""
+JSON_TEXTS = [
+    ('{"density":1}', "", '{"density":1}'),
+    ('{"density":32767,"mcc":0,"locale":"","minor":0}', "", '{"density":32767}'),
+    (' { "sdk" : 27 , "locale" : "fil-PH" , "width" : 5 , "density" : 3.2e2 , "density" : 320 } ', "", '{"locale":"fil-PH","density":320,"width":5,"sdk":27}'),
+    ('{"minor":1,"density":160,"mcc":65535}', "", '{"mcc":65535,"density":160,"minor":1}'),
+    ('{"density":160,"locale":"es-419"}', "", '{"locale":"es-419","density":160}'),
+    ('{"density":160,"locale":"sr-Latn-RS"}', "android", '{"locale":"sr-Latn-RS","density":160}'),
+    ('{"density":160,"locale":"zh-Hant-HK"}', "android", '{"locale":"zh-HK","density":160}'),
+    ('{"density":160}', "android", '{"density":160}'),
+    (
+        '{"minor":25,"sdk":24,"height":23,"width":22,"navigation":4,"keyboard":3,"navHidden":2,"keysHidden":3,"touchscreen":3,'
+        '"density":16,"night":2,"uiType":7,"orientation":3,"hdr":2,"wideColor":1,"round":2,"long":1,"screenSize":4,"heightDp":7,'
+        '"widthDp":6,"smallestWidthDp":5,"layoutDirection":2,"locale":"fr-CA","mnc":2,"mcc":1}',
+        "",
+        '{"mcc":1,"mnc":2,"locale":"fr-CA","layoutDirection":2,"smallestWidthDp":5,"widthDp":6,"heightDp":7,"screenSize":4,"long":1,'
+        '"round":2,"wideColor":1,"hdr":2,"orientation":3,"uiType":7,"night":2,"density":16,"touchscreen":3,"keysHidden":3,'
+        '"navHidden":2,"keyboard":3,"navigation":4,"width":22,"height":23,"sdk":24,"minor":25}',
+    ),
+]
+"""Devices, the rule of their locales, and how they are written as JSON."""
 WRITTEN = [
     # A certificate, and how it is written.
     *((text, text) for text in (NO_GOALS, ONE_LEAF, certificate(tree(*NODES), tree(id="0x00000000")))),
@@ -292,7 +312,8 @@ WITHOUT_MEMORY = [
     row("inputs", "Table::find", [TABLE_B], f"(Some({FIRST}), None)"),
     row("inputs", "Chunks::new", [NO_ROWS + TABLE_A], "2", "2"),
     row("inputs", "Device::check", [], "Some(FieldRange(LayoutDirection))"),
+    *(row("inputs", "write_device_json", [text, rule], written) for text, rule, written in JSON_TEXTS),
     row("inputs", "Goal::attr", [], f"Some(Attr {{ attr: {A}, styles: [{FIRST}] }})"),
 ]
 """Calls that take no memory: of one value, of a box that no candidate matches, of a table that is refused at once, over as many
-layers as there can be, of names and chunks, and of parts."""
+layers as there can be, of names and chunks, of devices, and of parts."""

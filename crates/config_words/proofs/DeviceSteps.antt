@@ -33,10 +33,12 @@ same_each : (f g : Coord → ℕ) (cs : List Coord) → ((c : Coord) → f c ≡
 same_each f g [] same = refl
 same_each f g (c ∷ cs) same = rw (same c, same_each f g cs same) refl
 
+pub of_coords : (numbers : List ℕ) → length numbers ≡ 25 → map (number_at numbers) all_coords ≡ numbers
+of_coords numbers count = sym (all_from 0 25 numbers count ∙ at_coords numbers)
+
 same_numbers : (one other : List ℕ) → length one ≡ 25 → length other ≡ 25 → ((c : Coord) → number_at one c ≡ number_at other c) → one ≡ other
 same_numbers one other first second same =
-    all_from 0 25 one first ∙ at_coords one ∙ same_each (number_at one) (number_at other) all_coords same
-    ∙ sym (all_from 0 25 other second ∙ at_coords other)
+    sym (of_coords one first) ∙ same_each (number_at one) (number_at other) all_coords same ∙ of_coords other second
 
 pub located : (old new : List ℕ) (locale : Locale) → length old ≡ 25 → length new ≡ 25 → number_at new coords.Locale ≡ locale_number locale
     → ((c : Coord) → c ≢ coords.Locale → number_at new c ≡ number_at old c) → new ≡ with_locale locale old

@@ -1,4 +1,10 @@
 pub mod PartSteps
 pub mod SaidSteps
 pub mod DeviceSteps
+pub mod NumberSteps
 pub mod GivenSteps
+pub mod PlainText
+pub mod JsonPrint
+pub mod JsonFound
+pub mod JsonBack
+pub mod OrderSteps

@@ -3,6 +3,7 @@ pub mod Cut
 pub mod Numeral
 pub mod Parts
 pub mod PartsSeen
+pub mod Reorders
 pub mod PhoneLocale
 pub mod LocalePart
 pub mod Words
@@ -13,3 +14,5 @@ pub mod Config
 pub mod LineParts
 pub mod Line
 pub mod Printed
+pub mod JsonText
+pub mod Commas

@@ -1,5 +1,5 @@
 -- The text that `am get-config` prints: `config:`, a blank, and the line of the device; then lines of other kinds.
-use Rattle.std.specs.Prelude.{ℕ, ◌==◌, ◌||◌, not, Bool, List, [], ◌++◌, take, drop, position, codes, Option, Some, None, is_some, unwrap_or, Result}
+use Rattle.std.specs.Prelude.{ℕ, ◌==◌, ◌||◌, not, Bool, List, [], ◌∷◌, ◌++◌, take, drop, position, codes, Option, Some, None, is_some, unwrap_or, Result}
 use Rattle.config_record.specs.android_locales.declared.locale_rule.LocaleRule.{LocaleRule}
 use Rattle.config_record.specs.android_locales.declared.locale_rule.LocaleRule.TheVariants.{LanguageAndRegion}
 use Rattle.config_words.specs.declared.line.NoLine.{NoLine}
@@ -53,7 +53,7 @@ device_of_printed = device_of_printed_by LanguageAndRegion
 -- ---- written
 
 abbrev pub printed_text : List ℕ → List ℕ
-printed_text device = codes "config: " ++ line_text device
+printed_text device = codes "config: " ++ line_text device ++ 10 ∷ []
 
 -- A device has a text where that reads as the device by this rule.
 unfoldable pub printed_of_by : LocaleRule → List ℕ → Result (List ℕ) NoLine

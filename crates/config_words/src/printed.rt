@@ -93,7 +93,7 @@ fn first_end(text: &[u8]) -> Option<usize>
         .position(|byte| *byte == b'\n' || *byte == b'\r')
 }
 
-/// The text that `am get-config` begins with on a device: `config: `, and its line. It is read back before it is given.
+/// The text that `am get-config` begins with on a device: `config: `, its line, and a line feed. It is read back before it is given.
 ///
 /// ```text
 /// let text = print_config(alloc, &device)?; // config: mcc310-mnc4-en-rUS-ldltr-sw411dp-560dpi-v27
@@ -132,5 +132,6 @@ fn printed_text(alloc: Global, device: &Device) -> io::Result<Vec<u8>>
     let mut text = Vec::new(alloc);
     text.write_all(b"config: ")?;
     text.write_all(&line)?;
+    text.write_all(b"\n")?;
     Ok(text)
 }

@@ -1,6 +1,6 @@
 //! The device of a line.
 
-ghost use Rattle.std.specs.Prelude.{◌≡◌, IfOk};
+ghost use Rattle.std.specs.Prelude.{◌≡◌, ℕ, List, Ok, IfOk};
 ghost use Rattle.config_record.specs.DeviceSeen.{device_numbers};
 ghost use Rattle.config_record.specs.DeviceSeen as device;
 ghost use Rattle.config_record.specs.android_locales.Text.{IsGiven};
@@ -8,6 +8,7 @@ ghost use Rattle.config_record.specs.android_locales.declared.locale_rule.Locale
 ghost use Rattle.config_words.specs.LocalePart.{IsGivenFor};
 ghost use Rattle.config_words.specs.Fault.{seen};
 ghost use Rattle.config_words.specs.Parts.{parts_of};
+ghost use Rattle.config_words.specs.Reorders.{Reorders};
 ghost use Rattle.config_words.specs.Said.{with_parts};
 ghost use Rattle.config_words.specs.Config.{nothing_said, or_no_device, device_of_fields, device_said, device_of_config, device_of_config_by, without_locale, with_locale};
 
@@ -30,7 +31,10 @@ pub fn read_config(line: &str) -> Result<Device, ConfigWordFault<'_>>
 /// The same, where the locale is read by a rule, by which it is then compared. For a phone it may have a script, as
 /// `b+zh+Hans+CN` has.
 pub fn read_config_by(line: &str, rule: LocaleRule) -> Result<Device, ConfigWordFault<'_>>
-    ensures { seen device_numbers result ≡ device_of_config_by rule line.now }
+    ensures device { seen device_numbers result ≡ device_of_config_by rule line.now }
+
+    // Its parts say the same in any order.
+    ensures any_order { IfOk result (λ device. (other : List ℕ) → Reorders (parts_of line.now) (parts_of other) → device_of_config_by rule other ≡ Ok (device_numbers device)) }
 {
     read_line(line.as_bytes(), rule)
 }

@@ -19,6 +19,7 @@ pub fn call(rt: &HostRuntime, words: &[String]) -> Result<(), Fail> {
         "Cert::write" => certificates::written(rt, given),
         "config_line" => lines::line(rt, given),
         "print_config" => lines::printed(rt, given),
+        "write_device_json" => lines::json(rt, given, word(words, 2)),
         "Device::check" => parts::device(rt),
         "Goal::attr" => parts::goal(rt),
         "Stack::push_base" => full::base(rt, given),
