@@ -104,6 +104,7 @@ if command -v python3 >/dev/null; then
     ends "worked styles and bags" 0 "python3 '$here/tests/worked_styles.py' \"\$0\" 4"
     ends "worked devices and configurations" 0 "python3 '$here/tests/worked_configurations.py' \"\$0\" 4"
     ends "worked words: apks, lists of layers, devices" 0 "python3 '$here/tests/worked_words.py' \"\$0\" 4"
+    ends "random words of layers and devices" 0 "python3 '$here/tests/check_words.py' \"\$0\" 600 4"
     ends "random apks" 0 "python3 '$here/tests/check_apks.py' \"\$0\" 600 4"
     ends "worked boxes" 0 "python3 '$here/tests/worked_boxes.py' \"\$0\" 4"
 else
@@ -671,7 +672,7 @@ check "ids and a comma name a file" 5 $none "$work/file.err" query $layers $phon
 cd "$work" || exit 1
 
 # ---- words
-for command in rows dump map ids survey show query explain bag attr make check diff; do
+for command in rows dump map ids survey show query explain bag attr make check diff device; do
     check "help of $command" 0 "$here/tests/helps/$command.txt" $none "$command" --help
 done
 check "help" 0 "$here/tests/helps/restool.txt" $none --help

@@ -245,6 +245,47 @@ def of_devices():
     yield Case(["query", "layers", "config: none", ID], "", "refused: layer 0 table: Chunk Truncated 0\n", 3, **files_of([b""]))
 
 
+FORMS = [
+    # A device, and the same as JSON.
+    ("config: land-mdpi-v27", '{"orientation":2,"uiType":1,"density":160,"sdk":27}'),
+    ("config: v27-mdpi-land", '{"orientation":2,"uiType":1,"density":160,"sdk":27}'),
+    (
+        "config: mcc310-mnc00-es-r419,en-ldrtl-watch-1440x2560-560dpi",
+        '{"mcc":310,"mnc":65535,"locale":"es-419","layoutDirection":2,"uiType":6,"density":560,"width":1440,"height":2560}',
+    ),
+    (MEDIUM, '{"density":160}'),
+    ({"sdk": 0, "density": 160, "locale": ""}, '{"density":160}'),
+    ({"minor": 65535, "density": 32767, "mcc": 1}, '{"mcc":1,"density":32767,"minor":65535}'),
+]
+PRINTED = [
+    # A device of JSON, and the same as Android writes it; or what of it no word says.
+    ({"density": 160, "uiType": 1}, "config: mdpi\n"),
+    ({"density": 560, "uiType": 1, "locale": "es-419", "mnc": 65535, "sdk": 27}, "config: mnc00-b+es+419-560dpi-v27\n"),
+    (MEDIUM, "uiType"),
+    ({"density": 160, "uiType": 15}, "uiType"),
+    ({"density": 160, "uiType": 1, "orientation": 7}, "orientation"),
+]
+
+
+def of_forms():
+    for device, text in FORMS:
+        word, files = (device, {}) if isinstance(device, str) else ("device", {"device": device})
+        yield Case(["device", word], text + "\n", **files)
+        # What is printed is read as that device.
+        yield Case(["device", "device"], text + "\n", device=text)
+    for device, said in PRINTED:
+        out, err, status = (said, "", 0) if said.startswith("config") else ("", f"no word {said}\n", 1)
+        yield Case("device --config device", out, err, status, device=device)
+        if not status:
+            yield Case(["device", "--config", said], said)
+    yield Case("device none", "", "file: none\n", 5)
+    yield Case("device device", "", "refused: device: Density\n", 3, device={})
+    yield Case(["device", "config: land-land"], "", "refused: device: Qualifier land\n", 3)
+    yield Case(["device", "--locales", "android", "config: b+sr+Latn-mdpi"], '{"locale":"sr-Latn","uiType":1,"density":160}\n')
+    script = {"locale": "sr-Latn", "uiType": 1, "density": 160}
+    yield Case("device --config --locales android device", "config: b+sr+Latn-mdpi\n", device=script)
+
+
 def of_locales():
     """A locale is read by the rule that is asked for."""
     layers = ["0 [] 1\n0 [locale=sr,script=4c61746e,computed=0] 2"]
@@ -254,7 +295,7 @@ def of_locales():
     yield over(layers, ["query", "--locales", "android", "layers", "config: en-rUS,b+sr+Latn-mdpi", ID], ONE)
 
 
-GROUPS = of_one_table, of_layers, of_two, of_list_words, of_devices, of_locales
+GROUPS = of_one_table, of_layers, of_two, of_list_words, of_devices, of_forms, of_locales
 
 if __name__ == "__main__":
     check_groups(GROUPS)

@@ -49,6 +49,8 @@ LAYERS, PHONE = "examples/porcelain/layers.json", "examples/porcelain/phone.json
 TEAPOT = "examples/teapot/resources.arsc"
 LAYER_FILES = [LAYERS, TEAPOT, PORCELAIN, "examples/porcelain/map.json"]
 OF_PHONE = [*LAYER_FILES, PHONE]
+APKS = ["examples/teapot.apk", "examples/porcelain.apk"]
+GERMAN = "config: de-rDE-sw360dp-w360dp-h640dp-normal-port-night-xhdpi-v27"
 PHONES = "examples/porcelain/phones.json"
 CERTIFICATE, WRONG = "examples/porcelain/certificate.json", "examples/porcelain/wrong.json"
 NAMED = "examples/release/goals.txt"
@@ -219,6 +221,16 @@ def device_runs():
     yield Run("attr --keep", ["attr", "--keep", *FRENCH, *styles], OF_FRENCH, out=f"{value}ff0277bd\n", folder=TABLES)
 
 
+def word_runs():
+    """Runs whose words are layers, or a device."""
+    yield Run("a word of layers", ["query", "+".join(APKS), PHONE, "0x7f050000"], [*APKS, PHONE], out=lines(TITLE, "set-aside 1"))
+    yield Run("a device as a word", ["query", LAYERS, GERMAN, "0x7f050000"], LAYER_FILES, out=lines(TITLE, "set-aside 1"))
+    json = '"locale":"de-DE","smallestWidthDp":360,"widthDp":360,"heightDp":640,"screenSize":2,"orientation":1,"uiType":1,"night":2'
+    yield Run("device", ["device", GERMAN], out=f"{{{json},\"density\":320,\"sdk\":27}}\n")
+    yield Run("device --config", ["device", "--config", GERMAN], out=f"{GERMAN}\n")
+    yield Run("no word", ["device", "--config", PHONE], [PHONE], 1, err="no word uiType\n")
+
+
 def layers_runs():
     """Runs of the commands that ask about layers alone."""
     yield Run("ids", ["ids", LAYERS], LAYER_FILES, out=LISTED)
@@ -320,6 +332,7 @@ def runs(folder):
     yield Run("map", ["map", TEAPOT, PORCELAIN], [TEAPOT, PORCELAIN], out=MADE_MAP)
     yield from layers_runs()
     yield from device_runs()
+    yield from word_runs()
     yield from box_runs()
     yield from change_runs()
     yield Run("help", ["query", "--help"], out=text_of("tests", "helps", "query.txt"))

@@ -2,6 +2,8 @@
 use Rattle.std.specs.Prelude.{◌≡◌, ◌≢◌, ℕ, List, [], ◌∷◌, ◌++◌, codes, Result, Ok, Err, string_bytes}
 use Rattle.command_base.specs.declared.fault.ToolFault.{ToolFault}
 use Rattle.command_base.specs.declared.fault.ToolFault.TheVariants as faults
+use Rattle.answer_text.specs.config_record.declared.coord.Coord.{Coord}
+use Rattle.answer_text.specs.config_record.Coord.{name_of}
 use Rattle.command_base.specs.FaultText.{fault_line}
 use Rattle.command_base.specs.ToolFault.{fault_on_side}
 use Rattle.command_base.specs.declared.side.Side.{Side}
@@ -30,6 +32,8 @@ pub data StopOf : Type 0 where
   no_resource : List ℕ → StopOf
   -- this part of a device that is written as words is no qualifier, or of a kind that is there already
   device_part : List ℕ → StopOf
+  -- what a device has at this coordinate no word of `am get-config` says
+  no_word : Coord → StopOf
   tool : ToolFault → StopOf
 
 abbrev pub stop_of : Stop → StopOf
@@ -40,6 +44,7 @@ stop_of (stops.File path) = file path.now
 stop_of (stops.LayerFile path) = layer_file (string_bytes path)
 stop_of (stops.NoResource name) = no_resource (string_bytes name)
 stop_of (stops.DevicePart part) = device_part part.now
+stop_of (stops.NoWord coord) = no_word coord
 stop_of (stops.Tool fault) = tool fault
 
 -- the same where two stacks are compared: a fault of layers names the side
@@ -68,6 +73,7 @@ stop_line (file path) = codes "file: " ++ path ++ 10 ∷ []
 stop_line (layer_file path) = codes "file: " ++ in_one_line path ++ 10 ∷ []
 stop_line (no_resource name) = codes "no resource " ++ in_one_line name ++ 10 ∷ []
 stop_line (device_part part) = codes "refused: device: Qualifier " ++ part ++ 10 ∷ []
+stop_line (no_word coord) = codes "no word " ++ name_of coord ++ 10 ∷ []
 stop_line (tool fault) = fault_line fault
 
 -- how the program ends where it stops
@@ -79,4 +85,5 @@ status_of_stop (file path) = Failed
 status_of_stop (layer_file path) = Failed
 status_of_stop (no_resource name) = Negative
 status_of_stop (device_part part) = Refused
+status_of_stop (no_word coord) = Negative
 status_of_stop (tool fault) = after_fault fault

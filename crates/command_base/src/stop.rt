@@ -11,6 +11,7 @@ use crate::fault::{ToolFault, fault_text};
 use crate::layers_fault::LayersFault;
 use crate::one_line::write_in_one_line;
 use crate::side::Side;
+use cert_tree::Coord;
 use names::NameFault;
 use std::alloc::{AllocError, AllocFailed};
 use std::io::{self, Write};
@@ -32,6 +33,8 @@ pub enum Stop<'a> {
     NoResource(String),
     /// A device is written as words, and this part of them is no qualifier, or of a kind that is there already.
     DevicePart(&'a [u8]),
+    /// What a device has at this coordinate no word of `am get-config` says.
+    NoWord(Coord),
     /// The command failed.
     Tool(ToolFault),
 }
@@ -61,6 +64,7 @@ impl Stop<'_> {
             Stop::LayerFile(path) => write_line_of_file("file: ", path.as_str(), errors),
             Stop::NoResource(name) => write_no_resource(name.as_str(), errors),
             Stop::DevicePart(part) => write_device_part(part, errors),
+            Stop::NoWord(coord) => write_line("no word ", coord.name(), errors),
             Stop::Tool(fault) => fault_text(fault, errors),
         }
     }
@@ -72,7 +76,7 @@ impl Stop<'_> {
         match self {
             Stop::NotText | Stop::NoWords(_) | Stop::WordOfFile(_) => ExitStatus::BadCommandLine,
             Stop::File(_) | Stop::LayerFile(_) => ExitStatus::Failed,
-            Stop::NoResource(_) => ExitStatus::Negative,
+            Stop::NoResource(_) | Stop::NoWord(_) => ExitStatus::Negative,
             Stop::DevicePart(_) => ExitStatus::Refused,
             Stop::Tool(fault) => ExitStatus::after_fault(fault),
         }

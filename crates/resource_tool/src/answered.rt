@@ -1,6 +1,6 @@
 //! How `check` and `make` are answered.
 
-use table_commands::Status;
+use command_base::Status;
 
 /// How a command was answered, and which of its goals the answer is about.
 #[derive(Clone, Copy, Debug, PartialEq, Eq)]

@@ -4,8 +4,8 @@ ghost use Rattle.std.specs.Prelude.{◌≡◌, map, IfSome};
 ghost use Rattle.table_commands.specs.command_base.Stop.{GivesOrStops};
 ghost use Rattle.resource_tool.specs.BoxFiles.{box_files, box_held, goal_files, goals_held};
 
+use command_base::{Inputs, LayerFiles, Stop, asked_words, file_bytes};
 use std::alloc::Global;
-use table_commands::{Inputs, LayerFiles, Stop, asked_words, file_bytes};
 
 /// The bytes of layers and of a box.
 #[derive(Drop)]

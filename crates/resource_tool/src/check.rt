@@ -19,14 +19,14 @@ use crate::box_files::BoxFiles;
 use crate::goal_told::write_goal_told;
 use answer_text::set_aside_line;
 use cert_checker::check;
+use command_base::{
+    Inputs, LayerFiles, LayerParts, LocaleRule, Stack, Status, Stop, ToolFault, asked_goals,
+    asked_words, file_bytes, open_stack, rows_set_aside,
+};
 use names::first_goals;
 use resource_text::{Cert, ConfigBox, Goal, Verdict, verdict_text};
 use std::alloc::Global;
 use std::io::{self, Write, sink};
-use table_commands::{
-    Inputs, LayerFiles, LayerParts, LocaleRule, Stack, Status, Stop, ToolFault, asked_goals,
-    asked_words, file_bytes, open_stack, rows_set_aside,
-};
 
 /// What the words of `check` ask: whether a certificate is true of some goals for a box of devices.
 #[derive(Drop)]

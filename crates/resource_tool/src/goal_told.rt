@@ -6,9 +6,9 @@ ghost use Rattle.resource_text.specs.cert_maker.res_value.Goal.{goal_seen};
 ghost use Rattle.resource_tool.specs.GoalTold.{named_words, goal_line, line_about, goal_told};
 
 use answer_text::write_goal_words;
+use command_base::Stack;
 use resource_text::Goal;
 use std::io::{self, Write};
-use table_commands::Stack;
 
 /// Where names are asked for, writes the goal that an answer is about, by its place in the list, with the names of its
 /// ids. Nothing is written where the answer is about none, or the list has no such place.

@@ -33,6 +33,11 @@ mod progress;
 
 pub use answered::Answered;
 pub use check::{Check, OpenedCert, check_bytes};
+pub use command_base::{
+    ExitStatus, GoalFault, InputFault, Inputs, LayerList, LayerParts, LayersFault, LocaleRule,
+    Named, NamedGoal, NamedSet, ProcessInputs, STANDARD_INPUT, Status, Stop, ToolFault, fault_text,
+    file_path, read_input,
+};
 pub use goal_told::write_goal_told;
 pub use make::{Make, make_bytes, make_bytes_watched};
 pub use omit::make_omitting_bytes;
@@ -40,8 +45,6 @@ pub use opened_box::OpenedBox;
 pub use progress::Watch;
 pub use resource_text::{Goal, Omitted, Omitting, Progress, Unwatched};
 pub use table_commands::{
-    Attr, Bag, Dump, ExitStatus, Explain, GoalFault, Ids, InputFault, Inputs, LayerList,
-    LayerParts, LayersFault, LocaleRule, Map, Named, NamedGoal, NamedSet, Opened, ProcessInputs,
-    Query, Rows, STANDARD_INPUT, Status, Stop, ToolFault, attr_bytes, bag_bytes, dump_bytes,
-    explain_bytes, fault_text, file_path, map_bytes, query_bytes, read_input, rows_bytes,
+    Attr, Bag, DeviceForm, Dump, Explain, Ids, Map, Opened, Query, Rows, attr_bytes, bag_bytes,
+    dump_bytes, explain_bytes, query_bytes, rows_bytes,
 };

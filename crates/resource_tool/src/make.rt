@@ -27,15 +27,15 @@ use crate::goal_told::write_goal_told;
 use crate::opened_box::OpenedBox;
 use crate::progress::{ProgressLine, Watch};
 use cert_maker::make_watched;
+use command_base::{
+    Device, End, Inputs, LayerParts, LocaleRule, Stack, Status, Stop, ToolFault, asked_goals,
+    open_stack,
+};
 use names::first_goals;
 use resource_text::{Cert, ConfigBox, Goal, Made, Progress, Unwatched, device_with_end};
 use std::alloc::{AllocError, Global};
 use std::io::{self, Write, sink};
 use std::time::Clock;
-use table_commands::{
-    Device, End, Inputs, LayerParts, LocaleRule, Stack, Status, Stop, ToolFault, asked_goals,
-    open_stack,
-};
 
 /// What the words of `make` ask: a certificate of some goals for a box of devices.
 #[derive(Drop)]

@@ -16,10 +16,10 @@ use crate::goal_told::write_goal_told;
 use crate::make::{certificate_text, write_line};
 use crate::opened_box::OpenedBox;
 use cert_maker::make_omitting;
+use command_base::{LayerParts, Stack, Status, ToolFault};
 use resource_text::{Goal, Omitted, Omitting, Progress, Unwatched, device_with_end};
 use std::alloc::{AllocError, Global};
 use std::io::{self, Write};
-use table_commands::{LayerParts, Stack, Status, ToolFault};
 
 /// Prints a certificate of the goals that end at a value or a bag on all devices of the box, as `make_bytes` does; then
 /// the status is Done. Each other goal is told to `errors`, in three lines: `omitted goal G WORDS`, with its place from

@@ -2,8 +2,8 @@
 
 ghost use Rattle.resource_text.specs.cert_maker.config_box.ByRule.{IsByRule};
 
+use command_base::{LocaleRule, Stack};
 use resource_text::ConfigBox;
-use table_commands::{LocaleRule, Stack};
 
 /// The layers and the box that `make` is asked of.
 #[derive(Drop)]

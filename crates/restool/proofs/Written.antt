@@ -16,6 +16,7 @@ use Rattle.resource_tool.specs.command_base.Output.{Output, Prints, PrintsOneOf}
 use Rattle.resource_tool.specs.command_base.Stop.{StopOf, stop_of, tool}
 use Rattle.resource_tool.specs.table_commands.TableOutput.{rows_output, dump_output, ids_output}
 use Rattle.resource_tool.specs.table_commands.MapOutput.{MapBytes, MapOutput, PrintsBoth, map_files, map_output}
+use Rattle.resource_tool.specs.table_commands.DeviceOutput.{as_output}
 use Rattle.resource_tool.specs.table_commands.Opened.{OpenIdOf}
 use Rattle.resource_tool.specs.table_commands.QueryOutput.{OpenQueryOf, query_answer}
 use Rattle.resource_tool.specs.table_commands.ExplainOutput.{explain_answer}
@@ -283,6 +284,7 @@ module _ {W V E : Type 0} (is_terminal : Bool) (c : W → Option (List ℕ)) (d 
       carry_told _ _ (λ (asked : OpenCheckOf). IsCheckAnswer asked.goals it.names) (λ (asked : OpenCheckOf). Ok asked.opened) _ p
   answers-over from to carry carry_any carry_once carry_first carry_told carry_both places (asks.Diff it) p =
       carry_any _ _ (λ (asked : OpenDiffOf). IsDiffOutput asked.pairs it.max_nodes) (λ (asked : OpenDiffOf). Ok asked.opened) _ p
+  answers-over from to carry carry_any carry_once carry_first carry_told carry_both places (asks.Device it) p = carry _ (λ (text : List ℕ). Ok (as_output text)) _ p
 
   answers-done : (status : Status) → Passes → (places : Places) (request : Request)
       → Answers is_terminal c says old new quiet said places request (Ok status) → Answers is_terminal d says before after quiet said places request (Ok status)
@@ -393,6 +395,7 @@ module _ {T E : Type 0} (is_terminal : Bool) (contents : T → Option (List ℕ)
   shows-behind (asks.Bag it) shown = shown
   shows-behind (asks.Attr it) shown = shown
   shows-behind (asks.Diff it) shown = shown
+  shows-behind (asks.Device it) shown = shown
 
   -- Where there is no answer and no write failed, the writer behind is as it was.
   pub unwritten-behind : IfErr answered (λ stop. stop_of stop ≢ tool Write → new ≡ old) → IfErr outcome (λ stop. stop_of stop ≢ tool Write → after ≡ writer_inner old)

@@ -15,7 +15,7 @@ use Rattle.restool.specs.declared.words_fault.WordsFault.TheVariants as faults
 use Rattle.restool.specs.declared.request.Request.{Request}
 use Rattle.restool.specs.declared.request.Request.TheVariants as requests
 use Rattle.restool.specs.declared.request.Command.{Command}
-use Rattle.restool.specs.declared.request.Command.TheVariants.{Rows, Dump, Map, Ids, Survey, Show, Query, Explain, Bag, Attr, Make, Check, Diff}
+use Rattle.restool.specs.declared.request.Command.TheVariants.{Rows, Dump, Map, Ids, Survey, Show, Query, Explain, Bag, Attr, Make, Check, Diff, Device}
 use Rattle.restool.specs.CommandLine.{command, device, flag, goal_number, goals, ids, layers, locales, maybe_one_word, maybe_words, names, nodes, one_word, several_words}
 use Rattle.restool.specs.Given.{IsGiven, IsGoalNumber, IsNodeLimit, ReadsAlong, ReadsByRule, rule_named, word_at, words_at}
 use Rattle.restool.specs.AskedWords.{asked_word, named_word}
@@ -30,6 +30,7 @@ use Rattle.resource_tool.specs.table_commands.QueryOutput.{Queries}
 use Rattle.resource_tool.specs.table_commands.ExplainOutput.{Explains}
 use Rattle.resource_tool.specs.table_commands.BagOutput.{PrintsBag}
 use Rattle.resource_tool.specs.table_commands.AttrOutput.{PrintsAttr}
+use Rattle.resource_tool.specs.table_commands.DeviceOutput.{PrintsDevice}
 use Rattle.resource_tool.specs.Make.{Makes}
 use Rattle.resource_tool.specs.Check.{Checks}
 use Rattle.report_commands.specs.Survey.{Surveys}
@@ -65,6 +66,7 @@ commands =
     ∷ command (codes "check") (locales ∷ names ∷ layers ∷ one_word (codes "BOX") ∷ one_word (codes "CERT") ∷ goals ∷ [])
     ∷ command (codes "diff")
     (locales ∷ nodes (codes "max-nodes") ∷ one_word (codes "OLD") ∷ one_word (codes "NEW") ∷ one_word (codes "BOX") ∷ maybe_words (codes "NAME") ∷ [])
+    ∷ command (codes "device") (locales ∷ flag (codes "config") ∷ device ∷ [])
     ∷ []
 
 -- the program, which has a version, and has to be given a command
@@ -92,6 +94,7 @@ command_of name =
     else if bytes_eq name (codes "make") then Some Make
     else if bytes_eq name (codes "check") then Some Check
     else if bytes_eq name (codes "diff") then Some Diff
+    else if bytes_eq name (codes "device") then Some Device
     else None
 
 -- the rule of locales
@@ -191,6 +194,11 @@ IsDiffOf rule rows asked (requests.Diff it) =
     × IsNodeLimit (one_of (codes "max-nodes") rows) it.max_nodes × (asked ≡ texts_of it.words)
 IsDiffOf rule rows asked _ = ⊥
 
+abbrev pub IsDeviceOf : LocaleRule → List Row → Request → Type 0
+IsDeviceOf rule rows (requests.Device it) =
+    (it.locales ≡ rule) × (it.device.now ≡ word_at (codes "DEVICE") rows) × IsGiven (codes "config") rows it.config
+IsDeviceOf rule rows _ = ⊥
+
 -- a command was read, whose arguments have these rows; what they ask for is read from left to right
 abbrev pub ReadsCommand : Command → List Row → Result Request WordsFault → Type 0
 ReadsCommand Rows rows result = IsOkAnd result (IsRowsOf rows)
@@ -206,6 +214,7 @@ ReadsCommand Attr rows result = ReadsByRule (locales_at rows) (λ rule. ReadsAlo
 ReadsCommand Make rows result = ReadsByRule (locales_at rows) (λ rule. ReadsAlong (goals_at (codes "GOAL") rows) (IsMakeOf rule rows)) result
 ReadsCommand Check rows result = ReadsByRule (locales_at rows) (λ rule. ReadsAlong (goals_at (codes "GOAL") rows) (IsCheckOf rule rows)) result
 ReadsCommand Diff rows result = ReadsByRule (locales_at rows) (λ rule. ReadsAlong (resources_at (codes "NAME") rows) (IsDiffOf rule rows)) result
+ReadsCommand Device rows result = ReadsByRule (locales_at rows) (λ rule read. IsOkAnd read (IsDeviceOf rule rows)) result
 
 -- Words were read, of which the first is the program's name: a fault of the command line comes first, and else it is the
 -- command that they name.
@@ -240,6 +249,7 @@ Answers is_terminal contents says old new before after places (requests.Attr it)
 Answers is_terminal contents says old new before after places (requests.Make it) = Makes is_terminal contents says old new before after places it
 Answers is_terminal contents says old new before after places (requests.Check it) = Checks contents says old new before after places it
 Answers is_terminal contents says old new before after places (requests.Diff it) = Diffs contents old new places it
+Answers is_terminal contents says old new before after places (requests.Device it) = PrintsDevice contents old new places it
 
 -- What errors get of a command that may say something beside its answer; they were before and are after. Where there is no
 -- answer they are as they were, unless a write failed.

@@ -116,6 +116,12 @@ pub(crate) const DEVICE: Argument = Argument {
            or the path of the JSON object with the device's qualifiers",
 };
 
+pub(crate) const CONFIG: Argument = Argument {
+    name: "config",
+    takes: Takes::Nothing,
+    help: "Print the device as `am get-config` does",
+};
+
 pub(crate) const BOX: Argument = Argument {
     name: "BOX",
     takes: Takes::OneWord,

@@ -13,16 +13,17 @@ use crate::arguments::{
 };
 use crate::asked_words::Asks;
 use crate::command_line::{
-    ATTRIBUTE, BAG_ID, BOX, CERTIFICATE, COMPARED, DEVICE, DIFF_NODES, DOT, GOAL_NAMES, GOALS, ID,
-    IDS, KEEP, LAYERS, LOCALES, MAX_NODES, MAYBE_BOX, NAMES, NEW, OLD, OMIT, OVERLAY, STYLES,
-    TABLE, TARGET, Usage,
+    ATTRIBUTE, BAG_ID, BOX, CERTIFICATE, COMPARED, CONFIG, DEVICE, DIFF_NODES, DOT, GOAL_NAMES,
+    GOALS, ID, IDS, KEEP, LAYERS, LOCALES, MAX_NODES, MAYBE_BOX, NAMES, NEW, OLD, OMIT, OVERLAY,
+    STYLES, TABLE, TARGET, Usage,
 };
 use crate::words_fault::WordsFault;
 use clap::ArgMatches;
 use diff_command::Diff;
 use report_commands::{Show, Survey};
 use resource_tool::{
-    Attr, Bag, Check, Dump, Explain, Ids, Inputs, Make, Map, Query, Rows, Status, Stop, Watch,
+    Attr, Bag, Check, DeviceForm, Dump, Explain, Ids, Inputs, Make, Map, Query, Rows, Status, Stop,
+    Watch,
 };
 use std::alloc::Global;
 use std::io::Write;
@@ -45,6 +46,7 @@ pub enum Request<'a> {
     Make(Make<'a>),
     Check(Check<'a>),
     Diff(Diff<'a>),
+    Device(DeviceForm<'a>),
 }
 
 const ROWS: &str = "rows";
@@ -72,6 +74,8 @@ const MAKE: &str = "make";
 const CHECK: &str = "check";
 
 const DIFF: &str = "diff";
+
+const DEVICE_FORM: &str = "device";
 
 /// What each command is called, what its help says, and the arguments behind its name.
 pub(crate) const USAGES: &[Usage] = &[
@@ -140,6 +144,11 @@ pub(crate) const USAGES: &[Usage] = &[
         about: "Prints what a change of layers alters, for every device of a box",
         arguments: &[LOCALES, DIFF_NODES, OLD, NEW, BOX, COMPARED],
     },
+    Usage {
+        name: DEVICE_FORM,
+        about: "Prints a device as JSON, or as Android writes it",
+        arguments: &[LOCALES, CONFIG, DEVICE],
+    },
 ];
 
 /// What a name on the command line stands for.
@@ -158,6 +167,7 @@ pub(crate) enum Command {
     Make,
     Check,
     Diff,
+    Device,
 }
 
 impl Command {
@@ -183,6 +193,7 @@ impl Command {
             MAKE => Command::Make,
             CHECK => Command::Check,
             DIFF => Command::Diff,
+            DEVICE_FORM => Command::Device,
             _ => unreachable!(),
         }
     }
@@ -223,6 +234,7 @@ pub(crate) fn request_of<'a>(
         Command::Make => make_of(alloc, given),
         Command::Check => check_of(alloc, given),
         Command::Diff => diff_of(alloc, given),
+        Command::Device => device_of(given),
     }
 }
 
@@ -335,6 +347,17 @@ fn diff_of<'a>(alloc: Global, given: &ArgMatches<'a>) -> Result<Request<'a>, Wor
     }))
 }
 
+fn device_of<'a>(given: &ArgMatches<'a>) -> Result<Request<'a>, WordsFault<'a>>
+    ensures { ReadsCommand Command.Device (rows_of (found_of given.now)) result }
+{
+    let locales = given_rule(given)?;
+    Ok(Request::Device(DeviceForm {
+        device: given_word(given, &DEVICE),
+        locales,
+        config: given_flag(given, &CONFIG),
+    }))
+}
+
 /// Answers a request. Where it is not answered, nothing is written, unless a write fails.
 pub(crate) fn answer<'a, I: Inputs, C: Clock, O: Write + Drop, E: Write + Drop>(
     alloc: Global,
@@ -363,5 +386,6 @@ pub(crate) fn answer<'a, I: Inputs, C: Clock, O: Write + Drop, E: Write + Drop>(
         Request::Make(make) => make.answer(alloc, inputs, watch, out, errors),
         Request::Check(check) => check.answer(alloc, inputs, out, errors),
         Request::Diff(diff) => diff.answer(alloc, inputs, out),
+        Request::Device(form) => form.answer(alloc, inputs, out),
     }
 }

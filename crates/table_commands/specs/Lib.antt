@@ -7,6 +7,7 @@ pub mod QueryOutput
 pub mod ExplainOutput
 pub mod BagOutput
 pub mod AttrOutput
+pub mod DeviceOutput
 pub use Rattle.command_base.specs as command_base
 pub use Rattle.command_base.specs.answer_text
 pub use Rattle.command_base.specs.answer_text.config_record

@@ -36,6 +36,7 @@
 
 mod attr;
 mod bag;
+mod device;
 mod dump;
 mod end_status;
 mod explain;
@@ -48,12 +49,7 @@ mod rows;
 
 pub use attr::{Attr, attr_bytes};
 pub use bag::{Bag, bag_bytes};
-pub use command_base::{
-    Device, End, ExitStatus, GoalFault, InputFault, Inputs, LayerFiles, LayerList, LayerParts,
-    LayersFault, LocaleRule, Named, NamedGoal, NamedSet, ProcessInputs, STANDARD_INPUT, Stack,
-    Status, Stop, ToolFault, asked_goals, asked_words, fault_text, file_bytes, file_path,
-    open_stack, read_input, rows_set_aside,
-};
+pub use device::DeviceForm;
 pub use dump::{Dump, dump_bytes};
 pub use explain::{Explain, explain_bytes};
 pub use ids::{Ids, ids_bytes};
