@@ -1,5 +1,5 @@
 -- What is read for a phone is given by a text.
-use Rattle.std.proofs.Common.{◌≡◌, inl, inr, ap, ◌∙◌, ℕ, List, Option, Some, None, option_map, IfSome, refl, sym, subst}
+use Rattle.std.proofs.Common.{◌≡◌, inl, inr, ap, ◌∙◌, ℕ, List, Option, Some, None, IfSome, refl, sym, subst}
 use Rattle.std.specs.Str.{IsUtf8, is_utf8}
 use Rattle.std.specs.Result.{result_ok}
 use Rattle.std.proofs.lemmas.Bool.{cases_Bool}
@@ -14,13 +14,10 @@ use Rattle.config_record.specs.android_locales.Text.{locale_by, locale_text, IsG
 use Rattle.config_words.specs.declared.qualifier.Qualifier.{Qualifier}
 use Rattle.config_words.specs.declared.qualifier.Qualifier.TheVariants.{Number, Locale, Size, Version}
 use Rattle.config_words.specs.declared.said.Said.{Said}
-use Rattle.config_words.specs.Words.{words, find_word, WordOf}
-use Rattle.config_words.specs.Forms.{forms, numbered_by}
-use Rattle.config_words.specs.declared.forms.NumberAt.{NumberAt}
 use Rattle.config_words.specs.LocalePart.{IsGivenFor}
-use Rattle.config_words.specs.Qualifier.{word_in, number_in, numbers_in, HasGivenFor}
+use Rattle.config_words.specs.Qualifier.{numbers_in, HasGivenFor}
 use Rattle.config_words.specs.Said.{with_qualifier, with_given}
-use Rattle.config_words.proofs.NumberSteps.{numbers_have}
+use Rattle.config_words.proofs.NumberSteps.{all_numbers_have}
 
 pub none_given : IsGiven NONE
 unfolding locale_by locale_text plain_text
@@ -28,24 +25,8 @@ none_given = refl
 
 -- ---- what gives numbers has no locale
 
-word_has : (rule : LocaleRule) (part : List ℕ) → IfSome (word_in part) (HasGivenFor rule)
-unfolding word_in
-word_has rule part = of_word (find_word words part)
-  where
-    of_word : (o : Option WordOf) → IfSome (option_map (λ word. Number word.coord word.number) o) (HasGivenFor rule)
-    of_word None = tt
-    of_word (Some word) = tt
-
-number_has : (rule : LocaleRule) (part : List ℕ) → IfSome (number_in part) (HasGivenFor rule)
-unfolding number_in
-number_has rule part = of_number (numbered_by forms part)
-  where
-    of_number : (o : Option NumberAt) → IfSome (option_map (λ numbered. Number numbered.coord numbered.number) o) (HasGivenFor rule)
-    of_number None = tt
-    of_number (Some number) = tt
-
 numbers_have_none : (rule : LocaleRule) (part : List ℕ) → IfSome (numbers_in part) (HasGivenFor rule)
-numbers_have_none rule part = numbers_have (HasGivenFor rule) (record { word = word_has rule; number = number_has rule; size = λ w h. tt; version = λ s m. tt }) part
+numbers_have_none rule part = all_numbers_have (HasGivenFor rule) (λ c n. tt) (λ w h. tt) (λ s m. tt) part
 
 pub no_locale_in : (rule : LocaleRule) (part : List ℕ) (qualifier : Qualifier) → Some qualifier ≡ numbers_in part → HasGivenFor rule qualifier
 no_locale_in rule part qualifier is = subst (λ (o : Option Qualifier). IfSome o (HasGivenFor rule)) (sym is) (numbers_have_none rule part)

@@ -226,10 +226,10 @@ is_device d is =
     ∙ ap wrapped (of_coords d is.count)
 
 -- of a value whose members are known
-abbrev device_of : LocaleRule → Bool → Result (List ℕ) DeviceFault → Result (List ℕ) DeviceFault → Result (List ℕ) DeviceFault
+abbrev pub device_of : LocaleRule → Bool → Result (List ℕ) DeviceFault → Result (List ℕ) DeviceFault → Result (List ℕ) DeviceFault
 device_of rule only numbers locale = refuse (not only) Shape >>= λ _. numbers >>= λ ns. locale >>= λ t. device_with ns (locale_by rule t)
 
-read_of : (rule : LocaleRule) (value : Data) → device_in_value rule value ≡ device_of rule (has_only (map name_of all_coords) value) (numbers_asked value) (locale_asked value)
+pub read_of : (rule : LocaleRule) (value : Data) → device_in_value rule value ≡ device_of rule (has_only (map name_of all_coords) value) (numbers_asked value) (locale_asked value)
 unfolding device_in_value
 read_of rule value = refl
 

@@ -8,3 +8,5 @@ pub mod JsonPrint
 pub mod JsonFound
 pub mod JsonBack
 pub mod OrderSteps
+pub mod RuleSteps
+pub mod LineRule

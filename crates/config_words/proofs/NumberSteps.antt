@@ -1,11 +1,15 @@
 -- What holds of the qualifiers of one or two numbers.
-use Rattle.std.proofs.Common.{ℕ, List, codes, Option, Some, None, IfSome}
+use Rattle.std.proofs.Common.{ℕ, List, codes, Option, Some, None, option_map, IfSome}
 use Rattle.std.specs.Option.{option_or, option_and_then}
+use Rattle.config_record.specs.declared.coord.Coord.{Coord}
+use Rattle.config_words.specs.declared.forms.NumberAt.{NumberAt}
 use Rattle.config_words.specs.declared.qualifier.Qualifier.{Qualifier}
-use Rattle.config_words.specs.declared.qualifier.Qualifier.TheVariants.{Size, Version}
+use Rattle.config_words.specs.declared.qualifier.Qualifier.TheVariants.{Number, Size, Version}
 use Rattle.config_words.specs.Cut.{cut_at, behind}
+use Rattle.config_words.specs.Forms.{forms, numbered_by}
 use Rattle.config_words.specs.Numeral.{number_of}
 use Rattle.config_words.specs.Qualifier.{word_in, number_in, times, dot, both, two_numbers, size_in, version_of, version_in, numbers_in}
+use Rattle.config_words.specs.Words.{WordOf, words, find_word}
 
 pub record OfNumbers (P : Qualifier → Type 0) : Type 0 where
   pub word : (part : List ℕ) → IfSome (word_in part) P
@@ -44,3 +48,25 @@ numbers_have P holds part =
     in_either P (word_in part) _ (holds.word part)
     (in_either P (number_in part) _ (holds.number part)
     (in_either P (size_in part) (version_in part) (size_has P holds.size part) (version_has P holds.version part)))
+
+-- ---- what holds of each number at a coordinate too
+
+word_has : (P : Qualifier → Type 0) → ((c : Coord) (n : ℕ) → P (Number c n)) → (part : List ℕ) → IfSome (word_in part) P
+unfolding word_in
+word_has P holds part = of_word (find_word words part)
+  where
+    of_word : (o : Option WordOf) → IfSome (option_map (λ word. Number word.coord word.number) o) P
+    of_word None = tt
+    of_word (Some word) = holds word.coord word.number
+
+number_has : (P : Qualifier → Type 0) → ((c : Coord) (n : ℕ) → P (Number c n)) → (part : List ℕ) → IfSome (number_in part) P
+unfolding number_in
+number_has P holds part = of_number (numbered_by forms part)
+  where
+    of_number : (o : Option NumberAt) → IfSome (option_map (λ at. Number at.coord at.number) o) P
+    of_number None = tt
+    of_number (Some at) = holds at.coord at.number
+
+pub all_numbers_have : (P : Qualifier → Type 0) → ((c : Coord) (n : ℕ) → P (Number c n)) → ((width height : ℕ) → P (Size width height)) → ((sdk minor : ℕ) → P (Version sdk minor))
+    → (part : List ℕ) → IfSome (numbers_in part) P
+all_numbers_have P number size version part = numbers_have P (record { word = word_has P number; number = number_has P number; size = size; version = version }) part

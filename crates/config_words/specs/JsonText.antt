@@ -1,5 +1,4 @@
--- The text of a device as JSON: an object, and a line feed. It has no member that would be read as one that is missing, which
--- is 0, or no locale.
+-- The text of a device as JSON, and a line feed. What a missing member says, 0 or no locale, is left out.
 use Rattle.std.specs.Prelude.{ℕ, ◌==◌, ◌&&◌, List, [], ◌∷◌, ◌++◌, codes, if◌then◌else◌}
 use Rattle.std.specs.List.{flat_map, join_with_byte}
 use Rattle.std.specs.Fmt.{decimal}

@@ -1,14 +1,16 @@
 //! Devices as JSON texts.
 
-ghost use Rattle.std.specs.Prelude.{◌≡◌, ◌∷◌, [], true, if◌then◌else◌, Ok, OnOk};
+ghost use Rattle.std.specs.Prelude.{◌≡◌, ℕ, List, ◌∷◌, [], true, if◌then◌else◌, Ok, OnOk};
 ghost use Rattle.std.specs.List.{flat_map, join_with_byte};
 ghost use Rattle.contract_words.specs.Writes.{Writes};
 ghost use Rattle.config_record.specs.android_locales.LocaleRule.{rule_of};
+ghost use Rattle.config_record.specs.android_locales.declared.locale_rule.LocaleRule.{LocaleRule};
 ghost use Rattle.config_record.specs.Device.{device_locale};
 ghost use Rattle.config_record.specs.DeviceJson.{device_in_json_by};
 ghost use Rattle.config_record.specs.DeviceSeen.{device_numbers};
 ghost use Rattle.config_words.specs.LocalePart.{comma};
 ghost use Rattle.config_words.specs.Commas.{WritesMembers};
+ghost use Rattle.config_words.specs.Config.{device_of_config_by};
 ghost use Rattle.config_words.specs.JsonText.{number_member, locale_member, members_at, device_members, device_json};
 
 use config_record::{Coord, Device, Locale, write_locale};
@@ -25,6 +27,12 @@ pub fn write_device_json<W: Write + Drop>(device: &Device, out: &mut W) -> io::R
 
     // It reads as that device, by the rule of its locale.
     ensures reads_back { device_in_json_by (rule_of (device_locale (device_numbers device.now))) (device_json (device_numbers device.now)) ≡ Ok (device_numbers device.now) }
+
+    // That is the rule by which it was read, of a JSON text or of a line.
+    ensures as_json { (rule : LocaleRule) → (json : List ℕ) → device_in_json_by rule json ≡ Ok (device_numbers device.now)
+        → device_in_json_by rule (device_json (device_numbers device.now)) ≡ Ok (device_numbers device.now) }
+    ensures as_line { (rule : LocaleRule) → (line : List ℕ) → device_of_config_by rule line ≡ Ok (device_numbers device.now)
+        → device_in_json_by rule (device_json (device_numbers device.now)) ≡ Ok (device_numbers device.now) }
 {
     write_known(*device, out)
 }
