@@ -34,7 +34,7 @@ Works {W} {V} contents says known is_terminal before after request was_written e
     × IfSome known (λ places. Answers is_terminal contents says before.out after.out before.errors errors places request outcome)
     × ErrorsGet is_terminal before.errors errors request outcome
     × IsKept before.out after.out outcome
-    × EndsAs says errors after.errors outcome was_written ended
+    × EndsAs says is_terminal errors after.errors outcome was_written ended
 
 -- A run of the program: its words ask for nothing that can be done, or for a request. was_written says whether the stream took
 -- what was said at the end.

@@ -144,27 +144,27 @@ pub(crate) const CERTIFICATE: Argument = Argument {
 pub(crate) const ID: Argument = Argument {
     name: "ID",
     takes: Takes::OneWord,
-    help: "Resource, by its id or its name, such as 0x7f010000 or dimen/margin",
+    help: "Resource, by its id or its name, such as 0x7f010000, dimen/margin or android:dimen/margin",
 };
 
 pub(crate) const IDS: Argument = Argument {
     name: "ID",
     takes: Takes::Words,
-    help: "Resource, by its id or its name, such as 0x7f010000 or dimen/margin; dimen/* for all \
+    help: "Resource, by its id or its name, such as 0x7f010000, dimen/margin or android:dimen/margin; dimen/* for all \
            of a type, * for all, @FILE for those in a file, one a line",
 };
 
 pub(crate) const COMPARED: Argument = Argument {
     name: "NAME",
     takes: Takes::MaybeWords,
-    help: "Resource to compare, by its id or its name, such as 0x7f010000 or dimen/margin; dimen/* for \
+    help: "Resource to compare, by its id or its name, such as 0x7f010000, dimen/margin or android:dimen/margin; dimen/* for \
            all of a type, * for all, @FILE for those in a file, one a line; without one, all",
 };
 
 pub(crate) const GOALS: Argument = Argument {
     name: "GOAL",
     takes: Takes::Words,
-    help: "Resource, by its id or its name, such as 0x7f010000 or dimen/margin; an attribute under \
+    help: "Resource, by its id or its name, such as 0x7f010000, dimen/margin or android:dimen/margin; an attribute under \
            styles, such as attr/color@style/Theme,style/Dark; dimen/* for all of a type, * for all, \
            @FILE for those in a file, one a line",
 };

@@ -40,11 +40,12 @@ pub fn run_words<I: Inputs, C: Clock, O: Write + Drop, E: Write + Drop>(
 {
     match read_words(alloc, words) {
         Ok(request) => {
+            let is_terminal = watch.is_terminal;
             let (outcome, out) = carry_out(alloc, inputs, watch, request, out, errors);
             let Reported {
                 status,
                 was_written,
-            } = end(outcome, errors);
+            } = end(outcome, is_terminal, errors);
             Ended {
                 status,
                 was_written,
