@@ -22,10 +22,11 @@ from functools import partial
 from itertools import groupby
 
 from case_words import read_words
-from check_names import Missing, Words, written
+from check_names import Words, written
 from named_tables import Table
 from plain_certificates import id_text
 from plain_diff import Both, Stack, asks_for, devices_text, label_text, pairs_of
+from plain_words import Missing, Two, check_packages
 from plain_trees import Traces, have_larger_trees, varying
 from random_apps import SIZES, Apps, layers_of
 from random_cases import Focus
@@ -62,10 +63,12 @@ class Case:
     def pairs(self):
         """The pairs that are asked for."""
         pairs = list(pairs_of(*self.stacks.stacks))
+        packages = [package for table, own in self.old + self.new if own is None for package in table.packages]
         for word in self.words:
-            if not any(asks_for(word, pair) for pair in pairs):
-                raise Missing(word)
-        return [pair for pair in pairs if not self.words or any(asks_for(word, pair) for word in self.words)]
+            asked = [pair for pair in pairs if asks_for(packages, word, pair)]
+            is_name = "/" in word and not word.endswith("/*")
+            check_packages(packages, word, [label[0] for label, _ in asked] if is_name else [0] * len(asked))
+        return [pair for pair in pairs if not self.words or any(asks_for(packages, word, pair) for word in self.words)]
 
     # ---- the program
 
@@ -213,8 +216,9 @@ def faults_of(case, said):
     """The faults of what is printed to both streams, and of the status; and what was told."""
     try:
         pairs = case.pairs()
-    except Missing as word:
-        return [] if said == ("", f"no resource {word}\n", 1) else [f"no resource {word} is due"], "no resource"
+    except (Missing, Two) as fault:
+        told = "two resources" if isinstance(fault, Two) else "no resource"
+        return [] if said == ("", f"{told} {fault}\n", 1) else [f"{told} {fault} is due"], told
     if said == NODE_LIMIT:
         return [] if case.limit and is_above_limit(case, pairs) else ["no trees are that large"], "node limit"
     text, messages, status = said

@@ -3,14 +3,13 @@
 
     check_names.py PROGRAM CASES [JOBS [FIRST]]
 
-Words are ids, names, `TYPE/*`, `*` and files of them, some misspelt; some files have no word, or are no text. A query of words
-has to print what a query of the ids prints that they stand for, and a certificate of goals what one of their ids has. The
+Words are ids, names, `TYPE/*`, `*` and files of them, some with a package, some with an `@` as in XML, some misspelt; some files
+have no word, or are no text. A query of words has to print what a query of the ids prints that they stand for, and a certificate of goals what one of their ids has. The
 tables are those of named_tables.py, and the cases are numbered from FIRST on, which is 0 if it is not given. The last line
 counts what was compared."""
 import json
 import os
 import random
-import re
 import subprocess
 import sys
 import tempfile
@@ -19,28 +18,29 @@ from concurrent.futures import ProcessPoolExecutor
 
 from named_tables import ENTRY_NAMES, TYPE_NAMES, Table, random_id
 from plain_certificates import id_text
+from plain_words import GOAL, SET, XML_NAME, Missing, Two, check_packages, is_asked, parts_of, text_of
 
 MOST_STYLES = 3
 MARK = "\ufeff"
 """The byte order mark."""
 WHITE_SPACE = "\t\n\v\f\r \x85\xa0\u1680\u2000\u2001\u2002\u2003\u2004\u2005\u2006\u2007\u2008\u2009\u200a\u2028\u2029\u202f\u205f\u3000"
-ONE = r"(?:0x[0-9a-fA-F]{8}|[^*,@/]+/[^*,@]+)"
-SET = re.compile(rf"\*|[^*,@/]+/\*|{ONE}")
-GOAL = re.compile(rf"{SET.pattern}|{ONE}@{ONE}(?:,{ONE}){{0,63}}")
 
 
 class Stop(Exception):
     """Why a command stops at its words, and how the line ends that says so."""
 
 
-class Missing(Exception):
-    """The text of a name that is not there."""
+class NoFile(Exception):
+    """The path of a file of words that is not there."""
 
 
 def words_in(folder, path):
     """The words of a file, one a line."""
-    with open(os.path.join(folder, path), "rb") as file:
-        content = file.read()
+    try:
+        with open(os.path.join(folder, path), "rb") as file:
+            content = file.read()
+    except FileNotFoundError:
+        raise NoFile(path) from None
     try:
         text = content.decode()
     except UnicodeDecodeError:
@@ -56,7 +56,8 @@ def words_asked(folder, asked, form):
     """The words of a command line, with those of files in the place of words that name some. Each has to have this form."""
     words = []
     for word in asked:
-        words += words_in(folder, word[1:]) if word.startswith("@") else [word]
+        names_file = word.startswith("@") and not XML_NAME.fullmatch(word)
+        words += words_in(folder, word[1:]) if names_file else [word]
     for word in words:
         if not form.fullmatch(word):
             raise Stop("bad id", word)
@@ -67,16 +68,19 @@ def bases(layers):
     return [table for table, is_overlay in layers if not is_overlay]
 
 
+def packages_of(layers):
+    return [package for table in bases(layers) for package in table.packages]
+
+
 def id_named(layers, word):
     """The id that a word for one resource stands for."""
-    if word.startswith("0x"):
+    if "/" not in word:
         return int(word, 16)
-    names = tuple(word.split("/", 1))
-    for table in bases(layers):
-        for row in table.rows:
-            if row.names == names:
-                return row.id
-    raise Missing(word)
+    packages, (package, names) = packages_of(layers), parts_of(word)
+    rows = [row for table in bases(layers) for row in table.rows if row.names == names]
+    ids = [row.id for row in rows if is_asked(packages, package, row.id >> 24)]
+    check_packages(packages, word, [name >> 24 for name in ids])
+    return ids[0]
 
 
 def ids_named(layers, word):
@@ -84,15 +88,18 @@ def ids_named(layers, word):
     if word != "*" and not word.endswith("/*"):
         return [id_named(layers, word)]
     rows = [row for table in bases(layers) for row in table.rows]
-    ids = sorted({row.id for row in rows if word == "*" or row.names[0] == word[:-2]})
-    if not ids:
-        raise Missing(word)
-    return ids
+    if word != "*":
+        package, (type_name, _) = parts_of(word)
+        packages = packages_of(layers)
+        rows = [row for row in rows if row.names[0] == type_name and is_asked(packages, package, row.id >> 24)]
+    if not rows:
+        raise Missing(text_of(word))
+    return sorted({row.id for row in rows})
 
 
 def goals_named(layers, word):
     """The goals that a word stands for, as words with ids alone."""
-    if "@" not in word:
+    if SET.fullmatch(word):
         return [id_text(found) for found in ids_named(layers, word)]
     attr, styles = word.split("@", 1)
     ids = [id_text(id_named(layers, part)) for part in [attr, *styles.split(",")]]
@@ -100,7 +107,7 @@ def goals_named(layers, word):
 
 
 def can_be_asked(names):
-    return None not in names and all(name and not set(name) & set("*,@\n") for name in names) and "/" not in names[0]
+    return None not in names and all(name and not set(name) & set("*,@\n") for name in names) and not set(names[0]) & set("/:")
 
 
 class Words:
@@ -109,6 +116,7 @@ class Words:
     def __init__(self, chance, layers):
         self.chance = chance
         self.known = [row.names for table in bases(layers) for row in table.rows if can_be_asked(row.names)]
+        self.packages = packages_of(layers)
 
     def one(self):
         kind = self.chance.random()
@@ -116,19 +124,30 @@ class Words:
             return id_text(random_id(self.chance))
         names = TYPE_NAMES + ("nothing",), ENTRY_NAMES + ("é", "none")
         known = self.chance.choice(self.known) if self.known and kind < 0.95 else map(self.chance.choice, names)
-        return "/".join(known)
+        return self.sign() + self.package() + "/".join(known)
+
+    def package(self):
+        """One that a word names, mostly none or one that is there."""
+        if self.chance.random() < 0.5:
+            return ""
+        number, name = self.chance.choice(self.packages or [(0x7F, "none")])
+        is_named = name and not set(name) & set("*,@:/\n") and self.chance.random() < 0.6
+        return self.chance.choice((name if is_named else f"0x{number:02x}", f"0x{number:02X}")) + ":"
+
+    def sign(self):
+        return "@" if self.chance.random() < 0.1 else ""
 
     def several(self):
         kind = self.chance.random()
         if kind < 0.1 and self.known:
             return "*"
-        return self.one().split("/")[0] + "/*" if kind < 0.25 and self.known else self.one()
+        return self.one().removeprefix("@").split("/")[0] + "/*" if kind < 0.25 and self.known else self.one()
 
     def goal(self):
         if self.chance.random() < 0.6:
             return self.several()
         styles = [self.one() for _ in range(self.chance.randint(1, MOST_STYLES))]
-        return f"{self.one()}@{','.join(styles)}"
+        return f"{self.one().removeprefix('@')}@{','.join(styles)}"
 
 
 def file_of(chance, words):
@@ -162,7 +181,7 @@ def with_odd_files(chance, folder, words):
     """These words, and files that may have none, or have some that are odd, or are no text."""
     words = written(chance, folder, words)
     for name in ("odd", "odder")[: chance.choice((0, 0, 0, 0, 0, 0, 1, 2))]:
-        some = [word for word in words if not word.startswith("@")][:1]
+        some = [word for word in words if word not in ("@words", "@odd")][:1]
         some += chance.choice(([], [word + " # more" for word in some], [MARK + word for word in some]))
         content = file_of(chance, chance.choice(([], some, some[::-1])))
         words.insert(chance.randint(0, len(words)), write(folder, name, content + chance.choice((b"", b"", b"", b"\xff"))))
@@ -190,8 +209,12 @@ def compare(program, folder, command, asked, form, find):
     except Stop as stop:
         told, rest = stop.args
         wanted = b"", f"command: {told} {rest}\n".encode(), 2
+    except NoFile as path:
+        wanted, told = (b"", f"file: {path}\n".encode(), 5), "no file"
     except Missing as name:
         wanted, told = (b"", f"no resource {name}\n".encode(), 1), "no resource"
+    except Two as names:
+        wanted, told = (b"", f"two resources {names}\n".encode(), 1), "two resources"
     said = done.stdout, done.stderr, done.returncode
     return "" if said == wanted else f"{asked}: {said}, wanted {wanted}", told
 

@@ -161,10 +161,11 @@ def table_bytes(rows):
 # ---- tables with names
 
 
-def package_chunk(package_id, offset, types, keys, children):
+def package_chunk(package_id, offset, types, keys, children, name=""):
     """A package with these pools of names. Without an offset of its types it has the shorter header."""
     size = PACKAGE_HEADER if offset is None else PACKAGE_HEADER + 4
-    header = struct.pack("<I256x4I", package_id, size, 0, size + len(types.bytes), 0)
+    named = name.encode("utf-16-le", "surrogatepass")
+    header = struct.pack("<I256s4I", package_id, named, size, 0, size + len(types.bytes), 0)
     header += b"" if offset is None else struct.pack("<I", offset)
     return chunk(0x0200, header, types.bytes + keys.bytes + children)
 
@@ -202,8 +203,8 @@ class NamedTable:
     """A table of resources of one package, in which names stand for these ids. A type has a chunk for each configuration of its
     rows. The pool has first these strings, and then those of rows."""
 
-    def __init__(self, resources, ids, package_id=0x7F, strings=(), is_utf16=False, is_sparse=False):
-        self.ids, self.is_sparse, self.rows = ids, is_sparse, []
+    def __init__(self, resources, ids, package_id=0x7F, strings=(), is_utf16=False, is_sparse=False, name=""):
+        self.ids, self.is_sparse, self.rows, self.packages = ids, is_sparse, [], [(package_id, name)]
         self.indexes = {text: index for index, text in enumerate(dict.fromkeys(strings))}
         types = list(dict.fromkeys(resource.type_name for resource in resources))
         keys = list(dict.fromkeys(resource.entry_name for resource in resources))
@@ -214,7 +215,7 @@ class NamedTable:
             of_type = [resource for resource in resources if resource.type_name == type_name]
             children += type_spec(type_id, len(of_type)) + self.type_chunks(package_id << 24 | type_id << 16, of_type)
         self.strings = Pool(self.indexes, is_utf16)
-        self.bytes = named_table_bytes(self.strings, [package_chunk(package_id, None, self.types, self.keys, children)])
+        self.bytes = named_table_bytes(self.strings, [package_chunk(package_id, None, self.types, self.keys, children, name)])
 
     def type_chunks(self, first_id, resources):
         chunks = {}

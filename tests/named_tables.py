@@ -1,5 +1,5 @@
 """Random tables with few names, for the scripts beside it. Many names are in several tables, twice in one, or missing. A table
-has up to three packages, names in UTF-8 and UTF-16 of which some cannot be read or are no text, values and bags with references,
+has up to three packages, whose names may be those of others, names in UTF-8 and UTF-16 of which some cannot be read or are no text, values and bags with references,
 and several rows of an id with different names."""
 from made_layers import Pool, entries_chunk, entry_bytes, named_table_bytes, package_chunk, type_spec
 from plain_bags import Bag
@@ -9,6 +9,7 @@ from plain_rules import Record
 PACKAGES = (0x7F, 0x7F, 0x7F, 0x7F, 0x01, 0x02)
 TYPE_NAMES = ("color", "dimen", "style")
 ENTRY_NAMES = ("handle", "títle", "clay", 'a "b"')
+PACKAGE_NAMES = ("android", "org.example.app", "org.example.app", "library", "", "0x02", "a:b", "half \ud83d")
 ODD_NAMES = ("é", "x\n", "", "half \ud83d", "\ud83d\ude00", "😀")
 TYPES, ENTRIES, MOST_ROWS = len(TYPE_NAMES), len(ENTRY_NAMES), 3
 
@@ -45,12 +46,14 @@ class Table:
     """A table, its rows in the order of its bytes. It has no strings but names."""
 
     def __init__(self, chance):
-        self.rows, self.strings = [], Pool(())
+        self.rows, self.packages, self.strings = [], [], Pool(())
         packages = [self.package(chance) for _ in range(chance.choice((0, 1, 1, 1, 1, 1, 2, 3)))]
         self.bytes = named_table_bytes(self.strings, packages)
 
     def package(self, chance):
         package_id, offset = chance.choice(PACKAGES), chance.choice((None, None, 0, 0, 1))
+        name = "android" if package_id == 1 and chance.random() < 0.8 else chance.choice(PACKAGE_NAMES)
+        self.packages.append((package_id, None if "\ud83d" in name else name))
         types, keys = names_of(chance, TYPE_NAMES), names_of(chance, ENTRY_NAMES)
         children = b""
         for type_id in chance.sample(range(1, TYPES + 1), chance.choice((1, TYPES, TYPES))):
@@ -58,7 +61,7 @@ class Table:
             for _ in range(chance.choice((1, 1, 2))):
                 named = types.get(type_id - 1 - (offset or 0))
                 children += self.type_chunk(chance, package_id << 24 | type_id << 16, named, keys)
-        return package_chunk(package_id, offset, types, keys, children)
+        return package_chunk(package_id, offset, types, keys, children, name)
 
     def type_chunk(self, chance, first_id, type_name, keys):
         entries, record = {}, Record({})

@@ -9,6 +9,7 @@ from made_layers import joined_pairs
 from make_strings import shown_character
 from plain_map import first_rows
 from plain_rules import COORDS, Layers, by_id, step_of, value_text
+from plain_words import is_asked, parts_of
 
 REFERENCE, ATTRIBUTE, STRING, BOOLEAN = 1, 2, 3, 0x12
 NUMBERS = range(0x10, 0x20)
@@ -230,13 +231,14 @@ def pairs_of(old, new):
         yield label, (old.ids.get(label), new.ids.get(label))
 
 
-def asks_for(word, pair):
-    """Whether a word asks for a pair: by an id on either side, or by a name in any package."""
+def asks_for(packages, word, pair):
+    """Whether a word asks for a pair: by an id on either side, or by a name."""
     label, ids = pair
     if "/" not in word:
         return word == "*" or int(word, 16) in ids
-    type_name, entry_name = word.split("/", 1)
-    return not isinstance(label, int) and label[1] == type_name and entry_name in ("*", label[2])
+    package, (type_name, entry_name) = parts_of(word)
+    is_named = not isinstance(label, int) and label[1] == type_name and entry_name in ("*", label[2])
+    return is_named and is_asked(packages, package, label[0])
 
 
 # ---- devices

@@ -561,11 +561,12 @@ def of_styled_goals():
 # ---- words
 
 NO_NAMES = ["", "margin", "dimen/", "/margin", "*/*", "dimen/m*", "a,b/c"]
+NO_NAMES += [":dimen/margin", "android:/margin", "android:margin", "android:*", "a@b:dimen/margin", "a*:dimen/*", "::/x"]
 NO_NAMES += ["0x7f01", "0X7f010000", "0x7f0100000", "0x7f01000g", "0x+f010000"]
 NO_GOALS = [
     "margin", "0x7f01", "0x7f010000,0x7f010001", "attr/a@", "0x01010001@", "attr/*@style/Theme", "attr/a@style/*",
     "attr/a@style/Theme,", "attr/a@,style/Theme", "0x01010001@0x7f010000 ,0x7f010001", "attr/a@style/Theme@style/Other",
-    "attr/a@@style/Theme", "0x0101000g@0x7f010000", f"{A}@{','.join([ID] * 65)}", f"{A}@{','.join([ID] * 65)},style/Theme",
+    "attr/a@@Style/Theme", "attr/a@@@style/Theme", "attr/a@@style/*", "0x0101000g@0x7f010000", f"{A}@{','.join([ID] * 65)}", f"{A}@{','.join([ID] * 65)},style/Theme",
 ]
 WORD_FILES = [
     ("dimen/a", ["dimen/a"]), ("dimen/a\r\n*\r\n", ["dimen/a", "*"]), (" dimen/a\t\n\n  # more\n\u3000*\n", ["dimen/a", "*"]),
@@ -581,12 +582,15 @@ def of_words():
     for word in NO_NAMES:
         yield bad(["query", "absent", "absent", word], word)
         yield bad(["explain", "absent", "absent", word], word)
-    for word in ("dimen/*", "*", "@style/Theme"):
+    for word in ("dimen/*", "*", "android:dimen/*", "@ids.txt", "@style/*", "@Style/Theme", "@style/", "@android:/x", "@attr/a@style/b"):
         yield bad(["explain", "absent", "absent", word], word)
     for word in NO_GOALS:
         yield bad(["make", "absent", "absent", word], word)
     yield Case(["make", "absent", "absent", f"{A}@{','.join([ID] * 64)}"], "", "file: absent\n", 5)
-    for path in ("ids.txt", "0x7f01000", "0x7f010000,", "./0x7f010000", "style/Theme"):
+    for path in (
+        "ids.txt", "0x7f01000", "0x7f010000,", "./0x7f010000", "./style/Theme", "lists/a", "Style/Theme", "style/", "/style/Theme",
+        "style/a,b", "style/*", ":style/a", "lists:style", "a:lists/b",
+    ):
         yield over(["0 [] 1"], f"query layers device @{path}", "", f"file: {path}\n", 5)
     two = named_table({"dimen/a": 1, "dimen/b # more": 2})
     for text, words in WORD_FILES:
@@ -628,21 +632,28 @@ def of_names():
     app = [letters(0x7F, "k"), (letters(0x7F, "o"), SAME), letters(0x01, "m"), letters(0x02, "k")]
     system, library = "0x01010000", "0x02010000"
     for words, ids in (
-        (["s/k"], [ID]), (["s/m"], [system]), (["s/*"], [system, library, ID]), (["*"], [system, library, ID]),
-        (["s/k", "s/m", "s/k"], [ID, system, ID]),
+        (["0x7f:s/k"], [ID]), (["s/m"], [system]), (["s/*"], [system, library, ID]), (["*"], [system, library, ID]),
+        (["0x02:s/k", "0x01:s/m", "0x7F:s/k"], [library, system, ID]), (["0x02:s/*"], [library]),
     ):
         told = [f"{name} value layer {(system, library).index(name) + 2 if name != ID else 1} decimal 5" for name in ids]
         yield over(app, ["query", "layers", "device", *words], lines(told + ["set-aside 0"]))
+    two = "two resources s/k: 0x7f:s/k, 0x02:s/k\n"
+    for words in (["s/k"], ["s/m", "s/k", "s/x"], ["s/*", "s/k"]):
+        yield over(app, ["query", "layers", "device", *words], "", two, 1)
+    yield over(app, "explain layers device s/k", "", two, 1)
+    yield over(app, "query layers device s/x s/k", "", "no resource s/x\n", 1)
+    for word in ("s/k", "0x7f010000@s/k", "s/k@s/m"):
+        yield over(app, ["make", "layers", "box", word], "", two, 1, box=MEDIUM_BOX)
     yield over(app, "query layers device 0x12345678", "0x12345678 absent 0x12345678\nset-aside 0\n", status=1)
-    for word in ("s/o", "s/x", "k/s", "t/*"):
-        yield over(app, f"query layers device s/k {word} s/y", "", f"no resource {word}\n", 1)
+    for word in ("s/o", "s/x", "k/s", "t/*", "0x01:s/k", "0x03:s/k", "0x01:t/*", "0x03:s/*", "android:s/m", "android:s/*"):
+        yield over(app, f"query layers device 0x7f:s/k {word} s/y", "", f"no resource {word}\n", 1)
     yield over([], "query layers device *", "", "no resource *\n", 1)
-    for words, missing in ((["s/k@s/y", "t/*"], "s/y"), (["s/x@s/y"], "s/x"), (["s/k", "t/*", "s/x"], "t/*")):
+    for words, missing in ((["s/m@s/y", "t/*"], "s/y"), (["s/x@s/y"], "s/x"), (["0x7f:s/k", "t/*", "s/x"], "t/*")):
         yield over(app, ["make", "layers", "box", *words], "", f"no resource {missing}\n", 1, box=MEDIUM_BOX)
     goals = '{"goals":[{"id":"0x7f010000","nodes":[{"kind":16,"layer":1,"word":5}]}],"version":1}\n'
-    yield over(app, "make layers box s/k", goals, box=MEDIUM_BOX)
+    yield over(app, "make layers box 0x7f:s/k", goals, box=MEDIUM_BOX)
     counter = f"counter goal 0\ndevice density=160\nend absent {ID}\n"
-    yield over(app, "make layers box s/m@s/k,0x7f030001", counter, status=1, box=MEDIUM_BOX)
+    yield over(app, "make layers box s/m@0x7f:s/k,0x7f030001", counter, status=1, box=MEDIUM_BOX)
     for name, ids in (("s/k", ID), ("s/x", None), ("k/k", None), ("k/s", None)):
         out = f"{ids} value layer 0 decimal 5\nset-aside 0\n" if ids else ""
         yield over([TABLE_B], f"query layers device {name}", out, "" if ids else f"no resource {name}\n", int(not ids))
@@ -656,6 +667,37 @@ def of_names():
     sparse = changed(TABLE_B, (357 + 72, "01"))
     yield over([sparse], "query layers device s/k", f"{ID} value layer 0 decimal 5\nset-aside 0\n")
     yield over([changed(sparse, (396 + 72, "01"))], "query layers device s/k", "", "no resource s/k\n", 1)
+
+
+def of_packages():
+    """A framework, an app in two layers of which the second has another name, and a library that has the name of the app."""
+    def table(cells, number, name):
+        resources = resources_of(cells)
+        return NamedTable(resources, ids_of(resources, number), number, name=name).bytes
+
+    layers = [
+        table({"string/cancel": 1, "string/a:b": 2}, 0x01, "android"), table({"string/title": 3, "string/cancel": 4}, 0x7F, "org.example"),
+        table({"string/title": 5, "string/cancel": 6}, 0x7F, "org.example.split"), table({"string/title": 7, "dimen/d": 8}, 0x02, "org.example"),
+    ]
+    for word, found in (
+        ("android:string/cancel", "0x01010000 value layer 0 decimal 1"), ("@android:string/cancel", "0x01010000 value layer 0 decimal 1"),
+        ("0x01:string/cancel", "0x01010000 value layer 0 decimal 1"), ("@0x7f:string/cancel", "0x7f010001 value layer 1 decimal 4"),
+        ("org.example.split:string/cancel", "0x7f010001 value layer 1 decimal 4"),
+        ("org.example:string/cancel", "0x7f010001 value layer 1 decimal 4"), ("@string/a:b", "0x01010001 value layer 0 decimal 2"),
+        ("android:string/a:b", "0x01010001 value layer 0 decimal 2"), ("org.example:dimen/d", "0x02020000 value layer 3 decimal 8"),
+        ("org.example:dimen/*", "0x02020000 value layer 3 decimal 8"), ("@dimen/d", "0x02020000 value layer 3 decimal 8"),
+    ):
+        yield over(layers, ["query", "layers", "device", word], f"{found}\nset-aside 0\n")
+        yield over(layers, ["query", "layers", "device", "@./list"], f"{found}\nset-aside 0\n", list=word)
+    for word, names in (
+        ("string/cancel", "android:string/cancel, 0x7f:string/cancel"), ("@string/cancel", "android:string/cancel, 0x7f:string/cancel"),
+        ("org.example:string/title", "0x7f:string/title, 0x02:string/title"), ("string/title", "0x7f:string/title, 0x02:string/title"),
+    ):
+        yield over(layers, ["query", "layers", "device", word], "", f"two resources {word.removeprefix('@')}: {names}\n", 1)
+    alone = layers[:2]
+    yield over(alone, "query layers device string/cancel", "", "two resources string/cancel: android:string/cancel, org.example:string/cancel\n", 1)
+    for word in ("org.example:string/a:b", "org:string/cancel", "Android:string/cancel", "0x02:string/cancel", "org.example.split:string/title"):
+        yield over(alone, ["query", "layers", "device", word], "", f"no resource {word}\n", 1)
 
 
 # ---- ids
@@ -922,20 +964,24 @@ def of_asked_pairs():
     stacks = [framework[0], old, nameless[0]], [framework[1], new, nameless[1]]
     for words, places in (
         ("", range(7)), ("0x7f020000", [3]), ("0x7f020002", [5]), ("0x7f020001", [4]), ("0x7f020003", [4]), ("0x01010000", [0]),
-        (ID, [1, 2]), ("0x7f030000", [6]), ("dimen/gap", [3]), ("dimen/margin", [0, 4]), ("dimen/*", [0, 3, 4, 5]),
-        ("*", range(7)),
+        (ID, [1, 2]), ("0x7f030000", [6]), ("dimen/gap", [3]), ("dimen/*", [0, 3, 4, 5]), ("*", range(7)),
+        ("0x01:dimen/margin", [0]), ("0x7f:dimen/margin", [4]), ("0x7f:dimen/*", [3, 4, 5]), ("0x01:dimen/*", [0]),
         ("0x7f030000 dimen/width color/ink", [1, 5, 6]), ("dimen/gap dimen/gap", [3]),
-        ("0x7f020001 dimen/* dimen/margin", [0, 3, 4, 5]), ("0x7f020001 0x7f020003", [4]), ("color/ink *", range(7)),
+        ("0x7f020001 dimen/* 0x7f:dimen/margin", [0, 3, 4, 5]), ("0x7f020001 0x7f020003", [4]), ("color/ink *", range(7)),
     ):
         yield compared(*stacks, lines([*(told[place] for place in places), "same 0"]), words=words.split())
     for words, missing in (
         ("0x7f020004", "0x7f020004"), ("0x02010000", "0x02010000"), ("0x7F02000A", "0x7f02000a"), ("dimen/x", "dimen/x"),
         ("color/gap", "color/gap"), ("ink/color", "ink/color"), ("color/in", "color/in"), ("gap/*", "gap/*"),
-        ("colo/*", "colo/*"),
+        ("colo/*", "colo/*"), ("0x01:color/ink", "0x01:color/ink"), ("0x01:color/*", "0x01:color/*"), ("0X7f:color/*", "0X7f:color/*"),
         ("dimen/gap dimen/x string/*", "dimen/x"), ("* string/* dimen/x", "string/*"), ("dimen/x 0x7f020004 dimen/x", "dimen/x"),
     ):
         case = compared(*stacks, "", words=words.split())
         case.due = "", f"no resource {missing}\n", 1
+        yield case
+    for words in ("dimen/margin", "color/ink dimen/margin string/*", "* dimen/margin"):
+        case = compared(*stacks, "", words=words.split())
+        case.due = "", "two resources dimen/margin: 0x01:dimen/margin, 0x7f:dimen/margin\n", 1
         yield case
 
 
@@ -959,7 +1005,7 @@ def of_limits():
         yield case
 
 
-GROUPS = [of_tables, of_devices, of_bags, of_words, of_names, of_ids, of_maps, of_surveys, of_changes]
+GROUPS = [of_tables, of_devices, of_bags, of_words, of_names, of_packages, of_ids, of_maps, of_surveys, of_changes]
 
 
 def fault_of(program, group, case):

@@ -34,6 +34,8 @@ pub data StopOf : Type 0 where
   device_part : List ℕ → StopOf
   -- what a device has at this coordinate no word of `am get-config` says
   no_word : Coord → StopOf
+  -- a name that stands for resources of two packages, with a name for either
+  two_resources : List ℕ → StopOf
   tool : ToolFault → StopOf
 
 abbrev pub stop_of : Stop → StopOf
@@ -45,6 +47,7 @@ stop_of (stops.LayerFile path) = layer_file (string_bytes path)
 stop_of (stops.NoResource name) = no_resource (string_bytes name)
 stop_of (stops.DevicePart part) = device_part part.now
 stop_of (stops.NoWord coord) = no_word coord
+stop_of (stops.TwoResources names) = two_resources (string_bytes names)
 stop_of (stops.Tool fault) = tool fault
 
 -- the same where two stacks are compared: a fault of layers names the side
@@ -52,9 +55,10 @@ abbrev pub stop_on_side : Side → StopOf → StopOf
 stop_on_side side (tool fault) = tool (fault_on_side side fault)
 stop_on_side side stop = stop
 
--- where a name stands for no resource
+-- where a word asks for no resource
 abbrev pub stop_of_name : NameFault → Stop
 stop_of_name (names.NoResource name) = stops.NoResource name
+stop_of_name (names.TwoResources both) = stops.TwoResources both
 stop_of_name names.OutOfMemory = stops.Tool faults.OutOfMemory
 
 -- a call gave what is meant, seen by view, or stops as is meant, or memory ran out
@@ -74,6 +78,7 @@ stop_line (layer_file path) = codes "file: " ++ in_one_line path ++ 10 ∷ []
 stop_line (no_resource name) = codes "no resource " ++ in_one_line name ++ 10 ∷ []
 stop_line (device_part part) = codes "refused: device: Qualifier " ++ part ++ 10 ∷ []
 stop_line (no_word coord) = codes "no word " ++ name_of coord ++ 10 ∷ []
+stop_line (two_resources names) = codes "two resources " ++ in_one_line names ++ 10 ∷ []
 stop_line (tool fault) = fault_line fault
 
 -- how the program ends where it stops
@@ -86,4 +91,5 @@ status_of_stop (layer_file path) = Failed
 status_of_stop (no_resource name) = Negative
 status_of_stop (device_part part) = Refused
 status_of_stop (no_word coord) = Negative
+status_of_stop (two_resources names) = Negative
 status_of_stop (tool fault) = after_fault fault

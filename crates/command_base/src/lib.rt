@@ -39,6 +39,7 @@ mod exit_status;
 mod fault;
 mod file_words;
 mod first_rows;
+mod hint;
 mod input;
 mod inputs;
 mod layer_files;

@@ -35,6 +35,9 @@ pub enum Stop<'a> {
     DevicePart(&'a [u8]),
     /// What a device has at this coordinate no word of `am get-config` says.
     NoWord(Coord),
+    /// A name that stands for resources of two packages, and a name for either, as
+    /// `string/cancel: android:string/cancel, org.example:string/cancel`.
+    TwoResources(String),
     /// The command failed.
     Tool(ToolFault),
 }
@@ -65,6 +68,7 @@ impl Stop<'_> {
             Stop::NoResource(name) => write_no_resource(name.as_str(), errors),
             Stop::DevicePart(part) => write_device_part(part, errors),
             Stop::NoWord(coord) => write_line("no word ", coord.name(), errors),
+            Stop::TwoResources(names) => write_two_resources(names.as_str(), errors),
             Stop::Tool(fault) => fault_text(fault, errors),
         }
     }
@@ -76,7 +80,7 @@ impl Stop<'_> {
         match self {
             Stop::NotText | Stop::NoWords(_) | Stop::WordOfFile(_) => ExitStatus::BadCommandLine,
             Stop::File(_) | Stop::LayerFile(_) => ExitStatus::Failed,
-            Stop::NoResource(_) | Stop::NoWord(_) => ExitStatus::Negative,
+            Stop::NoResource(_) | Stop::NoWord(_) | Stop::TwoResources(_) => ExitStatus::Negative,
             Stop::DevicePart(_) => ExitStatus::Refused,
             Stop::Tool(fault) => ExitStatus::after_fault(fault),
         }
@@ -101,6 +105,12 @@ fn write_device_part<E: Write + Drop>(part: &[u8], errors: &mut E) -> io::Result
     errors.write_all(b"refused: device: Qualifier ")?;
     errors.write_all(part)?;
     errors.write_all(b"\n")
+}
+
+fn write_two_resources<E: Write + Drop>(names: &str, errors: &mut E) -> io::Result<()>
+    ensures { Writes E.contents errors.old errors.new result (codes "two resources " ++ in_one_line names.now ++ 10 ∷ []) }
+{
+    write_line_of_file("two resources ", names, errors)
 }
 
 fn write_line<E: Write + Drop>(before: &str, text: &str, errors: &mut E) -> io::Result<()>
@@ -136,6 +146,7 @@ impl From<NameFault> for Stop<'_> {
     fn from(fault: NameFault) -> Self {
         match fault {
             NameFault::NoResource(name) => Stop::NoResource(name),
+            NameFault::TwoResources(names) => Stop::TwoResources(names),
             NameFault::OutOfMemory => Stop::Tool(ToolFault::OutOfMemory),
         }
     }

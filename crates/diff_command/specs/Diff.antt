@@ -1,5 +1,5 @@
 -- What the words of `diff` ask, from what the places have to the answer. First come the words of files, then the faults of
--- inputs, and then the first name that is not there.
+-- inputs, and then the first word that asks for no resource.
 use Rattle.std.specs.Prelude.{ℕ, List, Option, Result, Ok}
 use Rattle.contract_words.specs.Faults.{◌>>=◌}
 use Rattle.contract_words.specs.Sequences.{joined_each}
@@ -54,7 +54,9 @@ unfoldable pub diff_opened : LocaleRule → List LayerBytes → List LayerBytes 
 diff_opened rule old new box_json words = do
   sets ← each set_asked words
   opened ← read_or_stop (diff_inputs_by rule old new box_json)
-  pairs ← found_or_stop (pairs_named sets (name_pairs opened.stacks.old opened.stacks.new))
+  let old = opened.stacks.old
+  let new = opened.stacks.new
+  pairs ← found_or_stop (pairs_named old new sets (name_pairs old new))
   Ok (record { opened = opened; pairs = pairs })
 
 -- ---- the answer

@@ -22,7 +22,6 @@ use command_base::{
     Inputs, LayerFiles, LayerParts, LocaleRule, Side, Status, Stop, ToolFault, asked_sets,
     asked_words, file_bytes,
 };
-use names::pairs_named;
 use stack_diff::{NamePair, Stacks};
 use std::alloc::Global;
 use std::io::Write;
@@ -98,8 +97,7 @@ impl<'a> Diff<'a> {
         let sets = asked_sets(alloc, words)?;
         let opened = OpenedDiff::read_by(alloc, old, new, box_json, self.locales)?;
         let named = opened.named(alloc)?;
-        let all = named.pairs(alloc)?;
-        let pairs = pairs_named(alloc, all, &sets)?;
+        let pairs = named.pairs_for(alloc, &sets)?;
         Ok(named.diff(alloc, &pairs, self.max_nodes, out)?)
     }
 }

@@ -1,11 +1,12 @@
 -- The first goals of words.
-use Rattle.std.proofs.Common.{◌≡◌, ℕ, zero, suc, ◌+◌, ◌<◌, ◌≤◌, List, [], ◌∷◌, ◌++◌, length, map, take, drop, take-append-drop, append_assoc, Result, Ok, Err, refl, sym, ap, ◌∙◌, arith}
+use Rattle.std.proofs.Common.{◌≡◌, ℕ, zero, suc, ◌<◌, ◌≤◌, List, [], ◌∷◌, ◌++◌, length, map, take, drop, take-append-drop, append_assoc, Result, Ok, Err, refl, sym, ap, ◌∙◌, arith}
 use Rattle.std.proofs.lemmas.List.{map-append}
 use Rattle.contract_words.specs.Faults.{◌>>=◌}
 use Rattle.contract_words.specs.Sequences.{with_front}
 use Rattle.contract_words.proofs.SequenceSteps.{ReadsAllBut, ReadsAllBut-next, ReadsAllBut-stops, ReadsAllBut-end}
 use Rattle.res_value.specs.Goal.{GoalSeen}
 use Rattle.overlay_map.specs.Layer.{LayerOf}
+use Rattle.names.specs.NameFault.{NameFaultOf}
 use Rattle.names.specs.NamedGoal.{NamedGoalOf}
 use Rattle.names.specs.NamedGoals.{first_goals, goals_named}
 
@@ -85,35 +86,35 @@ pub first-found : (layers : List LayerOf) (goals : List NamedGoalOf) (most : ℕ
     → first_goals layers goals most ≡ Ok first
 unfolding first_goals
 first-found layers goals most all first is are =
-    let wrapped : List GoalSeen → Result (List GoalSeen) (List ℕ) = λ goals. Ok goals in
-    ap (λ (r : Result (List GoalSeen) (List ℕ)). r >>= λ all. Ok (take most all)) is ∙ ap wrapped (sym are)
+    let wrapped : List GoalSeen → Result (List GoalSeen) NameFaultOf = λ goals. Ok goals in
+    ap (λ (r : Result (List GoalSeen) NameFaultOf). r >>= λ all. Ok (take most all)) is ∙ ap wrapped (sym are)
 
-pub first-missing : (layers : List LayerOf) (goals : List NamedGoalOf) (most : ℕ) (text : List ℕ) → goals_named layers goals ≡ Err text → first_goals layers goals most ≡ Err text
+pub first-missing : (layers : List LayerOf) (goals : List NamedGoalOf) (most : ℕ) (fault : NameFaultOf) → goals_named layers goals ≡ Err fault → first_goals layers goals most ≡ Err fault
 unfolding first_goals
-first-missing layers goals most text is = ap (λ (r : Result (List GoalSeen) (List ℕ)). r >>= λ all. Ok (take most all)) is
+first-missing layers goals most fault is = ap (λ (r : Result (List GoalSeen) NameFaultOf). r >>= λ all. Ok (take most all)) is
 
-pub FirstBut-end : (f : NamedGoalOf → Result (List GoalSeen) (List ℕ)) (layers : List LayerOf) (goals : List NamedGoalOf) (most : ℕ) (first : List GoalSeen) (left : List NamedGoalOf)
+pub FirstBut-end : (f : NamedGoalOf → Result (List GoalSeen) NameFaultOf) (layers : List LayerOf) (goals : List NamedGoalOf) (most : ℕ) (first : List GoalSeen) (left : List NamedGoalOf)
     → FirstBut f most first left (goals_named layers goals) → left ≡ [] → first_goals layers goals most ≡ Ok first
 FirstBut-end f layers goals most first left before nothing =
     first-found layers goals most before.so_far first (ReadsAllBut-end f before.so_far left (goals_named layers goals) before.read nothing) before.are
 
 -- where there is room for more than these, they are all
-first-all : (total : Result (List GoalSeen) (List ℕ)) (most : ℕ) (first : List GoalSeen) → (total >>= λ all. Ok (take most all)) ≡ Ok first → length first < most → total ≡ Ok first
+first-all : (total : Result (List GoalSeen) NameFaultOf) (most : ℕ) (first : List GoalSeen) → (total >>= λ all. Ok (take most all)) ≡ Ok first → length first < most → total ≡ Ok first
 first-all (Ok all) most first is few =
-    let wrapped : List GoalSeen → Result (List GoalSeen) (List ℕ) = λ goals. Ok goals in
+    let wrapped : List GoalSeen → Result (List GoalSeen) NameFaultOf = λ goals. Ok goals in
     let same : take most all ≡ first = cc in
     let count = ap length same in
     ap wrapped (sym (take-fewer most all (omega (arith, count, few))) ∙ same)
-first-all (Err text) most first is few = absurd cc
+first-all (Err fault) most first is few = absurd cc
 
 pub all-first : (layers : List LayerOf) (goals : List NamedGoalOf) (most : ℕ) (first : List GoalSeen) → first_goals layers goals most ≡ Ok first → length first < most → goals_named layers goals ≡ Ok first
 unfolding first_goals
 all-first layers goals most first is few = first-all (goals_named layers goals) most first is few
 
-missing-all : (total : Result (List GoalSeen) (List ℕ)) (most : ℕ) (text : List ℕ) → (total >>= λ all. Ok (take most all)) ≡ Err text → total ≡ Err text
-missing-all (Ok all) most text is = absurd cc
-missing-all (Err other) most text is = is
+missing-all : (total : Result (List GoalSeen) NameFaultOf) (most : ℕ) (fault : NameFaultOf) → (total >>= λ all. Ok (take most all)) ≡ Err fault → total ≡ Err fault
+missing-all (Ok all) most fault is = absurd cc
+missing-all (Err other) most fault is = is
 
-pub all-missing : (layers : List LayerOf) (goals : List NamedGoalOf) (most : ℕ) (text : List ℕ) → first_goals layers goals most ≡ Err text → goals_named layers goals ≡ Err text
+pub all-missing : (layers : List LayerOf) (goals : List NamedGoalOf) (most : ℕ) (fault : NameFaultOf) → first_goals layers goals most ≡ Err fault → goals_named layers goals ≡ Err fault
 unfolding first_goals
-all-missing layers goals most text is = missing-all (goals_named layers goals) most text is
+all-missing layers goals most fault is = missing-all (goals_named layers goals) most fault is

@@ -1,3 +1,4 @@
+pub mod FoundLaws
 pub mod SoughtSteps
 pub mod PlacesSteps
 pub mod IdSteps
@@ -13,10 +14,13 @@ pub mod SideBySide
 pub mod MergedSteps
 pub mod NamedSteps
 pub mod IdLabels
+pub mod ColonSteps
+pub mod PackageSteps
 pub mod WordFileSteps
 pub mod AskedSteps
 pub mod TellsSteps
 pub mod WordSteps
 pub mod FirstSteps
 pub mod WordSetSteps
+pub mod PairWordsSteps
 pub mod PairSteps

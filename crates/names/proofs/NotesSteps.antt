@@ -23,10 +23,9 @@ use Rattle.names.specs.declared.noted.Noted.{Noted}
 use Rattle.names.specs.declared.passed.Passed.{Passed}
 use Rattle.names.specs.IdsOfType.{id_of_number, numbers_of_type}
 use Rattle.names.specs.Label.{LabelOf, is_same}
-use Rattle.names.specs.Noted.{by_number, id_at, if_named, is_in, number_of, shared_number, AddsLabels, AreNoted, Notes, Puts}
+use Rattle.names.specs.Noted.{by_number, id_at, is_in, number_of, shared_number, AddsLabels, AreNoted, Notes, Puts}
 use Rattle.names.specs.NameText.{name_text}
 use Rattle.names.specs.Passed.{was_passed, HaveSameNames}
-use Rattle.names.specs.Shared.{if_shared}
 use Rattle.names.specs.StackLabels.{Labelled, first_with, name_of_parts, name_of_row, named}
 use Rattle.names.proofs.LabelSteps.{label_cmp_total}
 use Rattle.names.proofs.NamePlaces.{same_type_name, same_key_name}

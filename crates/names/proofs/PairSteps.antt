@@ -1,74 +1,25 @@
 -- Which pairs words ask for.
-use Rattle.std.proofs.Common.{◌≡◌, ℕ, ◌==◌, ◌||◌, not, Bool, true, false, cond, List, [], ◌∷◌, ◌++◌, map, length, filter, find, Option, Some, None, Ok, Err, ◌⊎◌, ⊎_elim, refl, sym, ap, ◌∙◌, arith}
-use Rattle.std.proofs.Math.Bool.{or-false}
+use Rattle.std.proofs.Common.{◌≡◌, ◌==◌, ◌||◌, Bool, true, false, cond, List, [], ◌∷◌, ◌++◌, map, length, filter, Option, Some, None, Ok, Err, ◌⊎◌, ⊎_elim, refl, sym, ap, ◌∙◌, arith}
 use Rattle.std.proofs.Math.Path.{fun_ext}
 use Rattle.std.proofs.lemmas.Bool.{eqb-true}
 use Rattle.std.proofs.lemmas.List.{append-nil, nil_from_length}
-use Rattle.std.proofs.lemmas.List.Folds.{list_any-append}
 use Rattle.std.specs.List.{items_where_true, list_any}
-use Rattle.std.specs.Option.{option_map}
+use Rattle.std.specs.Option.{option_or}
 use Rattle.std.specs.Vec.Iter.{into_iter_items, into_iter_len}
 use Rattle.std.specs.declared.vec.IntoIter.{IntoIter}
+use Rattle.names.specs.declared.found.Found.{Found}
 use Rattle.names.specs.declared.named_set.NamedSet.{NamedSet}
-use Rattle.names.specs.Named as word
-use Rattle.names.specs.NamedSet.{NamedSetOf, SetOfOne, SetOfType, SetOfAll, named_set_of}
+use Rattle.names.specs.NameFault.{NameFaultOf}
+use Rattle.names.specs.NamedSet.{NamedSetOf, named_set_of}
 use Rattle.names.specs.declared.pair.NamePair.{NamePair}
-use Rattle.names.specs.declared.pair.Sides.{Sides}
-use Rattle.names.specs.declared.pair.Sides.TheVariants.{Removed, Added, Both}
-use Rattle.names.specs.Label.{LabelOf, ByName, ById}
+use Rattle.names.specs.Packages.{PackageNameOf}
 use Rattle.names.specs.Pairs.{PairOf, pair_of}
-use Rattle.res_value.specs.declared.res_id.ResId.{ResId}
+use Rattle.names.specs.PairWords.{unless, words_for}
 use Rattle.names.specs.declared.word_set.WordSet.{WordSet}
-use Rattle.names.specs.NamedPairs.{is_on_a_side, is_named, is_of_type, asks_for, text_of_set, first_missing, unless_missing, is_asked, pairs_named}
-use Rattle.names.specs.WordSet.{has_word, is_same, by_id, by_name, words_for, words_for_sides, words_for_label}
+use Rattle.names.specs.NamedPairs.{fault_of_found, first_fault, found_of_pairs, is_asked, pairs_in, unless_fault}
+use Rattle.names.specs.WordSet.{has_word, is_same}
+use Rattle.names.proofs.PairWordsSteps.{asks-words}
 use Rattle.names.proofs.WordSetSteps.{is_same-sym}
-
--- ---- the words that ask for a pair
-
--- an id is that of a side, and never a label
-id-sides : (id : ResId) (sides : Sides) → list_any (is_same (by_id id)) (words_for_sides sides) ≡ is_on_a_side id sides
-id-sides id (Removed old) = or-false (id.0 == old.0)
-id-sides id (Added new) = or-false (id.0 == new.0)
-id-sides id (Both old new) = ap (λ (b : Bool). id.0 == old.0 || b) (or-false (id.0 == new.0))
-
-id-label : (id : ResId) (label : LabelOf) → list_any (is_same (by_id id)) (words_for_label label) ≡ false
-id-label id (ByName name) = refl
-id-label id (ById other) = refl
-
--- a name and a type are those of a label, and never a side
-name-sides : (type_name entry_name : List ℕ) (sides : Sides) → list_any (is_same (by_name type_name entry_name)) (words_for_sides sides) ≡ false
-name-sides type_name entry_name (Removed old) = refl
-name-sides type_name entry_name (Added new) = refl
-name-sides type_name entry_name (Both old new) = refl
-
-name-label : (type_name entry_name : List ℕ) (label : LabelOf) → list_any (is_same (by_name type_name entry_name)) (words_for_label label) ≡ is_named type_name entry_name label
-name-label type_name entry_name (ByName name) = or-false (is_named type_name entry_name (ByName name))
-name-label type_name entry_name (ById id) = refl
-
-type-sides : (type_name : List ℕ) (sides : Sides) → list_any (is_same (SetOfType type_name)) (words_for_sides sides) ≡ false
-type-sides type_name (Removed old) = refl
-type-sides type_name (Added new) = refl
-type-sides type_name (Both old new) = refl
-
-type-label : (type_name : List ℕ) (label : LabelOf) → list_any (is_same (SetOfType type_name)) (words_for_label label) ≡ is_of_type type_name label
-type-label type_name (ByName name) = or-false (is_of_type type_name (ByName name))
-type-label type_name (ById id) = refl
-
--- a word asks for a pair where it is among the words that do
-pub asks-words : (one : NamedSetOf) (pair : PairOf) → list_any (is_same one) (words_for pair) ≡ asks_for one pair
-asks-words (SetOfOne (word.ById id)) pair =
-    list_any-append (is_same (by_id id)) (words_for_sides pair.sides) (words_for_label pair.label)
-    ∙ ap (λ (b : Bool). list_any (is_same (by_id id)) (words_for_sides pair.sides) || b) (id-label id pair.label)
-    ∙ or-false (list_any (is_same (by_id id)) (words_for_sides pair.sides)) ∙ id-sides id pair.sides
-asks-words (SetOfOne (word.ByName type_name entry_name)) pair =
-    list_any-append (is_same (by_name type_name entry_name)) (words_for_sides pair.sides) (words_for_label pair.label)
-    ∙ ap (λ (b : Bool). b || list_any (is_same (by_name type_name entry_name)) (words_for_label pair.label)) (name-sides type_name entry_name pair.sides)
-    ∙ name-label type_name entry_name pair.label
-asks-words (SetOfType type_name) pair =
-    list_any-append (is_same (SetOfType type_name)) (words_for_sides pair.sides) (words_for_label pair.label)
-    ∙ ap (λ (b : Bool). b || list_any (is_same (SetOfType type_name)) (words_for_label pair.label)) (type-sides type_name pair.sides)
-    ∙ type-label type_name pair.label
-asks-words SetOfAll pair = refl
 
 -- ---- whether some word asks for a pair
 
@@ -93,14 +44,14 @@ any_swap {A} {B} related (x ∷ xs) ys =
     ap (λ (any : Bool). list_any (related x) ys || any) (any_swap related xs ys)
     ∙ any_or (related x) (λ (y : B). list_any (λ x. related x y) xs) ys
 
-pub asked-words : (words : WordSet) (sets : List NamedSetOf) (pair : PairOf) → ((one : NamedSetOf) → has_word words one ≡ list_any (is_same one) sets)
-    → list_any (has_word words) (words_for pair) ≡ is_asked sets pair
-asked-words words sets pair are =
-    ap (λ (has : NamedSetOf → Bool). list_any has (words_for pair)) (fun_ext (λ (one : NamedSetOf). are one))
-    ∙ any_swap is_same (words_for pair) sets
+pub asked-words : (packages : List PackageNameOf) (words : WordSet) (sets : List NamedSetOf) (pair : PairOf) → ((one : NamedSetOf) → has_word words one ≡ list_any (is_same one) sets)
+    → list_any (has_word words) (words_for packages pair) ≡ is_asked packages sets pair
+asked-words packages words sets pair are =
+    ap (λ (has : NamedSetOf → Bool). list_any has (words_for packages pair)) (fun_ext (λ (one : NamedSetOf). are one))
+    ∙ any_swap is_same (words_for packages pair) sets
     ∙ ap (λ (asks : NamedSetOf → Bool). list_any asks sets)
     (fun_ext (λ (set : NamedSetOf).
-    ap (λ (same : NamedSetOf → Bool). list_any same (words_for pair)) (fun_ext (λ (one : NamedSetOf). is_same-sym one set)) ∙ asks-words set pair))
+    ap (λ (same : NamedSetOf → Bool). list_any same (words_for packages pair)) (fun_ext (λ (one : NamedSetOf). is_same-sym one set)) ∙ asks-words packages set pair))
 
 map_same : {A B C : Type 0} (f : A → C) (view : A → B) (g : B → C) → ((x : A) → f x ≡ g (view x)) → (xs : List A) → map f xs ≡ map g (map view xs)
 map_same f view g same [] = refl
@@ -108,10 +59,11 @@ map_same {A} {B} {C} f view g same (x ∷ xs) =
     ap (λ (c : C). c ∷ map f xs) (same x) ∙ ap (λ (cs : List C). g (view x) ∷ cs) (map_same f view g same xs)
 
 -- the same of each pair
-pub each-asked : (words : WordSet) (sets : List NamedSetOf) (pairs : List NamePair) → ((one : NamedSetOf) → has_word words one ≡ list_any (is_same one) sets)
-    → map (λ pair. list_any (has_word words) (words_for (pair_of pair))) pairs ≡ map (is_asked sets) (map pair_of pairs)
-each-asked words sets pairs are =
-    map_same (λ (pair : NamePair). list_any (has_word words) (words_for (pair_of pair))) pair_of (is_asked sets) (λ (pair : NamePair). asked-words words sets (pair_of pair) are) pairs
+pub each-asked : (packages : List PackageNameOf) (words : WordSet) (sets : List NamedSetOf) (pairs : List NamePair) → ((one : NamedSetOf) → has_word words one ≡ list_any (is_same one) sets)
+    → map (λ pair. list_any (has_word words) (words_for packages (pair_of pair))) pairs ≡ map (is_asked packages sets) (map pair_of pairs)
+each-asked packages words sets pairs are =
+    map_same (λ (pair : NamePair). list_any (has_word words) (words_for packages (pair_of pair))) pair_of (is_asked packages sets)
+    (λ (pair : NamePair). asked-words packages words sets (pair_of pair) are) pairs
 
 -- ---- the pairs that are kept
 
@@ -152,49 +104,58 @@ where-filter test flags pairs are = ap (λ (bs : List Bool). map pair_of (items_
         ∙ first asked pair left
         ∙ ap (λ (kept : List PairOf). cond asked (pair_of pair ∷ kept) kept) (by pairs)
 
-pub kept-seen : (sets : List NamedSetOf) (flags : List Bool) (pairs kept : List NamePair) → flags ≡ map (is_asked sets) (map pair_of pairs) → kept ≡ items_where_true flags pairs
-    → map pair_of kept ≡ filter (is_asked sets) (map pair_of pairs)
-kept-seen sets flags pairs kept are is = ap (λ (ps : List NamePair). map pair_of ps) is ∙ where-filter (is_asked sets) flags pairs are
+pub kept-seen : (packages : List PackageNameOf) (sets : List NamedSetOf) (flags : List Bool) (pairs kept : List NamePair) → flags ≡ map (is_asked packages sets) (map pair_of pairs) → kept ≡ items_where_true flags pairs
+    → map pair_of kept ≡ filter (is_asked packages sets) (map pair_of pairs)
+kept-seen packages sets flags pairs kept are is = ap (λ (ps : List NamePair). map pair_of ps) is ∙ where-filter (is_asked packages sets) flags pairs are
 
--- ---- the first word that asks for none
+-- ---- the fault of the first word that has one
 
-pub missing-seen : (words : WordSet) (sets : List NamedSet) (pairs : List PairOf) → ((one : NamedSetOf) → has_word words one ≡ list_any (asks_for one) pairs)
-    → option_map named_set_of (find (λ set. not (has_word words (named_set_of set))) sets) ≡ first_missing (map named_set_of sets) pairs
-missing-seen words sets pairs are = by sets
-  where
-    lacks : NamedSetOf → Bool
-    lacks one = not (list_any (asks_for one) pairs)
+pub unless-none : (fault : Option NameFaultOf) → unless fault ≡ Ok tt → fault ≡ None
+unless-none None is = refl
+unless-none (Some fault) is = absurd cc
 
-    first : (b : Bool) (set : NamedSet) (found : Option NamedSet) → option_map named_set_of (cond b (Some set) found) ≡ cond b (Some (named_set_of set)) (option_map named_set_of found)
-    first true set found = refl
-    first false set found = refl
+pub unless-some : (fault : Option NameFaultOf) (told : NameFaultOf) → unless fault ≡ Err told → fault ≡ Some told
+unless-some None told is = absurd cc
+unless-some (Some fault) told is =
+    let same : fault ≡ told = cc in ap (λ (f : NameFaultOf). Some f) same
 
-    by : (sets : List NamedSet) → option_map named_set_of (find (λ set. not (has_word words (named_set_of set))) sets) ≡ find (λ one. not (list_any (asks_for one) pairs)) (map named_set_of sets)
-    by [] = refl
-    by (set ∷ sets) =
-        first (not (has_word words (named_set_of set))) set (find (λ set. not (has_word words (named_set_of set))) sets)
-        ∙ ap (λ (b : Bool). cond (not b) (Some (named_set_of set)) (option_map named_set_of (find (λ set. not (has_word words (named_set_of set))) sets))) (are (named_set_of set))
-        ∙ ap (λ (found : Option NamedSetOf). cond (not (list_any (asks_for (named_set_of set)) pairs)) (Some (named_set_of set)) found) (by sets)
+pub fault-none : (packages : List PackageNameOf) (pairs : List PairOf) → first_fault packages pairs [] ≡ None
+unfolding first_fault
+fault-none packages pairs = refl
+
+-- the first word has none
+pub fault-past : (packages : List PackageNameOf) (pairs : List PairOf) (set : NamedSetOf) (sets : List NamedSetOf) (found : Found) → found ≡ found_of_pairs packages pairs set
+    → unless (fault_of_found packages set found) ≡ Ok tt → first_fault packages pairs (set ∷ sets) ≡ first_fault packages pairs sets
+unfolding first_fault
+fault-past packages pairs set sets found is none =
+    ap (λ (fault : Option NameFaultOf). option_or fault (first_fault packages pairs sets))
+    (ap (fault_of_found packages set) (sym is) ∙ unless-none (fault_of_found packages set found) none)
+
+-- it has one
+pub fault-here : (packages : List PackageNameOf) (pairs : List PairOf) (set : NamedSetOf) (sets : List NamedSetOf) (found : Found) (told : NameFaultOf) → found ≡ found_of_pairs packages pairs set
+    → unless (fault_of_found packages set found) ≡ Err told → first_fault packages pairs (set ∷ sets) ≡ Some told
+unfolding first_fault
+fault-here packages pairs set sets found told is some =
+    ap (λ (fault : Option NameFaultOf). option_or fault (first_fault packages pairs sets))
+    (ap (fault_of_found packages set) (sym is) ∙ unless-some (fault_of_found packages set found) told some)
 
 -- ---- all words
 
-pub none_from_not_some : (found : Option NamedSet) → ((set : NamedSet) → found ≡ Some set → ⊥) → option_map named_set_of found ≡ None
-none_from_not_some None others = refl
-none_from_not_some (Some set) others = absurd (others set refl)
+pub named-none : (packages : List PackageNameOf) (sets : List NamedSet) (pairs : List PairOf) → (length sets == 0) ≡ true → pairs_in packages (map named_set_of sets) pairs ≡ Ok pairs
+unfolding pairs_in
+named-none packages sets pairs empty =
+    ap (λ (none : List NamedSet). pairs_in packages (map named_set_of none) pairs) (nil_from_length sets (eqb-true (length sets) 0 empty))
 
-pub named-none : (sets : List NamedSet) (pairs : List PairOf) → (length sets == 0) ≡ true → pairs_named (map named_set_of sets) pairs ≡ Ok pairs
-unfolding pairs_named
-named-none sets pairs empty = ap (λ (none : List NamedSet). pairs_named (map named_set_of none) pairs) (nil_from_length sets (eqb-true (length sets) 0 empty))
+pub named-fault : (packages : List PackageNameOf) (sets : List NamedSetOf) (pairs : List PairOf) (fault : NameFaultOf) → unless (first_fault packages pairs sets) ≡ Err fault → pairs_in packages sets pairs ≡ Err fault
+unfolding pairs_in first_fault
+named-fault packages [] pairs fault some = absurd cc
+named-fault packages (first ∷ sets) pairs fault some =
+    ap (λ (found : Option NameFaultOf). unless_fault found (filter (is_asked packages (first ∷ sets)) pairs)) (unless-some (first_fault packages pairs (first ∷ sets)) fault some)
 
-pub named-missing : (sets : List NamedSetOf) (pairs : List PairOf) (set : NamedSetOf) → first_missing sets pairs ≡ Some set → pairs_named sets pairs ≡ Err (text_of_set set)
-unfolding pairs_named
-named-missing [] pairs set missing = absurd cc
-named-missing (first ∷ sets) pairs set missing = ap (λ (found : Option NamedSetOf). unless_missing found (filter (is_asked (first ∷ sets)) pairs)) missing
-
-pub named-kept : (sets : List NamedSet) (pairs : List PairOf) → (length sets == 0) ≡ false → first_missing (map named_set_of sets) pairs ≡ None
-    → pairs_named (map named_set_of sets) pairs ≡ Ok (filter (is_asked (map named_set_of sets)) pairs)
-unfolding pairs_named
-named-kept [] pairs some missing = absurd cc
-named-kept (first ∷ sets) pairs some missing =
+pub named-kept : (packages : List PackageNameOf) (sets : List NamedSet) (pairs : List PairOf) → (length sets == 0) ≡ false → unless (first_fault packages pairs (map named_set_of sets)) ≡ Ok tt
+    → pairs_in packages (map named_set_of sets) pairs ≡ Ok (filter (is_asked packages (map named_set_of sets)) pairs)
+unfolding pairs_in
+named-kept packages [] pairs some none = absurd cc
+named-kept packages (first ∷ sets) pairs some none =
     let all = map named_set_of (first ∷ sets) in
-    ap (λ (found : Option NamedSetOf). unless_missing found (filter (is_asked all) pairs)) missing
+    ap (λ (found : Option NameFaultOf). unless_fault found (filter (is_asked packages all) pairs)) (unless-none (first_fault packages pairs all) none)

@@ -6,7 +6,7 @@ use Rattle.std.proofs.lemmas.List.Elements.{Contains-push, Contains-append_left}
 use Rattle.std.proofs.lemmas.Slice.Eq.{bytes_eq-Decides}
 use Rattle.std.specs.List.{Contains}
 use Rattle.std.specs.Str.{bytes_eq}
-use Rattle.names.specs.declared.name.Name.{Name}
+use Rattle.names.specs.declared.wanted.Wanted.{Wanted}
 use Rattle.names.specs.declared.places.Places.{Places}
 use Rattle.names.specs.Places.{places_at}
 use Rattle.names.specs.Sought.{ArePlacesOf}
@@ -45,12 +45,12 @@ ArePlacesOf-next old new names name count many before pushed = λ place within.
     (cases_lt place (length names))
 
 -- the same for the names that a loop has passed
-pub ArePlacesOf-pushed : (old new : Places) (names : List Name) (count : ℕ) (d : Name) (entry : List ℕ) → count < length names → entry ≡ (get_or names count d).entry_name.now
-    → ArePlacesOf old (map (λ name. name.entry_name.now) (take count names))
+pub ArePlacesOf-pushed : (old new : Places) (names : List Wanted) (count : ℕ) (d : Wanted) (entry : List ℕ) → count < length names → entry ≡ (get_or names count d).name.entry_name.now
+    → ArePlacesOf old (map (λ name. name.name.entry_name.now) (take count names))
     → ((bytes : List ℕ) → places_at new bytes ≡ cond (bytes_eq entry bytes) (places_at old entry ++ count ∷ []) (places_at old bytes))
-    → ArePlacesOf new (map (λ name. name.entry_name.now) (take (count + 1) names))
+    → ArePlacesOf new (map (λ name. name.name.entry_name.now) (take (count + 1) names))
 ArePlacesOf-pushed old new names count d entry within is before pushed =
-    let f : Name → List ℕ = λ name. name.entry_name.now in
+    let f : Wanted → List ℕ = λ name. name.name.entry_name.now in
     let many : length (map f (take count names)) ≡ count = length-map (take count names) f ∙ length-take-le count names (omega (arith, within)) in
     subst (λ (texts : List (List ℕ)). ArePlacesOf new texts) (ap (λ (t : List ℕ). map f (take count names) ++ t ∷ []) is ∙ sym (map_more f names count d within))
     (ArePlacesOf-next old new (map f (take count names)) entry count many before pushed)

@@ -1,56 +1,53 @@
 -- What is known of names after some rows.
-use Rattle.std.proofs.Common.{◌≡◌, ℕ, ◌<◌, ◌≤◌, inl, inr, Bool, true, false, Option, Some, None, List, [], ◌∷◌, ◌++◌, map, find, length, set, get_or, refl, sym, ap, subst, ◌∙◌, cond, arith, ⊎_elim}
+use Rattle.std.proofs.Common.{◌≡◌, ℕ, ◌<◌, ◌≤◌, inl, inr, Bool, true, false, Option, Some, None, List, [], ◌∷◌, ◌++◌, map, find, filter, length, set, get_or, refl, sym, ap, subst, ◌∙◌, cond, arith, ⊎_elim}
 use Rattle.std.proofs.lemmas.Bool.{cases_Bool, cases_eq, and_parts}
 use Rattle.std.proofs.lemmas.Grind.{get_or-set_at}
 use Rattle.std.proofs.lemmas.List.{ext_get_or, get_or-map, get_or-set_other, get_or_default, length-map, length-set, nil_from_length}
 use Rattle.std.proofs.lemmas.List.Elements.{Contains-push_cases}
-use Rattle.std.specs.List.{Contains}
+use Rattle.std.specs.List.{Contains, flat_map}
 use Rattle.std.proofs.lemmas.Slice.Eq.{bytes_eq-Decides}
 use Rattle.std.specs.Option.{option_map, option_map_or, option_or}
 use Rattle.std.specs.Str.{bytes_eq}
 use Rattle.overlay_map.specs.resource_table.Names.{key_name_in, type_name_in}
 use Rattle.overlay_map.specs.resource_table.Table.{TableOf, rows_of}
+use Rattle.overlay_map.specs.res_value.ResId.{package_of}
 use Rattle.overlay_map.specs.res_value.declared.res_id.ResId.{ResId}
 use Rattle.overlay_map.specs.type_chunks.Row.{RowOf}
+use Rattle.names.specs.declared.found.Found.{Found}
+use Rattle.names.specs.declared.packages.Packages.{Packages}
 use Rattle.names.specs.declared.places.Places.{Places}
 use Rattle.names.specs.declared.name.Name.{Name}
 use Rattle.names.specs.declared.sought.Sought.{Sought}
+use Rattle.names.specs.declared.wanted.Wanted.{Wanted}
+use Rattle.names.specs.Found.{found_among}
+use Rattle.names.specs.FoundSoFar.{also_each, also_if, first_of}
 use Rattle.names.specs.NameText.{name_text}
-use Rattle.names.specs.Names.{name_of, is_name, found_in_tables}
+use Rattle.names.specs.Names.{NameOf, name_of, wanted_of, id_of_row, ids_in, ids_with, in_any_package, is_name, has_names, found_in_tables}
+use Rattle.names.specs.Packages.{is_asked_in, package_name_of}
 use Rattle.names.specs.Places.{places_at}
-use Rattle.names.specs.Sought.{has_name, first_of, noted, id_of_row, noted_each, noted_in, unfound, entry_names, ArePlacesOf, IsNotedAt}
+use Rattle.names.specs.Sought.{has_name, noted, noted_each, noted_in, unfound, entry_names, ArePlacesOf, IsNotedAt}
+use Rattle.names.proofs.FoundLaws.{each-among, each-append, first-among, if-again}
 
 true_not_false : true ≡ false → ⊥
 true_not_false same = cc
 
-first_of-again : (found : Option ResId) (has : Bool) (number : ℕ) → first_of (first_of found has number) has number ≡ first_of found has number
-first_of-again (Some id) has number = refl
-first_of-again None true number = refl
-first_of-again None false number = refl
-
 -- a row that was noted and is noted again
 pub noted-noted : (table : TableOf) (row : RowOf) (one : Sought) → noted table row (noted table row one) ≡ noted table row one
-noted-noted table row one = ap (λ (found : Option ResId). record one { found = found }) (first_of-again one.found (has_name table one row) row.id)
-
-first_of-other : (found : Option ResId) (number : ℕ) → first_of found false number ≡ found
-first_of-other (Some id) number = refl
-first_of-other None number = refl
+noted-noted table row one = ap (λ (found : Found). record one { found = found }) (if-again one.found (has_name table one row) (id_of_row row))
 
 -- a row that does not have the name
 pub noted-other : (table : TableOf) (row : RowOf) (one : Sought) → has_name table one row ≡ false → noted table row one ≡ one
-noted-other table row one other =
-    ap (λ (has : Bool). record one { found = first_of one.found has row.id }) other ∙ ap (λ (found : Option ResId). record one { found = found }) (first_of-other one.found row.id)
+noted-other table row one other = ap (λ (has : Bool). record one { found = also_if one.found has (id_of_row row) }) other
 
-first_of-next : (found : Option ResId) (has : Bool) (row : RowOf) (behind : Option RowOf)
-    → option_or (first_of found has row.id) (option_map id_of_row behind) ≡ option_or found (option_map id_of_row (cond has (Some row) behind))
-first_of-next (Some id) has row behind = refl
-first_of-next None true row behind = refl
-first_of-next None false row behind = refl
+each-next : (found : Found) (has : Bool) (row : RowOf) (behind : List RowOf)
+    → also_each (also_if found has (id_of_row row)) (map id_of_row behind) ≡ also_each found (map id_of_row (cond has (row ∷ behind) behind))
+each-next found true row behind = refl
+each-next found false row behind = refl
 
 -- one row, and those behind it
 pub noted_each-next : (table : TableOf) (row : RowOf) (rows : List RowOf) (one : Sought) → noted_each table rows (noted table row one) ≡ noted_each table (row ∷ rows) one
 noted_each-next table row rows one =
-    ap (λ (found : Option ResId). record one { found = found }) (first_of-next one.found (has_name table one row) row (find (has_name table one) rows))
+    ap (λ (found : Found). record one { found = found }) (each-next one.found (has_name table one row) row (filter (has_name table one) rows))
 
 pub map-noted_each-next : (table : TableOf) (row : RowOf) (rows : List RowOf) (sought : List Sought)
     → map (noted_each table rows) (map (noted table row) sought) ≡ map (noted_each table (row ∷ rows)) sought
@@ -59,21 +56,15 @@ map-noted_each-next table row rows (one ∷ others) =
     ap (λ (o : Sought). o ∷ map (noted_each table rows) (map (noted table row) others)) (noted_each-next table row rows one)
     ∙ ap (λ (os : List Sought). noted_each table (row ∷ rows) one ∷ os) (map-noted_each-next table row rows others)
 
-option_or-none : (found : Option ResId) → option_or found None ≡ found
-option_or-none (Some id) = refl
-option_or-none None = refl
-
 -- no row
 pub map-noted_each-none : (table : TableOf) (sought : List Sought) → map (noted_each table []) sought ≡ sought
 map-noted_each-none table [] = refl
-map-noted_each-none table (one ∷ others) =
-    ap (λ (found : Option ResId). record one { found = found } ∷ map (noted_each table []) others) (option_or-none one.found)
-    ∙ ap (λ (os : List Sought). one ∷ os) (map-noted_each-none table others)
+map-noted_each-none table (one ∷ others) = ap (λ (os : List Sought). one ∷ os) (map-noted_each-none table others)
 
 -- rows change no name
 pub entry_names-noted : (table : TableOf) (row : RowOf) (sought : List Sought) → entry_names (map (noted table row) sought) ≡ entry_names sought
 entry_names-noted table row [] = refl
-entry_names-noted table row (one ∷ others) = ap (λ (names : List (List ℕ)). one.name.entry_name.now ∷ names) (entry_names-noted table row others)
+entry_names-noted table row (one ∷ others) = ap (λ (names : List (List ℕ)). one.wanted.name.entry_name.now ∷ names) (entry_names-noted table row others)
 
 -- ---- the places of a row's name
 
@@ -81,10 +72,13 @@ is-some : (own : Option (List ℕ)) (text : List ℕ) → option_map_or (λ t. b
 is-some (Some own) text is = ap (λ (t : List ℕ). Some t) ((bytes_eq-Decides own text).0 is)
 is-some None text is = absurd (true_not_false (sym is))
 
-entry_name-has : (table : TableOf) (row : RowOf) (one : Sought) → has_name table one row ≡ true → name_text (key_name_in table row) ≡ Some one.name.entry_name.now
+entry_name-has : (table : TableOf) (row : RowOf) (one : Sought) → has_name table one row ≡ true → name_text (key_name_in table row) ≡ Some one.wanted.name.entry_name.now
 entry_name-has table row one has =
-    is-some (name_text (key_name_in table row)) one.name.entry_name.now
-    (and_parts (is_name (type_name_in table row) one.name.type_name.now) (is_name (key_name_in table row) one.name.entry_name.now) has).1
+    let wanted = wanted_of one.wanted in
+    let names = has_names table wanted.name.type_name wanted.name.entry_name row in
+    let parts = and_parts (is_asked_in (map package_name_of one.packages.all.now) wanted.in_package (package_of (id_of_row row))) names has in
+    is-some (name_text (key_name_in table row)) one.wanted.name.entry_name.now
+    (and_parts (is_name (type_name_in table row) wanted.name.type_name) (is_name (key_name_in table row) wanted.name.entry_name) parts.1).1
 
 some_same : (x y : List ℕ) → Some x ≡ Some y → x ≡ y
 some_same x y same = cc
@@ -100,7 +94,7 @@ HaveNamed table row places sought = (place : ℕ) (d : Sought) → place < lengt
 named-text : (table : TableOf) (row : RowOf) (sought : List Sought) (place : ℕ) (d : Sought) → place < length sought
     → has_name table (get_or sought place d) row ≡ true → name_text (key_name_in table row) ≡ Some (get_or (entry_names sought) place [])
 named-text table row sought place d within has =
-    let entry_name : Sought → List ℕ = λ one. one.name.entry_name.now in
+    let entry_name : Sought → List ℕ = λ one. one.wanted.name.entry_name.now in
     entry_name-has table row (get_or sought place d) has ∙ ap (λ (t : List ℕ). Some t) (sym (get_or-map entry_name sought place d [] within))
 
 named-places : (table : TableOf) (row : RowOf) (places : Places) (bytes : List ℕ) (sought : List Sought) → name_text (key_name_in table row) ≡ Some bytes
@@ -108,7 +102,7 @@ named-places : (table : TableOf) (row : RowOf) (places : Places) (bytes : List �
 named-places table row places bytes sought read all = λ place d within has.
     subst (λ (text : List ℕ). Contains (places_at places text) place)
     (sym (some_same _ _ (sym read ∙ named-text table row sought place d within has)))
-    (all place (omega (arith, within, length-map sought (λ (one : Sought). one.name.entry_name.now))))
+    (all place (omega (arith, within, length-map sought (λ (one : Sought). one.wanted.name.entry_name.now))))
 
 named-nowhere : (table : TableOf) (row : RowOf) (places : Places) (sought : List Sought) → name_text (key_name_in table row) ≡ None
     → ArePlacesOf places (entry_names sought) → HaveNamed table row [] sought
@@ -186,11 +180,11 @@ IsNotedAt-past table row places place old now before past = record {
 
 pub entry_names-noted_each : (table : TableOf) (rows : List RowOf) (sought : List Sought) → entry_names (map (noted_each table rows) sought) ≡ entry_names sought
 entry_names-noted_each table rows [] = refl
-entry_names-noted_each table rows (one ∷ others) = ap (λ (names : List (List ℕ)). one.name.entry_name.now ∷ names) (entry_names-noted_each table rows others)
+entry_names-noted_each table rows (one ∷ others) = ap (λ (names : List (List ℕ)). one.wanted.name.entry_name.now ∷ names) (entry_names-noted_each table rows others)
 
-pub entry_names-unfound : (names : List Name) → entry_names (map unfound names) ≡ map (λ name. name.entry_name.now) names
-entry_names-unfound [] = refl
-entry_names-unfound (name ∷ names) = ap (λ (texts : List (List ℕ)). name.entry_name.now ∷ texts) (entry_names-unfound names)
+pub entry_names-unfound : (packages : Packages) (names : List Wanted) → entry_names (map (unfound packages) names) ≡ map (λ one. one.name.entry_name.now) names
+entry_names-unfound packages [] = refl
+entry_names-unfound packages (one ∷ others) = ap (λ (texts : List (List ℕ)). one.name.entry_name.now ∷ texts) (entry_names-unfound packages others)
 
 pub map-noted_in-next : (table : TableOf) (tables : List TableOf) (sought : List Sought)
     → map (noted_in tables) (map (noted_each table (rows_of table)) sought) ≡ map (noted_in (table ∷ tables)) sought
@@ -201,37 +195,52 @@ pub map-noted_in-none : (sought : List Sought) → map (noted_in []) sought ≡ 
 map-noted_in-none [] = refl
 map-noted_in-none (one ∷ others) = ap (λ (os : List Sought). one ∷ os) (map-noted_in-none others)
 
--- what is known after one table more, and after those behind it
-found-next : (found : Option ResId) (first : Option RowOf) (behind : Option ℕ)
-    → option_or (option_map (λ id. id.0) (option_or found (option_map id_of_row first))) behind ≡ option_or (option_map (λ id. id.0) found) (option_or (option_map (λ row. row.id) first) behind)
-found-next (Some id) first behind = refl
-found-next None (Some row) behind = refl
-found-next None None behind = refl
-
-found-none : (found : Option ResId) → option_map (λ id. id.0) found ≡ option_or (option_map (λ id. id.0) found) None
-found-none (Some id) = refl
-found-none None = refl
-
 -- what is known of a name after some tables
 found-after : (tables : List TableOf) (one : Sought)
-    → option_map (λ id. id.0) (noted_in tables one).found ≡ option_or (option_map (λ id. id.0) one.found) (found_in_tables tables (name_of one.name))
-found-after [] one = found-none one.found
+    → (noted_in tables one).found ≡ also_each one.found (ids_with (map package_name_of one.packages.all.now) tables (wanted_of one.wanted))
+unfolding ids_with
+found-after [] one = refl
 found-after (table ∷ tables) one =
+    let ids = ids_in (map package_name_of one.packages.all.now) (wanted_of one.wanted) in
     found-after tables (noted_each table (rows_of table) one)
-    ∙ found-next one.found (find (has_name table one) (rows_of table)) (found_in_tables tables (name_of one.name))
+    ∙ sym (each-append one.found (ids table) (flat_map ids tables))
 
-pub found-all : (tables : List TableOf) (names : List Name)
-    → map (λ one. option_map (λ id. id.0) one.found) (map (noted_in tables) (map unfound names)) ≡ map (λ name. found_in_tables tables (name_of name)) names
-found-all tables [] = refl
-found-all tables (name ∷ names) =
-    ap (λ (o : Option ℕ). o ∷ map (λ one. option_map (λ id. id.0) one.found) (map (noted_in tables) (map unfound names))) (found-after tables (unfound name))
-    ∙ ap (λ (os : List (Option ℕ)). found_in_tables tables (name_of name) ∷ os) (found-all tables names)
+pub found-all : (packages : Packages) (tables : List TableOf) (names : List Wanted)
+    → map (λ one. one.found) (map (noted_in tables) (map (unfound packages) names)) ≡ map (λ one. found_among (ids_with (map package_name_of packages.all.now) tables (wanted_of one))) names
+found-all packages tables [] = refl
+found-all packages tables (one ∷ others) =
+    let here = found-after tables (unfound packages one) ∙ each-among (ids_with (map package_name_of packages.all.now) tables (wanted_of one)) in
+    ap (λ (o : Found). o ∷ map (λ other. other.found) (map (noted_in tables) (map (unfound packages) others))) here
+    ∙ ap (λ (os : List Found). found_among (ids_with (map package_name_of packages.all.now) tables (wanted_of one)) ∷ os) (found-all packages tables others)
 
-map-found : (sought : List Sought) → map (option_map (λ id. id.0)) (map (λ one. one.found) sought) ≡ map (λ one. option_map (λ id. id.0) one.found) sought
-map-found [] = refl
-map-found (one ∷ others) = ap (λ (os : List (Option ℕ)). option_map (λ id. id.0) one.found ∷ os) (map-found others)
+-- ---- the first id of a name, in any package
 
-pub found-all-mapped : (tables : List TableOf) (names : List Name) (sought : List Sought) → sought ≡ map (noted_in tables) (map unfound names)
-    → map (option_map (λ id. id.0)) (map (λ one. one.found) sought) ≡ map (λ name. found_in_tables tables (name_of name)) names
-found-all-mapped tables names sought searched =
-    map-found sought ∙ ap (λ (s : List Sought). map (λ one. option_map (λ id. id.0) one.found) s) searched ∙ found-all tables names
+first-row : (name : NameOf) (table : TableOf) (rows : List RowOf) (behind : List ResId)
+    → option_map (λ id. id.0) (first_of (found_among (map id_of_row (filter (has_names table name.type_name name.entry_name) rows) ++ behind)))
+    ≡ option_or (option_map (λ row. row.id) (find (has_names table name.type_name name.entry_name) rows)) (option_map (λ id. id.0) (first_of (found_among behind)))
+first-row name table [] behind = refl
+first-row name table (row ∷ rows) behind = by (has_names table name.type_name name.entry_name row) (first-row name table rows behind)
+  where
+    test : RowOf → Bool
+    test other = has_names table name.type_name name.entry_name other
+
+    by : (has : Bool) → option_map (λ id. id.0) (first_of (found_among (map id_of_row (filter test rows) ++ behind))) ≡ option_or (option_map (λ r. r.id) (find test rows)) (option_map (λ id. id.0) (first_of (found_among behind)))
+        → option_map (λ id. id.0) (first_of (found_among (map id_of_row (cond has (row ∷ filter test rows) (filter test rows)) ++ behind)))
+        ≡ option_or (option_map (λ r. r.id) (cond has (Some row) (find test rows))) (option_map (λ id. id.0) (first_of (found_among behind)))
+    by true others = ap (option_map (λ id. id.0)) (first-among (id_of_row row) (map id_of_row (filter test rows) ++ behind))
+    by false others = others
+
+first-found : (tables : List TableOf) (name : Name)
+    → option_map (λ id. id.0) (first_of (found_among (ids_with [] tables (wanted_of (in_any_package name))))) ≡ found_in_tables tables (name_of name)
+unfolding ids_with
+first-found [] name = refl
+first-found (table ∷ tables) name =
+    first-row (name_of name) table (rows_of table) (flat_map (ids_in [] (wanted_of (in_any_package name))) tables)
+    ∙ ap (option_or (option_map (λ row. row.id) (find (has_names table (name_of name).type_name (name_of name).entry_name) (rows_of table)))) (first-found tables name)
+
+pub first-all : (tables : List TableOf) (names : List Name)
+    → map (option_map (λ id. id.0)) (map first_of (map (λ one. found_among (ids_with [] tables (wanted_of one))) (map in_any_package names))) ≡ map (λ name. found_in_tables tables (name_of name)) names
+first-all tables [] = refl
+first-all tables (name ∷ names) =
+    ap (λ (o : Option ℕ). o ∷ map (option_map (λ id. id.0)) (map first_of (map (λ one. found_among (ids_with [] tables (wanted_of one))) (map in_any_package names)))) (first-found tables name)
+    ∙ ap (λ (os : List (Option ℕ)). found_in_tables tables (name_of name) ∷ os) (first-all tables names)

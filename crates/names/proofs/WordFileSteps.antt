@@ -10,7 +10,8 @@ use Rattle.std.specs.Str.Pattern.{FindsCharPrefix, StripsPrefix}
 use Rattle.std.proofs.lemmas.Bool.Decides.{Decides-eqb}
 use Rattle.std.proofs.lemmas.List.{append-nil, drop_more, drop_all, get_or-map, length-map}
 use Rattle.std.proofs.lemmas.Slice.Eq.{starts_is}
-use Rattle.names.specs.WordFile.{byte_order_mark, behind_sign, is_line_feed, is_word, without_mark, words_in_text}
+use Rattle.names.specs.Named.{behind_sign}
+use Rattle.names.specs.WordFile.{byte_order_mark, is_line_feed, is_word, without_mark, words_in_text}
 
 -- ---- behind the sign
 

@@ -1,5 +1,5 @@
 -- What names stand for, told name by name. Contracts within the crate alone speak of this.
-use Rattle.std.specs.Prelude.{◌≡◌, ℕ, List, map, Option, Some, Ok, Vec}
+use Rattle.std.specs.Prelude.{◌≡◌, ℕ, List, map, Option, Some, Vec}
 use Rattle.std.specs.Borrow.{Bor}
 use Rattle.std.specs.BTreeMap.{BTreeMap, get}
 use Rattle.std.specs.Cmp.Lexicographic.{slice_cmp}
@@ -11,9 +11,10 @@ use Rattle.std.specs.declared.rc.Rc.{Rc}
 use Rattle.std.specs.Vec.Iter.{into_iter_items}
 use Rattle.overlay_map.specs.Layer.{LayerOf, base_tables}
 use Rattle.res_value.specs.declared.res_id.ResId.{ResId}
-use Rattle.names.specs.Names.{NameOf}
+use Rattle.names.specs.Names.{WantedOf}
 use Rattle.names.specs.declared.finder.Finder.{Finder}
-use Rattle.names.specs.NamedIds.{id_of_name, ids_of_rows}
+use Rattle.names.specs.NamedIds.{found_of_name, ids_of_rows, packages_of}
+use Rattle.names.specs.Packages.{package_name_of}
 
 -- the order of the names of types
 abbrev pub type_cmp : Option (Bor (List ℕ)) → Option (Bor (List ℕ)) → Ordering
@@ -29,10 +30,11 @@ Known = BTreeMap (Option (Bor (List ℕ))) Ids
 abbrev pub AreKnown : List LayerOf → Known → Type 0
 AreKnown layers known =
     (type_name : Option (Bor (List ℕ))) (ids : Ids) → get type_cmp known type_name ≡ Some ids
-    → ids_of_rows layers (option_map (λ name. name.now) type_name) ≡ Ok ids.value.items
+    → ids_of_rows layers (option_map (λ name. name.now) type_name) ≡ ids.value.items
 
 -- over these layers, what these names stand for is still to be told
-pub record Tells (layers : List LayerOf) (names : List NameOf) (finder : Finder) : Type 0 where
+pub record Tells (layers : List LayerOf) (names : List WantedOf) (finder : Finder) : Type 0 where
   pub tables : map (λ table. table.now) finder.tables.items ≡ base_tables layers
-  pub found : into_iter_items finder.found ≡ map (id_of_name layers) names
+  pub packages : map package_name_of finder.packages.items ≡ packages_of layers
+  pub found : into_iter_items finder.found ≡ map (found_of_name layers) names
   pub known : AreKnown layers finder.known

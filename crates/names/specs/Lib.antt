@@ -13,10 +13,16 @@ pub mod Noted
 pub mod Merged
 pub mod Passed
 pub mod Shared
+pub mod AndroidTypes
+pub mod PackageWord
+pub mod Packages
+pub mod Found
+pub mod FoundSoFar
 pub mod Named
 pub mod NamedSet
 pub mod NamedGoal
 pub mod WordFile
+pub mod WordText
 pub mod NameFault
 pub mod NamedIds
 pub mod NamedGoals
@@ -25,4 +31,5 @@ pub mod Finder
 pub mod WordGoals
 pub mod NamedPairs
 pub mod WordSet
+pub mod PairWords
 pub use Rattle.overlay_map.specs as overlay_map

@@ -1,6 +1,6 @@
 -- What a word asks where goals may stand: a goal of ids, a set of resources, each of which is a goal, or an attribute under
 -- styles, as `attr/colorAccent@style/Theme,style/Other`.
-use Rattle.std.specs.Prelude.{ℕ, List, map, Result, Ok, Err, ok_or}
+use Rattle.std.specs.Prelude.{ℕ, List, map, Option, Some, None, Result, Ok, Err, ok_or}
 use Rattle.contract_words.specs.Faults.{◌>>=◌}
 use Rattle.json_input.specs.Each.{each}
 use Rattle.res_value.specs.declared.goal_fault.GoalFault.{GoalFault}
@@ -26,17 +26,22 @@ named_goal_of (Attr attr styles) = GoalOfAttr (named_of attr) (map named_of styl
 unfoldable pub style_in : List ℕ → Result NamedOf GoalFault
 style_in text = ok_or (named_in text) Malformed
 
--- what these parts ask for, by names and ids
-unfoldable pub named_in_parts : GoalWordOf → Result NamedGoalOf GoalFault
-named_in_parts (PlainWord text) = ok_or (named_set_in text) Malformed >>= λ set. Ok (GoalsOfSet set)
-named_in_parts (UnderStyles attr styles) = do
+-- an attribute under styles, by names and ids
+unfoldable pub attr_of_parts : GoalWordOf → Result NamedGoalOf GoalFault
+attr_of_parts (PlainWord text) = Err Malformed
+attr_of_parts (UnderStyles attr styles) = do
   attr ← style_in attr
   styles ← each style_in styles
   Ok (GoalOfAttr attr styles)
 
--- the same of a word
+-- a set that was read, or else an attribute under styles
+abbrev pub or_attr : Option NamedSetOf → List ℕ → Result NamedGoalOf GoalFault
+or_attr (Some set) word = Ok (GoalsOfSet set)
+or_attr None word = goal_word_in word >>= attr_of_parts
+
+-- what a word asks for by names
 unfoldable pub with_names_in : List ℕ → Result NamedGoalOf GoalFault
-with_names_in word = goal_word_in word >>= named_in_parts
+with_names_in word = or_attr (named_set_in word) word
 
 -- a goal that was read, or else what the word asks for with names
 abbrev pub or_with_names : Result GoalSeen GoalFault → List ℕ → Result NamedGoalOf GoalFault

@@ -1,38 +1,31 @@
 -- Names that are looked for. Contracts within the crate alone speak of this.
-use Rattle.std.specs.Prelude.{◌≡◌, ℕ, ◌<◌, Bool, true, false, ◌⊎◌, List, [], ◌∷◌, map, find, length, slice_index_or, Option, Some, None}
+use Rattle.std.specs.Prelude.{◌≡◌, ℕ, ◌<◌, Bool, true, ◌⊎◌, List, [], ◌∷◌, map, filter, length, slice_index_or}
 use Rattle.std.specs.List.{Contains}
-use Rattle.std.specs.Option.{option_map, option_or}
 use Rattle.overlay_map.specs.resource_table.Table.{TableOf, rows_of}
-use Rattle.overlay_map.specs.res_value.declared.res_id.ResId.{ResId}
 use Rattle.overlay_map.specs.type_chunks.Row.{RowOf}
-use Rattle.names.specs.declared.name.Name.{Name}
+use Rattle.names.specs.declared.found.Found.TheVariants.{Nothing}
+use Rattle.names.specs.declared.packages.Packages.{Packages}
 use Rattle.names.specs.declared.passed.Passed.{Passed}
 use Rattle.names.specs.declared.places.Places.{Places}
 use Rattle.names.specs.declared.sought.Sought.{Sought}
-use Rattle.names.specs.Names.{has_names}
+use Rattle.names.specs.declared.wanted.Wanted.{Wanted}
+use Rattle.names.specs.FoundSoFar.{also_if, also_each}
+use Rattle.names.specs.Names.{id_of_row, is_wanted, wanted_of}
+use Rattle.names.specs.Packages.{package_name_of}
 use Rattle.names.specs.Passed.{was_passed}
 use Rattle.names.specs.Places.{places_at}
 
 -- a row that has the name
 abbrev pub has_name : TableOf → Sought → RowOf → Bool
-has_name table sought row = has_names table sought.name.type_name.now sought.name.entry_name.now row
-
--- what was found before, or else this id where the row has the name
-abbrev pub first_of : Option ResId → Bool → ℕ → Option ResId
-first_of (Some id) has number = Some id
-first_of None true number = Some (record { 0 = number })
-first_of None false number = None
+has_name table sought row = is_wanted (map package_name_of sought.packages.all.now) (wanted_of sought.wanted) table row
 
 -- what is known of a name after one row more
 abbrev pub noted : TableOf → RowOf → Sought → Sought
-noted table row sought = record sought { found = first_of sought.found (has_name table sought row) row.id }
-
-abbrev pub id_of_row : RowOf → ResId
-id_of_row row = record { 0 = row.id }
+noted table row sought = record sought { found = also_if sought.found (has_name table sought row) (id_of_row row) }
 
 -- what is known of a name after some rows more
 abbrev pub noted_each : TableOf → List RowOf → Sought → Sought
-noted_each table rows sought = record sought { found = option_or sought.found (option_map id_of_row (find (has_name table sought) rows)) }
+noted_each table rows sought = record sought { found = also_each sought.found (map id_of_row (filter (has_name table sought) rows)) }
 
 -- what is known of a name after some tables more
 abbrev pub noted_in : List TableOf → Sought → Sought
@@ -40,11 +33,14 @@ noted_in [] sought = sought
 noted_in (table ∷ tables) sought = noted_in tables (noted_each table (rows_of table) sought)
 
 -- a name of which nothing is known
-abbrev pub unfound : Name → Sought
-unfound name = record { name = name; found = None }
+abbrev pub unfound : Packages → Wanted → Sought
+unfound packages wanted = record { packages = packages; wanted = wanted; found = Nothing }
+
+abbrev pub entry_name_of : Sought → List ℕ
+entry_name_of one = one.wanted.name.entry_name.now
 
 abbrev pub entry_names : List Sought → List (List ℕ)
-entry_names sought = map (λ one. one.name.entry_name.now) sought
+entry_names sought = map entry_name_of sought
 
 -- the place of each of these entries' names is among those of the name
 abbrev pub ArePlacesOf : Places → List (List ℕ) → Type 0

@@ -1,19 +1,15 @@
--- Files of words. A word `@PATH` where several may stand names a file that has such words, one a line. `@` alone, and `@` with
--- ids behind it, name none.
-use Rattle.std.specs.Prelude.{ℕ, ◌==◌, ◌||◌, Bool, false, not, List, [], ◌∷◌, map, length, drop, nat_eq, Option, Some, None, if◌then◌else◌}
+-- Files of words. A word `@PATH` where several may stand names a file that has such words, one a line. `@` alone, `@` with ids
+-- behind it, and `@` with a name behind it as XML has it name none.
+use Rattle.std.specs.Prelude.{ℕ, ◌==◌, ◌||◌, Bool, false, not, List, [], ◌∷◌, map, length, drop, nat_eq, Option, Some, None, is_some, if◌then◌else◌}
 use Rattle.std.specs.List.{filter, slice_split, starts_with}
 use Rattle.std.specs.Option.{option_and_then}
 use Rattle.std.specs.Str.{trim}
 use Rattle.res_value.specs.Goal.{is_id_list}
+use Rattle.names.specs.Named.{behind_sign, xml_name_in}
 
--- what stands behind the `@` that a word begins with
-abbrev pub behind_sign : List ℕ → Option (List ℕ)
-behind_sign [] = None
-behind_sign (byte ∷ text) = if byte == 64 then Some text else None
-
--- a path is neither empty nor a list of ids
+-- a path is neither empty, nor a list of ids, nor a name
 abbrev pub as_path : List ℕ → Option (List ℕ)
-as_path text = if length text == 0 || is_id_list text then None else Some text
+as_path text = if length text == 0 || is_id_list text || is_some (xml_name_in text) then None else Some text
 
 -- the path of the file that a word names, behind its `@`
 unfoldable pub file_path_in : List ℕ → Option (List ℕ)

@@ -5,21 +5,22 @@ ghost use Rattle.std.specs.List.{flat_map};
 ghost use Rattle.names.specs.Named.{named_of};
 ghost use Rattle.names.specs.NamedSet.{named_set_of};
 ghost use Rattle.names.specs.NamedGoal.{named_goal_of};
-ghost use Rattle.names.specs.Names.{name_of};
+ghost use Rattle.names.specs.Names.{wanted_of};
 ghost use Rattle.names.specs.AskedNames.{names_in, names_in_set, names_in_goal};
 
 use crate::name::Name;
 use crate::named::Named;
 use crate::named_goal::NamedGoal;
 use crate::named_set::NamedSet;
+use crate::wanted::Wanted;
 use std::alloc::{AllocError, Global};
 
 /// The names in words that ask for resources, in their order.
 pub(crate) fn names_in_sets<'n>(
     alloc: Global,
     sets: &[NamedSet<'n>],
-) -> Result<Vec<Name<'n>>, AllocError>
-    ensures { IfOk result (λ names. map name_of names.items ≡ flat_map (λ set. names_in_set (named_set_of set)) sets.now) }
+) -> Result<Vec<Wanted<'n>>, AllocError>
+    ensures { IfOk result (λ names. map wanted_of names.items ≡ flat_map (λ set. names_in_set (named_set_of set)) sets.now) }
 {
     let mut names = Vec::new(alloc);
     for set in sets {
@@ -32,8 +33,8 @@ pub(crate) fn names_in_sets<'n>(
 pub(crate) fn names_in_goals<'n>(
     alloc: Global,
     goals: &[NamedGoal<'n>],
-) -> Result<Vec<Name<'n>>, AllocError>
-    ensures { IfOk result (λ names. map name_of names.items ≡ flat_map (λ goal. names_in_goal (named_goal_of goal)) goals.now) }
+) -> Result<Vec<Wanted<'n>>, AllocError>
+    ensures { IfOk result (λ names. map wanted_of names.items ≡ flat_map (λ goal. names_in_goal (named_goal_of goal)) goals.now) }
 {
     let mut names = Vec::new(alloc);
     for goal in goals {
@@ -42,8 +43,11 @@ pub(crate) fn names_in_goals<'n>(
     Ok(names)
 }
 
-fn push_names_of_goal<'n>(word: &NamedGoal<'n>, names: &mut Vec<Name<'n>>) -> Result<(), AllocError>
-    ensures { OnOk result (map name_of names.new.items ≡ map name_of names.old.items ++ names_in_goal (named_goal_of word.now)) }
+fn push_names_of_goal<'n>(
+    word: &NamedGoal<'n>,
+    names: &mut Vec<Wanted<'n>>,
+) -> Result<(), AllocError>
+    ensures { OnOk result (map wanted_of names.new.items ≡ map wanted_of names.old.items ++ names_in_goal (named_goal_of word.now)) }
 {
     match word {
         NamedGoal::Ids(_) => Ok(()),
@@ -55,8 +59,8 @@ fn push_names_of_goal<'n>(word: &NamedGoal<'n>, names: &mut Vec<Name<'n>>) -> Re
     }
 }
 
-fn push_name_of_set<'n>(set: NamedSet<'n>, names: &mut Vec<Name<'n>>) -> Result<(), AllocError>
-    ensures { OnOk result (map name_of names.new.items ≡ map name_of names.old.items ++ names_in_set (named_set_of set.entry)) }
+fn push_name_of_set<'n>(set: NamedSet<'n>, names: &mut Vec<Wanted<'n>>) -> Result<(), AllocError>
+    ensures { OnOk result (map wanted_of names.new.items ≡ map wanted_of names.old.items ++ names_in_set (named_set_of set.entry)) }
 {
     match set {
         NamedSet::One(named) => push_name(named, names),
@@ -64,8 +68,8 @@ fn push_name_of_set<'n>(set: NamedSet<'n>, names: &mut Vec<Name<'n>>) -> Result<
     }
 }
 
-fn push_names<'n>(all: &[Named<'n>], names: &mut Vec<Name<'n>>) -> Result<(), AllocError>
-    ensures { OnOk result (map name_of names.new.items ≡ map name_of names.old.items ++ flat_map names_in (map named_of all.now)) }
+fn push_names<'n>(all: &[Named<'n>], names: &mut Vec<Wanted<'n>>) -> Result<(), AllocError>
+    ensures { OnOk result (map wanted_of names.new.items ≡ map wanted_of names.old.items ++ flat_map names_in (map named_of all.now)) }
 {
     for named in all {
         push_name(*named, names)?;
@@ -74,17 +78,21 @@ fn push_names<'n>(all: &[Named<'n>], names: &mut Vec<Name<'n>>) -> Result<(), Al
 }
 
 /// Pushes the name of a resource, where it is asked for by its name.
-pub(crate) fn push_name<'n>(named: Named<'n>, names: &mut Vec<Name<'n>>) -> Result<(), AllocError>
-    ensures { OnOk result (map name_of names.new.items ≡ map name_of names.old.items ++ names_in (named_of named.entry)) }
+pub(crate) fn push_name<'n>(named: Named<'n>, names: &mut Vec<Wanted<'n>>) -> Result<(), AllocError>
+    ensures { OnOk result (map wanted_of names.new.items ≡ map wanted_of names.old.items ++ names_in (named_of named.entry)) }
 {
     if let Named::Name {
+        package,
         type_name,
         entry_name,
     } = named
     {
-        names.push(Name {
-            type_name,
-            entry_name,
+        names.push(Wanted {
+            package,
+            name: Name {
+                type_name,
+                entry_name,
+            },
         })?;
     }
     Ok(())

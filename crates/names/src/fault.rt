@@ -1,77 +1,97 @@
-//! Why names stand for no resource.
+//! Why words ask for no resource.
 
 ghost use Rattle.std.specs.Prelude.{◌≡◌};
 ghost use Rattle.names.specs.declared.fault.NameFault.TheVariants.{OutOfMemory};
 
 use crate::named::Named;
-use crate::named_set::NamedSet;
-use res_value::{ResId, write_id};
+use crate::named_set::{ALL, NamedSet};
+use crate::packages::PackageName;
+use crate::wanted::Wanted;
+use crate::word_text::{name_text, two_text};
+use overlay_map::{ResId, write_id};
 use std::alloc::{AllocError, AllocFailed, Global};
 
-/// Stands for all entries of a type, and for all resources.
-const ALL: &str = "*";
-
-/// Why names stand for no resource.
+/// Why words ask for no resource.
 #[derive(Debug, PartialEq, Eq, Drop)]
 pub enum NameFault {
-    /// The first that is not there: its text, as `0x7f010000`, `dimen/margin`, `dimen/*` or `*`.
+    /// The first that asks for nothing that is there: its text, as `0x7f010000`, `dimen/margin`, `dimen/*` or `*`.
     NoResource(String),
+    /// The first that is a name of two packages: its text, and a name for either, as
+    /// `string/cancel: android:string/cancel, org.example:string/cancel`.
+    TwoResources(String),
     OutOfMemory,
 }
 
 impl NameFault {
-    ghost use Rattle.std.specs.Prelude.{◌≡◌, ◌≢◌};
-    ghost use Rattle.std.specs.Option.{option_map};
+    ghost use Rattle.std.specs.Prelude.{◌≡◌, ◌≢◌, map, string_bytes, IfOk, IfErr};
     ghost use Rattle.std.specs.Str.{IsUtf8};
     ghost use Rattle.res_value.specs.ResId.{id_text};
     ghost use Rattle.names.specs.NamedSet.{named_set_of};
-    ghost use Rattle.names.specs.NameFault.{missing};
-    ghost use Rattle.names.specs.NamedIds.{name_text, type_text};
-    ghost use Rattle.names.specs.NamedPairs.{text_of_set};
+    ghost use Rattle.names.specs.NameFault.{name_fault_of, no_resource, two_resources};
+    ghost use Rattle.names.specs.Names.{wanted_of};
+    ghost use Rattle.names.specs.Packages.{package_name_of};
+    ghost use Rattle.names.specs.WordText.{text_of_set, two_text, wanted_text};
     ghost use Rattle.names.specs.declared.fault.NameFault.TheVariants.{OutOfMemory};
 
     /// No row has this name.
-    pub(crate) fn no_name(alloc: Global, type_name: &str, entry_name: &str) -> NameFault
-        ensures { result ≢ OutOfMemory → missing result ≡ name_text type_name.now entry_name.now }
+    pub(crate) fn no_name(alloc: Global, wanted: Wanted<'_>) -> NameFault
+        ensures { result ≢ OutOfMemory → name_fault_of result ≡ no_resource (wanted_text (wanted_of wanted.entry)) }
     {
-        match format!(in alloc; "{type_name}/{entry_name}") {
-            Ok(text) => NameFault::NoResource(text),
+        let name = wanted.name;
+        NameFault::or_memory(name_text(alloc, wanted.package, name.type_name, name.entry_name))
+    }
+
+    /// Rows of two packages have this name.
+    pub(crate) fn two(
+        alloc: Global,
+        packages: &[PackageName<'_>],
+        wanted: Wanted<'_>,
+        first: ResId,
+        other: ResId,
+    ) -> NameFault
+        ensures { result ≢ OutOfMemory → name_fault_of result ≡ two_resources (two_text (map package_name_of packages.now) (wanted_of wanted.entry) first other) }
+    {
+        match two_text(alloc, packages, wanted, first, other) {
+            Ok(text) => NameFault::TwoResources(text),
             Err(_) => NameFault::OutOfMemory,
         }
     }
 
-    /// No pair is asked for by this word.
-    pub(crate) fn no_pair(alloc: Global, set: NamedSet<'_>) -> NameFault
-        ensures { result ≢ OutOfMemory → missing result ≡ text_of_set (named_set_of set.entry) }
+    /// Nothing is there that this word asks for.
+    pub(crate) fn no_set(alloc: Global, set: NamedSet<'_>) -> NameFault
+        ensures { result ≢ OutOfMemory → name_fault_of result ≡ no_resource (text_of_set (named_set_of set.entry)) }
     {
         match set {
             NamedSet::One(Named::Id(id)) => NameFault::no_id(alloc, id),
             NamedSet::One(
                 Named::Name {
+                    package,
                     type_name,
                     entry_name,
                 },
-            ) => NameFault::no_name(alloc, type_name, entry_name),
-            NamedSet::OfType { type_name } => NameFault::no_row(alloc, Some(type_name)),
-            NamedSet::All => NameFault::no_row(alloc, None),
+            ) => NameFault::or_memory(name_text(alloc, package, type_name, entry_name)),
+            NamedSet::OfType { package, type_name } => {
+                NameFault::or_memory(name_text(alloc, package, type_name, ALL))
+            }
+            NamedSet::All => NameFault::or_memory(String::from_str(alloc, ALL)),
         }
     }
 
     // Nothing has this id.
     fn no_id(alloc: Global, id: ResId) -> NameFault
-        ensures { result ≢ OutOfMemory → missing result ≡ id_text id.0 }
+        ensures { result ≢ OutOfMemory → name_fault_of result ≡ no_resource (id_text id.0) }
     {
         let mut text = Vec::new(alloc);
         match write_id(id, &mut text) {
-            Ok(()) => NameFault::no_resource(text),
+            Ok(()) => NameFault::of_bytes(text),
             // To a `Vec` only a want of memory is a fault.
             Err(_) => NameFault::OutOfMemory,
         }
     }
 
-    fn no_resource(text: Vec<u8>) -> NameFault
+    fn of_bytes(text: Vec<u8>) -> NameFault
         requires { IsUtf8 text.items }
-        ensures { missing result ≡ text.items }
+        ensures { name_fault_of result ≡ no_resource text.items }
     {
         match String::from_utf8(text) {
             Ok(text) => NameFault::NoResource(text),
@@ -79,14 +99,12 @@ impl NameFault {
         }
     }
 
-    /// No row is of a type with this name, or there is no row.
-    pub(crate) fn no_row(alloc: Global, type_name: Option<&str>) -> NameFault
-        ensures { result ≢ OutOfMemory → missing result ≡ type_text (option_map (λ name. name.now) type_name.entry) }
+    // Nothing is there that a word of this text asks for.
+    fn or_memory(text: Result<String, AllocError>) -> NameFault
+        ensures text { IfOk text (λ told. name_fault_of result ≡ no_resource (string_bytes told)) }
+        ensures memory { IfErr text (λ _. result ≡ OutOfMemory) }
     {
-        if let Some(type_name) = type_name {
-            return NameFault::no_name(alloc, type_name, ALL);
-        }
-        match String::from_str(alloc, ALL) {
+        match text {
             Ok(text) => NameFault::NoResource(text),
             Err(_) => NameFault::OutOfMemory,
         }

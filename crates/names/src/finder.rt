@@ -1,24 +1,31 @@
 //! What names stand for, told name by name.
 
-ghost use Rattle.std.specs.Prelude.{◌≡◌, ℕ, ◌++◌, List, map, IfOk, OnOk};
+ghost use Rattle.std.specs.Prelude.{◌≡◌, ℕ, ◌++◌, List, filter, map, IfOk, OnOk};
 ghost use Rattle.std.specs.List.{flat_map};
 ghost use Rattle.std.specs.Option.{option_map};
 ghost use Rattle.json_input.specs.Each.{each};
 ghost use Rattle.overlay_map.specs.Layer.{LayerOf};
+ghost use Rattle.res_value.specs.ResId.{package_of};
 ghost use Rattle.names.specs.Named.{named_of};
 ghost use Rattle.names.specs.NamedSet.{named_set_of};
-ghost use Rattle.names.specs.Names.{NameOf, name_of};
+ghost use Rattle.names.specs.Names.{WantedOf, wanted_of};
 ghost use Rattle.names.specs.NameFault.{GivesNamed};
-ghost use Rattle.names.specs.NamedIds.{id_named, ids_of_rows, ids_of_set};
+ghost use Rattle.names.specs.NamedIds.{id_named, id_of_found, ids_in_package, ids_of_rows, ids_of_set, some_of};
 ghost use Rattle.names.specs.AskedNames.{names_in, names_in_set};
 ghost use Rattle.names.specs.Finder.{Tells};
+ghost use Rattle.names.specs.PackageWord.{package_word_of};
+ghost use Rattle.names.specs.Packages.{package_name_of, is_asked_in};
 
 use crate::fault::NameFault;
+use crate::found::Found;
 use crate::ids::ids_of_type;
 use crate::name::Name;
 use crate::named::Named;
 use crate::named_set::NamedSet;
-use crate::search::find_names;
+use crate::package_word::PackageWord;
+use crate::packages::{PackageName, Packages, is_asked_in, packages_in};
+use crate::search::find_each;
+use crate::wanted::Wanted;
 use overlay_map::{ResId, Stack, Table};
 use std::alloc::{AllocError, Global};
 use std::collections::BTreeMap;
@@ -30,8 +37,10 @@ use std::vec::IntoIter;
 pub(crate) struct Finder<'s, 'a, 'n> {
     /// Those of the base layers.
     tables: Vec<&'s Table<'a>>,
+    /// Those of these tables.
+    packages: Vec<PackageName<'a>>,
     /// What the names that are left stand for.
-    found: IntoIter<Option<ResId>>,
+    found: IntoIter<Found>,
     /// The ids of types, or of all rows, that were asked for before.
     known: BTreeMap<Option<&'n str>, Rc<Vec<ResId>>>,
 }
@@ -41,14 +50,17 @@ impl<'s, 'a, 'n> Finder<'s, 'a, 'n> {
     pub fn new(
         alloc: Global,
         stack: &'s Stack<'a>,
-        names: &[Name<'_>],
+        names: &[Wanted<'_>],
     ) -> Result<Finder<'s, 'a, 'n>, AllocError>
-        ensures { IfOk result (Tells stack.now (map name_of names.now)) }
+        ensures { IfOk result (Tells stack.now (map wanted_of names.now)) }
     {
         let tables = stack.base_tables(alloc)?;
-        let found = find_names(alloc, &tables, names)?.into_iter();
+        let packages = packages_in(alloc, &tables)?;
+        let of_tables = Packages { all: &packages };
+        let found = find_each(alloc, of_tables, &tables, names)?.into_iter();
         Ok(Finder {
             tables,
+            packages,
             found,
             known: BTreeMap::new(alloc),
         })
@@ -56,25 +68,33 @@ impl<'s, 'a, 'n> Finder<'s, 'a, 'n> {
 
     /// The id of a resource.
     pub fn id(&mut self, alloc: Global, named: &Named<'_>) -> Result<ResId, NameFault>
-        ensures left { (layers : List LayerOf) (names : List NameOf) → Tells layers (names_in (named_of named.now) ++ names) self.old → OnOk result (Tells layers names self.new) }
-        ensures found { (layers : List LayerOf) (names : List NameOf) → Tells layers (names_in (named_of named.now) ++ names) self.old → GivesNamed (λ id. id) result (id_named layers (named_of named.now)) }
+        ensures left { (layers : List LayerOf) (names : List WantedOf) → Tells layers (names_in (named_of named.now) ++ names) self.old → Tells layers names self.new }
+        ensures found { (layers : List LayerOf) (names : List WantedOf) → Tells layers (names_in (named_of named.now) ++ names) self.old → GivesNamed (λ id. id) result (id_named layers (named_of named.now)) }
     {
         match named {
             Named::Id(id) => Ok(*id),
             Named::Name {
+                package,
                 type_name,
                 entry_name,
-            } => match self.found.next().flatten() {
-                Some(id) => Ok(id),
-                None => Err(NameFault::no_name(alloc, type_name, entry_name)),
-            },
+            } => {
+                let wanted = Wanted {
+                    package: *package,
+                    name: Name {
+                        type_name,
+                        entry_name,
+                    },
+                };
+                let found = self.found.next().unwrap_or(Found::Nothing);
+                id_of_found(alloc, &self.packages, wanted, found)
+            }
         }
     }
 
     /// The ids of resources, one after the other.
     pub fn each_id(&mut self, alloc: Global, all: &[Named<'_>]) -> Result<Vec<ResId>, NameFault>
-        ensures left { (layers : List LayerOf) (names : List NameOf) → Tells layers (flat_map (λ named. names_in (named_of named)) all.now ++ names) self.old → OnOk result (Tells layers names self.new) }
-        ensures found { (layers : List LayerOf) (names : List NameOf) → Tells layers (flat_map (λ named. names_in (named_of named)) all.now ++ names) self.old → GivesNamed (λ ids. ids.items) result (each (id_named layers) (map named_of all.now)) }
+        ensures left { (layers : List LayerOf) (names : List WantedOf) → Tells layers (flat_map (λ named. names_in (named_of named)) all.now ++ names) self.old → OnOk result (Tells layers names self.new) }
+        ensures found { (layers : List LayerOf) (names : List WantedOf) → Tells layers (flat_map (λ named. names_in (named_of named)) all.now ++ names) self.old → GivesNamed (λ ids. ids.items) result (each (id_named layers) (map named_of all.now)) }
     {
         let mut ids = Vec::with_capacity(alloc, all.len())?;
         for named in all {
@@ -86,8 +106,8 @@ impl<'s, 'a, 'n> Finder<'s, 'a, 'n> {
 
     /// The ids of a set of resources.
     pub fn ids(&mut self, alloc: Global, set: &NamedSet<'n>) -> Result<Rc<Vec<ResId>>, NameFault>
-        ensures left { (layers : List LayerOf) (names : List NameOf) → Tells layers (names_in_set (named_set_of set.now) ++ names) self.old → OnOk result (Tells layers names self.new) }
-        ensures found { (layers : List LayerOf) (names : List NameOf) → Tells layers (names_in_set (named_set_of set.now) ++ names) self.old → GivesNamed (λ ids. ids.value.items) result (ids_of_set layers (named_set_of set.now)) }
+        ensures left { (layers : List LayerOf) (names : List WantedOf) → Tells layers (names_in_set (named_set_of set.now) ++ names) self.old → OnOk result (Tells layers names self.new) }
+        ensures found { (layers : List LayerOf) (names : List WantedOf) → Tells layers (names_in_set (named_set_of set.now) ++ names) self.old → GivesNamed (λ ids. ids.value.items) result (ids_of_set layers (named_set_of set.now)) }
     {
         match set {
             NamedSet::One(named) => {
@@ -96,8 +116,15 @@ impl<'s, 'a, 'n> Finder<'s, 'a, 'n> {
                 let shared = Rc::new(alloc, ids)?;
                 Ok(shared)
             }
-            NamedSet::OfType { type_name } => self.ids_of_rows(alloc, Some(*type_name)),
-            NamedSet::All => self.ids_of_rows(alloc, None),
+            NamedSet::OfType { package, type_name } => {
+                let ids = self.ids_of_rows(alloc, Some(*type_name))?;
+                let ids = self.in_package(alloc, *package, ids)?;
+                some_of(alloc, *set, ids)
+            }
+            NamedSet::All => {
+                let ids = self.ids_of_rows(alloc, None)?;
+                some_of(alloc, *set, ids)
+            }
         }
     }
 
@@ -107,26 +134,77 @@ impl<'s, 'a, 'n> Finder<'s, 'a, 'n> {
         &mut self,
         alloc: Global,
         type_name: Option<&'n str>,
-    ) -> Result<Rc<Vec<ResId>>, NameFault>
-        ensures left { (layers : List LayerOf) (names : List NameOf) → Tells layers names self.old → OnOk result (Tells layers names self.new) }
-        ensures found { (layers : List LayerOf) (names : List NameOf) → Tells layers names self.old → GivesNamed (λ ids. ids.value.items) result (ids_of_rows layers (option_map (λ name. name.now) type_name.entry)) }
+    ) -> Result<Rc<Vec<ResId>>, AllocError>
+        ensures left { (layers : List LayerOf) (names : List WantedOf) → Tells layers names self.old → OnOk result (Tells layers names self.new) }
+        ensures found { (layers : List LayerOf) (names : List WantedOf) → Tells layers names self.old → IfOk result (λ ids. ids.value.items ≡ ids_of_rows layers (option_map (λ name. name.now) type_name.entry)) }
     {
         if let Some(ids) = self.known.get(&type_name) {
             return Ok(ids.clone()?);
         }
-        let ids = self.look_up_rows(alloc, type_name)?;
+        let ids = ids_of_type(alloc, &self.tables, type_name)?;
         let ids = Rc::new(alloc, ids)?;
         self.known.insert(type_name, ids.clone()?)?;
         Ok(ids)
     }
 
-    fn look_up_rows(&self, alloc: Global, type_name: Option<&str>) -> Result<Vec<ResId>, NameFault>
-        ensures { (layers : List LayerOf) (names : List NameOf) → Tells layers names self.now → GivesNamed (λ ids. ids.items) result (ids_of_rows layers (option_map (λ name. name.now) type_name.entry)) }
+    // Those of these ids that are of a package, where one is named.
+    fn in_package(
+        &self,
+        alloc: Global,
+        word: Option<PackageWord<'n>>,
+        ids: Rc<Vec<ResId>>,
+    ) -> Result<Rc<Vec<ResId>>, AllocError>
+        ensures { (layers : List LayerOf) (names : List WantedOf) → Tells layers names self.now → IfOk result (λ kept. kept.value.items ≡ ids_in_package layers (option_map package_word_of word.entry) ids.value.items) }
     {
-        let ids = ids_of_type(alloc, &self.tables, type_name)?;
-        if ids.is_empty() {
-            return Err(NameFault::no_row(alloc, type_name));
-        }
-        Ok(ids)
+        let kept = ids_asked_in(alloc, &self.packages, word, &ids)?;
+        Ok(Rc::new(alloc, kept)?)
     }
+}
+
+// Those of these ids that are of a package, where one is named.
+fn ids_asked_in(
+    alloc: Global,
+    packages: &[PackageName<'_>],
+    word: Option<PackageWord<'_>>,
+    ids: &[ResId],
+) -> Result<Vec<ResId>, AllocError>
+    ensures { IfOk result (λ kept. kept.items ≡ filter (λ id. is_asked_in (map package_name_of packages.now) (option_map package_word_of word.entry) (package_of id)) ids.now) }
+{
+    let mut kept = Vec::new(alloc);
+    for id in ids {
+        if is_asked_in(packages, word, id.package()) {
+            kept.push(*id)?;
+        }
+    }
+    Ok(kept)
+}
+
+// The id of a name, of which this was found.
+fn id_of_found(
+    alloc: Global,
+    packages: &[PackageName<'_>],
+    wanted: Wanted<'_>,
+    found: Found,
+) -> Result<ResId, NameFault>
+    ensures { GivesNamed (λ id. id) result (id_of_found (map package_name_of packages.now) (wanted_of wanted.entry) found) }
+{
+    match found {
+        Found::Nothing => Err(NameFault::no_name(alloc, wanted)),
+        Found::One(id) => Ok(id),
+        Found::Two { first, other } => Err(NameFault::two(alloc, packages, wanted, first, other)),
+    }
+}
+
+// These ids; none are a fault.
+fn some_of(
+    alloc: Global,
+    set: NamedSet<'_>,
+    ids: Rc<Vec<ResId>>,
+) -> Result<Rc<Vec<ResId>>, NameFault>
+    ensures { GivesNamed (λ ids. ids.value.items) result (some_of (named_set_of set.entry) ids.value.items) }
+{
+    if ids.is_empty() {
+        return Err(NameFault::no_set(alloc, set));
+    }
+    Ok(ids)
 }

@@ -3,7 +3,7 @@
 ghost use Rattle.std.specs.Prelude.{◌≡◌, ℕ, ◌++◌, ◌∷◌, [], List, map, take, IfOk, OnOk};
 ghost use Rattle.overlay_map.specs.Layer.{LayerOf};
 ghost use Rattle.res_value.specs.Goal.{goal_seen, IdGoal};
-ghost use Rattle.names.specs.Names.{NameOf};
+ghost use Rattle.names.specs.Names.{WantedOf};
 ghost use Rattle.names.specs.NamedGoal.{named_goal_of};
 ghost use Rattle.names.specs.NameFault.{GivesNamed};
 ghost use Rattle.names.specs.NamedGoals.{first_goals, goals_of_word, goals_named};
@@ -98,8 +98,8 @@ fn goals_of_word<'n>(
     finder: &mut Finder<'_, '_, 'n>,
     word: &NamedGoal<'n>,
 ) -> Result<WordGoals, NameFault>
-    ensures left { (layers : List LayerOf) (names : List NameOf) → Tells layers (names_in_goal (named_goal_of word.now) ++ names) finder.old → OnOk result (Tells layers names finder.new) }
-    ensures found { (layers : List LayerOf) (names : List NameOf) → Tells layers (names_in_goal (named_goal_of word.now) ++ names) finder.old → GivesNamed goals_in result (goals_of_word layers (named_goal_of word.now)) }
+    ensures left { (layers : List LayerOf) (names : List WantedOf) → Tells layers (names_in_goal (named_goal_of word.now) ++ names) finder.old → OnOk result (Tells layers names finder.new) }
+    ensures found { (layers : List LayerOf) (names : List WantedOf) → Tells layers (names_in_goal (named_goal_of word.now) ++ names) finder.old → GivesNamed goals_in result (goals_of_word layers (named_goal_of word.now)) }
 {
     match word {
         NamedGoal::Ids(goal) => {

@@ -5,7 +5,7 @@
 //! tables that has one, in one walk over the rows. A `NamedStack` calls each id by a `Label`, its name or the id itself;
 //! `name_pairs` lays the labels of two stacks side by side, each once and in their order. A word asks for one resource
 //! (`Named`), for several (`NamedSet`) or for goals (`NamedGoal`), or names a file of words; `ids_named`, `goals_named` and
-//! `pairs_named` give those that words stand for, or the first that is not there.
+//! `pairs_named` give those that words stand for, or the first that is not there or is a name of two packages.
 //!
 //! ```text
 //! let margin = Name { type_name: "dimen", entry_name: "margin" };
@@ -19,9 +19,11 @@
 //! ```
 #![tactic(auto)]
 
+mod android_types;
 mod asked_names;
 mod fault;
 mod finder;
+mod found;
 mod goals;
 mod ids;
 mod label;
@@ -34,7 +36,10 @@ mod named_ids;
 mod named_set;
 mod named_stack;
 mod noted;
+mod package_word;
+mod packages;
 mod pair;
+mod pair_words;
 mod pairs;
 mod passed;
 mod places;
@@ -44,8 +49,12 @@ mod sought;
 mod stack_labels;
 mod surrogates;
 mod text;
+mod type_word;
+mod wanted;
 mod word_file;
 mod word_set;
+mod word_text;
+mod words_for;
 
 pub use fault::NameFault;
 pub use goals::{first_goals, goals_named};
@@ -59,6 +68,7 @@ pub use named_ids::{id_named, ids_named};
 pub use named_set::NamedSet;
 pub use named_stack::NamedStack;
 pub use overlay_map::{ResId, Row, Stack, Table};
+pub use package_word::PackageWord;
 pub use pair::{NamePair, Sides, name_pairs};
 pub use pairs::pairs_named;
 pub use res_value::{Goal, GoalFault};

@@ -2,10 +2,21 @@
 
 ghost use Rattle.std.specs.Prelude.{◌≡◌};
 ghost use Rattle.std.specs.List.{list_any, before_first, after_first};
-ghost use Rattle.names.specs.Named.{is_slash, is_of_no_name, is_part};
+ghost use Rattle.std.specs.Option.{option_map};
+ghost use Rattle.names.specs.Named.{behind_sign, is_slash, is_of_no_name, is_part};
 
 /// Stands between the type and the entry of a name.
 const SLASH: char = '/';
+
+/// Begins a name as XML has it, and a word that names a file.
+const AT_SIGN: char = '@';
+
+/// What stands behind the `@` that a word begins with.
+pub(crate) fn behind_sign(word: &str) -> Option<&str>
+    ensures { option_map (λ text. text.now) result ≡ behind_sign word.now }
+{
+    word.strip_prefix(AT_SIGN)
+}
 
 /// What stands before the first `/`, and what stands behind it; all and nothing where there is none.
 pub(crate) fn parts_at_slash(word: &str) -> (&str, &str)

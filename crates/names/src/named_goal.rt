@@ -5,7 +5,8 @@ ghost use Rattle.contract_words.specs.Exact.{GivesOr};
 ghost use Rattle.json_input.specs.Each.{each};
 ghost use Rattle.res_value.specs.declared.goal_fault.GoalFault.TheVariants.{OutOfMemory};
 ghost use Rattle.names.specs.Named.{named_of};
-ghost use Rattle.names.specs.NamedGoal.{named_goal_of, named_goal_in, with_names_in, style_in};
+ghost use Rattle.res_value.specs.Goal.{goal_word_of};
+ghost use Rattle.names.specs.NamedGoal.{named_goal_of, named_goal_in, with_names_in, attr_of_parts, style_in};
 
 use crate::named::Named;
 use crate::named_set::NamedSet;
@@ -40,15 +41,22 @@ impl<'a> NamedGoal<'a> {
     }
 }
 
-#[tactic(auto, unfolding(crate::specs::NamedGoal::with_names_in, crate::specs::NamedGoal::named_in_parts))]
+#[tactic(auto, unfolding(crate::specs::NamedGoal::with_names_in))]
 fn with_names<'a>(alloc: Global, word: &'a str) -> Result<NamedGoal<'a>, GoalFault>
     ensures { GivesOr OutOfMemory named_goal_of result (with_names_in word.entry.now) }
 {
-    match GoalWord::read(alloc, word)? {
-        GoalWord::Plain(text) => match NamedSet::read(text) {
-            Some(set) => Ok(NamedGoal::Resources(set)),
-            None => Err(GoalFault::Malformed),
-        },
+    match NamedSet::read(word) {
+        Some(set) => Ok(NamedGoal::Resources(set)),
+        None => attr_of_parts(alloc, GoalWord::read(alloc, word)?),
+    }
+}
+
+#[tactic(auto, unfolding(crate::specs::NamedGoal::attr_of_parts))]
+fn attr_of_parts<'a>(alloc: Global, word: GoalWord<'a>) -> Result<NamedGoal<'a>, GoalFault>
+    ensures { GivesOr OutOfMemory named_goal_of result (attr_of_parts (goal_word_of word.entry)) }
+{
+    match word {
+        GoalWord::Plain(_) => Err(GoalFault::Malformed),
         GoalWord::UnderStyles { attr, styles } => {
             let attr = style_in(attr)?;
             let styles = each_named(alloc, &styles)?;

@@ -4,15 +4,21 @@ ghost use Rattle.std.specs.Prelude.{◌≡◌, map, IfOk, OnOk};
 ghost use Rattle.std.specs.Option.{option_map};
 ghost use Rattle.overlay_map.specs.type_chunks.Row.{row_of};
 ghost use Rattle.overlay_map.specs.resource_table.Table.{rows_of};
-ghost use Rattle.names.specs.Names.{name_of, found_in_tables};
+ghost use Rattle.names.specs.Found.{found_among};
+ghost use Rattle.names.specs.FoundSoFar.{first_of};
+ghost use Rattle.names.specs.Names.{name_of, wanted_of, in_any_package, found_in_tables, ids_with};
+ghost use Rattle.names.specs.Packages.{package_name_of};
 ghost use Rattle.names.specs.Sought.{AreSought};
 ghost use Rattle.names.specs.Sought.{unfound, noted, noted_each, noted_in, entry_names, ArePlacesOf, IsNotedAt};
 
+use crate::found::Found;
 use crate::name::Name;
+use crate::packages::Packages;
 use crate::passed::Passed;
 use crate::places::Places;
 use crate::sought::Sought;
 use crate::text::name_text;
+use crate::wanted::Wanted;
 use overlay_map::{ResId, Row, Table};
 use std::alloc::{AllocError, Global};
 
@@ -31,43 +37,83 @@ pub fn find_names(
 ) -> Result<Vec<Option<ResId>>, AllocError>
     ensures { IfOk result (λ found. map (option_map (λ id. id.0)) found.items ≡ map (λ name. found_in_tables (map (λ table. table.now) tables.now) (name_of name)) names.now) }
 {
-    if names.is_empty() {
+    let wanted = in_any_package(alloc, names)?;
+    let found = find_each(alloc, Packages { all: &[] }, tables, &wanted)?;
+    let first = first_of_each(alloc, &found)?;
+    Ok(first)
+}
+
+fn in_any_package<'n>(alloc: Global, names: &[Name<'n>]) -> Result<Vec<Wanted<'n>>, AllocError>
+    ensures { IfOk result (λ wanted. wanted.items ≡ map in_any_package names.now) }
+{
+    names
+        .iter()
+        .map(|name| Wanted {
+            package: None,
+            name: *name,
+        })
+        .collect(alloc)
+}
+
+fn first_of_each(alloc: Global, found: &[Found]) -> Result<Vec<Option<ResId>>, AllocError>
+    ensures { IfOk result (λ first. first.items ≡ map first_of found.now) }
+{
+    found.iter().map(|one| one.first()).collect(alloc)
+}
+
+/// What each name stands for: of the rows that have it, in the order of the tables, the first, and the first behind it that is
+/// of another package. `packages` are those of the tables. It takes time and memory as `find_names` does.
+pub(crate) fn find_each<'n>(
+    alloc: Global,
+    packages: Packages<'n>,
+    tables: &[&Table<'_>],
+    wanted: &[Wanted<'n>],
+) -> Result<Vec<Found>, AllocError>
+    ensures { IfOk result (λ found. found.items ≡ map (λ one. found_among (ids_with (map package_name_of packages.entry.all.now) (map (λ table. table.now) tables.now) (wanted_of one))) wanted.now) }
+{
+    if wanted.is_empty() {
         return Ok(Vec::new(alloc));
     }
-    let places = places_of(alloc, names)?;
-    let mut sought = unfound(alloc, names)?;
+    let places = places_of(alloc, wanted)?;
+    let mut sought = unfound(alloc, packages, wanted)?;
     look_in_each(alloc, tables, &places, &mut sought)?;
     let found = found(alloc, &sought)?;
     Ok(found)
 }
 
 // The names, before a table was looked at.
-fn unfound<'n>(alloc: Global, names: &[Name<'n>]) -> Result<Vec<Sought<'n>>, AllocError>
-    ensures { IfOk result (λ sought. sought.items ≡ map unfound names.now) }
+fn unfound<'n>(
+    alloc: Global,
+    packages: Packages<'n>,
+    wanted: &[Wanted<'n>],
+) -> Result<Vec<Sought<'n>>, AllocError>
+    ensures { IfOk result (λ sought. sought.items ≡ map (unfound packages.entry) wanted.now) }
 {
-    names
-        .iter()
-        .map(|name| Sought {
-            name: *name,
-            found: None,
-        })
-        .collect(alloc)
+    let mut sought = Vec::with_capacity(alloc, wanted.len())?;
+    for one in wanted {
+        sought.push(Sought {
+            packages,
+            wanted: *one,
+            found: Found::Nothing,
+        })?;
+    }
+    Ok(sought)
 }
 
 // What was found.
-fn found(alloc: Global, sought: &[Sought<'_>]) -> Result<Vec<Option<ResId>>, AllocError>
+fn found(alloc: Global, sought: &[Sought<'_>]) -> Result<Vec<Found>, AllocError>
     ensures { IfOk result (λ found. found.items ≡ map (λ one. one.found) sought.now) }
 {
     sought.iter().map(|one| one.found).collect(alloc)
 }
 
 // The places of names, by their entries' names.
-fn places_of<'n>(alloc: Global, names: &[Name<'n>]) -> Result<Places<'n>, AllocError>
-    ensures { IfOk result (λ places. ArePlacesOf places (map (λ name. name.entry_name.now) names.now)) }
+fn places_of<'n>(alloc: Global, wanted: &[Wanted<'n>]) -> Result<Places<'n>, AllocError>
+    ensures { IfOk result (λ places. ArePlacesOf places (map (λ one. one.name.entry_name.now) wanted.now)) }
 {
     let mut places = Places::new(alloc);
-    for (place, name) in names.iter().enumerate() {
-        places.push(alloc, name.entry_name.as_bytes(), place)?;
+    for (place, one) in wanted.iter().enumerate() {
+        places.push(alloc, one.name.entry_name.as_bytes(), place)?;
     }
     Ok(places)
 }

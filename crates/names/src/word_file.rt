@@ -3,13 +3,12 @@
 ghost use Rattle.std.specs.Prelude.{◌≡◌, map, IfOk};
 ghost use Rattle.std.specs.List.{slice_split};
 ghost use Rattle.std.specs.Option.{option_map};
-ghost use Rattle.names.specs.WordFile.{behind_sign, file_path_in, is_line_feed, is_word, without_mark, words_in_text};
+ghost use Rattle.names.specs.WordFile.{file_path_in, is_line_feed, is_word, without_mark, words_in_text};
 
+use crate::name_parts::behind_sign;
+use crate::named::xml_name;
 use res_value::is_id_list;
 use std::alloc::{AllocError, Global};
-
-/// Begins a word that names a file.
-const AT_SIGN: char = '@';
 
 /// The byte order mark, which some editors write at the beginning of a file.
 const BYTE_ORDER_MARK: char = '\u{feff}';
@@ -20,23 +19,17 @@ const LINE_FEED: char = '\n';
 /// Begins a line that is passed over.
 const COMMENT: u8 = b'#';
 
-/// The path of the file that a word names: `@ids.txt` names `ids.txt`. None where it names none, as `@` alone, and `@` with
-/// ids behind it, with commas between them.
+/// The path of the file that a word names: `@ids.txt` names `ids.txt`. None where it names none, as `@` alone, `@` with ids
+/// behind it, with commas between them, and `@` with a name behind it whose type is one of Android's.
 #[tactic(auto, unfolding(crate::specs::WordFile::file_path_in))]
 pub fn file_path(word: &str) -> Option<&str>
     ensures { option_map (λ path. path.now) result ≡ file_path_in word.now }
 {
     let text = behind_sign(word)?;
-    if text.is_empty() || is_id_list(text) {
+    if text.is_empty() || is_id_list(text) || xml_name(text).is_some() {
         return None;
     }
     Some(text)
-}
-
-fn behind_sign(word: &str) -> Option<&str>
-    ensures { option_map (λ text. text.now) result ≡ behind_sign word.now }
-{
-    word.strip_prefix(AT_SIGN)
 }
 
 /// The words that the text of such a file has, one a line. A byte order mark at its beginning is left out. Blank lines are

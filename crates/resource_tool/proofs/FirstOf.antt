@@ -9,11 +9,11 @@ use Rattle.table_commands.specs.command_base.declared.fault.ToolFault.{ToolFault
 use Rattle.table_commands.specs.command_base.declared.fault.ToolFault.TheVariants as faults
 use Rattle.table_commands.specs.command_base.names.declared.fault.NameFault.{NameFault}
 use Rattle.table_commands.specs.command_base.names.declared.fault.NameFault.TheVariants as name_faults
-use Rattle.table_commands.specs.command_base.names.NameFault.{missing}
+use Rattle.table_commands.specs.command_base.names.NameFault.{NameFaultOf, name_fault_of}
 use Rattle.table_commands.specs.command_base.declared.status.Status.{Status}
 use Rattle.table_commands.specs.command_base.declared.stop.Stop.{Stop}
-use Rattle.table_commands.specs.command_base.CarriesOut.{CarriesOut, found_or_stop, read_or_stop}
-use Rattle.table_commands.specs.command_base.Stop.{StopOf, no_resource, stop_of, stop_of_name, tool}
+use Rattle.table_commands.specs.command_base.CarriesOut.{CarriesOut, found_or_stop, read_or_stop, stop_of_fault}
+use Rattle.table_commands.specs.command_base.Stop.{StopOf, stop_of, stop_of_name, tool}
 use Rattle.table_commands.specs.command_base.names.NamedGoal.{NamedGoalOf}
 use Rattle.table_commands.specs.command_base.names.NamedGoals.{first_goals, goals_named}
 use Rattle.resource_text.specs.cert_maker.res_value.Goal.{GoalSeen}
@@ -45,20 +45,20 @@ told-of-first stack asked names n g within = ap (λ (goal : Option GoalSeen). if
 -- ---- what is found by names
 
 -- the first of all goals
-found-first : {Y : Type 0} (total : Result (List GoalSeen) (List ℕ)) (n : ℕ) (first : List GoalSeen) (made : List GoalSeen → Y) (part : Y → Y) → ((all : List GoalSeen) → part (made all) ≡ made (take n all))
+found-first : {Y : Type 0} (total : Result (List GoalSeen) NameFaultOf) (n : ℕ) (first : List GoalSeen) (made : List GoalSeen → Y) (part : Y → Y) → ((all : List GoalSeen) → part (made all) ≡ made (take n all))
     → (total >>= λ all. Ok (take n all)) ≡ Ok first → ((found_or_stop total >>= λ all. Ok (made all)) >>= λ y. Ok (part y)) ≡ Ok (made first)
 found-first {Y} (Ok all) n first made part parts is =
     let same : take n all ≡ first = cc in
     let wrapped : Y → Result Y StopOf = λ y. Ok y in ap wrapped (parts all ∙ ap made same)
 found-first (Err text) n first made part parts is = absurd cc
 
--- the first name that is not there
-found-none : {Y : Type 0} (total : Result (List GoalSeen) (List ℕ)) (n : ℕ) (text : List ℕ) (made : List GoalSeen → Y) (part : Y → Y)
-    → (total >>= λ all. Ok (take n all)) ≡ Err text → ((found_or_stop total >>= λ all. Ok (made all)) >>= λ y. Ok (part y)) ≡ Err (no_resource text)
-found-none (Ok all) n text made part is = absurd cc
-found-none {Y} (Err other) n text made part is =
-    let same : other ≡ text = cc in
-    let stopped : List ℕ → Result Y StopOf = λ name. Err (no_resource name) in ap stopped same
+-- the first word that asks for none
+found-none : {Y : Type 0} (total : Result (List GoalSeen) NameFaultOf) (n : ℕ) (fault : NameFaultOf) (made : List GoalSeen → Y) (part : Y → Y)
+    → (total >>= λ all. Ok (take n all)) ≡ Err fault → ((found_or_stop total >>= λ all. Ok (made all)) >>= λ y. Ok (part y)) ≡ Err (stop_of_fault fault)
+found-none (Ok all) n fault made part is = absurd cc
+found-none {Y} (Err other) n fault made part is =
+    let same : other ≡ fault = cc in
+    let stopped : NameFaultOf → Result Y StopOf = λ fault. Err (stop_of_fault fault) in ap stopped same
 
 -- The words are read, then inputs, and then all goals are found: what is made of the first of them is a part of what is made
 -- of all.
@@ -69,18 +69,19 @@ unfolding first_goals
 opened-first named read words x stack made part n first parts is_named is_read is =
     rw (is_named, is_read) (found-first (goals_named (stack x) words) n first (made x) part parts is)
 
--- the same where a name is not there
+-- the same where a word asks for none
 pub opened-none : {X Y : Type 0} (named : Result (List NamedGoalOf) StopOf) (read : Result X ToolFault) (words : List NamedGoalOf) (x : X) (stack : X → List LayerOf) (made : X → List GoalSeen → Y) (part : Y → Y)
-    (n : ℕ) (text : List ℕ) → named ≡ Ok words → read ≡ Ok x → first_goals (stack x) words n ≡ Err text
-    → ((named >>= λ named. read_or_stop read >>= λ x. found_or_stop (goals_named (stack x) named) >>= λ goals. Ok (made x goals)) >>= λ y. Ok (part y)) ≡ Err (no_resource text)
+    (n : ℕ) (fault : NameFaultOf) → named ≡ Ok words → read ≡ Ok x → first_goals (stack x) words n ≡ Err fault
+    → ((named >>= λ named. read_or_stop read >>= λ x. found_or_stop (goals_named (stack x) named) >>= λ goals. Ok (made x goals)) >>= λ y. Ok (part y)) ≡ Err (stop_of_fault fault)
 unfolding first_goals
-opened-none named read words x stack made part n text is_named is_read is =
-    rw (is_named, is_read) (found-none (goals_named (stack x) words) n text (made x) part is)
+opened-none named read words x stack made part n fault is_named is_read is =
+    rw (is_named, is_read) (found-none (goals_named (stack x) words) n fault (made x) part is)
 
 -- why it stops then
-pub none-stops : {Y : Type 0} (meant : Result Y StopOf) (fault : NameFault) → (fault ≢ name_faults.OutOfMemory → meant ≡ Err (no_resource (missing fault))) → stop_of (stop_of_name fault) ≢ tool faults.OutOfMemory
-    → meant ≡ Err (stop_of (stop_of_name fault))
+pub none-stops : {Y : Type 0} (meant : Result Y StopOf) (fault : NameFault) → (fault ≢ name_faults.OutOfMemory → meant ≡ Err (stop_of_fault (name_fault_of fault)))
+    → stop_of (stop_of_name fault) ≢ tool faults.OutOfMemory → meant ≡ Err (stop_of (stop_of_name fault))
 none-stops meant (name_faults.NoResource name) given other = given (λ e. cc)
+none-stops meant (name_faults.TwoResources names) given other = given (λ e. cc)
 none-stops meant name_faults.OutOfMemory given other = absurd (other refl)
 
 -- ---- a command

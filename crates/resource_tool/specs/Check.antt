@@ -1,5 +1,5 @@
 -- What the words of `check` ask, from what the places have to the answer. First come the words of files, then the faults of
--- inputs, and then the first name that is not there.
+-- inputs, and then the first word that asks for no resource.
 use Rattle.std.specs.Prelude.{ℕ, ◌+◌, List, map, length, take, Option, Result, Ok}
 use Rattle.contract_words.specs.Faults.{◌>>=◌}
 use Rattle.contract_words.specs.Sequences.{joined_each}

@@ -38,7 +38,7 @@ pub record OpenIdOf : Type 0 where
   pub opened : OpenedOf
   pub id : ResId
 
--- A name that is not there comes after the faults of inputs.
+-- A name that stands for no resource comes after the faults of inputs.
 unfoldable pub id_opened : LocaleRule → List LayerBytes → DeviceTextOf → NamedOf → Result OpenIdOf StopOf
 id_opened rule layers device_text resource = do
   opened ← opened_by rule layers device_text

@@ -71,7 +71,7 @@ pub record OpenQueryOf : Type 0 where
 abbrev pub query_seen : OpenQuery → OpenQueryOf
 query_seen query = record { opened = opened_of query.opened; ids = query.ids.items }
 
--- First come the words of files, then the faults of inputs, and then the first name that is not there.
+-- First come the words of files, then the faults of inputs, and then the first word that asks for no resource.
 unfoldable pub query_opened : LocaleRule → List LayerBytes → DeviceTextOf → List (List ℕ) → Result OpenQueryOf StopOf
 query_opened rule layers device words = do
   sets ← each set_asked words

@@ -5,8 +5,8 @@ use Rattle.contract_words.specs.Sequences.{joined_each}
 use Rattle.contract_words.proofs.SequenceSteps.{with_front_nil}
 use Rattle.res_value.specs.Goal.{goal_seen}
 use Rattle.res_value.specs.declared.goal.Goal.{Goal}
-use Rattle.names.specs.declared.name.Name.{Name}
-use Rattle.names.specs.Names.{NameOf, name_of}
+use Rattle.names.specs.declared.wanted.Wanted.{Wanted}
+use Rattle.names.specs.Names.{WantedOf, wanted_of}
 use Rattle.names.specs.declared.named_goal.NamedGoal.{NamedGoal}
 use Rattle.names.specs.NamedGoal.{named_goal_of}
 use Rattle.names.specs.AskedNames.{names_in_goal}
@@ -22,7 +22,7 @@ unfolding goals_named
 loop-goal-init c =
     let stack = c.args.stack.now in
     record {
-      tells = subst (λ (names : List NameOf). Tells stack names c.in_ok-finder.finder) (ap (λ (names : List Name). map name_of names) c.deref.ensures.value ∙ c.in_ok-names.ensures) c.in_ok-finder.ensures;
+      tells = subst (λ (names : List WantedOf). Tells stack names c.in_ok-finder.finder) (ap (λ (names : List Wanted). map wanted_of names) c.deref.ensures.value ∙ c.in_ok-names.ensures) c.in_ok-finder.ensures;
       read = record {
         so_far = [];
         are = ap (λ (goals : List Goal). map goal_seen goals) c.new-first.ensures.items ∙ sym (take-none c.args.most);

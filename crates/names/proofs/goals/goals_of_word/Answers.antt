@@ -1,10 +1,11 @@
-use Rattle.std.proofs.Common.{◌++◌, List, [], ◌∷◌, map, Result, Ok, ℕ, sym, ap, subst, ◌∙◌}
+use Rattle.std.proofs.Common.{◌++◌, List, [], ◌∷◌, map, Result, Ok, sym, ap, subst, ◌∙◌}
 use Rattle.std.proofs.lemmas.Result.{err_from_is_err_and}
 use Rattle.std.specs.List.{flat_map}
 use Rattle.json_input.specs.Each.{each}
 use Rattle.res_value.specs.Goal.{GoalSeen, goal_seen}
 use Rattle.names.specs.declared.named.Named.{Named}
 use Rattle.names.specs.declared.named_goal.NamedGoal.{NamedGoal}
+use Rattle.names.specs.NameFault.{NameFaultOf}
 use Rattle.names.specs.Named.{named_of}
 use Rattle.names.specs.NamedGoal.{named_goal_of}
 use Rattle.names.specs.AskedNames.{names_in, names_in_goal}
@@ -17,7 +18,7 @@ use Rattle.names.proofs.goals.goals_of_word.Goals as goal
 
 pub returns-in_ok-goal-in-Ids-clause-found : goal.returns-in_ok-goal-in-Ids-clause-found
 returns-in_ok-goal-in-Ids-clause-found c = λ layers names told.
-    let wrapped : GoalSeen → Result (List GoalSeen) (List ℕ) = λ goal. Ok (goal ∷ []) in
+    let wrapped : GoalSeen → Result (List GoalSeen) NameFaultOf = λ goal. Ok (goal ∷ []) in
     ap (λ (word : NamedGoal). goals_of_word layers (named_goal_of word)) c.in-Ids.is ∙ ids-found layers (goal_seen c.in-Ids.goal) ∙ ap wrapped (sym c.in_ok-goal-in-Ids.ensures)
 
 pub returns-in_err-ids-in-Resources-clause-found : goal.returns-in_err-ids-in-Resources-clause-found

@@ -1,4 +1,4 @@
-use Rattle.std.proofs.Common.{◌++◌, map, take}
+use Rattle.std.proofs.Common.{map, take}
 use Rattle.res_value.specs.Goal.{goal_seen, IdGoal}
 use Rattle.names.specs.WordGoals.{IsFirst}
 use Rattle.names.proofs.goals.push_ids.Given as goal

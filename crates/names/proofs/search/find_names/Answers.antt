@@ -1,20 +1,19 @@
-use Rattle.std.proofs.Common.{◌≡◌, ℕ, List, map, Option, subst, sym, ap, ◌∙◌, arith}
-use Rattle.std.proofs.lemmas.Grind.{common_steps}
+use Rattle.std.proofs.Common.{List, Option, [], map, ap, ◌∙◌}
 use Rattle.std.specs.Option.{option_map}
 use Rattle.overlay_map.specs.res_value.declared.res_id.ResId.{ResId}
-use Rattle.names.specs.declared.sought.Sought.{Sought}
-use Rattle.names.specs.Sought.{entry_names, noted_in, ArePlacesOf}
-use Rattle.names.proofs.SoughtSteps.{entry_names-unfound, found-all-mapped}
+use Rattle.names.specs.declared.found.Found.{Found}
+use Rattle.names.specs.declared.wanted.Wanted.{Wanted}
+use Rattle.names.specs.Found.{found_among}
+use Rattle.names.specs.FoundSoFar.{first_of}
+use Rattle.names.specs.Names.{ids_with, wanted_of}
+use Rattle.names.proofs.SoughtSteps.{first-all}
 use Rattle.names.proofs.search.find_names.Goals as goal
-
-pub look_in_each-requires : goal.look_in_each-requires
-look_in_each-requires c =
-    subst (λ (names : List (List ℕ)). ArePlacesOf c.in_ok-places.places names)
-    (sym (ap (λ (s : List Sought). entry_names s) (c.deref_mut.ensures.value ∙ c.in_ok-sought.ensures) ∙ entry_names-unfound c.args.names.now)) c.in_ok-places.ensures
 
 pub returns : goal.returns
 returns c =
     let tables = map (λ table. table.now) c.args.tables.now in
-    let whole : c.deref.result.now ≡ c.look_in_each.new.sought = grind (arith, common_steps, c.deref.ensures.value, c.look_in_each.auto.sought, c.deref_mut.ensures.value, c.deref_mut.ensures.len, c.in_ok-sought.sought.ok) in
-    let sought = whole ∙ c.in_ok-look_in_each.ensures ∙ ap (λ (s : List Sought). map (noted_in tables) s) (c.deref_mut.ensures.value ∙ c.in_ok-sought.ensures) in
-    ap (λ (found : List (Option ResId)). map (option_map (λ id. id.0)) found) c.in_ok-found.ensures ∙ found-all-mapped tables c.args.names.now _ sought
+    ap (λ (found : List (Option ResId)). map (option_map (λ id. id.0)) found)
+    (c.in_ok-first.ensures
+    ∙ ap (λ (found : List Found). map first_of found) (c.deref-2.ensures.value ∙ c.in_ok-found.ensures)
+    ∙ ap (λ (wanted : List Wanted). map first_of (map (λ one. found_among (ids_with [] tables (wanted_of one))) wanted)) (c.deref.ensures.value ∙ c.in_ok-wanted.ensures))
+    ∙ first-all tables c.args.names.now

@@ -1,0 +1,241 @@
+-- For which pairs words ask.
+use Rattle.std.proofs.Common.{◌≡◌, ℕ, ◌==◌, ◌&&◌, ◌||◌, Bool, true, false, cond, List, [], ◌∷◌, ◌++◌, map, filter, Option, Some, None, refl, sym, ap, ◌∙◌}
+use Rattle.std.proofs.Math.Bool.{or-false}
+use Rattle.std.proofs.Math.Path.{fun_ext}
+use Rattle.std.proofs.lemmas.List.{append-nil, map-append}
+use Rattle.std.proofs.lemmas.List.Folds.{list_any-append}
+use Rattle.std.specs.BTreeMap.{get, is_at}
+use Rattle.std.specs.List.{flat_map, list_any}
+use Rattle.std.specs.Map.{lookup}
+use Rattle.std.specs.Option.{option_map_or}
+use Rattle.std.specs.Str.{bytes_eq}
+use Rattle.res_value.specs.ResId.{package_of}
+use Rattle.res_value.specs.declared.res_id.ResId.{ResId}
+use Rattle.names.specs.declared.found.Found.{Found}
+use Rattle.names.specs.declared.found.Found.TheVariants.{Nothing}
+use Rattle.names.specs.declared.named_set.NamedSet.{NamedSet}
+use Rattle.names.specs.declared.pair.Sides.{Sides}
+use Rattle.names.specs.declared.pair.Sides.TheVariants.{Removed, Added, Both}
+use Rattle.names.specs.declared.pair_words.PairWords.{PairWords}
+use Rattle.names.specs.Found.{found_among}
+use Rattle.names.specs.FoundSoFar.{also}
+use Rattle.names.specs.Label.{LabelOf, ByName, ById}
+use Rattle.names.specs.Named as word
+use Rattle.names.specs.NamedPairs.{asks_for, id_of_pair, is_named, is_of_type, is_on_a_side}
+use Rattle.names.specs.NamedSet.{NamedSetOf, SetOfOne, SetOfType, SetOfAll, named_set_of}
+use Rattle.names.specs.PackageWord.{PackageWordOf, Numbered, Called}
+use Rattle.names.specs.Packages.{PackageNameOf, is_asked_in, is_called}
+use Rattle.names.specs.Pairs.{PairOf}
+use Rattle.names.specs.PairWords.{by_id, found_for, word_of_name, word_of_package, words_for, words_for_label, words_for_sides, words_of_package, words_with, AreWordsFor, PutsFor}
+use Rattle.names.specs.WordSet.{is_same, is_same_package}
+use Rattle.names.proofs.FoundLaws.{also-again, each-among, each-append}
+use Rattle.names.proofs.WordSetSteps.{at_word, bytes_eq-sym, is_same-is, is_same-sym, named_set_of-at, order, same_set}
+
+-- ---- booleans
+
+and-false : (b : Bool) → (b && false) ≡ false
+and-false true = refl
+and-false false = refl
+
+both-and : (a b m : Bool) → ((a && m) || (b && m)) ≡ ((a || b) && m)
+both-and true true true = refl
+both-and true true false = refl
+both-and true false true = refl
+both-and true false false = refl
+both-and false b m = refl
+
+-- ---- the words for a package
+
+-- by a number no name of a package asks
+number-called : (other number : ℕ) (found : PackageNameOf) → list_any (is_same_package (Some (Numbered other))) (word_of_package number found) ≡ false
+number-called other number found = by (found.number == number) found.name
+  where
+    by : (same : Bool) (name : Option (List ℕ)) → list_any (is_same_package (Some (Numbered other))) (cond same (word_of_name name) []) ≡ false
+    by true None = refl
+    by true (Some own) = refl
+    by false name = refl
+
+none-called : (other number : ℕ) (packages : List PackageNameOf) → list_any (is_same_package (Some (Numbered other))) (flat_map (word_of_package number) packages) ≡ false
+none-called other number [] = refl
+none-called other number (found ∷ packages) =
+    list_any-append (is_same_package (Some (Numbered other))) (word_of_package number found) (flat_map (word_of_package number) packages)
+    ∙ ap (λ (any : Bool). any || list_any (is_same_package (Some (Numbered other))) (flat_map (word_of_package number) packages)) (number-called other number found)
+    ∙ none-called other number packages
+
+name-called : (name : List ℕ) (number : ℕ) (found : PackageNameOf) → list_any (is_same_package (Some (Called name))) (word_of_package number found) ≡ is_called name number found
+name-called name number found = by (found.number == number) found.name
+  where
+    by : (same : Bool) (own : Option (List ℕ)) → list_any (is_same_package (Some (Called name))) (cond same (word_of_name own) []) ≡ (same && option_map_or (λ text. bytes_eq text name) own false)
+    by true None = refl
+    by true (Some own) = or-false (bytes_eq name own) ∙ bytes_eq-sym name own
+    by false own = refl
+
+some-called : (name : List ℕ) (number : ℕ) (packages : List PackageNameOf)
+    → list_any (is_same_package (Some (Called name))) (flat_map (word_of_package number) packages) ≡ list_any (is_called name number) packages
+some-called name number [] = refl
+some-called name number (found ∷ packages) =
+    list_any-append (is_same_package (Some (Called name))) (word_of_package number found) (flat_map (word_of_package number) packages)
+    ∙ ap (λ (any : Bool). any || list_any (is_same_package (Some (Called name))) (flat_map (word_of_package number) packages)) (name-called name number found)
+    ∙ ap (λ (any : Bool). is_called name number found || any) (some-called name number packages)
+
+package-words : (packages : List PackageNameOf) (in_package : Option PackageWordOf) (number : ℕ) → list_any (is_same_package in_package) (words_of_package packages number) ≡ is_asked_in packages in_package number
+package-words packages None number = refl
+package-words packages (Some (Numbered other)) number = ap (λ (any : Bool). other == number || any) (none-called other number packages) ∙ or-false (other == number)
+package-words packages (Some (Called name)) number = some-called name number packages
+
+-- ---- the words for a name
+
+any-words : (f : NamedSetOf → Bool) (type_name entry_name : List ℕ) (test : Option PackageWordOf → Bool) (same : Bool)
+    → ((in_package : Option PackageWordOf) → list_any f (words_with type_name entry_name in_package) ≡ (test in_package && same))
+    → (words : List (Option PackageWordOf)) → list_any f (flat_map (words_with type_name entry_name) words) ≡ (list_any test words && same)
+any-words f type_name entry_name test same each [] = refl
+any-words f type_name entry_name test same each (in_package ∷ words) =
+    list_any-append f (words_with type_name entry_name in_package) (flat_map (words_with type_name entry_name) words)
+    ∙ ap (λ (any : Bool). any || list_any f (flat_map (words_with type_name entry_name) words)) (each in_package)
+    ∙ ap (λ (any : Bool). (test in_package && same) || any) (any-words f type_name entry_name test same each words)
+    ∙ both-and (test in_package) (list_any test words) same
+
+-- an id is that of a side, and never a label
+id-sides : (id : ResId) (sides : Sides) → list_any (is_same (by_id id)) (words_for_sides sides) ≡ is_on_a_side id sides
+id-sides id (Removed old) = or-false (id.0 == old.0)
+id-sides id (Added new) = or-false (id.0 == new.0)
+id-sides id (Both old new) = ap (λ (b : Bool). id.0 == old.0 || b) (or-false (id.0 == new.0))
+
+id-label : (packages : List PackageNameOf) (number : ℕ) (id : ResId) (label : LabelOf) → list_any (is_same (by_id id)) (words_for_label packages number label) ≡ false
+id-label packages number id (ByName name) =
+    any-words (is_same (by_id id)) name.type_name name.entry_name (λ in_package. false) false (λ in_package. refl) (words_of_package packages number)
+    ∙ and-false (list_any (λ in_package. false) (words_of_package packages number))
+id-label packages number id (ById other) = refl
+
+-- a name and a type are those of a label, and never a side
+name-sides : (in_package : Option PackageWordOf) (type_name entry_name : List ℕ) (sides : Sides) → list_any (is_same (SetOfOne (word.ByName in_package type_name entry_name))) (words_for_sides sides) ≡ false
+name-sides in_package type_name entry_name (Removed old) = refl
+name-sides in_package type_name entry_name (Added new) = refl
+name-sides in_package type_name entry_name (Both old new) = refl
+
+name-label : (packages : List PackageNameOf) (number : ℕ) (in_package : Option PackageWordOf) (type_name entry_name : List ℕ) (label : LabelOf)
+    → list_any (is_same (SetOfOne (word.ByName in_package type_name entry_name))) (words_for_label packages number label) ≡ (is_asked_in packages in_package number && is_named type_name entry_name label)
+name-label packages number in_package type_name entry_name (ByName name) =
+    let same = is_named type_name entry_name (ByName name) in
+    any-words (is_same (SetOfOne (word.ByName in_package type_name entry_name))) name.type_name name.entry_name (is_same_package in_package) same
+    (λ other. or-false (is_same_package in_package other && same)) (words_of_package packages number)
+    ∙ ap (λ (any : Bool). any && same) (package-words packages in_package number)
+name-label packages number in_package type_name entry_name (ById id) = sym (and-false (is_asked_in packages in_package number))
+
+type-sides : (in_package : Option PackageWordOf) (type_name : List ℕ) (sides : Sides) → list_any (is_same (SetOfType in_package type_name)) (words_for_sides sides) ≡ false
+type-sides in_package type_name (Removed old) = refl
+type-sides in_package type_name (Added new) = refl
+type-sides in_package type_name (Both old new) = refl
+
+type-label : (packages : List PackageNameOf) (number : ℕ) (in_package : Option PackageWordOf) (type_name : List ℕ) (label : LabelOf)
+    → list_any (is_same (SetOfType in_package type_name)) (words_for_label packages number label) ≡ (is_asked_in packages in_package number && is_of_type type_name label)
+type-label packages number in_package type_name (ByName name) =
+    let same = is_of_type type_name (ByName name) in
+    any-words (is_same (SetOfType in_package type_name)) name.type_name name.entry_name (is_same_package in_package) same
+    (λ other. or-false (is_same_package in_package other && same)) (words_of_package packages number)
+    ∙ ap (λ (any : Bool). any && same) (package-words packages in_package number)
+type-label packages number in_package type_name (ById id) = sym (and-false (is_asked_in packages in_package number))
+
+-- ---- a pair
+
+-- a word asks for a pair where it is among the words that do
+pub asks-words : (packages : List PackageNameOf) (one : NamedSetOf) (pair : PairOf) → list_any (is_same one) (words_for packages pair) ≡ asks_for packages one pair
+asks-words packages (SetOfOne (word.ById id)) pair =
+    let number = package_of (id_of_pair pair) in
+    list_any-append (is_same (by_id id)) (words_for_sides pair.sides) (words_for_label packages number pair.label)
+    ∙ ap (λ (b : Bool). list_any (is_same (by_id id)) (words_for_sides pair.sides) || b) (id-label packages number id pair.label)
+    ∙ or-false (list_any (is_same (by_id id)) (words_for_sides pair.sides)) ∙ id-sides id pair.sides
+asks-words packages (SetOfOne (word.ByName in_package type_name entry_name)) pair =
+    let number = package_of (id_of_pair pair) in
+    let one = SetOfOne (word.ByName in_package type_name entry_name) in
+    list_any-append (is_same one) (words_for_sides pair.sides) (words_for_label packages number pair.label)
+    ∙ ap (λ (b : Bool). b || list_any (is_same one) (words_for_label packages number pair.label)) (name-sides in_package type_name entry_name pair.sides)
+    ∙ name-label packages number in_package type_name entry_name pair.label
+asks-words packages (SetOfType in_package type_name) pair =
+    let number = package_of (id_of_pair pair) in
+    let one = SetOfType in_package type_name in
+    list_any-append (is_same one) (words_for_sides pair.sides) (words_for_label packages number pair.label)
+    ∙ ap (λ (b : Bool). b || list_any (is_same one) (words_for_label packages number pair.label)) (type-sides in_package type_name pair.sides)
+    ∙ type-label packages number in_package type_name pair.label
+asks-words packages SetOfAll pair = refl
+
+-- ---- what was found for a word
+
+abbrev pub or_nothing : Option Found → Found
+or_nothing found = option_map_or (λ one. one) found Nothing
+
+pub found_as : (words : PairWords) (key : NamedSet) → or_nothing (get order words.words key) ≡ found_for words (named_set_of key)
+found_as words key = ap (λ (test : NamedSet → Bool). or_nothing (lookup test words.words.entries)) (fun_ext (λ (other : NamedSet). same_set key other))
+
+found_at : (words : PairWords) (one : NamedSetOf) → or_nothing (get order words.words (at_word one)) ≡ found_for words one
+found_at words one = found_as words (at_word one) ∙ ap (found_for words) (named_set_of-at one)
+
+pub put-one : (key : NamedSet) (id : ResId) (found : Found) (old new : PairWords) → found ≡ also (found_for old (named_set_of key)) id
+    → ((q : NamedSet) → get order new.words q ≡ cond (is_at (order key) q) (Some found) (get order old.words q)) → PutsFor (named_set_of key ∷ []) id old new
+put-one key id found old new is updates = record {
+  put = λ one.
+      let there = named_set_of key in
+      let same : is_at (order key) (at_word one) ≡ is_same one there = same_set key (at_word one) ∙ ap (is_same there) (named_set_of-at one) ∙ is_same-sym there one in
+      sym (found_at new one)
+      ∙ ap or_nothing (updates (at_word one))
+      ∙ ap (λ (b : Bool). or_nothing (cond b (Some found) (get order old.words (at_word one)))) same
+      ∙ by one (is_same one there) refl;
+}
+  where
+    by : (one : NamedSetOf) (b : Bool) → is_same one (named_set_of key) ≡ b
+        → or_nothing (cond b (Some found) (get order old.words (at_word one))) ≡ cond (b || false) (also (found_for old one) id) (found_for old one)
+    by one true same = is ∙ ap (λ (w : NamedSetOf). also (found_for old w) id) (sym (is_same-is one (named_set_of key) same))
+    by one false same = found_at old one
+
+-- ---- several words
+
+pub put-none : (id : ResId) (words : PairWords) → PutsFor [] id words words
+put-none id words = record { put = λ one. refl }
+
+pub put-more : (so_far : List NamedSetOf) (more : NamedSetOf) (id : ResId) (old now new : PairWords) → PutsFor so_far id old now → PutsFor (more ∷ []) id now new → PutsFor (so_far ++ more ∷ []) id old new
+put-more so_far more id old now new before put = record {
+  put = λ one.
+      put.put one
+      ∙ ap (λ (found : Found). cond (is_same one more || false) (also found id) found) (before.put one)
+      ∙ by (list_any (is_same one) so_far) (is_same one more || false) (found_for old one)
+      ∙ ap (λ (any : Bool). cond any (also (found_for old one) id) (found_for old one)) (sym (list_any-append (is_same one) so_far (more ∷ [])));
+}
+  where
+    by : (a b : Bool) (found : Found) → cond b (also (cond a (also found id) found) id) (cond a (also found id) found) ≡ cond (a || b) (also found id) found
+    by true true found = also-again found id
+    by true false found = refl
+    by false true found = refl
+    by false false found = refl
+
+-- ---- several pairs
+
+among-more : (ids : List ResId) (id : ResId) → found_among (ids ++ id ∷ []) ≡ also (found_among ids) id
+among-more ids id = sym (each-among (ids ++ id ∷ [])) ∙ each-append Nothing ids (id ∷ []) ∙ ap (λ (found : Found). also found id) (each-among ids)
+
+kept-more : (test : PairOf → Bool) (pairs : List PairOf) (pair : PairOf) → filter test (pairs ++ pair ∷ []) ≡ filter test pairs ++ cond (test pair) (pair ∷ []) []
+kept-more test [] pair = refl
+kept-more test (first ∷ pairs) pair = by (test first) (kept-more test pairs pair)
+  where
+    by : (kept : Bool) → filter test (pairs ++ pair ∷ []) ≡ filter test pairs ++ cond (test pair) (pair ∷ []) []
+        → cond kept (first ∷ filter test (pairs ++ pair ∷ [])) (filter test (pairs ++ pair ∷ [])) ≡ cond kept (first ∷ filter test pairs) (filter test pairs) ++ cond (test pair) (pair ∷ []) []
+    by true others = ap (λ (all : List PairOf). first ∷ all) others
+    by false others = others
+
+pub words-none : (packages : List PackageNameOf) (words : PairWords) → ((one : NamedSetOf) → found_for words one ≡ Nothing) → AreWordsFor packages [] words
+words-none packages words none = none
+
+pub words-more : (packages : List PackageNameOf) (pairs : List PairOf) (pair : PairOf) (old new : PairWords) → AreWordsFor packages pairs old
+    → PutsFor (words_for packages pair) (id_of_pair pair) old new → AreWordsFor packages (pairs ++ pair ∷ []) new
+words-more packages pairs pair old new before put = λ one.
+    let test = asks_for packages one in
+    let ids = map id_of_pair (filter test pairs) in
+    put.put one
+    ∙ ap (λ (any : Bool). cond any (also (found_for old one) (id_of_pair pair)) (found_for old one)) (asks-words packages one pair)
+    ∙ ap (λ (found : Found). cond (test pair) (also found (id_of_pair pair)) found) (before one)
+    ∙ by ids (test pair)
+    ∙ sym (ap (λ (kept : List PairOf). found_among (map id_of_pair kept)) (kept-more test pairs pair)
+    ∙ ap found_among (map-append id_of_pair (filter test pairs) (cond (test pair) (pair ∷ []) [])))
+  where
+    by : (ids : List ResId) (asked : Bool) → cond asked (also (found_among ids) (id_of_pair pair)) (found_among ids) ≡ found_among (ids ++ map id_of_pair (cond asked (pair ∷ []) []))
+    by ids true = sym (among-more ids (id_of_pair pair))
+    by ids false = ap found_among (sym (append-nil ids))

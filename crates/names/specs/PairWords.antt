@@ -1,0 +1,72 @@
+-- The words that ask for a pair, and for which pairs words ask. Contracts within the crate alone speak of this.
+use Rattle.std.specs.Prelude.{◌≡◌, ◌==◌, ℕ, List, [], ◌∷◌, ◌++◌, Option, Some, None, Result, Ok, Err, if◌then◌else◌}
+use Rattle.std.specs.List.{flat_map, list_any}
+use Rattle.std.specs.Map.{lookup}
+use Rattle.std.specs.Option.{option_map_or}
+use Rattle.res_value.specs.ResId.{package_of}
+use Rattle.res_value.specs.declared.res_id.ResId.{ResId}
+use Rattle.names.specs.Named as word
+use Rattle.names.specs.NameFault.{NameFaultOf}
+use Rattle.names.specs.NamedPairs.{found_of_pairs, id_of_pair}
+use Rattle.names.specs.NamedSet.{NamedSetOf, SetOfOne, SetOfType, SetOfAll, named_set_of}
+use Rattle.names.specs.PackageWord.{PackageWordOf, Numbered, Called}
+use Rattle.names.specs.Packages.{PackageNameOf}
+use Rattle.names.specs.declared.found.Found.{Found}
+use Rattle.names.specs.declared.found.Found.TheVariants.{Nothing}
+use Rattle.names.specs.declared.pair.Sides.{Sides}
+use Rattle.names.specs.declared.pair.Sides.TheVariants.{Removed, Added, Both}
+use Rattle.names.specs.declared.pair_words.PairWords.{PairWords}
+use Rattle.names.specs.FoundSoFar.{also}
+use Rattle.names.specs.Label.{LabelOf, ByName, ById}
+use Rattle.names.specs.Pairs.{PairOf}
+use Rattle.names.specs.WordSet.{is_same}
+
+-- ---- the words that ask for a pair
+
+abbrev pub by_id : ResId → NamedSetOf
+by_id id = SetOfOne (word.ById id)
+
+abbrev pub words_for_sides : Sides → List NamedSetOf
+words_for_sides (Removed old) = by_id old ∷ []
+words_for_sides (Added new) = by_id new ∷ []
+words_for_sides (Both old new) = by_id old ∷ by_id new ∷ []
+
+-- by a name and its type
+abbrev pub words_with : List ℕ → List ℕ → Option PackageWordOf → List NamedSetOf
+words_with type_name entry_name in_package = SetOfType in_package type_name ∷ SetOfOne (word.ByName in_package type_name entry_name) ∷ []
+
+abbrev pub word_of_name : Option (List ℕ) → List (Option PackageWordOf)
+word_of_name None = []
+word_of_name (Some name) = Some (Called name) ∷ []
+
+abbrev pub word_of_package : ℕ → PackageNameOf → List (Option PackageWordOf)
+word_of_package number found = if found.number == number then word_of_name found.name else []
+
+-- what a word may have before its type that asks for this package
+abbrev pub words_of_package : List PackageNameOf → ℕ → List (Option PackageWordOf)
+words_of_package packages number = None ∷ Some (Numbered number) ∷ flat_map (word_of_package number) packages
+
+abbrev pub words_for_label : List PackageNameOf → ℕ → LabelOf → List NamedSetOf
+words_for_label packages number (ByName name) = flat_map (words_with name.type_name name.entry_name) (words_of_package packages number)
+words_for_label packages number (ById id) = []
+
+abbrev pub words_for : List PackageNameOf → PairOf → List NamedSetOf
+words_for packages pair = SetOfAll ∷ words_for_sides pair.sides ++ words_for_label packages (package_of (id_of_pair pair)) pair.label
+
+-- ---- what words were found for
+
+abbrev pub found_for : PairWords → NamedSetOf → Found
+found_for words one = option_map_or (λ found. found) (lookup (λ key. is_same one (named_set_of key)) words.words.entries) Nothing
+
+-- the words that ask for some of these pairs, with the ids of these
+abbrev pub AreWordsFor : List PackageNameOf → List PairOf → PairWords → Type 0
+AreWordsFor packages pairs words = (one : NamedSetOf) → found_for words one ≡ found_of_pairs packages pairs one
+
+-- nothing, or a fault
+abbrev pub unless : Option NameFaultOf → Result (Unit {0}) NameFaultOf
+unless (Some fault) = Err fault
+unless None = Ok tt
+
+-- these words ask for an id too
+pub record PutsFor (words : List NamedSetOf) (id : ResId) (old new : PairWords) : Type 0 where
+  pub put : (one : NamedSetOf) → found_for new one ≡ (if list_any (is_same one) words then also (found_for old one) id else found_for old one)

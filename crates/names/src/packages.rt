@@ -1,0 +1,112 @@
+//! The packages of tables.
+
+ghost use Rattle.std.specs.Prelude.{◌≡◌, ◌++◌, map, Ok, IfOk, OnOk};
+ghost use Rattle.std.specs.List.{list_any};
+ghost use Rattle.std.specs.Option.{option_map};
+ghost use Rattle.overlay_map.specs.resource_table.Package.{packages_of};
+ghost use Rattle.names.specs.PackageWord.{package_word_of};
+ghost use Rattle.names.specs.Packages.{package_name_of, name_of_package, packages_in, is_called, is_asked_in};
+
+use crate::package_word::PackageWord;
+use crate::text::name_text;
+use overlay_map::{Package, Table};
+use std::alloc::{AllocError, Global};
+use std::borrow::CowStr;
+
+/// The number and the name of a package.
+#[derive(Debug, Drop)]
+pub(crate) struct PackageName<'a> {
+    pub number: u8,
+    /// None where it is no text.
+    pub name: Option<CowStr<'a, Global>>,
+}
+
+/// The packages of all tables that are looked at.
+#[derive(Clone, Copy)]
+pub(crate) struct Packages<'p> {
+    pub all: &'p [PackageName<'p>],
+}
+
+impl PackageName<'_> {
+    ghost use Rattle.std.specs.Prelude.{◌≡◌};
+    ghost use Rattle.names.specs.Packages.{package_name_of, has_name};
+
+    /// Whether its name is this text.
+    pub fn has_name(&self, name: &str) -> bool
+        ensures { result ≡ has_name name.now (package_name_of self.now) }
+    {
+        match &self.name {
+            Some(own) => own.as_str() == name,
+            None => false,
+        }
+    }
+}
+
+/// Those of all packages of some tables, in their order.
+pub(crate) fn packages_in<'a>(
+    alloc: Global,
+    tables: &[&Table<'a>],
+) -> Result<Vec<PackageName<'a>>, AllocError>
+    ensures { IfOk result (λ all. map package_name_of all.items ≡ packages_in (map (λ table. table.now) tables.now)) }
+{
+    let mut all = Vec::new(alloc);
+    push_packages_in(alloc, tables, &mut all)?;
+    Ok(all)
+}
+
+/// Pushes them behind others.
+pub(crate) fn push_packages_in<'a>(
+    alloc: Global,
+    tables: &[&Table<'a>],
+    all: &mut Vec<PackageName<'a>>,
+) -> Result<(), AllocError>
+    ensures { OnOk result (map package_name_of all.new.items ≡ map package_name_of all.old.items ++ packages_in (map (λ table. table.now) tables.now)) }
+{
+    for table in tables {
+        push_packages(alloc, table.packages(), all)?;
+    }
+    Ok(())
+}
+
+fn push_packages<'a>(
+    alloc: Global,
+    packages: &[Package<'a>],
+    all: &mut Vec<PackageName<'a>>,
+) -> Result<(), AllocError>
+    ensures { OnOk result (map package_name_of all.new.items ≡ map package_name_of all.old.items ++ map name_of_package (packages_of packages.now)) }
+{
+    for package in packages {
+        let name = name_text(alloc, Ok(package.name()))?;
+        all.push(PackageName {
+            number: package.id(),
+            name,
+        })?;
+    }
+    Ok(())
+}
+
+/// Whether resources of the package with this number are asked for, where a word names this one.
+pub(crate) fn is_asked_in(
+    packages: &[PackageName<'_>],
+    word: Option<PackageWord<'_>>,
+    number: u8,
+) -> bool
+    ensures { result ≡ is_asked_in (map package_name_of packages.now) (option_map package_word_of word.entry) number }
+{
+    match word {
+        None => true,
+        Some(PackageWord::Number(other)) => other == number,
+        Some(PackageWord::Name(name)) => some_is_called(packages, name, number),
+    }
+}
+
+fn some_is_called(packages: &[PackageName<'_>], name: &str, number: u8) -> bool
+    ensures { result ≡ list_any (is_called name.now number) (map package_name_of packages.now) }
+{
+    'packages: for package in packages {
+        if package.number == number && package.has_name(name) {
+            return true;
+        }
+    }
+    false
+}
