@@ -534,7 +534,7 @@ PATH=$path
 if command -v python3 >/dev/null; then
     ends "links and files that pages name" 0 "python3 '$here/tests/check_pages.py' >&2"
     ends "DEFINITIONS.md and HEADLINE.md are up to date" 0 "python3 '$here/tools/definitions.py' --check"
-    ends "the tables of android_locales are those of its lists" 0 "python3 '$here/tools/locale_tables.py' --check"
+    ends "the tables of locales are those of its lists" 0 "python3 '$here/tools/locale_tables.py' --check"
     ends "known rows of a phone's locales" 0 "python3 '$here/tests/plain_locales.py' >&2"
     ends "planted bugs apply, and are few" 0 "python3 '$here/tests/planted_bugs.py' --apply >&2"
 else

@@ -15,7 +15,7 @@ import plain_rules
 from plain_certificates import Box, packed
 from plain_rules import COORDS, Layers, Record, end_text, first_mismatch, parts
 
-FACTS = os.path.join(os.path.dirname(os.path.dirname(os.path.abspath(__file__))), "crates", "android_locales", "data")
+FACTS = os.path.join(os.path.dirname(os.path.dirname(os.path.abspath(__file__))), "crates", "locales", "data")
 MOST_IN_LINE = 4
 LATIN_AMERICA = "es-419"
 SPECIAL_SPANISH = "es-US", "es-MX"

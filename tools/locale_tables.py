@@ -1,5 +1,5 @@
 #!/usr/bin/env python3
-"""Writes the tables of the crate android_locales from the lists in its folder data/.
+"""Writes the tables of the crate locales from the lists in its folder data/.
 
 usage: tools/locale_tables.py            writes them
        tools/locale_tables.py --check    ends with status 1 where one is not up to date
@@ -10,7 +10,7 @@ say the same is proved, so nothing rests on this program.
 import pathlib
 import sys
 
-CRATE = pathlib.Path(__file__).resolve().parent.parent / "crates" / "android_locales"
+CRATE = pathlib.Path(__file__).resolve().parent.parent / "crates" / "locales"
 NOTE = "Written by tools/locale_tables.py. Do not edit."
 
 
@@ -46,8 +46,8 @@ def definition(module, about, kind, name, lines):
     return f"specs/{module}.antt", (
         f"-- {about}\n-- {NOTE}\n"
         f"use Rattle.std.specs.Prelude.{{List, [], ◌∷◌}}\n"
-        f"use Rattle.android_locales.specs.declared.lines.{kind}.{{{kind}}}\n"
-        f"use Rattle.android_locales.specs.Lines.{{{maker}}}\n\n"
+        f"use Rattle.locales.specs.declared.lines.{kind}.{{{kind}}}\n"
+        f"use Rattle.locales.specs.Lines.{{{maker}}}\n\n"
         f"unfoldable pub {name} : List {kind}\n{name} =\n    " + "\n    ∷ ".join(calls) + "\n    ∷ []\n"
     )
 

@@ -13,7 +13,6 @@ pub use Rattle.reference_resolver.specs as reference_resolver
 pub use Rattle.reference_resolver.specs.config_match
 pub use Rattle.reference_resolver.specs.config_precedence
 pub use Rattle.reference_resolver.specs.config_record
-pub use Rattle.reference_resolver.specs.config_rules
 pub use Rattle.reference_resolver.specs.overlay_map
 pub use Rattle.reference_resolver.specs.res_value
 pub use Rattle.reference_resolver.specs.resource_table

@@ -3,15 +3,15 @@ use Rattle.std.proofs.Common.{◌≡◌, ℕ, ◌+◌, ◌*◌, ◌/◌, ◌%◌
 use Rattle.std.proofs.lemmas.Bool.Decides.{nat_tests}
 use Rattle.std.proofs.lemmas.Bool.{cases_eq}
 use Rattle.std.specs.Prelude.{if◌then◌else◌}
-use Rattle.config_precedence.specs.config_rules.declared.answer.Answer.{Answer}
-use Rattle.config_precedence.specs.config_rules.declared.answer.Answer.TheVariants.{Pass}
-use Rattle.config_precedence.specs.config_rules.declared.kind.Kind.{Kind}
-use Rattle.config_precedence.specs.config_rules.declared.kind.Kind.TheVariants as kinds
-use Rattle.config_precedence.specs.config_rules.declared.kind.Numbers.{Numbers}
-use Rattle.config_precedence.specs.config_rules.Answer.{answer_where, answer_of_condition}
-use Rattle.config_precedence.specs.config_rules.Comparisons.{is_given, differ, given_answer, larger_answer, is_larger_better, any_density, counted_density, density_answer, keys_answer, navigation_answer, screen_size_answer}
-use Rattle.config_precedence.specs.config_rules.Conditions.{is_equal, is_at_most, keys_suit}
-use Rattle.config_precedence.specs.config_rules.Kind.{kind_answer}
+use Rattle.config_precedence.specs.config_match.declared.answer.Answer.{Answer}
+use Rattle.config_precedence.specs.config_match.declared.answer.Answer.TheVariants.{Pass}
+use Rattle.config_precedence.specs.config_match.declared.kind.Kind.{Kind}
+use Rattle.config_precedence.specs.config_match.declared.kind.Kind.TheVariants as kinds
+use Rattle.config_precedence.specs.config_match.declared.kind.Numbers.{Numbers}
+use Rattle.config_precedence.specs.config_match.Answer.{answer_where, answer_of_condition}
+use Rattle.config_precedence.specs.config_match.Comparisons.{is_given, differ, given_answer, larger_answer, is_larger_better, any_density, counted_density, density_answer, keys_answer, navigation_answer, screen_size_answer}
+use Rattle.config_precedence.specs.config_match.Condition.{is_equal, is_at_most, keys_suit}
+use Rattle.config_precedence.specs.config_match.Kind.{kind_answer}
 use Rattle.box_answers.specs.NumberSet.{SetOf, RangeOf, NumbersOf, LocalesOf, IsIn}
 use Rattle.box_answers.specs.TriedNumbers.{clamped, tried_numbers, can_be_tried}
 use Rattle.box_answers.proofs.Sets.{get_or_same}

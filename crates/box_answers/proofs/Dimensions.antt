@@ -3,8 +3,8 @@ use Rattle.std.proofs.Common.{◌≡◌, ℕ, ◌==◌, Bool, true, false, arith
 use Rattle.std.specs.Prelude.{if◌then◌else◌, ℤ, pos, ◌-ℤ◌}
 use Rattle.std.proofs.lemmas.Int.{ints, by_lt_z}
 use lib.Signed.{lt_z, ◌<ℤ◌, ◌≤ℤ◌}
-use Rattle.config_precedence.specs.config_rules.declared.kind.Numbers.{Numbers}
-use Rattle.config_precedence.specs.config_rules.Comparisons.{rest_of, rest_of_both, smaller_answer, dimensions_answer}
+use Rattle.config_precedence.specs.config_match.declared.kind.Numbers.{Numbers}
+use Rattle.config_precedence.specs.config_match.Comparisons.{rest_of, rest_of_both, smaller_answer, dimensions_answer}
 
 lt_z-is : (x y : ℤ) → x <ℤ y → lt_z x y ≡ true
 lt_z-is x y h = grind (arith, ints)

@@ -5,15 +5,15 @@ use Rattle.std.proofs.lemmas.Bool.Decides.{nat_tests}
 use Rattle.std.proofs.lemmas.Int.{ints}
 use Rattle.std.specs.Prelude.{ℤ, ◌==◌, ◌&&◌, IsTrue}
 use Rattle.config_precedence.specs.config_record.declared.coord.Coord.{Coord}
-use Rattle.config_precedence.specs.config_rules.declared.answer.Answer.TheVariants.{Pass}
-use Rattle.config_precedence.specs.config_rules.declared.kind.Kind.{Kind}
-use Rattle.config_precedence.specs.config_rules.declared.kind.Kind.TheVariants as kinds
-use Rattle.config_precedence.specs.config_rules.declared.kind.Numbers.{Numbers}
-use Rattle.config_precedence.specs.config_rules.declared.rule.Rule.{Rule}
-use Rattle.config_precedence.specs.config_rules.Comparisons.{given_answer, larger_answer, always_larger_answer, smaller_answer, dimensions_answer, rest_of_both, screen_size_answer, density_answer, keys_answer, navigation_answer}
-use Rattle.config_precedence.specs.config_rules.Kind.{kind_answer}
-use Rattle.config_precedence.proofs.config_rules.LocaleLemmas.{locale_suits-nothing, locale_answer-same}
-use Rattle.config_precedence.specs.config_rules.Rule.{numbers_at, rule_answer}
+use Rattle.config_precedence.specs.config_match.declared.answer.Answer.TheVariants.{Pass}
+use Rattle.config_precedence.specs.config_match.declared.kind.Kind.{Kind}
+use Rattle.config_precedence.specs.config_match.declared.kind.Kind.TheVariants as kinds
+use Rattle.config_precedence.specs.config_match.declared.kind.Numbers.{Numbers}
+use Rattle.config_precedence.specs.config_match.declared.rule.Rule.{Rule}
+use Rattle.config_precedence.specs.config_match.Comparisons.{given_answer, larger_answer, always_larger_answer, smaller_answer, dimensions_answer, rest_of_both, screen_size_answer, density_answer, keys_answer, navigation_answer}
+use Rattle.config_precedence.specs.config_match.Kind.{kind_answer}
+use Rattle.config_precedence.proofs.config_match.LocaleLemmas.{locale_suits-nothing, locale_answer-same}
+use Rattle.config_precedence.specs.config_match.Rule.{numbers_at, rule_answer}
 use Rattle.box_answers.specs.Changes.{PassesEverywhere}
 
 given-same : (n d : ℕ) → given_answer n n d ≡ Pass

@@ -4,11 +4,11 @@ use Rattle.std.specs.Prelude.{if◌then◌else◌}
 use Rattle.std.proofs.lemmas.Bool.Decides.{nat_tests}
 use Rattle.config_precedence.specs.config_record.declared.coord.Coord.{Coord}
 use Rattle.config_precedence.specs.config_record.declared.coord.Coord.TheVariants as coords
-use Rattle.config_precedence.specs.config_rules.declared.answer.Answer.TheVariants.{Yes}
-use Rattle.config_precedence.specs.config_rules.Answer.{answer_where}
-use Rattle.config_precedence.specs.config_rules.Comparisons.{differ, is_larger_better, any_density, counted_density, is_better_density}
-use Rattle.config_precedence.specs.config_rules.Kind.{kind_answer}
-use Rattle.config_precedence.specs.config_rules.Rule.{numbers_at, rule_answer}
+use Rattle.config_precedence.specs.config_match.declared.answer.Answer.TheVariants.{Yes}
+use Rattle.config_precedence.specs.config_match.Answer.{answer_where}
+use Rattle.config_precedence.specs.config_match.Comparisons.{differ, is_larger_better, any_density, counted_density, is_better_density}
+use Rattle.config_precedence.specs.config_match.Kind.{kind_answer}
+use Rattle.config_precedence.specs.config_match.Rule.{numbers_at, rule_answer}
 use Rattle.box_answers.specs.Facts.{DensityTurnsOnce, SizesFromNormalUpAreAlike, DimensionsAskWhichAreZero}
 use Rattle.box_answers.proofs.Covers.{size-alike}
 use Rattle.box_answers.proofs.Dimensions.{dimensions-alike}

@@ -6,16 +6,16 @@ use Rattle.config_precedence.specs.config_record.declared.coord.Coord.{Coord}
 use Rattle.config_precedence.specs.config_record.Coord.{place_of}
 use Rattle.config_precedence.specs.config_record.ComparedNumber.{device_number}
 use Rattle.config_precedence.specs.config_record.DeviceSeen.{device_numbers}
-use Rattle.config_precedence.specs.config_rules.declared.answer.Answer.{Answer}
-use Rattle.config_precedence.specs.config_rules.declared.answer.Answer.TheVariants.{Yes, No, Pass}
-use Rattle.config_precedence.specs.config_rules.declared.kind.Kind.{Kind}
-use Rattle.config_precedence.specs.config_rules.declared.kind.Kind.TheVariants as kinds
-use Rattle.config_precedence.specs.config_rules.declared.kind.Numbers.{Numbers}
-use Rattle.config_precedence.specs.config_rules.declared.rule.Rule.{Rule}
-use Rattle.config_precedence.specs.config_rules.Answer.{is_pass, or_else}
-use Rattle.config_precedence.specs.config_rules.Rule.{numbers_at, rule_answer}
-use Rattle.config_precedence.specs.config_rules.Reads.{reads, reads_of, places_read, rises_from, AreReadInOrder}
-use Rattle.config_precedence.specs.config_rules.Table.{answer_of_table}
+use Rattle.config_precedence.specs.config_match.declared.answer.Answer.{Answer}
+use Rattle.config_precedence.specs.config_match.declared.answer.Answer.TheVariants.{Yes, No, Pass}
+use Rattle.config_precedence.specs.config_match.declared.kind.Kind.{Kind}
+use Rattle.config_precedence.specs.config_match.declared.kind.Kind.TheVariants as kinds
+use Rattle.config_precedence.specs.config_match.declared.kind.Numbers.{Numbers}
+use Rattle.config_precedence.specs.config_match.declared.rule.Rule.{Rule}
+use Rattle.config_precedence.specs.config_match.Answer.{is_pass, or_else}
+use Rattle.config_precedence.specs.config_match.Rule.{numbers_at, rule_answer}
+use Rattle.config_precedence.specs.config_match.Reads.{reads, reads_of, places_read, rises_from, AreReadInOrder}
+use Rattle.config_precedence.specs.config_match.Table.{answer_of_table}
 use Rattle.box_answers.specs.declared.matching.Parted.{Parted}
 use Rattle.box_answers.specs.NumberSet.{SetOf, IsIn}
 use Rattle.box_answers.specs.Members.{set_at, IsMember}

@@ -12,9 +12,9 @@ use Rattle.config_precedence.specs.config_record.declared.coord.Coord.{Coord}
 use Rattle.config_precedence.specs.config_record.Coord.{all_coords, place_of, number_at}
 use Rattle.config_precedence.specs.config_record.ComparedNumber.{device_number}
 use Rattle.config_precedence.proofs.config_record.ChangedNumber.{by_coord, number_at-set_same, number_at-set_other}
-use Rattle.config_precedence.specs.config_rules.declared.answer.Answer.{Answer}
-use Rattle.config_precedence.specs.config_rules.declared.rule.Rule.{Rule}
-use Rattle.config_precedence.specs.config_rules.Rule.{rule_answer}
+use Rattle.config_precedence.specs.config_match.declared.answer.Answer.{Answer}
+use Rattle.config_precedence.specs.config_match.declared.rule.Rule.{Rule}
+use Rattle.config_precedence.specs.config_match.Rule.{rule_answer}
 use Rattle.box_answers.specs.declared.number_set.NumberSet.{NumberSet}
 use Rattle.box_answers.specs.NumberSet.{SetOf, RangeOf, NumbersOf, LocalesOf, set_of, named_numbers, IsIn, IsProper, IsLeastIn}
 use Rattle.box_answers.specs.SearchedSet.{IsGreatestIn}

@@ -7,12 +7,12 @@ use Rattle.config_precedence.specs.config_record.Coord.{all_coords, place_of}
 use Rattle.config_precedence.specs.config_record.ComparedNumber.{device_number, record_number}
 use Rattle.config_precedence.specs.config_record.Record.{record_bytes}
 use Rattle.config_precedence.proofs.config_record.ChangedNumber.{by_coord}
-use Rattle.config_precedence.specs.config_rules.declared.rule.Rule.{Rule}
-use Rattle.config_precedence.specs.config_rules.Answer.{or_else, is_yes}
-use Rattle.config_precedence.specs.config_rules.Rule.{rule_answer}
-use Rattle.config_precedence.specs.config_rules.Reads.{reads, AgreeAt}
-use Rattle.config_precedence.specs.config_rules.Table.{answer_of_table}
-use Rattle.config_precedence.proofs.config_rules.ReadsLemmas.{depends}
+use Rattle.config_precedence.specs.config_match.declared.rule.Rule.{Rule}
+use Rattle.config_precedence.specs.config_match.Answer.{or_else, is_yes}
+use Rattle.config_precedence.specs.config_match.Rule.{rule_answer}
+use Rattle.config_precedence.specs.config_match.Reads.{reads, AgreeAt}
+use Rattle.config_precedence.specs.config_match.Table.{answer_of_table}
+use Rattle.config_precedence.proofs.config_match.ReadsLemmas.{depends}
 use Rattle.box_answers.specs.declared.question.Question.{Question}
 use Rattle.box_answers.specs.NumberSet.{SetOf, RangeOf, NumbersOf, LocalesOf, IsIn}
 use Rattle.box_answers.specs.Members.{IsMember}

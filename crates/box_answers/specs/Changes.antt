@@ -3,11 +3,11 @@ use Rattle.std.specs.Prelude.{◌≡◌, ◌≢◌, ℕ, ◌<◌, List}
 use Rattle.config_precedence.specs.config_record.declared.coord.Coord.{Coord}
 use Rattle.config_precedence.specs.config_record.Coord.{place_of}
 use Rattle.config_precedence.specs.config_record.ComparedNumber.{device_number}
-use Rattle.config_precedence.specs.config_rules.declared.answer.Answer.{Answer}
-use Rattle.config_precedence.specs.config_rules.declared.answer.Answer.TheVariants.{Pass}
-use Rattle.config_precedence.specs.config_rules.declared.rule.Rule.{Rule}
-use Rattle.config_precedence.specs.config_rules.Kind.{kind_answer}
-use Rattle.config_precedence.specs.config_rules.Rule.{numbers_at, rule_answer}
+use Rattle.config_precedence.specs.config_match.declared.answer.Answer.{Answer}
+use Rattle.config_precedence.specs.config_match.declared.answer.Answer.TheVariants.{Pass}
+use Rattle.config_precedence.specs.config_match.declared.rule.Rule.{Rule}
+use Rattle.config_precedence.specs.config_match.Kind.{kind_answer}
+use Rattle.config_precedence.specs.config_match.Rule.{numbers_at, rule_answer}
 use Rattle.box_answers.specs.NumberSet.{SetOf}
 use Rattle.box_answers.specs.Members.{IsMember}
 

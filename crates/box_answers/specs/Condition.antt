@@ -3,12 +3,12 @@ use Rattle.std.specs.Prelude.{◌≡◌, ◌≢◌, ℕ, Bool, true, false, List
 use Rattle.std.specs.List.{list_all}
 use Rattle.config_precedence.specs.config_record.declared.coord.Coord.{Coord}
 use Rattle.config_precedence.specs.config_record.ComparedNumber.{device_number}
-use Rattle.config_precedence.specs.config_rules.declared.kind.Kind.{Kind}
-use Rattle.config_precedence.specs.config_rules.declared.kind.Kind.TheVariants.{Dimensions}
-use Rattle.config_precedence.specs.config_rules.declared.rule.Rule.{Rule}
-use Rattle.config_precedence.specs.config_rules.Answer.{is_pass}
-use Rattle.config_precedence.specs.config_rules.Kind.{kind_answer}
-use Rattle.config_precedence.specs.config_rules.Table.{answer_of_table}
+use Rattle.config_precedence.specs.config_match.declared.kind.Kind.{Kind}
+use Rattle.config_precedence.specs.config_match.declared.kind.Kind.TheVariants.{Dimensions}
+use Rattle.config_precedence.specs.config_match.declared.rule.Rule.{Rule}
+use Rattle.config_precedence.specs.config_match.Answer.{is_pass}
+use Rattle.config_precedence.specs.config_match.Kind.{kind_answer}
+use Rattle.config_precedence.specs.config_match.Table.{answer_of_table}
 use Rattle.box_answers.specs.declared.condition.Condition.{Condition}
 use Rattle.box_answers.specs.declared.condition.Suiting.{Suiting}
 use Rattle.box_answers.specs.declared.condition.Suiting.TheVariants.{Always, Never, Mixed}

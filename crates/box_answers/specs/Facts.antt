@@ -3,11 +3,11 @@ use Rattle.std.specs.Prelude.{◌≡◌, ℕ, ◌<◌, ◌≤◌, ◌==◌, true
 use Rattle.config_precedence.specs.config_record.declared.coord.Coord as coord
 use Rattle.config_precedence.specs.config_record.declared.coord.Coord.TheVariants as coords
 use Rattle.config_precedence.specs.config_record.ComparedNumber.{record_number}
-use Rattle.config_precedence.specs.config_rules.declared.answer.Answer.TheVariants.{Yes, Pass}
-use Rattle.config_precedence.specs.config_rules.declared.kind.Kind.TheVariants as kinds
-use Rattle.config_precedence.specs.config_rules.declared.rule.Rule.{Rule}
-use Rattle.config_precedence.specs.config_rules.Comparisons.{counted_density, normal_size}
-use Rattle.config_precedence.specs.config_rules.Rule.{at, beside, rule_answer}
+use Rattle.config_precedence.specs.config_match.declared.answer.Answer.TheVariants.{Yes, Pass}
+use Rattle.config_precedence.specs.config_match.declared.kind.Kind.TheVariants as kinds
+use Rattle.config_precedence.specs.config_match.declared.rule.Rule.{Rule}
+use Rattle.config_precedence.specs.config_match.Comparisons.{counted_density, normal_size}
+use Rattle.config_precedence.specs.config_match.Rule.{at, beside, rule_answer}
 use Rattle.config_precedence.specs.config_match.Conditions.{all_conditions}
 use Rattle.box_answers.specs.NumberSet.{SetOf}
 use Rattle.box_answers.specs.Changes.{IsNowhere}

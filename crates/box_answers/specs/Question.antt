@@ -2,9 +2,9 @@
 use Rattle.std.specs.Prelude.{ℕ, Bool, List}
 use Rattle.config_precedence.specs.config_record.ComparedNumber.{record_number, device_number}
 use Rattle.config_precedence.specs.config_record.Record.{record_bytes}
-use Rattle.config_precedence.specs.config_rules.declared.answer.Answer.{Answer}
-use Rattle.config_precedence.specs.config_rules.Answer.{is_yes}
-use Rattle.config_precedence.specs.config_rules.Table.{answer_of_table}
+use Rattle.config_precedence.specs.config_match.declared.answer.Answer.{Answer}
+use Rattle.config_precedence.specs.config_match.Answer.{is_yes}
+use Rattle.config_precedence.specs.config_match.Table.{answer_of_table}
 use Rattle.box_answers.specs.declared.question.Question.{Question}
 
 abbrev pub table_says : Question → List ℕ → Answer

@@ -3,9 +3,9 @@ use Rattle.std.specs.Prelude.{ℕ, List, [], ◌∷◌, IsTrue}
 use Rattle.config_precedence.specs.config_record.Record.{record_bytes}
 use Rattle.config_precedence.specs.config_record.ComparedNumber.{record_number, device_number}
 use Rattle.config_precedence.specs.config_record.DeviceSeen.{device_numbers}
-use Rattle.config_precedence.specs.config_rules.declared.answer.Answer.{Answer}
-use Rattle.config_precedence.specs.config_rules.Rule.{rule_answer}
-use Rattle.config_precedence.specs.config_rules.Reads.{AreReadInOrder}
+use Rattle.config_precedence.specs.config_match.declared.answer.Answer.{Answer}
+use Rattle.config_precedence.specs.config_match.Rule.{rule_answer}
+use Rattle.config_precedence.specs.config_match.Reads.{AreReadInOrder}
 use Rattle.box_answers.specs.declared.rule_search.RuleSearch.{RuleSearch}
 use Rattle.box_answers.specs.Members.{sets_of, IsMember, IsBox}
 use Rattle.box_answers.specs.TriedNumbers.{stands_in_place}

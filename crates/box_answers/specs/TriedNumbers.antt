@@ -4,10 +4,10 @@ use Rattle.std.specs.Prelude.{ℕ, ◌+◌, Bool, true, false, List, [], ◌∷�
 use Rattle.std.specs.List.{list_all}
 use Rattle.config_precedence.specs.config_record.declared.coord.Coord.{Coord}
 use Rattle.config_precedence.specs.config_record.declared.coord.Coord.TheVariants as coords
-use Rattle.config_precedence.specs.config_rules.declared.kind.Kind.{Kind}
-use Rattle.config_precedence.specs.config_rules.declared.kind.Kind.TheVariants as kinds
-use Rattle.config_precedence.specs.config_rules.declared.rule.Rule.{Rule}
-use Rattle.config_precedence.specs.config_rules.Conditions.{soft_keys}
+use Rattle.config_precedence.specs.config_match.declared.kind.Kind.{Kind}
+use Rattle.config_precedence.specs.config_match.declared.kind.Kind.TheVariants as kinds
+use Rattle.config_precedence.specs.config_match.declared.rule.Rule.{Rule}
+use Rattle.config_precedence.specs.config_match.Condition.{soft_keys}
 use Rattle.box_answers.specs.NumberSet.{SetOf, RangeOf, NumbersOf, LocalesOf}
 
 -- ---- the rules that can be tried so

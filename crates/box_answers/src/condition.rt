@@ -1,7 +1,7 @@
 //! What one condition says of all numbers of a set.
 
 ghost use Rattle.std.specs.Prelude.{◌≡◌, ◌≢◌, IsTrue};
-ghost use Rattle.config_precedence.specs.config_rules.declared.kind.Kind.TheVariants as kinds;
+ghost use Rattle.config_precedence.specs.config_match.declared.kind.Kind.TheVariants as kinds;
 ghost use Rattle.box_answers.specs.NumberSet.{set_of, IsProper};
 ghost use Rattle.box_answers.specs.SearchedSet.{IsConvex};
 ghost use Rattle.box_answers.specs.TriedNumbers.{can_be_tried};

@@ -4,7 +4,7 @@ ghost use Rattle.std.specs.Prelude.{◌≡◌, IfSome, IfNone};
 ghost use Rattle.config_precedence.specs.config_record.Record.{record_bytes};
 ghost use Rattle.config_precedence.specs.config_record.ComparedNumber.{record_number, device_number};
 ghost use Rattle.config_precedence.specs.config_record.DeviceSeen.{device_numbers};
-ghost use Rattle.config_precedence.specs.config_rules.Reads.{AreReadInOrder};
+ghost use Rattle.config_precedence.specs.config_match.Reads.{AreReadInOrder};
 ghost use Rattle.box_answers.specs.Members.{sets_of, set_at, IsMember, IsBox};
 ghost use Rattle.box_answers.specs.NumberSet.{IsIn};
 ghost use Rattle.box_answers.specs.Sameness.{IsExact};

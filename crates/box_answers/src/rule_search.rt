@@ -2,8 +2,8 @@
 
 ghost use Rattle.std.specs.Prelude.{◌≡◌, ◌≢◌, ◌↔◌, ℕ, [], ◌∷◌, IfSome, IfNone, IsTrue, false};
 ghost use Rattle.config_precedence.specs.config_record.DeviceSeen.{device_numbers};
-ghost use Rattle.config_precedence.specs.config_rules.Answer.{is_pass};
-ghost use Rattle.config_precedence.specs.config_rules.Reads.{reads};
+ghost use Rattle.config_precedence.specs.config_match.Answer.{is_pass};
+ghost use Rattle.config_precedence.specs.config_match.Reads.{reads};
 ghost use Rattle.box_answers.specs.Members.{sets_of, set_at};
 ghost use Rattle.box_answers.specs.NumberSet.{IsIn};
 

@@ -5,7 +5,7 @@ ghost use Rattle.config_precedence.specs.config_record.Record.{record_bytes};
 ghost use Rattle.config_precedence.specs.config_record.ComparedNumber.{record_number};
 ghost use Rattle.config_precedence.specs.config_match.Matching.{is_match};
 ghost use Rattle.config_precedence.specs.Precedence.{is_better};
-ghost use Rattle.config_precedence.specs.config_rules.Reads.{AreReadInOrder};
+ghost use Rattle.config_precedence.specs.config_match.Reads.{AreReadInOrder};
 ghost use Rattle.box_answers.specs.Members.{sets_of, IsBox};
 ghost use Rattle.box_answers.specs.Question.{answered};
 ghost use Rattle.box_answers.specs.TriedNumbers.{StandInPlace};

@@ -2,7 +2,7 @@
 
 ghost use Rattle.std.specs.Prelude.{◌≡◌, ◌≢◌, ℕ, List, IfSome, IfNone};
 ghost use Rattle.config_precedence.specs.config_record.DeviceSeen.{device_numbers};
-ghost use Rattle.config_precedence.specs.config_rules.Reads.{AreReadInOrder};
+ghost use Rattle.config_precedence.specs.config_match.Reads.{AreReadInOrder};
 ghost use Rattle.box_answers.specs.Members.{sets_of, IsMember, IsBox};
 ghost use Rattle.box_answers.specs.Question.{table_says, answered};
 ghost use Rattle.box_answers.specs.MemberAnswers.{IsOneThatAnswers};

@@ -13,6 +13,5 @@ pub use Rattle.bags_themes.specs.reference_resolver
 pub use Rattle.bags_themes.specs.config_match
 pub use Rattle.bags_themes.specs.config_precedence
 pub use Rattle.bags_themes.specs.config_record
-pub use Rattle.bags_themes.specs.config_rules
 pub use Rattle.bags_themes.specs.overlay_map
 pub use Rattle.bags_themes.specs.type_chunks

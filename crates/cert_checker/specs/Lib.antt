@@ -11,7 +11,6 @@ pub use Rattle.box_trace.specs as box_trace
 pub use Rattle.box_trace.specs.config_match
 pub use Rattle.box_trace.specs.config_precedence
 pub use Rattle.box_trace.specs.config_record
-pub use Rattle.box_trace.specs.config_rules
 pub use Rattle.box_trace.specs.overlay_map
 pub use Rattle.box_trace.specs.reference_resolver
 pub use Rattle.box_trace.specs.type_chunks

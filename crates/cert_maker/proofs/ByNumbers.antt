@@ -6,8 +6,8 @@ use Rattle.std.specs.Prelude.{Bool}
 use Rattle.std.specs.List.{flat_map}
 use Rattle.cert_checker.specs.config_record.declared.coord.Coord.{Coord}
 use Rattle.cert_checker.specs.config_record.ComparedNumber.{record_number, device_number}
-use Rattle.cert_checker.specs.config_rules.Answer.{is_pass, is_yes}
-use Rattle.cert_checker.specs.config_rules.Table.{answer_of_table}
+use Rattle.cert_checker.specs.config_match.Answer.{is_pass, is_yes}
+use Rattle.cert_checker.specs.config_match.Table.{answer_of_table}
 use Rattle.cert_checker.specs.config_match.Conditions.{all_conditions}
 use Rattle.cert_checker.specs.config_match.Matching.{is_match}
 use Rattle.cert_checker.specs.config_precedence.Rules.{all_rules}

@@ -13,9 +13,9 @@ use Rattle.cert_checker.specs.config_record.declared.coord.Coord.TheVariants as 
 use Rattle.cert_checker.specs.config_record.locales.declared.locale.Locale.{Locale}
 use Rattle.cert_checker.specs.config_record.ComparedNumber.{device_number}
 use Rattle.cert_checker.specs.config_record.locales.LocaleNumber.{locale_number, locale_of_number}
-use Rattle.cert_checker.specs.config_record.android_locales.declared.locale_rule.LocaleRule.{LocaleRule}
-use Rattle.cert_checker.specs.config_record.android_locales.LocaleRule.{rule_of}
-use Rattle.cert_checker.specs.config_record.android_locales.Text.{IsGiven, IsGivenBy}
+use Rattle.cert_checker.specs.config_record.locales.declared.locale_rule.LocaleRule.{LocaleRule}
+use Rattle.cert_checker.specs.config_record.locales.LocaleRule.{rule_of}
+use Rattle.cert_checker.specs.config_record.locales.Text.{IsGiven, IsGivenBy}
 use Rattle.cert_checker.specs.config_record.Coord.{place_of}
 use Rattle.cert_checker.proofs.config_record.ChangedNumber.{by_coord, number_at-set_same, number_at-set_other}
 use Rattle.cert_checker.specs.config_record.Device.{CanHave}

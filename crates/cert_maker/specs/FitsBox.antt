@@ -1,6 +1,6 @@
 -- What a node of a tree for a box says is within the limits of the format.
 use Rattle.std.specs.Prelude.{List}
-use Rattle.cert_checker.specs.config_record.android_locales.declared.locale_rule.LocaleRule.{LocaleRule}
+use Rattle.cert_checker.specs.config_record.locales.declared.locale_rule.LocaleRule.{LocaleRule}
 use Rattle.cert_checker.specs.box_answers.NumberSet.{SetOf}
 use Rattle.cert_checker.specs.config_box.ByRule.{IsByRule}
 use Rattle.cert_checker.specs.cert_tree.Certificate.{NodeOf, NodeFits}

@@ -1,7 +1,7 @@
 //! The test that parts members where they part.
 
 ghost use Rattle.std.specs.Prelude.{◌≡◌, ℕ, ◌<◌, All, List, length, filter, slice_index, IfOk};
-ghost use Rattle.cert_checker.specs.config_record.android_locales.Text.{IsGiven};
+ghost use Rattle.cert_checker.specs.config_record.locales.Text.{IsGiven};
 ghost use Rattle.cert_checker.specs.config_record.locales.LocaleNumber.{locale_number, locale_of_number};
 ghost use Rattle.cert_checker.specs.config_record.Device.{CanHave};
 ghost use Rattle.cert_checker.specs.config_record.DeviceSeen.{device_numbers};

@@ -4,7 +4,7 @@ use Rattle.serde_json.specs.Data.{Data}
 use Rattle.contract_words.specs.Faults.{◌>>=◌}
 use Rattle.json_input.specs.Json.{value_of}
 use Rattle.json_input.proofs.LineFeed.{line-means}
-use Rattle.config_box.specs.config_record.android_locales.declared.locale_rule.LocaleRule.{LocaleRule}
+use Rattle.config_box.specs.config_record.locales.declared.locale_rule.LocaleRule.{LocaleRule}
 use Rattle.cert_tree.specs.Certificate.{GoalOf}
 use Rattle.cert_tree.specs.declared.cert_fault.CertFault.TheVariants.{Syntax}
 use Rattle.cert_tree.specs.CertJson.{goals_in_value, cert_in_by}

@@ -3,7 +3,7 @@ use Rattle.std.proofs.Common.{◌≡◌, ℕ, ◌+◌, Bool, List, [], ◌∷◌
 use Rattle.std.proofs.lemmas.List.{length-map, map-append}
 use Rattle.serde_json.specs.View.{view}
 use Rattle.serde_json.specs.declared.value.Value.{Value}
-use Rattle.config_box.specs.config_record.android_locales.declared.locale_rule.LocaleRule.{LocaleRule}
+use Rattle.config_box.specs.config_record.locales.declared.locale_rule.LocaleRule.{LocaleRule}
 use Rattle.cert_tree.specs.declared.cert.CertGoal.{CertGoal}
 use Rattle.cert_tree.specs.declared.cert_fault.CertFault.{CertFault}
 use Rattle.cert_tree.specs.declared.cert_fault.CertFault.TheVariants.{Shape}

@@ -22,8 +22,8 @@ use Rattle.config_box.specs.config_record.declared.coord.Coord.TheVariants as co
 use Rattle.config_box.specs.config_record.locales.declared.locale.Locale.{Locale}
 use Rattle.config_box.specs.config_record.locales.declared.locale.LocaleFault.{LocaleFault}
 use Rattle.config_box.specs.config_record.Coord.{all_coords, name_of}
-use Rattle.config_box.specs.config_record.android_locales.declared.locale_rule.LocaleRule.{LocaleRule}
-use Rattle.config_box.specs.config_record.android_locales.Text.{locale_by, locale_text, IsGivenBy}
+use Rattle.config_box.specs.config_record.locales.declared.locale_rule.LocaleRule.{LocaleRule}
+use Rattle.config_box.specs.config_record.locales.Text.{locale_by, locale_text, IsGivenBy}
 use Rattle.res_value.specs.declared.res_id.ResId.{ResId}
 use Rattle.res_value.specs.declared.value.Value.{Value}
 use Rattle.res_value.specs.ResId.{id_of, id_text}

@@ -8,8 +8,8 @@ use Rattle.hex.specs.Hex.{encode_lower}
 use Rattle.config_box.specs.config_record.locales.declared.locale.Locale.{Locale}
 use Rattle.config_box.specs.config_record.locales.Locale.{dash, first_letter, first_digit, is_small_letter, is_capital_letter, is_digit, packed, part_of, language_of, region_of, unpacked, is_spelled, language_text, region_text, plain_text}
 use Rattle.config_box.specs.config_record.locales.Zero.{is_zero}
-use Rattle.config_box.specs.config_record.android_locales.Words.{number_of_script}
-use Rattle.config_box.specs.config_record.android_locales.Text.{written_script, likely_number, language_alone, region_alone, text_with_script, shows_script, locale_text}
+use Rattle.config_box.specs.config_record.locales.Words.{number_of_script}
+use Rattle.config_box.specs.config_record.locales.Text.{written_script, likely_number, language_alone, region_alone, text_with_script, shows_script, locale_text}
 use Rattle.config_box.proofs.config_record.locales.LocaleLemmas.{of_languages, of_regions}
 use Rattle.res_value.proofs.IdText.{digits-ascii}
 

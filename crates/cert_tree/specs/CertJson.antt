@@ -12,9 +12,9 @@ use Rattle.config_box.specs.config_record.declared.coord.Coord as coord
 use Rattle.config_box.specs.config_record.declared.coord.Coord.TheVariants as coords
 use Rattle.config_box.specs.config_record.locales.declared.locale.Locale.{Locale}
 use Rattle.config_box.specs.config_record.Coord.{all_coords, name_of}
-use Rattle.config_box.specs.config_record.android_locales.declared.locale_rule.LocaleRule.{LocaleRule}
-use Rattle.config_box.specs.config_record.android_locales.declared.locale_rule.LocaleRule.TheVariants.{LanguageAndRegion}
-use Rattle.config_box.specs.config_record.android_locales.Text.{locale_by}
+use Rattle.config_box.specs.config_record.locales.declared.locale_rule.LocaleRule.{LocaleRule}
+use Rattle.config_box.specs.config_record.locales.declared.locale_rule.LocaleRule.TheVariants.{LanguageAndRegion}
+use Rattle.config_box.specs.config_record.locales.Text.{locale_by}
 use Rattle.res_value.specs.declared.res_id.ResId.{ResId}
 use Rattle.res_value.specs.ResId.{id_of}
 use Rattle.cert_tree.specs.declared.cert_fault.CertFault.{CertFault}

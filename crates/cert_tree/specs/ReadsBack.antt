@@ -3,7 +3,7 @@
 use Rattle.std.specs.Prelude.{◌≡◌, ◌+◌, ◌≤◌, ◌||◌, ℕ, Bool, true, length, Some, Ok}
 use Rattle.std.specs.List.{All}
 use Rattle.config_box.specs.config_record.declared.coord.Coord.{Coord}
-use Rattle.config_box.specs.config_record.android_locales.declared.locale_rule.LocaleRule.{LocaleRule}
+use Rattle.config_box.specs.config_record.locales.declared.locale_rule.LocaleRule.{LocaleRule}
 use Rattle.res_value.specs.declared.res_id.ResId.{ResId}
 use Rattle.res_value.specs.ResId.{id_of, id_text}
 use Rattle.cert_tree.specs.declared.cert_fault.CertFault.{CertFault}

@@ -33,7 +33,7 @@ pub struct CertGoal {
 impl Cert {
     ghost use Rattle.cert_tree.specs.Certificate.{goals_of, CertFits};
     ghost use Rattle.cert_tree.specs.CertJson.{cert_in, cert_in_by};
-    ghost use Rattle.config_box.specs.config_record.android_locales.declared.locale_rule.LocaleRule as locale_rule;
+    ghost use Rattle.config_box.specs.config_record.locales.declared.locale_rule.LocaleRule as locale_rule;
     ghost use Rattle.cert_tree.specs.WrittenJson.{cert_data};
 
     /// The certificate of a JSON text.

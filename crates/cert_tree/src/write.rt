@@ -7,7 +7,7 @@ ghost use Rattle.cert_tree.specs.WrittenJson.{number_data, id_data, locale_data,
 ghost use Rattle.config_box.specs.Tests.{choice_of, test_of};
 ghost use Rattle.cert_tree.specs.Certificate.{TestAt, is_id, node_of, goal_of, goals_of, CertFits};
 ghost use Rattle.res_value.specs.Goal.{goal_seen};
-ghost use Rattle.config_box.specs.config_record.android_locales.declared.locale_rule.LocaleRule as locale_rule;
+ghost use Rattle.config_box.specs.config_record.locales.declared.locale_rule.LocaleRule as locale_rule;
 ghost use Rattle.cert_tree.specs.CertJson.{goals_in_value};
 ghost use Rattle.cert_tree.specs.ReadsBack.{NumberReadsBack, IdReadsBack, ChoiceReadsBack, NodeReadsBack, GoalReadsBack};
 

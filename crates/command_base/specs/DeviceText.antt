@@ -3,7 +3,7 @@ use Rattle.std.specs.Prelude.{ℕ, List, Result, Ok, if◌then◌else◌}
 use Rattle.contract_words.specs.Faults.{◌>>=◌}
 use Rattle.config_words.specs.Fault.{FaultOf, NoQualifier, NoDevice}
 use Rattle.config_words.specs.Printed.{is_printed, device_of_printed_by}
-use Rattle.command_base.specs.answer_text.config_record.android_locales.declared.locale_rule.LocaleRule.{LocaleRule}
+use Rattle.command_base.specs.answer_text.config_record.locales.declared.locale_rule.LocaleRule.{LocaleRule}
 use Rattle.command_base.specs.answer_text.config_record.DeviceJson.{device_in_json_by}
 use Rattle.command_base.specs.declared.device_text.DeviceText.{DeviceText}
 use Rattle.command_base.specs.declared.device_text.DeviceText.TheVariants as texts

@@ -20,11 +20,11 @@ use Rattle.box_answers.specs.config_record.Coord.{all_coords, place_of, greatest
 use Rattle.box_answers.specs.config_record.locales.LocaleNumber.{locale_of_number}
 use Rattle.box_answers.specs.config_record.ComparedNumber.{device_number}
 use Rattle.box_answers.specs.config_record.locales.Locale.{plain_text}
-use Rattle.box_answers.specs.config_record.android_locales.declared.locale_rule.LocaleRule.{LocaleRule}
-use Rattle.box_answers.specs.config_record.android_locales.declared.locale_rule.LocaleRule.TheVariants.{LanguageAndRegion, Android}
-use Rattle.box_answers.specs.config_record.android_locales.LocaleNumber.{number_of}
-use Rattle.box_answers.specs.config_record.android_locales.Facts.{likely_of}
-use Rattle.box_answers.specs.config_record.android_locales.Text.{in_likely_script, scripted_locale_of, locale_by, locale_text}
+use Rattle.box_answers.specs.config_record.locales.declared.locale_rule.LocaleRule.{LocaleRule}
+use Rattle.box_answers.specs.config_record.locales.declared.locale_rule.LocaleRule.TheVariants.{LanguageAndRegion, Android}
+use Rattle.box_answers.specs.config_record.locales.TextNumber.{number_of}
+use Rattle.box_answers.specs.config_record.locales.Facts.{likely_of}
+use Rattle.box_answers.specs.config_record.locales.Text.{in_likely_script, scripted_locale_of, locale_by, locale_text}
 use Rattle.config_box.specs.ByRule.{IsOfRule, IsSetBy, IsByRule}
 use Rattle.box_answers.proofs.config_record.DeviceLemmas.{inside-within, inside-some, inside-can}
 use Rattle.box_answers.specs.declared.number_set.NumberSet.{NumberSet}

@@ -12,9 +12,9 @@ use Rattle.box_answers.specs.config_record.locales.declared.locale.LocaleFault.{
 use Rattle.box_answers.specs.config_record.locales.declared.locale.LocaleFault.TheVariants as of_locale
 use Rattle.box_answers.specs.config_record.Coord.{is_outside}
 use Rattle.box_answers.specs.config_record.locales.LocaleNumber.{locale_number}
-use Rattle.box_answers.specs.config_record.android_locales.declared.locale_rule.LocaleRule.{LocaleRule}
-use Rattle.box_answers.specs.config_record.android_locales.declared.locale_rule.LocaleRule.TheVariants.{LanguageAndRegion, Android}
-use Rattle.box_answers.specs.config_record.android_locales.Text.{locale_by}
+use Rattle.box_answers.specs.config_record.locales.declared.locale_rule.LocaleRule.{LocaleRule}
+use Rattle.box_answers.specs.config_record.locales.declared.locale_rule.LocaleRule.TheVariants.{LanguageAndRegion, Android}
+use Rattle.box_answers.specs.config_record.locales.Text.{locale_by}
 use Rattle.box_answers.specs.NumberSet as sets
 use Rattle.box_answers.specs.Members.{most_values}
 use Rattle.config_box.specs.declared.box_fault.BoxFault.{BoxFault}

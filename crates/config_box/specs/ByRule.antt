@@ -4,9 +4,9 @@ use Rattle.box_answers.specs.config_record.declared.coord.Coord as coord
 use Rattle.box_answers.specs.config_record.declared.coord.Coord.TheVariants as coords
 use Rattle.box_answers.specs.config_record.locales.LocaleNumber.{locale_of_number}
 use Rattle.box_answers.specs.config_record.Device.{device_locale}
-use Rattle.box_answers.specs.config_record.android_locales.declared.locale_rule.LocaleRule.{LocaleRule}
-use Rattle.box_answers.specs.config_record.android_locales.LocaleRule.{rule_of}
-use Rattle.box_answers.specs.config_record.android_locales.Text.{IsGiven}
+use Rattle.box_answers.specs.config_record.locales.declared.locale_rule.LocaleRule.{LocaleRule}
+use Rattle.box_answers.specs.config_record.locales.LocaleRule.{rule_of}
+use Rattle.box_answers.specs.config_record.locales.Text.{IsGiven}
 use Rattle.box_answers.specs.NumberSet.{SetOf, IsIn}
 use Rattle.box_answers.specs.Members.{IsMember, IsSetAt}
 

@@ -49,7 +49,7 @@ impl Model for ConfigBox {
 impl ConfigBox {
     ghost use Rattle.config_box.specs.BoxJson.{box_in, box_in_by};
     ghost use Rattle.config_box.specs.ByRule.{IsByRule};
-    ghost use Rattle.box_answers.specs.config_record.android_locales.declared.locale_rule.LocaleRule.TheVariants.{LanguageAndRegion};
+    ghost use Rattle.box_answers.specs.config_record.locales.declared.locale_rule.LocaleRule.TheVariants.{LanguageAndRegion};
     ghost use Rattle.config_box.specs.BoxSeen.{values_seen};
     ghost use Rattle.config_box.specs.Halves.{IsSplit, HalvesKeepAnswers};
     ghost use Rattle.config_box.specs.Joined.{IsJoined, HasJoinedSets, CannotJoin};

@@ -1,6 +1,8 @@
+pub mod TableLemmas
+pub mod ReadsLemmas
+pub mod LocaleLemmas
 pub mod RegionAlone
 pub mod NoMismatch
 pub mod OtherLocale
 pub mod SetAside
-pub use Rattle.config_rules.proofs as config_rules
-pub use Rattle.config_rules.proofs.config_record
+pub use Rattle.config_record.proofs as config_record

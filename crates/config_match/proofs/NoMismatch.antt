@@ -1,11 +1,11 @@
 -- Nothing fails exactly where a record matches.
 use Rattle.std.proofs.Common.{◌≡◌, Bool, true, false, if◌then◌else◌, ℕ, List, Option, Some, None, is_none, refl, sym}
 use Rattle.std.specs.Prelude.{option_map}
-use Rattle.config_rules.specs.config_record.ComparedNumber.{record_number, device_number}
-use Rattle.config_rules.specs.declared.rule.Rule.{Rule}
-use Rattle.config_rules.specs.Answer.{is_pass}
-use Rattle.config_rules.specs.Table.{answer_of_table, rule_of_table}
-use Rattle.config_rules.proofs.TableLemmas.{no_rule}
+use Rattle.config_match.specs.config_record.ComparedNumber.{record_number, device_number}
+use Rattle.config_match.specs.declared.rule.Rule.{Rule}
+use Rattle.config_match.specs.Answer.{is_pass}
+use Rattle.config_match.specs.Table.{answer_of_table, rule_of_table}
+use Rattle.config_match.proofs.TableLemmas.{no_rule}
 use Rattle.config_match.specs.declared.reason.Mismatch.TheVariants.{SetAside}
 use Rattle.config_match.specs.Conditions.{all_conditions}
 use Rattle.config_match.specs.Matching.{is_match, is_set_aside_at, mismatch_at, mismatch_of}

@@ -1,8 +1,8 @@
 -- A record for a locale that does not suit the device does not match it.
 use Rattle.std.proofs.Common.{◌≡◌, false, ℕ, List}
-use Rattle.config_rules.specs.config_record.declared.coord.Coord.TheVariants as coords
-use Rattle.config_rules.specs.config_record.ComparedNumber.{record_number, device_number}
-use Rattle.config_rules.specs.Conditions.{locale_suits}
+use Rattle.config_match.specs.config_record.declared.coord.Coord.TheVariants as coords
+use Rattle.config_match.specs.config_record.ComparedNumber.{record_number, device_number}
+use Rattle.config_match.specs.Condition.{locale_suits}
 use Rattle.config_match.specs.Matching.{is_match}
 use Rattle.config_match.proofs.RegionAlone.{unsuited}
 

@@ -2,24 +2,24 @@
 use Rattle.std.proofs.Common.{◌≡◌, ℕ, ◌*◌, ◌/◌, ◌%◌, ◌^◌, ◌<◌, ◌≤◌, ◌==◌, ◌&&◌, ◌||◌, not, nat_le, Bool, true, false, if◌then◌else◌, List, ◌∷◌, drop, IsTrue, refl, arith}
 use Rattle.std.proofs.lemmas.Bool.{eqb-true, eqb-false, le-leb, and_parts, and_right, not-true}
 use Rattle.std.proofs.lemmas.Bool.Decides.{nat_tests}
-use Rattle.config_rules.specs.config_record.declared.coord.Coord.{Coord}
-use Rattle.config_rules.specs.config_record.declared.coord.Coord.TheVariants as coords
-use Rattle.config_rules.specs.declared.answer.Answer.{Answer}
-use Rattle.config_rules.specs.declared.answer.Answer.TheVariants.{Yes, No, Pass}
-use Rattle.config_rules.specs.declared.kind.Kind.TheVariants as kinds
-use Rattle.config_rules.specs.declared.rule.Rule.{Rule}
-use Rattle.config_rules.specs.Answer.{is_pass, or_else}
-use Rattle.config_rules.specs.Conditions.{is_equal, plain_suits, locale_suits}
-use Rattle.config_rules.specs.Kind.{kind_answer}
-use Rattle.config_rules.specs.Locale.{language, region, says_nothing, is_by_language_and_region}
-use Rattle.config_rules.specs.config_record.android_locales.LocaleNumber.{number_of}
-use Rattle.config_rules.specs.config_record.android_locales.Facts.{language_of, region_of}
-use Rattle.config_rules.specs.config_record.android_locales.Compared.{record_locale_of, device_locale_of}
-use Rattle.config_rules.specs.config_record.android_locales.Words.{unknown_script, script_of_device, are_alike}
-use Rattle.config_rules.specs.config_record.android_locales.Suits.{suits_of}
-use Rattle.config_rules.specs.Rule.{at, rule_answer}
-use Rattle.config_rules.specs.Table.{answer_of_table}
-use Rattle.config_rules.specs.config_record.ComparedNumber.{record_number, device_number, has_script_or_variant}
+use Rattle.config_match.specs.config_record.declared.coord.Coord.{Coord}
+use Rattle.config_match.specs.config_record.declared.coord.Coord.TheVariants as coords
+use Rattle.config_match.specs.declared.answer.Answer.{Answer}
+use Rattle.config_match.specs.declared.answer.Answer.TheVariants.{Yes, No, Pass}
+use Rattle.config_match.specs.declared.kind.Kind.TheVariants as kinds
+use Rattle.config_match.specs.declared.rule.Rule.{Rule}
+use Rattle.config_match.specs.Answer.{is_pass, or_else}
+use Rattle.config_match.specs.Condition.{is_equal, plain_suits, locale_suits}
+use Rattle.config_match.specs.Kind.{kind_answer}
+use Rattle.config_match.specs.Locale.{language, region, says_nothing, is_by_language_and_region}
+use Rattle.config_match.specs.config_record.locales.TextNumber.{number_of}
+use Rattle.config_match.specs.config_record.locales.Facts.{language_of, region_of}
+use Rattle.config_match.specs.config_record.locales.Compared.{record_locale_of, device_locale_of}
+use Rattle.config_match.specs.config_record.locales.Words.{unknown_script, script_of_device, are_alike}
+use Rattle.config_match.specs.config_record.locales.Suits.{suits_of}
+use Rattle.config_match.specs.Rule.{at, rule_answer}
+use Rattle.config_match.specs.Table.{answer_of_table}
+use Rattle.config_match.specs.config_record.ComparedNumber.{record_number, device_number, has_script_or_variant}
 use Rattle.config_match.specs.Conditions.{all_conditions}
 use Rattle.config_match.specs.Matching.{has_region_alone}
 

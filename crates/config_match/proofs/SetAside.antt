@@ -1,10 +1,10 @@
 -- A record with a script or a variant matches no device that is compared by language and region.
 use Rattle.std.proofs.Common.{◌≡◌, ℕ, ◌&&◌, true, false, List, refl}
 use Rattle.std.proofs.lemmas.Bool.{and_parts}
-use Rattle.config_rules.specs.config_record.declared.coord.Coord.TheVariants as coords
-use Rattle.config_rules.specs.config_record.ComparedNumber.{record_number, device_number, has_script_or_variant}
-use Rattle.config_rules.specs.Conditions.{locale_suits}
-use Rattle.config_rules.specs.Locale.{is_by_language_and_region}
+use Rattle.config_match.specs.config_record.declared.coord.Coord.TheVariants as coords
+use Rattle.config_match.specs.config_record.ComparedNumber.{record_number, device_number, has_script_or_variant}
+use Rattle.config_match.specs.Condition.{locale_suits}
+use Rattle.config_match.specs.Locale.{is_by_language_and_region}
 use Rattle.config_match.specs.Matching.{is_match, is_set_aside_at}
 use Rattle.config_match.proofs.OtherLocale.{no_match}
 

@@ -1,10 +1,10 @@
 -- The conditions of a match: for each coordinate what it asks of a record and a device (AOSP:
 -- ResTable_config::match).
 use Rattle.std.specs.Prelude.{List, [], ◌∷◌}
-use Rattle.config_rules.specs.config_record.declared.coord.Coord.TheVariants as coords
-use Rattle.config_rules.specs.declared.kind.Kind.TheVariants as kinds
-use Rattle.config_rules.specs.declared.rule.Rule.{Rule}
-use Rattle.config_rules.specs.Rule.{at}
+use Rattle.config_match.specs.config_record.declared.coord.Coord.TheVariants as coords
+use Rattle.config_match.specs.declared.kind.Kind.TheVariants as kinds
+use Rattle.config_match.specs.declared.rule.Rule.{Rule}
+use Rattle.config_match.specs.Rule.{at}
 
 -- in the order of the coordinates
 unfoldable pub all_conditions : List Rule

@@ -1,11 +1,11 @@
 -- Does a record match a device? A record is the list of its bytes, a device that of its numbers.
 use Rattle.std.specs.Prelude.{ℕ, Bool, not, ◌&&◌, ◌==◌, if◌then◌else◌, List, Option, Some, option_map}
-use Rattle.config_rules.specs.config_record.declared.coord.Coord.TheVariants as coords
-use Rattle.config_rules.specs.config_record.ComparedNumber.{record_number, device_number, has_script_or_variant}
-use Rattle.config_rules.specs.declared.rule.Rule.{Rule}
-use Rattle.config_rules.specs.Answer.{is_pass}
-use Rattle.config_rules.specs.Locale.{language, region, is_by_language_and_region}
-use Rattle.config_rules.specs.Table.{answer_of_table, rule_of_table}
+use Rattle.config_match.specs.config_record.declared.coord.Coord.TheVariants as coords
+use Rattle.config_match.specs.config_record.ComparedNumber.{record_number, device_number, has_script_or_variant}
+use Rattle.config_match.specs.declared.rule.Rule.{Rule}
+use Rattle.config_match.specs.Answer.{is_pass}
+use Rattle.config_match.specs.Locale.{language, region, is_by_language_and_region}
+use Rattle.config_match.specs.Table.{answer_of_table, rule_of_table}
 use Rattle.config_match.specs.declared.reason.Mismatch.{Mismatch}
 use Rattle.config_match.specs.declared.reason.Mismatch.TheVariants.{SetAside, At}
 use Rattle.config_match.specs.Conditions.{all_conditions}

@@ -1,15 +1,15 @@
 //! Whether a record matches a device, and what fails where it does not.
 
 ghost use Rattle.std.specs.Prelude.{◌≡◌, false, is_none, IsTrue};
-ghost use Rattle.config_rules.specs.config_record.Record.{record_bytes};
-ghost use Rattle.config_rules.specs.config_record.DeviceSeen.{device_numbers};
+ghost use Rattle.config_match.specs.config_record.Record.{record_bytes};
+ghost use Rattle.config_match.specs.config_record.DeviceSeen.{device_numbers};
 ghost use Rattle.config_match.specs.Matching.{is_match, is_set_aside_at, mismatch_of, has_region_alone};
 
+use crate::condition::{is_compared_plainly, suits_locale};
+use crate::match_table::conditions;
 use crate::reason::Mismatch;
-use crate::table::conditions;
-use config_rules::{
-    Device, Record, deciding_rule, is_compared_plainly, suits_locale, table_answer,
-};
+use crate::table::{deciding_rule, table_answer};
+use config_record::{Device, Record};
 
 /// Whether a record matches a device (AOSP: `ResTable_config::match`). One with a region and no language matches
 /// none; one with a script or a variant matches none that is compared by language and region.

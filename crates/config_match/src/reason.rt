@@ -1,6 +1,6 @@
 //! Why a record does not match.
 
-use config_rules::Coord;
+use config_record::Coord;
 
 /// What fails first where a record does not match.
 #[derive(Clone, Copy, Debug, PartialEq, Eq)]

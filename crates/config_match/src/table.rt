@@ -1,119 +1,89 @@
-//! The conditions, in the order of the coordinates.
+//! Tables of rules: the first rule that does not pass decides.
 
-ghost use Rattle.std.specs.Prelude.{◌≡◌};
-ghost use Rattle.config_rules.specs.Reads.{AreReadInOrder};
-ghost use Rattle.config_match.specs.Conditions.{all_conditions};
+ghost use Rattle.std.specs.Prelude.{◌≡◌, ◌<◌, length, IfSome, is_none};
+ghost use Rattle.config_record.specs.Record.{record_bytes};
+ghost use Rattle.config_record.specs.ComparedNumber.{record_number, device_number};
+ghost use Rattle.config_record.specs.DeviceSeen.{device_numbers};
+ghost use Rattle.config_match.specs.Answer.{is_pass};
+ghost use Rattle.config_match.specs.Table.{answer_of_table, rule_of_table, place_of_table, place_keeping_out};
 
-use config_rules::{COORD_COUNT, Coord, Kind, Rule};
+use crate::answer::Answer;
+use crate::rule::Rule;
+use config_record::{Device, Record};
 
-const CONDITIONS: [Rule; COORD_COUNT] = [
-    Rule {
-        kind: Kind::Equal,
-        coord: Coord::Mcc,
-    },
-    Rule {
-        kind: Kind::Equal,
-        coord: Coord::Mnc,
-    },
-    Rule {
-        kind: Kind::LocaleSuits,
-        coord: Coord::Locale,
-    },
-    Rule {
-        kind: Kind::Equal,
-        coord: Coord::LayoutDirection,
-    },
-    Rule {
-        kind: Kind::AtMost,
-        coord: Coord::SmallestWidthDp,
-    },
-    Rule {
-        kind: Kind::AtMost,
-        coord: Coord::WidthDp,
-    },
-    Rule {
-        kind: Kind::AtMost,
-        coord: Coord::HeightDp,
-    },
-    Rule {
-        kind: Kind::AtMost,
-        coord: Coord::ScreenSize,
-    },
-    Rule {
-        kind: Kind::Equal,
-        coord: Coord::Long,
-    },
-    Rule {
-        kind: Kind::Equal,
-        coord: Coord::Round,
-    },
-    Rule {
-        kind: Kind::Equal,
-        coord: Coord::WideColor,
-    },
-    Rule {
-        kind: Kind::Equal,
-        coord: Coord::Hdr,
-    },
-    Rule {
-        kind: Kind::Equal,
-        coord: Coord::Orientation,
-    },
-    Rule {
-        kind: Kind::Equal,
-        coord: Coord::UiType,
-    },
-    Rule {
-        kind: Kind::Equal,
-        coord: Coord::Night,
-    },
-    Rule {
-        kind: Kind::Always,
-        coord: Coord::Density,
-    },
-    Rule {
-        kind: Kind::Equal,
-        coord: Coord::Touchscreen,
-    },
-    Rule {
-        kind: Kind::KeysSuit,
-        coord: Coord::KeysHidden,
-    },
-    Rule {
-        kind: Kind::Equal,
-        coord: Coord::NavHidden,
-    },
-    Rule {
-        kind: Kind::Equal,
-        coord: Coord::Keyboard,
-    },
-    Rule {
-        kind: Kind::Equal,
-        coord: Coord::Navigation,
-    },
-    Rule {
-        kind: Kind::AtMost,
-        coord: Coord::Width,
-    },
-    Rule {
-        kind: Kind::AtMost,
-        coord: Coord::Height,
-    },
-    Rule {
-        kind: Kind::AtMost,
-        coord: Coord::Sdk,
-    },
-    Rule {
-        kind: Kind::Equal,
-        coord: Coord::Minor,
-    },
-];
-
-/// The condition at each coordinate, in the order in which they are read.
-#[tactic(auto, unfolding(crate::specs::Conditions::all_conditions))]
-pub fn conditions() -> &'static [Rule]
-    ensures value { result.now ≡ all_conditions }
-    ensures in_order { AreReadInOrder result.now }
+/// What the rule that decides says of two records at a device; `Pass` where all pass.
+pub fn table_answer<'a>(rules: &[Rule], a: &Record<'a>, b: &Record<'a>, device: &Device) -> Answer
+    ensures { result ≡ answer_of_table rules.now (record_number (record_bytes a.now))
+        (record_number (record_bytes b.now)) (device_number (device_numbers device.now)) }
 {
-    &CONDITIONS
+    for rule in rules {
+        let answer = rule.answer(a, b, device);
+        if !answer.is_pass() {
+            return answer;
+        }
+    }
+    Answer::Pass
+}
+
+/// The rule that decides.
+#[tactic(auto, using(crate::proofs::TableLemmas::rule_there))]
+pub fn deciding_rule<'a>(
+    rules: &[Rule],
+    a: &Record<'a>,
+    b: &Record<'a>,
+    device: &Device,
+) -> Option<Rule>
+    ensures value { result ≡ rule_of_table rules.now (record_number (record_bytes a.now))
+        (record_number (record_bytes b.now)) (device_number (device_numbers device.now)) }
+    ensures none { is_none result ≡ is_pass (answer_of_table rules.now
+        (record_number (record_bytes a.now)) (record_number (record_bytes b.now))
+        (device_number (device_numbers device.now))) }
+{
+    let place = deciding_place(rules, a, b, device)?;
+    Some(rules[place])
+}
+
+/// The place of the rule that decides.
+#[tactic(auto, using(crate::proofs::TableLemmas::no_place))]
+pub fn deciding_place<'a>(
+    rules: &[Rule],
+    a: &Record<'a>,
+    b: &Record<'a>,
+    device: &Device,
+) -> Option<usize>
+    ensures value { result ≡ place_of_table rules.now (record_number (record_bytes a.now))
+        (record_number (record_bytes b.now)) (device_number (device_numbers device.now)) }
+    ensures none { is_none result ≡ is_pass (answer_of_table rules.now
+        (record_number (record_bytes a.now)) (record_number (record_bytes b.now))
+        (device_number (device_numbers device.now))) }
+    ensures within { IfSome result (λ place. place < length rules.now) }
+{
+    first_place(rules, a, b, device)
+}
+
+fn first_place(rules: &[Rule], a: &Record, b: &Record, device: &Device) -> Option<usize>
+    ensures value { result ≡ place_of_table rules.now (record_number (record_bytes a.now))
+        (record_number (record_bytes b.now)) (device_number (device_numbers device.now)) }
+    ensures within { IfSome result (λ place. place < length rules.now) }
+{
+    rules
+        .iter()
+        .position(|rule| !rule.answer(a, b, device).is_pass())
+}
+
+/// The place of the rule that keeps the first record out, where it is not better: the first that decides, or by which the second
+/// is better than the first.
+pub fn place_keeping_out<'a>(
+    rules: &[Rule],
+    a: &Record<'a>,
+    b: &Record<'a>,
+    device: &Device,
+) -> Option<usize>
+    ensures value { result ≡ place_keeping_out rules.now (record_number (record_bytes a.now))
+        (record_number (record_bytes b.now)) (device_number (device_numbers device.now)) }
+    ensures within { IfSome result (λ place. place < length rules.now) }
+{
+    rules.iter().position(|rule| {
+        !rule.answer(a, b, device).is_pass() || rule.answer(b, a, device).is_yes()
+    })
 }

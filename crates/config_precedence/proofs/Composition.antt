@@ -2,12 +2,12 @@
 use Rattle.std.proofs.Common.{◌≡◌, ℕ, true, false, List, [], ◌∷◌, refl}
 use Rattle.std.specs.List.{AllByRecursion}
 use Rattle.config_match.specs.config_record.declared.coord.Coord.{Coord}
-use Rattle.config_match.specs.config_rules.declared.answer.Answer.{Answer}
-use Rattle.config_match.specs.config_rules.declared.answer.Answer.TheVariants.{Yes, No, Pass}
-use Rattle.config_match.specs.config_rules.declared.rule.Rule.{Rule}
-use Rattle.config_match.specs.config_rules.Answer.{is_pass, is_yes, or_else}
-use Rattle.config_match.specs.config_rules.Rule.{rule_answer}
-use Rattle.config_match.specs.config_rules.Table.{answer_of_table}
+use Rattle.config_match.specs.declared.answer.Answer.{Answer}
+use Rattle.config_match.specs.declared.answer.Answer.TheVariants.{Yes, No, Pass}
+use Rattle.config_match.specs.declared.rule.Rule.{Rule}
+use Rattle.config_match.specs.Answer.{is_pass, is_yes, or_else}
+use Rattle.config_match.specs.Rule.{rule_answer}
+use Rattle.config_match.specs.Table.{answer_of_table}
 
 -- ---- of two records
 

@@ -4,9 +4,9 @@ use Rattle.std.specs.Prelude.{if◌then◌else◌}
 use Rattle.std.proofs.lemmas.Bool.{cases_lt, cases_eq, ltb-true}
 use Rattle.std.proofs.lemmas.Bool.Decides.{nat_tests}
 use Rattle.std.proofs.lemmas.Nat.{mul-le}
-use Rattle.config_match.specs.config_rules.declared.answer.Answer.TheVariants.{Yes, No, Pass}
-use Rattle.config_match.specs.config_rules.Answer.{answer_where, is_pass, is_yes}
-use Rattle.config_match.specs.config_rules.Comparisons.{density_answer, is_better_density, is_larger_better, counted_density, medium_density, any_density, differ}
+use Rattle.config_match.specs.declared.answer.Answer.TheVariants.{Yes, No, Pass}
+use Rattle.config_match.specs.Answer.{answer_where, is_pass, is_yes}
+use Rattle.config_match.specs.Comparisons.{density_answer, is_better_density, is_larger_better, counted_density, medium_density, any_density, differ}
 use Rattle.config_precedence.proofs.Composition.{Opposes, Composes}
 
 -- which of two densities is better, where neither is any

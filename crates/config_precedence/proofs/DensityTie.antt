@@ -8,15 +8,15 @@ use Rattle.config_match.specs.config_record.declared.coord.Coord.{Coord}
 use Rattle.config_match.specs.config_record.declared.coord.Coord.TheVariants as coords
 use Rattle.config_match.specs.config_record.ComparedNumber.{record_number, device_number}
 use Rattle.config_match.specs.config_record.Record.{coordinate, density}
-use Rattle.config_match.specs.config_rules.declared.answer.Answer.{Answer}
-use Rattle.config_match.specs.config_rules.declared.answer.Answer.TheVariants.{Yes, No, Pass}
-use Rattle.config_match.specs.config_rules.declared.kind.Kind.TheVariants as kinds
-use Rattle.config_match.specs.config_rules.declared.rule.Rule.{Rule}
-use Rattle.config_match.specs.config_rules.Answer.{is_pass, is_yes, or_else}
-use Rattle.config_match.specs.config_rules.Comparisons.{medium_density}
-use Rattle.config_match.specs.config_rules.Kind.{kind_answer}
-use Rattle.config_match.specs.config_rules.Rule.{at, rule_answer}
-use Rattle.config_match.specs.config_rules.Table.{answer_of_table, place_of_table, decides}
+use Rattle.config_match.specs.declared.answer.Answer.{Answer}
+use Rattle.config_match.specs.declared.answer.Answer.TheVariants.{Yes, No, Pass}
+use Rattle.config_match.specs.declared.kind.Kind.TheVariants as kinds
+use Rattle.config_match.specs.declared.rule.Rule.{Rule}
+use Rattle.config_match.specs.Answer.{is_pass, is_yes, or_else}
+use Rattle.config_match.specs.Comparisons.{medium_density}
+use Rattle.config_match.specs.Kind.{kind_answer}
+use Rattle.config_match.specs.Rule.{at, rule_answer}
+use Rattle.config_match.specs.Table.{answer_of_table, place_of_table, decides}
 use Rattle.config_precedence.specs.Laws.{densities_tie, density_rule, BothOrNeitherIsBetter}
 use Rattle.config_precedence.specs.Precedence.{is_better, deciding_of}
 use Rattle.config_precedence.specs.Rules.{all_rules}

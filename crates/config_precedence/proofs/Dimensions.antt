@@ -3,8 +3,8 @@ use Rattle.std.proofs.Common.{◌≡◌, arith}
 use Rattle.std.specs.Prelude.{ℤ}
 use lib.Signed.{◌<ℤ◌, ◌≤ℤ◌}
 use Rattle.std.proofs.lemmas.Int.{ints, by_lt_z}
-use Rattle.config_match.specs.config_rules.declared.answer.Answer.TheVariants.{Yes, No, Pass}
-use Rattle.config_match.specs.config_rules.Comparisons.{smaller_answer}
+use Rattle.config_match.specs.declared.answer.Answer.TheVariants.{Yes, No, Pass}
+use Rattle.config_match.specs.Comparisons.{smaller_answer}
 use Rattle.config_precedence.proofs.Composition.{Opposes, Composes}
 
 smaller-less : (x y : ℤ) → x <ℤ y → smaller_answer x y ≡ Yes

@@ -7,19 +7,19 @@ use Rattle.std.proofs.lemmas.Bool.Decides.{nat_tests}
 use Rattle.std.proofs.lemmas.Iterator.Adapters.{position_from-zero}
 use Rattle.config_match.specs.config_record.declared.coord.Coord.{Coord}
 use Rattle.config_match.specs.config_record.declared.coord.Coord.TheVariants as coords
-use Rattle.config_match.specs.config_rules.declared.answer.Answer.{Answer}
-use Rattle.config_match.specs.config_rules.declared.answer.Answer.TheVariants.{Yes, No, Pass}
-use Rattle.config_match.specs.config_rules.Locale.{is_by_language_and_region}
+use Rattle.config_match.specs.declared.answer.Answer.{Answer}
+use Rattle.config_match.specs.declared.answer.Answer.TheVariants.{Yes, No, Pass}
+use Rattle.config_match.specs.Locale.{is_by_language_and_region}
 use Rattle.config_match.specs.config_record.ComparedNumber.{record_number, device_number}
-use Rattle.config_match.specs.config_rules.declared.kind.Kind.{Kind}
-use Rattle.config_match.specs.config_rules.declared.kind.Kind.TheVariants as kinds
-use Rattle.config_match.specs.config_rules.declared.kind.Numbers.{Numbers}
-use Rattle.config_match.specs.config_rules.declared.rule.Rule.{Rule}
-use Rattle.config_match.specs.config_rules.Answer.{answer_where, is_pass, is_yes}
-use Rattle.config_match.specs.config_rules.Comparisons.{differ, is_given, locale_rank, locale_answer, rest_of_both, dimensions_answer}
-use Rattle.config_match.specs.config_rules.Kind.{kind_answer}
-use Rattle.config_match.specs.config_rules.Rule.{numbers_at, rule_answer}
-use Rattle.config_match.specs.config_rules.Table.{decides, place_of_table, keeps_out, place_keeping_out}
+use Rattle.config_match.specs.declared.kind.Kind.{Kind}
+use Rattle.config_match.specs.declared.kind.Kind.TheVariants as kinds
+use Rattle.config_match.specs.declared.kind.Numbers.{Numbers}
+use Rattle.config_match.specs.declared.rule.Rule.{Rule}
+use Rattle.config_match.specs.Answer.{answer_where, is_pass, is_yes}
+use Rattle.config_match.specs.Comparisons.{differ, is_given, locale_rank, locale_answer, rest_of_both, dimensions_answer}
+use Rattle.config_match.specs.Kind.{kind_answer}
+use Rattle.config_match.specs.Rule.{numbers_at, rule_answer}
+use Rattle.config_match.specs.Table.{decides, place_of_table, keeps_out, place_keeping_out}
 use Rattle.config_precedence.specs.Laws.{DecidesInEitherOrder, KeepsOutByDeciding}
 use Rattle.config_precedence.specs.Precedence.{deciding_of, keeping_out_of}
 use Rattle.config_precedence.specs.Rules.{all_rules}

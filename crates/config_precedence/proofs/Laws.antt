@@ -8,18 +8,18 @@ use Rattle.config_match.specs.config_record.declared.coord.Coord.TheVariants as 
 use Rattle.config_match.specs.config_record.Coord.{place_of}
 use Rattle.config_match.specs.config_record.ComparedNumber.{record_number, device_number}
 use Rattle.config_match.specs.config_record.Record.{coordinate}
-use Rattle.config_match.specs.config_rules.declared.answer.Answer.{Answer}
-use Rattle.config_match.specs.config_rules.declared.answer.Answer.TheVariants.{Yes, No, Pass}
-use Rattle.config_match.specs.config_rules.declared.kind.Kind.{Kind}
-use Rattle.config_match.specs.config_rules.declared.kind.Kind.TheVariants as kinds
-use Rattle.config_match.specs.config_rules.declared.rule.Rule.{Rule}
-use Rattle.config_match.specs.config_rules.Answer.{is_pass, is_yes, or_else}
-use Rattle.config_match.specs.config_rules.Comparisons.{always_larger_answer, locale_rank, locale_answer, dimensions_answer, rest_of_both}
-use Rattle.config_match.specs.config_rules.Conditions.{is_equal, is_at_most}
-use Rattle.config_match.specs.config_rules.Kind.{kind_answer}
-use Rattle.config_match.specs.config_rules.Locale.{is_by_language_and_region}
-use Rattle.config_match.specs.config_rules.Rule.{at, rule_answer, numbers_at}
-use Rattle.config_match.specs.config_rules.Table.{answer_of_table}
+use Rattle.config_match.specs.declared.answer.Answer.{Answer}
+use Rattle.config_match.specs.declared.answer.Answer.TheVariants.{Yes, No, Pass}
+use Rattle.config_match.specs.declared.kind.Kind.{Kind}
+use Rattle.config_match.specs.declared.kind.Kind.TheVariants as kinds
+use Rattle.config_match.specs.declared.rule.Rule.{Rule}
+use Rattle.config_match.specs.Answer.{is_pass, is_yes, or_else}
+use Rattle.config_match.specs.Comparisons.{always_larger_answer, locale_rank, locale_answer, dimensions_answer, rest_of_both}
+use Rattle.config_match.specs.Condition.{is_equal, is_at_most}
+use Rattle.config_match.specs.Kind.{kind_answer}
+use Rattle.config_match.specs.Locale.{is_by_language_and_region}
+use Rattle.config_match.specs.Rule.{at, rule_answer, numbers_at}
+use Rattle.config_match.specs.Table.{answer_of_table}
 use Rattle.config_match.specs.Conditions.{all_conditions}
 use Rattle.config_precedence.specs.Laws.{AtMostOneIsBetter, IsTransitiveFrom, densities_tie}
 use Rattle.config_precedence.specs.Precedence.{is_better}

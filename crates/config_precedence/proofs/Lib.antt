@@ -8,4 +8,3 @@ pub mod Matched
 pub mod Laws
 pub use Rattle.config_match.proofs as config_match
 pub use Rattle.config_match.proofs.config_record
-pub use Rattle.config_match.proofs.config_rules

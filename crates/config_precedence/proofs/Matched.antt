@@ -7,16 +7,16 @@ use Rattle.config_match.specs.config_record.declared.coord.Coord.{Coord}
 use Rattle.config_match.specs.config_record.declared.coord.Coord.TheVariants as coords
 use Rattle.config_match.specs.config_record.Coord.{place_of}
 use Rattle.config_match.specs.config_record.ComparedNumber.{record_number, device_number}
-use Rattle.config_match.specs.config_rules.declared.answer.Answer.{Answer}
-use Rattle.config_match.specs.config_rules.declared.answer.Answer.TheVariants.{Yes, No, Pass}
-use Rattle.config_match.specs.config_rules.declared.kind.Kind.{Kind}
-use Rattle.config_match.specs.config_rules.declared.kind.Kind.TheVariants as kinds
-use Rattle.config_match.specs.config_rules.declared.rule.Rule.{Rule}
-use Rattle.config_match.specs.config_rules.Answer.{answer_of_condition, is_pass, or_else}
-use Rattle.config_match.specs.config_rules.Conditions.{is_equal, is_at_most, keys_suit}
-use Rattle.config_match.specs.config_rules.Kind.{kind_answer}
-use Rattle.config_match.specs.config_rules.Rule.{at, rule_answer}
-use Rattle.config_match.specs.config_rules.Table.{answer_of_table}
+use Rattle.config_match.specs.declared.answer.Answer.{Answer}
+use Rattle.config_match.specs.declared.answer.Answer.TheVariants.{Yes, No, Pass}
+use Rattle.config_match.specs.declared.kind.Kind.{Kind}
+use Rattle.config_match.specs.declared.kind.Kind.TheVariants as kinds
+use Rattle.config_match.specs.declared.rule.Rule.{Rule}
+use Rattle.config_match.specs.Answer.{answer_of_condition, is_pass, or_else}
+use Rattle.config_match.specs.Condition.{is_equal, is_at_most, keys_suit}
+use Rattle.config_match.specs.Kind.{kind_answer}
+use Rattle.config_match.specs.Rule.{at, rule_answer}
+use Rattle.config_match.specs.Table.{answer_of_table}
 use Rattle.config_match.specs.Conditions.{all_conditions}
 use Rattle.config_match.specs.Matching.{is_match}
 

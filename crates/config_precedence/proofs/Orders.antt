@@ -2,9 +2,9 @@
 use Rattle.std.proofs.Common.{◌≡◌, ℕ, ◌+◌, ◌*◌, ◌<◌, true, ◌==◌, nat_lt, arith, sym}
 use Rattle.std.specs.Prelude.{if◌then◌else◌}
 use Rattle.std.proofs.lemmas.Bool.Decides.{nat_tests}
-use Rattle.config_match.specs.config_rules.declared.answer.Answer.TheVariants.{Yes, No, Pass}
-use Rattle.config_match.specs.config_rules.Comparisons.{given_answer, larger_answer, always_larger_answer, screen_size_answer, normal_size, counted_size, keys_answer, navigation_answer}
-use Rattle.config_match.specs.config_rules.Conditions.{is_equal, is_at_most, keys_suit}
+use Rattle.config_match.specs.declared.answer.Answer.TheVariants.{Yes, No, Pass}
+use Rattle.config_match.specs.Comparisons.{given_answer, larger_answer, always_larger_answer, screen_size_answer, normal_size, counted_size, keys_answer, navigation_answer}
+use Rattle.config_match.specs.Condition.{is_equal, is_at_most, keys_suit}
 use Rattle.config_precedence.proofs.Composition.{Opposes, Composes}
 
 -- ---- the order of numbers

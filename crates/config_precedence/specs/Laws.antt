@@ -3,8 +3,8 @@ use Rattle.std.specs.Prelude.{ℕ, ◌≡◌, ◌==◌, ◌&&◌, ◌||◌, nat_
 use Rattle.config_match.specs.config_record.declared.coord.Coord.TheVariants as coords
 use Rattle.config_match.specs.config_record.ComparedNumber.{device_number}
 use Rattle.config_match.specs.config_record.Record.{density}
-use Rattle.config_match.specs.config_rules.Comparisons.{medium_density}
-use Rattle.config_match.specs.config_rules.Locale.{is_by_language_and_region}
+use Rattle.config_match.specs.Comparisons.{medium_density}
+use Rattle.config_match.specs.Locale.{is_by_language_and_region}
 use Rattle.config_match.specs.Matching.{is_match}
 use Rattle.config_precedence.specs.Precedence.{is_better, deciding_of, keeping_out_of}
 

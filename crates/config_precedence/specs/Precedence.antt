@@ -1,8 +1,8 @@
 -- Which of two records is better at a device? A record is the list of its bytes, a device that of its numbers.
 use Rattle.std.specs.Prelude.{ℕ, ◌+◌, Bool, List, Option, option_map}
 use Rattle.config_match.specs.config_record.ComparedNumber.{record_number, device_number}
-use Rattle.config_match.specs.config_rules.Answer.{is_yes}
-use Rattle.config_match.specs.config_rules.Table.{answer_of_table, place_of_table, place_keeping_out}
+use Rattle.config_match.specs.Answer.{is_yes}
+use Rattle.config_match.specs.Table.{answer_of_table, place_of_table, place_keeping_out}
 use Rattle.config_precedence.specs.Rules.{all_rules}
 
 -- the first rule that decides says yes

@@ -2,9 +2,9 @@
 -- The dimensions look at the coordinate beside theirs too.
 use Rattle.std.specs.Prelude.{List, [], ◌∷◌}
 use Rattle.config_match.specs.config_record.declared.coord.Coord.TheVariants as coords
-use Rattle.config_match.specs.config_rules.declared.kind.Kind.TheVariants as kinds
-use Rattle.config_match.specs.config_rules.declared.rule.Rule.{Rule}
-use Rattle.config_match.specs.config_rules.Rule.{at}
+use Rattle.config_match.specs.declared.kind.Kind.TheVariants as kinds
+use Rattle.config_match.specs.declared.rule.Rule.{Rule}
+use Rattle.config_match.specs.Rule.{at}
 
 -- in their order; the first has the number 1
 unfoldable pub all_rules : List Rule

@@ -1,7 +1,7 @@
 //! The rules of precedence, in their order.
 
 ghost use Rattle.std.specs.Prelude.{◌≡◌, length};
-ghost use Rattle.config_match.specs.config_rules.Reads.{AreReadInOrder};
+ghost use Rattle.config_match.specs.Reads.{AreReadInOrder};
 ghost use Rattle.config_precedence.specs.Rules.{all_rules};
 
 use config_match::{Coord, Kind, Rule};

@@ -5,9 +5,9 @@ use Rattle.std.proofs.lemmas.List.{get_or-set_same, get_or-set_other}
 use Rattle.config_record.specs.declared.coord.Coord.{Coord}
 use Rattle.config_record.specs.declared.coord.Coord.TheVariants as coords
 use Rattle.config_record.specs.Coord.{all_coords, place_of, number_at, greatest_of_device}
-use Rattle.android_locales.specs.locales.LocaleNumber.{locale_of_number}
+use Rattle.locales.specs.LocaleNumber.{locale_of_number}
 use Rattle.config_record.specs.Device.{device_locale, CanHave}
-use Rattle.android_locales.specs.Text.{IsGiven}
+use Rattle.locales.specs.Text.{IsGiven}
 use Rattle.config_record.proofs.DeviceLemmas.{coordinate-at_place, place_of-within, inside-within, inside-some}
 
 -- two coordinates at one place are one

@@ -2,26 +2,26 @@
 use Rattle.std.proofs.Common.{◌≡◌, ℕ, zero, suc, ◌<◌, ◌≤◌, ◌≢◌, ◌==◌, nat_lt, Bool, true, false, List, [], ◌∷◌, length, get_or, ◌⊎◌, inl, inr, Result, Ok, Err, IfOk, refl, sym, ap, subst, ◌∙◌, arith}
 use Rattle.std.specs.Prelude.{IfErr}
 use Rattle.std.proofs.lemmas.Bool.{ltb-false, eqb-false, or_parts}
-use Rattle.android_locales.specs.locales.contract_words.Faults.{◌>>=◌, checked_by}
-use Rattle.android_locales.specs.locales.contract_words.Sequences.{with_front}
-use Rattle.android_locales.proofs.locales.contract_words.FaultSteps.{checked_by-ok}
+use Rattle.locales.specs.contract_words.Faults.{◌>>=◌, checked_by}
+use Rattle.locales.specs.contract_words.Sequences.{with_front}
+use Rattle.locales.proofs.contract_words.FaultSteps.{checked_by-ok}
 use Rattle.json_input.specs.Each.{each}
 use Rattle.config_record.specs.declared.coord.Coord.{Coord}
 use Rattle.config_record.specs.declared.coord.Coord.TheVariants as coords
-use Rattle.android_locales.specs.locales.declared.locale.Locale.{Locale}
-use Rattle.android_locales.specs.locales.declared.locale.LocaleFault.{LocaleFault}
-use Rattle.android_locales.specs.locales.declared.locale.LocaleFault.TheVariants as of_locale
+use Rattle.locales.specs.declared.locale.Locale.{Locale}
+use Rattle.locales.specs.declared.locale.LocaleFault.{LocaleFault}
+use Rattle.locales.specs.declared.locale.LocaleFault.TheVariants as of_locale
 use Rattle.config_record.specs.declared.fields.DeviceFault.{DeviceFault}
 use Rattle.config_record.specs.declared.fields.DeviceFault.TheVariants.{FieldRange, RegionAlone, Density}
 use Rattle.config_record.specs.Coord.{all_coords, place_of, number_at, greatest_of, greatest_of_device, is_outside}
 use Rattle.config_record.specs.declared.device.Device.{Device}
 use Rattle.config_record.specs.ComparedNumber.{device_number}
-use Rattle.android_locales.specs.locales.LocaleNumber.{locale_number, locale_of_number}
+use Rattle.locales.specs.LocaleNumber.{locale_number, locale_of_number}
 use Rattle.config_record.specs.DeviceSeen.{device_numbers, seen}
 use Rattle.config_record.specs.Device.{density_in, field_in, locale_number_in, number_in, device_with, device_locale, CanHave}
-use Rattle.android_locales.proofs.locales.LocaleLemmas.{locale_of-gives}
-use Rattle.android_locales.specs.locales.Locale.{locale_of, locale_faults, checked_locale, IsOfSomeText, plain_text}
-use Rattle.android_locales.specs.Text.{IsGiven}
+use Rattle.locales.proofs.LocaleLemmas.{locale_of-gives}
+use Rattle.locales.specs.Locale.{locale_of, locale_faults, checked_locale, IsOfSomeText, plain_text}
+use Rattle.locales.specs.Text.{IsGiven}
 
 -- ---- the number of each coordinate stands at its place
 

@@ -4,5 +4,4 @@ pub mod FillSteps
 pub mod DeviceLemmas
 pub mod ChangedNumber
 pub mod SetAside
-pub use Rattle.android_locales.proofs as android_locales
-pub use Rattle.android_locales.proofs.locales
+pub use Rattle.locales.proofs as locales

@@ -2,7 +2,7 @@
 use Rattle.std.proofs.Common.{◌≡◌, ◌≢◌, ℕ, refl}
 use Rattle.config_record.specs.declared.coord.Coord.{Coord}
 use Rattle.config_record.specs.declared.coord.Coord.TheVariants as coords
-use Rattle.android_locales.specs.locales.declared.locale.Locale.{Locale}
+use Rattle.locales.specs.declared.locale.Locale.{Locale}
 use Rattle.config_record.specs.Qualifiers.{number_qualifier, coordinate_qualifier}
 
 -- it is a number everywhere but at the locale

@@ -3,10 +3,10 @@ use Rattle.std.proofs.Common.{◌≡◌, ◌≢◌, ℕ, ◌+◌, ◌*◌, ◌%�
 use Rattle.std.specs.Int.{w64, from_be_bytes}
 use Rattle.std.proofs.lemmas.Bool.{ne_eqb, and_parts, ltb-true}
 use Rattle.config_record.specs.declared.coord.Coord.TheVariants as coords
-use Rattle.android_locales.specs.locales.Zero.{is_zero}
-use Rattle.android_locales.specs.locales.Locale.{no_script}
-use Rattle.android_locales.specs.locales.LocaleNumber.{locale_number}
-use Rattle.android_locales.specs.KeptScript.{other_script, looked_for, with_variant, kept_script}
+use Rattle.locales.specs.Zero.{is_zero}
+use Rattle.locales.specs.Locale.{no_script}
+use Rattle.locales.specs.LocaleNumber.{locale_number}
+use Rattle.locales.specs.KeptScript.{other_script, looked_for, with_variant, kept_script}
 use Rattle.config_record.specs.ComparedNumber.{record_number, has_script_or_variant}
 use Rattle.config_record.specs.Record.{byte, locale_in, locale_script, locale_variant, script_was_computed, is_set_aside}
 

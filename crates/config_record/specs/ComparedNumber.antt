@@ -3,12 +3,12 @@
 use Rattle.std.specs.Prelude.{ℕ, ◌%◌, ◌^◌, ◌==◌, ◌||◌, not, Bool, List}
 use Rattle.config_record.specs.declared.coord.Coord as coord
 use Rattle.config_record.specs.declared.coord.Coord.TheVariants as coords
-use Rattle.android_locales.specs.locales.LocaleNumber.{locale_number}
+use Rattle.locales.specs.LocaleNumber.{locale_number}
 use Rattle.config_record.specs.Coord.{number_at}
 use Rattle.config_record.specs.Record.{coordinate, locale_in, locale_script, locale_variant, script_was_computed}
-use Rattle.android_locales.specs.locales.declared.locale.Locale.{Locale}
-use Rattle.android_locales.specs.KeptScript.{kept_script}
-use Rattle.android_locales.specs.Text.{in_script}
+use Rattle.locales.specs.declared.locale.Locale.{Locale}
+use Rattle.locales.specs.KeptScript.{kept_script}
+use Rattle.locales.specs.Text.{in_script}
 
 -- the locale by which a record is compared, with what is kept of its script and its variant
 abbrev pub compared_locale : List ℕ → Locale

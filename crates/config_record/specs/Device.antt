@@ -1,21 +1,21 @@
 -- Devices: the configurations that are asked for. A device is the list of the numbers that are compared,
 -- one for each coordinate, in their order.
 use Rattle.std.specs.Prelude.{◌≡◌, ℕ, false, List, [], ◌∷◌, Result, Ok, Err}
-use Rattle.android_locales.specs.locales.contract_words.Faults.{checked_by}
+use Rattle.locales.specs.contract_words.Faults.{checked_by}
 use Rattle.json_input.specs.Each.{each}
 use Rattle.config_record.specs.declared.coord.Coord as coord
 use Rattle.config_record.specs.declared.coord.Coord.TheVariants as coords
-use Rattle.android_locales.specs.locales.declared.locale.Locale.{Locale}
-use Rattle.android_locales.specs.locales.declared.locale.LocaleFault.{LocaleFault}
-use Rattle.android_locales.specs.locales.declared.locale.LocaleFault.TheVariants as of_locale
+use Rattle.locales.specs.declared.locale.Locale.{Locale}
+use Rattle.locales.specs.declared.locale.LocaleFault.{LocaleFault}
+use Rattle.locales.specs.declared.locale.LocaleFault.TheVariants as of_locale
 use Rattle.config_record.specs.declared.fields.Fields.{Fields}
 use Rattle.config_record.specs.declared.fields.DeviceFault.{DeviceFault}
 use Rattle.config_record.specs.declared.fields.DeviceFault.TheVariants.{FieldRange, RegionAlone, Density}
 use Rattle.config_record.specs.Coord.{all_coords, number_at, is_outside}
-use Rattle.android_locales.specs.locales.Locale.{checked_locale}
-use Rattle.android_locales.specs.Text.{IsGiven}
+use Rattle.locales.specs.Locale.{checked_locale}
+use Rattle.locales.specs.Text.{IsGiven}
 use Rattle.config_record.specs.ComparedNumber.{device_number}
-use Rattle.android_locales.specs.locales.LocaleNumber.{locale_number, locale_of_number}
+use Rattle.locales.specs.LocaleNumber.{locale_number, locale_of_number}
 
 -- ---- a device from the numbers that are asked for, one for each coordinate, and a locale
 

@@ -1,6 +1,6 @@
 -- The device that a JSON text means.
 use Rattle.std.specs.Prelude.{ℕ, List, [], map, not, Option, Some, None, ok_or, Result, Ok}
-use Rattle.android_locales.specs.locales.contract_words.Faults.{◌>>=◌, refuse}
+use Rattle.locales.specs.contract_words.Faults.{◌>>=◌, refuse}
 use Rattle.serde_json.specs.Data.{Data}
 use Rattle.serde_json.specs.Find.{get}
 use Rattle.json_input.specs.Json.{value_of}
@@ -11,9 +11,9 @@ use Rattle.config_record.specs.declared.coord.Coord.TheVariants as coords
 use Rattle.config_record.specs.declared.fields.DeviceFault.{DeviceFault}
 use Rattle.config_record.specs.declared.fields.DeviceFault.TheVariants.{Syntax, Shape}
 use Rattle.config_record.specs.Coord.{all_coords, name_of}
-use Rattle.android_locales.specs.declared.locale_rule.LocaleRule.{LocaleRule}
-use Rattle.android_locales.specs.declared.locale_rule.LocaleRule.TheVariants.{LanguageAndRegion}
-use Rattle.android_locales.specs.Text.{locale_by}
+use Rattle.locales.specs.declared.locale_rule.LocaleRule.{LocaleRule}
+use Rattle.locales.specs.declared.locale_rule.LocaleRule.TheVariants.{LanguageAndRegion}
+use Rattle.locales.specs.Text.{locale_by}
 use Rattle.config_record.specs.Device.{device_with}
 
 -- ---- what is asked for at a coordinate: a member of its name, or 0 or no text where there is none

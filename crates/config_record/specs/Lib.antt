@@ -6,5 +6,4 @@ pub mod DeviceJson
 pub mod DeviceSeen
 pub mod Separator
 pub mod Qualifiers
-pub use Rattle.android_locales.specs as android_locales
-pub use Rattle.android_locales.specs.locales
+pub use Rattle.locales.specs as locales

@@ -5,10 +5,10 @@ use Rattle.std.specs.Fmt.{decimal}
 use Rattle.hex.specs.Hex.{encode_lower}
 use Rattle.config_record.specs.declared.coord.Coord as coord
 use Rattle.config_record.specs.declared.coord.Coord.TheVariants as coords
-use Rattle.android_locales.specs.locales.declared.locale.Locale.{Locale}
-use Rattle.android_locales.specs.locales.Zero.{is_zero}
+use Rattle.locales.specs.declared.locale.Locale.{Locale}
+use Rattle.locales.specs.Zero.{is_zero}
 use Rattle.config_record.specs.Coord.{all_coords, name_of}
-use Rattle.android_locales.specs.Text.{locale_text}
+use Rattle.locales.specs.Text.{locale_text}
 use Rattle.config_record.specs.Device.{device_coordinate, device_locale}
 use Rattle.config_record.specs.Record.{coordinate, locale_in, locale_script, locale_variant}
 

@@ -1,16 +1,16 @@
 -- Records: the configurations that type chunks hold (AOSP: ResTable_config). A record is the list of
 -- its bytes.
 use Rattle.std.specs.Prelude.{ℕ, ◌+◌, ◌*◌, ◌/◌, ◌%◌, ◌==◌, ◌||◌, not, nat_lt, Bool, List, [], ◌∷◌, length, take, slice_index, Result, Ok, Err}
-use Rattle.android_locales.specs.locales.contract_words.Faults.{checked_by}
-use Rattle.android_locales.specs.locales.chunk_walk.Number.{number}
+use Rattle.locales.specs.contract_words.Faults.{checked_by}
+use Rattle.locales.specs.chunk_walk.Number.{number}
 use Rattle.config_record.specs.declared.coord.Coord as coord
 use Rattle.config_record.specs.declared.coord.Coord.TheVariants as coords
-use Rattle.android_locales.specs.locales.declared.locale.Locale.{Locale}
+use Rattle.locales.specs.declared.locale.Locale.{Locale}
 use Rattle.config_record.specs.declared.record.Record.{Record}
 use Rattle.config_record.specs.declared.record.RecordFault.{RecordFault}
 use Rattle.config_record.specs.declared.record.RecordFault.TheVariants.{Size, Outside}
-use Rattle.android_locales.specs.locales.Zero.{is_zero}
-use Rattle.android_locales.specs.locales.Locale.{without_script}
+use Rattle.locales.specs.Zero.{is_zero}
+use Rattle.locales.specs.Locale.{without_script}
 
 abbrev pub record_bytes : Record → List ℕ
 record_bytes r = r.bytes.now

@@ -5,13 +5,13 @@ ghost use Rattle.config_record.specs.declared.coord.Coord as coord;
 ghost use Rattle.config_record.specs.declared.coord.Coord.TheVariants as coords;
 ghost use Rattle.config_record.specs.Coord.{greatest_of_device, number_at};
 ghost use Rattle.config_record.specs.Device.{device_locale, CanHave};
-ghost use Rattle.android_locales.specs.Text.{IsGiven};
+ghost use Rattle.locales.specs.Text.{IsGiven};
 
 use crate::coord::{COORD_COUNT, Coord};
 use crate::fields::{DeviceFault, Fields, fill_numbers, locale_number_in};
 use crate::json::device_in_value;
-use android_locales::{Locale, LocaleFault, LocaleRule};
 use json_input::read_value;
+use locales::{Locale, LocaleFault, LocaleRule};
 use std::alloc::Global;
 
 /// A configuration that is asked for: 24 numbers, none above the greatest of its coordinate, and a
@@ -27,12 +27,12 @@ pub struct Device {
 
 impl Device {
     ghost use Rattle.std.specs.Prelude.{IfOk, IfErr};
-    ghost use Rattle.android_locales.specs.locales.contract_words.Exact.{GivesOr};
+    ghost use Rattle.locales.specs.contract_words.Exact.{GivesOr};
     ghost use Rattle.config_record.specs.declared.fields.DeviceFault.TheVariants.{FieldRange, RegionAlone, OutOfMemory};
     ghost use Rattle.config_record.specs.ComparedNumber.{device_number};
     ghost use Rattle.config_record.specs.Device.{device_with, device_in, device_coordinate};
     ghost use Rattle.config_record.specs.DeviceJson.{device_in_json, device_in_json_by};
-    ghost use Rattle.android_locales.specs.locales.Locale.{IsOfSomeText};
+    ghost use Rattle.locales.specs.Locale.{IsOfSomeText};
     ghost use Rattle.config_record.specs.DeviceSeen.{device_numbers, seen};
 
     /// The device of these fields. For callers that have numbers and a locale, as one that asks the

@@ -5,13 +5,13 @@ ghost use Rattle.json_input.specs.Each.{each};
 ghost use Rattle.json_input.specs.Fault.{fault_of_text};
 ghost use Rattle.config_record.specs.DeviceSeen.{filled};
 ghost use Rattle.config_record.specs.Device.{density_in, locale_number_in, field_in, number_in};
-ghost use Rattle.android_locales.specs.locales.LocaleNumber.{locale_of_number};
-ghost use Rattle.android_locales.specs.Text.{IsGiven};
+ghost use Rattle.locales.specs.LocaleNumber.{locale_of_number};
+ghost use Rattle.locales.specs.Text.{IsGiven};
 ghost use Rattle.config_record.specs.declared.fields.DeviceFault.TheVariants.{Syntax, OutOfMemory};
 
 use crate::coord::{COORD_COUNT, Coord};
-use android_locales::{Locale, LocaleFault};
 use json_input::JsonFault;
+use locales::{Locale, LocaleFault};
 use thiserror::Error;
 
 /// A number for each coordinate, in their order, and a locale, for `Device::check`. The number at the

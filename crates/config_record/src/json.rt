@@ -9,8 +9,8 @@ ghost use Rattle.config_record.specs.DeviceSeen.{filled, seen, text_seen};
 use crate::coord::{COORD_COUNT, Coord};
 use crate::device::Device;
 use crate::fields::DeviceFault;
-use android_locales::{LocaleRule, read_locale};
 use json_input::has_only;
+use locales::{LocaleRule, read_locale};
 use serde_json::Value;
 
 #[tactic(auto, unfolding(crate::specs::DeviceJson::device_in_value))]

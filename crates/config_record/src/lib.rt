@@ -24,10 +24,10 @@ mod qualifiers;
 mod record;
 mod separator;
 
-pub use android_locales::{
-    DeviceLocale, Locale, LocaleFault, LocaleRule, RecordLocale, read_locale, write_locale,
-};
 pub use coord::{COORD_COUNT, Coord};
 pub use device::Device;
 pub use fields::{DeviceFault, Fields};
+pub use locales::{
+    DeviceLocale, Locale, LocaleFault, LocaleRule, RecordLocale, read_locale, write_locale,
+};
 pub use record::{Record, RecordFault};

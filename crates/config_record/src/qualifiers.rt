@@ -3,7 +3,7 @@
 
 ghost use Rattle.std.specs.Prelude.{◌≤◌, length, OnOk};
 ghost use Rattle.std.specs.List.{flat_map};
-ghost use Rattle.android_locales.specs.locales.contract_words.Writes.{Writes};
+ghost use Rattle.locales.specs.contract_words.Writes.{Writes};
 ghost use Rattle.config_record.specs.Record.{record_bytes, coordinate, locale_in};
 ghost use Rattle.config_record.specs.Device.{device_coordinate, device_locale};
 ghost use Rattle.config_record.specs.DeviceSeen.{device_numbers};
@@ -14,7 +14,7 @@ use crate::coord::Coord;
 use crate::device::Device;
 use crate::record::Record;
 use crate::separator::Separator;
-use android_locales::{Locale, is_zero, write_hex, write_locale};
+use locales::{Locale, is_zero, write_hex, write_locale};
 use std::io::{self, Write};
 
 impl Record<'_> {
@@ -47,7 +47,7 @@ impl Device {
 pub(crate) trait Configuration {
     ghost use Rattle.std.specs.Prelude.{◌≡◌, ℕ};
     ghost use Rattle.config_record.specs.declared.coord.Coord.{Coord};
-    ghost use Rattle.android_locales.specs.locales.declared.locale.Locale.{Locale};
+    ghost use Rattle.locales.specs.declared.locale.Locale.{Locale};
 
     ghost numbers: { Self → Coord → ℕ };
 

@@ -3,7 +3,7 @@
 ghost use Rattle.std.specs.Prelude.{◌≡◌, ◌≢◌, ◌<◌, ◌≤◌, true, MatchBool};
 
 use crate::coord::Coord;
-use android_locales::{Locale, is_zero, kept_script, u32_at};
+use locales::{Locale, is_zero, kept_script, u32_at};
 use thiserror::Error;
 
 mod fields;

@@ -1,7 +1,7 @@
 //! What stands between the parts of a text.
 
 ghost use Rattle.std.specs.Prelude.{◌≡◌, [], ◌∷◌, true, false, if◌then◌else◌, OnOk};
-ghost use Rattle.android_locales.specs.locales.contract_words.Writes.{Writes};
+ghost use Rattle.locales.specs.contract_words.Writes.{Writes};
 
 use std::io::{self, Write};
 

@@ -6,11 +6,11 @@ use Rattle.std.proofs.lemmas.Bool.{cases_Bool}
 use Rattle.std.proofs.lemmas.Str.{IsUtf8-from_is_utf8, is_utf8-from_IsUtf8}
 use Rattle.config_record.specs.locales.declared.locale.TheConstants.Locale.{NONE}
 use Rattle.config_record.specs.locales.Locale.{plain_text}
-use Rattle.config_record.specs.android_locales.declared.locale_rule.LocaleRule.{LocaleRule}
-use Rattle.config_record.specs.android_locales.declared.locale_rule.LocaleRule.TheVariants.{Android}
+use Rattle.config_record.specs.locales.declared.locale_rule.LocaleRule.{LocaleRule}
+use Rattle.config_record.specs.locales.declared.locale_rule.LocaleRule.TheVariants.{Android}
 use Rattle.config_record.specs.locales.declared.locale.Locale as locale
 use Rattle.config_words.specs.PhoneLocale.{utf8_locale}
-use Rattle.config_record.specs.android_locales.Text.{locale_by, locale_text, IsGiven}
+use Rattle.config_record.specs.locales.Text.{locale_by, locale_text, IsGiven}
 use Rattle.config_words.specs.declared.qualifier.Qualifier.{Qualifier}
 use Rattle.config_words.specs.declared.qualifier.Qualifier.TheVariants.{Number, Locale, Size, Version}
 use Rattle.config_words.specs.declared.said.Said.{Said}

@@ -22,15 +22,15 @@ use Rattle.config_record.specs.locales.declared.locale.LocaleFault.{LocaleFault}
 use Rattle.config_record.specs.locales.Locale.{dash, no_part, without_script, region_of, with_region, with_region_faults, cut_at, locale_of, plain_text}
 use Rattle.config_record.specs.locales.LocaleNumber.{locale_number, locale_of_number}
 use Rattle.config_record.specs.locales.Zero.{is_zero}
-use Rattle.config_record.specs.android_locales.declared.locale_rule.LocaleRule.{LocaleRule}
-use Rattle.config_record.specs.android_locales.declared.locale_rule.LocaleRule.TheVariants.{LanguageAndRegion, Android}
-use Rattle.config_record.specs.android_locales.Text.{is_dash, written_script, language_part, behind_language, with_script, with_likely_script, in_likely_script, scripted_locale_of, locale_by, region_alone, text_with_script, shows_script, locale_text, IsGivenBy}
+use Rattle.config_record.specs.locales.declared.locale_rule.LocaleRule.{LocaleRule}
+use Rattle.config_record.specs.locales.declared.locale_rule.LocaleRule.TheVariants.{LanguageAndRegion, Android}
+use Rattle.config_record.specs.locales.Text.{is_dash, written_script, language_part, behind_language, with_script, with_likely_script, in_likely_script, scripted_locale_of, locale_by, region_alone, text_with_script, shows_script, locale_text, IsGivenBy}
 use Rattle.config_record.specs.Coord.{all_coords, place_of, name_of, greatest_of_device, is_outside, number_at}
 use Rattle.config_record.specs.ComparedNumber.{device_number}
 use Rattle.config_record.specs.Device.{number_in, device_with, device_locale, device_coordinate}
 use Rattle.config_record.specs.DeviceJson.{number_or_0, text_or_empty, number_asked, numbers_asked, locale_asked, device_in_value, device_in_json_by}
 use Rattle.config_record.proofs.DeviceLemmas.{greatest-fits}
-use Rattle.config_record.proofs.android_locales.ReadBack.{found_in}
+use Rattle.config_record.proofs.locales.ReadBack.{found_in}
 use Rattle.config_words.specs.JsonText.{number_member, locale_member, members_at, device_members, device_json}
 use Rattle.config_words.proofs.DeviceSteps.{of_coords}
 use Rattle.config_words.proofs.PlainText.{HasBytes, locale_text-plain}

@@ -17,10 +17,10 @@ use Rattle.config_record.specs.locales.declared.locale.LocaleFault.{LocaleFault}
 use Rattle.config_record.specs.locales.declared.locale.LocaleFault.TheVariants as of_locale
 use Rattle.config_record.specs.locales.Locale.{dash, locale_of_parts, locale_faults, checked_locale}
 use Rattle.config_record.specs.locales.LocaleNumber.{locale_number, locale_of_number}
-use Rattle.config_record.specs.android_locales.declared.locale_rule.LocaleRule.{LocaleRule}
-use Rattle.config_record.specs.android_locales.declared.locale_rule.LocaleRule.TheVariants.{LanguageAndRegion, Android}
-use Rattle.config_record.specs.android_locales.LocaleRule.{rule_of}
-use Rattle.config_record.specs.android_locales.Text.{scripted_locale_of, locale_by}
+use Rattle.config_record.specs.locales.declared.locale_rule.LocaleRule.{LocaleRule}
+use Rattle.config_record.specs.locales.declared.locale_rule.LocaleRule.TheVariants.{LanguageAndRegion, Android}
+use Rattle.config_record.specs.locales.LocaleRule.{rule_of}
+use Rattle.config_record.specs.locales.Text.{scripted_locale_of, locale_by}
 use Rattle.config_record.specs.Coord.{all_coords, number_at}
 use Rattle.config_record.specs.Device.{locale_number_in, number_in as number_asked_in, device_with, device_in, device_locale}
 use Rattle.config_record.proofs.ChangedNumber.{number_at-set_same}

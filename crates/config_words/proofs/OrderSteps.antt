@@ -10,7 +10,7 @@ use Rattle.config_record.specs.declared.coord.Coord.{Coord}
 use Rattle.config_record.specs.declared.coord.Coord.TheVariants as coords
 use Rattle.config_record.specs.declared.fields.Fields.{Fields}
 use Rattle.config_record.specs.locales.declared.locale.Locale as locale
-use Rattle.config_record.specs.android_locales.declared.locale_rule.LocaleRule.{LocaleRule}
+use Rattle.config_record.specs.locales.declared.locale_rule.LocaleRule.{LocaleRule}
 use Rattle.config_record.specs.Coord.{all_coords, place_of}
 use Rattle.config_record.proofs.DeviceLemmas.{place_of-within}
 use Rattle.config_words.specs.declared.forms.NumberAt.{NumberAt}

@@ -11,8 +11,8 @@ use Rattle.json.proofs.Printed.Strings.{escape_byte_plain}
 use Rattle.config_record.specs.locales.declared.locale.Locale.{Locale}
 use Rattle.config_record.specs.locales.Locale.{dash, first_letter, first_digit, is_small_letter, is_capital_letter, is_digit, packed, part_of, language_of, region_of, no_part, unpacked, is_spelled, language_text, region_text, plain_text}
 use Rattle.config_record.specs.locales.Zero.{is_zero}
-use Rattle.config_record.specs.android_locales.Words.{number_of_script}
-use Rattle.config_record.specs.android_locales.Text.{written_script, likely_number, language_alone, region_alone, text_with_script, shows_script, locale_text}
+use Rattle.config_record.specs.locales.Words.{number_of_script}
+use Rattle.config_record.specs.locales.Text.{written_script, likely_number, language_alone, region_alone, text_with_script, shows_script, locale_text}
 
 -- a byte that stands in JSON as it is
 pub record IsPlain (b : ℕ) : Type 0 where

@@ -19,21 +19,21 @@ use Rattle.config_record.specs.locales.declared.locale.LocaleFault.TheVariants.{
 use Rattle.config_record.specs.locales.Locale.{first_letter, first_digit, is_small_letter, is_capital_letter, is_digit, part_of, language_of, region_of, no_part, no_script, without_script, with_region_faults, locale_of_parts, cut_at, locale_of}
 use Rattle.config_record.specs.locales.LocaleNumber.{locale_number, locale_of_number}
 use Rattle.config_record.specs.locales.Zero.{is_zero}
-use Rattle.config_record.specs.android_locales.declared.locale_rule.LocaleRule.{LocaleRule}
-use Rattle.config_record.specs.android_locales.declared.locale_rule.LocaleRule.TheVariants.{LanguageAndRegion, Android}
-use Rattle.config_record.specs.android_locales.Facts as facts
-use Rattle.config_record.specs.android_locales.Facts.{likely_of}
-use Rattle.config_record.specs.android_locales.LikelyScripts.{likely_scripts}
-use Rattle.config_record.specs.android_locales.Lines.{script_in}
-use Rattle.config_record.specs.android_locales.LocaleNumber.{number_of}
-use Rattle.config_record.specs.android_locales.LocaleRule.{rule_of}
-use Rattle.config_record.specs.android_locales.Text.{is_dash, written_script, language_part, behind_language, text_without_script, likely_number, in_script, in_likely_script, with_script, with_likely_script, scripted_locale_of, locale_by}
-use Rattle.config_record.specs.android_locales.Words.{unknown_script}
+use Rattle.config_record.specs.locales.declared.locale_rule.LocaleRule.{LocaleRule}
+use Rattle.config_record.specs.locales.declared.locale_rule.LocaleRule.TheVariants.{LanguageAndRegion, Android}
+use Rattle.config_record.specs.locales.Facts as facts
+use Rattle.config_record.specs.locales.Facts.{likely_of}
+use Rattle.config_record.specs.locales.LikelyScripts.{likely_scripts}
+use Rattle.config_record.specs.locales.Lines.{script_in}
+use Rattle.config_record.specs.locales.TextNumber.{number_of}
+use Rattle.config_record.specs.locales.LocaleRule.{rule_of}
+use Rattle.config_record.specs.locales.Text.{is_dash, written_script, language_part, behind_language, text_without_script, likely_number, in_script, in_likely_script, with_script, with_likely_script, scripted_locale_of, locale_by}
+use Rattle.config_record.specs.locales.Words.{unknown_script}
 use Rattle.config_record.specs.Coord.{all_coords, name_of, number_at}
 use Rattle.config_record.specs.Device.{locale_number_in, number_in, device_with, device_locale}
 use Rattle.config_record.specs.DeviceJson.{numbers_asked, locale_asked, device_in_value, device_in_json_by}
 use Rattle.config_record.proofs.DeviceLemmas.{number_at-given}
-use Rattle.config_record.proofs.android_locales.ReadBack.{found_in, zero_number}
+use Rattle.config_record.proofs.locales.ReadBack.{found_in, zero_number}
 use Rattle.config_words.proofs.JsonBack.{device_of, read_of}
 
 -- ---- the likely script is a number of 32 bits, and not 0

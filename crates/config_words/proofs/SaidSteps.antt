@@ -1,7 +1,7 @@
 -- How what is said goes on, part by part.
 use Rattle.std.proofs.Common.{◌≡◌, ℕ, List, ◌∷◌, Option, Some, None, Result, Ok, Err, refl, sym, ap, ◌∙◌}
 use Rattle.std.specs.Borrow.{Bor}
-use Rattle.config_record.specs.android_locales.declared.locale_rule.LocaleRule.{LocaleRule}
+use Rattle.config_record.specs.locales.declared.locale_rule.LocaleRule.{LocaleRule}
 use Rattle.config_words.specs.declared.said.Said.{Said}
 use Rattle.config_words.specs.Fault.{FaultOf}
 use Rattle.config_words.specs.Parts.{parts_of}

@@ -8,9 +8,9 @@ use Rattle.config_record.specs.locales.declared.locale.Locale.{Locale}
 use Rattle.config_record.specs.locales.declared.locale.LocaleFault.{LocaleFault}
 use Rattle.config_record.specs.locales.declared.locale.TheConstants.Locale.{NONE}
 use Rattle.config_record.specs.locales.LocaleNumber.{locale_number}
-use Rattle.config_record.specs.android_locales.declared.locale_rule.LocaleRule.{LocaleRule}
-use Rattle.config_record.specs.android_locales.declared.locale_rule.LocaleRule.TheVariants.{LanguageAndRegion, Android}
-use Rattle.config_record.specs.android_locales.Text.{locale_by}
+use Rattle.config_record.specs.locales.declared.locale_rule.LocaleRule.{LocaleRule}
+use Rattle.config_record.specs.locales.declared.locale_rule.LocaleRule.TheVariants.{LanguageAndRegion, Android}
+use Rattle.config_record.specs.locales.Text.{locale_by}
 use Rattle.config_record.specs.Coord.{place_of}
 use Rattle.config_record.specs.Device.{device_in}
 use Rattle.config_words.specs.declared.said.Said.{Said}

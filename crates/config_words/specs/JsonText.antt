@@ -6,7 +6,7 @@ use Rattle.config_record.specs.declared.coord.Coord.{Coord}
 use Rattle.config_record.specs.declared.coord.Coord.TheVariants as coords
 use Rattle.config_record.specs.locales.declared.locale.Locale.{Locale}
 use Rattle.config_record.specs.locales.Zero.{is_zero}
-use Rattle.config_record.specs.android_locales.Text.{locale_text}
+use Rattle.config_record.specs.locales.Text.{locale_text}
 use Rattle.config_record.specs.Coord.{all_coords, name_of}
 use Rattle.config_record.specs.Device.{device_coordinate, device_locale}
 use Rattle.config_words.specs.LocalePart.{comma}

@@ -4,7 +4,7 @@ use Rattle.std.specs.Fmt.{decimal}
 use Rattle.config_record.specs.declared.coord.Coord.{Coord}
 use Rattle.config_record.specs.declared.coord.Coord.TheVariants as coords
 use Rattle.config_record.specs.locales.Locale.{dash}
-use Rattle.config_record.specs.android_locales.Text.{locale_text}
+use Rattle.config_record.specs.locales.Text.{locale_text}
 use Rattle.config_record.specs.Device.{device_coordinate, device_locale}
 use Rattle.config_words.specs.Cut.{cut_at}
 use Rattle.config_words.specs.Words.{words, word_for}

@@ -5,9 +5,9 @@ use Rattle.std.specs.Option.{option_and_then}
 use Rattle.std.specs.Result.{result_ok}
 use Rattle.config_record.specs.locales.declared.locale.Locale.{Locale}
 use Rattle.config_record.specs.locales.Locale.{dash, locale_of_parts}
-use Rattle.config_record.specs.android_locales.declared.locale_rule.LocaleRule.{LocaleRule}
-use Rattle.config_record.specs.android_locales.declared.locale_rule.LocaleRule.TheVariants.{LanguageAndRegion, Android}
-use Rattle.config_record.specs.android_locales.Text.{IsGiven}
+use Rattle.config_record.specs.locales.declared.locale_rule.LocaleRule.{LocaleRule}
+use Rattle.config_record.specs.locales.declared.locale_rule.LocaleRule.TheVariants.{LanguageAndRegion, Android}
+use Rattle.config_record.specs.locales.Text.{IsGiven}
 use Rattle.config_words.specs.Cut.{cut_at, behind}
 use Rattle.config_words.specs.PhoneLocale.{dashed, phone_locale}
 

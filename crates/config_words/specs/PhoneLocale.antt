@@ -4,8 +4,8 @@ use Rattle.std.specs.Str.{is_utf8}
 use Rattle.std.specs.Result.{result_ok}
 use Rattle.config_record.specs.locales.declared.locale.Locale.{Locale}
 use Rattle.config_record.specs.locales.Locale.{dash}
-use Rattle.config_record.specs.android_locales.declared.locale_rule.LocaleRule.TheVariants.{Android}
-use Rattle.config_record.specs.android_locales.Text.{locale_by}
+use Rattle.config_record.specs.locales.declared.locale_rule.LocaleRule.TheVariants.{Android}
+use Rattle.config_record.specs.locales.Text.{locale_by}
 
 abbrev pub behind_dash : Option (List ℕ) → List ℕ
 behind_dash None = []

@@ -1,7 +1,7 @@
 -- The text that `am get-config` prints: `config:`, a blank, and the line of the device; then lines of other kinds.
 use Rattle.std.specs.Prelude.{ℕ, ◌==◌, ◌||◌, not, Bool, List, [], ◌∷◌, ◌++◌, take, drop, position, codes, Option, Some, None, is_some, unwrap_or, Result}
-use Rattle.config_record.specs.android_locales.declared.locale_rule.LocaleRule.{LocaleRule}
-use Rattle.config_record.specs.android_locales.declared.locale_rule.LocaleRule.TheVariants.{LanguageAndRegion}
+use Rattle.config_record.specs.locales.declared.locale_rule.LocaleRule.{LocaleRule}
+use Rattle.config_record.specs.locales.declared.locale_rule.LocaleRule.TheVariants.{LanguageAndRegion}
 use Rattle.config_words.specs.declared.line.NoLine.{NoLine}
 use Rattle.config_words.specs.Cut.{behind}
 use Rattle.config_words.specs.Fault.{FaultOf}

@@ -3,7 +3,7 @@ use Rattle.std.specs.Prelude.{ℕ, List, codes, option_map, Option, Some, None}
 use Rattle.std.specs.Option.{option_and_then, option_or}
 use Rattle.config_record.specs.declared.coord.Coord.{Coord}
 use Rattle.config_record.specs.declared.coord.Coord.TheVariants as coords
-use Rattle.config_record.specs.android_locales.declared.locale_rule.LocaleRule.{LocaleRule}
+use Rattle.config_record.specs.locales.declared.locale_rule.LocaleRule.{LocaleRule}
 use Rattle.config_words.specs.declared.qualifier.Qualifier.{Qualifier}
 use Rattle.config_words.specs.declared.qualifier.Qualifier.TheVariants.{Number, Locale, Size, Version}
 use Rattle.config_words.specs.Cut.{cut_at, behind}

@@ -5,7 +5,7 @@ use Rattle.config_record.specs.declared.coord.Coord.{Coord}
 use Rattle.config_record.specs.declared.coord.Coord.TheVariants as coords
 use Rattle.config_record.specs.declared.fields.Fields.{Fields}
 use Rattle.config_record.specs.Coord.{place_of}
-use Rattle.config_record.specs.android_locales.declared.locale_rule.LocaleRule.{LocaleRule}
+use Rattle.config_record.specs.locales.declared.locale_rule.LocaleRule.{LocaleRule}
 use Rattle.config_words.specs.declared.qualifier.Qualifier.{Qualifier}
 use Rattle.config_words.specs.declared.qualifier.Qualifier.TheVariants.{Number, Locale, Size, Version}
 use Rattle.config_words.specs.declared.said.Said.{Said}

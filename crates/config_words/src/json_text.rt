@@ -3,8 +3,8 @@
 ghost use Rattle.std.specs.Prelude.{◌≡◌, ℕ, List, ◌∷◌, [], true, if◌then◌else◌, Ok, OnOk};
 ghost use Rattle.std.specs.List.{flat_map, join_with_byte};
 ghost use Rattle.contract_words.specs.Writes.{Writes};
-ghost use Rattle.config_record.specs.android_locales.LocaleRule.{rule_of};
-ghost use Rattle.config_record.specs.android_locales.declared.locale_rule.LocaleRule.{LocaleRule};
+ghost use Rattle.config_record.specs.locales.LocaleRule.{rule_of};
+ghost use Rattle.config_record.specs.locales.declared.locale_rule.LocaleRule.{LocaleRule};
 ghost use Rattle.config_record.specs.Device.{device_locale};
 ghost use Rattle.config_record.specs.DeviceJson.{device_in_json_by};
 ghost use Rattle.config_record.specs.DeviceSeen.{device_numbers};

@@ -3,7 +3,7 @@
 ghost use Rattle.std.specs.Prelude.{◌≡◌, ◌==◌, ◌++◌, [], ◌∷◌, length, Some, option_map, OnOk, IfOk, if◌then◌else◌};
 ghost use Rattle.std.specs.Fmt.{decimal};
 ghost use Rattle.config_record.specs.locales.Locale.{dash};
-ghost use Rattle.config_record.specs.android_locales.Text.{locale_text};
+ghost use Rattle.config_record.specs.locales.Text.{locale_text};
 ghost use Rattle.config_record.specs.DeviceSeen.{device_numbers};
 ghost use Rattle.config_words.specs.Forms.{form_of};
 ghost use Rattle.config_words.specs.Cut.{cut_at};

@@ -1,7 +1,7 @@
 //! Locales with a script, as a phone reads them.
 
 ghost use Rattle.std.specs.Prelude.{◌≡◌, ◌≤◌, ◌+◌, ◌++◌, nat_le, true, Bool, length, if◌then◌else◌, Some, None, option_map, IfSome};
-ghost use Rattle.config_record.specs.android_locales.Text.{IsGiven};
+ghost use Rattle.config_record.specs.locales.Text.{IsGiven};
 ghost use Rattle.config_words.specs.PhoneLocale.{behind_dash, dashed, utf8_locale, phone_locale};
 
 use arrayvec::ArrayVec;

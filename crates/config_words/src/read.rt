@@ -3,8 +3,8 @@
 ghost use Rattle.std.specs.Prelude.{◌≡◌, ℕ, List, Ok, IfOk};
 ghost use Rattle.config_record.specs.DeviceSeen.{device_numbers};
 ghost use Rattle.config_record.specs.DeviceSeen as device;
-ghost use Rattle.config_record.specs.android_locales.Text.{IsGiven};
-ghost use Rattle.config_record.specs.android_locales.declared.locale_rule.LocaleRule.TheVariants.{Android};
+ghost use Rattle.config_record.specs.locales.Text.{IsGiven};
+ghost use Rattle.config_record.specs.locales.declared.locale_rule.LocaleRule.TheVariants.{Android};
 ghost use Rattle.config_words.specs.LocalePart.{IsGivenFor};
 ghost use Rattle.config_words.specs.Fault.{seen};
 ghost use Rattle.config_words.specs.Parts.{parts_of};

@@ -2,7 +2,7 @@
 
 ghost use Rattle.std.specs.Prelude.{◌≡◌, [], IfOk};
 ghost use Rattle.config_words.specs.LocalePart.{IsGivenFor};
-ghost use Rattle.config_record.specs.android_locales.Text.{locale_by};
+ghost use Rattle.config_record.specs.locales.Text.{locale_by};
 ghost use Rattle.config_words.specs.Said.{with_number, with_qualifier};
 ghost use Rattle.config_words.specs.Config.{or_none};
 

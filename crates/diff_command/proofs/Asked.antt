@@ -6,7 +6,7 @@ use Rattle.command_base.specs.StackBytes.{LayerBytes}
 use Rattle.command_base.specs.names.NameFault.{NameFaultOf}
 use Rattle.command_base.specs.names.NamedPairs.{pairs_named}
 use Rattle.command_base.specs.names.NamedSet.{NamedSetOf}
-use Rattle.stack_diff.specs.config_box.config_record.android_locales.declared.locale_rule.LocaleRule.{LocaleRule}
+use Rattle.stack_diff.specs.config_box.config_record.locales.declared.locale_rule.LocaleRule.{LocaleRule}
 use Rattle.stack_diff.specs.names.Pairs.{PairOf, name_pairs}
 use Rattle.diff_command.specs.Diff.{OpenDiffOf, diff_opened}
 use Rattle.diff_command.specs.DiffInputs.{DiffInputs, diff_inputs_by}

@@ -5,7 +5,7 @@ use Rattle.std.specs.Fmt.{decimal}
 use Rattle.stack_diff.specs.config_box.config_record.declared.coord.Coord.{Coord}
 use Rattle.stack_diff.specs.config_box.config_record.Coord.{all_coords, name_of}
 use Rattle.stack_diff.specs.config_box.config_record.locales.LocaleNumber.{locale_of_number}
-use Rattle.stack_diff.specs.config_box.config_record.android_locales.Text.{locale_text}
+use Rattle.stack_diff.specs.config_box.config_record.locales.Text.{locale_text}
 use Rattle.stack_diff.specs.config_box.box_answers.NumberSet.{SetOf, RangeOf, NumbersOf, LocalesOf}
 use Rattle.stack_diff.specs.config_box.box_answers.Members.{set_at}
 

@@ -4,8 +4,8 @@ use Rattle.std.specs.Cmp.Lexicographic.{pointwise}
 use Rattle.std.specs.Option.{option_eq}
 use Rattle.std.specs.Str.{bytes_eq}
 use Rattle.contract_words.specs.Faults.{◌>>=◌}
-use Rattle.stack_diff.specs.config_box.config_record.android_locales.declared.locale_rule.LocaleRule.{LocaleRule}
-use Rattle.stack_diff.specs.config_box.config_record.android_locales.declared.locale_rule.LocaleRule.TheVariants.{LanguageAndRegion}
+use Rattle.stack_diff.specs.config_box.config_record.locales.declared.locale_rule.LocaleRule.{LocaleRule}
+use Rattle.stack_diff.specs.config_box.config_record.locales.declared.locale_rule.LocaleRule.TheVariants.{LanguageAndRegion}
 use Rattle.stack_diff.specs.config_box.box_answers.NumberSet.{SetOf}
 use Rattle.stack_diff.specs.config_box.BoxJson.{box_in_by}
 use Rattle.command_base.specs.declared.fault.ToolFault.{ToolFault}

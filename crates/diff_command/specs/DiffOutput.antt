@@ -2,7 +2,7 @@
 use Rattle.std.specs.Prelude.{◌≡◌, ℕ, List, [], ◌∷◌, ◌++◌, Option, Some, None, codes}
 use Rattle.command_base.specs.declared.status.Status.TheVariants.{Negative}
 use Rattle.command_base.specs.Output.{Output, negative_if}
-use Rattle.stack_diff.specs.config_box.config_record.android_locales.declared.locale_rule.LocaleRule.{LocaleRule}
+use Rattle.stack_diff.specs.config_box.config_record.locales.declared.locale_rule.LocaleRule.{LocaleRule}
 use Rattle.stack_diff.specs.names.Pairs.{PairOf, name_pairs}
 use Rattle.stack_diff.specs.Stacks.{StacksOf}
 use Rattle.diff_command.specs.DiffInputs.{DiffInputs}

@@ -1,17 +1,52 @@
-//! Locales: a language and a region, as a record has them and as texts spell them.
+//! Locales: a language, a region and perhaps a script, as a record has them and as texts spell them; and how they are compared,
+//! by either of two rules: by language and region alone, or as a phone does it. What CLDR says of locales, as Android ships it,
+//! stands here as constants: the script in which one is likely written, the tree of regions, and which locales stand for their
+//! language. The phone's rule is made of that, with exceptions for English, for Spanish and for Tagalog: which records suit a
+//! device, and which of two is better. Texts are read by a rule, and the script of a locale says by which.
 //!
-//! For the crates above: a locale is the one that its text spells, it is printed as that text, and its number gives
-//! its bytes back.
+//! For the crates above: a locale that was read is given by the text that is written of it, by its rule, and its number gives
+//! its bytes back. By the phone's rule a record is not better than itself, and of two records that suit a device at most one is
+//! better than the other. What is said of a locale is what CLDR's own lists say, which stand in `specs/` line by line; a line of
+//! ancestors has four locales at most, and none is left out of it.
+//!
+//! To CLDR's lists a locale and a script are numbers: the four bytes that a record has of them, the first one the highest, as
+//! `number_of` gives them. So a locale is its language above its region. 0 is none.
 //!
 //! ```text
-//! let locale = Locale::read("es-419")?;
-//! write_plain_locale(locale, &mut out)?; // es-419
+//! let script = likely(0x7A68_484B); // zh-HK: Some(0x4861_6E74), Hant
+//! let line = line(0x656E_4154, 0x4C61_746E); // en-AT: en-AT, en-150, en-001, en
+//! let device = DeviceLocale::of_number(read_locale("es-AR", LocaleRule::Android)?.number());
+//! let record = RecordLocale::of_number(record.compared_number(Coord::Locale));
+//! record.suits(device) // true
+//! record.is_better(spanish, device) // true: es-US counts as es-419 there, which stands between es-AR and es
 //! ```
 #![tactic(auto)]
 
+mod better;
+mod compared;
+mod facts;
+mod lines;
 mod locale;
+mod locale_rule;
+mod nearer;
+mod parts;
+mod record_script;
+mod suits;
+mod tables;
+mod text;
+mod text_number;
+mod tree;
+mod words;
 mod zero;
 
 pub use chunk_walk::{u32_at, write_hex};
-pub use locale::{Locale, LocaleFault, write_plain_locale};
+pub use compared::{DeviceLocale, RecordLocale};
+pub use facts::{is_representative, likely, parent};
+pub use locale::{Locale, LocaleFault};
+pub use locale_rule::LocaleRule;
+pub use parts::{language_of, region_of};
+pub use record_script::kept_script;
+pub use text::{read_locale, write_locale};
+pub use text_number::number_of;
+pub use tree::{LONGEST_LINE, first_of, is_near_us_english, line};
 pub use zero::is_zero;

@@ -8,7 +8,6 @@ pub mod SameTrace
 pub use Rattle.config_precedence.specs as config_precedence
 pub use Rattle.config_precedence.specs.config_match
 pub use Rattle.config_precedence.specs.config_record
-pub use Rattle.config_precedence.specs.config_rules
 pub use Rattle.overlay_map.specs as overlay_map
 pub use Rattle.overlay_map.specs.res_value
 pub use Rattle.overlay_map.specs.resource_table

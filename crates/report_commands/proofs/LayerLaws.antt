@@ -5,8 +5,8 @@ use Rattle.command_base.specs.overlay_map.string_pool.Pool.{PoolOf}
 use Rattle.command_base.specs.overlay_map.type_chunks.Row.{RowOf}
 use Rattle.command_base.specs.overlay_map.Layer.{LayerOf}
 use Rattle.command_base.specs.cert_tree.config_box.config_record.Record.{is_set_aside}
-use Rattle.command_base.specs.cert_tree.config_box.config_record.android_locales.declared.locale_rule.LocaleRule.{LocaleRule}
-use Rattle.command_base.specs.cert_tree.config_box.config_record.android_locales.declared.locale_rule.LocaleRule.TheVariants.{LanguageAndRegion, Android}
+use Rattle.command_base.specs.cert_tree.config_box.config_record.locales.declared.locale_rule.LocaleRule.{LocaleRule}
+use Rattle.command_base.specs.cert_tree.config_box.config_record.locales.declared.locale_rule.LocaleRule.TheVariants.{LanguageAndRegion, Android}
 use Rattle.command_base.specs.StackBytes.{LayerBytes}
 use Rattle.report_commands.specs.declared.finding.Finding.{Finding}
 use Rattle.report_commands.specs.declared.finding.Finding.TheVariants.{DynamicReference, DynamicAttribute, BrokenString, SetAside, Locale, BoxLocale}

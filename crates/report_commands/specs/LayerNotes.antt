@@ -2,7 +2,7 @@
 use Rattle.std.specs.Prelude.{ℕ, ◌||◌, Bool, List, [], ◌++◌, Option, Some, None, slice_get}
 use Rattle.std.specs.List.{flat_map, list_any}
 use Rattle.std.specs.Option.{option_map}
-use Rattle.command_base.specs.cert_tree.config_box.config_record.android_locales.declared.locale_rule.LocaleRule.{LocaleRule}
+use Rattle.command_base.specs.cert_tree.config_box.config_record.locales.declared.locale_rule.LocaleRule.{LocaleRule}
 use Rattle.command_base.specs.overlay_map.string_pool.Pool.{PoolOf, empty_pool}
 use Rattle.command_base.specs.overlay_map.type_chunks.Row.{RowOf}
 use Rattle.command_base.specs.overlay_map.resource_table.Table.{TableOf, rows_of}

@@ -1,7 +1,7 @@
 -- What is found in the layers of a stack, as text.
 use Rattle.std.specs.Prelude.{ℕ, List}
 use Rattle.std.specs.List.{flat_map, enumerate_from}
-use Rattle.command_base.specs.cert_tree.config_box.config_record.android_locales.declared.locale_rule.LocaleRule.{LocaleRule}
+use Rattle.command_base.specs.cert_tree.config_box.config_record.locales.declared.locale_rule.LocaleRule.{LocaleRule}
 use Rattle.command_base.specs.overlay_map.Layer.{LayerOf}
 use Rattle.command_base.specs.StackBytes.{LayerBytes}
 use Rattle.report_commands.specs.LayerNotes.{notes_of_layer}

@@ -1,7 +1,7 @@
 -- What is printed where a table is refused. A newer device may read it, and its chunks may tell why it is refused here.
 use Rattle.std.specs.Prelude.{ℕ, Bool, false, List, [], ◌++◌, slice_get, Result, Ok, Err, if◌then◌else◌}
 use Rattle.std.specs.Option.{option_map_or}
-use Rattle.command_base.specs.cert_tree.config_box.config_record.android_locales.declared.locale_rule.LocaleRule.TheVariants.{LanguageAndRegion}
+use Rattle.command_base.specs.cert_tree.config_box.config_record.locales.declared.locale_rule.LocaleRule.TheVariants.{LanguageAndRegion}
 use Rattle.command_base.specs.declared.fault.ToolFault.{ToolFault}
 use Rattle.command_base.specs.declared.fault.ToolFault.TheVariants.{LayerTable}
 use Rattle.command_base.specs.FaultText.{fault_line}

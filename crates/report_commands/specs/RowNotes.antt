@@ -2,8 +2,8 @@
 use Rattle.std.specs.Prelude.{ℕ, ◌==◌, ◌&&◌, ◌||◌, not, is_ok, Bool, false, List, [], ◌++◌}
 use Rattle.std.specs.List.{list_any}
 use Rattle.command_base.specs.cert_tree.config_box.config_record.declared.coord.Coord.TheVariants as coords
-use Rattle.command_base.specs.cert_tree.config_box.config_record.android_locales.declared.locale_rule.LocaleRule.{LocaleRule}
-use Rattle.command_base.specs.cert_tree.config_box.config_record.android_locales.declared.locale_rule.LocaleRule.TheVariants.{LanguageAndRegion, Android}
+use Rattle.command_base.specs.cert_tree.config_box.config_record.locales.declared.locale_rule.LocaleRule.{LocaleRule}
+use Rattle.command_base.specs.cert_tree.config_box.config_record.locales.declared.locale_rule.LocaleRule.TheVariants.{LanguageAndRegion, Android}
 use Rattle.report_commands.specs.NumberSaid.{number_said}
 use Rattle.command_base.specs.cert_tree.config_box.config_record.Record.{is_set_aside}
 use Rattle.command_base.specs.overlay_map.string_pool.Pool.{PoolOf}

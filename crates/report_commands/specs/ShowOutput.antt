@@ -9,7 +9,7 @@ use Rattle.command_base.specs.Output.{Output}
 use Rattle.command_base.specs.StackBytes.{LayerBytes, stack_in}
 use Rattle.command_base.specs.MapErr.{map_err}
 use Rattle.command_base.specs.answer_text.OnLine.{on_line}
-use Rattle.command_base.specs.answer_text.config_record.android_locales.declared.locale_rule.LocaleRule.TheVariants.{Android}
+use Rattle.command_base.specs.answer_text.config_record.locales.declared.locale_rule.LocaleRule.TheVariants.{Android}
 use Rattle.command_base.specs.cert_tree.Certificate.{GoalOf}
 use Rattle.command_base.specs.cert_tree.CertJson.{cert_in_by}
 use Rattle.report_commands.specs.TreeText.{certificate_text}

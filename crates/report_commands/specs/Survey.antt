@@ -1,7 +1,7 @@
 -- What the words of `survey` ask, from what the places have to the answer.
 use Rattle.std.specs.Prelude.{ℕ, List, Option, option_map, Result, Ok}
 use Rattle.contract_words.specs.Faults.{◌>>=◌}
-use Rattle.command_base.specs.cert_tree.config_box.config_record.android_locales.declared.locale_rule.LocaleRule.{LocaleRule}
+use Rattle.command_base.specs.cert_tree.config_box.config_record.locales.declared.locale_rule.LocaleRule.{LocaleRule}
 use Rattle.command_base.specs.declared.status.Status.{Status}
 use Rattle.command_base.specs.declared.stop.Stop.{Stop}
 use Rattle.command_base.specs.CarriesOut.{CarriesOut}

@@ -3,8 +3,8 @@ use Rattle.std.specs.Prelude.{ℕ, ◌||◌, Bool, List, ◌++◌, Option, Some,
 use Rattle.std.specs.List.{flat_map, list_any, enumerate_from}
 use Rattle.contract_words.specs.Faults.{◌>>=◌}
 use Rattle.command_base.specs.cert_tree.config_box.config_record.Coord.{all_coords}
-use Rattle.command_base.specs.cert_tree.config_box.config_record.android_locales.declared.locale_rule.LocaleRule.{LocaleRule}
-use Rattle.command_base.specs.cert_tree.config_box.config_record.android_locales.declared.locale_rule.LocaleRule.TheVariants.{LanguageAndRegion}
+use Rattle.command_base.specs.cert_tree.config_box.config_record.locales.declared.locale_rule.LocaleRule.{LocaleRule}
+use Rattle.command_base.specs.cert_tree.config_box.config_record.locales.declared.locale_rule.LocaleRule.TheVariants.{LanguageAndRegion}
 use Rattle.command_base.specs.cert_tree.box_answers.NumberSet.{SetOf}
 use Rattle.command_base.specs.cert_tree.config_box.BoxJson.{box_in_by}
 use Rattle.command_base.specs.overlay_map.Layer.{LayerOf}

@@ -5,7 +5,7 @@ use Rattle.std.specs.Fmt.{decimal}
 use Rattle.command_base.specs.cert_tree.config_box.config_record.declared.coord.Coord as coord
 use Rattle.command_base.specs.cert_tree.config_box.config_record.declared.coord.Coord.TheVariants as coords
 use Rattle.command_base.specs.cert_tree.config_box.config_record.locales.LocaleNumber.{locale_of_number}
-use Rattle.command_base.specs.cert_tree.config_box.config_record.android_locales.Text.{locale_text}
+use Rattle.command_base.specs.cert_tree.config_box.config_record.locales.Text.{locale_text}
 use Rattle.command_base.specs.overlay_map.res_value.ResId.{id_text}
 use Rattle.command_base.specs.answer_text.LayerText.{layer_text}
 use Rattle.command_base.specs.answer_text.NamedText.{named_number, named_coord}

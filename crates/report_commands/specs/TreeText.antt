@@ -4,7 +4,7 @@ use Rattle.std.specs.List.{flat_map, enumerate_from}
 use Rattle.std.specs.Fmt.{decimal}
 use Rattle.command_base.specs.answer_text.config_record.locales.declared.locale.Locale.{Locale}
 use Rattle.command_base.specs.answer_text.config_record.Coord.{name_of}
-use Rattle.command_base.specs.answer_text.config_record.android_locales.Text.{locale_text}
+use Rattle.command_base.specs.answer_text.config_record.locales.Text.{locale_text}
 use Rattle.command_base.specs.answer_text.config_record.locales.LocaleNumber.{locale_number}
 use Rattle.command_base.specs.answer_text.res_value.declared.res_id.ResId.{ResId}
 use Rattle.command_base.specs.answer_text.res_value.declared.value.Value.{Value}

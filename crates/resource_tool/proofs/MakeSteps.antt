@@ -4,7 +4,7 @@ use Rattle.std.specs.List.{All}
 use Rattle.std.specs.Io.KnownBytes.{Appends}
 use Rattle.std.proofs.lemmas.List.{get_or-map, length-map}
 use Rattle.std.proofs.lemmas.List.Elements.{All-weaker}
-use Rattle.table_commands.specs.config_record.android_locales.declared.locale_rule.LocaleRule.{LocaleRule}
+use Rattle.table_commands.specs.config_record.locales.declared.locale_rule.LocaleRule.{LocaleRule}
 use Rattle.resource_text.specs.cert_maker.box_answers.NumberSet.{SetOf}
 use Rattle.resource_text.specs.cert_maker.config_box.ByRule.{IsByRule}
 use Rattle.resource_text.specs.cert_maker.FitsBox.{FitsBox}

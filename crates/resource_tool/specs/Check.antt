@@ -13,7 +13,7 @@ use Rattle.table_commands.specs.command_base.Inputs.{Places, file_of}
 use Rattle.table_commands.specs.command_base.StackBytes.{LayerBytes}
 use Rattle.table_commands.specs.command_base.Stop.{StopOf}
 use Rattle.table_commands.specs.command_base.names.NamedGoals.{goals_named}
-use Rattle.table_commands.specs.config_record.android_locales.declared.locale_rule.LocaleRule.{LocaleRule}
+use Rattle.table_commands.specs.config_record.locales.declared.locale_rule.LocaleRule.{LocaleRule}
 use Rattle.resource_text.specs.cert_maker.res_value.Goal.{GoalSeen, goal_seen}
 use Rattle.resource_tool.specs.declared.check.Check.{Check}
 use Rattle.resource_tool.specs.declared.check.CheckFiles.{CheckFiles}

@@ -1,8 +1,8 @@
 -- What the command `check` prints.
 use Rattle.std.specs.Prelude.{◌≡◌, ℕ, ◌++◌, Bool, List, Option, Some, None, Result, Ok}
 use Rattle.contract_words.specs.Faults.{◌>>=◌}
-use Rattle.table_commands.specs.config_record.android_locales.declared.locale_rule.LocaleRule.{LocaleRule}
-use Rattle.table_commands.specs.config_record.android_locales.declared.locale_rule.LocaleRule.TheVariants.{LanguageAndRegion}
+use Rattle.table_commands.specs.config_record.locales.declared.locale_rule.LocaleRule.{LocaleRule}
+use Rattle.table_commands.specs.config_record.locales.declared.locale_rule.LocaleRule.TheVariants.{LanguageAndRegion}
 use Rattle.resource_text.specs.cert_maker.box_answers.NumberSet.{SetOf}
 use Rattle.resource_text.specs.cert_maker.config_box.BoxJson.{box_in_by}
 use Rattle.table_commands.specs.overlay_map.Layer.{LayerOf}

@@ -1,6 +1,6 @@
 -- The line of a certificate, read again. (Cited by contracts of this crate alone.)
 use Rattle.std.specs.Prelude.{◌≡◌, List, Result, Ok, Err}
-use Rattle.table_commands.specs.config_record.android_locales.declared.locale_rule.LocaleRule.{LocaleRule}
+use Rattle.table_commands.specs.config_record.locales.declared.locale_rule.LocaleRule.{LocaleRule}
 use Rattle.resource_text.specs.cert_maker.cert_tree.Certificate.{GoalOf, CertFits, goals_of}
 use Rattle.resource_text.specs.cert_maker.cert_tree.CertJson.{cert_in_by}
 use Rattle.resource_text.specs.cert_maker.declared.made.Made.{Made}

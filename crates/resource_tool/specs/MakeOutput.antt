@@ -5,8 +5,8 @@ use Rattle.std.specs.List.{All}
 use Rattle.serde_json.specs.Written.{compact_text}
 use Rattle.contract_words.specs.Faults.{◌>>=◌}
 use Rattle.table_commands.specs.config_record.DeviceSeen.{device_numbers}
-use Rattle.table_commands.specs.config_record.android_locales.declared.locale_rule.LocaleRule.{LocaleRule}
-use Rattle.table_commands.specs.config_record.android_locales.declared.locale_rule.LocaleRule.TheVariants.{LanguageAndRegion}
+use Rattle.table_commands.specs.config_record.locales.declared.locale_rule.LocaleRule.{LocaleRule}
+use Rattle.table_commands.specs.config_record.locales.declared.locale_rule.LocaleRule.TheVariants.{LanguageAndRegion}
 use Rattle.resource_text.specs.cert_maker.box_answers.NumberSet.{SetOf}
 use Rattle.resource_text.specs.cert_maker.config_box.BoxJson.{box_in_by}
 use Rattle.table_commands.specs.overlay_map.Layer.{LayerOf}

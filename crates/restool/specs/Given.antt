@@ -2,8 +2,8 @@
 use Rattle.std.specs.Prelude.{◌≡◌, ◌≢◌, ◌≤◌, ℕ, Bool, true, false, List, [], codes, Option, Some, None, unwrap_or, Result, Ok, Err, if◌then◌else◌}
 use Rattle.std.specs.Str.{bytes_eq}
 use Rattle.std.specs.Str.Parse.{IsNumeral, digits_value, without_leading_plus}
-use Rattle.resource_tool.specs.command_base.answer_text.config_record.android_locales.declared.locale_rule.LocaleRule.{LocaleRule}
-use Rattle.resource_tool.specs.command_base.answer_text.config_record.android_locales.declared.locale_rule.LocaleRule.TheVariants.{LanguageAndRegion, Android}
+use Rattle.resource_tool.specs.command_base.answer_text.config_record.locales.declared.locale_rule.LocaleRule.{LocaleRule}
+use Rattle.resource_tool.specs.command_base.answer_text.config_record.locales.declared.locale_rule.LocaleRule.TheVariants.{LanguageAndRegion, Android}
 use Rattle.clap.specs.Walk.{Row, first_of, one_of, all_of}
 use Rattle.restool.specs.declared.words_fault.WordsFault.{WordsFault}
 use Rattle.restool.specs.declared.words_fault.WordsFault.TheVariants as faults

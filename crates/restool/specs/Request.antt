@@ -8,7 +8,7 @@ use Rattle.clap.specs.Values.{kind_of}
 use Rattle.clap.specs.Walk.{Row, first_of, one_of}
 use Rattle.contract_words.specs.Faults.{◌>>=◌}
 use Rattle.json_input.specs.Each.{each}
-use Rattle.resource_tool.specs.command_base.answer_text.config_record.android_locales.declared.locale_rule.LocaleRule.{LocaleRule}
+use Rattle.resource_tool.specs.command_base.answer_text.config_record.locales.declared.locale_rule.LocaleRule.{LocaleRule}
 use Rattle.resource_tool.specs.command_base.names.Named.{NamedOf, named_of}
 use Rattle.restool.specs.declared.words_fault.WordsFault.{WordsFault}
 use Rattle.restool.specs.declared.words_fault.WordsFault.TheVariants as faults

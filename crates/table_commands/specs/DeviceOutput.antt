@@ -5,7 +5,7 @@ use Rattle.config_words.specs.declared.line.NoLine.{NoLine}
 use Rattle.config_words.specs.declared.line.NoLine.TheVariants.{NoWord, OutOfMemory}
 use Rattle.config_words.specs.JsonText.{device_json}
 use Rattle.config_words.specs.Printed.{printed_of_by}
-use Rattle.command_base.specs.answer_text.config_record.android_locales.declared.locale_rule.LocaleRule.{LocaleRule}
+use Rattle.command_base.specs.answer_text.config_record.locales.declared.locale_rule.LocaleRule.{LocaleRule}
 use Rattle.command_base.specs.declared.fault.ToolFault.TheVariants as faults
 use Rattle.command_base.specs.declared.status.Status.{Status}
 use Rattle.command_base.specs.declared.status.Status.TheVariants.{Done}

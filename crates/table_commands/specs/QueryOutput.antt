@@ -4,8 +4,8 @@ use Rattle.std.specs.List.{flat_map, list_any}
 use Rattle.contract_words.specs.Faults.{◌>>=◌}
 use Rattle.json_input.specs.Each.{each}
 use Rattle.command_base.specs.answer_text.res_value.declared.res_id.ResId.{ResId}
-use Rattle.command_base.specs.answer_text.config_record.android_locales.declared.locale_rule.LocaleRule.{LocaleRule}
-use Rattle.command_base.specs.answer_text.config_record.android_locales.LocaleRule.{rule_of}
+use Rattle.command_base.specs.answer_text.config_record.locales.declared.locale_rule.LocaleRule.{LocaleRule}
+use Rattle.command_base.specs.answer_text.config_record.locales.LocaleRule.{rule_of}
 use Rattle.command_base.specs.answer_text.config_record.Device.{device_locale}
 use Rattle.command_base.specs.overlay_map.Layer.{LayerOf}
 use Rattle.command_base.specs.answer_text.reference_resolver.declared.end.End.{End}

@@ -1,6 +1,6 @@
 //! What CLDR says of locales: their likely scripts, their lines, and which stand for their language.
 
-use android_locales::{is_near_us_english, is_representative, likely, line, number_of};
+use locales::{is_near_us_english, is_representative, likely, line, number_of};
 use config_record::Locale;
 
 const NONE: [u8; 4] = [0; 4];

@@ -1,6 +1,6 @@
 //! Which of some records a phone loads by their locales.
 
-use android_locales::{
+use locales::{
     DeviceLocale, LocaleRule, RecordLocale, number_of, read_locale, write_locale,
 };
 use config_record::{Coord, Locale, LocaleFault, Record};

@@ -1,5 +1,5 @@
 use Rattle.std.proofs.Common.{ap, sym, ◌∙◌, eqb-true}
-use Rattle.config_precedence.specs.config_rules.declared.kind.Numbers.{Numbers}
+use Rattle.config_precedence.specs.config_match.declared.kind.Numbers.{Numbers}
 use Rattle.config_precedence.specs.config_record.Record.{record_bytes}
 use Rattle.config_precedence.specs.config_record.ComparedNumber.{record_number}
 use Rattle.box_answers.proofs.Everywhere.{same-passes, numbers-same, nothing-passes, are_conditions}

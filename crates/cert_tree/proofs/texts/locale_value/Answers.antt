@@ -1,5 +1,5 @@
 use Rattle.std.proofs.Common.{ℕ, List, ◌++◌, IsUtf8, sym, ap, subst, ◌∙◌}
-use Rattle.config_box.specs.config_record.android_locales.Text.{locale_text}
+use Rattle.config_box.specs.config_record.locales.Text.{locale_text}
 use Rattle.cert_tree.proofs.TextLemmas.{locale_text-utf8}
 use Rattle.cert_tree.proofs.texts.locale_value.Goals as goal
 

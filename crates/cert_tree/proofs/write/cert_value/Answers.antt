@@ -1,7 +1,7 @@
 use Rattle.std.proofs.Common.{◌≡◌, List, map, Ok, subst}
 use Rattle.std.specs.List.{All}
 use Rattle.cert_tree.specs.declared.cert.CertGoal.{CertGoal}
-use Rattle.config_box.specs.config_record.android_locales.declared.locale_rule.LocaleRule.{LocaleRule}
+use Rattle.config_box.specs.config_record.locales.declared.locale_rule.LocaleRule.{LocaleRule}
 use Rattle.cert_tree.specs.Certificate.{goal_of, goals_of, CertFits}
 use Rattle.cert_tree.specs.CertJson.{goals_in_value}
 use Rattle.cert_tree.specs.WrittenJson.{cert_data}

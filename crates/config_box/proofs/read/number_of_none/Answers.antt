@@ -1,4 +1,4 @@
-use Rattle.box_answers.specs.config_record.android_locales.declared.locale_rule.LocaleRule.TheVariants.{LanguageAndRegion, Android}
+use Rattle.box_answers.specs.config_record.locales.declared.locale_rule.LocaleRule.TheVariants.{LanguageAndRegion, Android}
 use Rattle.config_box.proofs.ReadSteps.{none_of_rule}
 use Rattle.config_box.proofs.read.number_of_none.Goals as goal
 

@@ -1,9 +1,9 @@
 use Rattle.std.proofs.Common.{rules}
-use Rattle.config_rules.specs.config_record.declared.coord.Coord.TheVariants as coords
-use Rattle.config_rules.specs.config_record.ComparedNumber.{device_number}
-use Rattle.config_rules.specs.config_record.DeviceSeen.{device_numbers}
-use Rattle.config_rules.specs.config_record.Record.{record_bytes}
-use Rattle.config_rules.proofs.config_record.android_locales.GivenLemmas.{no_language}
+use Rattle.config_match.specs.config_record.declared.coord.Coord.TheVariants as coords
+use Rattle.config_match.specs.config_record.ComparedNumber.{device_number}
+use Rattle.config_match.specs.config_record.DeviceSeen.{device_numbers}
+use Rattle.config_match.specs.config_record.Record.{record_bytes}
+use Rattle.config_match.proofs.config_record.locales.GivenLemmas.{no_language}
 use Rattle.config_match.proofs.RegionAlone.{region_alone}
 use Rattle.config_match.proofs.matching.matches.Goals as goal
 

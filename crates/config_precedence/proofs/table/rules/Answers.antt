@@ -1,6 +1,6 @@
 use Rattle.std.proofs.Common.{refl}
 use Rattle.config_match.specs.config_record.Coord.{place_of}
-use Rattle.config_match.specs.config_rules.Rule.{beside}
+use Rattle.config_match.specs.Rule.{beside}
 use Rattle.config_precedence.specs.Rules.{all_rules}
 use Rattle.config_precedence.proofs.table.rules.Goals as goal
 

@@ -1,5 +1,5 @@
 use Rattle.std.proofs.Common.{◌≡◌, Ok, subst}
-use Rattle.config_record.specs.android_locales.declared.locale_rule.LocaleRule.{LocaleRule}
+use Rattle.config_record.specs.locales.declared.locale_rule.LocaleRule.{LocaleRule}
 use Rattle.config_record.specs.DeviceJson.{device_in_json_by}
 use Rattle.config_words.specs.JsonText.{device_json}
 use Rattle.config_words.proofs.LineRule.{line-rule}

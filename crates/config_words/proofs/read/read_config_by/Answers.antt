@@ -2,7 +2,7 @@ use Rattle.std.proofs.Common.{◌≡◌, ℕ, List, Result, Ok, Err, IfOk, sym, 
 use Rattle.config_record.specs.declared.device.Device.{Device}
 use Rattle.config_record.specs.DeviceSeen.{device_numbers}
 use Rattle.config_words.specs.declared.fault.ConfigWordFault.{ConfigWordFault}
-use Rattle.config_record.specs.android_locales.declared.locale_rule.LocaleRule.{LocaleRule}
+use Rattle.config_record.specs.locales.declared.locale_rule.LocaleRule.{LocaleRule}
 use Rattle.config_words.specs.Config.{device_of_config_by}
 use Rattle.config_words.specs.Fault.{seen}
 use Rattle.config_words.specs.Parts.{parts_of}

@@ -3,7 +3,7 @@ use borrow.Author.Count.{below_more}
 use Rattle.config_precedence.specs.config_record.Record.{record_bytes}
 use Rattle.config_precedence.specs.config_record.ComparedNumber.{record_number, device_number}
 use Rattle.config_precedence.specs.config_record.DeviceSeen.{device_numbers}
-use Rattle.config_precedence.specs.config_rules.Rule.{rule_answer}
+use Rattle.config_precedence.specs.config_match.Rule.{rule_answer}
 use Rattle.box_answers.specs.NumberSet.{SetOf, set_of, IsIn, IsProper}
 use Rattle.box_answers.specs.Members.{sets_of, set_at}
 use Rattle.box_answers.specs.TriedNumbers.{tried_numbers}

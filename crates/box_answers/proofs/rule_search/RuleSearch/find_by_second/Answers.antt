@@ -3,7 +3,7 @@ use Rattle.config_precedence.specs.config_record.Coord.{place_of}
 use Rattle.config_precedence.specs.config_record.Record.{record_bytes}
 use Rattle.config_precedence.specs.config_record.ComparedNumber.{record_number, device_number}
 use Rattle.config_precedence.specs.config_record.DeviceSeen.{device_numbers}
-use Rattle.config_precedence.specs.config_rules.Rule.{rule_answer}
+use Rattle.config_precedence.specs.config_match.Rule.{rule_answer}
 use Rattle.box_answers.specs.NumberSet.{SetOf, IsIn, IsLeastIn}
 use Rattle.box_answers.specs.SearchedSet.{IsGreatestIn}
 use Rattle.box_answers.specs.Members.{sets_of}

@@ -1,5 +1,5 @@
 use Rattle.config_record.proofs.DeviceLemmas.{device-asked, device-locale_asked, device-some_text, device-not_refused}
-use Rattle.android_locales.proofs.GivenLemmas.{plain_is_given}
+use Rattle.locales.proofs.GivenLemmas.{plain_is_given}
 use Rattle.config_record.proofs.device.Device.check.Goals as goal
 
 pub with-requires : goal.with-requires

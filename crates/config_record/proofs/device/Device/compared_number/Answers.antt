@@ -1,7 +1,7 @@
 use Rattle.std.proofs.Common.{rules, ◌≡◌, ◌∙◌, ap, slice_index_or, slice_index}
 use Rattle.config_record.specs.declared.coord.Coord.TheVariants as coords
 use Rattle.config_record.specs.Coord.{place_of, number_at}
-use Rattle.android_locales.proofs.GivenLemmas.{no_language}
+use Rattle.locales.proofs.GivenLemmas.{no_language}
 use Rattle.config_record.proofs.device.Device.compared_number.Goals as goal
 
 pub returns-clause-with_language : goal.returns-clause-with_language

@@ -1,4 +1,0 @@
-pub mod TableLemmas
-pub mod ReadsLemmas
-pub mod LocaleLemmas
-pub use Rattle.config_record.proofs as config_record

@@ -1,8 +1,0 @@
-use Rattle.config_rules.proofs.ReadsLemmas.{depends}
-use Rattle.config_rules.proofs.rule.Rule.second_read.Goals as goal
-
-pub returns-in-Dimensions-clause-depends : goal.returns-in-Dimensions-clause-depends
-returns-in-Dimensions-clause-depends c = depends c.args.self
-
-pub returns-in_default-clause-depends : goal.returns-in_default-clause-depends
-returns-in_default-clause-depends c = depends c.args.self

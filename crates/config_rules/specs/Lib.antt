@@ -1,9 +1,0 @@
-pub mod Answer
-pub mod Locale
-pub mod Conditions
-pub mod Comparisons
-pub mod Kind
-pub mod Rule
-pub mod Table
-pub mod Reads
-pub use Rattle.config_record.specs as config_record
