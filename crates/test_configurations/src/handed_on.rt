@@ -1,10 +1,10 @@
 //! What is called of the crates of devices, rules and boxes, by the crate that hands it on: who uses the library finds it
 //! there.
 
-use locales::{DeviceLocale, RecordLocale};
 use config_box::{BoxFault, Choice, ConfigBox, Sameness, Split, Test, Values};
 use config_match::{Mismatch, matches, mismatch};
 use config_precedence::{better, deciding, keeping_out, same};
 use config_record::{
     Coord, Device, DeviceFault, Fields, Locale, LocaleFault, LocaleRule, Record, RecordFault,
 };
+use locales::{DeviceLocale, RecordLocale};

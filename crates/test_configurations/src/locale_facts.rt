@@ -1,7 +1,7 @@
 //! What CLDR says of locales: their likely scripts, their lines, and which stand for their language.
 
-use locales::{is_near_us_english, is_representative, likely, line, number_of};
 use config_record::Locale;
+use locales::{is_near_us_english, is_representative, likely, line, number_of};
 
 const NONE: [u8; 4] = [0; 4];
 

@@ -1,9 +1,7 @@
 //! Which of some records a phone loads by their locales.
 
-use locales::{
-    DeviceLocale, LocaleRule, RecordLocale, number_of, read_locale, write_locale,
-};
 use config_record::{Coord, Locale, LocaleFault, Record};
+use locales::{DeviceLocale, LocaleRule, RecordLocale, number_of, read_locale, write_locale};
 use std::alloc::Global;
 
 /// The locale of a device; records in their order, each a language and region, and behind slashes a script and a variant; and
