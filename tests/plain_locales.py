@@ -317,6 +317,17 @@ ROWS = (
     ("", "[] [de]", 1),
     ("en-XA", "[] [en] [en-XA]", 3),
     ("de-DE", "[-Latn] [de]", 2),
+    ("zh-HK", "[zh-TW]", 1),
+    ("zh-HK", "[] [zh]", 1),
+    ("zh", "[] [zh-HK]", 1),
+    ("fr-FR", "[fr-CA]", 1),
+    ("fr-Cyrl-CA", "[] [fr-CA]", 1),
+    ("fr", "[] [de]", 1),
+    ("fil", "[tl]", 1),
+    ("xx-YY", "[] [xx-ZZ]", 1),
+    ("xx-Latn-ZZ", "[xx-ZZ]", 1),
+    ("xx-Latn", "[] [xx-ZZ]", 1),
+    ("", "[-Latn]", 1),
 )
 """A device's locale, the rows of an id with the values 1, 2 and so on, and the value that the device loads."""
 

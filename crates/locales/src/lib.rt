@@ -9,12 +9,10 @@
 //! better than the other. What is said of a locale is what CLDR's own lists say, which stand in `specs/` line by line; a line of
 //! ancestors has four locales at most, and none is left out of it.
 //!
-//! To CLDR's lists a locale and a script are numbers: the four bytes that a record has of them, the first one the highest, as
-//! `number_of` gives them. So a locale is its language above its region. 0 is none.
+//! To CLDR's lists a locale and a script are numbers: the four bytes that a record has of them, the first one the highest.
+//! So a locale is its language above its region. 0 is none.
 //!
 //! ```text
-//! let script = likely(0x7A68_484B); // zh-HK: Some(0x4861_6E74), Hant
-//! let line = line(0x656E_4154, 0x4C61_746E); // en-AT: en-AT, en-150, en-001, en
 //! let device = DeviceLocale::of_number(read_locale("es-AR", LocaleRule::Android)?.number());
 //! let record = RecordLocale::of_number(record.compared_number(Coord::Locale));
 //! record.suits(device) // true
@@ -41,12 +39,8 @@ mod zero;
 
 pub use chunk_walk::{u32_at, write_hex};
 pub use compared::{DeviceLocale, RecordLocale};
-pub use facts::{is_representative, likely, parent};
 pub use locale::{Locale, LocaleFault};
 pub use locale_rule::LocaleRule;
-pub use parts::{language_of, region_of};
 pub use record_script::kept_script;
 pub use text::{read_locale, write_locale};
-pub use text_number::number_of;
-pub use tree::{LONGEST_LINE, first_of, is_near_us_english, line};
 pub use zero::is_zero;

@@ -2,5 +2,6 @@
 //! finds it there.
 
 mod certificates;
+mod configurations;
 mod stacks;
 mod tables;

@@ -2,9 +2,7 @@
 //! there.
 
 use config_box::{BoxFault, Choice, ConfigBox, Sameness, Split, Test, Values};
-use config_match::{Mismatch, matches, mismatch};
-use config_precedence::{better, deciding, keeping_out, same};
+use config_precedence::{Mismatch, better, deciding, keeping_out, matches, mismatch, same};
 use config_record::{
     Coord, Device, DeviceFault, Fields, Locale, LocaleFault, LocaleRule, Record, RecordFault,
 };
-use locales::{DeviceLocale, RecordLocale};
