@@ -54,7 +54,7 @@ pub fn is_compared_plainly(device: &Device) -> bool
     is_by_language_and_region(device.compared_number(Coord::Locale))
 }
 
-#[tactic(auto, unfolding(crate::specs::Conditions::locale_suits))]
+#[tactic(auto, unfolding(crate::specs::Condition::locale_suits))]
 pub(crate) fn locale_suits(stored: u64, device: u64) -> bool
     ensures { result ≡ locale_suits stored device }
 {
