@@ -8,7 +8,7 @@
 # tools/prove.py --jobs 1 proved there from nothing is not proved again, and what is proved stays there.
 here=$(CDPATH='' cd "$(dirname "$0")/.." && pwd) || exit 1
 program=$(basename "$0")
-fixed="contract_words chunk_walk json_input locales config_record"
+fixed="contract_words chunk_walk json_input apk_member config_record"
 . "$here/tools/crates_below.sh"
 
 # measure WORK CRATE PART COMMAND..: runs a command in the crate's folder of its room, and keeps the processor seconds, of
