@@ -54,7 +54,3 @@ device_said rule said = or_no_device (device_of_fields rule said.fields)
 -- the device of a line where locales are read by this rule, or the first fault of the line
 unfoldable pub device_of_config_by : LocaleRule → List ℕ → Result (List ℕ) FaultOf
 device_of_config_by rule line = with_parts rule (parts_of line) (nothing_said rule) >>= device_said rule
-
--- by language and region
-abbrev pub device_of_config : List ℕ → Result (List ℕ) FaultOf
-device_of_config = device_of_config_by LanguageAndRegion

@@ -1,7 +1,6 @@
 -- The line of a device, where it has one.
 use Rattle.std.specs.Prelude.{ℕ, ◌==◌, List, [], ◌∷◌, Option, Some, None, Result, Ok, Err, if◌then◌else◌}
 use Rattle.config_record.specs.locales.declared.locale_rule.LocaleRule.{LocaleRule}
-use Rattle.config_record.specs.locales.declared.locale_rule.LocaleRule.TheVariants.{LanguageAndRegion}
 use Rattle.config_record.specs.declared.coord.Coord.{Coord}
 use Rattle.config_record.specs.declared.coord.Coord.TheVariants as coords
 use Rattle.config_record.specs.Coord.{all_coords}
@@ -32,7 +31,3 @@ if_all_said text (Some coord) = Err (NoWord coord)
 -- type 0 of the interface.
 unfoldable pub config_line_of_by : LocaleRule → List ℕ → Result (List ℕ) NoLine
 config_line_of_by rule device = if_all_said (line_text device) (unsaid (device_of_config_by rule (line_text device)) device)
-
--- by language and region
-abbrev pub config_line_of : List ℕ → Result (List ℕ) NoLine
-config_line_of = config_line_of_by LanguageAndRegion

@@ -1,7 +1,6 @@
 -- The text that `am get-config` prints: `config:`, a blank, and the line of the device; then lines of other kinds.
 use Rattle.std.specs.Prelude.{ℕ, ◌==◌, ◌||◌, not, Bool, List, [], ◌∷◌, ◌++◌, take, drop, position, codes, Option, Some, None, is_some, unwrap_or, Result}
 use Rattle.config_record.specs.locales.declared.locale_rule.LocaleRule.{LocaleRule}
-use Rattle.config_record.specs.locales.declared.locale_rule.LocaleRule.TheVariants.{LanguageAndRegion}
 use Rattle.config_words.specs.declared.line.NoLine.{NoLine}
 use Rattle.config_words.specs.Cut.{behind}
 use Rattle.config_words.specs.Fault.{FaultOf}
@@ -46,10 +45,6 @@ line_in text = first_line (without_blanks (unwrap_or (behind (codes "config:") t
 unfoldable pub device_of_printed_by : LocaleRule → List ℕ → Result (List ℕ) FaultOf
 device_of_printed_by rule text = device_of_config_by rule (line_in text)
 
--- by language and region
-abbrev pub device_of_printed : List ℕ → Result (List ℕ) FaultOf
-device_of_printed = device_of_printed_by LanguageAndRegion
-
 -- ---- written
 
 abbrev pub printed_text : List ℕ → List ℕ
@@ -58,7 +53,3 @@ printed_text device = codes "config: " ++ line_text device ++ 10 ∷ []
 -- A device has a text where that reads as the device by this rule.
 unfoldable pub printed_of_by : LocaleRule → List ℕ → Result (List ℕ) NoLine
 printed_of_by rule device = if_all_said (printed_text device) (unsaid (device_of_printed_by rule (printed_text device)) device)
-
--- by language and region
-abbrev pub printed_of : List ℕ → Result (List ℕ) NoLine
-printed_of = printed_of_by LanguageAndRegion

@@ -6,8 +6,8 @@
 //! that is written of a device reads as that device, and so does its JSON text.
 //!
 //! ```text
-//! let device = read_config("mcc310-mnc4-es-rMX-ldltr-sw411dp-port-560dpi-v27")?;
-//! let line = config_line(alloc, &device)?;
+//! let device = read_config_by("mcc310-mnc4-es-rMX-ldltr-sw411dp-port-560dpi-v27", rule)?;
+//! let line = config_line_by(alloc, &device, rule)?;
 //! write_device_json(&device, &mut out)?; // {"mcc":310,"mnc":4,"locale":"es-MX","layoutDirection":1,..}
 //! ```
 #![tactic(auto)]
@@ -30,6 +30,6 @@ mod words;
 
 pub use fault::ConfigWordFault;
 pub use json_text::write_device_json;
-pub use line::{NoLine, config_line, config_line_by};
-pub use printed::{is_printed, print_config, print_config_by, read_printed, read_printed_by};
-pub use read::{read_config, read_config_by};
+pub use line::{NoLine, config_line_by};
+pub use printed::{is_printed, print_config_by, read_printed_by};
+pub use read::read_config_by;

@@ -4,8 +4,8 @@ ghost use Rattle.std.specs.Prelude.{◌≡◌, None, Ok, IfOk};
 ghost use Rattle.contract_words.specs.Exact.{GivesOr};
 ghost use Rattle.config_record.specs.DeviceSeen.{device_numbers};
 ghost use Rattle.config_words.specs.declared.line.NoLine.TheVariants.{OutOfMemory};
-ghost use Rattle.config_words.specs.Config.{device_of_config, device_of_config_by};
-ghost use Rattle.config_words.specs.Line.{first_unlike, unsaid, config_line_of, config_line_of_by};
+ghost use Rattle.config_words.specs.Config.{device_of_config_by};
+ghost use Rattle.config_words.specs.Line.{first_unlike, unsaid, config_line_of_by};
 
 use crate::line_parts::line_text;
 use crate::read::read_line;
@@ -14,7 +14,7 @@ use std::alloc::Global;
 use thiserror::Error;
 
 /// Why there is no line of a device.
-#[derive(Clone, Copy, Debug, PartialEq, Eq, Error)]
+#[derive(Clone, Copy, Debug, Error)]
 pub enum NoLine {
     /// What the device has at this coordinate no part can say. It is the first such one.
     #[error("NoWord {0}")]
@@ -23,22 +23,12 @@ pub enum NoLine {
     OutOfMemory,
 }
 
-/// The line of a device, as Android writes it. It is read back before it is given.
+/// The line of a device, as Android writes it. It is read back by a rule before it is given. For a phone a script is
+/// written that is not the likely one, as `b+sr+Latn+RS`.
 ///
 /// ```text
-/// let line = config_line(alloc, &device)?; // mcc310-mnc4-es-rMX-ldltr-sw411dp-port-560dpi-v27
+/// let line = config_line_by(alloc, &device, rule)?; // mcc310-mnc4-es-rMX-ldltr-sw411dp-port-560dpi-v27
 /// ```
-pub fn config_line(alloc: Global, device: &Device) -> Result<Vec<u8>, NoLine>
-    ensures line { GivesOr OutOfMemory (λ line. line.items) result (config_line_of (device_numbers device.now)) }
-
-    // It reads as that device.
-    ensures reads_back { IfOk result (λ line. device_of_config line.items ≡ Ok (device_numbers device.now)) }
-{
-    config_line_by(alloc, device, LocaleRule::LanguageAndRegion)
-}
-
-/// The same, where the line is read back by a rule. For a phone a script is written that is not the likely one, as
-/// `b+sr+Latn+RS`.
 #[tactic(auto, unfolding(crate::specs::Line::config_line_of_by))]
 pub fn config_line_by(alloc: Global, device: &Device, rule: LocaleRule) -> Result<Vec<u8>, NoLine>
     ensures line { GivesOr OutOfMemory (λ line. line.items) result (config_line_of_by rule (device_numbers device.now)) }

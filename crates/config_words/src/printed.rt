@@ -5,7 +5,7 @@ ghost use Rattle.contract_words.specs.Exact.{GivesOr};
 ghost use Rattle.config_record.specs.DeviceSeen.{device_numbers};
 ghost use Rattle.config_words.specs.declared.line.NoLine.TheVariants.{OutOfMemory};
 ghost use Rattle.config_words.specs.Fault.{seen};
-ghost use Rattle.config_words.specs.Printed.{is_printed, is_blank, without_blanks, ends_line, first_line, line_in, device_of_printed, device_of_printed_by, printed_text, printed_of, printed_of_by};
+ghost use Rattle.config_words.specs.Printed.{is_printed, is_blank, without_blanks, ends_line, first_line, line_in, device_of_printed_by, printed_text, printed_of_by};
 
 use crate::cut::behind;
 use crate::fault::ConfigWordFault;
@@ -27,18 +27,13 @@ pub fn is_printed(text: &str) -> bool
 }
 
 /// The device of the text that `adb shell am get-config` prints: blanks may stand behind `config:`, and what stands behind
-/// the line is not looked at. A text without `config:` begins with the line.
+/// the line is not looked at. A text without `config:` begins with the line. The locale is read by a rule, by which it is
+/// then compared.
 ///
 /// ```text
-/// let device = read_printed("config: mcc310-mnc4-en-rUS-ldltr-sw411dp-560dpi-v27\nabi: arm64-v8a\n")?;
+/// let text = "config: mcc310-mnc4-en-rUS-ldltr-sw411dp-560dpi-v27\nabi: arm64-v8a\n";
+/// let device = read_printed_by(text, rule)?;
 /// ```
-pub fn read_printed(text: &str) -> Result<Device, ConfigWordFault<'_>>
-    ensures { seen device_numbers result ≡ device_of_printed text.now }
-{
-    read_printed_by(text, LocaleRule::LanguageAndRegion)
-}
-
-/// The same, where the locale is read by a rule, by which it is then compared.
 pub fn read_printed_by(text: &str, rule: LocaleRule) -> Result<Device, ConfigWordFault<'_>>
     ensures { seen device_numbers result ≡ device_of_printed_by rule text.now }
 {
@@ -93,21 +88,12 @@ fn first_end(text: &[u8]) -> Option<usize>
         .position(|byte| *byte == b'\n' || *byte == b'\r')
 }
 
-/// The text that `am get-config` begins with on a device: `config: `, its line, and a line feed. It is read back before it is given.
+/// The text that `am get-config` begins with on a device: `config: `, its line, and a line feed. It is read back by a rule
+/// before it is given.
 ///
 /// ```text
-/// let text = print_config(alloc, &device)?; // config: mcc310-mnc4-en-rUS-ldltr-sw411dp-560dpi-v27
+/// let text = print_config_by(alloc, &device, rule)?; // config: mcc310-mnc4-en-rUS-ldltr-sw411dp-560dpi-v27
 /// ```
-pub fn print_config(alloc: Global, device: &Device) -> Result<Vec<u8>, NoLine>
-    ensures text { GivesOr OutOfMemory (λ text. text.items) result (printed_of (device_numbers device.now)) }
-
-    // It reads as that device.
-    ensures reads_back { IfOk result (λ text. device_of_printed text.items ≡ Ok (device_numbers device.now)) }
-{
-    print_config_by(alloc, device, LocaleRule::LanguageAndRegion)
-}
-
-/// The same, where the text is read back by a rule.
 #[tactic(auto, unfolding(crate::specs::Printed::printed_of_by, crate::specs::Printed::device_of_printed_by))]
 pub fn print_config_by(alloc: Global, device: &Device, rule: LocaleRule) -> Result<Vec<u8>, NoLine>
     ensures text { GivesOr OutOfMemory (λ text. text.items) result (printed_of_by rule (device_numbers device.now)) }

@@ -10,26 +10,19 @@ ghost use Rattle.config_words.specs.Fault.{seen};
 ghost use Rattle.config_words.specs.Parts.{parts_of};
 ghost use Rattle.config_words.specs.Reorders.{Reorders};
 ghost use Rattle.config_words.specs.Said.{with_parts};
-ghost use Rattle.config_words.specs.Config.{nothing_said, or_no_device, device_of_fields, device_said, device_of_config, device_of_config_by, without_locale, with_locale};
+ghost use Rattle.config_words.specs.Config.{nothing_said, or_no_device, device_of_fields, device_said, device_of_config_by, without_locale, with_locale};
 
 use crate::fault::ConfigWordFault;
 use crate::parts::first_part;
 use crate::said::Said;
 use config_record::{Coord, Device, DeviceFault, Fields, Locale, LocaleRule};
 
-/// The device of a line as Android writes it: its parts in any order, each kind at most once.
+/// The device of a line as Android writes it: its parts in any order, each kind at most once. The locale is read by a rule,
+/// by which it is then compared. For a phone it may have a script, as `b+zh+Hans+CN` has.
 ///
 /// ```text
-/// let device = read_config("mcc310-mnc4-es-rMX-ldltr-sw411dp-port-560dpi-v27")?;
+/// let device = read_config_by("mcc310-mnc4-es-rMX-ldltr-sw411dp-port-560dpi-v27", rule)?;
 /// ```
-pub fn read_config(line: &str) -> Result<Device, ConfigWordFault<'_>>
-    ensures { seen device_numbers result ≡ device_of_config line.now }
-{
-    read_config_by(line, LocaleRule::LanguageAndRegion)
-}
-
-/// The same, where the locale is read by a rule, by which it is then compared. For a phone it may have a script, as
-/// `b+zh+Hans+CN` has.
 pub fn read_config_by(line: &str, rule: LocaleRule) -> Result<Device, ConfigWordFault<'_>>
     ensures device { seen device_numbers result ≡ device_of_config_by rule line.now }
 

@@ -2,7 +2,7 @@
 
 use crate::marked::{Writer, begin, end, tell};
 use config_record::{Device, LocaleRule};
-use config_words::{NoLine, config_line, print_config, write_device_json};
+use config_words::{NoLine, config_line_by, print_config_by, write_device_json};
 use std::io::Write;
 use std::test::Fail;
 
@@ -10,7 +10,7 @@ use std::test::Fail;
 pub fn line(rt: &HostRuntime, json: &str) -> Result<(), Fail> {
     let device = Device::read(rt.alloc(), json.as_bytes())?;
     begin(rt);
-    let line = config_line(rt.alloc(), &device);
+    let line = config_line_by(rt.alloc(), &device, LocaleRule::LanguageAndRegion);
     end(rt);
     write(rt, line)
 }
@@ -19,7 +19,7 @@ pub fn line(rt: &HostRuntime, json: &str) -> Result<(), Fail> {
 pub fn printed(rt: &HostRuntime, json: &str) -> Result<(), Fail> {
     let device = Device::read(rt.alloc(), json.as_bytes())?;
     begin(rt);
-    let text = print_config(rt.alloc(), &device);
+    let text = print_config_by(rt.alloc(), &device, LocaleRule::LanguageAndRegion);
     end(rt);
     write(rt, text)
 }
