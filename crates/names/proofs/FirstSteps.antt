@@ -97,24 +97,3 @@ pub FirstBut-end : (f : NamedGoalOf → Result (List GoalSeen) NameFaultOf) (lay
     → FirstBut f most first left (goals_named layers goals) → left ≡ [] → first_goals layers goals most ≡ Ok first
 FirstBut-end f layers goals most first left before nothing =
     first-found layers goals most before.so_far first (ReadsAllBut-end f before.so_far left (goals_named layers goals) before.read nothing) before.are
-
--- where there is room for more than these, they are all
-first-all : (total : Result (List GoalSeen) NameFaultOf) (most : ℕ) (first : List GoalSeen) → (total >>= λ all. Ok (take most all)) ≡ Ok first → length first < most → total ≡ Ok first
-first-all (Ok all) most first is few =
-    let wrapped : List GoalSeen → Result (List GoalSeen) NameFaultOf = λ goals. Ok goals in
-    let same : take most all ≡ first = cc in
-    let count = ap length same in
-    ap wrapped (sym (take-fewer most all (omega (arith, count, few))) ∙ same)
-first-all (Err fault) most first is few = absurd cc
-
-pub all-first : (layers : List LayerOf) (goals : List NamedGoalOf) (most : ℕ) (first : List GoalSeen) → first_goals layers goals most ≡ Ok first → length first < most → goals_named layers goals ≡ Ok first
-unfolding first_goals
-all-first layers goals most first is few = first-all (goals_named layers goals) most first is few
-
-missing-all : (total : Result (List GoalSeen) NameFaultOf) (most : ℕ) (fault : NameFaultOf) → (total >>= λ all. Ok (take most all)) ≡ Err fault → total ≡ Err fault
-missing-all (Ok all) most fault is = absurd cc
-missing-all (Err other) most fault is = is
-
-pub all-missing : (layers : List LayerOf) (goals : List NamedGoalOf) (most : ℕ) (fault : NameFaultOf) → first_goals layers goals most ≡ Err fault → goals_named layers goals ≡ Err fault
-unfolding first_goals
-all-missing layers goals most fault is = missing-all (goals_named layers goals) most fault is

@@ -6,7 +6,7 @@ ghost use Rattle.res_value.specs.Goal.{goal_seen, IdGoal};
 ghost use Rattle.names.specs.Names.{WantedOf};
 ghost use Rattle.names.specs.NamedGoal.{named_goal_of};
 ghost use Rattle.names.specs.NameFault.{GivesNamed};
-ghost use Rattle.names.specs.NamedGoals.{first_goals, goals_of_word, goals_named};
+ghost use Rattle.names.specs.NamedGoals.{first_goals, goals_of_word};
 ghost use Rattle.names.specs.AskedNames.{names_in_goal};
 ghost use Rattle.names.specs.Finder.{Tells};
 ghost use Rattle.names.specs.WordGoals.{goals_in, IsFirst};
@@ -20,20 +20,9 @@ use res_value::Goal;
 use std::alloc::{AllocError, Global};
 use std::rc::Rc;
 
-/// The goals that words ask for, one word after the other: one for each id of a set, or for an attribute under styles. All
-/// names are looked up in one walk over the rows of the base layers; each set of several resources takes one more.
-pub fn goals_named(
-    alloc: Global,
-    stack: &Stack<'_>,
-    goals: &[NamedGoal<'_>],
-) -> Result<Vec<Goal>, NameFault>
-    ensures { GivesNamed (λ goals. map goal_seen goals.items) result (goals_named stack.now (map named_goal_of goals.now)) }
-{
-    let goals = first_goals(alloc, stack, goals, usize::MAX)?;
-    Ok(goals)
-}
-
-/// The first of these goals, at most so many. What is not there is told wherever it stands.
+/// The goals that words ask for, one word after the other: one for each id of a set, or for an attribute under styles; of all
+/// these the first, at most so many. What is not there is told wherever it stands. All names are looked up in one walk over the
+/// rows of the base layers; each set of several resources takes one more.
 pub fn first_goals(
     alloc: Global,
     stack: &Stack<'_>,

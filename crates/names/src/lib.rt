@@ -4,7 +4,7 @@
 //! For the crates above: `find_names` gives for each of many names the id of the first row that has it, in the first of some
 //! tables that has one, in one walk over the rows. A `NamedStack` calls each id by a `Label`, its name or the id itself;
 //! `name_pairs` lays the labels of two stacks side by side, each once and in their order. A word asks for one resource
-//! (`Named`), for several (`NamedSet`) or for goals (`NamedGoal`), or names a file of words; `ids_named`, `goals_named` and
+//! (`Named`), for several (`NamedSet`) or for goals (`NamedGoal`), or names a file of words; `ids_named`, `first_goals` and
 //! `pairs_named` give those that words stand for, or the first that is not there or is a name of two packages.
 //!
 //! ```text
@@ -57,7 +57,7 @@ mod word_text;
 mod words_for;
 
 pub use fault::NameFault;
-pub use goals::{first_goals, goals_named};
+pub use goals::first_goals;
 pub use ids::ids_of_type;
 pub use label::Label;
 pub use laws::label_tells_id;
