@@ -11,10 +11,10 @@ ghost use Rattle.answer_text.specs.CellText.{format_of, string_behind, value_wit
 
 use crate::last_record::LastRecord;
 use crate::named::write_named_id;
-use bags_themes::{
-    Cell, MapRows, Pool, ResId, Row, Value, kind, write_id, write_string, write_value,
-};
+use bags_themes::{Cell, MapRows, Pool, ResId, Row, Value, kind};
+use res_value::{write_id, write_value};
 use std::io::{self, Write};
+use string_pool::write_string;
 
 /// The two ways in which the texts of rows differ.
 #[derive(Clone, Copy)]

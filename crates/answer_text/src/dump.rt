@@ -11,10 +11,10 @@ use crate::cell::{RowFormat, write_row_end};
 use crate::last_record::LastRecord;
 use crate::last_type_name::LastTypeName;
 use crate::line::Line;
-use bags_themes::{
-    Package, PackageRows, Row, Table, write_hex, write_id, write_string, write_word,
-};
+use bags_themes::{Package, PackageRows, Row, Table};
+use res_value::{write_hex, write_id, write_word};
 use std::io::{self, Write};
+use string_pool::write_string;
 
 /// Writes a line for each package of a table, in the order of the file, and behind it one for each of
 /// its rows with the names of its type and entry, with the lines of its bag. A string value is

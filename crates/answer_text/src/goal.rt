@@ -5,7 +5,8 @@ ghost use Rattle.contract_words.specs.Writes.{Writes};
 ghost use Rattle.answer_text.specs.GoalText.{next_style, under_styles, style_names, goal_words};
 
 use crate::name::write_name_beside;
-use bags_themes::{ResId, Stack, write_id};
+use bags_themes::{ResId, Stack};
+use res_value::write_id;
 use std::io::{self, Write};
 
 /// Writes the word for which the command line takes a goal: an id, or an attribute with the styles that it is asked

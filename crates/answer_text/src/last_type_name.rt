@@ -10,8 +10,9 @@ ghost use Rattle.bags_themes.specs.resource_table.Names.{type_name_in};
 ghost use Rattle.answer_text.specs.LastTypeName.{KeepsNameIn};
 
 use arrayvec::ArrayVec;
-use bags_themes::{Row, Table, write_string};
+use bags_themes::{Row, Table};
 use std::io::{self, Write};
+use string_pool::write_string;
 
 /// How many bytes of text are kept; a longer text is written anew each time.
 const KEPT: usize = 128;

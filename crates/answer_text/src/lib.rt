@@ -37,7 +37,6 @@ mod rows;
 pub use bags_themes::{
     BagFault, BagRow, Cell, Device, DeviceFault, End, IdMap, MOST_LAYERS, MapFault, MapRows, Pool,
     PoolFault, ResId, Row, Stack, StackFault, Table, TableFault, Theme, Value, bag, kind, resolve,
-    write_hex, write_id, write_string, write_value,
 };
 pub use dump::dump_text;
 pub use end::{end_text, write_end_line, write_end_with_name, write_end_with_string};
@@ -48,4 +47,6 @@ pub use name::{write_its_name, write_name_beside};
 pub use named::{write_named_coord, write_named_id, write_named_number};
 pub use on_line::{breaks_line, write_on_line};
 pub use query::{query_line, set_aside_line, strings_of_layer};
+pub use res_value::{write_hex, write_id, write_value};
 pub use rows::rows_text;
+pub use string_pool::write_string;

@@ -4,8 +4,9 @@ ghost use Rattle.contract_words.specs.Writes.{Writes};
 ghost use Rattle.bags_themes.specs.type_chunks.Row.{row_of};
 ghost use Rattle.answer_text.specs.NameText.{row_name, its_name, name_beside};
 
-use bags_themes::{ResId, Row, Stack, Table, write_string};
+use bags_themes::{ResId, Row, Stack, Table};
 use std::io::{self, Write};
+use string_pool::write_string;
 
 /// Writes the names of the first row that an id has in a base layer, if it has one.
 #[tactic(auto, unfolding(crate::specs::NameText::name_text))]

@@ -3,7 +3,8 @@
 ghost use Rattle.contract_words.specs.Writes.{Writes};
 ghost use Rattle.answer_text.specs.NamedText.{named_id, named_coord, named_number};
 
-use bags_themes::{Coord, ResId, write_id};
+use bags_themes::{Coord, ResId};
+use res_value::write_id;
 use std::io::{self, Write};
 
 /// Writes a name and an id.

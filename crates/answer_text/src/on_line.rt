@@ -6,8 +6,8 @@ ghost use Rattle.contract_words.specs.Writes.{Writes};
 ghost use Rattle.bags_themes.specs.string_pool.Shown.{unit_escape};
 ghost use Rattle.answer_text.specs.OnLine.{breaks_line, character_on_line, on_line};
 
-use bags_themes::write_hex;
 use bstr::{ByteSlice, Chars};
+use res_value::write_hex;
 use std::io::{self, Write};
 
 /// Writes a text in which no name and no string can end the line that it stands in, or turn its direction: each character

@@ -8,7 +8,8 @@ ghost use Rattle.answer_text.specs.QueryText.{strings_of_layer, strings_of_end, 
 
 use crate::end::write_end_with_name;
 use crate::name::write_name_beside;
-use bags_themes::{End, Pool, ResId, Stack, write_id};
+use bags_themes::{End, Pool, ResId, Stack};
+use res_value::write_id;
 use std::io::{self, Write};
 
 /// Writes the line of an id with its end. A string value is followed by its string, which is one of the

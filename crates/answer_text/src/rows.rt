@@ -6,7 +6,8 @@ ghost use Rattle.answer_text.specs.RowsText.{row_text, totals_text, rows_text};
 
 use crate::cell::{RowFormat, write_row_end};
 use crate::last_record::LastRecord;
-use bags_themes::{Row, Table, write_id};
+use bags_themes::{Row, Table};
+use res_value::write_id;
 use std::io::{self, Write};
 
 /// Two spaces before the rows of a bag, and no strings.

@@ -8,11 +8,12 @@ use crate::named_set::{ALL, NamedSet};
 use crate::packages::PackageName;
 use crate::wanted::Wanted;
 use crate::word_text::{name_text, two_text};
-use overlay_map::{ResId, write_id};
+use overlay_map::ResId;
+use res_value::write_id;
 use std::alloc::{AllocError, AllocFailed, Global};
 
 /// Why words ask for no resource.
-#[derive(Debug, PartialEq, Eq, Drop)]
+#[derive(Debug, Drop)]
 pub enum NameFault {
     /// The first that asks for nothing that is there: its text, as `0x7f010000`, `dimen/margin`, `dimen/*` or `*`.
     NoResource(String),

@@ -45,7 +45,7 @@ pub use id_map::IdMap;
 pub use map_fault::MapFault;
 pub use resource_table::{
     Cell, DeviceFault, MapRows, Package, PackageRows, Pool, PoolFault, ResId, Row, Table,
-    TableFault, Value, kind, write_hex, write_id, write_string, write_value, write_word,
+    TableFault, Value, kind,
 };
 pub use stack::{MOST_LAYERS, Stack};
 pub use stack_fault::StackFault;

@@ -28,7 +28,6 @@ pub use next::{Next, is_reference};
 pub use overlay_map::{
     Cand, Cell, ContentKeys, Contents, DeviceFault, IdMap, MOST_LAYERS, MapFault, MapRows, Package,
     PackageRows, Pool, PoolFault, ResId, Row, Stack, StackFault, Table, TableFault, Value, kind,
-    write_hex, write_id, write_string, write_value, write_word,
 };
 pub use references::{REFERENCES_FOLLOWED, resolve, resolve_within};
 pub use selection::{Pick, select};

@@ -42,5 +42,4 @@ pub use rows::{AllRows, Rows};
 pub use table::Table;
 pub use type_chunks::{
     Cell, CheckedType, DeviceFault, MapRows, Pool, PoolFault, ResId, Row, TableFault, Value, kind,
-    write_hex, write_id, write_string, write_value, write_word,
 };

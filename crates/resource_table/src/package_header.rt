@@ -13,7 +13,7 @@ use crate::pool::open_pool;
 use type_chunks::{ALIGNMENT, Chunk, ChunkFault, Pool, TableFault, Text, u32_within};
 
 /// The header of a package, and the names that it leads to.
-#[derive(Clone, Copy, Debug)]
+#[derive(Clone, Copy)]
 pub(crate) struct PackageHeader<'a> {
     pub id: u8,
     pub name: Text<'a>,

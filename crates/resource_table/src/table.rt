@@ -23,7 +23,7 @@ use type_chunks::{Chunk, ChunkFault, Pool, ResId, TableFault, chunk_at};
 
 /// A resource table (AOSP: `ResTable`), whose bytes are lent by the input. Contracts see it as its
 /// packages with their rows, in the order of the file, and the strings of its values.
-#[derive(Debug, Drop)]
+#[derive(Drop)]
 pub struct Table<'a> {
     packages: Vec<Package<'a>>,
     strings: Pool<'a>,

@@ -42,13 +42,10 @@ pub use fault::TableFault;
 pub use owner::Owner;
 pub use package_children::types_of_children;
 pub use package_types::PackageTypes;
-pub use res_value::{
-    Cell, MapRows, ResId, Value, kind, write_hex, write_id, write_value, write_word,
-};
+pub use res_value::{Cell, MapRows, ResId, Value, kind};
 pub use row::Row;
 pub use string_pool::{
     ALIGNMENT, Chunk, ChunkFault, Pool, PoolFault, StringFault, Text, chunk_at, u32_within,
-    write_string,
 };
 pub use type_rows::TypeRows;
 pub use types::Types;
