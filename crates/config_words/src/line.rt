@@ -14,7 +14,7 @@ use std::alloc::Global;
 use thiserror::Error;
 
 /// Why there is no line of a device.
-#[derive(Clone, Copy, Debug, Error)]
+#[derive(Clone, Copy, Debug, PartialEq, Eq, Error)]
 pub enum NoLine {
     /// What the device has at this coordinate no part can say. It is the first such one.
     #[error("NoWord {0}")]

@@ -6,7 +6,7 @@ ghost use Rattle.names.specs.FoundSoFar.{beside};
 use overlay_map::ResId;
 
 /// What a name stands for.
-#[derive(Clone, Copy, Debug, PartialEq, Eq)]
+#[derive(Clone, Copy)]
 pub(crate) enum Found {
     Nothing,
     One(ResId),

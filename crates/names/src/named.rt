@@ -11,7 +11,7 @@ use crate::type_word::TypeWord;
 use res_value::ResId;
 
 /// A resource, by its id or by its name.
-#[derive(Clone, Copy, Debug, PartialEq, Eq, PartialOrd, Ord)]
+#[derive(Clone, Copy, PartialEq, Eq, PartialOrd, Ord)]
 pub enum Named<'a> {
     Id(ResId),
     /// In any package where none is named.

@@ -14,7 +14,7 @@ use res_value::{Goal, GoalFault, GoalWord};
 use std::alloc::Global;
 
 /// What one word asks of a certificate.
-#[derive(Debug, PartialEq, Eq, Drop)]
+#[derive(Drop)]
 pub enum NamedGoal<'a> {
     /// A goal in which nothing is named.
     Ids(Goal),

@@ -9,7 +9,7 @@ use crate::type_word::TypeWord;
 pub(crate) const ALL: &str = "*";
 
 /// Resources that one word asks for.
-#[derive(Clone, Copy, Debug, PartialEq, Eq, PartialOrd, Ord)]
+#[derive(Clone, Copy, PartialEq, Eq, PartialOrd, Ord)]
 pub enum NamedSet<'a> {
     One(Named<'a>),
     /// Those of a type, in all packages where none is named.

@@ -9,7 +9,7 @@ use hex::FromHex;
 const NUMBER_MARK: &[u8] = b"0x";
 
 /// The package that a word names.
-#[derive(Clone, Copy, Debug, PartialEq, Eq, PartialOrd, Ord)]
+#[derive(Clone, Copy, PartialEq, Eq, PartialOrd, Ord)]
 pub enum PackageWord<'a> {
     /// By its number, as `0x01`.
     Number(u8),

@@ -14,7 +14,7 @@ use std::alloc::{AllocError, Global};
 use std::borrow::CowStr;
 
 /// The number and the name of a package.
-#[derive(Debug, Drop)]
+#[derive(Drop)]
 pub(crate) struct PackageName<'a> {
     pub number: u8,
     /// None where it is no text.

@@ -13,7 +13,7 @@ use std::alloc::{AllocError, Global};
 use std::cmp::Ordering;
 
 /// The ids that a label stands for: in the old stack alone, in the new one alone, or in both.
-#[derive(Clone, Copy, Debug, PartialEq, Eq)]
+#[derive(Clone, Copy, Debug)]
 pub enum Sides {
     Removed { old: ResId },
     Added { new: ResId },
@@ -21,7 +21,7 @@ pub enum Sides {
 }
 
 /// A label of one or both of two stacks, with what it stands for.
-#[derive(Debug, PartialEq, Eq, Drop)]
+#[derive(Drop)]
 pub struct NamePair<'a> {
     pub label: Label<'a>,
     pub sides: Sides,

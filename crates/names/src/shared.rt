@@ -9,7 +9,7 @@ use overlay_map::ResId;
 use std::collections::BTreeSet;
 
 /// The ids that have a name which stands for another id.
-#[derive(Clone, Copy, Debug, PartialEq, Eq)]
+#[derive(Clone, Copy)]
 pub struct SharedNames {
     pub count: usize,
     /// The least of them.

@@ -4,7 +4,7 @@ use crate::name::Name;
 use crate::package_word::PackageWord;
 
 /// A name that is looked up, in all packages where none is named.
-#[derive(Clone, Copy, Debug)]
+#[derive(Clone, Copy)]
 pub(crate) struct Wanted<'n> {
     pub package: Option<PackageWord<'n>>,
     pub name: Name<'n>,

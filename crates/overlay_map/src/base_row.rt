@@ -3,7 +3,7 @@
 use resource_table::{Row, Table};
 
 /// A row of a base layer, with the table that it is of.
-#[derive(Clone, Copy, Debug)]
+#[derive(Clone, Copy)]
 pub struct BaseRow<'t, 'a> {
     pub table: &'t Table<'a>,
     pub row: Row<'a>,

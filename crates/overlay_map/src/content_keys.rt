@@ -7,7 +7,7 @@ use std::hash::{BuildHasher, DefaultHasher, Hasher};
 
 /// The keys of a map, with which it makes its hashers. These are SipHash's, which is made for maps whose keys an
 /// adversary may choose.
-#[derive(Clone, Copy, Debug)]
+#[derive(Clone, Copy)]
 pub struct ContentKeys {
     /// SipHash behind the digest.
     keyed: DefaultHasher,

@@ -7,7 +7,7 @@ use crate::content_keys::ContentKeys;
 use sha2::{Digest, Sha256};
 
 /// Ids that are taken one by one, of which keys are made.
-#[derive(Debug, Drop)]
+#[derive(Drop)]
 pub struct Contents {
     digest: Sha256,
 }

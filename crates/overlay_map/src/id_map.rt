@@ -20,7 +20,7 @@ use std::marker::Model;
 
 /// Which id of an overlay stands for which id of the stack (AOSP: `IdmapEntries`). Contracts see it as
 /// its pairs, in the order of its text.
-#[derive(Debug, Drop)]
+#[derive(Drop)]
 pub struct IdMap {
     /// The own id of each target. The keys of its hashes are made of all targets, so no map can choose targets that
     /// make it slow.

@@ -12,7 +12,7 @@ use resource_table::{IndexedRows, IndexedTable, ResId};
 use std::marker::Model;
 
 /// A table in a stack, as a base or as an overlay.
-#[derive(Debug, Drop)]
+#[derive(Drop)]
 pub(crate) struct Layer<'a> {
     pub table: IndexedTable<'a>,
     /// None at a base.

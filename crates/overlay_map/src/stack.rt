@@ -23,7 +23,7 @@ pub const MOST_LAYERS: usize = 64;
 
 /// Layers, the later over the earlier (AOSP: the packages of a `ResTable`, each with the tables that were
 /// added to it). Contracts see them as a list.
-#[derive(Debug, Drop)]
+#[derive(Drop)]
 pub struct Stack<'a> {
     layers: Vec<Layer<'a>>,
     ghost few: { length layers.items ≤ most_layers },

@@ -12,7 +12,7 @@ use overlay_map::Cand;
 
 /// What a candidate does to the best before it, and why. A rule is named by its number, where one
 /// decides.
-#[derive(Clone, Copy, Debug, PartialEq, Eq)]
+#[derive(Clone, Copy)]
 pub enum Decision {
     /// Its record has a script or a variant.
     SetAside,

@@ -7,7 +7,7 @@ use crate::end::End;
 use overlay_map::{Cand, Cell, ResId, Value, kind};
 
 /// Where the look-up of an id leads.
-#[derive(Clone, Copy, Debug, PartialEq, Eq)]
+#[derive(Clone, Copy)]
 pub enum Next {
     /// To this id, which the selected reference names.
     LookUp(ResId),

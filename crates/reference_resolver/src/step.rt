@@ -10,7 +10,7 @@ use config_precedence::{Device, better, matches, same};
 use overlay_map::Cand;
 
 /// What a candidate does to the best so far.
-#[derive(Clone, Copy, Debug, PartialEq, Eq)]
+#[derive(Clone, Copy)]
 pub enum Step {
     /// It does not match, and is passed over.
     NoMatch,

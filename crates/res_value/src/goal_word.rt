@@ -18,7 +18,7 @@ const AT_SIGN: char = '@';
 const COMMA: char = ',';
 
 /// The parts of a word that asks for a goal, whatever each of them is.
-#[derive(Debug, PartialEq, Eq, Drop)]
+#[derive(Drop)]
 pub enum GoalWord<'a> {
     /// A word without `@`.
     Plain(&'a str),

@@ -7,7 +7,7 @@ use std::alloc::{AllocError, Global};
 use type_chunks::ResId;
 
 /// A head for each entry of a type; 0 where there is none.
-#[derive(Debug, Drop)]
+#[derive(Drop)]
 pub(crate) struct EntryHeads {
     heads: Vec<u32>,
 }
@@ -47,7 +47,7 @@ impl EntryHeads {
 }
 
 /// The heads of each type of a package.
-#[derive(Debug, Drop)]
+#[derive(Drop)]
 pub(crate) struct TypeHeads {
     by_type: Vec<EntryHeads>,
 }
@@ -90,7 +90,7 @@ impl TypeHeads {
 }
 
 /// The heads of all ids.
-#[derive(Debug, Drop)]
+#[derive(Drop)]
 pub(crate) struct Heads {
     by_package: Vec<TypeHeads>,
 }

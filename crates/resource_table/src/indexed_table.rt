@@ -16,7 +16,7 @@ use std::marker::Model;
 use type_chunks::{CheckedType, ResId};
 
 /// A table with the places of its rows by id. Contracts see it as the table.
-#[derive(Debug, Drop)]
+#[derive(Drop)]
 pub struct IndexedTable<'a> {
     table: Table<'a>,
     /// All types of the table, in the order of the file.

@@ -1,7 +1,7 @@
 //! A link of the rows of an id.
 
 /// A row of an id, and the link to the next row of that id.
-#[derive(Clone, Copy, Debug)]
+#[derive(Clone, Copy)]
 pub(crate) struct Link {
     /// The number of its type among the types of the table. The id says the index of its entry there.
     pub(crate) type_number: u32,

@@ -8,7 +8,7 @@ use std::alloc::Global;
 use type_chunks::{Chunk, Owner, PackageTypes, TableFault, Text, Types, types_of_children};
 
 /// A package (AOSP: `ResTable_package`): its rows, with their names.
-#[derive(Debug, Drop)]
+#[derive(Drop)]
 pub struct Package<'a> {
     pub(crate) header: PackageHeader<'a>,
     pub(crate) types: PackageTypes<'a>,

@@ -15,7 +15,7 @@ const ENTRIES: usize = 0x1_0000;
 
 /// The rows of each id, linked from its first in the order of the file to its last: eight bytes for each
 /// row, and four for each entry that a type spec counts.
-#[derive(Debug, Drop)]
+#[derive(Drop)]
 pub(crate) struct RowPlaces {
     pub(crate) heads: Heads,
     pub(crate) links: Vec<Link>,

@@ -15,7 +15,7 @@ use chunk_walk::{Chunk, u32_within};
 
 /// A string pool whose header was checked (AOSP: `ResStringPool`), lent from the bytes of its file.
 /// A string or a style is checked when it is asked for.
-#[derive(Clone, Copy, Debug)]
+#[derive(Clone, Copy)]
 pub struct Pool<'a> {
     utf8: bool,
     string_count: u32,

@@ -6,7 +6,7 @@ use bitflags::{Flag, Flags};
 
 /// The flags of a pool (AOSP: `ResStringPool_header::flags`). Strings are read alike whether they are sorted or
 /// not.
-#[derive(Clone, Copy, Debug)]
+#[derive(Clone, Copy)]
 pub(crate) struct PoolFlags(u32);
 
 impl PoolFlags {

@@ -9,7 +9,7 @@ use crate::type_rows::TypeRows;
 
 /// A type (AOSP: `ResTable_type`), whose entry offsets and entries were checked. Its rows are read from its bytes as
 /// they are asked for.
-#[derive(Clone, Copy, Debug)]
+#[derive(Clone, Copy)]
 pub struct CheckedType<'a> {
     pub(crate) chunk: TypeChunk<'a>,
     ghost checked: { IsChecked (type_chunk_of chunk) },

@@ -6,7 +6,7 @@ use bitflags::{Flag, Flags};
 
 /// The flags of an entry (AOSP: `ResTable_entry::flags`). The table's meaning rests on the first
 /// alone.
-#[derive(Clone, Copy, Debug)]
+#[derive(Clone, Copy)]
 pub(crate) struct EntryFlags(u16);
 
 impl EntryFlags {

@@ -1,7 +1,7 @@
 //! Which package something is of.
 
 /// The package that a type stands in.
-#[derive(Clone, Copy, Debug, PartialEq, Eq)]
+#[derive(Clone, Copy)]
 pub struct Owner {
     pub id: u8,
     /// How many packages of the table stand before it.

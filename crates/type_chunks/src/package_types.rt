@@ -11,7 +11,7 @@ use string_pool::Chunk;
 
 /// The types of a package, each entry of which was checked. Of each the place alone is kept, so memory grows by
 /// eight bytes with each.
-#[derive(Debug, Drop)]
+#[derive(Drop)]
 pub struct PackageTypes<'a> {
     pub(crate) owner: Owner,
     pub(crate) container: Chunk<'a>,

@@ -14,7 +14,7 @@ use string_pool::{Chunk, ChunkFault, u32_within};
 
 /// A type whose header was checked and whose entry offsets fit, with the type spec that it belongs to (AOSP:
 /// `ResTable_type`).
-#[derive(Clone, Copy, Debug)]
+#[derive(Clone, Copy)]
 pub(crate) struct TypeChunk<'a> {
     pub owner: Owner,
     pub spec: TypeSpec<'a>,

@@ -5,7 +5,7 @@ ghost use Rattle.std.specs.Prelude.{⊤, ◌≡◌, ◌==◌, ◌%◌, [], ◌�
 use bitflags::{Flag, Flags};
 
 /// The flags of a type (AOSP: `ResTable_type::flags`).
-#[derive(Clone, Copy, Debug)]
+#[derive(Clone, Copy)]
 pub(crate) struct TypeFlags(u8);
 
 impl TypeFlags {

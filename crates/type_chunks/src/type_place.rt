@@ -7,7 +7,7 @@ use string_pool::Chunk;
 
 /// Where a type and its type spec stand in their package, from its start. That is all that is kept of a type: what
 /// its header says is read anew.
-#[derive(Clone, Copy, Debug)]
+#[derive(Clone, Copy)]
 pub(crate) struct TypePlace {
     pub chunk: u32,
     pub spec: u32,

@@ -8,7 +8,7 @@ use crate::layout::type_spec_header as header;
 use string_pool::{Chunk, ChunkFault, u32_within};
 
 /// A type spec whose header was checked and whose flags fit (AOSP: `ResTable_typeSpec`).
-#[derive(Clone, Copy, Debug)]
+#[derive(Clone, Copy)]
 pub(crate) struct TypeSpec<'a> {
     /// Where its chunk begins, from the file's first byte.
     pub place: usize,
