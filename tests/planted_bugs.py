@@ -6,9 +6,9 @@
     planted_bugs.py --apply [CRATE | CRATE/BUG ..]
 
 Without a name it takes all. An edit has a line 'seen by: TESTS: NAME'. TESTS is tests/stops or one of WORKED, for which the
-program is proved and built with the bug; or a crate of tests, which is built with it and not proved; or tests/stops/calls.py, for
-whose rows of the call NAME the same is done of their program. NAME is the test that has to fail there. The last line is
-'N seen or refused, M let through'; refused is a bug that the prover does not let through.
+program is proved and built with the bug; or tests/stops/calls.py, whose program is built with it and not proved, and runs the
+rows of that NAME. NAME is the test that has to fail there. The last line is 'N seen or refused, M let through'; refused is
+a bug that the prover does not let through.
 
 With --control it takes the edits of must-fail/ and wrong-bodies/ that name a control, and plants that in place of the
 bug: the right body in the same form. The prover has to let it through, or the edit is refused for its form and shows
@@ -30,7 +30,7 @@ from concurrent.futures import ThreadPoolExecutor
 from pathlib import Path
 
 sys.path.append(str(Path(__file__).resolve().parent / "stops"))
-from worked_calls import WITHOUT_MEMORY, rows
+from worked_calls import all_rows
 
 HERE = Path(__file__).resolve().parent.parent
 RT = os.environ.get("RT", "rt").split()
@@ -119,15 +119,9 @@ def tried_on_program(edit, copy):
     return seen(edit, [line for line in ran.lines if line.startswith("failed: ")], f"failed: {edit.test}")
 
 
-def tried_on_crate(edit, copy):
-    ran = Run([*RT, "try", "--test"], copy / "crates" / edit.tests)
-    failed = [] if ran.is_well else [line for line in ran.lines if re.match(r"test \S+ .*fail", line, re.IGNORECASE)]
-    return seen(edit, failed, f"test {edit.test} ")
-
-
 def tried_on_calls(edit, copy):
-    """Runs the rows of a call, to which no memory is refused."""
-    asked = [row for row in [*rows(), *WITHOUT_MEMORY] if row.name == edit.test]
+    """Runs the rows of a name, to which no memory is refused."""
+    asked = [row for row in all_rows() if row.name == edit.test]
     for row in asked:
         ran = Run([*RT, "try", "--", *row.words], copy / "crates" / CALLS_PROGRAM)
         if not any(line.startswith("run=ended") for line in ran.lines):
@@ -169,8 +163,7 @@ def tried(edit, base, work):
 def edit_tried(edit, copy):
     if not edit.tests:
         return tried_by_prover(edit, copy)
-    by_tests = {**dict.fromkeys(PROGRAM_TESTS, tried_on_program), CALLS: tried_on_calls}
-    return by_tests.get(edit.tests, tried_on_crate)(edit, copy)
+    return tried_on_calls(edit, copy) if edit.tests == CALLS else tried_on_program(edit, copy)
 
 
 def paths_of(word, folders):

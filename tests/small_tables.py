@@ -6,7 +6,7 @@ A cell is a decimal number, `@0x..`, `?0x..`, `empty`, `KIND:WORD` in hexadecima
 `bag PARENT NAME=VALUE ..`."""
 import struct
 
-from made_layers import NO_STRINGS, table_of, type_chunk, type_spec
+from made_layers import NO_STRINGS, chunk, table_of, type_chunk, type_spec
 from plain_bags import Bag
 from plain_rules import Record
 
@@ -44,6 +44,11 @@ def pool_of_string(strings, is_utf8=True, offset=0):
     strings += bytes(-len(strings) % 4)
     header = struct.pack("<HHIIIIII", 1, 28, 32 + len(strings), 1, 0, 0x100 if is_utf8 else 0, 32, 0)
     return header + struct.pack("<I", offset) + strings
+
+
+def pool_of_style(spans):
+    """A pool of one style and no strings, whose spans are these bytes."""
+    return chunk(0x0001, struct.pack("<IIIII", 0, 1, 0x100, 0, 32), struct.pack("<I", 0) + spans)
 
 
 # ---- tables of rows

@@ -6,7 +6,7 @@
 LIBRARY is refuse.c, built to be preloaded. The program of calls is the crate test_calls, as it is built there. Each row
 runs once for each growth of memory in which this one is refused, and once more in which all from there on are; what the
 call is given is made before. Calls that take no memory run with every growth refused. A row is named after the one public
-call that it makes. Each public call that takes memory is made by such a row, or by the program, of which refusals.py
+call that it makes, but those of the texts of faults. Each public call that takes memory is made by such a row, or by the program, of which refusals.py
 refuses memory in each command, itself or in turn: as the sources tell; or it only hands on to one that is so made. The
 last line is 'N passed, M failed'."""
 import os
@@ -17,7 +17,7 @@ from concurrent.futures import ThreadPoolExecutor
 from pathlib import Path
 
 from library import Library, full_name
-from worked_calls import WITHOUT_MEMORY, rows
+from worked_calls import TEXTS, WITHOUT_MEMORY, rows
 
 HERE = Path(__file__).resolve().parent.parent.parent
 PROGRAM = HERE / "crates" / "test_calls" / "out" / "test_calls"
@@ -103,7 +103,7 @@ def faults_without_memory(calls, row):
 def tests():
     """What is tried: a row, and what finds its faults."""
     yield from ((row, faults) for row in rows())
-    yield from ((row, faults_without_memory) for row in WITHOUT_MEMORY)
+    yield from ((row, faults_without_memory) for row in [*WITHOUT_MEMORY, *TEXTS])
 
 
 def main(words):

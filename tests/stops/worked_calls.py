@@ -1,4 +1,5 @@
 """Calls of the library that the program does not make, or not so, each on worked rows with its answer there. For calls.py."""
+import struct
 import sys
 from collections import namedtuple
 from pathlib import Path
@@ -9,7 +10,7 @@ sys.path.append(str(TESTS))
 from made_layers import NamedTable, Resource, ids_of
 from plain_bags import Bag
 from plain_rules import Record
-from small_tables import TABLE_A, TABLE_B, table_of_lines
+from small_tables import TABLE_A, TABLE_B, pool_of_letter, pool_of_style, table_of_lines
 
 Row = namedtuple("Row", "name words answer unchanged")
 """The name of a call, the words that the program of calls is given, the lines that it prints, and those that it prints of
@@ -212,16 +213,16 @@ WRITTEN = [
 
 def certificate_rows():
     yield from (row("inputs", "Cert::write", [text], written) for text, written in WRITTEN)
-    yield from (row("inputs", "config_line", [text], line) for text, line in LINES)
-    yield from (row("inputs", "print_config", [text], printed) for text, printed in PRINTED)
+    yield from (row("inputs", "config_line_by", [text], line) for text, line in LINES)
+    yield from (row("inputs", "print_config_by", [text], printed) for text, printed in PRINTED)
 
 
 # ---- commands over bytes and a writer; after a fault the number of writes is told
 
 
 def command(name, table, of, *answer, more="", goals=ONE_LEAF, most=""):
-    """A command that is asked of a device, a box or another table; of a certificate or the box of two tables; of the goals of a
-    certificate; and of so many nodes at most, ten where it is not said."""
+    """A command that is asked of a device or a box; of a certificate; of the goals of another; and of so many nodes at most, ten
+    where it is not said."""
     return row("commands", name, [bytes_of_table(table), of, goals, more, most], *answer)
 
 
@@ -251,10 +252,8 @@ def box_rows():
     yield command("check_bytes", DENSITIES, TO_197, "(Certificate(Syntax), 0)", more="{")
     counter = "counter goal 0", "device locale=de density=160", f"end absent {ID}", NEGATIVE
     yield command("make_bytes", FRENCH, BOTH_LOCALES, *counter)
-    yield command("make_omitting_bytes", FRENCH, BOTH_LOCALES, NEGATIVE)
-    for name in ("make_bytes", "make_omitting_bytes"):
-        yield command(name, "0 [] 1", MEDIUM_BOX, ONE_LEAF, DONE)
-        yield command(name, "0 [] 1", NO_BOX, "(Box(Density), 0)")
+    yield command("make_bytes", "0 [] 1", MEDIUM_BOX, ONE_LEAF, DONE)
+    yield command("make_bytes", "0 [] 1", NO_BOX, "(Box(Density), 0)")
 
 
 def unasked_rows():
@@ -269,23 +268,31 @@ def unasked_rows():
     yield command("check_bytes", TWO_STYLES, TO_198, *told, more=unstyled, goals=unstyled)
 
 
-def change_rows():
-    """Two tables, and a box behind them."""
-    after, many = DENSITIES.replace("] 2", "] 3"), "\n".join(f"{entry} [] 1" for entry in range(11))
-    wide = f"changed {ID} decimal 2 -> decimal 3 on density=198", "same 0", NEGATIVE
-    for old, new, box, answer in (
-        (DENSITIES, after, TO_198, wide),
-        (DENSITIES, after, TO_197, ("same 1", DONE)),
-        (DENSITIES, DENSITIES, TO_198, ("same 1", DONE)),
-        (TABLE_A, TABLE_B, MEDIUM_BOX, ("added s/k", f"removed {ID}", "same 0", NEGATIVE)),
-        (many, many.replace("] 1", "] 2"), MEDIUM_BOX, ("node limit", NEGATIVE)),
-        (TABLE_B, CUT, NO_BOX, ("(SideTable(New, 0, Chunk(Oversize(0))), 0)",)),
-        (TABLE_B, TABLE_A, NO_BOX, ("(Box(Density), 0)",)),
-    ):
-        yield command("diff_bytes", old, bytes_of_table(new), *answer, more=box)
-    # Words ask for a node at least, which is enough for what is the same.
-    for most, answer in (("0", ("node limit", NEGATIVE)), ("1", ("same 1", DONE))):
-        yield command("diff_bytes", DENSITIES, table_of_lines(DENSITIES), *answer, more=TO_198, most=most)
+# ---- what is lent
+
+
+BAG_TABLE = table_of_lines("0 [sdk=21] bag 0x7f010003 0x01010001=7 0x01010002=8", strings=pool_of_letter(b"z"))
+OTHER_ENTRY = '[["0x7f010000","0x7f010001"]]'
+"""An id map in which another entry of the overlay stands for entry 0."""
+SPAN, SPANS_END = struct.pack("<III", 0, 1, 2), b"\xff" * 4
+
+
+def lent_rows():
+    """What outlives the table, the stack or the styles that lent it, told when these are gone."""
+    rows = (f"({name}, Value {{ kind: 16, word: {word} }})" for name, word in ((A, 7), (B, 8)))
+    yield row("lent", "Table::all_rows", [BAG_TABLE], f"({FIRST}, 21)", *rows, "Utf8([122])")
+    cells = (f"Plain(Value {{ kind: 16, word: {word} }})" for word in (5, 6))
+    yield row("lent", "Stack::candidates", [TABLE_A, table_of_lines("1 [] 6"), OTHER_ENTRY], *cells)
+    yield row("lent", "OpenBox::common_trace", [BAG_TABLE, '{"density":[160],"sdk":[21]}'], f"One({value(SEVEN)})")
+
+
+def span_rows():
+    """The spans of a style: one, one that nothing ends, none; and of styles that are not there."""
+    yield row("inputs", "Pool::spans", [pool_of_style(SPAN + SPANS_END), "0"], "Span { name: 0, first: 1, last: 2 }")
+    yield row("inputs", "Pool::spans", [pool_of_style(SPAN), "0"], "Cut")
+    yield row("inputs", "Pool::spans", [pool_of_style(SPANS_END), "0"])
+    for index in ("1", "4294967295"):
+        yield row("inputs", "Pool::spans", [pool_of_style(SPANS_END), index], "NoSuch")
 
 
 def rows():
@@ -295,7 +302,7 @@ def rows():
     yield from goal_rows()
     yield from candidate_rows()
     yield from certificate_rows()
-    for some in (device_rows, box_rows, unasked_rows, change_rows):
+    for some in (device_rows, box_rows, unasked_rows):
         yield from some()
 
 
@@ -305,7 +312,6 @@ WITHOUT_MEMORY = [
     over("goal_end", "0 [] @0x7f010001\n1 [] 7", [ID], value(SEVEN)),
     over("goal_end", "0 [] bag 0x00000000", [ID], f"Bag {{ id: {FIRST} }}"),
     over("Live::new", LOCALES, ['{"density":[160],"locale":["en"]}']),
-    command("diff_bytes", CUT, CUT, "(SideTable(Old, 0, Chunk(Oversize(0))), 0)", more=NO_BOX),
     command("check_bytes", CUT, TO_197, "(LayerTable(0, Chunk(Oversize(0))), 0)", more=ONE_LEAF),
     row("inputs", "Stack::push_base", [TABLE_A], "(TooManyLayers, 64, true)"),
     row("inputs", "Stack::push_overlay", [TABLE_A], "(TooManyLayers, 64, true)", f"Some({FIRST})"),
@@ -314,6 +320,38 @@ WITHOUT_MEMORY = [
     row("inputs", "Device::check", [], "Some(FieldRange(LayoutDirection))"),
     *(row("inputs", "write_device_json", [text, rule], written) for text, rule, written in JSON_TEXTS),
     row("inputs", "Goal::attr", [], f"Some(Attr {{ attr: {A}, styles: [{FIRST}] }})"),
+    *span_rows(),
+    *lent_rows(),
 ]
 """Calls that take no memory: of one value, of a box that no candidate matches, of a table that is refused at once, over as many
-layers as there can be, of names and chunks, of devices, and of parts."""
+layers as there can be, of names and chunks, of devices, of parts, and of styles; and those of what is lent, to which none is
+refused."""
+
+
+def texts(name, *lines):
+    """What faults are shown as for users of the library: of each kind a variant of each shape."""
+    return row("texts", f"faults of {name}", [], *lines)
+
+
+TEXTS = [
+    texts(
+        "tables",
+        "Oversize 4294967643", "Start", "NotEnded", "Short", "ValueSize 7", "Outside",
+        "Chunk Oversize 8", "NotTable", "Pool Start 12", "Entry 400",
+    ),
+    texts(
+        "JSON",
+        "OutOfMemory", "RegionAlone", "Density", "FieldRange mcc", "Density", "TooMany widthDp", "Version", "Shape 2 10",
+        "TooManyLayers", "Syntax", "OtherPackage 0x01010000",
+    ),
+    texts(
+        "commands",
+        "TooManyLayers", "BagDepth", "TooLarge", "refused: layers: Shape", "refused: layer 2 table: NotTable",
+        "refused: layer 63 map: Syntax", "refused: new layer 63 map: Syntax", "Write",
+    ),
+]
+"""These are named after no call, and take no memory."""
+
+
+def all_rows():
+    return [*rows(), *WITHOUT_MEMORY, *TEXTS]

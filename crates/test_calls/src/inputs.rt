@@ -15,10 +15,11 @@ pub fn call(rt: &HostRuntime, words: &[String]) -> Result<(), Fail> {
     let given = word(words, 1);
     match word(words, 0) {
         "Chunks::new" => tables::chunks(rt, given),
+        "Pool::spans" => tables::spans(rt, given, word(words, 2)),
         "Table::find" => tables::names(rt, given),
         "Cert::write" => certificates::written(rt, given),
-        "config_line" => lines::line(rt, given),
-        "print_config" => lines::printed(rt, given),
+        "config_line_by" => lines::line(rt, given),
+        "print_config_by" => lines::printed(rt, given),
         "write_device_json" => lines::json(rt, given, word(words, 2)),
         "Device::check" => parts::device(rt),
         "Goal::attr" => parts::goal(rt),

@@ -9,9 +9,12 @@
 #![tactic(auto)]
 
 mod commands;
+mod handed_on;
 mod inputs;
+mod lent;
 mod marked;
 mod stacks;
+mod texts;
 
 use crate::marked::{word, words};
 use std::test::Fail;
@@ -21,7 +24,9 @@ fn main(rt: HostRuntime) -> Result<(), Fail> {
     let asked = words.get(1..).unwrap_or(&[]);
     match word(&words, 0) {
         "commands" => commands::call(&rt, asked),
+        "lent" => lent::call(&rt, asked),
         "stacks" => stacks::call(&rt, asked),
+        "texts" => texts::call(&rt, asked),
         _ => inputs::call(&rt, asked),
     }
 }

@@ -2,13 +2,11 @@
 
 use crate::marked::{Writer, bytes_of, word};
 use cert_checker::{Cert, Goal, ResId};
-use diff_command::diff_bytes;
 use resource_tool::{
     LayerParts, Status, ToolFault, attr_bytes, bag_bytes, check_bytes, explain_bytes, make_bytes,
-    make_omitting_bytes, query_bytes,
+    query_bytes,
 };
 use std::alloc::Global;
-use std::io::sink;
 use std::test::Fail;
 
 /// How many nodes are made at most, where no word says it.
@@ -22,15 +20,15 @@ const STYLES: [ResId; 2] = [FIRST, ResId(0x7f01_0001)];
 
 const ATTR: ResId = ResId(0x0101_0001);
 
-/// A command, its table, what it is asked of this (a device, a box or another table), a certificate whose goals are asked, a
-/// certificate or the box of two tables, and how many nodes are made at most.
+/// A command, its table, the device or the box that it is asked of, a certificate whose goals are asked, another that is
+/// checked, and how many nodes are made at most.
 #[derive(Drop)]
 pub struct Asked<'w> {
     name: &'w str,
     table: Vec<u8>,
-    of: Vec<u8>,
+    of: &'w [u8],
     goals: Vec<Goal>,
-    more: &'w [u8],
+    certificate: &'w [u8],
     most_nodes: u32,
 }
 
@@ -41,9 +39,9 @@ impl<'w> Asked<'w> {
         Ok(Asked {
             name: word(words, 0),
             table: bytes_of(alloc, word(words, 1))?,
-            of: bytes_of(alloc, word(words, 2))?,
+            of: word(words, 2).as_bytes(),
             goals: trees.into_iter().map(|tree| tree.goal).collect(alloc)?,
-            more: word(words, 4).as_bytes(),
+            certificate: word(words, 4).as_bytes(),
             most_nodes: word(words, 5).parse::<u32>().unwrap_or(MOST_NODES),
         })
     }
@@ -51,31 +49,26 @@ impl<'w> Asked<'w> {
     /// Gives the command.
     pub fn answer(&self, alloc: Global, out: &mut Writer) -> Result<Status, ToolFault> {
         let layers = [(self.table.as_slice(), None)];
-        let of = self.of.as_slice();
         match self.name {
-            "query_bytes" => query_bytes(alloc, &layers, of, &[FIRST], out),
-            "explain_bytes" => explain_bytes(alloc, &layers, of, FIRST, out),
-            "bag_bytes" => bag_bytes(alloc, &layers, of, FIRST, out),
-            "attr_bytes" => attr_bytes(alloc, &layers, of, ATTR, &STYLES, false, out),
-            _ => self.answer_of_many(alloc, &layers, out),
+            "query_bytes" => query_bytes(alloc, &layers, self.of, &[FIRST], out),
+            "explain_bytes" => explain_bytes(alloc, &layers, self.of, FIRST, out),
+            "bag_bytes" => bag_bytes(alloc, &layers, self.of, FIRST, out),
+            "attr_bytes" => attr_bytes(alloc, &layers, self.of, ATTR, &STYLES, false, out),
+            _ => self.answer_of_goals(alloc, &layers, out),
         }
     }
 
-    // Gives a command that is asked about a box.
-    fn answer_of_many(
+    // Gives a command that is asked about goals and a box.
+    fn answer_of_goals(
         &self,
         alloc: Global,
         layers: &[LayerParts<&[u8]>],
         out: &mut Writer,
     ) -> Result<Status, ToolFault> {
-        let of = self.of.as_slice();
         let goals = self.goals.as_slice();
-        let most = self.most_nodes;
         match self.name {
-            "check_bytes" => check_bytes(alloc, layers, of, self.more, goals, out),
-            "make_bytes" => make_bytes(alloc, layers, of, goals, most, out),
-            "diff_bytes" => diff_bytes(alloc, layers, &[(of, None)], self.more, most, out),
-            _ => make_omitting_bytes(alloc, layers, of, goals, most, out, &mut sink()),
+            "check_bytes" => check_bytes(alloc, layers, self.of, self.certificate, goals, out),
+            _ => make_bytes(alloc, layers, self.of, goals, self.most_nodes, out),
         }
     }
 }

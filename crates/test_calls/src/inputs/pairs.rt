@@ -2,7 +2,7 @@
 
 use crate::marked::bytes_of;
 use bags_themes::Stack;
-use diff_command::{NamedStack, name_pairs};
+use stack_diff::{NamedStack, name_pairs};
 use std::alloc::Global;
 use std::test::Fail;
 use test_layers::{LayerFault, SAME, push_base, push_overlay};

@@ -2,8 +2,9 @@
 
 use crate::marked::{begin, bytes_of, end, tell};
 use bags_themes::Table;
-use chunk_walk::Chunks;
+use chunk_walk::{Chunks, chunk_at};
 use std::test::Fail;
+use string_pool::Pool;
 
 /// The kinds of the chunks that make the bytes.
 pub fn chunks(rt: &HostRuntime, word: &str) -> Result<(), Fail> {
@@ -22,6 +23,24 @@ pub fn names(rt: &HostRuntime, word: &str) -> Result<(), Fail> {
     let table = Table::open(rt.alloc(), &bytes)?;
     begin(rt);
     tell(rt, (table.find("s", "k"), table.find("s", "x")));
+    end(rt);
+    Ok(())
+}
+
+/// The spans of a style of a pool, by its index.
+pub fn spans(rt: &HostRuntime, word: &str, index: &str) -> Result<(), Fail> {
+    let bytes = bytes_of(rt.alloc(), word)?;
+    let pool = Pool::open(&chunk_at(&bytes, 0, 8)?)?;
+    let index = index.parse::<usize>()?;
+    begin(rt);
+    match pool.spans(index) {
+        Ok(spans) => {
+            for span in spans {
+                tell(rt, span);
+            }
+        }
+        Err(fault) => tell(rt, fault),
+    }
     end(rt);
     Ok(())
 }

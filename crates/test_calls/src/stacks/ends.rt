@@ -2,7 +2,7 @@
 
 use crate::marked::{begin, end, tell_found};
 use cert_checker::{Goal, ResId, Stack, goal_end};
-use diff_command::{NamedStack, difference_at};
+use stack_diff::{NamedStack, difference_at};
 use std::test::Fail;
 use test_layers::{LayerFault, device_of};
 

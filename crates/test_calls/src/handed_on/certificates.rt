@@ -2,8 +2,10 @@
 //! library finds it there.
 
 use cert_checker::{Live, Shown, Verdict, check, goal_end};
-use cert_maker::{Made, make};
-use cert_tree::{Cert, CertFault, CertGoal, Goal, GoalFault, Node};
+use cert_tree::{
+    BoxFault, Cert, CertFault, CertGoal, Choice, ConfigBox, Goal, GoalFault, Node, Split, Test,
+    Values,
+};
 use resource_tool::{
     InputFault, LayerList, LayersFault, Status, ToolFault, attr_bytes, bag_bytes, check_bytes,
     dump_bytes, explain_bytes, make_bytes, query_bytes, read_input, rows_bytes,

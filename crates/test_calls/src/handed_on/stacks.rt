@@ -2,4 +2,3 @@
 
 use bags_themes::{BagFault, BagRows, Chain, Slot, Theme, bag, chain};
 use overlay_map::{Cand, Cands, IdMap, MapFault, Stack, StackFault};
-use reference_resolver::{End, Pick, resolve, resolve_within, select};
