@@ -35,8 +35,7 @@ impl BoxFiles {
 /// The bytes of layers and of a box, and the words of goals.
 #[derive(Drop)]
 pub(crate) struct GoalFiles {
-    pub layers: LayerFiles,
-    pub box_json: Vec<u8>,
+    pub files: BoxFiles,
     pub words: Vec<String>,
 }
 
@@ -53,12 +52,8 @@ impl GoalFiles {
         ensures { IfSome (I.places inputs.now) (λ places. GivesOrStops goals_held result
             (goal_files places layers_path.entry.now box_path.entry.now (map (λ word. word.now) words.now))) }
     {
-        let BoxFiles { layers, box_json } = BoxFiles::read(alloc, inputs, layers_path, box_path)?;
+        let files = BoxFiles::read(alloc, inputs, layers_path, box_path)?;
         let words = asked_words(alloc, inputs, words)?;
-        Ok(GoalFiles {
-            layers,
-            box_json,
-            words,
-        })
+        Ok(GoalFiles { files, words })
     }
 }

@@ -1,13 +1,11 @@
 //! The command `make` where goals are left out.
 
-ghost use Rattle.std.specs.Prelude.{ℕ, map, Ok, IfOk};
+ghost use Rattle.std.specs.Prelude.{ℕ, map, Ok};
 ghost use Rattle.contract_words.specs.Writes.{Writes};
 ghost use Rattle.resource_text.specs.cert_maker.Omitting.{IsOmitting};
 ghost use Rattle.resource_text.specs.cert_maker.res_value.Goal.{goal_seen};
 ghost use Rattle.table_commands.specs.MapOutput.{PrintsBoth};
-ghost use Rattle.table_commands.specs.command_base.StackBytesSeen.{layer_bytes};
 ghost use Rattle.resource_tool.specs.Answered.{PrintsBothOneOf};
-ghost use Rattle.resource_tool.specs.MakeOutput.{make_inputs};
 ghost use Rattle.resource_tool.specs.OmitOutput.{IsOmitOutput, LinesFirst, ToldFirst, omitted_text, lines_of, omit_output};
 ghost use Rattle.resource_tool.specs.LineReadsBack.{OmittingReadsBack, UnlessMemory};
 ghost use Rattle.resource_tool.specs.OpenedSeen.{opened_box};
@@ -15,60 +13,18 @@ ghost use Rattle.resource_tool.specs.OpenedSeen.{opened_box};
 use crate::goal_told::write_goal_told;
 use crate::make::{certificate_text, write_line};
 use crate::opened_box::OpenedBox;
-use cert_maker::make_omitting;
-use command_base::{LayerParts, Stack, Status, ToolFault};
-use resource_text::{Goal, Omitted, Omitting, Progress, Unwatched, device_with_end};
-use std::alloc::{AllocError, Global};
+use command_base::{Stack, Status, ToolFault};
+use resource_text::{Goal, Omitted, Omitting, device_with_end};
+use std::alloc::Global;
 use std::io::{self, Write};
 
-/// Prints a certificate of the goals that end at a value or a bag on all devices of the box, as `make_bytes` does; then
-/// the status is Done. Each other goal is told to `errors`, in three lines: `omitted goal G WORDS`, with its place from
-/// 0, and a device on which it ends otherwise, and where, as `make_bytes` prints them. Where no goal is left nothing is
-/// printed to `out`. Or it prints `node limit` there, where the trees of the goals that are kept can have more than
-/// `max_nodes` nodes together. The lines are written before the certificate.
-pub fn make_omitting_bytes<W: Write + Drop, E: Write + Drop>(
-    alloc: Global,
-    layers: &[LayerParts<&[u8]>],
-    box_json: &[u8],
-    goals: &[Goal],
-    max_nodes: u32,
-    out: &mut W,
-    errors: &mut E,
-) -> Result<Status, ToolFault>
-    ensures prints { PrintsBothOneOf (IsOmitOutput (map goal_seen goals.now) max_nodes) W.contents E.contents out.old out.new errors.old errors.new result
-        (make_inputs (map layer_bytes layers.now) box_json.now) }
-    ensures lines_first { LinesFirst (IsOmitOutput (map goal_seen goals.now) max_nodes) E.contents out.old out.new errors.old errors.new
-        (make_inputs (map layer_bytes layers.now) box_json.now) }
-{
-    let opened = OpenedBox::read(alloc, layers, box_json)?;
-    let omitting = opened.make_omitting(alloc, goals, max_nodes, &mut Unwatched)?;
-    opened.print_omitting(alloc, goals, &omitting, out, errors)
-}
-
 impl OpenedBox<'_> {
-    /// A certificate of the goals that are kept, and what is left out, for `print_omitting`. `progress` comes to know
-    /// after each goal how many are done.
-    pub fn make_omitting<P: Progress>(
-        &self,
-        alloc: Global,
-        goals: &[Goal],
-        max_nodes: u32,
-        progress: &mut P,
-    ) -> Result<Omitting, AllocError>
-        ensures { IfOk result (IsOmitting self.now.stack self.now.members (map goal_seen goals.now) max_nodes) }
-    {
-        make_omitting(
-            alloc,
-            &self.stack,
-            &self.members,
-            goals,
-            max_nodes,
-            progress,
-        )
-    }
-
-    /// Prints what was made of some goals, as `make_omitting_bytes` does.
-    pub fn print_omitting<W: Write + Drop, E: Write + Drop>(
+    /// Prints what was made of some goals: a certificate of those that end at a value or a bag on all devices of the box, as
+    /// `make_bytes` does; then the status is Done. Each other goal is told to `errors`, in three lines: `omitted goal G WORDS`,
+    /// with its place from 0, and a device on which it ends otherwise, and where, as `make_bytes` prints them. Where no goal is
+    /// left nothing is printed to `out`. Or it prints `node limit` there, where the trees of the goals that are kept can have
+    /// more nodes together than they may. The lines are written before the certificate.
+    pub(crate) fn print_omitting<W: Write + Drop, E: Write + Drop>(
         &self,
         alloc: Global,
         goals: &[Goal],
