@@ -5,7 +5,6 @@ use Rattle.std.specs.Option.{option_eq}
 use Rattle.std.specs.Str.{bytes_eq}
 use Rattle.contract_words.specs.Faults.{◌>>=◌}
 use Rattle.stack_diff.specs.config_box.config_record.locales.declared.locale_rule.LocaleRule.{LocaleRule}
-use Rattle.stack_diff.specs.config_box.config_record.locales.declared.locale_rule.LocaleRule.TheVariants.{LanguageAndRegion}
 use Rattle.stack_diff.specs.config_box.box_answers.NumberSet.{SetOf}
 use Rattle.stack_diff.specs.config_box.BoxJson.{box_in_by}
 use Rattle.command_base.specs.declared.fault.ToolFault.{ToolFault}
@@ -37,7 +36,3 @@ diff_inputs_by rule old_bytes new_bytes box_json = do
   new ← stack_on_side New new_bytes
   sets ← map_err fault_of_box (box_in_by rule box_json)
   Ok (record { stacks = record { old = old; new = new; are_one = have_same_bytes old_bytes new_bytes }; sets = sets; rule = rule })
-
--- by language and region
-abbrev pub diff_inputs : List LayerBytes → List LayerBytes → List ℕ → Result DiffInputs ToolFault
-diff_inputs = diff_inputs_by LanguageAndRegion

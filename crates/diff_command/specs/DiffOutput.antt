@@ -3,7 +3,7 @@ use Rattle.std.specs.Prelude.{◌≡◌, ℕ, List, [], ◌∷◌, ◌++◌, Opt
 use Rattle.command_base.specs.declared.status.Status.TheVariants.{Negative}
 use Rattle.command_base.specs.Output.{Output, negative_if}
 use Rattle.stack_diff.specs.config_box.config_record.locales.declared.locale_rule.LocaleRule.{LocaleRule}
-use Rattle.stack_diff.specs.names.Pairs.{PairOf, name_pairs}
+use Rattle.stack_diff.specs.names.Pairs.{PairOf}
 use Rattle.stack_diff.specs.Stacks.{StacksOf}
 use Rattle.diff_command.specs.DiffInputs.{DiffInputs}
 use Rattle.diff_command.specs.DiffLines.{some_differ, diff_lines}
@@ -20,7 +20,3 @@ pub record IsDiffOutput (pairs : List PairOf) (most : ℕ) (inputs : DiffInputs)
   pub told : Option (List ToldOf)
   pub right : AreTold inputs.stacks inputs.sets pairs most told
   pub printed : output ≡ told_output inputs.rule inputs.stacks pairs told
-
--- the same of all labels of both stacks
-abbrev pub IsWholeDiff : ℕ → DiffInputs → Output → Type 0
-IsWholeDiff most inputs output = IsDiffOutput (name_pairs inputs.stacks.old inputs.stacks.new) most inputs output

@@ -8,8 +8,7 @@ ghost use Rattle.command_base.specs.declared.fault.ToolFault.TheVariants.{Write}
 ghost use Rattle.stack_diff.specs.names.Pairs.{pair_of};
 ghost use Rattle.stack_diff.specs.Stacks.{stacks_of};
 ghost use Rattle.diff_command.specs.Diff.{Diffs, DiffsFiles, DiffsOpened, diff_files, diff_held, diff_opened};
-ghost use Rattle.diff_command.specs.DiffInputs.{diff_inputs};
-ghost use Rattle.diff_command.specs.DiffOutput.{told_output, IsDiffOutput, IsWholeDiff};
+ghost use Rattle.diff_command.specs.DiffOutput.{told_output, IsDiffOutput};
 ghost use Rattle.diff_command.specs.Judged.{told_of};
 ghost use Rattle.diff_command.specs.OpenedSeen.{named_diff};
 ghost use Rattle.command_base.specs.CarriesOut.{IsKept};
@@ -139,28 +138,10 @@ impl DiffFiles {
     }
 }
 
-/// Prints what the new layers say otherwise than the old ones, for all labels of both and all devices of the box; the status
-/// is Done where nothing differs. Or it prints `node limit`, where the trees that part the devices can have more than
-/// `max_nodes` nodes together.
-pub fn diff_bytes<W: Write + Drop>(
-    alloc: Global,
-    old: &[LayerParts<&[u8]>],
-    new: &[LayerParts<&[u8]>],
-    box_json: &[u8],
-    max_nodes: u32,
-    out: &mut W,
-) -> Result<Status, ToolFault>
-    ensures { PrintsOneOf (IsWholeDiff max_nodes) W.contents out.old out.new result
-        (diff_inputs (map layer_bytes old.now) (map layer_bytes new.now) box_json.now) }
-{
-    let opened = OpenedDiff::read(alloc, old, new, box_json)?;
-    let named = opened.named(alloc)?;
-    let pairs = named.pairs(alloc)?;
-    named.diff(alloc, &pairs, max_nodes, out)
-}
-
 impl<'o, 'a> NamedDiff<'o, 'a> {
-    /// The same of some labels. All memory is taken before the first line is written.
+    /// Prints what the new layers say otherwise than the old ones, for some labels and all devices of the box; the status is
+    /// Done where nothing differs. Or it prints `node limit`, where the trees that part the devices can have more than
+    /// `max_nodes` nodes together. All memory is taken before the first line is written.
     pub fn diff<W: Write + Drop>(
         &self,
         alloc: Global,

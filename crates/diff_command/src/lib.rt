@@ -1,8 +1,7 @@
 //! The command `diff`: what a change of layers alters, for every device of a box.
 //!
 //! For the program: `NamedDiff::diff` prints exactly the lines of what becomes of some labels, or `node limit`, and is done where
-//! nothing differs; `diff_bytes` prints those of all labels, from the bytes of both stacks and of the box, or names the first
-//! fault of these and prints nothing. `Diff::answer` reads the files that its words name, and prints those of the labels that
+//! nothing differs. `Diff::answer` reads the files that its words name, and prints those of the labels that
 //! they ask for; where a file is not read, has a fault, or a name is not there, it stops and prints nothing. A line names
 //! exactly the devices of its part (`devices_are_named`).
 //!
@@ -10,10 +9,6 @@
 //! let words = vec![in alloc; "dimen/*"]?;
 //! let diff = Diff { old: "old.json", new: "new.json", box_path: "box.json", locales: LocaleRule::Android, max_nodes: 100_000, words };
 //! diff.answer(alloc, &inputs, &mut out)?; // reads the files first
-//!
-//! let opened = OpenedDiff::read(alloc, &old_layers, &new_layers, &box_json)?;
-//! let named = opened.named(alloc)?; // walks once over the rows of each stack
-//! let status = named.diff(alloc, &named.pairs(alloc)?, 100_000, &mut out)?;
 //!
 //! changed string/cancel "Cancel" -> "Cancel!" on locale=de-AT,de-CH,de-DE
 //! changed dimen/margin dimension 4/2^0 dp -> absent dimen/margin on smallestWidthDp=320..599 orientation=2
@@ -40,7 +35,7 @@ mod rows_text;
 mod told;
 
 pub use command_base::{LayerParts, Status, ToolFault};
-pub use diff::{Diff, diff_bytes};
+pub use diff::Diff;
 pub use difference_text::write_difference;
 pub use laws::devices_are_named;
 pub use opened::{NamedDiff, OpenedDiff};

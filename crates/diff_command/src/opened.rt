@@ -7,7 +7,7 @@ ghost use Rattle.command_base.specs.Output.{IsOfInput};
 ghost use Rattle.command_base.specs.StackBytes.{stack_on_side};
 ghost use Rattle.command_base.specs.StackBytesSeen.{layer_bytes};
 ghost use Rattle.command_base.specs.declared.side.Side.TheVariants.{New};
-ghost use Rattle.diff_command.specs.DiffInputs.{have_same_bytes, diff_inputs, diff_inputs_by};
+ghost use Rattle.diff_command.specs.DiffInputs.{have_same_bytes, diff_inputs_by};
 
 use command_base::{LayerParts, LocaleRule, NamedSet, Side, ToolFault, open_side};
 use names::{NameFault, pairs_named};
@@ -37,20 +37,7 @@ pub struct NamedDiff<'o, 'a> {
 impl<'a> OpenedDiff<'a> {
     ghost use Rattle.diff_command.specs.OpenedSeen.{named_diff, opened_diff};
 
-    /// Opens the old layers, then the new ones, and then reads the box.
-    pub fn read(
-        alloc: Global,
-        old: &[LayerParts<&'a [u8]>],
-        new: &[LayerParts<&'a [u8]>],
-        box_json: &[u8],
-    ) -> Result<OpenedDiff<'a>, ToolFault>
-        ensures value { GivesOr OutOfMemory opened_diff result (diff_inputs (map layer_bytes old.now) (map layer_bytes new.now) box_json.now) }
-        ensures of_input { IsOfInput result }
-    {
-        OpenedDiff::read_by(alloc, old, new, box_json, LocaleRule::LanguageAndRegion)
-    }
-
-    /// The same, where locales are read and compared by a rule.
+    /// Opens the old layers, then the new ones, and then reads the box, whose locales are read and compared by a rule.
     #[tactic(auto, unfolding(crate::specs::DiffInputs::diff_inputs_by))]
     pub fn read_by(
         alloc: Global,
@@ -109,16 +96,7 @@ impl<'o, 'a> NamedDiff<'o, 'a> {
         }
     }
 
-    /// All labels of both stacks, in rising order.
-    pub fn pairs(&self, alloc: Global) -> Result<Vec<NamePair<'a>>, AllocError>
-        ensures { IfOk result (λ pairs. map pair_of pairs.items ≡ name_pairs (named_diff self.now).stacks.old (named_diff self.now).stacks.new) }
-    {
-        let stacks = self.stacks();
-        let pairs = name_pairs(alloc, stacks.old_stack(), stacks.new_stack())?;
-        Ok(pairs)
-    }
-
-    /// Those for which some word asks; all of them without words.
+    /// The labels of both stacks for which some word asks, in rising order; all of them without words.
     pub(crate) fn pairs_for(
         &self,
         alloc: Global,
