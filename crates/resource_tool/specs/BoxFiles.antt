@@ -33,7 +33,7 @@ pub record GoalBytes : Type 0 where
   pub words : List (List ℕ)
 
 abbrev pub goals_held : GoalFiles → GoalBytes
-goals_held files = record { layers = layers_held files.files.layers; box_json = files.files.box_json.items; words = strings_held files.words }
+goals_held files = record { layers = layers_held files.layers; box_json = files.box_json.items; words = strings_held files.words }
 
 -- layers, the box, and then the files of words
 unfoldable pub goal_files : Places → List ℕ → List ℕ → List (List ℕ) → Result GoalBytes StopOf

@@ -34,8 +34,8 @@ pub record CheckBytes : Type 0 where
 
 abbrev pub check_held : CheckFiles → CheckBytes
 check_held files = record {
-  layers = layers_held files.files.layers;
-  box_json = files.files.box_json.items;
+  layers = layers_held files.layers;
+  box_json = files.box_json.items;
   certificate = files.certificate.items;
   words = strings_held files.words;
 }

@@ -15,8 +15,7 @@ use Rattle.table_commands.specs.command_base.Stop.{StopOf}
 use Rattle.table_commands.specs.command_base.names.NamedGoals.{goals_named}
 use Rattle.table_commands.specs.config_record.locales.declared.locale_rule.LocaleRule.{LocaleRule}
 use Rattle.resource_text.specs.cert_maker.res_value.Goal.{GoalSeen, goal_seen}
-use Rattle.resource_tool.specs.declared.box_files.GoalFiles.{GoalFiles}
-use Rattle.resource_tool.specs.BoxFiles.{GoalBytes, goal_files, goals_held}
+use Rattle.resource_tool.specs.BoxFiles.{GoalBytes, goal_files}
 use Rattle.resource_tool.specs.declared.make.Make.{Make}
 use Rattle.resource_tool.specs.declared.make.OpenMake.{OpenMake}
 use Rattle.resource_tool.specs.Answered.{PrintsBothOneOf}
@@ -38,10 +37,6 @@ make_opened rule layers box_json words = do
   opened ← read_or_stop (make_inputs_by rule layers box_json)
   goals ← found_or_stop (goals_named opened.stack named)
   Ok (record { opened = opened; goals = goals })
-
--- of layers, and of the files of a box and of words
-abbrev pub asked_opened : LocaleRule → List LayerBytes → GoalFiles → Result OpenMakeOf StopOf
-asked_opened rule layers files = make_opened rule layers (goals_held files).box_json (goals_held files).words
 
 -- the first goals alone, at most so many
 abbrev pub with_first : ℕ → OpenMakeOf → OpenMakeOf

@@ -35,7 +35,8 @@ impl BoxFiles {
 /// The bytes of layers and of a box, and the words of goals.
 #[derive(Drop)]
 pub(crate) struct GoalFiles {
-    pub files: BoxFiles,
+    pub layers: LayerFiles,
+    pub box_json: Vec<u8>,
     pub words: Vec<String>,
 }
 
@@ -52,8 +53,12 @@ impl GoalFiles {
         ensures { IfSome (I.places inputs.now) (λ places. GivesOrStops goals_held result
             (goal_files places layers_path.entry.now box_path.entry.now (map (λ word. word.now) words.now))) }
     {
-        let files = BoxFiles::read(alloc, inputs, layers_path, box_path)?;
+        let BoxFiles { layers, box_json } = BoxFiles::read(alloc, inputs, layers_path, box_path)?;
         let words = asked_words(alloc, inputs, words)?;
-        Ok(GoalFiles { files, words })
+        Ok(GoalFiles {
+            layers,
+            box_json,
+            words,
+        })
     }
 }

@@ -20,8 +20,8 @@ use crate::goal_told::write_goal_told;
 use answer_text::set_aside_line;
 use cert_checker::check;
 use command_base::{
-    Inputs, LayerParts, LocaleRule, Stack, Status, Stop, ToolFault, asked_goals, asked_words,
-    file_bytes, open_stack, rows_set_aside,
+    Inputs, LayerFiles, LayerParts, LocaleRule, Stack, Status, Stop, ToolFault, asked_goals,
+    asked_words, file_bytes, open_stack, rows_set_aside,
 };
 use names::first_goals;
 use resource_text::{Cert, ConfigBox, Goal, Verdict, verdict_text};
@@ -85,11 +85,11 @@ impl<'a> Check<'a> {
         ensures quiet { self.now.names ≡ false → errors.new ≡ errors.old }
         ensures unsaid { IsKept errors.old errors.new result }
     {
-        let layers = files.files.layers.layers(alloc)?;
+        let layers = files.layers.layers(alloc)?;
         let check = OpenCheck::open(
             alloc,
             &layers,
-            &files.files.box_json,
+            &files.box_json,
             &files.certificate,
             self.locales,
             &files.words,
@@ -105,7 +105,8 @@ impl<'a> Check<'a> {
 /// The bytes of layers, of a box and of a certificate, and the words of goals.
 #[derive(Drop)]
 struct CheckFiles {
-    files: BoxFiles,
+    layers: LayerFiles,
+    box_json: Vec<u8>,
     certificate: Vec<u8>,
     words: Vec<String>,
 }
@@ -124,11 +125,12 @@ impl CheckFiles {
         ensures { IfSome (I.places inputs.now) (λ places. GivesOrStops check_held result
             (check_files places layers_path.entry.now box_path.entry.now certificate_path.entry.now (map (λ word. word.now) words.now))) }
     {
-        let files = BoxFiles::read(alloc, inputs, layers_path, box_path)?;
+        let BoxFiles { layers, box_json } = BoxFiles::read(alloc, inputs, layers_path, box_path)?;
         let certificate = file_bytes(inputs, certificate_path)?;
         let words = asked_words(alloc, inputs, words)?;
         Ok(CheckFiles {
-            files,
+            layers,
+            box_json,
             certificate,
             words,
         })
@@ -182,8 +184,7 @@ pub fn check_bytes<W: Write + Drop>(
     ensures headline { IfOk result (HeadlineHolds (map layer_bytes layers.now) box_json.now cert.now (map goal_seen goals.now)
         (W.contents out.old) (W.contents out.new)) }
 {
-    let rule = LocaleRule::LanguageAndRegion;
-    let opened = OpenedCert::read_by(alloc, layers, box_json, cert, rule)?;
+    let opened = OpenedCert::read(alloc, layers, box_json, cert)?;
     Ok(opened.check(alloc, goals, false, out, &mut sink())?)
 }
 
@@ -198,7 +199,20 @@ pub struct OpenedCert<'a> {
 }
 
 impl<'a> OpenedCert<'a> {
-    /// Opens the layers, and then reads the box and the certificate, whose locales are compared by a rule.
+    /// Opens the layers, and then reads the box and the certificate.
+    pub fn read(
+        alloc: Global,
+        layers: &[LayerParts<&'a [u8]>],
+        box_json: &[u8],
+        cert: &[u8],
+    ) -> Result<OpenedCert<'a>, ToolFault>
+        ensures value { GivesOr OutOfMemory opened_cert result (check_inputs (map layer_bytes layers.now) box_json.now cert.now) }
+        ensures of_input { IsOfInput result }
+    {
+        OpenedCert::read_by(alloc, layers, box_json, cert, LocaleRule::LanguageAndRegion)
+    }
+
+    /// The same, where locales are read and compared by a rule.
     #[tactic(auto, unfolding(crate::specs::CheckOutput::check_inputs_by))]
     pub fn read_by(
         alloc: Global,

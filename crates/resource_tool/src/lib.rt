@@ -12,6 +12,13 @@
 //! make_bytes(alloc, &layers, &box_json, &goals, 100_000, &mut out)?; // {"goals":[{"id":"0x7f010000","nodes":[{"kind":16, ..
 //! check_bytes(alloc, &layers, &box_json, &certificate, &goals, &mut out)?; // accepted goals 1 nodes 3
 //!                                                                        // set-aside 0
+//!
+//! let opened = OpenedBox::read(alloc, &layers, &box_json)?; // to look into the stack first
+//! opened.make(alloc, &goals, 100_000, true, &mut Unwatched, &mut out, &mut errors)?; // as `make_bytes`, and to `errors`
+//!                                                                                    // goal 0 0x7f010000 "s"/"k"
+//!
+//! let omitting = opened.make_omitting(alloc, &goals, 100_000, &mut Unwatched)?; // goals without a value are left out
+//! opened.print_omitting(alloc, &goals, &omitting, &mut out, &mut errors)?; // to `errors` omitted goal 1 0x7f010001 ..
 //! ```
 #![tactic(auto)]
 
@@ -24,13 +31,16 @@ mod omit;
 mod opened_box;
 mod progress;
 
-pub use check::{Check, check_bytes};
+pub use answered::Answered;
+pub use check::{Check, OpenedCert, check_bytes};
 pub use command_base::{
     ExitStatus, GoalFault, InputFault, Inputs, LayerList, LayerParts, LayersFault, LocaleRule,
     Named, NamedGoal, NamedSet, ProcessInputs, STANDARD_INPUT, Status, Stop, ToolFault, fault_text,
     file_path, read_input,
 };
-pub use make::{Make, make_bytes};
+pub use goal_told::write_goal_told;
+pub use make::{Make, make_bytes, make_bytes_watched};
+pub use opened_box::OpenedBox;
 pub use progress::Watch;
 pub use resource_text::{Goal, Omitted, Omitting, Progress, Unwatched};
 pub use table_commands::{

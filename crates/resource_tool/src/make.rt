@@ -1,6 +1,6 @@
 //! The command `make`.
 
-ghost use Rattle.std.specs.Prelude.{◌≡◌, ◌∷◌, ◌++◌, ◌||◌, [], true, false, map, string_bytes, Ok, OnOk, IfOk, IfSome};
+ghost use Rattle.std.specs.Prelude.{◌≡◌, ◌∷◌, ◌++◌, ◌||◌, [], false, map, string_bytes, Ok, OnOk, IfOk, IfSome};
 ghost use Rattle.contract_words.specs.Exact.{GivesOr};
 ghost use Rattle.contract_words.specs.Writes.{Writes};
 ghost use Rattle.serde_json.specs.Written.{compact_text};
@@ -14,7 +14,7 @@ ghost use Rattle.resource_text.specs.cert_maker.cert_tree.WrittenJson.{cert_data
 ghost use Rattle.table_commands.specs.config_record.DeviceSeen.{device_numbers};
 ghost use Rattle.resource_tool.specs.Answered.{PrintsBothOneOf, status_in, goal_in};
 ghost use Rattle.resource_tool.specs.BoxFiles.{goals_held};
-ghost use Rattle.resource_tool.specs.Make.{Makes, MakesFiles, MakesOpened, PrintsTold, PrintsToldFirst, asked_opened, first_opened, make_opened, make_seen};
+ghost use Rattle.resource_tool.specs.Make.{Makes, MakesFiles, PrintsTold, PrintsToldFirst, first_opened, make_opened, make_seen};
 ghost use Rattle.resource_tool.specs.MakeOutput.{IsMakeOutput, IsMakeOutputAbout, IsMakeAnswer, make_inputs, make_inputs_by, counterexample_line, counterexample_text, status_of_made, goal_of_made, made_output};
 ghost use Rattle.resource_tool.specs.OmitOutput.{IsOmitOutput};
 ghost use Rattle.resource_tool.specs.LineReadsBack.{LineReadsBack, TreesReadBack};
@@ -26,7 +26,7 @@ use crate::box_files::GoalFiles;
 use crate::goal_told::write_goal_told;
 use crate::opened_box::OpenedBox;
 use crate::progress::{ProgressLine, Watch};
-use cert_maker::{make_omitting, make_watched};
+use cert_maker::make_watched;
 use command_base::{
     Device, End, Inputs, LayerParts, LocaleRule, Stack, Status, Stop, ToolFault, asked_goals,
     open_stack,
@@ -34,7 +34,7 @@ use command_base::{
 use names::first_goals;
 use resource_text::{Cert, ConfigBox, Goal, Made, Progress, Unwatched, device_with_end};
 use std::alloc::{AllocError, Global};
-use std::io::{self, Write};
+use std::io::{self, Write, sink};
 use std::time::Clock;
 
 /// What the words of `make` ask: a certificate of some goals for a box of devices.
@@ -91,65 +91,23 @@ impl<'a> Make<'a> {
         ensures quiet { watch.entry.is_terminal ≡ false → (self.now.names || self.now.omit) ≡ false → errors.new ≡ errors.old }
         ensures unsaid { watch.entry.is_terminal ≡ false → IsKept errors.old errors.new result }
     {
-        let layers = files.files.layers.layers(alloc)?;
+        let layers = files.layers.layers(alloc)?;
         if self.omit {
-            self.answer_omitting(alloc, &layers, files, watch, out, errors)
+            let make = OpenMake::open(alloc, &layers, &files.box_json, self.locales, &files.words)?;
+            Ok(make.make_omitting(alloc, self.max_nodes, watch, out, errors)?)
         } else {
-            self.answer_for_all(alloc, &layers, files, watch, out, errors)
+            // The tree of each goal has one node at least, so these decide.
+            let most = self.max_nodes as usize + 1;
+            let make = OpenMake::open_first(
+                alloc,
+                &layers,
+                &files.box_json,
+                self.locales,
+                &files.words,
+                most,
+            )?;
+            Ok(make.make(alloc, self.names, self.max_nodes, watch, out, errors)?)
         }
-    }
-
-    // A certificate of all goals.
-    fn answer_for_all<C: Clock, O: Write + Drop, E: Write + Drop>(
-        &self,
-        alloc: Global,
-        layers: &[LayerParts<&[u8]>],
-        files: &GoalFiles,
-        watch: Watch<'_, C>,
-        out: &mut O,
-        errors: &mut E,
-    ) -> Result<Status, Stop<'static>>
-        ensures answers { MakesOpened watch.entry.is_terminal false self.now.names self.now.max_nodes O.contents E.contents
-            out.old out.new errors.old errors.new (asked_opened self.now.locales (map layer_bytes layers.now) files.now) result }
-        ensures unwritten { IsKept out.old out.new result }
-        ensures quiet { watch.entry.is_terminal ≡ false → self.now.names ≡ false → errors.new ≡ errors.old }
-        ensures unsaid { watch.entry.is_terminal ≡ false → IsKept errors.old errors.new result }
-    {
-        // The tree of each goal has one node at least, so these decide.
-        let most = self.max_nodes as usize + 1;
-        let make = OpenMake::open_first(
-            alloc,
-            layers,
-            &files.files.box_json,
-            self.locales,
-            &files.words,
-            most,
-        )?;
-        let made = make.make(alloc, self.names, self.max_nodes, watch, out, errors);
-        drop(make);
-        Ok(made?)
-    }
-
-    // One of the goals that have a value on each device.
-    fn answer_omitting<C: Clock, O: Write + Drop, E: Write + Drop>(
-        &self,
-        alloc: Global,
-        layers: &[LayerParts<&[u8]>],
-        files: &GoalFiles,
-        watch: Watch<'_, C>,
-        out: &mut O,
-        errors: &mut E,
-    ) -> Result<Status, Stop<'static>>
-        ensures answers { MakesOpened watch.entry.is_terminal true self.now.names self.now.max_nodes O.contents E.contents
-            out.old out.new errors.old errors.new (asked_opened self.now.locales (map layer_bytes layers.now) files.now) result }
-        ensures unwritten { IsKept out.old out.new result }
-        ensures unsaid { watch.entry.is_terminal ≡ false → IsKept errors.old errors.new result }
-    {
-        let box_json = &files.files.box_json;
-        let make = OpenMake::open(alloc, layers, box_json, self.locales, &files.words)?;
-        let made = make.make_omitting(alloc, self.max_nodes, watch, out, errors);
-        drop(make);
-        Ok(made?)
     }
 }
 
@@ -235,16 +193,14 @@ impl<'a> OpenMake<'a> {
             W.contents E.contents out.old out.new errors.old errors.new result (Ok (make_seen self.now).opened) }
     {
         let opened = &self.opened;
-        let stack = &opened.stack;
-        let members = &opened.members;
         let goals = self.goals.as_slice();
         let omitting = if watch.is_terminal {
             let mut line = ProgressLine::new(errors, watch.clock);
-            let omitting = make_omitting(alloc, stack, members, goals, max_nodes, &mut line);
+            let omitting = opened.make_omitting(alloc, goals, max_nodes, &mut line);
             line.clear();
             omitting?
         } else {
-            make_omitting(alloc, stack, members, goals, max_nodes, &mut Unwatched)?
+            opened.make_omitting(alloc, goals, max_nodes, &mut Unwatched)?
         };
         opened.print_omitting(alloc, goals, &omitting, out, errors)
     }
@@ -266,13 +222,48 @@ pub fn make_bytes<W: Write + Drop>(
     ensures { PrintsOneOf (IsMakeOutput (map goal_seen goals.now) max_nodes) W.contents out.old out.new result
         (make_inputs (map layer_bytes layers.now) box_json.now) }
 {
-    let opened = OpenedBox::read_by(alloc, layers, box_json, LocaleRule::LanguageAndRegion)?;
-    let answered = opened.make_telling(alloc, goals, max_nodes, &mut Unwatched, out)?;
-    Ok(answered.status)
+    make_bytes_watched(
+        alloc,
+        layers,
+        box_json,
+        goals,
+        max_nodes,
+        &mut Unwatched,
+        out,
+    )
+}
+
+/// The same, where `progress` comes to know after each goal how many have their tree.
+pub fn make_bytes_watched<W: Write + Drop, P: Progress>(
+    alloc: Global,
+    layers: &[LayerParts<&[u8]>],
+    box_json: &[u8],
+    goals: &[Goal],
+    max_nodes: u32,
+    progress: &mut P,
+    out: &mut W,
+) -> Result<Status, ToolFault>
+    ensures { PrintsOneOf (IsMakeOutput (map goal_seen goals.now) max_nodes) W.contents out.old out.new result
+        (make_inputs (map layer_bytes layers.now) box_json.now) }
+{
+    let opened = OpenedBox::read(alloc, layers, box_json)?;
+    opened.make(alloc, goals, max_nodes, false, progress, out, &mut sink())
 }
 
 impl<'a> OpenedBox<'a> {
-    /// Opens the layers, and then reads the box, whose locales are compared by a rule.
+    /// Opens the layers, and then reads the box.
+    pub fn read(
+        alloc: Global,
+        layers: &[LayerParts<&'a [u8]>],
+        box_json: &[u8],
+    ) -> Result<OpenedBox<'a>, ToolFault>
+        ensures value { GivesOr OutOfMemory opened_box result (make_inputs (map layer_bytes layers.now) box_json.now) }
+        ensures of_input { IsOfInput result }
+    {
+        OpenedBox::read_by(alloc, layers, box_json, LocaleRule::LanguageAndRegion)
+    }
+
+    /// The same, where locales are read and compared by a rule.
     #[tactic(auto, unfolding(crate::specs::MakeOutput::make_inputs_by))]
     pub fn read_by(
         alloc: Global,
@@ -292,8 +283,29 @@ impl<'a> OpenedBox<'a> {
         })
     }
 
-    /// What `make_bytes` prints of the same layers and box. `progress` comes to know after each goal how many have their tree.
-    /// The answer is about a goal where that has no value on a device.
+    /// What `make_bytes_watched` prints of the same layers and box. Where names are asked for, and a device without a
+    /// value is printed, a line with the goal and its names goes to `errors`, after all else was written.
+    pub fn make<W: Write + Drop, E: Write + Drop, P: Progress>(
+        &self,
+        alloc: Global,
+        goals: &[Goal],
+        max_nodes: u32,
+        names: bool,
+        progress: &mut P,
+        out: &mut W,
+        errors: &mut E,
+    ) -> Result<Status, ToolFault>
+        ensures both { PrintsBothOneOf (IsMakeAnswer (map goal_seen goals.now) max_nodes names) W.contents E.contents
+            out.old out.new errors.old errors.new result (Ok (opened_box self.now)) }
+        ensures prints { PrintsOneOf (IsMakeOutput (map goal_seen goals.now) max_nodes) W.contents out.old out.new result (Ok (opened_box self.now)) }
+        ensures quiet { names ≡ false → errors.new ≡ errors.old }
+    {
+        let answered = self.make_telling(alloc, goals, max_nodes, progress, out)?;
+        write_goal_told(&self.stack, goals, names, answered.about, errors)?;
+        Ok(answered.status)
+    }
+
+    /// The same but for that line: `write_goal_told` writes it, of the goal that the answer is about.
     fn make_telling<W: Write + Drop, P: Progress>(
         &self,
         alloc: Global,

@@ -1,6 +1,6 @@
 //! The command `make` where goals are left out.
 
-ghost use Rattle.std.specs.Prelude.{ℕ, map, Ok};
+ghost use Rattle.std.specs.Prelude.{ℕ, map, Ok, IfOk};
 ghost use Rattle.contract_words.specs.Writes.{Writes};
 ghost use Rattle.resource_text.specs.cert_maker.Omitting.{IsOmitting};
 ghost use Rattle.resource_text.specs.cert_maker.res_value.Goal.{goal_seen};
@@ -13,18 +13,37 @@ ghost use Rattle.resource_tool.specs.OpenedSeen.{opened_box};
 use crate::goal_told::write_goal_told;
 use crate::make::{certificate_text, write_line};
 use crate::opened_box::OpenedBox;
+use cert_maker::make_omitting;
 use command_base::{Stack, Status, ToolFault};
-use resource_text::{Goal, Omitted, Omitting, device_with_end};
-use std::alloc::Global;
+use resource_text::{Goal, Omitted, Omitting, Progress, device_with_end};
+use std::alloc::{AllocError, Global};
 use std::io::{self, Write};
 
 impl OpenedBox<'_> {
-    /// Prints what was made of some goals: a certificate of those that end at a value or a bag on all devices of the box, as
-    /// `make_bytes` does; then the status is Done. Each other goal is told to `errors`, in three lines: `omitted goal G WORDS`,
-    /// with its place from 0, and a device on which it ends otherwise, and where, as `make_bytes` prints them. Where no goal is
-    /// left nothing is printed to `out`. Or it prints `node limit` there, where the trees of the goals that are kept can have
-    /// more nodes together than they may. The lines are written before the certificate.
-    pub(crate) fn print_omitting<W: Write + Drop, E: Write + Drop>(
+    /// A certificate of the goals that are kept, and what is left out, for `print_omitting`. `progress` comes to know
+    /// after each goal how many are done.
+    pub fn make_omitting<P: Progress>(
+        &self,
+        alloc: Global,
+        goals: &[Goal],
+        max_nodes: u32,
+        progress: &mut P,
+    ) -> Result<Omitting, AllocError>
+        ensures { IfOk result (IsOmitting self.now.stack self.now.members (map goal_seen goals.now) max_nodes) }
+    {
+        make_omitting(
+            alloc,
+            &self.stack,
+            &self.members,
+            goals,
+            max_nodes,
+            progress,
+        )
+    }
+
+    /// Prints what was made of some goals: a certificate of those that end at a value or a bag on all devices of the box, and to
+    /// `errors` the others, before it.
+    pub fn print_omitting<W: Write + Drop, E: Write + Drop>(
         &self,
         alloc: Global,
         goals: &[Goal],
