@@ -24,3 +24,7 @@ pub mod FirstSteps
 pub mod WordSetSteps
 pub mod PairWordsSteps
 pub mod PairSteps
+pub mod Cuts
+pub mod NoIds
+pub mod LabelReads
+pub mod IdWordSteps

@@ -22,9 +22,14 @@ pub mod Named
 pub mod NamedSet
 pub mod NamedGoal
 pub mod WordFile
+pub mod Plain
+pub mod Quoted
 pub mod WordText
 pub mod NameFault
 pub mod NamedIds
+pub mod LabelText
+pub mod IdWord
+pub mod LabelReads
 pub mod NamedGoals
 pub mod AskedNames
 pub mod Finder

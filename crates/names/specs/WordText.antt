@@ -6,11 +6,12 @@ use Rattle.std.specs.Option.{option_and_then, option_map_or}
 use Rattle.hex.specs.Hex.{encode_lower}
 use Rattle.res_value.specs.ResId.{id_text, package_of}
 use Rattle.res_value.specs.declared.res_id.ResId.{ResId}
-use Rattle.names.specs.Named.{ById, ByName, is_colon, is_part, is_slash}
+use Rattle.names.specs.Named.{ById, ByName, is_colon, is_slash}
 use Rattle.names.specs.NamedSet.{NamedSetOf, SetOfOne, SetOfType, SetOfAll}
 use Rattle.names.specs.Names.{WantedOf}
 use Rattle.names.specs.PackageWord.{PackageWordOf, Numbered, Called, number_in}
 use Rattle.names.specs.Packages.{PackageNameOf, has_name}
+use Rattle.names.specs.Plain.{is_plain}
 
 -- ---- packages
 
@@ -50,7 +51,7 @@ is_separator b = is_colon b || is_slash b
 
 -- a text that a word has before its `:` as the name of a package
 abbrev pub can_name : List ℕ → Bool
-can_name name = is_part name && not (list_any is_separator name) && is_none (number_in name)
+can_name name = is_plain name && not (list_any is_separator name) && is_none (number_in name)
 
 -- a package with this number, or with another name
 abbrev pub is_told : List ℕ → ℕ → PackageNameOf → Bool

@@ -5,7 +5,8 @@
 //! tables that has one, in one walk over the rows. A `NamedStack` calls each id by a `Label`, its name or the id itself;
 //! `name_pairs` lays the labels of two stacks side by side, each once and in their order. A word asks for one resource
 //! (`Named`), for several (`NamedSet`) or for goals (`NamedGoal`), or names a file of words; `ids_named`, `first_goals` and
-//! `pairs_named` give those that words stand for, or the first that is not there or is a name of two packages.
+//! `pairs_named` give those that words stand for, or the first that is not there or is a name of two packages. Among
+//! `PackageNames` a label is written as the word that asks for it.
 //!
 //! ```text
 //! let margin = Name { type_name: "dimen", entry_name: "margin" };
@@ -13,6 +14,8 @@
 //!
 //! let old = NamedStack::of(alloc, &old_layers)?;
 //! let pairs = name_pairs(alloc, &old, &new)?; // dimen/margin: 0x7f030000 in the old, 0x7f040002 in the new
+//!
+//! PackageNames::of_both(alloc, &old_layers, &new_layers)?.write_label(&pairs[0].label, &mut out)?; // dimen/margin
 //!
 //! let set = NamedSet::read("dimen/*"); // all entries of a type
 //! let ids = ids_named(alloc, &stack, &[set?])?; // 0x7f030000, 0x7f030001, ..
@@ -27,6 +30,7 @@ mod found;
 mod goals;
 mod ids;
 mod label;
+mod label_text;
 mod laws;
 mod name;
 mod name_parts;
@@ -43,10 +47,13 @@ mod pair_words;
 mod pairs;
 mod passed;
 mod places;
+mod plain;
+mod quoted;
 mod search;
 mod shared;
 mod sought;
 mod stack_labels;
+mod stack_names;
 mod surrogates;
 mod text;
 mod type_word;
@@ -60,7 +67,7 @@ pub use fault::NameFault;
 pub use goals::first_goals;
 pub use ids::ids_of_type;
 pub use label::Label;
-pub use laws::label_tells_id;
+pub use laws::{label_tells_id, name_reads_back};
 pub use name::Name;
 pub use named::Named;
 pub use named_goal::NamedGoal;
@@ -69,11 +76,15 @@ pub use named_set::NamedSet;
 pub use named_stack::NamedStack;
 pub use overlay_map::{ResId, Row, Stack, Table};
 pub use package_word::PackageWord;
+pub use packages::PackageNames;
 pub use pair::{NamePair, Sides, name_pairs};
 pub use pairs::pairs_named;
+pub use plain::breaks_line;
+pub use quoted::write_quoted;
 pub use res_value::{Goal, GoalFault};
 pub use search::find_names;
 pub use shared::SharedNames;
+pub use stack_names::StackNames;
 pub use string_pool::Text;
 pub use surrogates::with_pairs;
 pub use text::name_text;

@@ -132,8 +132,8 @@ fn labels_in<'l, 'a>(
     Ok(labels)
 }
 
-// The name of the first row that an id has in a base layer.
-fn first_name<'a>(
+/// The name of the first row that an id has in a base layer.
+pub(crate) fn first_name<'a>(
     alloc: Global,
     stack: &Stack<'a>,
     id: ResId,

@@ -9,9 +9,10 @@ ghost use Rattle.names.specs.Packages.{package_name_of, name_of_package, package
 
 use crate::package_word::PackageWord;
 use crate::text::name_text;
-use overlay_map::{Package, Table};
+use overlay_map::{Package, Stack, Table};
 use std::alloc::{AllocError, Global};
 use std::borrow::CowStr;
+use std::marker::Model;
 
 /// The number and the name of a package.
 #[derive(Drop)]
@@ -19,6 +20,50 @@ pub(crate) struct PackageName<'a> {
     pub number: u8,
     /// None where it is no text.
     pub name: Option<CowStr<'a, Global>>,
+}
+
+/// The packages of base layers, by which resources are told apart. Contracts see them by their numbers and names.
+#[derive(Drop)]
+pub struct PackageNames<'a> {
+    pub(crate) all: Vec<PackageName<'a>>,
+}
+
+impl<'a> Model for PackageNames<'a> {
+    ghost use Rattle.std.specs.Prelude.{List, map};
+    ghost use Rattle.names.specs.Packages.{PackageNameOf, package_name_of};
+
+    ghost Value = { List PackageNameOf };
+
+    ghost view = { λ packages. map package_name_of packages.all.items };
+}
+
+impl<'a> PackageNames<'a> {
+    ghost use Rattle.std.specs.Prelude.{◌≡◌, ◌++◌, map, IfOk};
+    ghost use Rattle.names.specs.NamedIds as of_layers;
+    ghost use Rattle.names.specs.Packages.{packages_in};
+
+    /// Those of tables, in their order.
+    pub fn of(alloc: Global, tables: &[&Table<'a>]) -> Result<PackageNames<'a>, AllocError>
+        ensures { IfOk result (λ packages. packages ≡ packages_in (map (λ table. table.now) tables.now)) }
+    {
+        let all = packages_in(alloc, tables)?;
+        Ok(PackageNames { all })
+    }
+
+    /// Those of the base layers of two stacks.
+    pub fn of_both(
+        alloc: Global,
+        old: &Stack<'a>,
+        new: &Stack<'a>,
+    ) -> Result<PackageNames<'a>, AllocError>
+        ensures { IfOk result (λ packages. packages ≡ of_layers.packages_of old.now ++ of_layers.packages_of new.now) }
+    {
+        let old_tables = old.base_tables(alloc)?;
+        let new_tables = new.base_tables(alloc)?;
+        let mut all = packages_in(alloc, &old_tables)?;
+        push_packages_in(alloc, &new_tables, &mut all)?;
+        Ok(PackageNames { all })
+    }
 }
 
 /// The packages of all tables that are looked at.

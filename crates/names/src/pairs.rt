@@ -2,7 +2,6 @@
 
 ghost use Rattle.std.specs.Prelude.{◌≡◌, ◌++◌, List, map, IfOk};
 ghost use Rattle.std.specs.List.{items_where_true};
-ghost use Rattle.names.specs.NamedIds.{packages_of};
 ghost use Rattle.names.specs.NamedSet.{named_set_of};
 ghost use Rattle.names.specs.Pairs.{PairOf, pair_of};
 ghost use Rattle.names.specs.NameFault.{GivesNamed};
@@ -17,7 +16,7 @@ use crate::name::Name;
 use crate::named::Named;
 use crate::named_set::NamedSet;
 use crate::named_stack::NamedStack;
-use crate::packages::{PackageName, push_packages_in};
+use crate::packages::{PackageName, PackageNames};
 use crate::pair::NamePair;
 use crate::pair_words::PairWords;
 use crate::wanted::Wanted;
@@ -43,23 +42,8 @@ pub fn pairs_named<'a>(
 ) -> Result<Vec<NamePair<'a>>, NameFault>
     ensures { GivesNamed (λ named. map pair_of named.items) result (pairs_named old.now new.now (map named_set_of sets.now) (map pair_of pairs.entry.items)) }
 {
-    let packages = packages_of_both(alloc, old, new)?;
-    pairs_in(alloc, &packages, pairs, &*sets)
-}
-
-fn packages_of_both<'a>(
-    alloc: Global,
-    old: &NamedStack<'_, 'a>,
-    new: &NamedStack<'_, 'a>,
-) -> Result<Vec<PackageName<'a>>, AllocError>
-    ensures { IfOk result (λ packages. map package_name_of packages.items ≡ packages_of old.now ++ packages_of new.now) }
-{
-    let old_tables = old.stack().base_tables(alloc)?;
-    let new_tables = new.stack().base_tables(alloc)?;
-    let mut packages = Vec::new(alloc);
-    push_packages_in(alloc, &old_tables, &mut packages)?;
-    push_packages_in(alloc, &new_tables, &mut packages)?;
-    Ok(packages)
+    let packages = PackageNames::of_both(alloc, old.stack(), new.stack())?;
+    pairs_in(alloc, &packages.all, pairs, &*sets)
 }
 
 fn pairs_in<'a>(

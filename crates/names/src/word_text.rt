@@ -8,9 +8,9 @@ ghost use Rattle.names.specs.PackageWord.{package_word_of};
 ghost use Rattle.names.specs.Packages.{package_name_of};
 ghost use Rattle.names.specs.WordText.{number_text, package_word_text, before_type, name_text, wanted_text, can_name, is_told, is_separator, both_names, name_in_package, package_told, package_word_for, two_text};
 
-use crate::name_parts::is_part;
 use crate::package_word::{PackageWord, number_in};
 use crate::packages::PackageName;
+use crate::plain::is_plain;
 use crate::wanted::Wanted;
 use overlay_map::ResId;
 use std::alloc::{AllocError, Global};
@@ -179,7 +179,7 @@ fn is_told(packages: &[PackageName<'_>], number: u8, name: &str) -> bool
 fn can_name(name: &str) -> bool
     ensures { result ≡ can_name name.now }
 {
-    is_part(name) && !has_separator(name) && number_in(name).is_none()
+    is_plain(name) && !has_separator(name) && number_in(name).is_none()
 }
 
 fn has_separator(text: &str) -> bool
