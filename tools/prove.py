@@ -1,7 +1,7 @@
 #!/usr/bin/env python3
 """Proves crates and all that they stand on side by side, and then proves and builds those that are programs.
 
-usage: tools/prove.py [--jobs N] [CRATE..]        CRATE is restool if it is left out
+usage: tools/prove.py [--jobs N | --as-ci] [CRATE..]        CRATE is restool if it is left out
 
 With --jobs each proof has at most so many jobs: one job takes the least processor time. A crate is
 proved once those below it are, first those with the most work behind them, each with the jobs that
@@ -9,6 +9,9 @@ processors and memory allow. A run of rt locks its crate and all crates below it
 works on a copy of what it reads, as that was when all began, and what it made is then moved to the
 crate's out/, whole or not at all. Nobody edits such a copy, so rt computes each stamp in it once
 (rt_once.py). What rt finds up to date is not proved again.
+
+With --as-ci each crate is proved as `rt ci` does it, to measure that (rt_once.py): only in a copy of
+the repository that is made for it, since no other check can begin with what that leaves.
 
 Beside a program, out/NAME, stands what proved it, in out/proved-with: the line of `rt version`, and
 the sum of the sources that it was built from (source_sum.sh), if nobody changed them meanwhile.
@@ -23,6 +26,7 @@ import subprocess
 import sys
 import time
 from concurrent.futures import FIRST_COMPLETED, ThreadPoolExecutor, wait
+from typing import NamedTuple
 
 ROOT = os.path.dirname(os.path.dirname(os.path.realpath(__file__)))
 LIST = f"{ROOT}/crates.txt"
@@ -47,6 +51,8 @@ BYTES_OF_A_LINE_BELOW = 100_000
 PART_OF_A_JOB = 0.6
 # More jobs than this gain little.
 MOST_JOBS = 4
+# The option for proofs as `rt ci` makes them, also the word for rt_once.py.
+AS_CI = "as-ci"
 # How many last lines of a log are shown where a proof fails.
 SHOWN = 12
 # The limits of a control group on memory and what is held of it, in its two versions.
@@ -231,6 +237,7 @@ class Room:
         link_tree(f"{crate.folder}/out/incremental", f"{self.folder}/out/incremental")
         with open(f"{self.top}/crates.txt", "w", encoding="utf-8") as file:
             file.writelines(f"{it.line}\n" for it in [*crate.below, crate])
+        shutil.copy2(f"{ROOT}/HANDLES", self.top)
 
     def give_back(self):
         """Moves what was made to the crate: the library last, and by a rename, so that no half of it is ever there."""
@@ -247,10 +254,10 @@ class Room:
 
 
 class Prover:
-    """Proves crates and those below them, each with at most so many jobs."""
+    """Proves crates and those below them, each with at most so many jobs, or as `rt ci` does."""
 
-    def __init__(self, crates, most_jobs):
-        self.needed, self.most_jobs = with_those_below(crates), min(most_jobs, processors())
+    def __init__(self, crates, most_jobs, as_ci):
+        self.needed, self.most_jobs, self.as_ci = with_those_below(crates), min(most_jobs, processors()), as_ci
         self.room_of_rooms = f"{crates[-1].folder}/out"
         self.rooms = f"{self.room_of_rooms}/{ROOMS}{os.getpid()}"
         self.left, self.count, self.started = [], 0, 0
@@ -277,7 +284,8 @@ class Prover:
         for it in programs:
             self.tell(it)
             self.prove_program(it)
-            tell_sources(it, self.begun, sums[it])
+            if not self.as_ci:
+                tell_sources(it, self.begun, sums[it])
 
     def keep_sources(self):
         """Copies all sources, so that every crate is proved over the same."""
@@ -338,7 +346,8 @@ class Prover:
     def prove_library(self, crate, jobs):
         if not self.is_ending:
             room = Room(self.rooms, crate, self.begun)
-            self.run(crate, room.folder, *RT_ONCE, "lib", "--jobs", str(jobs))
+            words = [AS_CI] if self.as_ci else ["lib", "--jobs", str(jobs)]
+            self.run(crate, room.folder, *RT_ONCE, *words)
         if not self.is_ending:
             room.give_back()
 
@@ -347,6 +356,9 @@ class Prover:
         proved_with = f"{crate.folder}/out/{PROVED_WITH}"
         if os.path.exists(proved_with):
             os.remove(proved_with)
+        if self.as_ci:
+            self.run(crate, crate.folder, *RT_ONCE, AS_CI)
+            return
         toolchain = subprocess.run([*RT, "version"], stdout=subprocess.PIPE, text=True, check=True).stdout
         jobs = max(1, min(crate.jobs_within(free_memory()), self.most_jobs))
         self.run(crate, crate.folder, *RT, "run", "--jobs", str(jobs), "--", *crate.words())
@@ -376,14 +388,24 @@ class Prover:
             ran.terminate()
 
 
+class Asked(NamedTuple):
+    """What the words ask for."""
+
+    most_jobs: int
+    as_ci: bool
+    names: list
+
+
 def asked(words):
-    """The most jobs of a proof and the names of the crates that the words ask for; None for wrong words."""
-    most_jobs = MOST_JOBS
-    if words[:1] == ["--jobs"]:
+    """What the words ask for; None for wrong words."""
+    most_jobs, as_ci = MOST_JOBS, words[:1] == [f"--{AS_CI}"]
+    if as_ci:
+        most_jobs, words = 1, words[1:]
+    elif words[:1] == ["--jobs"]:
         if len(words) == 1 or not re.fullmatch("[1-9][0-9]*", words[1]):
             return None
         most_jobs, words = min(MOST_JOBS, int(words[1])), words[2:]
-    return None if any(it.startswith("-") for it in words) else (most_jobs, words or ["restool"])
+    return None if any(it.startswith("-") for it in words) else Asked(most_jobs, as_ci, words or ["restool"])
 
 
 def main(words):
@@ -391,8 +413,8 @@ def main(words):
     if not found:
         print(__doc__, end="", file=sys.stderr)
         return 2
-    crates, (most_jobs, names) = read_crates(), found
-    for name in names:
+    crates = read_crates()
+    for name in found.names:
         if name not in crates:
             say(f"crates.txt has no crate {name}")
             return 2
@@ -404,7 +426,7 @@ def main(words):
     for it in (signal.SIGTERM, signal.SIGHUP):
         signal.signal(it, lambda number, _: sys.exit(128 + number))
     start = time.monotonic()
-    prover = Prover([crates[it] for it in names], most_jobs)
+    prover = Prover([crates[it] for it in found.names], found.most_jobs, found.as_ci)
     try:
         prover.prove()
     except NotProved as why:
