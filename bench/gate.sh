@@ -1,11 +1,11 @@
 #!/bin/sh
 # Prints the processor seconds that the gate takes for each crate: for its proof, its tests and its must-fail edits, and
-# the sums, as a table: gate.sh [CRATE..]. After it stand the first run, which is the proofs of what restool stands on, and
-# the functions whose proofs took more than twenty of these seconds. Without a crate it measures all, and takes as long as
-# the gate. Each part works from nothing, with one job, on a copy of the repository; those below a named crate are proved
-# too. Where the crates of the fixed proof (README.md) are among them, sums are printed as multiples of that too.
+# the sums, as a table: gate.sh [CRATE..]. Without a crate it measures all, and takes as long as the gate, but for the runs
+# of the built program. Each part works from nothing, with one job, on a copy of the repository, and each proof is as the
+# gate makes it (tools/prove.py --as-ci); those below a named crate are proved too. Where the crates of the fixed proof
+# (README.md) are among them, the sum is printed as a multiple of that too.
 # The environment may give JOBS, how many tests and edits run side by side; and COPY, a copy of the repository: what
-# tools/prove.py --jobs 1 proved there from nothing is not proved again, and what is proved stays there.
+# tools/prove.py --as-ci proved there is not proved again, and what is proved stays there.
 here=$(CDPATH='' cd "$(dirname "$0")/.." && pwd) || exit 1
 program=$(basename "$0")
 fixed="contract_words chunk_walk json_input apk_member config_record"
@@ -74,16 +74,14 @@ work=$(mktemp -d) || exit 1
 trap 'rm -rf "$work"' EXIT
 trap 'exit 130' INT TERM
 copy=${COPY:-$work/copy}
-mkdir "$work/rooms" "$work/seconds" "$work/printed" && : >"$work/dear" || exit 1
+mkdir "$work/rooms" "$work/seconds" "$work/printed" || exit 1
 if [ -z "$COPY" ]; then
     mkdir "$copy" && (cd "$here" && tar -cf - --exclude=.git --exclude=out .) | tar -xf - -C "$copy" || exit 1
 fi
 
-python3 "$copy/tools/prove.py" --jobs 1 $needed || touch "$work/failed"
+python3 "$copy/tools/prove.py" --as-ci $needed || touch "$work/failed"
 for crate in $needed; do
     sed -n '$s/ processor seconds$//p' "$copy/out/proofs/$crate.log" >"$work/seconds/$crate.proof"
-    python3 "$here/bench/dear_functions.py" "$copy/crates/$crate/out/incremental" "$crate" \
-        "$(cat "$work/seconds/$crate.proof")" >>"$work/dear"
 done
 
 # Tests and edits side by side, with 4 GB of free memory for each.
@@ -93,13 +91,9 @@ if [ "${free:-1}" -lt "$jobs" ]; then jobs=${free:-1}; fi
 if [ "$jobs" -lt 1 ]; then jobs=1; fi
 [ -e "$work/failed" ] || echo "$named" | tr ' ' '\n' | COPY=$copy xargs -r -P "${JOBS:-$jobs}" -n 1 sh "$0" --rest "$work"
 
-first_run=" $(crates_below "$here/crates.txt" restool) "
 {
     for crate in $fixed; do
         echo "fixed $(cat "$work/seconds/$crate.proof" 2>/dev/null || echo none)"
-    done
-    for crate in $needed; do
-        case $first_run in *" $crate "*) echo "first $(cat "$work/seconds/$crate.proof")" ;; esac
     done
     for crate in $named; do
         for part in proof tests edits; do
@@ -108,7 +102,6 @@ first_run=" $(crates_below "$here/crates.txt" restool) "
     done
 } | awk '
     $1 == "fixed" { fixed += $2; if ($2 == "none") unmeasured = 1; next }
-    $1 == "first" { first += $2; next }
     { took[$1, $2] = $3; all[$1] += $3; sum[$2] += $3; total += $3; if (!($1 in seen)) { seen[$1] = 1; names[++count] = $1 } }
     function cell(seconds) { return seconds ? sprintf("%.0f", seconds) : "" }
     function row(name, proof, tests, edits, seconds) {
@@ -131,8 +124,5 @@ first_run=" $(crates_below "$here/crates.txt" restool) "
         row("all", sum["proof"], sum["tests"], sum["edits"], total)
         print ""
         told("the gate", total)
-        if (("restool", "proof") in took) told("the first run", first)
     }'
-printf '\nFunctions whose proofs took more than 20 processor seconds:\n'
-cat "$work/dear"
 [ ! -e "$work/failed" ]
