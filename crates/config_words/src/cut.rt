@@ -4,7 +4,7 @@ ghost use Rattle.std.specs.Prelude.{◌≡◌, ◌==◌, option_map, position};
 ghost use Rattle.config_words.specs.Cut.{cut_at, behind, before};
 
 /// What stands before the first such byte, and what behind it, if it is there.
-pub(crate) fn cut_at(byte: u8, text: &[u8]) -> (&[u8], Option<&[u8]>)
+pub fn cut_at(byte: u8, text: &[u8]) -> (&[u8], Option<&[u8]>)
     ensures before { result.0.now ≡ (cut_at byte text.now).0 }
     ensures behind { option_map (λ text. text.now) result.1 ≡ (cut_at byte text.now).1 }
 {

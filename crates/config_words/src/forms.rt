@@ -9,7 +9,7 @@ use config_record::Coord;
 
 /// The letters before and behind a number, and its coordinate.
 #[derive(Clone, Copy)]
-pub(crate) struct Form {
+pub struct Form {
     pub front: &'static [u8],
     pub end: &'static [u8],
     pub coord: Coord,
@@ -105,7 +105,7 @@ fn stored(coord: Coord, number: u64) -> u64
 
 /// The form of numbers at a coordinate.
 #[tactic(auto, unfolding(crate::specs::Forms::forms))]
-pub(crate) fn form_for(coord: Coord) -> Option<Form>
+pub fn form_for(coord: Coord) -> Option<Form>
     ensures { option_map form_of result ≡ form_for forms coord }
 {
     form_among(&FORMS, coord)

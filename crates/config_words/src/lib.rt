@@ -28,8 +28,12 @@ mod read;
 mod said;
 mod words;
 
+pub use cut::cut_at;
 pub use fault::ConfigWordFault;
+pub use forms::{Form, form_for};
 pub use json_text::write_device_json;
 pub use line::{NoLine, config_line_by};
+pub use line_parts::PART_ORDER;
 pub use printed::{is_printed, print_config_by, read_printed_by};
 pub use read::read_config_by;
+pub use words::{is_word, word_for};

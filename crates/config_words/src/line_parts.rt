@@ -17,7 +17,7 @@ use std::alloc::Global;
 use std::io::{self, Write};
 
 /// The order of the parts. With the width stands the height, with the version its minor part.
-const ORDER: [Coord; 23] = [
+pub const PART_ORDER: [Coord; 23] = [
     Coord::Mcc,
     Coord::Mnc,
     Coord::Locale,
@@ -49,7 +49,7 @@ pub(crate) fn line_text(alloc: Global, device: &Device) -> io::Result<Vec<u8>>
     ensures { IfOk result (λ line. line.items ≡ line_text (device_numbers device.now)) }
 {
     let mut line = Vec::new(alloc);
-    add_parts(alloc, device, &ORDER, &mut line)?;
+    add_parts(alloc, device, &PART_ORDER, &mut line)?;
     Ok(line)
 }
 

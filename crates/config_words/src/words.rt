@@ -1,6 +1,6 @@
 //! The words that are a number at a coordinate.
 
-ghost use Rattle.std.specs.Prelude.{◌≡◌, map, option_map};
+ghost use Rattle.std.specs.Prelude.{◌≡◌, map, is_some, option_map};
 ghost use Rattle.config_words.specs.Words.{word_of, words, find_word, word_for};
 
 use config_record::Coord;
@@ -88,9 +88,16 @@ fn word_among(words: &[Word], text: &[u8]) -> Option<Word>
     None
 }
 
+/// Whether a text is the word of some number.
+pub fn is_word(text: &[u8]) -> bool
+    ensures { result ≡ is_some (find_word words text.now) }
+{
+    find_word(text).is_some()
+}
+
 /// The text of the word that is a number at a coordinate.
 #[tactic(auto, unfolding(crate::specs::Words::words))]
-pub(crate) fn word_for(coord: Coord, number: u32) -> Option<&'static [u8]>
+pub fn word_for(coord: Coord, number: u32) -> Option<&'static [u8]>
     ensures { option_map (λ text. text.now) result ≡ word_for words coord number }
 {
     text_among(&WORDS, coord, number)

@@ -1,0 +1,3 @@
+pub mod Dashes
+pub mod LocaleParts
+pub mod ConfigText

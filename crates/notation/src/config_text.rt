@@ -1,0 +1,181 @@
+//! Stored configurations, as the folders of their resources are called.
+
+ghost use Rattle.std.specs.Prelude.{◌≡◌, ◌≢◌, ◌∷◌, ◌++◌, [], true, if◌then◌else◌, codes, OnOk};
+ghost use Rattle.std.specs.Fmt.{decimal};
+ghost use Rattle.std.specs.List.{flat_map};
+ghost use Rattle.std.specs.Option.{option_to_list};
+ghost use Rattle.contract_words.specs.Writes.{Writes};
+ghost use Rattle.config_record.specs.locales.Locale.{dash};
+ghost use Rattle.config_record.specs.Coord.{name_of};
+ghost use Rattle.config_record.specs.Qualifiers.{qualifier};
+ghost use Rattle.config_record.specs.Record.{record_bytes};
+ghost use Rattle.config_words.specs.LineParts.{size_part, version_part};
+ghost use Rattle.notation.specs.Dashes.{WritesParts};
+ghost use Rattle.notation.specs.ConfigText.{said_number, number_parts, parts_at, config_parts, config_text};
+
+use crate::locale_parts::write_locale_parts;
+use config_record::{Coord, Record};
+use config_words::{Form, PART_ORDER, form_for, word_for};
+use std::io::{self, Write};
+
+/// Writes what is not zero, in the words of Android and in its order, with dashes between them; `(default)` where all is.
+///
+/// ```text
+/// write_config(&record, &mut out)?; // fr-rCA-sw600dp-land-night-xhdpi-v13
+/// ```
+#[tactic(auto, unfolding(crate::specs::ConfigText::config_text))]
+pub fn write_config<W: Write + Drop>(config: &Record<'_>, out: &mut W) -> io::Result<()>
+    ensures { Writes W.contents out.old out.new result (config_text (record_bytes config.now)) }
+{
+    let mut due = false;
+    write_parts(config, &mut due, out)?;
+    if due {
+        return Ok(());
+    }
+    out.write_all(b"(default)")?;
+    Ok(())
+}
+
+#[tactic(auto, unfolding(crate::specs::ConfigText::config_parts, config_words::specs::LineParts::line_order))]
+fn write_parts<W: Write + Drop>(config: &Record<'_>, due: &mut bool, out: &mut W) -> io::Result<()>
+    ensures { OnOk result (WritesParts due.old due.new (W.contents out.old) (W.contents out.new)
+        (config_parts (record_bytes config.now))) }
+{
+    write_each(config, &PART_ORDER, due, out)
+}
+
+#[tactic(auto, using(config_record::proofs::SeparatorSteps::continues))]
+fn write_each<W: Write + Drop>(
+    config: &Record<'_>,
+    coords: &[Coord],
+    due: &mut bool,
+    out: &mut W,
+) -> io::Result<()>
+    ensures { OnOk result (WritesParts due.old due.new (W.contents out.old) (W.contents out.new)
+        (flat_map (parts_at (record_bytes config.now)) coords.now)) }
+{
+    for coord in coords {
+        write_part(config, *coord, due, out)?;
+    }
+    Ok(())
+}
+
+#[tactic(auto, unfolding(crate::specs::ConfigText::parts_at))]
+fn write_part<W: Write + Drop>(
+    config: &Record<'_>,
+    coord: Coord,
+    due: &mut bool,
+    out: &mut W,
+) -> io::Result<()>
+    ensures { OnOk result (WritesParts due.old due.new (W.contents out.old) (W.contents out.new)
+        (parts_at (record_bytes config.now) coord)) }
+{
+    match coord {
+        Coord::Locale => write_locale_parts(config, due, out),
+        Coord::Width => write_size(
+            config.get(Coord::Width),
+            config.get(Coord::Height),
+            due,
+            out,
+        ),
+        Coord::Sdk => write_version(config.get(Coord::Sdk), config.get(Coord::Minor), due, out),
+        _ => write_number(coord, config.get(coord), due, out),
+    }
+}
+
+#[tactic(auto, unfolding(crate::specs::ConfigText::number_parts, config_record::specs::Separator::continued))]
+fn write_number<W: Write + Drop>(
+    coord: Coord,
+    number: u32,
+    due: &mut bool,
+    out: &mut W,
+) -> io::Result<()>
+    ensures { OnOk result (WritesParts due.old due.new (W.contents out.old) (W.contents out.new)
+        (number_parts coord number)) }
+{
+    if number == 0 {
+        return Ok(());
+    }
+    write_dash(due, out)?;
+    write_said(coord, number, out)
+}
+
+// A number that is not 0.
+#[tactic(auto, unfolding(config_words::specs::LineParts::number_part))]
+fn write_said<W: Write + Drop>(coord: Coord, number: u32, out: &mut W) -> io::Result<()>
+    requires { number ≢ 0 }
+    ensures { Writes W.contents out.old out.new result (said_number coord number) }
+{
+    if let Some(word) = word_for(coord, number) {
+        return out.write_all(word);
+    }
+    match form_for(coord) {
+        Some(form) => write_by_form(form, number, out),
+        None => write_named(coord, number, out),
+    }
+}
+
+fn write_by_form<W: Write + Drop>(form: Form, number: u32, out: &mut W) -> io::Result<()>
+    ensures { Writes W.contents out.old out.new result (form.front.now ++ decimal number ++ form.end.now) }
+{
+    out.write_all(form.front)?;
+    write!(out, "{number}")?;
+    out.write_all(form.end)
+}
+
+fn write_named<W: Write + Drop>(coord: Coord, number: u32, out: &mut W) -> io::Result<()>
+    ensures { Writes W.contents out.old out.new result (qualifier (name_of coord) (decimal number)) }
+{
+    let name = coord.name();
+    write!(out, "{name}={number}")
+}
+
+#[tactic(auto, unfolding(config_words::specs::LineParts::size_part, config_record::specs::Separator::continued))]
+fn write_size<W: Write + Drop>(
+    width: u32,
+    height: u32,
+    due: &mut bool,
+    out: &mut W,
+) -> io::Result<()>
+    ensures { OnOk result (WritesParts due.old due.new (W.contents out.old) (W.contents out.new)
+        (option_to_list (size_part width height))) }
+{
+    if width == 0 && height == 0 {
+        return Ok(());
+    }
+    write_dash(due, out)?;
+    write!(out, "{width}x{height}")
+}
+
+#[tactic(auto, unfolding(config_words::specs::LineParts::version_part, config_record::specs::Separator::continued))]
+fn write_version<W: Write + Drop>(
+    sdk: u32,
+    minor: u32,
+    due: &mut bool,
+    out: &mut W,
+) -> io::Result<()>
+    ensures { OnOk result (WritesParts due.old due.new (W.contents out.old) (W.contents out.new)
+        (option_to_list (version_part sdk minor))) }
+{
+    if sdk == 0 && minor == 0 {
+        return Ok(());
+    }
+    write_dash(due, out)?;
+    write!(out, "v{sdk}")?;
+    if minor == 0 {
+        return Ok(());
+    }
+    write!(out, ".{minor}")
+}
+
+/// Writes a dash, but not the first time.
+pub(crate) fn write_dash<W: Write + Drop>(due: &mut bool, out: &mut W) -> io::Result<()>
+    ensures due { due.new ≡ true }
+    ensures text { Writes W.contents out.old out.new result (if due.old then dash ∷ [] else []) }
+{
+    if *due {
+        return out.write_all(b"-");
+    }
+    *due = true;
+    Ok(())
+}
