@@ -1,1 +1,2 @@
 mod PartsWritten
+pub mod DecimalSteps

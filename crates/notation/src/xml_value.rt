@@ -1,0 +1,89 @@
+//! Values as XML writes them.
+
+ghost use Rattle.std.specs.Prelude.{◌++◌, false, codes, unwrap_or, OnOk};
+ghost use Rattle.std.specs.Fmt.{digits, signed_decimal};
+ghost use Rattle.contract_words.specs.Writes.{Writes};
+ghost use Rattle.res_value.specs.Complex.{signed_number};
+ghost use Rattle.notation.specs.XmlText.{null_notation, reference_notation, boolean_notation, exact_text, xml_text};
+
+use crate::color::{write_argb4, write_argb8, write_rgb4, write_rgb8};
+use crate::complex::{write_dimension, write_fraction};
+use crate::exact_text::write_exact;
+use crate::float::write_float;
+use res_value::{Value, kind};
+use std::io::{self, Write};
+
+/// Writes a value as XML does: `34.5sp`, `#b5651d`, `true`. Where that would not show all of its bits, and where it names a
+/// resource or a string, it is the text of `write_value` of `res_value`, so that a caller who knows the names writes these.
+///
+/// ```text
+/// write_xml_value(value, &mut out)?; // 34.5sp
+/// ```
+#[tactic(auto, unfolding(crate::specs::XmlText::xml_text))]
+pub fn write_xml_value<W: Write + Drop>(value: Value, out: &mut W) -> io::Result<()>
+    ensures { Writes W.contents out.old out.new result (xml_text value) }
+{
+    match value.kind {
+        kind::NULL => write_null(value, out),
+        kind::REFERENCE => write_reference(value, out),
+        kind::FLOAT => write_float(value, out),
+        kind::DIMENSION => write_dimension(value, out),
+        kind::FRACTION => write_fraction(value, out),
+        kind::INT_DEC => write_decimal(value.word, out),
+        kind::INT_HEX => write_hexadecimal(value.word, out),
+        kind::INT_BOOLEAN => write_boolean(value, out),
+        kind::INT_COLOR_ARGB8 => write_argb8(value, out),
+        kind::INT_COLOR_RGB8 => write_rgb8(value, out),
+        kind::INT_COLOR_ARGB4 => write_argb4(value, out),
+        kind::INT_COLOR_RGB4 => write_rgb4(value, out),
+        _ => write_exact(value, out),
+    }
+}
+
+#[tactic(auto, unfolding(crate::specs::XmlText::null_notation))]
+fn write_null<W: Write + Drop>(value: Value, out: &mut W) -> io::Result<()>
+    ensures { Writes W.contents out.old out.new result
+        (unwrap_or (null_notation value.word) (exact_text value)) }
+{
+    match value.word {
+        kind::NULL_UNDEFINED => out.write_all(b"@null"),
+        kind::NULL_EMPTY => out.write_all(b"@empty"),
+        _ => write_exact(value, out),
+    }
+}
+
+#[tactic(auto, unfolding(crate::specs::XmlText::reference_notation))]
+fn write_reference<W: Write + Drop>(value: Value, out: &mut W) -> io::Result<()>
+    ensures { Writes W.contents out.old out.new result
+        (unwrap_or (reference_notation value.word) (exact_text value)) }
+{
+    match value.word {
+        0 => out.write_all(b"@null"),
+        _ => write_exact(value, out),
+    }
+}
+
+fn write_decimal<W: Write + Drop>(word: u32, out: &mut W) -> io::Result<()>
+    ensures { Writes W.contents out.old out.new result (signed_decimal (signed_number 32 word)) }
+{
+    let number = word.cast_signed();
+    write!(out, "{number}")
+}
+
+fn write_hexadecimal<W: Write + Drop>(word: u32, out: &mut W) -> io::Result<()>
+    ensures { Writes W.contents out.old out.new result (codes "0x" ++ digits 16 false word) }
+{
+    write!(out, "0x{word:x}")
+}
+
+#[tactic(auto, unfolding(crate::specs::XmlText::boolean_notation))]
+fn write_boolean<W: Write + Drop>(value: Value, out: &mut W) -> io::Result<()>
+    ensures { Writes W.contents out.old out.new result
+        (unwrap_or (boolean_notation value.word) (exact_text value)) }
+{
+    match value.word {
+        0 => out.write_all(b"false"),
+        u32::MAX => out.write_all(b"true"),
+        _ => write_exact(value, out),
+    }
+}
