@@ -104,9 +104,7 @@ if command -v python3 >/dev/null; then
     ends "worked styles and bags" 0 "python3 '$here/tests/worked_styles.py' \"\$0\" 4"
     ends "worked devices and configurations" 0 "python3 '$here/tests/worked_configurations.py' \"\$0\" 4"
     ends "worked words: apks, lists of layers, devices" 0 "python3 '$here/tests/worked_words.py' \"\$0\" 4"
-    printf '{' >odd
-    ends "a hint on a terminal" 0 "python3 '$here/tests/on_terminal.py' \"\$0\" ids odd | grep -q '^hint: LAYERS is a JSON list'"
-    ends "no hint elsewhere" 1 "\"\$0\" ids odd 2>&1 | grep -q hint"
+    ends "hints on a terminal, and none elsewhere" 0 "python3 '$here/tests/worked_hints.py' \"\$0\" 4"
     ends "random words of layers and devices" 0 "python3 '$here/tests/check_words.py' \"\$0\" 600 4"
     ends "random apks" 0 "python3 '$here/tests/check_apks.py' \"\$0\" 600 4"
     ends "worked boxes" 0 "python3 '$here/tests/worked_boxes.py' \"\$0\" 4"

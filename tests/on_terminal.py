@@ -29,18 +29,25 @@ def written_to(terminal, started):
             print(f"line {lines} of the work after {passed:.2f} s", file=sys.stderr)
 
 
-def main():
-    words, streams = sys.argv[1:], {"stdout": subprocess.DEVNULL}
+def run(words, to_output=False, **streams):
+    """What stands on the terminal, and the status."""
     terminal, other_end = pty.openpty()
-    if words[0] == "--output":
-        words, streams = words[1:], {"stdout": other_end}
-    else:
-        streams["stderr"] = other_end
     started = time.monotonic()
+    streams["stdout" if to_output else "stderr"] = other_end
     program = subprocess.Popen(words, stdin=subprocess.DEVNULL, **streams)
     os.close(other_end)
-    print(written_to(terminal, started).replace("\r", "\n").strip("\n"))
-    sys.exit(program.wait())
+    told = written_to(terminal, started)
+    os.close(terminal)
+    return told, program.wait()
 
 
-main()
+def main():
+    words = sys.argv[1:]
+    to_output = words[0] == "--output"
+    told, status = run(words[1:], True) if to_output else run(words, stdout=subprocess.DEVNULL)
+    print(told.replace("\r", "\n").strip("\n"))
+    sys.exit(status)
+
+
+if __name__ == "__main__":
+    main()

@@ -37,6 +37,7 @@ def put(apk, signature, place, said):
 HEADER, LOCAL, END = b"PK\1\2", b"PK\3\4", b"PK\5\6"
 APK = apk_of([("AndroidManifest.xml", b"manifest"), (TABLE, TABLE_A), ("classes.dex", b"code")])
 ALONE = apk_of([(TABLE, TABLE_A)])
+COMPRESSED = apk_of([(TABLE, TABLE_A)], zipfile.ZIP_DEFLATED)
 NO_ZIP, NO_MEMBER = TABLE_A, apk_of([("Resources.arsc", TABLE_A)])
 
 REFUSED = [
@@ -51,7 +52,7 @@ REFUSED = [
     (apk_of([]), "NoTable"),
     (apk_of([(TABLE, TABLE_A), (TABLE, TABLE_B)]), "Twice"),
     (put(ALONE, HEADER, 8, b"\1"), "Encrypted"),
-    (apk_of([(TABLE, TABLE_A)], zipfile.ZIP_DEFLATED), "Compressed"),
+    (COMPRESSED, "Compressed"),
     (put(put(ALONE, HEADER, 8, b"\1"), HEADER, 10, b"\10"), "Encrypted"),
     (put(ALONE, HEADER, 20, b"\0"), "Member"),
     (put(ALONE, LOCAL, 30, b"R"), "Member"),
@@ -225,6 +226,9 @@ UNSAID = [
     ("config: LAND-mdpi", "Qualifier LAND"),
     ("config: land", "Density"),
     ("config: land-mdpi v27", "Qualifier mdpi v27"),
+    # In one line, in which nothing passes for another.
+    ("config: land-\33[2J-mdpi", 'Qualifier "\\x1b[2J"'),
+    ("config: land-a\x0bb-mdpi", 'Qualifier "a\\x0bb"'),
 ]
 
 

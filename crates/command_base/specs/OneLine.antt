@@ -1,4 +1,4 @@
--- Texts that a file has, in lines of errors.
+-- Texts that a file or a device has, in lines of errors.
 use Rattle.std.specs.Prelude.{ℕ, true, List, if◌then◌else◌}
 use Rattle.std.specs.List.{list_any}
 use Rattle.answer_text.specs.string_pool.Shown.{is_control, shown_text}

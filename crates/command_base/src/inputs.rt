@@ -17,9 +17,9 @@ use crate::place::Place;
 use crate::stop::Stop;
 use apk_member::TableFile;
 use std::alloc::Global;
-use std::fs;
 use std::io::{self, ErrorKind, Read};
-use std::rt::Files;
+use std::rt::{Env, Files};
+use std::{env, fs};
 
 /// How many bytes an input has at most.
 const MOST_BYTES: usize = 268_435_456;
@@ -32,6 +32,12 @@ pub trait Inputs {
     fn read(&self, place: Place<'_>) -> Result<Vec<u8>, InputFault>
         ensures { IfSome (places self.now)
             (λ places. GivesOr input_faults.OutOfMemory bytes_of result (places (place_of place.entry))) };
+
+    /// The bytes of a file once more, for what is told to people alone; none where it can't be read a second time, as a pipe.
+    fn read_again(&self, path: &str) -> Option<Vec<u8>>;
+
+    /// The folder in which paths begin, where it is known.
+    fn folder(&self) -> Option<String>;
 }
 
 /// The files and the standard input of the process.
@@ -40,7 +46,7 @@ pub struct ProcessInputs<'a, R> {
     pub rt: &'a R,
 }
 
-impl<R: Input + Files + AllocGlobal> Inputs for ProcessInputs<'_, R> {
+impl<R: Input + Files + Env + AllocGlobal> Inputs for ProcessInputs<'_, R> {
     fn read(&self, place: Place<'_>) -> Result<Vec<u8>, InputFault> {
         let alloc = self.rt.alloc();
         match place {
@@ -50,6 +56,18 @@ impl<R: Input + Files + AllocGlobal> Inputs for ProcessInputs<'_, R> {
                 Err(error) => Err(fault_of_opening(&error)),
             },
         }
+    }
+
+    fn read_again(&self, path: &str) -> Option<Vec<u8>> {
+        match fs::metadata(self.rt, path) {
+            Ok(found) if found.is_file() => self.read(Place::File(path)).ok(),
+            _ => None,
+        }
+    }
+
+    fn folder(&self) -> Option<String> {
+        let folder = env::current_dir(self.rt).ok()?;
+        String::from_str(self.rt.alloc(), folder.as_str()).ok()
     }
 }
 

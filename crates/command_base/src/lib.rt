@@ -63,13 +63,13 @@ mod table_fault;
 mod unmapped;
 
 pub use answer_text::{
-    BagFault, BagRow, Cell, Device, End, MapRows, Pool, ResId, Row, Stack, Table, Theme, Value,
-    kind,
+    BagFault, BagRow, Cell, Device, DeviceFault, End, MapFault, MapRows, Pool, ResId, Row, Stack,
+    Table, TableFault, Theme, Value, kind,
 };
-pub use apk_member::TableFile;
+pub use apk_member::{ApkFault, TableFile};
 pub use cert_tree::{
-    Cert, CertGoal, Choice, ConfigBox, Coord, Goal, Locale, LocaleRule, Node, Progress, Test,
-    Values, write_locale,
+    BoxFault, Cert, CertFault, CertGoal, Choice, ConfigBox, Coord, Goal, Locale, LocaleRule, Node,
+    Progress, Test, Values, write_locale,
 };
 pub use device_files::{AskedFiles, DeviceFiles};
 pub use device_text::DeviceText;
@@ -82,8 +82,10 @@ pub use layer_files::LayerFiles;
 pub use layer_list::LayerList;
 pub use layer_parts::LayerParts;
 pub use layers_fault::LayersFault;
+pub use list_word::{ListedLayer, is_list_word, layers_in_word};
 pub use made_map::MadeMap;
 pub use names::{GoalFault, Name, Named, NamedGoal, NamedSet, NamedStack, SharedNames, file_path};
+pub use one_line::write_in_one_line;
 pub use place::{Place, STANDARD_INPUT};
 pub use set_aside::rows_set_aside;
 pub use side::Side;

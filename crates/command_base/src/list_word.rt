@@ -19,21 +19,21 @@ const OVERLAY: char = '+';
 
 /// A layer of such a list.
 #[derive(Clone, Copy)]
-pub(crate) struct ListedLayer<'a> {
+pub struct ListedLayer<'a> {
     pub path: &'a str,
     /// Of an overlay, the place of its base among the layers.
     pub base: Option<usize>,
 }
 
 /// Whether a word is a list of layers itself.
-pub(crate) fn is_list_word(word: &str) -> bool
+pub fn is_list_word(word: &str) -> bool
     ensures { result ≡ is_list_word word.now }
 {
     names_apk(word) || ends_as_table(word.as_bytes())
 }
 
 /// The layers of such a word.
-pub(crate) fn layers_in_word(alloc: Global, word: &str) -> Result<Vec<ListedLayer<'_>>, AllocError>
+pub fn layers_in_word(alloc: Global, word: &str) -> Result<Vec<ListedLayer<'_>>, AllocError>
     ensures { IfOk result (λ layers. map listed_of layers.items ≡ layers_in_word word.now) }
 {
     let mut layers = Vec::new(alloc);

@@ -1,4 +1,4 @@
-//! Texts that a file has, in lines of errors.
+//! Texts that a file or a device has, in lines of errors.
 
 ghost use Rattle.std.specs.Prelude.{◌≡◌};
 ghost use Rattle.std.specs.List.{list_any};
@@ -10,16 +10,15 @@ use names::Text;
 use std::io::{self, Write};
 
 /// Writes a text as it is, but as strings are shown where it has control characters of ASCII: so no line feed and no escape
-/// sequence of a file forges a line.
+/// sequence of a file or a device forges a line.
 #[tactic(auto, unfolding(crate::specs::OneLine::in_one_line))]
-pub(crate) fn write_in_one_line<W: Write + Drop>(text: &str, out: &mut W) -> io::Result<()>
+pub fn write_in_one_line<W: Write + Drop>(text: &[u8], out: &mut W) -> io::Result<()>
     ensures { Writes W.contents out.old out.new result (in_one_line text.now) }
 {
-    let bytes = text.as_bytes();
-    if has_control(bytes) {
-        Text::Utf8(bytes).write_shown(out)
+    if has_control(text) {
+        Text::Utf8(text).write_shown(out)
     } else {
-        out.write_all(bytes)
+        out.write_all(text)
     }
 }
 

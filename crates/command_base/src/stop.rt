@@ -100,10 +100,10 @@ fn write_no_resource<E: Write + Drop>(name: &str, errors: &mut E) -> io::Result<
 }
 
 fn write_device_part<E: Write + Drop>(part: &[u8], errors: &mut E) -> io::Result<()>
-    ensures { Writes E.contents errors.old errors.new result (codes "refused: device: Qualifier " ++ part.now ++ 10 ∷ []) }
+    ensures { Writes E.contents errors.old errors.new result (codes "refused: device: Qualifier " ++ in_one_line part.now ++ 10 ∷ []) }
 {
     errors.write_all(b"refused: device: Qualifier ")?;
-    errors.write_all(part)?;
+    write_in_one_line(part, errors)?;
     errors.write_all(b"\n")
 }
 
@@ -126,7 +126,7 @@ fn write_line_of_file<E: Write + Drop>(before: &str, text: &str, errors: &mut E)
     ensures { Writes E.contents errors.old errors.new result (before.now ++ in_one_line text.now ++ 10 ∷ []) }
 {
     errors.write_all(before.as_bytes())?;
-    write_in_one_line(text, errors)?;
+    write_in_one_line(text.as_bytes(), errors)?;
     errors.write_all(b"\n")
 }
 

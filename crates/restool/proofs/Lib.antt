@@ -7,4 +7,3 @@ pub mod NamedCommand
 mod Cuts
 mod IdTexts
 mod GoalWords
-mod HintSteps

@@ -1,14 +1,15 @@
 //! The end of a run.
 
-ghost use Rattle.std.specs.Prelude.{◌≡◌, Ok, Err, OnOk, IsOk, IfOk, IfErr};
+ghost use Rattle.std.specs.Prelude.{◌≡◌, ◌++◌, false, None, Ok, Err, OnOk, IsOk, IfOk, IfErr};
 ghost use Rattle.std.specs.Io.Buffered.{writer_contents, writer_inner};
 ghost use Rattle.std.specs.Io.KnownBytes.{Keeps};
 ghost use Rattle.resource_tool.specs.command_base.declared.fault.ToolFault.TheVariants.{Write};
 ghost use Rattle.resource_tool.specs.command_base.Stop.{stop_line, stop_of, tool};
 ghost use Rattle.contract_words.specs.Writes.{Writes};
 ghost use Rattle.std.specs.Option.{option_map};
-ghost use Rattle.restool.specs.Ending.{EndsAs, IsTold, hint_line};
+ghost use Rattle.restool.specs.Ending.{EndsAs, hint_line};
 
+use command_base::write_in_one_line;
 use resource_tool::{ExitStatus, Status, Stop, ToolFault};
 use std::io::{self, BufWriter, Write};
 
@@ -21,44 +22,55 @@ pub struct Reported {
     pub was_written: bool,
 }
 
-/// Says why the program stops, if it does, on a terminal maybe with a hint, and gives the exit status.
+/// Says why the program stops, if it does, and on a terminal maybe what a person may try, and gives the exit status.
 pub fn end<E: Write + Drop>(
     outcome: Result<Status, Stop<'_>>,
+    hint: Option<&str>,
     is_terminal: bool,
     errors: &mut E,
 ) -> Reported
     ensures { EndsAs E.contents is_terminal errors.old errors.new outcome.entry result.was_written result.status }
 {
+    let hint = where_terminal(is_terminal, hint);
     match outcome {
-        Ok(status) => Reported {
-            status: ExitStatus::after_status(status),
+        Ok(Status::Done) => Reported {
+            status: ExitStatus::Done,
             was_written: true,
         },
+        Ok(Status::Negative) => Reported {
+            was_written: write_hint(hint, errors).is_ok(),
+            status: ExitStatus::Negative,
+        },
         Err(stop) => Reported {
-            was_written: tell(&stop, is_terminal, errors).is_ok(),
+            was_written: tell(&stop, hint, errors).is_ok(),
             status: stop.status(),
         },
     }
 }
 
-fn tell<E: Write + Drop>(stop: &Stop<'_>, is_terminal: bool, errors: &mut E) -> io::Result<()>
-    ensures { OnOk result (IsTold E.contents is_terminal errors.old errors.new (stop_line (stop_of stop.now))) }
+fn where_terminal(is_terminal: bool, hint: Option<&str>) -> Option<&str>
+    ensures { is_terminal ≡ false → result ≡ None }
+{
+    if is_terminal { hint } else { None }
+}
+
+fn tell<E: Write + Drop>(stop: &Stop<'_>, hint: Option<&str>, errors: &mut E) -> io::Result<()>
+    ensures { Writes E.contents errors.old errors.new result
+        (stop_line (stop_of stop.now) ++ hint_line (option_map (λ hint. hint.now) hint.entry)) }
 {
     stop.write_line(errors)?;
-    if is_terminal {
-        return write_hint(stop.hint(), errors);
-    }
-    Ok(())
+    write_hint(hint, errors)
 }
 
 fn write_hint<E: Write + Drop>(hint: Option<&str>, errors: &mut E) -> io::Result<()>
-    ensures { Writes E.contents errors.old errors.new result (hint_line (option_map (λ hint. hint.now) hint.entry)) }
+    ensures line { Writes E.contents errors.old errors.new result (hint_line (option_map (λ hint. hint.now) hint.entry)) }
+    ensures nothing { hint.entry ≡ None → errors.new ≡ errors.old }
 {
     let Some(hint) = hint else {
         return Ok(());
     };
     errors.write_all(b"hint: ")?;
-    errors.write_all(hint.as_bytes())?;
+    write_in_one_line(hint.as_bytes(), errors)?;
     errors.write_all(b"\n")
 }
 

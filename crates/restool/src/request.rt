@@ -363,14 +363,14 @@ pub(crate) fn answer<'a, I: Inputs, C: Clock, O: Write + Drop, E: Write + Drop>(
     alloc: Global,
     inputs: &I,
     watch: Watch<'_, C>,
-    request: Request<'a>,
+    request: &Request<'a>,
     out: &mut O,
     errors: &mut E,
 ) -> Result<Status, Stop<'a>>
     ensures answers { IfSome (I.places inputs.now) (λ places. Answers watch.entry.is_terminal O.contents E.contents out.old out.new
-        errors.old errors.new places request.entry result) }
+        errors.old errors.new places request.now result) }
     ensures unwritten { IsKept out.old out.new result }
-    ensures shows { ErrorsGet watch.entry.is_terminal errors.old errors.new request.entry result }
+    ensures shows { ErrorsGet watch.entry.is_terminal errors.old errors.new request.now result }
 {
     match request {
         Request::Rows(rows) => rows.answer(alloc, inputs, out),

@@ -8,6 +8,7 @@ ghost use Rattle.restool.specs.Request.{Answers, ErrorsGet};
 ghost use Rattle.restool.specs.Run.{Runs};
 
 use crate::ending::{Reported, end, written_out};
+use crate::hints::hint_of;
 use crate::request::{Request, answer};
 use crate::words::read_words;
 use resource_tool::{ExitStatus, Inputs, Status, Stop, Watch};
@@ -41,11 +42,13 @@ pub fn run_words<I: Inputs, C: Clock, O: Write + Drop, E: Write + Drop>(
     match read_words(alloc, words) {
         Ok(request) => {
             let is_terminal = watch.is_terminal;
-            let (outcome, out) = carry_out(alloc, inputs, watch, request, out, errors);
+            let Carried { outcome, hint, out } = carry_out(
+                alloc, inputs, watch, &request, out, errors,
+            );
             let Reported {
                 status,
                 was_written,
-            } = end(outcome, is_terminal, errors);
+            } = end(outcome, hint.as_deref(), is_terminal, errors);
             Ended {
                 status,
                 was_written,
@@ -67,21 +70,51 @@ pub fn run_words<I: Inputs, C: Clock, O: Write + Drop, E: Write + Drop>(
     }
 }
 
+/// What came of a request.
+#[derive(Drop)]
+struct Carried<'a, O> {
+    outcome: Result<Status, Stop<'a>>,
+    /// What a person may try.
+    hint: Option<String>,
+    /// The output, as it was left.
+    out: O,
+}
+
 // Answers a request, and writes what was kept back of the output.
 fn carry_out<'a, I: Inputs, C: Clock, O: Write + Drop, E: Write + Drop>(
     alloc: Global,
     inputs: &I,
     watch: Watch<'_, C>,
-    request: Request<'a>,
+    request: &Request<'a>,
     mut out: BufWriter<O>,
     errors: &mut E,
-) -> (Result<Status, Stop<'a>>, O)
+) -> Carried<'a, O>
     requires { writer_buffer out ≡ [] }
-    ensures answers { IfSome (I.places inputs.now) (λ places. Answers watch.entry.is_terminal O.contents E.contents (writer_inner out) result.1
-        errors.old errors.new places request.entry result.0) }
-    ensures unwritten { IfErr result.0 (λ stop. stop_of stop ≢ tool Write → result.1 ≡ writer_inner out) }
-    ensures shows { ErrorsGet watch.entry.is_terminal errors.old errors.new request.entry result.0 }
+    ensures answers { IfSome (I.places inputs.now) (λ places. Answers watch.entry.is_terminal O.contents E.contents (writer_inner out) result.out
+        errors.old errors.new places request.now result.outcome) }
+    ensures unwritten { IfErr result.outcome (λ stop. stop_of stop ≢ tool Write → result.out ≡ writer_inner out) }
+    ensures shows { ErrorsGet watch.entry.is_terminal errors.old errors.new request.now result.outcome }
 {
+    let is_terminal = watch.is_terminal;
     let answered = answer(alloc, inputs, watch, request, &mut out, errors);
-    written_out(answered, out)
+    let said = if is_terminal {
+        copy_of(alloc, out.buffer())
+    } else {
+        Vec::new(alloc)
+    };
+    let (outcome, out) = written_out(answered, out);
+    let hint = if is_terminal {
+        hint_of(alloc, inputs, request, &outcome, &said)
+    } else {
+        None
+    };
+    Carried { outcome, hint, out }
+}
+
+// What was written and is kept back yet; none of it where memory runs out.
+fn copy_of(alloc: Global, said: &[u8]) -> Vec<u8> {
+    match Vec::from_slice(alloc, said) {
+        Ok(copy) => copy,
+        Err(_) => Vec::new(alloc),
+    }
 }

@@ -7,7 +7,7 @@ returns-in-Ok g c =
     inr (
       c.in-Ok.request,
       rw (← c.in-Ok.is) c.read_words.ensures,
-      (c.carry_out-outcome.new.errors, c.carry_out-outcome.result.0, carried.answers, carried.shows, carried.unwritten, c.end-status.ensures),
+      (c.carry_out-outcome.new.errors, c.carry_out-outcome.result.outcome, carried.answers, carried.shows, carried.unwritten, c.end-status.ensures),
     )
 
 pub returns-in-Err : goal.returns-in-Err

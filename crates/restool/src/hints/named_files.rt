@@ -1,0 +1,81 @@
+//! What the words of a request name.
+
+use crate::request::Request;
+use command_base::{LocaleRule, Side};
+
+impl<'a> Request<'a> {
+    /// Where the layers are; of two stacks those of one side.
+    pub(crate) fn layers(&self, side: Side) -> Option<&'a str> {
+        match (self, side) {
+            (Request::Ids(ids), _) => Some(ids.layers),
+            (Request::Survey(survey), _) => Some(survey.layers),
+            (Request::Show(show), _) => Some(show.layers),
+            (Request::Query(query), _) => Some(query.layers),
+            (Request::Explain(explain), _) => Some(explain.layers),
+            (Request::Bag(bag), _) => Some(bag.layers),
+            (Request::Attr(attr), _) => Some(attr.layers),
+            (Request::Make(make), _) => Some(make.layers),
+            (Request::Check(check), _) => Some(check.layers),
+            (Request::Diff(diff), Side::Old) => Some(diff.old),
+            (Request::Diff(diff), Side::New) => Some(diff.new),
+            _ => None,
+        }
+    }
+
+    /// Where the table of a layer is that has a word of its own.
+    pub(crate) fn table(&self, place: usize) -> Option<&'a str> {
+        match (self, place) {
+            (Request::Rows(rows), 0) => Some(rows.table),
+            (Request::Dump(dump), 0) => Some(dump.table),
+            (Request::Map(map), 0) => Some(map.target),
+            (Request::Map(map), 1) => Some(map.overlay),
+            _ => None,
+        }
+    }
+
+    pub(crate) fn device(&self) -> Option<&'a str> {
+        match self {
+            Request::Query(query) => Some(query.device),
+            Request::Explain(explain) => Some(explain.device),
+            Request::Bag(bag) => Some(bag.device),
+            Request::Attr(attr) => Some(attr.device),
+            Request::Device(form) => Some(form.device),
+            _ => None,
+        }
+    }
+
+    /// Where the box is.
+    pub(crate) fn members(&self) -> Option<&'a str> {
+        match self {
+            Request::Survey(survey) => survey.box_path,
+            Request::Make(make) => Some(make.box_path),
+            Request::Check(check) => Some(check.box_path),
+            Request::Diff(diff) => Some(diff.box_path),
+            _ => None,
+        }
+    }
+
+    pub(crate) fn certificate(&self) -> Option<&'a str> {
+        match self {
+            Request::Show(show) => Some(show.certificate),
+            Request::Check(check) => Some(check.certificate),
+            _ => None,
+        }
+    }
+
+    /// By which rule locales are read.
+    pub(crate) fn rule(&self) -> LocaleRule {
+        match self {
+            Request::Survey(survey) => survey.locales,
+            Request::Query(query) => query.locales,
+            Request::Explain(explain) => explain.locales,
+            Request::Bag(bag) => bag.locales,
+            Request::Attr(attr) => attr.locales,
+            Request::Make(make) => make.locales,
+            Request::Check(check) => check.locales,
+            Request::Diff(diff) => diff.locales,
+            Request::Device(form) => form.locales,
+            _ => LocaleRule::LanguageAndRegion,
+        }
+    }
+}
