@@ -1,6 +1,7 @@
 pub mod Dashes
 pub mod LocaleParts
 pub mod ConfigText
+pub mod SameConfig
 pub mod Decimal
 pub mod ComplexNotation
 pub mod FloatNotation

@@ -1,9 +1,10 @@
 //! Stored configurations, as the folders of their resources are called.
 
-ghost use Rattle.std.specs.Prelude.{◌≡◌, ◌≢◌, ◌∷◌, ◌++◌, [], true, if◌then◌else◌, codes, OnOk};
+ghost use Rattle.std.specs.Prelude.{◌≡◌, ◌≢◌, ℕ, List, ◌∷◌, ◌++◌, [], true, if◌then◌else◌, codes, OnOk};
 ghost use Rattle.std.specs.Fmt.{decimal};
 ghost use Rattle.std.specs.List.{flat_map};
 ghost use Rattle.std.specs.Option.{option_to_list};
+ghost use Rattle.hex.specs.Hex.{IsBytes};
 ghost use Rattle.contract_words.specs.Writes.{Writes};
 ghost use Rattle.config_record.specs.locales.Locale.{dash};
 ghost use Rattle.config_record.specs.Coord.{name_of};
@@ -11,6 +12,7 @@ ghost use Rattle.config_record.specs.Qualifiers.{qualifier};
 ghost use Rattle.config_record.specs.Record.{record_bytes};
 ghost use Rattle.config_words.specs.LineParts.{size_part, version_part};
 ghost use Rattle.notation.specs.Dashes.{WritesParts};
+ghost use Rattle.notation.specs.SameConfig.{IsSameConfig};
 ghost use Rattle.notation.specs.ConfigText.{said_number, number_parts, parts_at, config_parts, config_text};
 
 use crate::locale_parts::write_locale_parts;
@@ -23,8 +25,17 @@ use std::io::{self, Write};
 /// ```text
 /// write_config(&record, &mut out)?; // fr-rCA-sw600dp-land-night-xhdpi-v13
 /// ```
-#[tactic(auto, unfolding(crate::specs::ConfigText::config_text))]
 pub fn write_config<W: Write + Drop>(config: &Record<'_>, out: &mut W) -> io::Result<()>
+    ensures text { Writes W.contents out.old out.new result (config_text (record_bytes config.now)) }
+
+    // Two records with one text say the same.
+    ensures tells { (one other : List ℕ) → IsBytes one → IsBytes other → config_text one ≡ config_text other → IsSameConfig one other }
+{
+    write_text(config, out)
+}
+
+#[tactic(auto, unfolding(crate::specs::ConfigText::config_text))]
+fn write_text<W: Write + Drop>(config: &Record<'_>, out: &mut W) -> io::Result<()>
     ensures { Writes W.contents out.old out.new result (config_text (record_bytes config.now)) }
 {
     let mut due = false;

@@ -1,11 +1,5 @@
-use Rattle.notation.specs.ConfigText.{config_text}
-use Rattle.notation.proofs.PartsWritten.{some_written, none_written}
+use Rattle.notation.proofs.ConfigLaw.{told}
 use Rattle.notation.proofs.config_text.write_config.Goals as goal
 
-pub returns-then-due : goal.returns-then-due
-unfolding config_text
-returns-then-due g c = some_written _ _ _ (rw c.if-due.true at c.in_ok-write_parts.ensures)
-
-pub returns : goal.returns
-unfolding config_text
-returns g c = none_written _ _ _ _ (rw c.if-due.false at c.in_ok-write_parts.ensures) c.in_ok-write_all.ensures.bytes
+pub returns-clause-tells : goal.returns-clause-tells
+returns-clause-tells g c = told
