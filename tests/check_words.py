@@ -3,8 +3,8 @@
 
     check_words.py PROGRAM CASES [JOBS [FIRST]]
 
-A word of layers has to print what the list in a file prints that it stands for, with the maps that plain_map.py makes; its
-tables lie by themselves or in apks, and some are missing. What `device` prints of a made line, and what of that as a line again,
+A word of layers has to print what the list in a file prints that it stands for, with the maps that plain_map.py makes, and to say
+what these leave out; its tables lie by themselves or in apks, and some are missing. What `device` prints of a made line, and what of that as a line again,
 is what plain_config.py says. The tables are those of named_tables.py. The cases are numbered from FIRST on, which is 0 if it is
 not given. The last line counts what was compared."""
 import json
@@ -19,7 +19,7 @@ from concurrent.futures import ProcessPoolExecutor
 
 from named_tables import Table
 from plain_config import Refused, device_of, line_of, made_line, unsaid
-from plain_map import made_map, map_text
+from plain_map import lines_of, made_map, map_text
 
 MOST_LAYERS = 5
 QUERIED = ("query", "device", "*")
@@ -84,6 +84,22 @@ def list_of(layers, folder):
     return json.dumps(listed).encode()
 
 
+def left_of(layers, side=""):
+    """What is said of the maps that are made, where there is an answer."""
+    said = ""
+    for place, layer in enumerate(layers):
+        if layer.base is not None:
+            own_of = made_map(layers[layer.base].table.rows, layer.table.rows)
+            said += "".join(f"{side}layer {place} {line}\n" for line in lines_of(layer.table.rows, own_of))
+    return said.encode()
+
+
+def with_left(answer, left):
+    """The same answer with lines beside it. What is a stop says why, and nothing else."""
+    out, err, status = answer
+    return answer if err else (out, left, status)
+
+
 def check_layers(program, chance, folder):
     layers = listed_layers(chance)
     for layer in layers:
@@ -91,10 +107,15 @@ def check_layers(program, chance, folder):
     word = word_of(layers)
     write(folder, "list", list_of(layers, folder))
     write(folder, "device", b'{"density":160,"locale":"fr-CA","night":2}')
+    write(folder, "box", b'{"density":[160],"locale":["fr-CA"],"night":[2]}')
     for command, *words in (["ids"], QUERIED):
         said, due = (run(program, folder, command, layers_word, *words) for layers_word in (word, "list"))
-        if said != due:
-            yield f"{word} {command}: {said}, wanted {due}"
+        if said != with_left(due, left_of(layers)):
+            yield f"{word} {command}: {said}, wanted {due} with {left_of(layers)}"
+    for side, old, new in (("old ", word, "list"), ("new ", "list", word)):
+        said, due = (run(program, folder, "diff", *both, "box") for both in ((old, new), ("list", "list")))
+        if said != with_left(due, left_of(layers, side)):
+            yield f"diff {old} {new}: {said}, wanted {due} with {left_of(layers, side)}"
 
 
 # ---- devices

@@ -183,9 +183,30 @@ FILES = {"a.apk": APK, "b.arsc": TABLE_B, "b.ARSC": TABLE_B, "b": TABLE_B, "n.ar
 FILES |= {"z.apk": NO_ZIP, "short.arsc": b"", "short": b"", "box": {"density": [160]}, "device": MEDIUM}
 
 
+# What is said of the maps that are made. The names of `a` can't be read.
+NO_NAMES, NO_TARGET = "unmapped 0x7f010000 !NoSuch/!NoSuch\n", 'unmapped 0x7f010000 "s"/"k"\n'
+LEFT = {
+    "a.apk+n.arsc": "layer 1 " + NO_TARGET, "b.arsc+a.apk": "layer 1 " + NO_NAMES, "b.arsc,a.apk+n.arsc": "layer 2 " + NO_TARGET,
+}
+
+
 def of_list_words():
     for word, layer, number in WORDS:
-        yield Case(["query", word, "device", ID], says(layer, number), **FILES)
+        yield Case(["query", word, "device", ID], says(layer, number), LEFT.get(word, ""), **FILES)
+    # Of each overlay, by each command, and where the answer says no.
+    word = "b.arsc+a.apk+a.apk"
+    said = "layer 1 " + NO_NAMES + "layer 2 " + NO_NAMES
+    yield Case(["ids", word], f'{ID} "s"/"k"\n', said, **FILES)
+    yield Case(["query", word, "device", "0x7f020000"], "0x7f020000 absent 0x7f020000\nset-aside 0\n", said, 1, **FILES)
+    for place in "old", "new":
+        words = [word, "b.arsc"] if place == "old" else ["b.arsc", word]
+        of_side = said.replace("layer", f"{place} layer")
+        yield Case(["diff", *words, "box"], "same 1\n", of_side, **FILES)
+    yield Case(["diff", word, "b.arsc", "box", "s/none"], "", "no resource s/none\n", 1, **FILES)
+    yield Case(["query", word, "none", ID], "", "file: none\n", 5, **FILES)
+    # Of maps in files nothing is said.
+    mapped = listed("b.arsc", ("a.apk", "map"))
+    yield Case(f"query list device {ID}", says(0, 5), list=mapped, map=[], **FILES)
     for word, fault, status in BROKEN:
         yield Case(["query", word, "device", ID], "", fault + "\n", status, **FILES)
         of_side = fault.replace("refused: ", "refused: new ")

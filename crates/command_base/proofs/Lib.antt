@@ -13,5 +13,6 @@ pub mod RisingSteps
 pub mod MapReadSteps
 pub mod NamedSteps
 pub mod FileWordsSteps
+pub mod LeftSteps
 pub use Rattle.answer_text.proofs as answer_text_proofs
 pub use Rattle.cert_tree.proofs.json_input_proofs

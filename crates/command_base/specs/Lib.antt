@@ -9,6 +9,7 @@ pub mod Output
 pub mod FirstRows
 pub mod FirstRowsSeen
 pub mod MadeMap
+pub mod LeftOut
 pub mod MapText
 pub mod MappedIdsSeen
 pub mod PairSeen

@@ -38,20 +38,24 @@ MadeMapReadsBack target_bytes overlay_bytes =
 unfoldable pub named_text : TableOf → RowOf → List ℕ
 named_text table row = id_text row.id ++ codes " " ++ names_text table row
 
--- the line `unmapped ID TYPE/KEY`
-unfoldable pub unmapped_line : TableOf → RowOf → List ℕ
-unmapped_line overlay row = codes "unmapped " ++ named_text overlay row ++ 10 ∷ []
+-- the line `unmapped ID TYPE/KEY`, and this before it
+unfoldable pub unmapped_line : List ℕ → TableOf → RowOf → List ℕ
+unmapped_line before overlay row = before ++ codes "unmapped " ++ named_text overlay row ++ 10 ∷ []
 
--- the line `astray ID TYPE/KEY to ID TYPE/KEY`
-unfoldable pub astray_line : TableOf → AstrayOf → List ℕ
-astray_line overlay found = codes "astray " ++ named_text overlay found.from ++ codes " to " ++ named_text overlay found.to ++ 10 ∷ []
+-- the line `astray ID TYPE/KEY to ID TYPE/KEY`, and this before it
+unfoldable pub astray_line : List ℕ → TableOf → AstrayOf → List ℕ
+astray_line before overlay found = before ++ codes "astray " ++ named_text overlay found.from ++ codes " to " ++ named_text overlay found.to ++ 10 ∷ []
 
-abbrev pub left_lines : TableOf → List RowOf → List AstrayOf → List ℕ
-left_lines overlay rows found = flat_map (unmapped_line overlay) rows ++ flat_map (astray_line overlay) found
+abbrev pub left_lines : List ℕ → TableOf → List RowOf → List AstrayOf → List ℕ
+left_lines before overlay rows found = flat_map (unmapped_line before overlay) rows ++ flat_map (astray_line before overlay) found
 
--- the lines of what a map of the overlay leaves out, and of what goes astray by it
+-- the lines of what a map of the overlay leaves out, and of what goes astray by it, with this before each
+abbrev pub lines_with : List ℕ → TableOf → MapOf → List ℕ
+lines_with before overlay map = left_lines before overlay (unmapped overlay map) (astray overlay map)
+
+-- the same with nothing before them
 abbrev pub lines_of_left : TableOf → MapOf → List ℕ
-lines_of_left overlay map = left_lines overlay (unmapped overlay map) (astray overlay map)
+lines_of_left overlay map = lines_with [] overlay map
 
 -- nothing is left out, and nothing goes astray
 abbrev pub is_whole : TableOf → MapOf → Bool

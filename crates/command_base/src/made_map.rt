@@ -6,7 +6,7 @@ ghost use Rattle.command_base.specs.answer_text.type_chunks.Row.{row_of};
 ghost use Rattle.command_base.specs.overlay_map.IdMap.{pairs_of};
 ghost use Rattle.command_base.specs.AstraySeen.{astray_of};
 ghost use Rattle.command_base.specs.MadeMap.{made_map};
-ghost use Rattle.command_base.specs.MapText.{ReadsBack, is_whole, left_lines, lines_of_left, map_text};
+ghost use Rattle.command_base.specs.MapText.{ReadsBack, is_whole, left_lines, lines_of_left, lines_with, map_text};
 ghost use Rattle.command_base.specs.PairSeen.{IdsReadBack};
 
 use crate::astray::{Astray, astray_references};
@@ -37,13 +37,28 @@ impl MadeMap {
         ensures whole { IfOk result (λ made. made.is_whole ≡ is_whole overlay.now (made_map target.now overlay.now)) }
         ensures reads_back { IfOk result (λ _. ReadsBack (made_map target.now overlay.now)) }
     {
+        MadeMap::with_lines(alloc, b"", target, overlay)
+    }
+
+    /// The same, with something before each line.
+    pub(crate) fn with_lines(
+        alloc: Global,
+        before: &[u8],
+        target: &Table<'_>,
+        overlay: &Table<'_>,
+    ) -> Result<MadeMap, AllocError>
+        ensures json { IfOk result (λ made. made.json.items ≡ map_text (made_map target.now overlay.now)) }
+        ensures left { IfOk result (λ made. made.left.items ≡ lines_with before.now overlay.now (made_map target.now overlay.now)) }
+        ensures whole { IfOk result (λ made. made.is_whole ≡ is_whole overlay.now (made_map target.now overlay.now)) }
+        ensures reads_back { IfOk result (λ _. ReadsBack (made_map target.now overlay.now)) }
+    {
         let pairs = made_pairs(alloc, target, overlay)?;
         let json = json_text(alloc, &pairs)?;
         let first = FirstRows::new(alloc, overlay)?;
         let mapped = MappedIds::new(alloc, &pairs)?;
         let unmapped = unmapped_rows(alloc, &first, &mapped)?;
         let astray = astray_references(alloc, overlay, &first, &mapped)?;
-        let left = left_text(alloc, overlay, &unmapped, &astray)?;
+        let left = left_text(alloc, before, overlay, &unmapped, &astray)?;
         Ok(MadeMap {
             json,
             left,
@@ -66,14 +81,15 @@ fn json_text(alloc: Global, pairs: &[(ResId, ResId)]) -> Result<Vec<u8>, AllocEr
 
 fn left_text(
     alloc: Global,
+    before: &[u8],
     overlay: &Table<'_>,
     unmapped: &[Row<'_>],
     astray: &[Astray<'_>],
 ) -> Result<Vec<u8>, AllocError>
-    ensures { IfOk result (λ text. text.items ≡ left_lines overlay.now (map row_of unmapped.now) (map astray_of astray.now)) }
+    ensures { IfOk result (λ text. text.items ≡ left_lines before.now overlay.now (map row_of unmapped.now) (map astray_of astray.now)) }
 {
     let mut text = Vec::new(alloc);
-    match write_left(overlay, unmapped, astray, &mut text) {
+    match write_left(before, overlay, unmapped, astray, &mut text) {
         Ok(()) => Ok(text),
         Err(_) => Err(AllocError),
     }

@@ -62,42 +62,47 @@ fn write_pair<W: Write + Drop>(pair: (ResId, ResId), out: &mut W) -> io::Result<
     out.write_all(b"\"]")
 }
 
-/// Writes a line for each row of an overlay that stands for no target, and one for each reference that goes astray.
+/// Writes a line for each row of an overlay that stands for no target, and one for each reference that goes astray, and
+/// something before each line.
 pub(crate) fn write_left<W: Write + Drop>(
+    before: &[u8],
     overlay: &Table<'_>,
     unmapped: &[Row<'_>],
     astray: &[Astray<'_>],
     out: &mut W,
 ) -> io::Result<()>
     ensures { Writes W.contents out.old out.new result
-        (left_lines overlay.now (map row_of unmapped.now) (map astray_of astray.now)) }
+        (left_lines before.now overlay.now (map row_of unmapped.now) (map astray_of astray.now)) }
 {
-    write_unmapped(overlay, unmapped, out)?;
-    write_astray(overlay, astray, out)
+    write_unmapped(before, overlay, unmapped, out)?;
+    write_astray(before, overlay, astray, out)
 }
 
 #[tactic(auto, using(contract_words::proofs::TextSteps::puts_slice))]
 fn write_unmapped<W: Write + Drop>(
+    before: &[u8],
     overlay: &Table<'_>,
     rows: &[Row<'_>],
     out: &mut W,
 ) -> io::Result<()>
-    ensures { Writes W.contents out.old out.new result (flat_map (unmapped_line overlay.now) (map row_of rows.now)) }
+    ensures { Writes W.contents out.old out.new result (flat_map (unmapped_line before.now overlay.now) (map row_of rows.now)) }
 {
     for row in rows {
-        write_unmapped_line(overlay, row, out)?;
+        write_unmapped_line(before, overlay, row, out)?;
     }
     Ok(())
 }
 
 #[tactic(auto, unfolding(crate::specs::MapText::unmapped_line))]
 fn write_unmapped_line<W: Write + Drop>(
+    before: &[u8],
     overlay: &Table<'_>,
     row: &Row<'_>,
     out: &mut W,
 ) -> io::Result<()>
-    ensures { Writes W.contents out.old out.new result (unmapped_line overlay.now (row_of row.now)) }
+    ensures { Writes W.contents out.old out.new result (unmapped_line before.now overlay.now (row_of row.now)) }
 {
+    out.write_all(before)?;
     out.write_all(b"unmapped ")?;
     write_named(overlay, row, out)?;
     out.write_all(b"\n")
@@ -105,26 +110,29 @@ fn write_unmapped_line<W: Write + Drop>(
 
 #[tactic(auto, using(contract_words::proofs::TextSteps::puts_slice))]
 fn write_astray<W: Write + Drop>(
+    before: &[u8],
     overlay: &Table<'_>,
     astray: &[Astray<'_>],
     out: &mut W,
 ) -> io::Result<()>
-    ensures { Writes W.contents out.old out.new result (flat_map (astray_line overlay.now) (map astray_of astray.now)) }
+    ensures { Writes W.contents out.old out.new result (flat_map (astray_line before.now overlay.now) (map astray_of astray.now)) }
 {
     for found in astray {
-        write_astray_line(overlay, found, out)?;
+        write_astray_line(before, overlay, found, out)?;
     }
     Ok(())
 }
 
 #[tactic(auto, unfolding(crate::specs::MapText::astray_line))]
 fn write_astray_line<W: Write + Drop>(
+    before: &[u8],
     overlay: &Table<'_>,
     found: &Astray<'_>,
     out: &mut W,
 ) -> io::Result<()>
-    ensures { Writes W.contents out.old out.new result (astray_line overlay.now (astray_of found.now)) }
+    ensures { Writes W.contents out.old out.new result (astray_line before.now overlay.now (astray_of found.now)) }
 {
+    out.write_all(before)?;
     out.write_all(b"astray ")?;
     write_named(overlay, &found.from, out)?;
     out.write_all(b" to ")?;

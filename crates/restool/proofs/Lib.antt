@@ -7,3 +7,4 @@ pub mod NamedCommand
 mod Cuts
 mod IdTexts
 mod GoalWords
+mod Beside

@@ -6,4 +6,5 @@ pub mod ArgumentsSeen
 pub mod AskedWords
 pub mod Given
 pub mod Request
+pub mod Left
 pub mod GoalWordReadsBack

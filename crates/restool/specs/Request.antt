@@ -233,8 +233,8 @@ AsksFor _ result = IsOkAnd result (AsksForRows (codes "-"))
 
 -- ---- what a request is answered
 
--- A request, from what the places have: as the crate of its command says. Only the answers of `map`, `make` and `check` have lines
--- for errors.
+-- A request, from what the places have: as the crate of its command says. Only `map`, `make` and `check` themselves have lines for
+-- errors.
 abbrev pub Answers : {W V : Type 0} → Bool → (W → Option (List ℕ)) → (V → Option (List ℕ)) → W → W → V → V → Places → Request → Result Status Stop → Type 0
 Answers is_terminal contents says old new before after places (requests.Rows it) = PrintsRows contents old new places it
 Answers is_terminal contents says old new before after places (requests.Dump it) = PrintsDump contents old new places it

@@ -11,6 +11,7 @@ use Rattle.restool.specs.declared.words_fault.WordsFault.{WordsFault}
 use Rattle.restool.specs.Request.{Answers, AsksFor, ErrorsGet}
 use Rattle.restool.specs.WordsFault.{is_output, words_line, status_after_words}
 use Rattle.restool.specs.Ending.{EndsAs}
+use Rattle.restool.specs.Left.{SaysLeft, layer_words}
 
 -- the streams that the program writes to
 pub record Streams (W V : Type 0) : Type 0 where
@@ -26,14 +27,21 @@ TellsFault says before after fault was_written ended =
     × (is_output fault ≡ false → after.out ≡ before.out)
     × (is_output fault ≡ true → after.errors ≡ before.errors)
 
--- A request, which is answered where it is known what the places have, and then the end. Where there is no answer, the work
--- wrote nothing to the output, unless a write failed.
+-- A request is carried out: it is answered where it is known what the places have, and beside its answer it is said what the maps
+-- leave out that were made for its layers. Where there is no answer, nothing is written to the output, unless a write failed.
+abbrev pub CarriesOutRequest : {W V : Type 0} → (W → Option (List ℕ)) → (V → Option (List ℕ)) → Option Places → Bool → Streams W V → Streams W V → Request → Result Status Stop → Type 0
+CarriesOutRequest {W} {V} contents says known is_terminal before after request outcome =
+    (errors : V)
+    × IfSome known (λ places. Answers is_terminal contents says before.out after.out before.errors errors places request outcome)
+    × ErrorsGet is_terminal before.errors errors request outcome
+    × SaysLeft says known errors after.errors (layer_words request) outcome
+    × IsKept before.out after.out outcome
+
+-- a request, and then the end
 abbrev pub Works : {W V : Type 0} → (W → Option (List ℕ)) → (V → Option (List ℕ)) → Option Places → Bool → Streams W V → Streams W V → Request → Bool → ExitStatus → Type 0
 Works {W} {V} contents says known is_terminal before after request was_written ended =
     (errors : V) × (outcome : Result Status Stop)
-    × IfSome known (λ places. Answers is_terminal contents says before.out after.out before.errors errors places request outcome)
-    × ErrorsGet is_terminal before.errors errors request outcome
-    × IsKept before.out after.out outcome
+    × CarriesOutRequest contents says known is_terminal before (record { out = after.out; errors = errors }) request outcome
     × EndsAs says is_terminal errors after.errors outcome was_written ended
 
 -- A run of the program: its words ask for nothing that can be done, or for a request. was_written says whether the stream took

@@ -1,15 +1,17 @@
 //! The end of a run.
 
-ghost use Rattle.std.specs.Prelude.{◌≡◌, ◌++◌, false, None, Ok, Err, OnOk, IsOk, IfOk, IfErr};
+ghost use Rattle.std.specs.Prelude.{◌≡◌, ◌++◌, [], false, None, Ok, Err, OnOk, IsOk, IfOk, IfErr};
 ghost use Rattle.std.specs.Io.Buffered.{writer_contents, writer_inner};
-ghost use Rattle.std.specs.Io.KnownBytes.{Keeps};
+ghost use Rattle.std.specs.Io.KnownBytes.{Appends, Keeps};
+ghost use Rattle.resource_tool.specs.command_base.answer_text.OnLine.{on_line};
+ghost use Rattle.resource_tool.specs.command_base.CarriesOut.{IsKept};
 ghost use Rattle.resource_tool.specs.command_base.declared.fault.ToolFault.TheVariants.{Write};
 ghost use Rattle.resource_tool.specs.command_base.Stop.{stop_line, stop_of, tool};
 ghost use Rattle.contract_words.specs.Writes.{Writes};
 ghost use Rattle.std.specs.Option.{option_map};
 ghost use Rattle.restool.specs.Ending.{EndsAs, hint_line};
 
-use command_base::write_in_one_line;
+use command_base::{say_left, write_in_one_line};
 use resource_tool::{ExitStatus, Status, Stop, ToolFault};
 use std::io::{self, BufWriter, Write};
 
@@ -72,6 +74,26 @@ fn write_hint<E: Write + Drop>(hint: Option<&str>, errors: &mut E) -> io::Result
     errors.write_all(b"hint: ")?;
     write_in_one_line(hint.as_bytes(), errors)?;
     errors.write_all(b"\n")
+}
+
+/// Says lines beside an answer. Where they can't be written, there is none.
+pub fn said_beside<'a, E: Write + Drop>(
+    answered: Result<Status, Stop<'a>>,
+    lines: &[u8],
+    errors: &mut E,
+) -> Result<Status, Stop<'a>>
+    ensures lines { OnOk result (Appends (E.contents errors.old) (E.contents errors.new) (on_line lines.now)) }
+    ensures kept { IsKept errors.old errors.new result }
+    ensures nothing { lines.now ≡ [] → errors.new ≡ errors.old }
+    ensures status { IfOk result (λ status. answered.entry ≡ Ok status) }
+    ensures stop { IfErr answered.entry (λ stop. result ≡ Err stop) }
+    ensures write { IsOk answered.entry → IfErr result (λ stop. stop_of stop ≡ tool Write) }
+{
+    let status = answered?;
+    match say_left(lines, errors) {
+        Ok(()) => Ok(status),
+        Err(_) => Err(Stop::Tool(ToolFault::Write)),
+    }
 }
 
 /// Writes what is kept back of an answer, and hands the output back. Where there is none, or a write fails, nothing more

@@ -1,17 +1,15 @@
 //! From words to the exit status.
 
-ghost use Rattle.std.specs.Prelude.{◌≡◌, ◌≢◌, [], map, IfErr, IfSome, string_bytes};
+ghost use Rattle.std.specs.Prelude.{◌≡◌, [], map, string_bytes};
 ghost use Rattle.std.specs.Io.Buffered.{writer_buffer, writer_inner};
-ghost use Rattle.resource_tool.specs.command_base.declared.fault.ToolFault.TheVariants.{Write};
-ghost use Rattle.resource_tool.specs.command_base.Stop.{stop_of, tool};
-ghost use Rattle.restool.specs.Request.{Answers, ErrorsGet};
-ghost use Rattle.restool.specs.Run.{Runs};
+ghost use Rattle.restool.specs.Run.{CarriesOutRequest, Runs};
 
-use crate::ending::{Reported, end, written_out};
+use crate::ending::{Reported, end, said_beside, written_out};
 use crate::hints::hint_of;
+use crate::left::{layer_words, left_lines};
 use crate::request::{Request, answer};
 use crate::words::read_words;
-use resource_tool::{ExitStatus, Inputs, Status, Stop, Watch};
+use resource_tool::{ExitStatus, Inputs, Status, Stop, ToolFault, Watch};
 use std::alloc::Global;
 use std::io::{BufWriter, Write};
 use std::time::Clock;
@@ -80,7 +78,7 @@ struct Carried<'a, O> {
     out: O,
 }
 
-// Answers a request, and writes what was kept back of the output.
+// Answers a request, says beside it what is left out of its layers, and writes what was kept back of the output.
 fn carry_out<'a, I: Inputs, C: Clock, O: Write + Drop, E: Write + Drop>(
     alloc: Global,
     inputs: &I,
@@ -90,19 +88,21 @@ fn carry_out<'a, I: Inputs, C: Clock, O: Write + Drop, E: Write + Drop>(
     errors: &mut E,
 ) -> Carried<'a, O>
     requires { writer_buffer out ≡ [] }
-    ensures answers { IfSome (I.places inputs.now) (λ places. Answers watch.entry.is_terminal O.contents E.contents (writer_inner out) result.out
-        errors.old errors.new places request.now result.outcome) }
-    ensures unwritten { IfErr result.outcome (λ stop. stop_of stop ≢ tool Write → result.out ≡ writer_inner out) }
-    ensures shows { ErrorsGet watch.entry.is_terminal errors.old errors.new request.now result.outcome }
+    ensures { CarriesOutRequest O.contents E.contents (I.places inputs.now) watch.entry.is_terminal
+        (record { out = writer_inner out; errors = errors.old }) (record { out = result.out; errors = errors.new }) request.now result.outcome }
 {
     let is_terminal = watch.is_terminal;
+    let Ok(lines) = left_lines(alloc, inputs, layer_words(request)) else {
+        return without_memory(out);
+    };
     let answered = answer(alloc, inputs, watch, request, &mut out, errors);
+    let told = said_beside(answered, &lines, errors);
     let said = if is_terminal {
         copy_of(alloc, out.buffer())
     } else {
         Vec::new(alloc)
     };
-    let (outcome, out) = written_out(answered, out);
+    let (outcome, out) = written_out(told, out);
     let hint = if is_terminal {
         hint_of(alloc, inputs, request, &outcome, &said)
     } else {
@@ -111,7 +111,19 @@ fn carry_out<'a, I: Inputs, C: Clock, O: Write + Drop, E: Write + Drop>(
     Carried { outcome, hint, out }
 }
 
-// What was written and is kept back yet; none of it where memory runs out.
+fn without_memory<'a, O: Write + Drop>(out: BufWriter<O>) -> Carried<'a, O>
+    ensures out { result.out ≡ writer_inner out }
+    ensures outcome { result.outcome ≡ Err (Stop.Tool ToolFault.OutOfMemory) }
+{
+    let (out, _nothing) = out.into_parts();
+    Carried {
+        outcome: Err(Stop::Tool(ToolFault::OutOfMemory)),
+        hint: None,
+        out,
+    }
+}
+
+// What is kept back yet of the output; none of it where memory runs out.
 fn copy_of(alloc: Global, said: &[u8]) -> Vec<u8> {
     match Vec::from_slice(alloc, said) {
         Ok(copy) => copy,

@@ -7,4 +7,4 @@ use Rattle.command_base.proofs.map_text.write_astray.Given as goal
 -- the lines of all references were written but of those that are left
 abbrev pub invariant-loop-found : goal.invariant-loop-found
 invariant-loop-found g l =
-    PutsAllBut (astray_line l.overlay) (g.W.Write.contents l.fn.out) (g.W.Write.contents l.out) (map astray_of l.astray) (map astray_of (drop l.found-index l.astray))
+    PutsAllBut (astray_line l.before l.overlay) (g.W.Write.contents l.fn.out) (g.W.Write.contents l.out) (map astray_of l.astray) (map astray_of (drop l.found-index l.astray))

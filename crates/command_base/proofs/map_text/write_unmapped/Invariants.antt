@@ -7,4 +7,4 @@ use Rattle.command_base.proofs.map_text.write_unmapped.Given as goal
 -- the lines of all rows were written but of those that are left
 abbrev pub invariant-loop-row : goal.invariant-loop-row
 invariant-loop-row g l =
-    PutsAllBut (unmapped_line l.overlay) (g.W.Write.contents l.fn.out) (g.W.Write.contents l.out) (map row_of l.rows) (map row_of (drop l.row-index l.rows))
+    PutsAllBut (unmapped_line l.before l.overlay) (g.W.Write.contents l.fn.out) (g.W.Write.contents l.out) (map row_of l.rows) (map row_of (drop l.row-index l.rows))

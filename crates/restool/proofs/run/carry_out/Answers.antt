@@ -1,21 +1,38 @@
+use Rattle.std.proofs.Common.{◌≡◌, refl, ap, ◌∙◌}
+use Rattle.std.specs.Io.Buffered.{writer_inner}
+use Rattle.restool.specs.Left.{layer_words, name_overlays, words_seen}
+use Rattle.restool.proofs.Beside.{same-twice, stop-twice, failed-twice, stopped-twice, kept-behind, lines-behind, without-memory}
 use Rattle.restool.proofs.Written.{answers-behind, shows-behind, unwritten-behind}
 use Rattle.restool.proofs.run.carry_out.Goals as goal
 
-pub returns-clause-answers : goal.returns-clause-answers
-returns-clause-answers g c =
-    let written = c.written_out-outcome.ensures in
-    answers-behind c.args.watch.is_terminal g.O.Write.contents g.E.Write.contents c.args.out c.answer-answered.new.out c.written_out-outcome.result.1 c.args.errors.now c.answer-answered.new.errors c.answer-answered.result c.written_out-outcome.result.0
-    written.status written.stop written.write written.unwritten
-    (g.I.Inputs.places c.args.inputs.now) c.args.request.now c.requires c.answer-answered.ensures.answers written.whole
+pub returns-in_default : goal.returns-in_default
+returns-in_default g c =
+    let none = c.without_memory.ensures in
+    without-memory c.args.watch.is_terminal g.O.Write.contents g.E.Write.contents (writer_inner c.args.out) c.args.errors.now _ refl
+    (g.I.Inputs.places c.args.inputs.now) c.args.request.now c.without_memory.result.out c.without_memory.result.outcome none.outcome none.out
 
-pub returns-clause-unwritten : goal.returns-clause-unwritten
-returns-clause-unwritten g c =
-    let written = c.written_out-outcome.ensures in
-    unwritten-behind c.args.watch.is_terminal g.O.Write.contents g.E.Write.contents c.args.out c.answer-answered.new.out c.written_out-outcome.result.1 c.args.errors.now c.answer-answered.new.errors c.answer-answered.result c.written_out-outcome.result.0
-    written.status written.stop written.write written.unwritten c.answer-answered.ensures.unwritten
-
-pub returns-clause-shows : goal.returns-clause-shows
-returns-clause-shows g c =
-    let written = c.written_out-outcome.ensures in
-    shows-behind c.args.watch.is_terminal g.O.Write.contents g.E.Write.contents c.args.out c.answer-answered.new.out c.written_out-outcome.result.1 c.args.errors.now c.answer-answered.new.errors c.answer-answered.result c.written_out-outcome.result.0
-    written.status written.stop written.write written.unwritten c.args.request.now c.answer-answered.ensures.shows
+pub returns : goal.returns
+returns g c =
+    let known = g.I.Inputs.places c.args.inputs.now in
+    let request = c.args.request.now in
+    let answer = c.answer-answered in
+    let told = c.said_beside-told in
+    let written = c.written_out-outcome in
+    let same = same-twice answer.result told.result written.result.0 told.ensures.status written.ensures.status in
+    let stop = stop-twice answer.result told.result written.result.0 told.ensures.stop written.ensures.stop in
+    let failed = failed-twice answer.result told.result written.result.0 told.ensures.write written.ensures.stop written.ensures.write in
+    let left = stopped-twice answer.result told.result (λ _. written.result.1 ≡ writer_inner answer.new.out) told.ensures.stop written.ensures.unwritten in (
+      answer.new.errors,
+      answers-behind c.args.watch.is_terminal g.O.Write.contents g.E.Write.contents c.args.out answer.new.out written.result.1 c.args.errors.now answer.new.errors answer.result written.result.0
+          same stop failed left known request c.requires answer.ensures.answers written.ensures.whole,
+      shows-behind c.args.watch.is_terminal g.O.Write.contents g.E.Write.contents c.args.out answer.new.out written.result.1 c.args.errors.now answer.new.errors answer.result written.result.0
+          same stop failed left request answer.ensures.shows,
+      (
+        lines-behind g.E.Write.contents known answer.new.errors told.new.errors told.result written.result.0 c.in-Ok.lines.items c.deref.result.now
+            (words_seen c.layer_words.result) (layer_words request) written.ensures.status c.in-Ok.ensures.lines c.layer_words.ensures c.deref.ensures.value told.ensures.lines,
+        kept-behind answer.new.errors told.new.errors told.result written.result.0 written.ensures.stop written.ensures.write told.ensures.kept,
+        λ none. told.ensures.nothing (c.deref.ensures.value ∙ c.in-Ok.ensures.nothing (ap name_overlays c.layer_words.ensures ∙ none)),
+      ),
+      unwritten-behind c.args.watch.is_terminal g.O.Write.contents g.E.Write.contents c.args.out answer.new.out written.result.1 c.args.errors.now answer.new.errors answer.result written.result.0
+          same stop failed left answer.ensures.unwritten,
+    )

@@ -3,7 +3,7 @@ use Rattle.std.specs.List.{All}
 use Rattle.command_base.specs.overlay_map.IdMap.{IdPair}
 use Rattle.command_base.specs.PairSeen.{IdsReadBack}
 use Rattle.command_base.proofs.MapReadSteps.{made-reads_back}
-use Rattle.command_base.proofs.made_map.MadeMap.of.Goals as goal
+use Rattle.command_base.proofs.made_map.MadeMap.with_lines.Goals as goal
 
 pub returns-clause-reads_back : goal.returns-clause-reads_back
 returns-clause-reads_back c =

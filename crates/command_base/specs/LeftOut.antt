@@ -1,0 +1,54 @@
+-- What the maps leave out that are made of the overlays of a word: the lines of `map`, each behind its layer.
+use Rattle.std.specs.Prelude.{ℕ, ◌++◌, ◌&&◌, Bool, List, [], codes, length, slice_get, Option, Some, None, Result, Ok, if◌then◌else◌}
+use Rattle.std.specs.List.{list_any}
+use Rattle.std.specs.Option.{option_map_or}
+use Rattle.answer_text.specs.LayerText.{layer_text}
+use Rattle.contract_words.specs.Faults.{◌>>=◌}
+use Rattle.contract_words.specs.Sequences.{joined_from}
+use Rattle.command_base.specs.declared.fault.ToolFault.{ToolFault}
+use Rattle.command_base.specs.declared.side.Side.{Side}
+use Rattle.command_base.specs.CarriesOut.{read_or_stop}
+use Rattle.command_base.specs.Inputs.{Places, layers_of, table_at_place}
+use Rattle.command_base.specs.ListWord.{ListedLayer, is_list_word, is_plus, layers_in_word}
+use Rattle.command_base.specs.MadeMap.{made_map}
+use Rattle.command_base.specs.MapText.{lines_with}
+use Rattle.command_base.specs.SideName.{side_name}
+use Rattle.command_base.specs.StackBytes.{LayerBytes, table_of_layer}
+use Rattle.command_base.specs.Stop.{StopOf}
+
+-- `old ` or `new `, where two stacks are compared
+abbrev pub side_mark : Option Side → List ℕ
+side_mark None = []
+side_mark (Some side) = side_name side ++ codes " "
+
+-- what stands before each line of the layer at a place: `layer L `, or `old layer L `
+unfoldable pub layer_mark : Option Side → ℕ → List ℕ
+layer_mark side place = side_mark side ++ layer_text place ++ codes " "
+
+-- the lines of an overlay over its base, which stand at these places
+unfoldable pub left_by_map : Option Side → ℕ → List ℕ → ℕ → List ℕ → Result (List ℕ) ToolFault
+left_by_map side base target_bytes place bytes = do
+  target ← table_of_layer base target_bytes
+  overlay ← table_of_layer place bytes
+  Ok (lines_with (layer_mark side place) overlay (made_map target overlay))
+
+-- of which base the layer at a place is an overlay
+abbrev pub base_of : List ListedLayer → ℕ → Option ℕ
+base_of listed place = option_map_or (λ layer. layer.base) (slice_get listed place) None
+
+-- those of the layer at a place; a base has none
+unfoldable pub left_at : Option Side → List ListedLayer → List LayerBytes → ℕ → Result (List ℕ) ToolFault
+left_at side listed layers place =
+    option_map_or (λ base. left_by_map side base (table_at_place layers base) place (table_at_place layers place)) (base_of listed place) (Ok [])
+
+-- those of all layers that a word lists
+abbrev pub left_in : Option Side → List ListedLayer → List LayerBytes → Result (List ℕ) ToolFault
+left_in side listed layers = joined_from (left_at side listed layers) 0 (length listed)
+
+-- whether maps are made for a word: it is a list, and has an overlay
+abbrev pub has_overlays : List ℕ → Bool
+has_overlays word = is_list_word word && list_any is_plus word
+
+-- those of the layers of a word, from what the places have
+unfoldable pub left_of : Option Side → Places → List ℕ → Result (List ℕ) StopOf
+left_of side places word = if has_overlays word then (layers_of places word >>= λ layers. read_or_stop (left_in side (layers_in_word word) layers)) else Ok []

@@ -1,0 +1,197 @@
+//! What the maps leave out that are made of the overlays of a word.
+
+ghost use Rattle.std.specs.Prelude.{◌≡◌, false, [], map, length, IfOk, IfSome};
+ghost use Rattle.std.specs.List.{list_any};
+ghost use Rattle.answer_text.specs.OnLine.{on_line};
+ghost use Rattle.contract_words.specs.Exact.{GivesOr};
+ghost use Rattle.contract_words.specs.Sequences.{Pushes};
+ghost use Rattle.contract_words.specs.Writes.{Writes};
+ghost use Rattle.command_base.specs.declared.fault.ToolFault.TheVariants.{OutOfMemory};
+ghost use Rattle.command_base.specs.CarriesOut.{read_or_stop};
+ghost use Rattle.command_base.specs.FilesSeen.{bytes_of, layers_held};
+ghost use Rattle.command_base.specs.Inputs.{table_at_place};
+ghost use Rattle.command_base.specs.LeftOut.{base_of, has_overlays, layer_mark, left_at, left_by_map, left_in, left_of, side_mark};
+ghost use Rattle.command_base.specs.ListWord.{is_plus, layers_in_word};
+ghost use Rattle.command_base.specs.ListWordSeen.{listed_of};
+ghost use Rattle.command_base.specs.StackBytesSeen.{layer_bytes};
+ghost use Rattle.command_base.specs.Stop.{GivesOrStops};
+
+use crate::fault::ToolFault;
+use crate::inputs::Inputs;
+use crate::layer_files::LayerFiles;
+use crate::layer_parts::LayerParts;
+use crate::list_word::{ListedLayer, is_list_word, layers_in_word};
+use crate::made_map::MadeMap;
+use crate::side::Side;
+use crate::stack::open_table;
+use crate::stop::Stop;
+use answer_text::{write_layer, write_on_line};
+use std::alloc::{AllocError, Global};
+use std::io::{self, Write};
+
+/// What stands before an overlay in a word that is a list.
+const OVERLAY: u8 = b'+';
+
+/// What `map` says of the maps that are made of the overlays of a word: its lines, each behind its layer, and behind the side
+/// where two stacks are compared. The layers are read for it; of a word without overlays there is nothing to say, and nothing
+/// is read.
+///
+/// ```text
+/// let lines = left_of_word(alloc, &inputs, None, "app.apk+overlay.apk")?; // layer 1 unmapped 0x7f010003 "string"/"title"
+/// ```
+#[tactic(auto, unfolding(crate::specs::LeftOut::left_of))]
+pub fn left_of_word<'a, I: Inputs>(
+    alloc: Global,
+    inputs: &I,
+    side: Option<Side>,
+    word: &'a str,
+) -> Result<Vec<u8>, Stop<'a>>
+    ensures lines { IfSome (I.places inputs.now) (λ places. GivesOrStops bytes_of result (left_of side places word.entry.now)) }
+    ensures nothing { has_overlays word.entry.now ≡ false → IfOk result (λ lines. lines.items ≡ []) }
+{
+    if !has_overlays(word) {
+        return Ok(Vec::new(alloc));
+    }
+    let files = LayerFiles::read(alloc, inputs, word)?;
+    left_of_files(alloc, side, word, &files)
+}
+
+/// Says such lines, where there are any.
+pub fn say_left<E: Write + Drop>(lines: &[u8], errors: &mut E) -> io::Result<()>
+    ensures lines { Writes E.contents errors.old errors.new result (on_line lines.now) }
+    ensures nothing { lines.now ≡ [] → errors.new ≡ errors.old }
+{
+    if lines.is_empty() {
+        return Ok(());
+    }
+    write_on_line(lines, errors)
+}
+
+fn has_overlays(word: &str) -> bool
+    ensures { result ≡ has_overlays word.now }
+{
+    is_list_word(word) && has_plus(word.as_bytes())
+}
+
+fn has_plus(word: &[u8]) -> bool
+    ensures { result ≡ list_any is_plus word.now }
+{
+    word.iter().any(|byte| *byte == OVERLAY)
+}
+
+fn left_of_files(
+    alloc: Global,
+    side: Option<Side>,
+    word: &str,
+    files: &LayerFiles,
+) -> Result<Vec<u8>, Stop<'static>>
+    ensures { GivesOrStops bytes_of result (read_or_stop (left_in side (layers_in_word word.now) (layers_held files.now))) }
+{
+    let layers = files.layers(alloc)?;
+    let listed = layers_in_word(alloc, word)?;
+    Ok(left_of_layers(alloc, side, &listed, &layers)?)
+}
+
+#[tactic(auto, using(crate::proofs::LeftSteps::from_steps))]
+fn left_of_layers(
+    alloc: Global,
+    side: Option<Side>,
+    listed: &[ListedLayer<'_>],
+    layers: &[LayerParts<&[u8]>],
+) -> Result<Vec<u8>, ToolFault>
+    ensures { GivesOr OutOfMemory bytes_of result (left_in side (map listed_of listed.now) (map layer_bytes layers.now)) }
+{
+    let mut lines = Vec::new(alloc);
+    for place in 0..listed.len() {
+        push_left(alloc, side, listed, layers, place, &mut lines)?;
+    }
+    Ok(lines)
+}
+
+#[tactic(auto, unfolding(crate::specs::LeftOut::left_at))]
+fn push_left(
+    alloc: Global,
+    side: Option<Side>,
+    listed: &[ListedLayer<'_>],
+    layers: &[LayerParts<&[u8]>],
+    place: usize,
+    lines: &mut Vec<u8>,
+) -> Result<(), ToolFault>
+    ensures { Pushes OutOfMemory lines.old.items lines.new.items result (left_at side (map listed_of listed.now) (map layer_bytes layers.now) place) }
+{
+    let Some(base) = base_of(listed, place) else {
+        return Ok(());
+    };
+    let target = table_at_place(layers, base);
+    let overlay = table_at_place(layers, place);
+    let left = left_by_map(alloc, side, base, target, place, overlay)?;
+    lines.extend_from_slice(&left)?;
+    Ok(())
+}
+
+fn base_of(listed: &[ListedLayer<'_>], place: usize) -> Option<usize>
+    ensures { result ≡ base_of (map listed_of listed.now) place }
+{
+    match listed.get(place) {
+        Some(layer) => layer.base,
+        None => None,
+    }
+}
+
+fn table_at_place<'a>(layers: &[LayerParts<&'a [u8]>], place: usize) -> &'a [u8]
+    ensures { result.now ≡ table_at_place (map layer_bytes layers.now) place }
+{
+    match layers.get(place) {
+        Some((table, _map)) => table,
+        None => &[],
+    }
+}
+
+// The lines of an overlay over its base, which stand at these places.
+#[tactic(auto, unfolding(crate::specs::LeftOut::left_by_map))]
+fn left_by_map(
+    alloc: Global,
+    side: Option<Side>,
+    base: usize,
+    target: &[u8],
+    place: usize,
+    overlay: &[u8],
+) -> Result<Vec<u8>, ToolFault>
+    ensures { GivesOr OutOfMemory bytes_of result (left_by_map side base target.now place overlay.now) }
+{
+    let target = open_table(alloc, base, target)?;
+    let overlay = open_table(alloc, place, overlay)?;
+    let mark = layer_mark(alloc, side, place)?;
+    let made = MadeMap::with_lines(alloc, &mark, &target, &overlay)?;
+    Ok(made.left)
+}
+
+fn layer_mark(alloc: Global, side: Option<Side>, place: usize) -> Result<Vec<u8>, AllocError>
+    ensures { IfOk result (λ mark. mark.items ≡ layer_mark side place) }
+{
+    let mut mark = Vec::new(alloc);
+    match write_mark(side, place, &mut mark) {
+        Ok(()) => Ok(mark),
+        // To a `Vec` only a want of memory is a fault.
+        Err(_) => Err(AllocError),
+    }
+}
+
+#[tactic(auto, unfolding(crate::specs::LeftOut::layer_mark))]
+fn write_mark<W: Write + Drop>(side: Option<Side>, place: usize, out: &mut W) -> io::Result<()>
+    ensures { Writes W.contents out.old out.new result (layer_mark side place) }
+{
+    write_side(side, out)?;
+    write_layer(place, out)?;
+    out.write_all(b" ")
+}
+
+fn write_side<W: Write + Drop>(side: Option<Side>, out: &mut W) -> io::Result<()>
+    ensures { Writes W.contents out.old out.new result (side_mark side) }
+{
+    let Some(side) = side else {
+        return Ok(());
+    };
+    out.write_all(side.name().as_bytes())?;
+    out.write_all(b" ")
+}
