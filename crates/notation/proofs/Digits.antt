@@ -47,7 +47,7 @@ all-not p (x ∷ xs) e = elim (cases_Bool (p x)) [
 
 -- ---- decimals
 
-digit-is : (d : ℕ) → d < 10 → is_digit (48 + d) ≡ true
+pub digit-is : (d : ℕ) → d < 10 → is_digit (48 + d) ≡ true
 digit-is d small = rw (le-leb 48 (48 + d) (omega arith), le-leb (48 + d) 57 (omega (arith, small))) refl
 
 pub all_digits : (n : ℕ) → n < 2 ^ 64 → list_all is_digit (decimal n) ≡ true

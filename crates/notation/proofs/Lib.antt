@@ -8,3 +8,10 @@ mod PairPieces
 mod LocaleTexts
 mod LocalePieces
 mod ConfigLaw
+mod DecimalTexts
+mod NearSteps
+mod ComplexLaw
+mod NumberTexts
+mod FloatLaw
+mod XmlForms
+mod XmlLaw

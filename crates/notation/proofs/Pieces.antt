@@ -103,7 +103,7 @@ seconds : (kind : List ℕ → ℕ) (i j k : ℕ) (a b c : List (List ℕ)) → 
 seconds kind i j k a b c apart is = simp (filter-append, kept kind j b is.two, dropped kind j i a apart.ij is.one, dropped kind j k c apart.kj is.three, append-nil)
 
 thirds : (kind : List ℕ → ℕ) (i j k : ℕ) (a b c : List (List ℕ)) → Apart i j k → Three kind i j k a b c → filter (λ t. kind t == k) (a ++ b ++ c) ≡ c
-thirds kind i j k a b c apart is = simp (filter-append, kept kind k c is.three, dropped kind k i a apart.ik is.one, dropped kind k j b apart.jk is.two, append-nil)
+thirds kind i j k a b c apart is = simp (filter-append, kept kind k c is.three, dropped kind k i a apart.ik is.one, dropped kind k j b apart.jk is.two)
 
 -- three lists, one after the other, are determined where their kinds differ
 pub three-same : (kind : List ℕ → ℕ) (i j k : ℕ) (a b c d e f : List (List ℕ)) → Apart i j k → Three kind i j k a b c → Three kind i j k d e f

@@ -1,7 +1,7 @@
 -- Floats of 32 bits as decimals (IEEE 754): bit 31 is the sign, 23 to 30 are the exponent, 0 to 22 the fraction.
 use Rattle.std.specs.Prelude.{ℕ, ◌+◌, ◌-◌, ◌*◌, ◌/◌, ◌%◌, ◌^◌, ◌==◌, ◌&&◌, nat_le, Bool, List, [], ◌++◌, codes, Option, Some, None, if◌then◌else◌}
 use Rattle.notation.specs.declared.exact.Exact.{Exact}
-use Rattle.notation.specs.Decimal.{decimal_text, places_of}
+use Rattle.notation.specs.Decimal.{decimal_with, places_of}
 
 abbrev pub exponent_of : ℕ → ℕ
 exponent_of word = word / 2 ^ 23 % 2 ^ 8
@@ -33,12 +33,12 @@ exact_float word =
 abbrev pub has_decimal : ℕ → Bool
 has_decimal word = nat_le 92 (exponent_of word) && nat_le (exponent_of word) 185
 
-abbrev pub point_zero : ℕ → List ℕ
-point_zero places = if places == 0 then codes ".0" else []
+abbrev pub at_least_one : ℕ → ℕ
+at_least_one places = if places == 0 then 1 else places
 
 -- with a digit behind the point
 unfoldable pub float_decimal : Exact → List ℕ
-float_decimal exact = decimal_text exact ++ point_zero (places_of exact)
+float_decimal exact = decimal_with exact (at_least_one (places_of exact))
 
 unfoldable pub float_notation : ℕ → Option (List ℕ)
 float_notation word =

@@ -7,3 +7,4 @@ pub mod ComplexNotation
 pub mod FloatNotation
 pub mod ColorNotation
 pub mod XmlText
+pub mod Meant

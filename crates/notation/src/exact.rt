@@ -89,7 +89,8 @@ fn two_to(radix: u32) -> u128
     2u128.pow(radix)
 }
 
-fn write_with<W: Write + Drop>(exact: Exact, places: u32, out: &mut W) -> io::Result<()>
+/// Writes the nearest decimal with so many digits behind the point.
+pub(crate) fn write_with<W: Write + Drop>(exact: Exact, places: u32, out: &mut W) -> io::Result<()>
     requires small { IsSmall exact }
     requires few { places ≤ 18 }
     ensures { Writes W.contents out.old out.new result (decimal_with exact places) }

@@ -2,11 +2,11 @@
 
 ghost use Rattle.std.specs.Prelude.{◌≡◌, ◌≤◌, ◌^◌, ◌-◌, ◌++◌, unwrap_or, OnOk};
 ghost use Rattle.contract_words.specs.Writes.{Writes};
-ghost use Rattle.notation.specs.Decimal.{decimal_text, IsSmall};
-ghost use Rattle.notation.specs.FloatNotation.{exponent_of, fraction_of, float_sign, gap_of, exact_float, has_decimal, float_decimal, float_notation};
+ghost use Rattle.notation.specs.Decimal.{IsSmall};
+ghost use Rattle.notation.specs.FloatNotation.{exponent_of, fraction_of, float_sign, gap_of, exact_float, has_decimal, at_least_one, float_decimal, float_notation};
 ghost use Rattle.notation.specs.XmlText.{exact_text};
 
-use crate::exact::{Exact, places, write_decimal};
+use crate::exact::{Exact, places, write_with};
 use crate::exact_text::write_exact;
 use res_value::Value;
 use std::io::{self, Write};
@@ -109,9 +109,11 @@ fn write_float_decimal<W: Write + Drop>(exact: Exact, out: &mut W) -> io::Result
     requires { IsSmall exact }
     ensures { Writes W.contents out.old out.new result (float_decimal exact) }
 {
-    write_decimal(exact, out)?;
-    if places(exact) == 0 {
-        return out.write_all(b".0");
-    }
-    Ok(())
+    write_with(exact, at_least_one(places(exact)), out)
+}
+
+fn at_least_one(places: u32) -> u32
+    ensures { result ≡ at_least_one places }
+{
+    if places == 0 { 1 } else { places }
 }

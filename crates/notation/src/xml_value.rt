@@ -1,9 +1,11 @@
 //! Values as XML writes them.
 
-ghost use Rattle.std.specs.Prelude.{◌++◌, false, codes, unwrap_or, OnOk};
+ghost use Rattle.std.specs.Prelude.{◌≡◌, ◌++◌, false, codes, unwrap_or, OnOk};
 ghost use Rattle.std.specs.Fmt.{digits, signed_decimal};
 ghost use Rattle.contract_words.specs.Writes.{Writes};
+ghost use Rattle.res_value.specs.declared.value.Value.{Value};
 ghost use Rattle.res_value.specs.Complex.{signed_number};
+ghost use Rattle.notation.specs.Meant.{meant, IsStored};
 ghost use Rattle.notation.specs.XmlText.{null_notation, reference_notation, boolean_notation, exact_text, xml_text};
 
 use crate::color::{write_argb4, write_argb8, write_rgb4, write_rgb8};
@@ -19,8 +21,17 @@ use std::io::{self, Write};
 /// ```text
 /// write_xml_value(value, &mut out)?; // 34.5sp
 /// ```
-#[tactic(auto, unfolding(crate::specs::XmlText::xml_text))]
 pub fn write_xml_value<W: Write + Drop>(value: Value, out: &mut W) -> io::Result<()>
+    ensures text { Writes W.contents out.old out.new result (xml_text value) }
+
+    // Two values with one text mean the same.
+    ensures tells { (one other : Value) → IsStored one → IsStored other → xml_text one ≡ xml_text other → meant one ≡ meant other }
+{
+    write_text(value, out)
+}
+
+#[tactic(auto, unfolding(crate::specs::XmlText::xml_text))]
+fn write_text<W: Write + Drop>(value: Value, out: &mut W) -> io::Result<()>
     ensures { Writes W.contents out.old out.new result (xml_text value) }
 {
     match value.kind {
