@@ -25,7 +25,8 @@ from case_words import read_words
 from check_names import Words, written
 from named_tables import Table
 from plain_certificates import id_text
-from plain_diff import Both, Stack, asks_for, devices_text, label_text, pairs_of
+from plain_diff import Both, Stack, asks_for, devices_text, pairs_of
+from plain_names import label_text
 from plain_words import Missing, Two, check_packages
 from plain_trees import Traces, have_larger_trees, varying
 from random_apps import SIZES, Apps, layers_of
@@ -63,7 +64,7 @@ class Case:
     def pairs(self):
         """The pairs that are asked for."""
         pairs = list(pairs_of(*self.stacks.stacks))
-        packages = [package for table, own in self.old + self.new if own is None for package in table.packages]
+        packages = self.stacks.packages
         for word in self.words:
             asked = [pair for pair in pairs if asks_for(packages, word, pair)]
             is_name = "/" in word and not word.endswith("/*")
@@ -189,7 +190,7 @@ def faults_of_text(case, pairs, text):
     """The faults of what is printed of these pairs."""
     lines, place, same = with_rows(text), 0, 0
     for label, ids in pairs:
-        label, first = label_text(label), place
+        label, first = label_text(case.stacks.packages, label), place
         due = f"{'added' if ids[0] is None else 'removed' if ids[1] is None else 'changed'} {label}"
         while lines[place][0] == due or lines[place][0].startswith(f"{due} "):
             place += 1

@@ -20,7 +20,7 @@ from concurrent.futures import ProcessPoolExecutor
 
 from case_files import Files
 from made_layers import chunk, entries_chunk, entry_bytes, package_chunk, type_spec
-from named_tables import ENTRY_NAMES, TYPE_NAMES, names_of
+from named_tables import ENTRY_NAMES, PACKAGE_NAMES, TYPE_NAMES, names_of
 from plain_certificates import certificate_json, goal_word
 from plain_rules import Record
 from plain_show import Shown, tree_lines
@@ -36,19 +36,20 @@ class Layer:
     """A layer of a case: its table has a package of its rows, and one of attributes."""
 
     def __init__(self, chance, rows, is_base):
-        self.is_base, self.names, self.strings = is_base, {}, names_of(chance, TEXTS)
+        self.is_base, self.packages, self.names, self.strings = is_base, [], {}, names_of(chance, TEXTS)
         attributes = [(FIRST_ATTRIBUTE + place, Record({}), (0x10, place)) for place in range(ATTRIBUTES) if chance.random() < 0.7]
         packages = self.package(chance, FIRST_ID, rows) + self.package(chance, FIRST_ATTRIBUTE, attributes)
         self.table = chunk(0x0002, struct.pack("<I", 2), self.strings.bytes + packages)
 
     def package(self, chance, first_id, rows):
         types, keys, offset = names_of(chance, TYPE_NAMES), names_of(chance, ENTRY_NAMES), chance.choice((None, 0, 0, 0, 1))
-        children = type_spec(1, max(ENTRIES, ATTRIBUTES))
-        for name, record, cell in rows:
+        children, package_id, name = type_spec(1, max(ENTRIES, ATTRIBUTES)), first_id >> 24, chance.choice(PACKAGE_NAMES)
+        self.packages.append((package_id, None if "\ud83d" in name else name))
+        for own, record, cell in rows:
             key = chance.randint(0, len(ENTRY_NAMES))
-            children += entries_chunk(1, record, {name & 0xFFFF: entry_bytes(cell, key)}, chance.random() < 0.2)
-            self.names.setdefault(name, f"{types.get(-(offset or 0))[1]}/{keys.get(key)[1]}")
-        return package_chunk(first_id >> 24, offset, types, keys, children)
+            children += entries_chunk(1, record, {own & 0xFFFF: entry_bytes(cell, key)}, chance.random() < 0.2)
+            self.names.setdefault(own, (types.get(-(offset or 0))[0], keys.get(key)[0]))
+        return package_chunk(package_id, offset, types, keys, children, name)
 
 
 class ShownCase(CertifiedCase):

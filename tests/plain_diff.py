@@ -5,56 +5,19 @@ two contents is what a line of a change says behind its label, and the lines of 
 from collections import namedtuple
 from itertools import zip_longest
 
-from made_layers import joined_pairs
-from make_strings import shown_character
 from plain_map import first_rows
+from plain_names import label_text, said_text
 from plain_rules import COORDS, Layers, by_id, step_of, value_text
 from plain_words import is_asked, parts_of
 
 REFERENCE, ATTRIBUTE, STRING, BOOLEAN = 1, 2, 3, 0x12
 NUMBERS = range(0x10, 0x20)
 QUANTITIES = dict(zip(range(0x01000004, 0x0100000A), ("other", "zero", "one", "two", "few", "many")))
-ESCAPED = {0x85, 0x2028, 0x2029, *range(0x202A, 0x202F), *range(0x2066, 0x206A)}
-"""Characters that end lines or turn the direction of a text."""
 
 Said = namedtuple("Said", "text read")
 """What is no bag: how it is printed, and what a device reads of it."""
 Row = namedtuple("Row", "key name said")
 """A row of a bag: its key, by which rows are in order, how that is printed, and what its value says."""
-
-
-# ---- texts
-
-
-def said_character(character, is_utf16):
-    if ord(character) in ESCAPED:
-        return f"\\u{ord(character):04x}"
-    return shown_character(character, is_utf16)
-
-
-def said_text(text, is_utf16):
-    """A text in quotes. Two surrogates that make a pair are the character."""
-    return f'"{"".join(said_character(character, is_utf16) for character in joined_pairs(text))}"'
-
-
-def package_text(package):
-    return {0x7F: "", 0x01: "android:"}.get(package, f"0x{package:02x}:")
-
-
-def is_misread(letter):
-    return letter in ' /:"\\\x7f' or letter < " " or ord(letter) in ESCAPED
-
-
-def name_text(name):
-    """A name as it stands, or between quotes where it could be read otherwise."""
-    return said_text(name, False) if name in ("", "*") or any(map(is_misread, name)) else name
-
-
-def label_text(label):
-    if isinstance(label, int):
-        return f"0x{label:08x}"
-    package, type_name, entry_name = label
-    return f"{package_text(package)}{name_text(type_name)}/{name_text(entry_name)}"
 
 
 # ---- labels
@@ -84,7 +47,10 @@ class Stack:
     def __init__(self, layers, layers_of=Layers):
         self.layers = layers_of([(by_id((row.id, row.record, row.cell) for row in table.rows), own) for table, own in layers])
         self.strings = [table.strings for table, _ in layers]
-        rows = [row for table, own in layers if own is None for row in table.rows]
+        bases = [table for table, own in layers if own is None]
+        self.packages = [package for table in bases for package in table.packages]
+        """Those by which resources are told."""
+        rows = [row for table in bases for row in table.rows]
         self.first = first_rows(rows)
         self.names = {}
         """What each name stands for."""
@@ -107,7 +73,7 @@ class Stack:
         return label if self.ids.get(label) == name else name
 
     def id_content(self, name):
-        return label_text(self.label(name))
+        return label_text(self.packages, self.label(name))
 
     def string_content(self, layer, index):
         strings = self.strings[layer]
@@ -154,7 +120,7 @@ class Stack:
         if type_name == "plurals" and name in QUANTITIES:
             return (1, name), QUANTITIES[name]
         label = self.label(name)
-        return (2, in_order(label)), label_text(label)
+        return (2, in_order(label)), label_text(self.packages, label)
 
     def trace(self, name, device):
         """What the candidates of an id do, and those of its references and, of a bag, of its parents; and the end."""
@@ -205,10 +171,11 @@ def difference(before, after):
 
 
 class Both:
-    """Two stacks, of which an id of each is asked at once."""
+    """Two stacks, of which an id of each is asked at once. Resources of both are told by the packages of both."""
 
     def __init__(self, old, new):
         self.stacks = old, new
+        self.packages = old.packages = new.packages = old.packages + new.packages
 
     def difference(self, ids, device):
         return difference(*(stack.content(name, device) for stack, name in zip(self.stacks, ids)))

@@ -1,11 +1,13 @@
 """A plain reading of what `show` prints of layers and a certificate. For check_show.py.
 
-A layer has `is_base`; `names`, those of the first row of each id as they are printed; and `strings`, of which `get` gives
-how the string of an index is printed. A node of a certificate is what its JSON says of it."""
+A layer has `is_base`; `packages`; `names`, those of the type and the entry of the first row of each id, None where one is no
+text; and `strings`, of which `get` gives how the string of an index is printed. A node of a certificate is what its JSON says of
+it."""
 from typing import NamedTuple, Optional
 
 from plain_bags import Attribute
 from plain_certificates import id_text
+from plain_names import named
 from plain_rules import end_text
 
 MOST_DEPTH = 32
@@ -77,11 +79,13 @@ class Shown:
 
     def __init__(self, layers):
         self.layers = layers
+        self.bases = [layer for layer in layers if layer.is_base]
+        self.packages = [package for layer in self.bases for package in layer.packages]
 
     def named(self, name):
-        """An id, and the names of the first row that it has in a base."""
-        found = [layer.names[name] for layer in self.layers if layer.is_base and name in layer.names]
-        return " ".join([id_text(name), *found[:1]])
+        """An id, and the word for the names of the first row that it has in a base."""
+        found = next((layer.names[name] for layer in self.bases if name in layer.names), (None, None))
+        return named(self.packages, name, found)
 
     def leaf(self, leaf):
         if "bag" in leaf:

@@ -13,6 +13,8 @@ ONE = rf"(?:{NO_SIGN}|{XML_NAME.pattern})"
 SET = re.compile(rf"\*|{TYPE}/\*|{ONE}")
 GOAL = re.compile(rf"{SET.pattern}|(?:{NO_SIGN})@{ONE}(?:,{ONE}){{0,63}}")
 NUMBER = re.compile("0x[0-9a-fA-F]{2}")
+BREAKS = {0x85, *range(0x2028, 0x202F), *range(0x2066, 0x206A)}
+"""Characters that end lines or turn the direction of a text."""
 
 
 class Missing(Exception):
@@ -37,6 +39,11 @@ def is_asked(packages, package, number):
     return (number, package) in packages if isinstance(package, str) else package in (None, number)
 
 
+def is_plain(text):
+    """Whether a text can be a part of a word, and neither that nor its line could be read otherwise."""
+    return text != "" and not any(letter in '*,@ "\\\x7f' or letter < " " or ord(letter) in BREAKS for letter in text)
+
+
 def package_text(package):
     return package if isinstance(package, str) else f"0x{package:02x}"
 
@@ -44,8 +51,13 @@ def package_text(package):
 def package_told(packages, number):
     """The package of this number as a word has it: by the name of the first, where that tells it."""
     name = next((name for other, name in packages if other == number), None)
-    is_word = name and not set(name) & set("*,@:/") and not NUMBER.fullmatch(name)
+    is_word = name is not None and is_plain(name) and not set(name) & set(":/") and not NUMBER.fullmatch(name)
     return name if is_word and all(other == number for other, own in packages if own == name) else number
+
+
+def package_before(packages, number):
+    """The package of this number, as it stands before a type."""
+    return f"{package_text(package_told(packages, number))}:"
 
 
 def text_of(word):
@@ -64,5 +76,5 @@ def check_packages(packages, word, numbers):
     other = next((number for number in numbers if number != numbers[0]), None)
     if other is not None:
         names = "/".join(parts_of(word)[1])
-        told = [f"{package_text(package_told(packages, number))}:{names}" for number in (numbers[0], other)]
+        told = [f"{package_before(packages, number)}{names}" for number in (numbers[0], other)]
         raise Two(f"{text_of(word)}: {', '.join(told)}")

@@ -121,17 +121,17 @@ QUANTITIES = ("other", "zero", "one", "two", "few", "many", "0x01000003", "0x010
 def packages(number):
     """Attributes of a framework, a library and an app, and a style with rows for them and for ids that have no name."""
     layers = []
-    for package in (0x01, 0x02, 0x7F):
+    for package, name in ((0x01, "android"), (0x02, ""), (0x7F, "")):
         of_package = [resource("attr/b", (ANY, dp(1))), resource("attr/é", (ANY, dp(1))), resource("attr/a", (ANY, dp(1)))]
-        layers.append((NamedTable(of_package, ids_of(of_package, package), package), None))
+        layers.append((NamedTable(of_package, ids_of(of_package, package), package, name=name), None))
     names = [package << 24 | type_id << 16 | entry for package in (0x01, 0x02, 0x7F) for type_id in (1, 9) for entry in range(3)]
     styled = [Resource("attr", "a", []), resource("style/s", (ANY, Bag(0, [(name, dp(number)) for name in names])))]
     return [*layers, (NamedTable(styled, {}), None)]
 
 
-KEYS = ("android:attr/a", "android:attr/b", "android:attr/é", "0x02:attr/a", "0x02:attr/b", "0x02:attr/é", "attr/a", "attr/b", "attr/é")
+KEYS = tuple(f"{package}:attr/{entry}" for package in ("android", "0x02", "0x7f") for entry in "abé")
 KEYS += tuple(f"0x{package}09000{entry}" for package in ("01", "02", "7f") for entry in range(3))
-PACKAGES_CHANGED = "changed style/s\n" + "".join(f"  {key} dimension 1/2^0 dp -> dimension 2/2^0 dp\n" for key in KEYS) + "same 9"
+PACKAGES_CHANGED = "changed 0x7f:style/s\n" + "".join(f"  {key} dimension 1/2^0 dp -> dimension 2/2^0 dp\n" for key in KEYS) + "same 9"
 
 
 CASES = [

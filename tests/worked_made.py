@@ -156,15 +156,15 @@ GERMAN = "device locale=de density=160"
 OMITTED = [
     # The most nodes, the goals, and what is printed to both streams. The first entry has a value in French alone, the second
     # everywhere.
-    (10, [FIRST, SECOND], OF_SECOND, f"omitted goal 0 {FIRST} !NoSuch/!NoSuch\n{GERMAN}\nend absent {FIRST}\n"),
+    (10, [FIRST, SECOND], OF_SECOND, f"omitted goal 0 {FIRST}\n{GERMAN}\nend absent {FIRST}\n"),
     (
         1,
         [SECOND, f"{A}@{SECOND}"],
         OF_SECOND,
-        f"omitted goal 1 {A}@{SECOND} !NoSuch/!NoSuch\n{GERMAN}\nend absent {SECOND}\n",
+        f"omitted goal 1 {A}@{SECOND}\n{GERMAN}\nend absent {SECOND}\n",
     ),
     (10, [SECOND], OF_SECOND, ""),
-    (10, [FIRST], "", f"omitted goal 0 {FIRST} !NoSuch/!NoSuch\n{GERMAN}\nend absent {FIRST}\n"),
+    (10, [FIRST], "", f"omitted goal 0 {FIRST}\n{GERMAN}\nend absent {FIRST}\n"),
     (1, [SECOND] * 2, NODE_LIMIT, ""),
 ]
 
@@ -180,7 +180,7 @@ def of_names():
     told = "rejected goal 0 node 0 N8 OtherValue\ndevice density=160\nend value layer 0 decimal 5\nset-aside 0\n"
     styled, wrong = f"{A}@{NOWHERE},{FIRST}", certificate_of(tree(value(9)))
     for names, of_check, of_make in (
-        ("--names ", f'goal 0 {ID} "s"/"k"\n', f'goal 1 {styled} "s"/"k"\n'),
+        ("--names ", f"goal 0 {ID} s/k\n", f"goal 1 {styled} s/k\n"),
         ("", "", ""),
     ):
         words = f"check {names}layers box certificate {ID}"

@@ -157,15 +157,15 @@ SHOWN = [
         "2\telse value layer 0 dimension 13/2^0 dp",
         "goals 2"]),
     (STYLED, [
-        f'goal 0 0x01010001 under {ID} "s"/"k" 0x7f010009 nodes 4',
+        f"goal 0 0x01010001 under {ID} s/k 0x7f010009 nodes 4",
         "0\tif night one of 1 0",
         "1\t  if locale one of none fr",
-        f'2\t    bag {ID} "s"/"k"',
+        f"2\t    bag {ID} s/k",
         "3\t  else value layer 5 string 0 (no such layer)",
         "\telse ends early",
         "goals 1"]),
     (LONG, [
-        f'goal 0 {ID} "s"/"k" nodes 2',
+        f"goal 0 {ID} s/k nodes 2",
         "0\tvalue layer 0 decimal 7",
         "1\tnot reached: if sdk at most 20",
         "goals 1"]),
@@ -173,12 +173,12 @@ SHOWN = [
 
 PICTURE = [
     "digraph {",
-    rf'  label="goal 0 0x01010001 under {ID} \"s\"/\"k\" 0x7f010009";',
+    f'  label="goal 0 0x01010001 under {ID} s/k 0x7f010009";',
     "  node [shape=box];",
     '  n0 [label="night one of 1 0"];',
     '  n1 [label="locale one of none fr"];',
     "  n0 -> n1 [label=yes];",
-    rf'  n2 [label="bag {ID} \"s\"/\"k\""];',
+    f'  n2 [label="bag {ID} s/k"];',
     "  n1 -> n2 [label=yes];",
     '  n3 [label="value layer 5 string 0 (no such layer)"];',
     "  n1 -> n3 [label=no];",

@@ -404,13 +404,13 @@ def of_layers():
     named = f"1 [] bag 0x00000000 {ID}=7\n2 [] @{ID}"
     for words, out, status in (
         (f"query --names layers device {ID} 0x7f010001 0x7f010009", [
-            f'{ID} "s"/"k" value layer 0 decimal 5', "0x7f010001 !NoSuch/!NoSuch bag 0x7f010001 !NoSuch/!NoSuch",
+            f"{ID} s/k value layer 0 decimal 5", "0x7f010001 bag 0x7f010001",
             "0x7f010009 absent 0x7f010009", "set-aside 0"], 1),
         ("explain --names layers device 0x7f010002", [
-            "lookup 0x7f010002 !NoSuch/!NoSuch", "candidate 0 layer 1 [] first", f'lookup {ID} "s"/"k"',
+            "lookup 0x7f010002", "candidate 0 layer 1 [] first", f"lookup {ID} s/k",
             "candidate 0 layer 0 [] first", "end value layer 0 decimal 5"], 0),
-        ("bag --names layers device 0x7f010001", [f'{ID} "s"/"k" layer 1 decimal 7'], 0),
-        (f"attr --names layers device {ID} 0x7f010001", [f'{ID} "s"/"k" value layer 1 decimal 7'], 0),
+        ("bag --names layers device 0x7f010001", [f"{ID} s/k layer 1 decimal 7"], 0),
+        (f"attr --names layers device {ID} 0x7f010001", [f"{ID} s/k value layer 1 decimal 7"], 0),
     ):
         yield over([TABLE_B, named], words, lines(out), status=status)
 
@@ -614,10 +614,10 @@ def resources_of(cells):
     return [resource_of(name, cell) for name, cell in cells.items()]
 
 
-def named_table(cells, package_id=0x7F, ids=None):
+def named_table(cells, package_id=0x7F, ids=None, name=""):
     """A table of resources by their names, in their order; where the cell is None, one without a row."""
     resources = resources_of(cells)
-    return NamedTable(resources, ids or ids_of(resources, package_id), package_id).bytes
+    return NamedTable(resources, ids or ids_of(resources, package_id), package_id, name=name).bytes
 
 
 def letters(package, entry, type_id=1):
@@ -707,20 +707,20 @@ def of_ids():
         return Case("ids layers", lines(told), **files_of(layers))
 
     two = named_table({"s/a": 1, "s/b": 2})
-    yield listed([changed(two, (len(two) - 12, "ff"))], f'{FIRST} "s"/"a"', f'{SECOND} "s"/!NoSuch')
-    yield listed(["1 [night=2] 7\n0 [] bag 0x00000000\n1 [] 7"], *(f"{name} !NoSuch/!NoSuch" for name in (FIRST, SECOND)))
-    yield listed([named_table({"s/a": None, "s/b": 2})], f'{SECOND} "s"/"b"')
+    yield listed([changed(two, (len(two) - 12, "ff"))], f"{FIRST} s/a", SECOND)
+    yield listed(["1 [night=2] 7\n0 [] bag 0x00000000\n1 [] 7"], FIRST, SECOND)
+    yield listed([named_table({"s/a": None, "s/b": 2})], f"{SECOND} s/b")
     # An overlay has no ids of its own, also where one stands for an id of the base.
     own = [[FIRST, SECOND]]
-    yield listed([letters(0x7F, "k"), (two, own)], f'{FIRST} "s"/"k"')
+    yield listed([letters(0x7F, "k"), (two, own)], f"{FIRST} s/k")
     yield listed([(two, own)])
     # The first base layer names what is in both.
     first, last = letters(0x7F, "k"), letters(0x7F, "m")
-    yield listed([first, last], f'{FIRST} "s"/"k"')
-    yield listed([last, first], f'{FIRST} "s"/"m"')
-    yield listed([two, last], f'{FIRST} "s"/"a"', f'{SECOND} "s"/"b"')
-    yield listed([last, two], f'{FIRST} "s"/"m"', f'{SECOND} "s"/"b"')
-    of_packages = '0x01010000 "s"/"m"', '0x02010000 "s"/"k"', f'{FIRST} "s"/"k"'
+    yield listed([first, last], f"{FIRST} s/k")
+    yield listed([last, first], f"{FIRST} s/m")
+    yield listed([two, last], f"{FIRST} s/a", f"{SECOND} s/b")
+    yield listed([last, two], f"{FIRST} s/m", f"{SECOND} s/b")
+    of_packages = "0x01010000 0x01:s/m", "0x02010000 0x02:s/k", f"{FIRST} 0x7f:s/k"
     yield listed([letters(0x7F, "k"), letters(0x02, "k"), letters(0x01, "m")], *of_packages)
     yield listed([])
     yield listed([""])
@@ -786,7 +786,7 @@ def of_escapes():
         text = name.encode()
         text = table_of_lines("0 [] string", pool_of_string(bytes([3, len(text)]) + text + b"\0"))
         certificate = {"version": 1, "goals": [{"id": ID, "nodes": [{"layer": 1, "kind": 3, "word": 0}]}]}
-        out = f'goal 0 {ID} "s"/"{written}" nodes 1\n0\tvalue layer 1 string 0 "{written}"\ngoals 1\n'
+        out = f'goal 0 {ID} s/"{written}" nodes 1\n0\tvalue layer 1 string 0 "{written}"\ngoals 1\n'
         yield Case("show layers certificate", out, certificate=certificate, **files_of([table, (text, SAME)]))
         # The texts of the other commands stay.
         yield over([text], f"query layers device {ID}", f'{ID} value layer 0 string 0 "{name}"\nset-aside 0\n')
@@ -857,13 +857,19 @@ SAID = [
 ]
 
 LABELS = [
-    # A package, the names of a type and an entry, and how these are written.
-    (0x7F, "string/cancel", "string/cancel"), (0x01, "attr/colorAccent", "android:attr/colorAccent"), (0x02, "id/a", "0x02:id/a"),
-    (0x7F, "string/café", "string/café"), (0x7F, "style/App.Card", "style/App.Card"), (0x7F, "string/", 'string/""'),
-    (0x7F, "string/a b", 'string/"a b"'), (0x7F, "string/a/b", 'string/"a/b"'), (0x7F, "string/android:x", 'string/"android:x"'),
-    (0x7F, 'string/a\nremoved string/"b\\', r'string/"a\x0aremoved string/\"b\\"'), (0x7F, "s/!", "s/!"), (0x7F, "s/~", "s/~"),
-    (0x7F, ">/-", ">/-"), (0x7F, "s/\x7f", r's/"\x7f"'), (0x7F, "\r/k", r'"\x0d"/k'), (0x7F, 's/"', r's/"\""'),
-    (0x7F, "s/\\", r's/"\\"'),
+    # The names of a type and an entry of an app, and how these are written.
+    ("string/cancel", "string/cancel"), ("string/café", "string/café"), ("style/App.Card", "style/App.Card"), ("string/", 'string/""'),
+    ("string/a b", 'string/"a b"'), ("string/a/b", "string/a/b"), ("string/android:x", "string/android:x"), ("a:b/k", '"a:b"/k'),
+    ("string/*", 'string/"*"'), ("string/a,b", 'string/"a,b"'), ("s@t/k", '"s@t"/k'), ("s/a@b", 's/"a@b"'), ("*/k", '"*"/k'),
+    ('string/a\nremoved string/"b\\', r'string/"a\x0aremoved string/\"b\\"'), ("s/!", "s/!"), ("s/~", "s/~"), (">/-", ">/-"),
+    ("s/\x7f", r's/"\x7f"'), ("\r/k", r'"\x0d"/k'), ('s/"', r's/"\""'), ("s/\\", r's/"\\"'),
+]
+PACKAGE_LABELS = [
+    # The number and the name of a package, the names of a resource of it, and how it is written.
+    (0x01, "android", "attr/colorAccent", "android:attr/colorAccent"), (0x02, "", "id/a", "0x02:id/a"), (0x02, "a b", "id/a", "0x02:id/a"),
+    (0x02, "a:b", "id/a", "0x02:id/a"), (0x02, "a/b", "id/a", "0x02:id/a"), (0x02, "0x7f", "id/a", "0x02:id/a"), (0xFE, "é", "id/a", "é:id/a"),
+    (0x02, "a@b", "id/a", "0x02:id/a"), (0x02, "lib", "a:b/k", "lib:a:b/k"), (0x02, "a\n", "a,b/k", '0x02:"a,b"/k'), (0xAB, "", "s/*", '0xab:s/"*"'),
+    (0x7F, "org.example", "id/a", "id/a"), (0x02, "a\u2028", "id/a", "0x02:id/a"),
 ]
 
 
@@ -875,8 +881,10 @@ def of_changes():
         others = "".join(f"removed 0x{0x7F010000 + name:08x}\n" for name in sorted(names - {0}))
         out = f"changed {ID} {said} -> decimal 99\n{others}same 0\n"
         yield compared([rows], ["0 [] 99"], out, box=MEDIUM_BOX | more)
-    for package, name, written in LABELS:
-        yield compared([], [named_table({name: 1}, package)], f"added {written}\nsame 0\n")
+    for name, written in LABELS:
+        yield compared([], [named_table({name: 1})], f"added {written}\nsame 0\n")
+    for package, package_name, name, written in PACKAGE_LABELS:
+        yield compared([], [named_table({name: 1}, package, name=package_name)], f"added {written}\nsame 0\n")
     yield from of_contents()
     yield from of_pairs()
     yield from of_strings()
@@ -925,9 +933,18 @@ def of_pairs():
     yield compared([TABLE_A], [TABLE_B], f"added s/k\nremoved {ID}\nsame 0\n")
     app, moved, other = letters(0x7F, "k"), letters(0x7F, "k", 2), letters(0x7F, "o")
     framework, library = letters(0x01, "k"), letters(0x02, "k")
-    lines_of_packages = "removed android:s/k\nadded 0x02:s/k\nremoved s/k\nadded s/o\nsame 0\n"
+    lines_of_packages = "removed 0x01:s/k\nadded 0x02:s/k\nremoved 0x7f:s/k\nadded 0x7f:s/o\nsame 0\n"
     yield compared([framework, app], [other, library], lines_of_packages)
     yield compared([framework, app], [moved, framework], "same 2\n", 0)
+    # By the packages of both stacks, and by the first name of each number.
+    called = [named_table({"s/k": 1}, number, name=name) for number, name in ((0x01, "android"), (0x7F, "app"), (0x7F, "split"), (0x02, "app"))]
+    for old, new, said in (
+        ([], [0], "added android:s/k"), ([], [1], "added s/k"), ([0], [1], "removed android:s/k\nadded app:s/k"),
+        ([1], [0], "added android:s/k\nremoved app:s/k"), ([1], [3], "added 0x02:s/k\nremoved 0x7f:s/k"),
+        ([2], [3], "added app:s/k\nremoved split:s/k"), ([2], [1, 3], "added 0x02:s/k"), ([1, 2], [3], "added 0x02:s/k\nremoved 0x7f:s/k"),
+    ):
+        same = int(1 in new and 2 in old)
+        yield compared([called[place] for place in old], [called[place] for place in new], f"{said}\nsame {same}\n")
     yield compared([app, moved], [app, app], "removed 0x7f020000\nwarning shared-names 1 0\nsame 1\n")
     yield compared([app, app], [app, app], "same 1\n", 0)
     yield compared([app], [app, (other, SAME)], "same 1\n", 0)
@@ -953,19 +970,20 @@ def of_strings():
 
 def of_asked_pairs():
     """A framework and an app, of which one resource has no name. Words ask for lines."""
-    framework = [named_table({"dimen/margin": number}, 0x01) for number in (1, 2)]
-    old = named_table({"color/ink": 1, "dimen/gap": 1, "dimen/margin": 1})
-    new = named_table({"color/paper": 1, "dimen/_0": None, "dimen/_1": None, "dimen/width": 1, "dimen/margin": 2})
+    framework = [named_table({"dimen/margin": number}, 0x01, name="android") for number in (1, 2)]
+    old = named_table({"color/ink": 1, "dimen/gap": 1, "dimen/margin": 1}, name="app")
+    new = named_table({"color/paper": 1, "dimen/_0": None, "dimen/_1": None, "dimen/width": 1, "dimen/margin": 2}, name="app")
     nameless = [changed(TABLE_A, (336, "03"), (356, "03"), (412, digits)) for digits in ("05", "06")]
     told = [
-        "changed android:dimen/margin decimal 1 -> decimal 2", "removed color/ink", "added color/paper", "removed dimen/gap",
-        "changed dimen/margin decimal 1 -> decimal 2", "added dimen/width", "changed 0x7f030000 decimal 5 -> decimal 6",
+        "changed android:dimen/margin decimal 1 -> decimal 2", "removed app:color/ink", "added app:color/paper", "removed app:dimen/gap",
+        "changed app:dimen/margin decimal 1 -> decimal 2", "added app:dimen/width", "changed 0x7f030000 decimal 5 -> decimal 6",
     ]
     stacks = [framework[0], old, nameless[0]], [framework[1], new, nameless[1]]
     for words, places in (
         ("", range(7)), ("0x7f020000", [3]), ("0x7f020002", [5]), ("0x7f020001", [4]), ("0x7f020003", [4]), ("0x01010000", [0]),
         (ID, [1, 2]), ("0x7f030000", [6]), ("dimen/gap", [3]), ("dimen/*", [0, 3, 4, 5]), ("*", range(7)),
         ("0x01:dimen/margin", [0]), ("0x7f:dimen/margin", [4]), ("0x7f:dimen/*", [3, 4, 5]), ("0x01:dimen/*", [0]),
+        ("android:dimen/margin", [0]), ("app:dimen/margin", [4]), ("app:dimen/*", [3, 4, 5]),
         ("0x7f030000 dimen/width color/ink", [1, 5, 6]), ("dimen/gap dimen/gap", [3]),
         ("0x7f020001 dimen/* 0x7f:dimen/margin", [0, 3, 4, 5]), ("0x7f020001 0x7f020003", [4]), ("color/ink *", range(7)),
     ):
@@ -981,7 +999,7 @@ def of_asked_pairs():
         yield case
     for words in ("dimen/margin", "color/ink dimen/margin string/*", "* dimen/margin"):
         case = compared(*stacks, "", words=words.split())
-        case.due = "", "two resources dimen/margin: 0x01:dimen/margin, 0x7f:dimen/margin\n", 1
+        case.due = "", "two resources dimen/margin: android:dimen/margin, app:dimen/margin\n", 1
         yield case
 
 

@@ -212,7 +212,7 @@ def of_list_words():
         of_side = fault.replace("refused: ", "refused: new ")
         yield Case(["diff", "b.arsc", word, "box"], "", of_side + "\n", status, **FILES)
     yield Case("diff b.arsc b.arsc+n.arsc box", "changed s/k decimal 5 -> decimal 9\nsame 0\n", "", 1, **FILES)
-    yield Case("ids b.arsc+n.arsc", f'{ID} "s"/"k"\n', **FILES)
+    yield Case("ids b.arsc+n.arsc", f"{ID} s/k\n", **FILES)
     # With a map that somebody else made it is the same.
     yield Case(f"query list device {ID}", says(1, 9), list=listed("b.arsc", ("n.arsc", "map")), map=[[ID, ID]], **FILES)
     # No other word is a list: not that of a table alone, nor of a device or a box.

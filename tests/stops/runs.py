@@ -88,25 +88,25 @@ DUMP = lines(
 MADE_MAP = text_of("examples", "porcelain", "map.json")
 WITHOUT_HANDLE = MADE_MAP.replace(' ["0x7f030000","0x7f040000"],\n', "")
 LISTED = lines(
-    '0x7f020000 "color"/"steam"',
-    '0x7f020001 "color"/"clay"',
-    '0x7f020002 "color"/"glaze"',
-    '0x7f020003 "color"/"ink"',
-    '0x7f030000 "dimen"/"handle"',
-    '0x7f030001 "dimen"/"label"',
-    '0x7f030002 "dimen"/"hairline"',
-    '0x7f030003 "dimen"/"drip"',
-    '0x7f040000 "fraction"/"share"',
-    '0x7f040001 "fraction"/"half_of_parent"',
-    '0x7f050000 "string"/"title"',
-    '0x7f050001 "string"/"pour"',
-    '0x7f050002 "string"/"brand"',
-    '0x7f060000 "bool"/"whistles"',
-    '0x7f060001 "bool"/"electric"',
-    '0x7f070000 "integer"/"cups"',
-    '0x7f070001 "integer"/"frost"',
-    '0x7f070002 "integer"/"mask"',
-    '0x7f070003 "integer"/"pi"',
+    "0x7f020000 color/steam",
+    "0x7f020001 color/clay",
+    "0x7f020002 color/glaze",
+    "0x7f020003 color/ink",
+    "0x7f030000 dimen/handle",
+    "0x7f030001 dimen/label",
+    "0x7f030002 dimen/hairline",
+    "0x7f030003 dimen/drip",
+    "0x7f040000 fraction/share",
+    "0x7f040001 fraction/half_of_parent",
+    "0x7f050000 string/title",
+    "0x7f050001 string/pour",
+    "0x7f050002 string/brand",
+    "0x7f060000 bool/whistles",
+    "0x7f060001 bool/electric",
+    "0x7f070000 integer/cups",
+    "0x7f070001 integer/frost",
+    "0x7f070002 integer/mask",
+    "0x7f070003 integer/pi",
 )
 EXPLAINED = lines(
     "lookup 0x7f050002",
@@ -155,11 +155,11 @@ SURVEYED = lines(
     "qualifier sdk rows 4 from 4 to 26",
 )
 SHOWN = lines(
-    'goal 0 0x7f050000 "string"/"title" nodes 3',
+    "goal 0 0x7f050000 string/title nodes 3",
     "0\tif locale one of de-AT de-CH de-DE",
     '1\t  value layer 1 string 1 "Porzellankanne"',
     '2\telse value layer 1 string 0 "Porcelain teapot"',
-    'goal 1 0x7f030000 "dimen"/"handle" nodes 3',
+    "goal 1 0x7f030000 dimen/handle nodes 3",
     "0\tif density at most 197",
     "1\t  value layer 1 dimension 16/2^0 dp",
     "2\telse value layer 0 dimension 13/2^0 dp",
@@ -206,7 +206,7 @@ def device_runs():
     """Runs of the commands that ask about a device."""
     query = ["query", LAYERS, PHONE]
     yield Run("query", [*query, "0x7f050000"], OF_PHONE, out=lines(TITLE, "set-aside 1"))
-    named = TITLE.replace(" ", ' "string"/"title" ', 1)
+    named = TITLE.replace(" ", " string/title ", 1)
     yield Run("query --names", ["query", "--names", *query[1:], "0x7f050000"], OF_PHONE, out=lines(named, "set-aside 1"))
     found = "0x7f060000 value layer 1 false", "0x7f020001 value layer 0 rgb8 #ff402000", "0x7f030000 value layer 0 dimension 13/2^0 dp"
     yield Run("a file of words", [*query, f"@{NAMED}"], [*OF_PHONE, NAMED], out=lines(*found, TITLE, "set-aside 1"))
@@ -246,7 +246,7 @@ def box_runs():
     accepted = lines("accepted goals 2 nodes 6", "set-aside 1")
     yield Run("check", ["check", LAYERS, PHONES, CERTIFICATE, *GOALS], [*of_box, CERTIFICATE], out=accepted)
     yield Run("rejected", ["check", LAYERS, PHONES, WRONG, *GOALS], [*of_box, WRONG], 1, REJECTED)
-    goal = 'goal 1 0x7f030000 "dimen"/"handle"\n'
+    goal = "goal 1 0x7f030000 dimen/handle\n"
     yield Run("check --names", ["check", "--names", LAYERS, PHONES, WRONG, *GOALS], [*of_box, WRONG], 1, REJECTED, goal)
     yield Run("make", ["make", LAYERS, PHONES, *GOALS], of_box, out=MADE)
     yield Run("counter", ["make", LAYERS, PHONES, "0x7f050009"], of_box, 1, COUNTER)

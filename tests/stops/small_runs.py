@@ -76,8 +76,7 @@ def of_tables():
 
 def of_reports():
     """Of layers, and of certificates."""
-    for rows, told in (("0 [] 1\n1 [night=2] 2\n1 [] 3", [f"{ID} !NoSuch/!NoSuch", f"{SECOND} !NoSuch/!NoSuch"]),
-                       (TABLE_B, [f'{ID} "s"/"k"'])):
+    for rows, told in (("0 [] 1\n1 [night=2] 2\n1 [] 3", [ID, SECOND]), (TABLE_B, [f"{ID} s/k"])):
         yield Case("ids layers", lines(told), **files_of([rows]))
     yield from of_maps()
     astray = f'unmapped {SECOND} "s"/"m"\nastray {ID} "s"/"k" to {SECOND} "s"/"m"\n'
@@ -93,7 +92,7 @@ def of_reports():
 def deep_tree(is_whole):
     """A tree so deep that many paths are open at once, and its lines. Where it is not whole it ends behind the first leaf."""
     nodes = [*map(at_most, range(DEEP, 0, -1)), value(1), *[value(2)] * DEEP * is_whole]
-    told = [f"goal 0 {ID} !NoSuch/!NoSuch nodes {len(nodes)}"]
+    told = [f"goal 0 {ID} nodes {len(nodes)}"]
     told += [f"{depth}\t{'  ' * depth}if density at most {DEEP - depth}" for depth in range(DEEP)]
     told += [f"{DEEP}\t{'  ' * DEEP}value layer 0 decimal 1"]
     for depth in range(DEEP - 1, -1, -1):

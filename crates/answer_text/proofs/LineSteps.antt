@@ -7,7 +7,8 @@ use Rattle.std.specs.List.{flat_map}
 use Rattle.std.specs.Str.{IsAscii}
 use Rattle.bstr.specs.Utf8.{lossy_chars}
 use Rattle.bstr.proofs.lemmas.EncodeLemmas.{lossy_chars-encode}
-use Rattle.answer_text.specs.OnLine.{breaks_line, character_on_line, on_line}
+use Rattle.answer_text.specs.OnLine.{character_on_line, on_line}
+use Rattle.names.specs.Plain.{breaks_line}
 
 ascii-scalar : (c : ℕ) → c < 128 → scalar c ≡ true
 ascii-scalar c low = grind (arith, nat_tests)

@@ -7,9 +7,9 @@ ghost use Rattle.answer_text.specs.EndText.{value_end_text, end_with_string, end
 
 use crate::cell::write_value_with_string;
 use crate::layer::write_layer;
-use crate::name::write_name_beside;
+use crate::name::NamesBeside;
 use crate::named::write_named_id;
-use bags_themes::{End, Pool, Stack, Value};
+use bags_themes::{End, Pool, Value};
 use std::io::{self, Write};
 
 /// Writes an end: a value with the place of its layer, counted from 0; the id that selected a bag, or
@@ -56,32 +56,28 @@ fn write_value_end<W: Write + Drop>(
 /// value is followed by its string among them.
 #[tactic(auto, unfolding(crate::specs::EndText::end_with_name))]
 pub fn write_end_with_name<W: Write + Drop>(
-    stack: &Stack<'_>,
+    names: &NamesBeside<'_, '_>,
     strings: Option<Pool<'_>>,
     end: End,
-    names: bool,
     out: &mut W,
 ) -> io::Result<()>
-    ensures { Writes W.contents out.old out.new result (end_with_name stack.now (option_map pool_of strings.entry) end names) }
+    ensures { Writes W.contents out.old out.new result (end_with_name names.now.stack (option_map pool_of strings.entry) end names.now.asked) }
 {
     write_end_with_string(strings, end, out)?;
-    write_end_name(stack, end, names, out)
+    write_end_name(names, end, out)
 }
 
 #[tactic(auto, unfolding(crate::specs::EndText::end_name))]
 fn write_end_name<W: Write + Drop>(
-    stack: &Stack<'_>,
+    names: &NamesBeside<'_, '_>,
     end: End,
-    names: bool,
     out: &mut W,
 ) -> io::Result<()>
-    ensures { Writes W.contents out.old out.new result (end_name stack.now end names) }
+    ensures { Writes W.contents out.old out.new result (end_name names.now.stack end names.now.asked) }
 {
     match end {
         End::Value { .. } => Ok(()),
-        End::Bag { id } | End::Absent { id } | End::TooLong { id } => {
-            write_name_beside(stack, id, names, out)
-        }
+        End::Bag { id } | End::Absent { id } | End::TooLong { id } => names.write(id, out),
     }
 }
 
@@ -98,14 +94,13 @@ pub fn write_end_line<W: Write + Drop>(end: End, out: &mut W) -> io::Result<()>
 /// Writes the line of an end, with the name of the id that it has, where names are asked for.
 #[tactic(auto, unfolding(crate::specs::EndText::named_end_line))]
 pub(crate) fn write_named_end_line<W: Write + Drop>(
-    stack: &Stack<'_>,
+    names: &NamesBeside<'_, '_>,
     end: End,
-    names: bool,
     out: &mut W,
 ) -> io::Result<()>
-    ensures { Writes W.contents out.old out.new result (named_end_line stack.now end names) }
+    ensures { Writes W.contents out.old out.new result (named_end_line names.now.stack end names.now.asked) }
 {
     out.write_all(b"end ")?;
-    write_end_with_name(stack, None, end, names, out)?;
+    write_end_with_name(names, None, end, out)?;
     out.write_all(b"\n")
 }

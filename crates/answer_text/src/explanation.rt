@@ -14,7 +14,7 @@ ghost use Rattle.answer_text.specs.ExplainText.{place_text, traced_text, candida
 use crate::decision::write_decision;
 use crate::end::write_named_end_line;
 use crate::layer::write_layer;
-use crate::name::write_name_beside;
+use crate::name::NamesBeside;
 use crate::named::{write_named_id, write_named_number};
 use bags_themes::{Cand, Decision, Device, End, Next, REFERENCES_FOLLOWED, ResId, Stack};
 use std::io::{self, Write};
@@ -24,39 +24,37 @@ use std::io::{self, Write};
 /// for, they stand behind the ids that are looked up, and behind that of the end.
 #[tactic(auto, using(crate::proofs::Cited::is_traced), unfolding(crate::specs::ExplainText::explain_text))]
 pub fn explain<W: Write + Drop>(
-    stack: &Stack<'_>,
+    names: &NamesBeside<'_, '_>,
     id: ResId,
     device: &Device,
-    names: bool,
     out: &mut W,
 ) -> io::Result<End>
-    ensures text { Writes W.contents out.old out.new result (explain_text stack.now id.0 (device_numbers device.now) names) }
-    ensures end { IfOk result (λ end. end ≡ end_of stack.now references_followed id.0 (device_numbers device.now)) }
-    ensures trace { IsTraced stack.now references_followed id.0 (device_numbers device.now) }
+    ensures text { Writes W.contents out.old out.new result (explain_text names.now.stack id.0 (device_numbers device.now) names.now.asked) }
+    ensures end { IfOk result (λ end. end ≡ end_of names.now.stack references_followed id.0 (device_numbers device.now)) }
+    ensures trace { IsTraced names.now.stack references_followed id.0 (device_numbers device.now) }
 {
-    let end = write_look_ups(stack, id, REFERENCES_FOLLOWED, device, names, out)?;
-    write_named_end_line(stack, end, names, out)?;
+    let end = write_look_ups(names, id, REFERENCES_FOLLOWED, device, out)?;
+    write_named_end_line(names, end, out)?;
     Ok(end)
 }
 
 // Writes each look-up, where at most so many references are followed, and gives where they end.
 fn write_look_ups<W: Write + Drop>(
-    stack: &Stack<'_>,
+    names: &NamesBeside<'_, '_>,
     id: ResId,
     most: u8,
     device: &Device,
-    names: bool,
     out: &mut W,
 ) -> io::Result<End>
     ensures text { Writes W.contents out.old out.new result (flat_map
-        (look_up_text stack.now (device_numbers device.now) names)
-        (look_ups_of stack.now most id.0 (device_numbers device.now))) }
-    ensures end { IfOk result (λ end. end ≡ end_of stack.now most id.0 (device_numbers device.now)) }
+        (look_up_text names.now.stack (device_numbers device.now) names.now.asked)
+        (look_ups_of names.now.stack most id.0 (device_numbers device.now))) }
+    ensures end { IfOk result (λ end. end ≡ end_of names.now.stack most id.0 (device_numbers device.now)) }
 {
     let mut id = id;
     let mut left = most;
     'chain: loop {
-        let picked = write_look_up(stack, id, device, names, out)?;
+        let picked = write_look_up(names, id, device, out)?;
         match Next::of(id, &picked).cut_off(left) {
             Next::EndsAt(end) => return Ok(end),
             Next::LookUp(target) => id = target,
@@ -68,17 +66,16 @@ fn write_look_ups<W: Write + Drop>(
 // Writes a look-up, and gives what it selects.
 #[tactic(auto, unfolding(crate::specs::ExplainText::look_up_text))]
 fn write_look_up<'a, W: Write + Drop>(
-    stack: &Stack<'a>,
+    names: &NamesBeside<'_, 'a>,
     id: ResId,
     device: &Device,
-    names: bool,
     out: &mut W,
 ) -> io::Result<Option<Cand<'a>>>
-    ensures text { Writes W.contents out.old out.new result (look_up_text stack.now (device_numbers device.now) names id.0) }
-    ensures picked { IfOk result (λ picked. option_map cand_of picked ≡ selected stack.now id.0 (device_numbers device.now)) }
+    ensures text { Writes W.contents out.old out.new result (look_up_text names.now.stack (device_numbers device.now) names.now.asked id.0) }
+    ensures picked { IfOk result (λ picked. option_map cand_of picked ≡ selected names.now.stack id.0 (device_numbers device.now)) }
 {
-    write_look_up_line(stack, id, names, out)?;
-    write_candidates(stack, id, device, out)
+    write_look_up_line(names, id, out)?;
+    write_candidates(names.stack(), id, device, out)
 }
 
 // Writes a line for each candidate of an id, which are counted from 0, and gives the one that is selected.
@@ -145,14 +142,13 @@ fn write_place<W: Write + Drop>(place: u128, layer: usize, out: &mut W) -> io::R
 
 #[tactic(auto, unfolding(crate::specs::ExplainText::look_up_line))]
 fn write_look_up_line<W: Write + Drop>(
-    stack: &Stack<'_>,
+    names: &NamesBeside<'_, '_>,
     id: ResId,
-    names: bool,
     out: &mut W,
 ) -> io::Result<()>
-    ensures { Writes W.contents out.old out.new result (look_up_line stack.now names id.0) }
+    ensures { Writes W.contents out.old out.new result (look_up_line names.now.stack names.now.asked id.0) }
 {
     write_named_id("lookup", id, out)?;
-    write_name_beside(stack, id, names, out)?;
+    names.write(id, out)?;
     out.write_all(b"\n")
 }

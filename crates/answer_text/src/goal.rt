@@ -2,29 +2,36 @@
 
 ghost use Rattle.std.specs.List.{flat_map};
 ghost use Rattle.contract_words.specs.Writes.{Writes};
-ghost use Rattle.answer_text.specs.GoalText.{next_style, under_styles, style_names, goal_words};
+ghost use Rattle.answer_text.specs.GoalText.{next_style, under_styles, goal_word, style_names, goal_words};
 
-use crate::name::write_name_beside;
-use bags_themes::{ResId, Stack};
+use crate::name::write_its_name;
+use bags_themes::ResId;
+use names::StackNames;
 use res_value::write_id;
 use std::io::{self, Write};
 
 /// Writes the word for which the command line takes a goal: an id, or an attribute with the styles that it is asked
-/// under. Where names are asked for, those of its ids stand behind it.
+/// under. The names of its ids stand behind it.
 #[tactic(auto, unfolding(crate::specs::GoalText::goal_words))]
 pub fn write_goal_words<W: Write + Drop>(
-    stack: &Stack<'_>,
+    stack: &StackNames<'_, '_>,
     id: ResId,
     styles: &[ResId],
-    names: bool,
     out: &mut W,
 ) -> io::Result<()>
-    ensures { Writes W.contents out.old out.new result (goal_words stack.now id.0 styles.now names) }
+    ensures { Writes W.contents out.old out.new result (goal_words stack.now id.0 styles.now) }
+{
+    write_goal_word(id, styles, out)?;
+    write_its_name(stack, id, out)?;
+    write_style_names(stack, styles, out)
+}
+
+#[tactic(auto, unfolding(crate::specs::GoalText::goal_word))]
+fn write_goal_word<W: Write + Drop>(id: ResId, styles: &[ResId], out: &mut W) -> io::Result<()>
+    ensures { Writes W.contents out.old out.new result (goal_word id.0 styles.now) }
 {
     write_id(id, out)?;
-    write_under_styles(styles, out)?;
-    write_name_beside(stack, id, names, out)?;
-    write_style_names(stack, styles, names, out)
+    write_under_styles(styles, out)
 }
 
 #[tactic(auto, unfolding(crate::specs::GoalText::under_styles))]
@@ -59,15 +66,14 @@ fn write_next_style<W: Write + Drop>(style: ResId, out: &mut W) -> io::Result<()
 
 #[tactic(auto, using(crate::proofs::ItemSteps::item_steps))]
 fn write_style_names<W: Write + Drop>(
-    stack: &Stack<'_>,
+    stack: &StackNames<'_, '_>,
     styles: &[ResId],
-    names: bool,
     out: &mut W,
 ) -> io::Result<()>
-    ensures { Writes W.contents out.old out.new result (style_names stack.now styles.now names) }
+    ensures { Writes W.contents out.old out.new result (style_names stack.now styles.now) }
 {
     for style in styles {
-        write_name_beside(stack, *style, names, out)?;
+        write_its_name(stack, *style, out)?;
     }
     Ok(())
 }

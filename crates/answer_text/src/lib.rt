@@ -10,11 +10,13 @@
 //! dump_text(&table, &mut out)?; // package 0x7f "app"
 //!                               //   0x7f010000 "integer"/"five" flags 0x00000000 [] decimal 5
 //! end_text(end, &mut out)?; // value layer 0 decimal 5
-//! explain(&stack, id, &device, false, &mut out)?; // lookup 0x7f010000
-//!                                                 // candidate 0 layer 0 [] first
-//!                                                 // candidate 1 layer 0 [sdk=21] took over P22
-//!                                                 // end value layer 0 decimal 5
-//! write_goal_words(&stack, attr, &styles, true, &mut out)?; // 0x7f010000@0x7f020000 "attr"/"size" "style"/"App"
+//! let names = NamesBeside::of(alloc, &stack, false)?;
+//! explain(&names, id, &device, &mut out)?; // lookup 0x7f010000
+//!                                          // candidate 0 layer 0 [] first
+//!                                          // candidate 1 layer 0 [sdk=21] took over P22
+//!                                          // end value layer 0 decimal 5
+//! let names = StackNames::of(alloc, &stack)?; // of names
+//! write_goal_words(&names, attr, &styles, &mut out)?; // 0x7f010000@0x7f020000 attr/size style/App
 //! ```
 #![tactic(auto)]
 
@@ -43,9 +45,10 @@ pub use end::{end_text, write_end_line, write_end_with_name, write_end_with_stri
 pub use explanation::explain;
 pub use goal::write_goal_words;
 pub use layer::write_layer;
-pub use name::{write_its_name, write_name_beside};
+pub use name::{NamesBeside, write_its_name};
 pub use named::{write_named_coord, write_named_id, write_named_number};
-pub use on_line::{breaks_line, write_on_line};
+pub use names::StackNames;
+pub use on_line::write_on_line;
 pub use query::{query_line, set_aside_line, strings_of_layer};
 pub use res_value::{write_hex, write_id, write_value};
 pub use rows::rows_text;

@@ -1,12 +1,12 @@
 //! Texts on lines, written.
 
-ghost use Rattle.std.specs.Prelude.{◌≡◌, ◌<◌, true};
 ghost use Rattle.std.specs.List.{flat_map};
 ghost use Rattle.contract_words.specs.Writes.{Writes};
 ghost use Rattle.bags_themes.specs.string_pool.Shown.{unit_escape};
-ghost use Rattle.answer_text.specs.OnLine.{breaks_line, character_on_line, on_line};
+ghost use Rattle.answer_text.specs.OnLine.{character_on_line, on_line};
 
 use bstr::{ByteSlice, Chars};
+use names::breaks_line;
 use res_value::write_hex;
 use std::io::{self, Write};
 
@@ -52,13 +52,4 @@ fn write_unit<W: Write + Drop>(unit: u16, out: &mut W) -> io::Result<()>
 {
     out.write_all(b"\\u")?;
     write_hex(&unit.to_be_bytes(), out)
-}
-
-/// Whether a character ends a line or turns its direction.
-#[tactic(auto, unfolding(crate::specs::OnLine::breaks_line))]
-pub fn breaks_line(character: char) -> bool
-    ensures breaks { result ≡ breaks_line character }
-    ensures is_unit { result ≡ true → character < 0x1_0000 }
-{
-    matches!(character, '\u{85}' | '\u{2028}'..='\u{202e}' | '\u{2066}'..='\u{2069}')
 }

@@ -7,7 +7,7 @@ ghost use Rattle.bags_themes.specs.string_pool.Pool.{pool_of};
 ghost use Rattle.answer_text.specs.QueryText.{strings_of_layer, strings_of_end, query_line, set_aside_line};
 
 use crate::end::write_end_with_name;
-use crate::name::write_name_beside;
+use crate::name::NamesBeside;
 use bags_themes::{End, Pool, ResId, Stack};
 use res_value::write_id;
 use std::io::{self, Write};
@@ -16,19 +16,18 @@ use std::io::{self, Write};
 /// table of its layer. Where names are asked for, each id is followed by its name.
 #[tactic(auto, unfolding(crate::specs::QueryText::query_line))]
 pub fn query_line<W: Write + Drop>(
-    stack: &Stack<'_>,
+    names: &NamesBeside<'_, '_>,
     id: ResId,
     end: End,
-    names: bool,
     out: &mut W,
 ) -> io::Result<()>
-    ensures { Writes W.contents out.old out.new result (query_line stack.now id.0 end names) }
+    ensures { Writes W.contents out.old out.new result (query_line names.now.stack id.0 end names.now.asked) }
 {
-    let strings = strings_of_end(stack, end);
+    let strings = strings_of_end(names.stack(), end);
     write_id(id, out)?;
-    write_name_beside(stack, id, names, out)?;
+    names.write(id, out)?;
     out.write_all(b" ")?;
-    write_end_with_name(stack, strings, end, names, out)?;
+    write_end_with_name(names, strings, end, out)?;
     out.write_all(b"\n")
 }
 

@@ -1,5 +1,5 @@
 -- What two stacks of layers and a box are compared by.
-use Rattle.std.specs.Prelude.{ℕ, Bool, ◌&&◌, List, Result, Ok}
+use Rattle.std.specs.Prelude.{ℕ, Bool, ◌&&◌, List, ◌++◌, Result, Ok}
 use Rattle.std.specs.Cmp.Lexicographic.{pointwise}
 use Rattle.std.specs.Option.{option_eq}
 use Rattle.std.specs.Str.{bytes_eq}
@@ -13,6 +13,7 @@ use Rattle.command_base.specs.ToolFault.{fault_of_box}
 use Rattle.command_base.specs.StackBytes.{LayerBytes, stack_on_side}
 use Rattle.command_base.specs.MapErr.{map_err}
 use Rattle.stack_diff.specs.Stacks.{StacksOf}
+use Rattle.stack_diff.specs.names.NamedIds.{packages_of}
 
 -- layer by layer the bytes of the tables and of the id maps are the same
 abbrev pub is_same_layer : LayerBytes → LayerBytes → Bool
@@ -35,4 +36,4 @@ diff_inputs_by rule old_bytes new_bytes box_json = do
   old ← stack_on_side Old old_bytes
   new ← stack_on_side New new_bytes
   sets ← map_err fault_of_box (box_in_by rule box_json)
-  Ok (record { stacks = record { old = old; new = new; are_one = have_same_bytes old_bytes new_bytes }; sets = sets; rule = rule })
+  Ok (record { stacks = record { old = old; new = new; packages = packages_of old ++ packages_of new; are_one = have_same_bytes old_bytes new_bytes }; sets = sets; rule = rule })

@@ -5,33 +5,34 @@ use Rattle.std.specs.List.{flat_map, count_by, zip}
 use Rattle.command_base.specs.SetAside.{rows_set_aside}
 use Rattle.stack_diff.specs.config_box.config_record.locales.declared.locale_rule.LocaleRule.{LocaleRule}
 use Rattle.stack_diff.specs.names.Label.{LabelOf}
+use Rattle.stack_diff.specs.names.LabelText.{label_text}
+use Rattle.stack_diff.specs.names.Packages.{PackageNameOf}
 use Rattle.stack_diff.specs.names.Pairs.{PairOf}
 use Rattle.stack_diff.specs.names.Shared.{shared_ids}
 use Rattle.stack_diff.specs.Stacks.{StacksOf}
-use Rattle.stack_diff.specs.LabelText.{label_text}
 use Rattle.diff_command.specs.NameLines.{added_line, removed_line, same_line}
 use Rattle.diff_command.specs.Telling.{ToldOf, RemovedTold, AddedTold, SameTold, ChangedTold}
 
 -- ---- a label
 
 -- `changed LABEL`, and a block behind it
-unfoldable pub changed_block : LabelOf → List ℕ → List ℕ
-changed_block label block = codes "changed " ++ label_text label ++ block
+unfoldable pub changed_block : List PackageNameOf → LabelOf → List ℕ → List ℕ
+changed_block packages label block = codes "changed " ++ label_text packages label ++ block
 
 -- the lines of a label: none where it says the same in both stacks
-unfoldable pub told_lines : LabelOf → ToldOf → List ℕ
-told_lines label RemovedTold = removed_line label
-told_lines label AddedTold = added_line label
-told_lines label SameTold = []
-told_lines label (ChangedTold blocks) = flat_map (changed_block label) blocks
+unfoldable pub told_lines : List PackageNameOf → LabelOf → ToldOf → List ℕ
+told_lines packages label RemovedTold = removed_line packages label
+told_lines packages label AddedTold = added_line packages label
+told_lines packages label SameTold = []
+told_lines packages label (ChangedTold blocks) = flat_map (changed_block packages label) blocks
 
 -- the same of a pair, with what is told of its label
-abbrev pub pair_lines : PairOf × ToldOf → List ℕ
-pair_lines one = told_lines one.0.label one.1
+abbrev pub pair_lines : List PackageNameOf → PairOf × ToldOf → List ℕ
+pair_lines packages one = told_lines packages one.0.label one.1
 
 -- those of all labels, one label after the other
-unfoldable pub label_lines : List PairOf → List ToldOf → List ℕ
-label_lines pairs told = flat_map pair_lines (zip pairs told)
+unfoldable pub label_lines : List PackageNameOf → List PairOf → List ToldOf → List ℕ
+label_lines packages pairs told = flat_map (pair_lines packages) (zip pairs told)
 
 -- ---- labels that say the same
 
@@ -65,4 +66,4 @@ set_aside_line rule stacks = counts_line (codes "set-aside") (rows_set_aside rul
 
 -- the lines of labels, then what holds of the stacks, and then how many labels say the same
 unfoldable pub diff_lines : LocaleRule → StacksOf → List PairOf → List ToldOf → List ℕ
-diff_lines rule stacks pairs told = label_lines pairs told ++ shared_names_line stacks ++ set_aside_line rule stacks ++ same_line (same_count told)
+diff_lines rule stacks pairs told = label_lines stacks.packages pairs told ++ shared_names_line stacks ++ set_aside_line rule stacks ++ same_line (same_count told)

@@ -5,6 +5,7 @@ use Rattle.stack_diff.specs.config_box.box_answers.NumberSet.{SetOf}
 use Rattle.stack_diff.specs.Content.{RowContentOf, ContentOf, ValueOf, BagOf, AbsentOf, TooManyReferencesOf, TooManyParentsOf}
 use Rattle.stack_diff.specs.Difference.{RowDifferenceOf, RowRemoved, RowAdded, RowChanged, DifferenceOf, RowsDiffer, ContentsDiffer}
 use Rattle.stack_diff.specs.ValueText.{value_content_text, key_text}
+use Rattle.stack_diff.specs.names.Packages.{PackageNameOf}
 use Rattle.diff_command.specs.DevicesText.{devices_text}
 use Rattle.diff_command.specs.ContentText.{content_text}
 use Rattle.diff_command.specs.RowsText.{removed_row, added_row}
@@ -12,10 +13,11 @@ use Rattle.diff_command.specs.RowsText.{removed_row, added_row}
 -- ---- rows
 
 -- `  removed KEY VALUE`, `  added KEY VALUE` or `  KEY BEFORE -> AFTER`
-unfoldable pub row_line : RowDifferenceOf → List ℕ
-row_line (RowRemoved row) = removed_row row
-row_line (RowAdded row) = added_row row
-row_line (RowChanged key before after) = codes "  " ++ key_text key ++ codes " " ++ value_content_text before ++ codes " -> " ++ value_content_text after ++ 10 ∷ []
+unfoldable pub row_line : List PackageNameOf → RowDifferenceOf → List ℕ
+row_line packages (RowRemoved row) = removed_row packages row
+row_line packages (RowAdded row) = added_row packages row
+row_line packages (RowChanged key before after) =
+    codes "  " ++ key_text packages key ++ codes " " ++ value_content_text packages before ++ codes " -> " ++ value_content_text packages after ++ 10 ∷ []
 
 -- what is no bag has no rows
 abbrev pub rows_in : ContentOf → List RowContentOf
@@ -26,17 +28,17 @@ rows_in (TooManyReferencesOf label) = []
 rows_in (TooManyParentsOf label) = []
 
 -- those of the rows that differ; of a bag on one side alone all of them
-unfoldable pub row_lines : DifferenceOf → List ℕ
-row_lines (RowsDiffer rows) = flat_map row_line rows
-row_lines (ContentsDiffer before after) = flat_map removed_row (rows_in before) ++ flat_map added_row (rows_in after)
+unfoldable pub row_lines : List PackageNameOf → DifferenceOf → List ℕ
+row_lines packages (RowsDiffer rows) = flat_map (row_line packages) rows
+row_lines packages (ContentsDiffer before after) = flat_map (removed_row packages) (rows_in before) ++ flat_map (added_row packages) (rows_in after)
 
 -- ---- behind `changed LABEL`
 
 -- ` BEFORE -> AFTER`; nothing for two bags, whose rows tell it
-unfoldable pub before_and_after : DifferenceOf → List ℕ
-before_and_after (RowsDiffer rows) = []
-before_and_after (ContentsDiffer before after) = codes " " ++ content_text before ++ codes " -> " ++ content_text after
+unfoldable pub before_and_after : List PackageNameOf → DifferenceOf → List ℕ
+before_and_after packages (RowsDiffer rows) = []
+before_and_after packages (ContentsDiffer before after) = codes " " ++ content_text packages before ++ codes " -> " ++ content_text packages after
 
 -- ` BEFORE -> AFTER on ..`, for the devices of a part of the whole box, and the lines of rows
-unfoldable pub difference_text : DifferenceOf → List SetOf → List SetOf → List ℕ
-difference_text difference whole part = before_and_after difference ++ devices_text whole part ++ 10 ∷ row_lines difference
+unfoldable pub difference_text : List PackageNameOf → DifferenceOf → List SetOf → List SetOf → List ℕ
+difference_text packages difference whole part = before_and_after packages difference ++ devices_text whole part ++ 10 ∷ row_lines packages difference

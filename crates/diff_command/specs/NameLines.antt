@@ -2,15 +2,16 @@
 use Rattle.std.specs.Prelude.{ℕ, List, [], ◌∷◌, ◌++◌, codes}
 use Rattle.std.specs.Fmt.{decimal}
 use Rattle.stack_diff.specs.names.Label.{LabelOf}
-use Rattle.stack_diff.specs.LabelText.{label_text}
+use Rattle.stack_diff.specs.names.LabelText.{label_text}
+use Rattle.stack_diff.specs.names.Packages.{PackageNameOf}
 
 -- the line `added LABEL`
-unfoldable pub added_line : LabelOf → List ℕ
-added_line label = codes "added " ++ label_text label ++ 10 ∷ []
+unfoldable pub added_line : List PackageNameOf → LabelOf → List ℕ
+added_line packages label = codes "added " ++ label_text packages label ++ 10 ∷ []
 
 -- the line `removed LABEL`
-unfoldable pub removed_line : LabelOf → List ℕ
-removed_line label = codes "removed " ++ label_text label ++ 10 ∷ []
+unfoldable pub removed_line : List PackageNameOf → LabelOf → List ℕ
+removed_line packages label = codes "removed " ++ label_text packages label ++ 10 ∷ []
 
 -- the line `same N`
 unfoldable pub same_line : ℕ → List ℕ

@@ -4,6 +4,7 @@ use Rattle.std.specs.Cmp.Lexicographic.{slice_cmp}
 use Rattle.std.specs.List.{AllZip, flat_map, sum}
 use Rattle.std.specs.Ordering.{is_lt, nat_cmp}
 use Rattle.stack_diff.specs.config_box.box_answers.NumberSet.{SetOf}
+use Rattle.stack_diff.specs.names.Packages.{PackageNameOf}
 use Rattle.stack_diff.specs.names.Pairs.{PairOf}
 use Rattle.stack_diff.specs.names.declared.pair.Sides.{Sides}
 use Rattle.stack_diff.specs.names.declared.pair.Sides.TheVariants.{Removed, Added, Both}
@@ -24,26 +25,26 @@ pub data ToldOf : Type 0 where
   ChangedTold : List (List ℕ) → ToldOf
 
 -- a block for each change and each of its boxes
-abbrev pub change_blocks : List SetOf → ChangeOf → List (List ℕ)
-change_blocks whole change = map (difference_text change.difference whole) change.boxes
+abbrev pub change_blocks : List PackageNameOf → List SetOf → ChangeOf → List (List ℕ)
+change_blocks packages whole change = map (difference_text packages change.difference whole) change.boxes
 
 -- byte by byte, and the shorter first where it begins the other
 abbrev pub is_block_before : List ℕ → List ℕ → Bool
 is_block_before block other = is_lt (slice_cmp nat_cmp block other)
 
 -- those of all changes, in the order of their bytes
-unfoldable pub blocks_of : List SetOf → List ChangeOf → List (List ℕ)
-blocks_of whole changes = in_order is_block_before (flat_map (change_blocks whole) changes)
+unfoldable pub blocks_of : List PackageNameOf → List SetOf → List ChangeOf → List (List ℕ)
+blocks_of packages whole changes = in_order is_block_before (flat_map (change_blocks packages whole) changes)
 
-abbrev pub changes_told : List SetOf → List ChangeOf → ToldOf
-changes_told whole [] = SameTold
-changes_told whole (change ∷ changes) = ChangedTold (blocks_of whole (change ∷ changes))
+abbrev pub changes_told : List PackageNameOf → List SetOf → List ChangeOf → ToldOf
+changes_told packages whole [] = SameTold
+changes_told packages whole (change ∷ changes) = ChangedTold (blocks_of packages whole (change ∷ changes))
 
 -- it is right, by what the label stands for: of both stacks all changes are told, in few boxes
 abbrev pub IsTold : StacksOf → List SetOf → Sides → ToldOf → Type 0
 IsTold stacks sets (Removed id) told = told ≡ RemovedTold
 IsTold stacks sets (Added id) told = told ≡ AddedTold
-IsTold stacks sets (Both old new) told = (changes : List ChangeOf) × AreToldShort (differs stacks old new) sets changes × (told ≡ changes_told sets changes)
+IsTold stacks sets (Both old new) told = (changes : List ChangeOf) × AreToldShort (differs stacks old new) sets changes × (told ≡ changes_told stacks.packages sets changes)
 
 -- ---- the limit
 

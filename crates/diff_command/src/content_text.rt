@@ -4,30 +4,44 @@ ghost use Rattle.std.specs.Prelude.{◌++◌};
 ghost use Rattle.contract_words.specs.Writes.{Writes};
 ghost use Rattle.stack_diff.specs.names.Label.{label_of};
 ghost use Rattle.stack_diff.specs.ContentSeen.{content_of};
-ghost use Rattle.stack_diff.specs.LabelText.{label_text};
+ghost use Rattle.stack_diff.specs.names.LabelText.{label_text};
 ghost use Rattle.diff_command.specs.ContentText.{content_text};
 
-use stack_diff::{Content, Label, write_label, write_value_content};
+use stack_diff::{Content, Label, PackageNames, write_value_content};
 use std::io::{self, Write};
 
 #[tactic(auto, unfolding(crate::specs::ContentText::content_text))]
-pub(crate) fn write_content<W: Write + Drop>(content: &Content<'_>, out: &mut W) -> io::Result<()>
-    ensures { Writes W.contents out.old out.new result (content_text (content_of content.now)) }
+pub(crate) fn write_content<W: Write + Drop>(
+    packages: &PackageNames<'_>,
+    content: &Content<'_>,
+    out: &mut W,
+) -> io::Result<()>
+    ensures { Writes W.contents out.old out.new result (content_text packages.now (content_of content.now)) }
 {
     match content {
-        Content::Value(value) => write_value_content(value, out),
+        Content::Value(value) => write_value_content(packages, value, out),
         Content::Bag(_) => out.write_all(b"bag"),
-        Content::Absent(label) => write_with_label(b"absent ", label, out),
+        Content::Absent(label) => write_with_label(packages, b"absent ", label, out),
         Content::TooManyReferences(label) => {
-            write_with_label(b"too many references ", label, out)
+            write_with_label(packages, b"too many references ", label, out)
         }
-        Content::TooManyParents(label) => write_with_label(b"too many parents ", label, out),
+        Content::TooManyParents(label) => write_with_label(
+            packages,
+            b"too many parents ",
+            label,
+            out,
+        ),
     }
 }
 
-fn write_with_label<W: Write + Drop>(words: &[u8], label: &Label<'_>, out: &mut W) -> io::Result<()>
-    ensures { Writes W.contents out.old out.new result (words.now ++ label_text (label_of label.now)) }
+fn write_with_label<W: Write + Drop>(
+    packages: &PackageNames<'_>,
+    words: &[u8],
+    label: &Label<'_>,
+    out: &mut W,
+) -> io::Result<()>
+    ensures { Writes W.contents out.old out.new result (words.now ++ label_text packages.now (label_of label.now)) }
 {
     out.write_all(words)?;
-    write_label(label, out)
+    packages.write_label(label, out)
 }

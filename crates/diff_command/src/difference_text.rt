@@ -11,7 +11,8 @@ use crate::content_text::write_content;
 use crate::devices_text::write_devices;
 use crate::rows_text::{write_added_row, write_added_rows, write_removed_row, write_removed_rows};
 use stack_diff::{
-    ConfigBox, Content, Difference, RowContent, RowDifference, write_row_key, write_value_content,
+    ConfigBox, Content, Difference, PackageNames, RowContent, RowDifference, write_row_key,
+    write_value_content,
 };
 use std::io::{self, Write};
 
@@ -19,78 +20,92 @@ use std::io::{self, Write};
 /// before and after, and a line for each row of a bag that differs.
 ///
 /// ```text
-/// write_difference(&difference, &phones, &german, &mut out)?; //  "Cancel" -> "Cancel!" on locale=de-AT,de-CH,de-DE
+/// write_difference(&packages, &difference, &phones, &german, &mut out)?; //  "Cancel" -> "Cancel!" on locale=de-AT,de-CH,de-DE
 /// ```
 #[tactic(auto, unfolding(crate::specs::DifferenceText::difference_text))]
 pub fn write_difference<W: Write + Drop>(
+    packages: &PackageNames<'_>,
     difference: &Difference<'_>,
     whole: &ConfigBox,
     part: &ConfigBox,
     out: &mut W,
 ) -> io::Result<()>
-    ensures { Writes W.contents out.old out.new result (difference_text (difference_of difference.now) whole.now part.now) }
+    ensures { Writes W.contents out.old out.new result (difference_text packages.now (difference_of difference.now) whole.now part.now) }
 {
-    write_before_and_after(difference, out)?;
+    write_before_and_after(packages, difference, out)?;
     write_devices(whole, part, out)?;
     out.write_all(b"\n")?;
-    write_row_lines(difference, out)
+    write_row_lines(packages, difference, out)
 }
 
 #[tactic(auto, unfolding(crate::specs::DifferenceText::before_and_after))]
 fn write_before_and_after<W: Write + Drop>(
+    packages: &PackageNames<'_>,
     difference: &Difference<'_>,
     out: &mut W,
 ) -> io::Result<()>
-    ensures { Writes W.contents out.old out.new result (before_and_after (difference_of difference.now)) }
+    ensures { Writes W.contents out.old out.new result (before_and_after packages.now (difference_of difference.now)) }
 {
     match difference {
         Difference::Rows(_) => Ok(()),
         Difference::Contents { before, after } => {
             out.write_all(b" ")?;
-            write_content(before, out)?;
+            write_content(packages, before, out)?;
             out.write_all(b" -> ")?;
-            write_content(after, out)
+            write_content(packages, after, out)
         }
     }
 }
 
 #[tactic(auto, unfolding(crate::specs::DifferenceText::row_lines))]
-fn write_row_lines<W: Write + Drop>(difference: &Difference<'_>, out: &mut W) -> io::Result<()>
-    ensures { Writes W.contents out.old out.new result (row_lines (difference_of difference.now)) }
+fn write_row_lines<W: Write + Drop>(
+    packages: &PackageNames<'_>,
+    difference: &Difference<'_>,
+    out: &mut W,
+) -> io::Result<()>
+    ensures { Writes W.contents out.old out.new result (row_lines packages.now (difference_of difference.now)) }
 {
     match difference {
-        Difference::Rows(rows) => write_rows(rows, out),
+        Difference::Rows(rows) => write_rows(packages, rows, out),
         Difference::Contents { before, after } => {
-            write_removed_rows(rows_in(before), out)?;
-            write_added_rows(rows_in(after), out)
+            write_removed_rows(packages, rows_in(before), out)?;
+            write_added_rows(packages, rows_in(after), out)
         }
     }
 }
 
 #[tactic(auto, using(contract_words::proofs::TextSteps::puts_slice))]
-fn write_rows<W: Write + Drop>(rows: &[RowDifference<'_>], out: &mut W) -> io::Result<()>
-    ensures { Writes W.contents out.old out.new result (flat_map row_line (map row_difference_of rows.now)) }
+fn write_rows<W: Write + Drop>(
+    packages: &PackageNames<'_>,
+    rows: &[RowDifference<'_>],
+    out: &mut W,
+) -> io::Result<()>
+    ensures { Writes W.contents out.old out.new result (flat_map (row_line packages.now) (map row_difference_of rows.now)) }
 {
     for row in rows {
-        write_row(row, out)?;
+        write_row(packages, row, out)?;
     }
     Ok(())
 }
 
 #[tactic(auto, unfolding(crate::specs::DifferenceText::row_line))]
-fn write_row<W: Write + Drop>(row: &RowDifference<'_>, out: &mut W) -> io::Result<()>
-    ensures { Writes W.contents out.old out.new result (row_line (row_difference_of row.now)) }
+fn write_row<W: Write + Drop>(
+    packages: &PackageNames<'_>,
+    row: &RowDifference<'_>,
+    out: &mut W,
+) -> io::Result<()>
+    ensures { Writes W.contents out.old out.new result (row_line packages.now (row_difference_of row.now)) }
 {
     match row {
-        RowDifference::Removed(row) => write_removed_row(row, out),
-        RowDifference::Added(row) => write_added_row(row, out),
+        RowDifference::Removed(row) => write_removed_row(packages, row, out),
+        RowDifference::Added(row) => write_added_row(packages, row, out),
         RowDifference::Changed { key, before, after } => {
             out.write_all(b"  ")?;
-            write_row_key(key, out)?;
+            write_row_key(packages, key, out)?;
             out.write_all(b" ")?;
-            write_value_content(before, out)?;
+            write_value_content(packages, before, out)?;
             out.write_all(b" -> ")?;
-            write_value_content(after, out)?;
+            write_value_content(packages, after, out)?;
             out.write_all(b"\n")
         }
     }

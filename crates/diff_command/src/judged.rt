@@ -87,7 +87,7 @@ fn judge_both<'a>(
     let Some(compared) = compare(alloc, stacks, old, new, members, most)? else {
         return Ok(None);
     };
-    let told = Told::of(alloc, members, &compared.changes)?;
+    let told = Told::of(alloc, stacks.packages(), members, &compared.changes)?;
     let nodes = compared.nodes;
     Ok(Some(Judged { told, nodes }))
 }

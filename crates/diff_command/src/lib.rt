@@ -13,8 +13,8 @@
 //! changed string/cancel "Cancel" -> "Cancel!" on locale=de-AT,de-CH,de-DE
 //! changed dimen/margin dimension 4/2^0 dp -> absent dimen/margin on smallestWidthDp=320..599 orientation=2
 //! changed style/Card on sdk=26..30
-//!   android:attr/padding dimension 4/2^0 dp -> dimension 3/2^0 dp
-//!   added attr/accent ?android:attr/colorAccent
+//!   attr/padding dimension 4/2^0 dp -> dimension 3/2^0 dp
+//!   added attr/accent ?attr/colorAccent
 //!   removed attr/shadow true
 //! added string/welcome
 //! removed color/old

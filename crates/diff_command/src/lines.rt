@@ -13,7 +13,7 @@ ghost use Rattle.diff_command.specs.DiffLines.{changed_block, told_lines, label_
 use crate::name_lines::{write_added, write_removed, write_same};
 use crate::told::Told;
 use command_base::{LocaleRule, rows_set_aside};
-use stack_diff::{Label, NamePair, NamedStack, Stacks, write_label};
+use stack_diff::{Label, NamePair, NamedStack, PackageNames, Stacks};
 use std::io::{self, Write};
 
 /// Writes the lines of labels, of which this is told, and those of the stacks.
@@ -27,7 +27,7 @@ pub(crate) fn write_lines<W: Write + Drop>(
 ) -> io::Result<()>
     ensures { Writes W.contents out.old out.new result (diff_lines rule (stacks_of stacks.entry) (map pair_of pairs.now) (map told_of told.now)) }
 {
-    write_labels(pairs, told, out)?;
+    write_labels(stacks.packages(), pairs, told, out)?;
     write_shared_names(stacks, out)?;
     write_set_aside(rule, stacks, out)?;
     write_same(same_count(told), out)
@@ -37,50 +37,62 @@ pub(crate) fn write_lines<W: Write + Drop>(
 
 #[tactic(auto, unfolding(crate::specs::DiffLines::label_lines), using(contract_words::proofs::TextSteps::puts))]
 fn write_labels<W: Write + Drop>(
+    packages: &PackageNames<'_>,
     pairs: &[NamePair<'_>],
     told: &[Told],
     out: &mut W,
 ) -> io::Result<()>
-    ensures { Writes W.contents out.old out.new result (label_lines (map pair_of pairs.now) (map told_of told.now)) }
+    ensures { Writes W.contents out.old out.new result (label_lines packages.now (map pair_of pairs.now) (map told_of told.now)) }
 {
     for (pair, one) in pairs.iter().zip(told) {
-        write_told(&pair.label, one, out)?;
+        write_told(packages, &pair.label, one, out)?;
     }
     Ok(())
 }
 
 #[tactic(auto, unfolding(crate::specs::DiffLines::told_lines))]
-fn write_told<W: Write + Drop>(label: &Label<'_>, told: &Told, out: &mut W) -> io::Result<()>
-    ensures { Writes W.contents out.old out.new result (told_lines (label_of label.now) (told_of told.now)) }
+fn write_told<W: Write + Drop>(
+    packages: &PackageNames<'_>,
+    label: &Label<'_>,
+    told: &Told,
+    out: &mut W,
+) -> io::Result<()>
+    ensures { Writes W.contents out.old out.new result (told_lines packages.now (label_of label.now) (told_of told.now)) }
 {
     match told {
-        Told::Removed => write_removed(label, out),
-        Told::Added => write_added(label, out),
+        Told::Removed => write_removed(packages, label, out),
+        Told::Added => write_added(packages, label, out),
         Told::Same => Ok(()),
-        Told::Changed(blocks) => write_blocks(label, blocks, out),
+        Told::Changed(blocks) => write_blocks(packages, label, blocks, out),
     }
 }
 
 #[tactic(auto, using(contract_words::proofs::TextSteps::puts_slice))]
 fn write_blocks<W: Write + Drop>(
+    packages: &PackageNames<'_>,
     label: &Label<'_>,
     blocks: &[Vec<u8>],
     out: &mut W,
 ) -> io::Result<()>
-    ensures { Writes W.contents out.old out.new result (flat_map (changed_block (label_of label.now)) (map (λ block. block.items) blocks.now)) }
+    ensures { Writes W.contents out.old out.new result (flat_map (changed_block packages.now (label_of label.now)) (map (λ block. block.items) blocks.now)) }
 {
     for block in blocks {
-        write_block(label, block, out)?;
+        write_block(packages, label, block, out)?;
     }
     Ok(())
 }
 
 #[tactic(auto, unfolding(crate::specs::DiffLines::changed_block))]
-fn write_block<W: Write + Drop>(label: &Label<'_>, block: &[u8], out: &mut W) -> io::Result<()>
-    ensures { Writes W.contents out.old out.new result (changed_block (label_of label.now) block.now) }
+fn write_block<W: Write + Drop>(
+    packages: &PackageNames<'_>,
+    label: &Label<'_>,
+    block: &[u8],
+    out: &mut W,
+) -> io::Result<()>
+    ensures { Writes W.contents out.old out.new result (changed_block packages.now (label_of label.now) block.now) }
 {
     out.write_all(b"changed ")?;
-    write_label(label, out)?;
+    packages.write_label(label, out)?;
     out.write_all(block)
 }
 

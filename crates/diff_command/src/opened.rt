@@ -11,7 +11,7 @@ ghost use Rattle.diff_command.specs.DiffInputs.{have_same_bytes, diff_inputs_by}
 
 use command_base::{LayerParts, LocaleRule, NamedSet, Side, ToolFault, open_side};
 use names::{NameFault, pairs_named};
-use stack_diff::{ConfigBox, NamePair, NamedStack, Stack, Stacks, name_pairs};
+use stack_diff::{ConfigBox, NamePair, NamedStack, PackageNames, Stack, Stacks, name_pairs};
 use std::alloc::{AllocError, Global};
 
 /// The layers before a change and those after it, and the box.
@@ -25,16 +25,18 @@ pub struct OpenedDiff<'a> {
     rule: LocaleRule,
 }
 
-/// The same, with the names of both stacks.
+/// The same, with the names and the packages of both stacks.
 #[derive(Drop)]
 pub struct NamedDiff<'o, 'a> {
     old: NamedStack<'o, 'a>,
     changed: Option<NamedStack<'o, 'a>>,
+    packages: PackageNames<'a>,
     pub(crate) members: &'o ConfigBox,
     pub(crate) rule: LocaleRule,
 }
 
 impl<'a> OpenedDiff<'a> {
+    ghost use Rattle.std.specs.Prelude.{unwrap_or};
     ghost use Rattle.diff_command.specs.OpenedSeen.{named_diff, opened_diff};
 
     /// Opens the old layers, then the new ones, and then reads the box, whose locales are read and compared by a rule.
@@ -60,6 +62,15 @@ impl<'a> OpenedDiff<'a> {
         })
     }
 
+    fn new_stack(&self) -> &Stack<'a>
+        ensures { result.now ≡ unwrap_or self.now.changed self.now.old }
+    {
+        match &self.changed {
+            Some(stack) => stack,
+            None => &self.old,
+        }
+    }
+
     /// Notes the names of both stacks, in one walk over the rows of each.
     pub fn named(&self, alloc: Global) -> Result<NamedDiff<'_, 'a>, AllocError>
         ensures { IfOk result (λ named. named_diff named ≡ opened_diff self.now) }
@@ -69,9 +80,11 @@ impl<'a> OpenedDiff<'a> {
             Some(stack) => Some(NamedStack::of(alloc, stack)?),
             None => None,
         };
+        let packages = PackageNames::of_both(alloc, &self.old, self.new_stack())?;
         Ok(NamedDiff {
             old,
             changed,
+            packages,
             members: &self.members,
             rule: self.rule,
         })
@@ -91,8 +104,8 @@ impl<'o, 'a> NamedDiff<'o, 'a> {
         ensures { stacks_of result ≡ (named_diff self.now).stacks }
     {
         match &self.changed {
-            Some(changed) => Stacks::two(&self.old, changed),
-            None => Stacks::one(&self.old),
+            Some(changed) => Stacks::two(&self.old, changed, &self.packages),
+            None => Stacks::one(&self.old, &self.packages),
         }
     }
 

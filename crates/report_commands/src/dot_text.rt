@@ -14,8 +14,8 @@ use crate::goal_text::write_goal_head;
 use crate::node_text::write_node_label;
 use crate::path_end::LastAnswer;
 use crate::tree_lines::{TreeLine, tree_lines};
-use answer_text::write_on_line;
-use command_base::{CertGoal, Goal, Node, Stack};
+use answer_text::{StackNames, write_on_line};
+use command_base::{CertGoal, Goal, Node};
 use std::alloc::{AllocError, Global};
 use std::io::{self, Write};
 
@@ -26,7 +26,7 @@ const MOST_OF_A_LABEL: usize = 2000;
 #[tactic(auto, unfolding(crate::specs::DotText::dot_text))]
 pub(crate) fn dot_text(
     alloc: Global,
-    stack: &Stack<'_>,
+    stack: &StackNames<'_, '_>,
     number: usize,
     goal: &CertGoal,
 ) -> Result<Vec<u8>, AllocError>
@@ -41,7 +41,7 @@ pub(crate) fn dot_text(
 
 fn head_of(
     alloc: Global,
-    stack: &Stack<'_>,
+    stack: &StackNames<'_, '_>,
     number: usize,
     goal: &Goal,
 ) -> Result<Vec<u8>, AllocError>
@@ -70,7 +70,7 @@ fn on_line(alloc: Global, text: &[u8]) -> Result<Vec<u8>, AllocError>
 
 fn goal_label(
     alloc: Global,
-    stack: &Stack<'_>,
+    stack: &StackNames<'_, '_>,
     number: usize,
     goal: &Goal,
 ) -> Result<Vec<u8>, AllocError>
@@ -98,7 +98,7 @@ fn write_head<W: Write + Drop>(label: &[u8], out: &mut W) -> io::Result<()>
 #[tactic(auto, using(contract_words::proofs::TextSteps::puts_slice))]
 fn push_lines(
     alloc: Global,
-    stack: &Stack<'_>,
+    stack: &StackNames<'_, '_>,
     lines: &[TreeLine<'_>],
     text: &mut Vec<u8>,
 ) -> Result<(), AllocError>
@@ -113,7 +113,7 @@ fn push_lines(
 // The label is put together first, since characters of it are written otherwise between quotation marks.
 fn push_line(
     alloc: Global,
-    stack: &Stack<'_>,
+    stack: &StackNames<'_, '_>,
     line: &TreeLine<'_>,
     text: &mut Vec<u8>,
 ) -> Result<(), AllocError>
@@ -128,7 +128,11 @@ fn push_line(
     }
 }
 
-fn label_of(alloc: Global, stack: &Stack<'_>, line: &TreeLine<'_>) -> Result<Vec<u8>, AllocError>
+fn label_of(
+    alloc: Global,
+    stack: &StackNames<'_, '_>,
+    line: &TreeLine<'_>,
+) -> Result<Vec<u8>, AllocError>
     ensures { IfOk result (λ label. label.items ≡ line_label stack.now (line_of line.now)) }
 {
     let mut label = Vec::new(alloc);
@@ -141,7 +145,7 @@ fn label_of(alloc: Global, stack: &Stack<'_>, line: &TreeLine<'_>) -> Result<Vec
 
 #[tactic(auto, unfolding(crate::specs::DotText::line_label))]
 fn write_line_label<W: Write + Drop>(
-    stack: &Stack<'_>,
+    stack: &StackNames<'_, '_>,
     line: &TreeLine<'_>,
     out: &mut W,
 ) -> io::Result<()>
@@ -156,7 +160,7 @@ fn write_line_label<W: Write + Drop>(
 
 #[tactic(auto, unfolding(crate::specs::DotText::unreached_label))]
 fn write_unreached_label<W: Write + Drop>(
-    stack: &Stack<'_>,
+    stack: &StackNames<'_, '_>,
     node: &Node,
     out: &mut W,
 ) -> io::Result<()>

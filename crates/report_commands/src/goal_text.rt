@@ -5,14 +5,14 @@ ghost use Rattle.contract_words.specs.Writes.{Writes};
 ghost use Rattle.command_base.specs.cert_tree.res_value.Goal.{goal_seen};
 ghost use Rattle.report_commands.specs.TreeText.{style_text, asked_text, goal_head, goal_line};
 
-use answer_text::{write_id, write_its_name};
-use command_base::{Goal, ResId, Stack};
+use answer_text::{StackNames, write_id, write_its_name};
+use command_base::{Goal, ResId};
 use std::io::{self, Write};
 
 /// Writes the line of a goal: its number, what it asks and how many nodes it has.
 #[tactic(auto, unfolding(crate::specs::TreeText::goal_line))]
 pub(crate) fn write_goal_line<W: Write + Drop>(
-    stack: &Stack<'_>,
+    stack: &StackNames<'_, '_>,
     number: usize,
     goal: &Goal,
     nodes: usize,
@@ -27,7 +27,7 @@ pub(crate) fn write_goal_line<W: Write + Drop>(
 /// Writes the number of a goal and what it asks.
 #[tactic(auto, unfolding(crate::specs::TreeText::goal_head))]
 pub(crate) fn write_goal_head<W: Write + Drop>(
-    stack: &Stack<'_>,
+    stack: &StackNames<'_, '_>,
     number: usize,
     goal: &Goal,
     out: &mut W,
@@ -39,7 +39,11 @@ pub(crate) fn write_goal_head<W: Write + Drop>(
 }
 
 #[tactic(auto, unfolding(crate::specs::TreeText::asked_text))]
-fn write_asked<W: Write + Drop>(stack: &Stack<'_>, goal: &Goal, out: &mut W) -> io::Result<()>
+fn write_asked<W: Write + Drop>(
+    stack: &StackNames<'_, '_>,
+    goal: &Goal,
+    out: &mut W,
+) -> io::Result<()>
     ensures { Writes W.contents out.old out.new result (asked_text stack.now (goal_seen goal.now)) }
 {
     match goal {
@@ -57,7 +61,11 @@ fn write_asked<W: Write + Drop>(stack: &Stack<'_>, goal: &Goal, out: &mut W) -> 
 }
 
 #[tactic(auto, using(contract_words::proofs::TextSteps::puts))]
-fn write_styles<W: Write + Drop>(stack: &Stack<'_>, styles: &[ResId], out: &mut W) -> io::Result<()>
+fn write_styles<W: Write + Drop>(
+    stack: &StackNames<'_, '_>,
+    styles: &[ResId],
+    out: &mut W,
+) -> io::Result<()>
     ensures { Writes W.contents out.old out.new result (flat_map (style_text stack.now) styles.now) }
 {
     for style in styles {
@@ -67,7 +75,11 @@ fn write_styles<W: Write + Drop>(stack: &Stack<'_>, styles: &[ResId], out: &mut 
 }
 
 #[tactic(auto, unfolding(crate::specs::TreeText::style_text))]
-fn write_style<W: Write + Drop>(stack: &Stack<'_>, style: ResId, out: &mut W) -> io::Result<()>
+fn write_style<W: Write + Drop>(
+    stack: &StackNames<'_, '_>,
+    style: ResId,
+    out: &mut W,
+) -> io::Result<()>
     ensures { Writes W.contents out.old out.new result (style_text stack.now style) }
 {
     out.write_all(b" ")?;

@@ -10,7 +10,8 @@ ghost use Rattle.report_commands.specs.TreeText.{else_text, behind_text, path_te
 use crate::node_text::write_node;
 use crate::path_end::{LastAnswer, MOST_DEPTH, PathEnd};
 use crate::tree_lines::TreeLine;
-use command_base::{Node, Stack};
+use answer_text::StackNames;
+use command_base::Node;
 use std::io::{self, Write};
 
 /// Two spaces for each answer yes.
@@ -19,7 +20,7 @@ const SPACES: &[u8; 64] = b"                                                    
 /// Writes the lines of a tree.
 #[tactic(auto, using(contract_words::proofs::TextSteps::puts_slice))]
 pub(crate) fn write_lines<W: Write + Drop>(
-    stack: &Stack<'_>,
+    stack: &StackNames<'_, '_>,
     lines: &[TreeLine<'_>],
     out: &mut W,
 ) -> io::Result<()>
@@ -33,7 +34,7 @@ pub(crate) fn write_lines<W: Write + Drop>(
 
 #[tactic(auto, unfolding(crate::specs::TreeText::line_text))]
 fn write_line<W: Write + Drop>(
-    stack: &Stack<'_>,
+    stack: &StackNames<'_, '_>,
     line: &TreeLine<'_>,
     out: &mut W,
 ) -> io::Result<()>
@@ -50,7 +51,7 @@ fn write_line<W: Write + Drop>(
 
 #[tactic(auto, unfolding(crate::specs::TreeText::node_line))]
 fn write_node_line<W: Write + Drop>(
-    stack: &Stack<'_>,
+    stack: &StackNames<'_, '_>,
     number: usize,
     path: PathEnd,
     node: &Node,
@@ -66,7 +67,7 @@ fn write_node_line<W: Write + Drop>(
 
 #[tactic(auto, unfolding(crate::specs::TreeText::unreached_line))]
 fn write_unreached<W: Write + Drop>(
-    stack: &Stack<'_>,
+    stack: &StackNames<'_, '_>,
     number: usize,
     node: &Node,
     out: &mut W,

@@ -7,14 +7,14 @@ ghost use Rattle.command_base.specs.cert_tree.Certificate.{node_of};
 ghost use Rattle.report_commands.specs.TreeText.{no_layer, value_text, bag_text, node_label, if_text, node_text};
 
 use crate::test_text::write_test;
-use answer_text::{end_text, strings_of_layer, write_end_with_string, write_its_name};
-use command_base::{End, Node, Pool, ResId, Stack, Value};
+use answer_text::{StackNames, end_text, strings_of_layer, write_end_with_string, write_its_name};
+use command_base::{End, Node, Pool, ResId, Value};
 use std::io::{self, Write};
 
 /// Writes a node for a line of a tree.
 #[tactic(auto, unfolding(crate::specs::TreeText::node_text))]
 pub(crate) fn write_node<W: Write + Drop>(
-    stack: &Stack<'_>,
+    stack: &StackNames<'_, '_>,
     node: &Node,
     out: &mut W,
 ) -> io::Result<()>
@@ -38,7 +38,7 @@ fn write_if<W: Write + Drop>(node: &Node, out: &mut W) -> io::Result<()>
 /// table of its layer, and a bag by its name.
 #[tactic(auto, unfolding(crate::specs::TreeText::node_label))]
 pub(crate) fn write_node_label<W: Write + Drop>(
-    stack: &Stack<'_>,
+    stack: &StackNames<'_, '_>,
     node: &Node,
     out: &mut W,
 ) -> io::Result<()>
@@ -47,7 +47,7 @@ pub(crate) fn write_node_label<W: Write + Drop>(
     match node {
         Node::Test(test) => write_test(test, out),
         Node::Value { layer, value } => {
-            write_value(strings_of_layer(stack, *layer), *layer, *value, out)
+            write_value(strings_of_layer(stack.stack(), *layer), *layer, *value, out)
         }
         Node::Bag { id } => write_bag(stack, *id, out),
     }
@@ -77,7 +77,7 @@ fn write_no_layer<W: Write + Drop>(strings: Option<Pool<'_>>, out: &mut W) -> io
 }
 
 #[tactic(auto, unfolding(crate::specs::TreeText::bag_text))]
-fn write_bag<W: Write + Drop>(stack: &Stack<'_>, id: ResId, out: &mut W) -> io::Result<()>
+fn write_bag<W: Write + Drop>(stack: &StackNames<'_, '_>, id: ResId, out: &mut W) -> io::Result<()>
     ensures { Writes W.contents out.old out.new result (bag_text stack.now id) }
 {
     end_text(End::Bag { id }, out)?;

@@ -22,7 +22,7 @@ use crate::goal_text::write_goal_line;
 use crate::line_text::write_lines;
 use crate::numbered_goal::NumberedGoal;
 use crate::numbered_goals::numbered_goals;
-use answer_text::write_on_line;
+use answer_text::{StackNames, write_on_line};
 use command_base::{
     Cert, CertGoal, Inputs, LayerFiles, LayerParts, LocaleRule, Stack, Status, Stop, ToolFault,
     file_bytes, open_stack,
@@ -159,7 +159,8 @@ impl<'a> OpenedTrees<'a> {
     pub fn show<W: Write + Drop>(&self, alloc: Global, out: &mut W) -> Result<Status, ToolFault>
         ensures { Prints W.contents out.old out.new result (Ok (show_answer (opened_trees self.now))) }
     {
-        let text = certificate_text(alloc, &self.stack, self.certificate.goals.as_slice())?;
+        let names = StackNames::of(alloc, &self.stack)?;
+        let text = certificate_text(alloc, &names, self.certificate.goals.as_slice())?;
         write_on_line(&text, out)?;
         Ok(Status::Done)
     }
@@ -175,7 +176,8 @@ impl<'a> OpenedTrees<'a> {
     {
         match self.certificate.goals.as_slice().get(goal) {
             Some(tree) => {
-                let text = dot_text(alloc, &self.stack, goal, tree)?;
+                let names = StackNames::of(alloc, &self.stack)?;
+                let text = dot_text(alloc, &names, goal, tree)?;
                 out.write_all(&text)?;
                 Ok(Status::Done)
             }
@@ -198,7 +200,7 @@ fn write_no_goal<W: Write + Drop>(goal: usize, out: &mut W) -> io::Result<()>
 #[tactic(auto, unfolding(crate::specs::TreeText::certificate_text))]
 fn certificate_text(
     alloc: Global,
-    stack: &Stack<'_>,
+    stack: &StackNames<'_, '_>,
     goals: &[CertGoal],
 ) -> Result<Vec<u8>, AllocError>
     ensures { IfOk result (λ text. text.items ≡ certificate_text stack.now (map goal_of goals.now)) }
@@ -213,7 +215,7 @@ fn certificate_text(
 }
 
 fn write_certificate<W: Write + Drop>(
-    stack: &Stack<'_>,
+    stack: &StackNames<'_, '_>,
     goals: &[NumberedGoal<'_>],
     count: usize,
     out: &mut W,
@@ -226,7 +228,7 @@ fn write_certificate<W: Write + Drop>(
 
 #[tactic(auto, using(contract_words::proofs::TextSteps::puts_slice))]
 fn write_goals<W: Write + Drop>(
-    stack: &Stack<'_>,
+    stack: &StackNames<'_, '_>,
     goals: &[NumberedGoal<'_>],
     out: &mut W,
 ) -> io::Result<()>
@@ -240,7 +242,7 @@ fn write_goals<W: Write + Drop>(
 
 #[tactic(auto, unfolding(crate::specs::TreeText::goal_text))]
 fn write_goal<W: Write + Drop>(
-    stack: &Stack<'_>,
+    stack: &StackNames<'_, '_>,
     goal: &NumberedGoal<'_>,
     out: &mut W,
 ) -> io::Result<()>

@@ -5,3 +5,4 @@ pub mod FirstChecked
 pub mod MakeSteps
 pub mod OmitSteps
 pub mod Told
+pub use Rattle.names.proofs as names_proofs

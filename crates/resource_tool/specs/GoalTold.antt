@@ -1,5 +1,5 @@
 -- The goal that an answer is about, in words.
-use Rattle.std.specs.Prelude.{ℕ, Bool, true, List, [], ◌∷◌, ◌++◌, codes, slice_get, Option, Some, None, if◌then◌else◌}
+use Rattle.std.specs.Prelude.{ℕ, Bool, List, [], ◌∷◌, ◌++◌, codes, slice_get, Option, Some, None, if◌then◌else◌}
 use Rattle.std.specs.Fmt.{decimal}
 use Rattle.resource_text.specs.cert_maker.res_value.Goal.{GoalSeen, IdGoal, AttrGoal}
 use Rattle.table_commands.specs.overlay_map.Layer.{LayerOf}
@@ -7,8 +7,8 @@ use Rattle.table_commands.specs.answer_text.GoalText as text
 
 -- the word of a goal, and the names of its ids
 unfoldable pub named_words : List LayerOf → GoalSeen → List ℕ
-named_words stack (IdGoal id) = text.goal_words stack id.0 [] true
-named_words stack (AttrGoal attr styles) = text.goal_words stack attr.0 styles true
+named_words stack (IdGoal id) = text.goal_words stack id.0 []
+named_words stack (AttrGoal attr styles) = text.goal_words stack attr.0 styles
 
 -- the line `goal G WORD NAMES`; goals are counted from 0
 unfoldable pub goal_line : List LayerOf → ℕ → GoalSeen → List ℕ

@@ -1,5 +1,5 @@
 -- What the command `make` prints where it leaves goals out.
-use Rattle.std.specs.Prelude.{◌≡◌, ◌⊎◌, ℕ, ◌≤◌, List, [], ◌∷◌, ◌++◌, true, codes, Option, Some, Result, Ok}
+use Rattle.std.specs.Prelude.{◌≡◌, ◌⊎◌, ℕ, ◌≤◌, List, [], ◌∷◌, ◌++◌, codes, Option, Some, Result, Ok}
 use Rattle.std.specs.Io.KnownBytes.{Appends}
 use Rattle.std.specs.List.{All, flat_map}
 use Rattle.table_commands.specs.config_record.DeviceSeen.{device_numbers}
@@ -16,14 +16,14 @@ use Rattle.table_commands.specs.command_base.declared.fault.ToolFault.{ToolFault
 use Rattle.table_commands.specs.command_base.declared.status.Status.TheVariants.{Done, Negative}
 use Rattle.table_commands.specs.command_base.Output.{Output}
 use Rattle.table_commands.specs.MapOutput.{MapOutput}
-use Rattle.resource_tool.specs.GoalTold.{goal_told}
+use Rattle.resource_tool.specs.GoalTold.{line_about}
 use Rattle.resource_tool.specs.MakeOutput.{MakeInputs, IsReadAccepted, certificate_line, made_output}
 
 -- ---- what is left out
 
 -- the line `omitted goal G WORDS`, a device for which that goal ends at no value, and that end
 unfoldable pub omitted_text : List LayerOf → List GoalSeen → Omitted → List ℕ
-omitted_text stack asked o = codes "omitted " ++ goal_told stack asked true (Some o.goal) ++ device_with_end (device_numbers o.device) o.ending
+omitted_text stack asked o = codes "omitted " ++ line_about stack asked (Some o.goal) ++ device_with_end (device_numbers o.device) o.ending
 
 abbrev pub lines_of : List LayerOf → List GoalSeen → List Omitted → List ℕ
 lines_of stack asked omitted = flat_map (omitted_text stack asked) omitted

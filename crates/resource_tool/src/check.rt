@@ -17,7 +17,7 @@ ghost use Rattle.table_commands.specs.command_base.CarriesOut.{IsKept};
 
 use crate::box_files::BoxFiles;
 use crate::goal_told::write_goal_told;
-use answer_text::set_aside_line;
+use answer_text::{NamesBeside, set_aside_line};
 use cert_checker::check;
 use command_base::{
     Inputs, LayerFiles, LayerParts, LocaleRule, Stack, Status, Stop, ToolFault, asked_goals,
@@ -251,10 +251,11 @@ impl<'a> OpenedCert<'a> {
         ensures prints { PrintsOneOf (IsCheckOutput (map goal_seen goals.now)) W.contents out.old out.new result (Ok (opened_cert self.now)) }
         ensures quiet { names ≡ false → errors.new ≡ errors.old }
     {
+        let names = NamesBeside::of(alloc, &self.stack, names)?;
         let verdict = check(alloc, &self.stack, &self.members, goals, &self.certificate)?;
         write_verdict(&verdict, self, out)?;
         let about = goal_of_verdict(&verdict);
-        write_goal_told(&self.stack, goals, names, about, errors)?;
+        write_goal_told(&names, goals, about, errors)?;
         Ok(status_of_verdict(verdict))
     }
 }

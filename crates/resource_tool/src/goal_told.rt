@@ -5,8 +5,7 @@ ghost use Rattle.contract_words.specs.Writes.{Writes};
 ghost use Rattle.resource_text.specs.cert_maker.res_value.Goal.{goal_seen};
 ghost use Rattle.resource_tool.specs.GoalTold.{named_words, goal_line, line_about, goal_told};
 
-use answer_text::write_goal_words;
-use command_base::Stack;
+use answer_text::{NamesBeside, StackNames, write_goal_words};
 use resource_text::Goal;
 use std::io::{self, Write};
 
@@ -14,25 +13,24 @@ use std::io::{self, Write};
 /// ids. Nothing is written where the answer is about none, or the list has no such place.
 #[tactic(auto, unfolding(crate::specs::GoalTold::goal_told))]
 pub fn write_goal_told<W: Write + Drop>(
-    stack: &Stack<'_>,
+    names: &NamesBeside<'_, '_>,
     goals: &[Goal],
-    names: bool,
     about: Option<usize>,
     out: &mut W,
 ) -> io::Result<()>
-    ensures text { Writes W.contents out.old out.new result (goal_told stack.now (map goal_seen goals.now) names about) }
-    ensures quiet { names ≡ false → out.new ≡ out.old }
+    ensures text { Writes W.contents out.old out.new result (goal_told names.now.stack (map goal_seen goals.now) names.now.asked about) }
+    ensures quiet { names.now.asked ≡ false → out.new ≡ out.old }
 {
-    if names {
-        write_line_about(stack, goals, about, out)
-    } else {
-        Ok(())
+    match names.names() {
+        Some(names) => write_line_about(names, goals, about, out),
+        None => Ok(()),
     }
 }
 
+/// The same of any answer.
 #[tactic(auto, unfolding(crate::specs::GoalTold::line_about, crate::specs::GoalTold::line_of))]
-fn write_line_about<W: Write + Drop>(
-    stack: &Stack<'_>,
+pub fn write_line_about<W: Write + Drop>(
+    stack: &StackNames<'_, '_>,
     goals: &[Goal],
     about: Option<usize>,
     out: &mut W,
@@ -50,7 +48,7 @@ fn write_line_about<W: Write + Drop>(
 
 #[tactic(auto, unfolding(crate::specs::GoalTold::goal_line))]
 fn write_goal_line<W: Write + Drop>(
-    stack: &Stack<'_>,
+    stack: &StackNames<'_, '_>,
     place: usize,
     goal: &Goal,
     out: &mut W,
@@ -63,11 +61,15 @@ fn write_goal_line<W: Write + Drop>(
 }
 
 #[tactic(auto, unfolding(crate::specs::GoalTold::named_words))]
-fn write_named_words<W: Write + Drop>(stack: &Stack<'_>, goal: &Goal, out: &mut W) -> io::Result<()>
+fn write_named_words<W: Write + Drop>(
+    stack: &StackNames<'_, '_>,
+    goal: &Goal,
+    out: &mut W,
+) -> io::Result<()>
     ensures { Writes W.contents out.old out.new result (named_words stack.now (goal_seen goal.now)) }
 {
     match goal {
-        Goal::Id(id) => write_goal_words(stack, *id, &[], true, out),
-        Goal::Attr { attr, styles } => write_goal_words(stack, *attr, styles, true, out),
+        Goal::Id(id) => write_goal_words(stack, *id, &[], out),
+        Goal::Attr { attr, styles } => write_goal_words(stack, *attr, styles, out),
     }
 }

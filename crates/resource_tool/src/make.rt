@@ -26,6 +26,7 @@ use crate::box_files::GoalFiles;
 use crate::goal_told::write_goal_told;
 use crate::opened_box::OpenedBox;
 use crate::progress::{ProgressLine, Watch};
+use answer_text::NamesBeside;
 use cert_maker::make_watched;
 use command_base::{
     Device, End, Inputs, LayerParts, LocaleRule, Stack, Status, Stop, ToolFault, asked_goals,
@@ -168,6 +169,7 @@ impl<'a> OpenMake<'a> {
     {
         let opened = &self.opened;
         let goals = self.goals.as_slice();
+        let beside = NamesBeside::of(alloc, &opened.stack, names)?;
         let answered = if watch.is_terminal {
             let mut line = ProgressLine::new(errors, watch.clock);
             let answered = opened.make_telling(alloc, goals, max_nodes, &mut line, out);
@@ -176,7 +178,7 @@ impl<'a> OpenMake<'a> {
         } else {
             opened.make_telling(alloc, goals, max_nodes, &mut Unwatched, out)?
         };
-        write_goal_told(&opened.stack, goals, names, answered.about, errors)?;
+        write_goal_told(&beside, goals, answered.about, errors)?;
         Ok(answered.status)
     }
 
@@ -300,8 +302,9 @@ impl<'a> OpenedBox<'a> {
         ensures prints { PrintsOneOf (IsMakeOutput (map goal_seen goals.now) max_nodes) W.contents out.old out.new result (Ok (opened_box self.now)) }
         ensures quiet { names ≡ false → errors.new ≡ errors.old }
     {
+        let names = NamesBeside::of(alloc, &self.stack, names)?;
         let answered = self.make_telling(alloc, goals, max_nodes, progress, out)?;
-        write_goal_told(&self.stack, goals, names, answered.about, errors)?;
+        write_goal_told(&names, goals, answered.about, errors)?;
         Ok(answered.status)
     }
 

@@ -10,9 +10,10 @@ ghost use Rattle.resource_tool.specs.OmitOutput.{IsOmitOutput, LinesFirst, ToldF
 ghost use Rattle.resource_tool.specs.LineReadsBack.{OmittingReadsBack, UnlessMemory};
 ghost use Rattle.resource_tool.specs.OpenedSeen.{opened_box};
 
-use crate::goal_told::write_goal_told;
+use crate::goal_told::write_line_about;
 use crate::make::{certificate_text, write_line};
 use crate::opened_box::OpenedBox;
+use answer_text::StackNames;
 use cert_maker::make_omitting;
 use command_base::{Stack, Status, ToolFault};
 use resource_text::{Goal, Omitted, Omitting, Progress, device_with_end};
@@ -80,7 +81,8 @@ fn print_kept<W: Write + Drop, E: Write + Drop>(
             omitted,
         } => {
             let text = certificate_text(alloc, certificate)?;
-            write_omitted(stack, goals, omitted, errors)?;
+            let names = StackNames::of(alloc, stack)?;
+            write_omitted(&names, goals, omitted, errors)?;
             if certificate.goals.is_empty() {
                 return Ok(Status::Negative);
             }
@@ -96,7 +98,7 @@ fn print_kept<W: Write + Drop, E: Write + Drop>(
 
 #[tactic(auto, using(contract_words::proofs::TextSteps::puts))]
 fn write_omitted<E: Write + Drop>(
-    stack: &Stack<'_>,
+    stack: &StackNames<'_, '_>,
     goals: &[Goal],
     omitted: &[Omitted],
     errors: &mut E,
@@ -111,7 +113,7 @@ fn write_omitted<E: Write + Drop>(
 
 #[tactic(auto, unfolding(crate::specs::OmitOutput::omitted_text))]
 fn write_left_out<E: Write + Drop>(
-    stack: &Stack<'_>,
+    stack: &StackNames<'_, '_>,
     goals: &[Goal],
     left_out: &Omitted,
     errors: &mut E,
@@ -119,6 +121,6 @@ fn write_left_out<E: Write + Drop>(
     ensures { Writes E.contents errors.old errors.new result (omitted_text stack.now (map goal_seen goals.now) left_out.now) }
 {
     errors.write_all(b"omitted ")?;
-    write_goal_told(stack, goals, true, Some(left_out.goal), errors)?;
+    write_line_about(stack, goals, Some(left_out.goal), errors)?;
     device_with_end(&left_out.device, left_out.ending, errors)
 }

@@ -7,14 +7,12 @@ use Rattle.std.proofs.lemmas.Bool.Decides.{nat_tests}
 use Rattle.contract_words.specs.Sequences.{joined, joined_each}
 use Rattle.res_value.proofs.IdText.{id_of-id_text}
 use Rattle.res_value.specs.ResId.{id_text}
-use Rattle.resource_tool.specs.command_base.answer_text.overlay_map.Layer.{LayerOf}
 use Rattle.resource_tool.specs.command_base.answer_text.res_value.declared.res_id.ResId.{ResId}
-use Rattle.resource_tool.specs.command_base.answer_text.GoalText.{next_style, under_styles, style_names, goal_words}
-use Rattle.resource_tool.specs.command_base.answer_text.NameText.{name_beside}
+use Rattle.resource_tool.specs.command_base.answer_text.GoalText.{next_style, under_styles, goal_word}
 use Rattle.res_value.specs.Goal.{most_styles, is_at_sign, is_comma, under_styles as styles_of_word, goal_word_in, id_in, listed_id, ids_in, goal_of_parts, goal_in}
 use Rattle.resource_tool.specs.command_base.names.NamedGoal.{named_goal_in}
 use Rattle.restool.specs.GoalWordReadsBack.{IsId, IdWordReadsBack, AttrWordReadsBack}
-use Rattle.restool.proofs.Cuts.{any-at, before-at, after-at, split-at, split-none}
+use Rattle.resource_tool.proofs.names_proofs.Cuts.{any-at, before-at, after-at, split-at, split-none}
 use Rattle.restool.proofs.IdTexts.{id_text-lacks}
 
 -- ---- ids
@@ -41,24 +39,19 @@ split-commas first (next ∷ others) =
     split-at is_comma (id_text first.0) (commas next others) 44 (id_text-lacks is_comma first.0 refl refl refl) refl
     ∙ ap (λ (t : List (List ℕ)). id_text first.0 ∷ t) (split-commas next others)
 
-no-names : (stack : List LayerOf) (styles : List ResId) → style_names stack styles false ≡ []
-unfolding name_beside
-no-names stack [] = refl
-no-names stack (style ∷ styles) = no-names stack styles
+id-written : (id : ResId) → goal_word id.0 [] ≡ id_text id.0
+unfolding goal_word under_styles
+id-written id = append-nil (id_text id.0)
 
-id-written : (stack : List LayerOf) (id : ResId) → goal_words stack id.0 [] false ≡ id_text id.0
-unfolding goal_words under_styles name_beside
-id-written stack id = simp append-nil
-
-attr-written : (stack : List LayerOf) (attr first : ResId) (others : List ResId) → goal_words stack attr.0 (first ∷ others) false ≡ id_text attr.0 ++ 64 ∷ commas first others
-unfolding goal_words under_styles name_beside commas
-attr-written stack attr first others = let none = no-names stack (first ∷ others) in simp (append-nil, none)
+attr-written : (attr first : ResId) (others : List ResId) → goal_word attr.0 (first ∷ others) ≡ id_text attr.0 ++ 64 ∷ commas first others
+unfolding goal_word under_styles commas
+attr-written attr first others = refl
 
 -- ---- what is read
 
 pub id-word : IdWordReadsBack
 unfolding named_goal_in goal_in goal_word_in goal_of_parts
-id-word stack id fits = rw (id-written stack id, id_text-lacks is_at_sign id.0 refl refl refl, id-back id fits) refl
+id-word id fits = rw (id-written id, id_text-lacks is_at_sign id.0 refl refl refl, id-back id fits) refl
 
 few-styles : (first : ResId) (others : List ResId) → length (first ∷ others) ≤ most_styles
     → nat_lt most_styles (length (map (λ (id : ResId). id_text id.0) (first ∷ others))) ≡ false
@@ -66,10 +59,10 @@ few-styles first others few = rw (length-map (first ∷ others) (λ (id : ResId)
 
 pub attr-word : AttrWordReadsBack
 unfolding named_goal_in goal_in goal_word_in styles_of_word goal_of_parts
-attr-word stack attr first others fits fit few =
+attr-word attr first others fits fit few =
     let lacks = id_text-lacks is_at_sign attr.0 refl refl refl in
     rw (
-      attr-written stack attr first others,
+      attr-written attr first others,
       any-at is_at_sign (id_text attr.0) (commas first others) 64 refl,
       before-at is_at_sign (id_text attr.0) (commas first others) 64 refl lacks refl,
       after-at is_at_sign (id_text attr.0) (commas first others) 64 refl lacks refl,

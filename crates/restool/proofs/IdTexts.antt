@@ -1,16 +1,10 @@
 -- The text of an id has neither an at sign nor a comma.
-use Rattle.std.proofs.Common.{◌≡◌, ℕ, ◌/◌, ◌%◌, Bool, false, ◌||◌, List, [], ◌∷◌, codes, refl}
+use Rattle.std.proofs.Common.{◌≡◌, ℕ, Bool, false, ◌||◌, codes}
 use Rattle.std.specs.Int.{w32, to_be_bytes}
-use Rattle.hex.specs.Hex.{encode_with, lower_digits}
+use Rattle.hex.specs.Hex.{lower_digits}
 use Rattle.res_value.specs.ResId.{id_text}
 use Rattle.res_value.specs.Word.{word_text, eight_digits}
-use Rattle.restool.proofs.Cuts.{Lacks, neither, at-fails}
-
-encoded-lacks : (p : ℕ → Bool) (table bytes : List ℕ) → p 0 ≡ false → Lacks p table → Lacks p (encode_with table bytes)
-unfolding encode_with
-encoded-lacks p table [] none lacks = refl
-encoded-lacks p table (b ∷ bytes) none lacks =
-    rw (at-fails p table (b / 16) none lacks, at-fails p table (b % 16) none lacks) (encoded-lacks p table bytes none lacks)
+use Rattle.resource_tool.proofs.names_proofs.Cuts.{Lacks, neither, encoded-lacks}
 
 -- no digit passes, and neither do `0` and `x`
 pub id_text-lacks : (p : ℕ → Bool) (id : ℕ) → p 0 ≡ false → Lacks p lower_digits → Lacks p (codes "0x") → Lacks p (id_text id)

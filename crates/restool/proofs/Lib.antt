@@ -4,7 +4,6 @@ pub mod WordSteps
 pub mod Rows
 pub mod CommandLineFacts
 pub mod NamedCommand
-mod Cuts
 mod IdTexts
 mod GoalWords
 mod Beside

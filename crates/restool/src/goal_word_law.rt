@@ -1,7 +1,7 @@
 //! The law of the words of goals: a call that does nothing, for its contract.
 //!
 //! ```text
-//! write_goal_words(&stack, id, &styles, false, &mut word)?; // of answer_text
+//! write_goal_words(&names, id, &styles, &mut words)?; // of answer_text: the word, and behind it names
 //! NamedGoal::read(alloc, word)?; // of names: that id alone, or that attribute under those styles
 //! ```
 ghost use Rattle.restool.specs.GoalWordReadsBack.{IdWordReadsBack, AttrWordReadsBack};

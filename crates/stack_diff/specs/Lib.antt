@@ -10,9 +10,6 @@ pub mod Grouped
 pub mod Compared
 pub mod Content
 pub mod ContentSeen
-pub mod PackageText
-pub mod Quoted
-pub mod LabelText
 pub mod ReadWord
 pub mod ValueContent
 pub mod InOrder

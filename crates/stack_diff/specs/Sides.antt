@@ -2,14 +2,14 @@
 use Rattle.std.specs.Prelude.{ℕ, List, Option}
 use Rattle.cert_maker.specs.cert_checker.reference_resolver.Trace.{Trace}
 use Rattle.cert_maker.specs.cert_checker.bags_themes.ContentTrace.{content_trace}
-use Rattle.stack_diff.specs.Difference.{DifferenceOf}
+use Rattle.stack_diff.specs.ContentAt.{content_at}
+use Rattle.stack_diff.specs.Difference.{DifferenceOf, difference}
 use Rattle.stack_diff.specs.declared.pair.Resource.{Resource}
 use Rattle.stack_diff.specs.declared.pair.Pair.{Pair}
-use Rattle.stack_diff.specs.Stacks.{two_stacks, differs}
 
 -- how they differ
 abbrev pub pair_differs : Pair → List ℕ → Option DifferenceOf
-pair_differs pair d = differs (two_stacks pair.before.stack.now pair.after.stack.now) pair.before.id pair.after.id d
+pair_differs pair d = difference (content_at pair.before.stack.now pair.before.id.0 d) (content_at pair.after.stack.now pair.after.id.0 d)
 
 -- the trace of one of them
 abbrev pub trace_in : Resource → List ℕ → Trace

@@ -4,24 +4,27 @@ use Rattle.cert_maker.specs.cert_checker.overlay_map.Layer.{LayerOf}
 use Rattle.cert_maker.specs.cert_checker.reference_resolver.Trace.{Trace}
 use Rattle.cert_maker.specs.cert_checker.bags_themes.ContentTrace.{content_trace}
 use Rattle.cert_maker.specs.res_value.declared.res_id.ResId.{ResId}
+use Rattle.names.specs.Packages.{PackageNameOf}
 use Rattle.stack_diff.specs.ContentAt.{content_at}
 use Rattle.stack_diff.specs.Difference.{DifferenceOf, difference}
 use Rattle.stack_diff.specs.declared.stacks.Stacks.{Stacks}
 
--- Two stacks; and whether they are one, so that a resource may be compared with itself.
+-- Two stacks, and the packages by which resources are told; and whether the stacks are one, so that a resource may be compared
+-- with itself.
 pub record StacksOf : Type 0 where
   pub old : List LayerOf
   pub new : List LayerOf
+  pub packages : List PackageNameOf
   pub are_one : Bool
 
 abbrev pub stacks_of : Stacks → StacksOf
-stacks_of stacks = record { old = stacks.old.now; new = stacks.new.now; are_one = stacks.are_one }
+stacks_of stacks = record { old = stacks.old.now; new = stacks.new.now; packages = stacks.packages.now; are_one = stacks.are_one }
 
-abbrev pub one_stack : List LayerOf → StacksOf
-one_stack layers = record { old = layers; new = layers; are_one = true }
+abbrev pub one_stack : List LayerOf → List PackageNameOf → StacksOf
+one_stack layers packages = record { old = layers; new = layers; packages = packages; are_one = true }
 
-abbrev pub two_stacks : List LayerOf → List LayerOf → StacksOf
-two_stacks old new = record { old = old; new = new; are_one = false }
+abbrev pub two_stacks : List LayerOf → List LayerOf → List PackageNameOf → StacksOf
+two_stacks old new packages = record { old = old; new = new; packages = packages; are_one = false }
 
 -- both ids are one resource of one stack
 abbrev pub is_itself : StacksOf → ResId → ResId → Bool

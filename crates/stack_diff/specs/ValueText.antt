@@ -2,13 +2,14 @@
 use Rattle.std.specs.Prelude.{ℕ, List, ◌++◌, codes}
 use Rattle.std.specs.Fmt.{decimal}
 use Rattle.answer_text.specs.res_value.ValueText.{value_text}
+use Rattle.names.specs.LabelText.{label_text}
+use Rattle.names.specs.Packages.{PackageNameOf}
+use Rattle.names.specs.Quoted.{quoted_text}
 use Rattle.stack_diff.specs.declared.content.BrokenString.{BrokenString}
 use Rattle.stack_diff.specs.declared.content.BrokenString.TheVariants.{NoSuch, Cut, NotEnded}
 use Rattle.stack_diff.specs.declared.content.Quantity.{Quantity}
 use Rattle.stack_diff.specs.declared.content.Quantity.TheVariants.{Other, Zero, One, Two, Few, Many}
 use Rattle.stack_diff.specs.Content.{ValueContentOf, StringOf, GarbledOf, BrokenOf, ReferenceOf, AttributeOf, OtherOf, RowKeyOf, PlaceOf, QuantityOf, CalledOf}
-use Rattle.stack_diff.specs.LabelText.{label_text}
-use Rattle.stack_diff.specs.Quoted.{quoted_text}
 
 -- ---- values
 
@@ -18,14 +19,14 @@ broken_text (NoSuch index) = codes "!NoSuch " ++ decimal index
 broken_text (Cut index) = codes "!Cut " ++ decimal index
 broken_text (NotEnded index) = codes "!NotEnded " ++ decimal index
 
--- a string between quotes, an id by its label behind `@` or `?`, and any other value as values are
-unfoldable pub value_content_text : ValueContentOf → List ℕ
-value_content_text (StringOf text) = quoted_text text
-value_content_text (GarbledOf text) = text
-value_content_text (BrokenOf string) = broken_text string
-value_content_text (ReferenceOf label) = codes "@" ++ label_text label
-value_content_text (AttributeOf label) = codes "?" ++ label_text label
-value_content_text (OtherOf value) = value_text value
+-- a string between quotes, an id by its label behind `@` or `?`, and any other value as values are, where these are the packages
+unfoldable pub value_content_text : List PackageNameOf → ValueContentOf → List ℕ
+value_content_text packages (StringOf text) = quoted_text text
+value_content_text packages (GarbledOf text) = text
+value_content_text packages (BrokenOf string) = broken_text string
+value_content_text packages (ReferenceOf label) = codes "@" ++ label_text packages label
+value_content_text packages (AttributeOf label) = codes "?" ++ label_text packages label
+value_content_text packages (OtherOf value) = value_text value
 
 -- ---- keys
 
@@ -38,7 +39,7 @@ quantity_text Few = codes "few"
 quantity_text Many = codes "many"
 
 -- `[PLACE]`, a quantity, or a label
-unfoldable pub key_text : RowKeyOf → List ℕ
-key_text (PlaceOf place) = codes "[" ++ decimal place ++ codes "]"
-key_text (QuantityOf quantity) = quantity_text quantity
-key_text (CalledOf label) = label_text label
+unfoldable pub key_text : List PackageNameOf → RowKeyOf → List ℕ
+key_text packages (PlaceOf place) = codes "[" ++ decimal place ++ codes "]"
+key_text packages (QuantityOf quantity) = quantity_text quantity
+key_text packages (CalledOf label) = label_text packages label

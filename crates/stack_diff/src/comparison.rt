@@ -19,7 +19,7 @@ use std::alloc::Global;
 /// box has several values, no fewer boxes tell it.
 ///
 /// ```text
-/// if let Some(compared) = compare(alloc, Stacks::two(&old, &new), old_id, new_id, &phones, 100_000)? {
+/// if let Some(compared) = compare(alloc, Stacks::two(&old, &new, &packages), old_id, new_id, &phones, 100_000)? {
 ///     for change in &compared.changes { .. } // dimension 4/2^0 dp -> dimension 3/2^0 dp, in landscape
 /// }
 /// ```

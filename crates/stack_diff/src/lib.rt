@@ -3,8 +3,7 @@
 //! What a resource says at a device, apart from ids and indexes, is its content: a value, where a string stands for itself
 //! and an id for what it is called, or the rows of a bag, or what stands in place of these. `content_at` gives it, and
 //! `difference_at` how what an id says in one stack differs from what another says in another, and nothing where a device
-//! reads both alike. `write_label`, `write_value_content` and `write_row_key` write the parts of contents, and
-//! `write_package` a package.
+//! reads both alike. `write_value_content` and `write_row_key` write the parts of contents.
 //!
 //! For the crate above: `compare` answers how a resource of the new stack differs from one of the old stack. A change is a
 //! difference, and boxes of devices on which it is so. A device of the box on which the two differ is in one of the boxes,
@@ -19,12 +18,12 @@
 //!     Some(Difference::Contents { before, after }) => .., // dimension 4/2^0 dp, and dimension 3/2^0 dp
 //!     None => .., // both say the same
 //! }
-//! let stacks = Stacks::two(&old, &new);
+//! let packages = PackageNames::of_both(alloc, &old_layers, &new_layers)?;
+//! let stacks = Stacks::two(&old, &new, &packages);
 //! match compare(alloc, stacks, old_id, new_id, &phones, 100_000)? {
 //!     Some(compared) => .., // compared.changes: dimension 4/2^0 dp -> dimension 3/2^0 dp, in landscape
 //!     None => .., // more nodes than the limit
 //! }
-//! write_label(&label, &mut out)?; // android:dimen/margin
 //! ```
 #![tactic(auto)]
 
@@ -34,12 +33,9 @@ mod content;
 mod device_content;
 mod difference;
 mod grouped;
-mod label_text;
 mod laws;
-mod package;
 mod pair;
 mod pair_box;
-mod quoted;
 mod read_alike;
 mod row_key;
 mod stacks;
@@ -55,9 +51,7 @@ pub use config_box::{Coord, Locale, Values, write_locale};
 pub use content::{BrokenString, Content, Quantity, RowContent, RowKey, ValueContent};
 pub use device_content::content_at;
 pub use difference::{Difference, RowDifference, difference_at, difference_of_ends};
-pub use label_text::write_label;
 pub use laws::{difference_tells, trace_tells_content};
-pub use names::{Label, NamePair, NamedStack, Sides, name_pairs};
-pub use package::write_package;
+pub use names::{Label, NamePair, NamedStack, PackageNames, Sides, name_pairs};
 pub use stacks::Stacks;
 pub use value_text::{write_row_key, write_value_content};

@@ -3,13 +3,14 @@
 ghost use Rattle.std.specs.Prelude.{◌≡◌, true};
 
 use answer_text::ResId;
-use names::NamedStack;
+use names::{NamedStack, PackageNames};
 
-/// Two stacks with their names; or one that is compared with itself.
+/// Two stacks with their names, and the packages by which resources are told; or one that is compared with itself.
 #[derive(Clone, Copy)]
 pub struct Stacks<'s, 'a> {
     pub(crate) old: &'s NamedStack<'s, 'a>,
     pub(crate) new: &'s NamedStack<'s, 'a>,
+    pub(crate) packages: &'s PackageNames<'a>,
     pub(crate) are_one: bool,
     ghost one: { are_one ≡ true → new.now ≡ old.now },
 }
@@ -19,23 +20,29 @@ impl<'s, 'a> Stacks<'s, 'a> {
     ghost use Rattle.stack_diff.specs.Stacks.{one_stack, two_stacks, stacks_of, is_itself};
 
     /// Two stacks.
-    pub fn two(old: &'s NamedStack<'s, 'a>, new: &'s NamedStack<'s, 'a>) -> Stacks<'s, 'a>
-        ensures { stacks_of result ≡ two_stacks old.now new.now }
+    pub fn two(
+        old: &'s NamedStack<'s, 'a>,
+        new: &'s NamedStack<'s, 'a>,
+        packages: &'s PackageNames<'a>,
+    ) -> Stacks<'s, 'a>
+        ensures { stacks_of result ≡ two_stacks old.now new.now packages.now }
     {
         Stacks {
             old,
             new,
+            packages,
             are_one: false,
         }
     }
 
     /// One stack beside itself. A resource needs no look-up then that is compared with itself.
-    pub fn one(stack: &'s NamedStack<'s, 'a>) -> Stacks<'s, 'a>
-        ensures { stacks_of result ≡ one_stack stack.now }
+    pub fn one(stack: &'s NamedStack<'s, 'a>, packages: &'s PackageNames<'a>) -> Stacks<'s, 'a>
+        ensures { stacks_of result ≡ one_stack stack.now packages.now }
     {
         Stacks {
             old: stack,
             new: stack,
+            packages,
             are_one: true,
         }
     }
@@ -52,6 +59,13 @@ impl<'s, 'a> Stacks<'s, 'a> {
         ensures { result.now ≡ (stacks_of self.now).new }
     {
         self.new
+    }
+
+    /// The packages by which resources are told.
+    pub fn packages(&self) -> &'s PackageNames<'a>
+        ensures { result.now ≡ (stacks_of self.now).packages }
+    {
+        self.packages
     }
 
     /// Whether both ids are one resource of one stack.

@@ -5,20 +5,23 @@ ghost use Rattle.stack_diff.specs.ContentSeen.{value_content_of, row_key_of};
 ghost use Rattle.stack_diff.specs.ValueText.{broken_text, value_content_text, quantity_text, key_text};
 
 use crate::content::{BrokenString, Quantity, RowKey, ValueContent};
-use crate::label_text::write_label;
-use crate::quoted::write_quoted;
 use answer_text::{Value, write_value};
+use names::{PackageNames, write_quoted};
 use std::io::{self, Write};
 
 /// Writes what a value says: a string between quotes, an id by its label behind `@` or `?`, and any other value as
 /// values are.
 ///
 /// ```text
-/// write_value_content(&row.value, &mut out)?; // @android:color/white
+/// write_value_content(&packages, &row.value, &mut out)?; // @android:color/white
 /// ```
 #[tactic(auto, unfolding(crate::specs::ValueText::value_content_text))]
-pub fn write_value_content<W: Write + Drop>(value: &ValueContent<'_>, out: &mut W) -> io::Result<()>
-    ensures { Writes W.contents out.old out.new result (value_content_text (value_content_of value.now)) }
+pub fn write_value_content<W: Write + Drop>(
+    packages: &PackageNames<'_>,
+    value: &ValueContent<'_>,
+    out: &mut W,
+) -> io::Result<()>
+    ensures { Writes W.contents out.old out.new result (value_content_text packages.now (value_content_of value.now)) }
 {
     match value {
         ValueContent::String(text) => write_quoted(text.as_str().as_bytes(), out),
@@ -26,11 +29,11 @@ pub fn write_value_content<W: Write + Drop>(value: &ValueContent<'_>, out: &mut 
         ValueContent::Broken(string) => write_broken(*string, out),
         ValueContent::Reference(label) => {
             out.write_all(b"@")?;
-            write_label(label, out)
+            packages.write_label(label, out)
         }
         ValueContent::Attribute(label) => {
             out.write_all(b"?")?;
-            write_label(label, out)
+            packages.write_label(label, out)
         }
         ValueContent::Other { kind, word } => write_value(
             Value {
@@ -55,13 +58,17 @@ fn write_broken<W: Write + Drop>(string: BrokenString, out: &mut W) -> io::Resul
 
 /// Writes what tells a row from the others of its bag: `[PLACE]`, a quantity, or a label.
 #[tactic(auto, unfolding(crate::specs::ValueText::key_text))]
-pub fn write_row_key<W: Write + Drop>(key: &RowKey<'_>, out: &mut W) -> io::Result<()>
-    ensures { Writes W.contents out.old out.new result (key_text (row_key_of key.now)) }
+pub fn write_row_key<W: Write + Drop>(
+    packages: &PackageNames<'_>,
+    key: &RowKey<'_>,
+    out: &mut W,
+) -> io::Result<()>
+    ensures { Writes W.contents out.old out.new result (key_text packages.now (row_key_of key.now)) }
 {
     match key {
         RowKey::Place(place) => write!(out, "[{place}]"),
         RowKey::Quantity(quantity) => write_quantity(*quantity, out),
-        RowKey::Called(label) => write_label(label, out),
+        RowKey::Called(label) => packages.write_label(label, out),
     }
 }
 

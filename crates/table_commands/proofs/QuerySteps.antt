@@ -1,26 +1,15 @@
 -- How a loop writes the line of one id after the other, and finds the status.
-use Rattle.std.proofs.Common.{◌≡◌, ℕ, ◌+◌, ◌<◌, ◌≤◌, Bool, true, false, List, ◌∷◌, Option, refl, sym, ap, subst, ◌∙◌, arith, length, drop, get_or, if◌then◌else◌}
+use Rattle.std.proofs.Common.{◌≡◌, ℕ, ◌+◌, ◌<◌, ◌≤◌, Bool, true, false, List, ◌∷◌, refl, sym, ap, ◌∙◌, arith, length, drop, get_or, if◌then◌else◌}
 use Rattle.std.proofs.lemmas.List.{drop_more, drop_all}
 use Rattle.std.specs.List.{list_any}
-use Rattle.std.specs.Io.KnownBytes.{Appends}
-use Rattle.contract_words.proofs.TextSteps.{PutsAllBut, PutsAllBut-none, PutsAllBut-end}
+use Rattle.contract_words.proofs.TextSteps.{PutsAllBut-none, PutsAllBut-end}
 use Rattle.command_base.specs.answer_text.res_value.declared.res_id.ResId.{ResId}
 use Rattle.command_base.specs.overlay_map.Layer.{LayerOf}
 use Rattle.command_base.specs.answer_text.reference_resolver.declared.end.End.{End}
-use Rattle.command_base.specs.answer_text.QueryText.{query_line}
 use Rattle.command_base.specs.declared.status.Status.{Status}
 use Rattle.command_base.specs.declared.status.Status.TheVariants.{Done, Negative}
 use Rattle.table_commands.specs.EndStatus.{is_unresolved}
-use Rattle.table_commands.specs.QueryOutput.{end_for, is_unresolved_for, line_of}
-use Rattle.command_base.proofs.answer_text_proofs.ItemSteps.{item-next}
-
--- ---- lines
-
-pub end-line-next : (stack : List LayerOf) (device : List ℕ) (names : Bool) (old mid new : Option (List ℕ)) (ids : List ResId) (i : ℕ) (d : ResId) (end : End)
-    → PutsAllBut (line_of stack device names) old mid ids (drop i ids) → i < length ids → end ≡ end_for stack device (get_or ids i d)
-    → Appends mid new (query_line stack (get_or ids i d).0 end names) → PutsAllBut (line_of stack device names) old new ids (drop (i + 1) ids)
-end-line-next stack device names old mid new ids i d end before on is put =
-    item-next (line_of stack device names) old mid new ids i d before on (subst (λ (e : End). Appends mid new (query_line stack (get_or ids i d).0 e names)) is put)
+use Rattle.table_commands.specs.QueryOutput.{end_for, is_unresolved_for}
 
 -- ---- status
 

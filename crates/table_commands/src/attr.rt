@@ -16,10 +16,10 @@ ghost use Rattle.command_base.specs.CarriesOut.{IsKept};
 use crate::end_status::status_of_end;
 use crate::no_bag::print_no_bag;
 use crate::opened::Opened;
-use answer_text::{write_end_with_name, write_id, write_name_beside};
+use answer_text::{NamesBeside, write_end_with_name, write_id};
 use command_base::{
-    AskedFiles, DeviceText, End, Inputs, LayerParts, LocaleRule, Named, ResId, Stack, Status, Stop,
-    Theme, ToolFault, asked_sets,
+    AskedFiles, DeviceText, End, Inputs, LayerParts, LocaleRule, Named, ResId, Status, Stop, Theme,
+    ToolFault, asked_sets,
 };
 use names::{id_named, ids_named};
 use std::alloc::Global;
@@ -163,10 +163,11 @@ impl Opened<'_> {
     ) -> Result<Status, ToolFault>
         ensures { Prints W.contents out.old out.new result (Ok (attr_answer (opened_of self.now) attr.0 styles.now force names)) }
     {
+        let names = NamesBeside::of(alloc, &self.stack, names)?;
         match Theme::of_styles(alloc, &self.stack, styles, force, &self.device) {
             Ok(theme) => {
                 let end = theme.attribute(&self.stack, attr, &self.device);
-                write_attribute(&self.stack, attr, end, names, out)?;
+                write_attribute(&names, attr, end, out)?;
                 Ok(status_of_end(end))
             }
             Err(fault) => print_no_bag(fault, out),
@@ -176,17 +177,16 @@ impl Opened<'_> {
 
 #[tactic(auto, unfolding(crate::specs::AttrOutput::attribute_line))]
 fn write_attribute<W: Write + Drop>(
-    stack: &Stack<'_>,
+    names: &NamesBeside<'_, '_>,
     attr: ResId,
     end: End,
-    names: bool,
     out: &mut W,
 ) -> io::Result<()>
-    ensures { Writes W.contents out.old out.new result (attribute_line stack.now attr.0 end names) }
+    ensures { Writes W.contents out.old out.new result (attribute_line names.now.stack attr.0 end names.now.asked) }
 {
     write_id(attr, out)?;
-    write_name_beside(stack, attr, names, out)?;
+    names.write(attr, out)?;
     out.write_all(b" ")?;
-    write_end_with_name(stack, None, end, names, out)?;
+    write_end_with_name(names, None, end, out)?;
     out.write_all(b"\n")
 }

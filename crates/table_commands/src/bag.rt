@@ -13,10 +13,9 @@ ghost use Rattle.command_base.specs.CarriesOut.{IsKept};
 
 use crate::no_bag::print_no_bag;
 use crate::opened::{OpenId, Opened};
-use answer_text::{bag, write_id, write_layer, write_name_beside, write_value};
+use answer_text::{NamesBeside, bag, write_id, write_layer, write_value};
 use command_base::{
-    BagRow, DeviceFiles, Inputs, LayerParts, LocaleRule, Named, ResId, Stack, Status, Stop,
-    ToolFault,
+    BagRow, DeviceFiles, Inputs, LayerParts, LocaleRule, Named, ResId, Status, Stop, ToolFault,
 };
 use std::alloc::Global;
 use std::io::{self, Write};
@@ -93,9 +92,10 @@ impl Opened<'_> {
     ) -> Result<Status, ToolFault>
         ensures { Prints W.contents out.old out.new result (Ok (bag_answer (opened_of self.now) id.0 names)) }
     {
+        let names = NamesBeside::of(alloc, &self.stack, names)?;
         match bag(alloc, &self.stack, id, &self.device) {
             Ok(rows) => {
-                write_rows(&self.stack, names, rows.as_slice(), out)?;
+                write_rows(&names, rows.as_slice(), out)?;
                 Ok(Status::Done)
             }
             Err(fault) => print_no_bag(fault, out),
@@ -105,29 +105,27 @@ impl Opened<'_> {
 
 #[tactic(auto, using(crate::proofs::Cited::item_steps))]
 fn write_rows<W: Write + Drop>(
-    stack: &Stack<'_>,
-    names: bool,
+    names: &NamesBeside<'_, '_>,
     rows: &[BagRow],
     out: &mut W,
 ) -> io::Result<()>
-    ensures { Writes W.contents out.old out.new result (flat_map (bag_row_line stack.now names) rows.now) }
+    ensures { Writes W.contents out.old out.new result (flat_map (bag_row_line names.now.stack names.now.asked) rows.now) }
 {
     for row in rows {
-        write_row(stack, names, *row, out)?;
+        write_row(names, *row, out)?;
     }
     Ok(())
 }
 
 #[tactic(auto, unfolding(crate::specs::BagOutput::bag_row_line))]
 fn write_row<W: Write + Drop>(
-    stack: &Stack<'_>,
-    names: bool,
+    names: &NamesBeside<'_, '_>,
     row: BagRow,
     out: &mut W,
 ) -> io::Result<()>
-    ensures { Writes W.contents out.old out.new result (bag_row_line stack.now names row) }
+    ensures { Writes W.contents out.old out.new result (bag_row_line names.now.stack names.now.asked row) }
 {
-    write_id_and_layer(stack, names, row.name, row.layer, out)?;
+    write_id_and_layer(names, row.name, row.layer, out)?;
     out.write_all(b" ")?;
     write_value(row.value, out)?;
     out.write_all(b"\n")
@@ -135,16 +133,15 @@ fn write_row<W: Write + Drop>(
 
 #[tactic(auto, unfolding(crate::specs::BagOutput::id_and_layer))]
 fn write_id_and_layer<W: Write + Drop>(
-    stack: &Stack<'_>,
-    names: bool,
+    names: &NamesBeside<'_, '_>,
     id: ResId,
     layer: usize,
     out: &mut W,
 ) -> io::Result<()>
-    ensures { Writes W.contents out.old out.new result (id_and_layer stack.now names id.0 layer) }
+    ensures { Writes W.contents out.old out.new result (id_and_layer names.now.stack names.now.asked id.0 layer) }
 {
     write_id(id, out)?;
-    write_name_beside(stack, id, names, out)?;
+    names.write(id, out)?;
     out.write_all(b" ")?;
     write_layer(layer, out)
 }

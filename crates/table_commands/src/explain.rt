@@ -1,7 +1,6 @@
 //! The command `explain`.
 
-ghost use Rattle.std.specs.Prelude.{◌≡◌, map, Ok, IfOk, IfSome};
-ghost use Rattle.contract_words.specs.Writes.{Writes};
+ghost use Rattle.std.specs.Prelude.{map, Ok, IfSome};
 ghost use Rattle.command_base.specs.FilesSeen.{device_held};
 ghost use Rattle.command_base.specs.Output.{Prints};
 ghost use Rattle.command_base.specs.StackBytesSeen.{layer_bytes};
@@ -12,12 +11,12 @@ ghost use Rattle.command_base.specs.CarriesOut.{IsKept};
 
 use crate::end_status::status_of_end;
 use crate::opened::{OpenId, Opened};
-use answer_text::explain;
+use answer_text::{NamesBeside, explain};
 use command_base::{
     DeviceFiles, Inputs, LayerParts, LocaleRule, Named, ResId, Status, Stop, ToolFault,
 };
 use std::alloc::Global;
-use std::io::{self, Write};
+use std::io::Write;
 
 /// What the words of `explain` ask: how a resource comes to its end for a device.
 #[derive(Drop)]
@@ -60,15 +59,20 @@ impl<'a> Explain<'a> {
     {
         let layers = files.layers.layers(alloc)?;
         let asked = OpenId::open(alloc, &layers, &files.device, self.locales, self.resource)?;
-        Ok(asked.explain(self.names, out)?)
+        Ok(asked.explain(alloc, self.names, out)?)
     }
 }
 
 impl OpenId<'_> {
-    fn explain<W: Write + Drop>(&self, names: bool, out: &mut W) -> Result<Status, ToolFault>
+    fn explain<W: Write + Drop>(
+        &self,
+        alloc: Global,
+        names: bool,
+        out: &mut W,
+    ) -> Result<Status, ToolFault>
         ensures { Prints W.contents out.old out.new result (Ok (explain_answer (id_seen self.now).opened (id_seen self.now).id.0 names)) }
     {
-        Ok(self.opened.explain(self.id, names, out)?)
+        self.opened.explain(alloc, self.id, names, out)
     }
 }
 
@@ -86,7 +90,7 @@ pub fn explain_bytes<W: Write + Drop>(
     ensures { Prints W.contents out.old out.new result (explain_output (map layer_bytes layers.now) device.now id.0) }
 {
     let opened = Opened::read(alloc, layers, device)?;
-    Ok(opened.explain(id, false, out)?)
+    opened.explain(alloc, id, false, out)
 }
 
 impl Opened<'_> {
@@ -94,14 +98,15 @@ impl Opened<'_> {
     /// beside it.
     pub fn explain<W: Write + Drop>(
         &self,
+        alloc: Global,
         id: ResId,
         names: bool,
         out: &mut W,
-    ) -> io::Result<Status>
-        ensures text { Writes W.contents out.old out.new result (explain_answer (opened_of self.now) id.0 names).text }
-        ensures status { IfOk result (λ status. status ≡ (explain_answer (opened_of self.now) id.0 names).status) }
+    ) -> Result<Status, ToolFault>
+        ensures { Prints W.contents out.old out.new result (Ok (explain_answer (opened_of self.now) id.0 names)) }
     {
-        let end = explain(&self.stack, id, &self.device, names, out)?;
+        let names = NamesBeside::of(alloc, &self.stack, names)?;
+        let end = explain(&names, id, &self.device, out)?;
         Ok(status_of_end(end))
     }
 }

@@ -10,10 +10,8 @@ ghost use Rattle.table_commands.specs.TableOutput.{ListsIds, id_line, ids_output
 ghost use Rattle.command_base.specs.CarriesOut.{IsKept};
 
 use answer_text::{write_id, write_its_name};
-use command_base::{
-    Inputs, LayerFiles, LayerParts, ResId, Stack, Status, Stop, ToolFault, open_stack,
-};
-use names::ids_of_type;
+use command_base::{Inputs, LayerFiles, LayerParts, ResId, Status, Stop, ToolFault, open_stack};
+use names::{StackNames, ids_of_type};
 use std::alloc::Global;
 use std::io::{self, Write};
 
@@ -64,12 +62,17 @@ pub fn ids_bytes<W: Write + Drop>(
     let stack = open_stack(alloc, layers)?;
     let tables = stack.base_tables(alloc)?;
     let ids = ids_of_type(alloc, &tables, None)?;
-    write_ids(&stack, &ids, out)?;
+    let names = StackNames::of(alloc, &stack)?;
+    write_ids(&names, &ids, out)?;
     Ok(Status::Done)
 }
 
 #[tactic(auto, using(crate::proofs::Cited::item_steps))]
-fn write_ids<W: Write + Drop>(stack: &Stack<'_>, ids: &[ResId], out: &mut W) -> io::Result<()>
+fn write_ids<W: Write + Drop>(
+    stack: &StackNames<'_, '_>,
+    ids: &[ResId],
+    out: &mut W,
+) -> io::Result<()>
     ensures { Writes W.contents out.old out.new result (ids_text stack.now ids.now) }
 {
     for id in ids {
@@ -78,7 +81,11 @@ fn write_ids<W: Write + Drop>(stack: &Stack<'_>, ids: &[ResId], out: &mut W) -> 
     Ok(())
 }
 
-fn write_id_line<W: Write + Drop>(stack: &Stack<'_>, id: ResId, out: &mut W) -> io::Result<()>
+fn write_id_line<W: Write + Drop>(
+    stack: &StackNames<'_, '_>,
+    id: ResId,
+    out: &mut W,
+) -> io::Result<()>
     ensures { Writes W.contents out.old out.new result (id_line stack.now id) }
 {
     write_id(id, out)?;

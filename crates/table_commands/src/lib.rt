@@ -28,9 +28,9 @@
 //! attr_bytes(alloc, &layers, &device, attr, &styles, true, &mut out)?; // 0x01010000 value layer 0 decimal 5
 //!
 //! let opened = Opened::read(alloc, &layers, &device)?; // for several commands, or to look into the stack first
-//! opened.query(&ids, false, &mut out)?; // as `query_bytes`; so `explain`, `bag` and `attr`
-//! opened.query(&ids, true, &mut out)?; // 0x7f010000 "integer"/"five" value layer 1 decimal 5
-//!                                      // set-aside 0
+//! opened.query(alloc, &ids, false, &mut out)?; // as `query_bytes`; so `explain`, `bag` and `attr`
+//! opened.query(alloc, &ids, true, &mut out)?; // 0x7f010000 integer/five value layer 1 decimal 5
+//!                                             // set-aside 0
 //! ```
 #![tactic(auto)]
 

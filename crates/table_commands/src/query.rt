@@ -10,14 +10,14 @@ ghost use Rattle.command_base.specs.StackBytesSeen.{layer_bytes};
 ghost use Rattle.command_base.specs.Stop.{GivesOrStops};
 ghost use Rattle.command_base.specs.declared.fault.ToolFault.TheVariants.{Write};
 ghost use Rattle.table_commands.specs.OpenedSeen.{opened_of};
-ghost use Rattle.table_commands.specs.QueryOutput.{query_status, query_text, query_answer, query_output, query_seen, query_opened, Queries, QueriesFiles};
+ghost use Rattle.table_commands.specs.QueryOutput.{end_for, line_of, query_status, query_text, query_answer, query_output, query_seen, query_opened, Queries, QueriesFiles};
 ghost use Rattle.command_base.specs.CarriesOut.{IsKept};
 
 use crate::end_status::is_unresolved;
 use crate::opened::Opened;
-use answer_text::{query_line, resolve, set_aside_line};
+use answer_text::{NamesBeside, query_line, resolve, set_aside_line};
 use command_base::{
-    AskedFiles, Device, DeviceText, Inputs, LayerParts, LocaleRule, ResId, Stack, Status, Stop,
+    AskedFiles, Device, DeviceText, End, Inputs, LayerParts, LocaleRule, ResId, Status, Stop,
     ToolFault, asked_sets, rows_set_aside,
 };
 use names::ids_named;
@@ -65,7 +65,7 @@ impl<'a> Query<'a> {
     {
         let layers = files.layers.layers(alloc)?;
         let asked = OpenQuery::open(alloc, &layers, &files.device, self.locales, &files.words)?;
-        Ok(asked.print(self.names, out)?)
+        Ok(asked.print(alloc, self.names, out)?)
     }
 }
 
@@ -95,10 +95,15 @@ impl<'a> OpenQuery<'a> {
         Ok(OpenQuery { opened, ids })
     }
 
-    fn print<W: Write + Drop>(&self, names: bool, out: &mut W) -> Result<Status, ToolFault>
+    fn print<W: Write + Drop>(
+        &self,
+        alloc: Global,
+        names: bool,
+        out: &mut W,
+    ) -> Result<Status, ToolFault>
         ensures { Prints W.contents out.old out.new result (Ok (query_answer (query_seen self.now).opened (query_seen self.now).ids names)) }
     {
-        Ok(self.opened.query(&self.ids, names, out)?)
+        self.opened.query(alloc, &self.ids, names, out)
     }
 }
 
@@ -115,7 +120,7 @@ pub fn query_bytes<W: Write + Drop>(
     ensures { Prints W.contents out.old out.new result (query_output (map layer_bytes layers.now) device.now ids.now) }
 {
     let opened = Opened::read(alloc, layers, device)?;
-    Ok(opened.query(ids, false, out)?)
+    opened.query(alloc, ids, false, out)
 }
 
 impl Opened<'_> {
@@ -123,38 +128,52 @@ impl Opened<'_> {
     /// beside it.
     pub fn query<W: Write + Drop>(
         &self,
+        alloc: Global,
         ids: &[ResId],
         names: bool,
         out: &mut W,
-    ) -> io::Result<Status>
-        ensures text { Writes W.contents out.old out.new result (query_answer (opened_of self.now) ids.now names).text }
-        ensures status { IfOk result (λ status. status ≡ (query_answer (opened_of self.now) ids.now names).status) }
+    ) -> Result<Status, ToolFault>
+        ensures { Prints W.contents out.old out.new result (Ok (query_answer (opened_of self.now) ids.now names)) }
     {
-        write_ends(&self.stack, &self.device, ids, names, out)
+        let names = NamesBeside::of(alloc, &self.stack, names)?;
+        Ok(write_ends(&names, &self.device, ids, out)?)
     }
 }
 
 // Writes a line for each id, and one with the number of rows that are set aside.
 #[tactic(auto, using(crate::proofs::QuerySteps::query_steps), unfolding(crate::specs::QueryOutput::query_text))]
 fn write_ends<W: Write + Drop>(
-    stack: &Stack<'_>,
+    names: &NamesBeside<'_, '_>,
     device: &Device,
     ids: &[ResId],
-    names: bool,
     out: &mut W,
 ) -> io::Result<Status>
-    ensures text { Writes W.contents out.old out.new result (query_text stack.now (device_numbers device.now) ids.now names) }
-    ensures status { IfOk result (λ status. status ≡ query_status stack.now (device_numbers device.now) ids.now) }
+    ensures text { Writes W.contents out.old out.new result (query_text names.now.stack (device_numbers device.now) ids.now names.now.asked) }
+    ensures status { IfOk result (λ status. status ≡ query_status names.now.stack (device_numbers device.now) ids.now) }
 {
     let mut status = Status::Done;
     for id in ids {
-        let end = resolve(stack, *id, device);
-        query_line(stack, *id, end, names, out)?;
+        let end = write_end(names, device, *id, out)?;
         if is_unresolved(end) {
             status = Status::Negative;
         }
     }
     let rule = LocaleRule::of(device.locale());
-    set_aside_line(rows_set_aside(stack, rule), out)?;
+    set_aside_line(rows_set_aside(names.stack(), rule), out)?;
     Ok(status)
+}
+
+// Writes the line of an id, and gives where it ends.
+fn write_end<W: Write + Drop>(
+    names: &NamesBeside<'_, '_>,
+    device: &Device,
+    id: ResId,
+    out: &mut W,
+) -> io::Result<End>
+    ensures text { Writes W.contents out.old out.new result (line_of names.now.stack (device_numbers device.now) names.now.asked id) }
+    ensures end { IfOk result (λ end. end ≡ end_for names.now.stack (device_numbers device.now) id) }
+{
+    let end = resolve(names.stack(), id, device);
+    query_line(names, id, end, out)?;
+    Ok(end)
 }

@@ -11,4 +11,4 @@ unfolding explain_text
 returns-clause-text g c =
     let contents = g.W.Write.contents in
     Appends-trans _ _ _ _ _ c.in_ok-end.ensures.text
-    (subst (λ (end : End). Appends (contents c.write_look_ups.new.out) (contents c.write_named_end_line.new.out) (named_end_line c.args.stack.now end c.args.names)) c.in_ok-end.ensures.end c.in_ok-write_named_end_line.ensures)
+    (subst (λ (end : End). Appends (contents c.write_look_ups.new.out) (contents c.write_named_end_line.new.out) (named_end_line c.args.names.now.stack end c.args.names.now.asked)) c.in_ok-end.ensures.end c.in_ok-write_named_end_line.ensures)

@@ -11,18 +11,18 @@ pub chain-preserved : goal.chain-preserved
 chain-preserved g c =
     let d = device_numbers c.args.device.now in
     let leads = ap (λ (o : Option CandOf). cut_off c.chain.left (next_of c.chain.id.0 o)) (sym c.in_ok-picked.ensures.picked) ∙ ap (cut_off c.chain.left) (sym c.of.ensures) ∙ sym c.in-LookUp.ensures in
-    let goes = goes_on_within c.args.stack.now c.chain.left c.chain.id.0 d c.in-LookUp.target leads in
+    let goes = goes_on_within c.args.names.now.stack c.chain.left c.chain.id.0 d c.in-LookUp.target leads in
     (PutsAllBut-next _ _ _ _ _ _ _ c.chain.id.0 c.chain.invariant.0 goes.2 c.in_ok-picked.ensures.text, sym goes.1 ∙ c.chain.invariant.1)
 
 pub returns-in-EndsAt-clause-text : goal.returns-in-EndsAt-clause-text
 returns-in-EndsAt-clause-text g c =
     let d = device_numbers c.args.device.now in
     let leads = ap (λ (o : Option CandOf). cut_off c.chain.left (next_of c.chain.id.0 o)) (sym c.in_ok-picked.ensures.picked) ∙ ap (cut_off c.chain.left) (sym c.of.ensures) ∙ sym c.in-EndsAt.ensures in
-    let ends = ends_within c.args.stack.now c.chain.left c.chain.id.0 d c.in-EndsAt.end leads in
+    let ends = ends_within c.args.names.now.stack c.chain.left c.chain.id.0 d c.in-EndsAt.end leads in
     PutsAllBut-done _ _ _ _ [] (PutsAllBut-next _ _ _ _ _ _ [] c.chain.id.0 c.chain.invariant.0 ends.1 c.in_ok-picked.ensures.text) refl
 
 pub returns-in-EndsAt-clause-end : goal.returns-in-EndsAt-clause-end
 returns-in-EndsAt-clause-end g c =
     let d = device_numbers c.args.device.now in
     let leads = ap (λ (o : Option CandOf). cut_off c.chain.left (next_of c.chain.id.0 o)) (sym c.in_ok-picked.ensures.picked) ∙ ap (cut_off c.chain.left) (sym c.of.ensures) ∙ sym c.in-EndsAt.ensures in
-    sym (ends_within c.args.stack.now c.chain.left c.chain.id.0 d c.in-EndsAt.end leads).0 ∙ c.chain.invariant.1
+    sym (ends_within c.args.names.now.stack c.chain.left c.chain.id.0 d c.in-EndsAt.end leads).0 ∙ c.chain.invariant.1

@@ -9,9 +9,9 @@ use Rattle.answer_text.proofs.explanation.write_look_ups.Given as goal
 -- all look-ups were written but those from the id at hand on, and these lead to the end
 abbrev pub invariant-chain : goal.invariant-chain
 invariant-chain g l =
-    PutsAllBut (look_up_text l.stack (device_numbers l.device) l.names) (g.W.Write.contents l.fn.out) (g.W.Write.contents l.out)
-    (look_ups_of l.stack l.fn.most l.fn.id.0 (device_numbers l.device)) (look_ups_of l.stack l.left l.id.0 (device_numbers l.device))
-    × (end_of l.stack l.left l.id.0 (device_numbers l.device) ≡ end_of l.stack l.fn.most l.fn.id.0 (device_numbers l.device))
+    PutsAllBut (look_up_text l.names.stack (device_numbers l.device) l.names.asked) (g.W.Write.contents l.fn.out) (g.W.Write.contents l.out)
+    (look_ups_of l.names.stack l.fn.most l.fn.id.0 (device_numbers l.device)) (look_ups_of l.names.stack l.left l.id.0 (device_numbers l.device))
+    × (end_of l.names.stack l.left l.id.0 (device_numbers l.device) ≡ end_of l.names.stack l.fn.most l.fn.id.0 (device_numbers l.device))
 
 abbrev pub decreases-chain : goal.decreases-chain
 decreases-chain g l = l.left

@@ -3,4 +3,4 @@ use Rattle.answer_text.proofs.ItemSteps.{item-next}
 use Rattle.answer_text.proofs.goal.write_style_names.Goals as goal
 
 pub loop-style-preserved : goal.loop-style-preserved
-loop-style-preserved g c = item-next _ _ _ _ _ _ _ c.loop-style.invariant (omega arith) c.in_ok-write_name_beside.ensures
+loop-style-preserved g c = item-next _ _ _ _ _ _ _ c.loop-style.invariant (omega arith) c.in_ok-write_its_name.ensures

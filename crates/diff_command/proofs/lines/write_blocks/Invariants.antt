@@ -6,4 +6,4 @@ use Rattle.diff_command.proofs.lines.write_blocks.Given as goal
 
 abbrev pub invariant-loop-block : goal.invariant-loop-block
 invariant-loop-block g l =
-    PutsAllBut (changed_block (label_of l.label)) (g.W.Write.contents l.fn.out) (g.W.Write.contents l.out) (map (λ block. block.items) l.blocks) (map (λ block. block.items) (drop l.block-index l.blocks))
+    PutsAllBut (changed_block l.packages (label_of l.label)) (g.W.Write.contents l.fn.out) (g.W.Write.contents l.out) (map (λ block. block.items) l.blocks) (map (λ block. block.items) (drop l.block-index l.blocks))

@@ -6,4 +6,4 @@ use Rattle.diff_command.proofs.rows_text.write_removed_rows.Given as goal
 
 abbrev pub invariant-loop-row : goal.invariant-loop-row
 invariant-loop-row g l =
-    PutsAllBut removed_row (g.W.Write.contents l.fn.out) (g.W.Write.contents l.out) (map row_content_of l.rows) (map row_content_of (drop l.row-index l.rows))
+    PutsAllBut (removed_row l.packages) (g.W.Write.contents l.fn.out) (g.W.Write.contents l.out) (map row_content_of l.rows) (map row_content_of (drop l.row-index l.rows))

@@ -27,7 +27,7 @@ returns-then-is_empty-clause-output g c =
     let asked = map goal_seen c.args.goals.now in
     let lines = lines_of stack asked c.in-Cert.omitted.items in
     let told : Appends (g.E.Write.contents c.args.errors.now) (g.E.Write.contents c.write_omitted.new.errors) lines =
-    subst (λ (os : List Omitted). Appends (g.E.Write.contents c.args.errors.now) (g.E.Write.contents c.write_omitted.new.errors) (lines_of stack asked os)) c.deref.ensures.value c.in_ok-write_omitted-in-Cert.ensures in
+    subst (λ (os : List Omitted). Appends (g.E.Write.contents c.args.errors.now) (g.E.Write.contents c.write_omitted.new.errors) (lines_of stack asked os)) c.deref.ensures.value (rw c.in_ok-names-in-Cert.ensures at c.in_ok-write_omitted-in-Cert.ensures) in
     let done : MapOutput → Result MapOutput ToolFault = λ m. Ok m in
     let meant = ap (λ (o : Omitting). done (omit_output stack asked o)) c.in-Cert.is ∙ ap (λ (o : Output). done (record { output = o; lines = lines })) (none-kept trees.items count) in
     ([], lines, meant, Appends-nil _, told)

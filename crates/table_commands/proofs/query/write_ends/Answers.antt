@@ -1,5 +1,6 @@
 use Rattle.std.proofs.Common.{◌≡◌, arith}
-use Rattle.table_commands.proofs.QuerySteps.{end-line-next, status-next, status_after}
+use Rattle.command_base.proofs.answer_text_proofs.ItemSteps.{item-next}
+use Rattle.table_commands.proofs.QuerySteps.{status-next, status_after}
 use Rattle.table_commands.proofs.query.write_ends.Goals as goal
 use Rattle.table_commands.proofs.query.write_ends.Goals.{then-is_unresolved, else-is_unresolved}
 
@@ -11,6 +12,6 @@ loop-id-preserved g c =
       | else-is_unresolved w ↦ grind arith
     ] in
     record {
-      texts = end-line-next _ _ _ _ _ _ _ _ _ _ c.loop-id.invariant.texts (omega arith) c.resolve-end.ensures.value c.in_ok-query_line.ensures;
-      status = status-next _ _ _ _ _ _ _ _ _ c.loop-id.invariant.status (omega arith) c.resolve-end.ensures.value c.is_unresolved.ensures after;
+      texts = item-next _ _ _ _ _ _ _ c.loop-id.invariant.texts (omega arith) c.in_ok-end.ensures.text;
+      status = status-next _ _ _ _ _ _ _ _ _ c.loop-id.invariant.status (omega arith) c.in_ok-end.ensures.end c.is_unresolved.ensures after;
     }

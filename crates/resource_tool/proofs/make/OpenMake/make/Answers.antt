@@ -19,6 +19,10 @@ returns-in_err-answered-2-clause-told g c =
           _ (Ok (opened_box c.args.self.now.opened)) c.in_err-answered-2.ensures.prints,
     )
 
+pub returns-in_err-beside-clause-told : goal.returns-in_err-beside-clause-told
+returns-in_err-beside-clause-told g c =
+    let p = err_from_is_err_and c.from_residual.result c.from_residual.ensures.1 in (c.args.errors.now, λ plain. refl, rw (p.1, p.2) (refl, refl))
+
 pub returns-clause-told : goal.returns-clause-told
 returns-clause-told g c =
     rw (← c.as_slice-goals.ensures.value) (elim c.if-watch.branch [
@@ -26,12 +30,12 @@ returns-clause-told g c =
         c.if-watch.errors,
         λ plain. absurd (grind (arith, w.if-watch.true, plain)),
         told-beside g.W.Write.contents g.E.Write.contents c.args.out.now c.if-watch.out c.if-watch.errors c.write_goal_told.new.out
-            _ c.args.max_nodes c.args.names _ _ _ (rw (w.out-is, w.answered-is) w.in_ok-answered.ensures.about) c.in_ok-write_goal_told.ensures.text,
+            _ c.args.max_nodes c.args.names _ _ _ (rw (w.out-is, w.answered-is) w.in_ok-answered.ensures.about) (rw c.in_ok-beside.ensures at c.in_ok-write_goal_told.ensures.text),
       )
       | else-watch+in_ok-answered-2 w ↦ (
         c.if-watch.errors,
         λ plain. w.errors-is,
         told-beside g.W.Write.contents g.E.Write.contents c.args.out.now c.if-watch.out c.if-watch.errors c.write_goal_told.new.out
-            _ c.args.max_nodes c.args.names _ _ _ (rw (w.out-is, w.answered-is) w.in_ok-answered-2.ensures.about) c.in_ok-write_goal_told.ensures.text,
+            _ c.args.max_nodes c.args.names _ _ _ (rw (w.out-is, w.answered-is) w.in_ok-answered-2.ensures.about) (rw c.in_ok-beside.ensures at c.in_ok-write_goal_told.ensures.text),
       )
     ])
