@@ -196,7 +196,7 @@ def of_list_words():
     # Of each overlay, by each command, and where the answer says no.
     word = "b.arsc+a.apk+a.apk"
     said = "layer 1 " + NO_NAMES + "layer 2 " + NO_NAMES
-    yield Case(["ids", word], f'{ID} "s"/"k"\n', said, **FILES)
+    yield Case(["ids", word], f"{ID} s/k\n", said, **FILES)
     yield Case(["query", word, "device", "0x7f020000"], "0x7f020000 absent 0x7f020000\nset-aside 0\n", said, 1, **FILES)
     for place in "old", "new":
         words = [word, "b.arsc"] if place == "old" else ["b.arsc", word]
