@@ -11,7 +11,7 @@ import os
 import sys
 
 LIST = os.path.join(os.path.dirname(os.path.dirname(os.path.realpath(__file__))), "crates.txt")
-MOST = 1900
+MOST = 2200
 
 
 def counted(lines):

@@ -1,5 +1,5 @@
-//! The commands `make` and `check`, over bytes and a writer. Those that are asked for tables alone or for one device
-//! are handed on; `show`, `survey` and `diff` stand in other crates.
+//! The commands `make` and `check`, over bytes and a writer. The calls over bytes that are asked for tables alone or for one
+//! device are handed on; `show`, `survey` and `diff` stand in other crates.
 //!
 //! For the program above: a command prints the text that its input means and nothing else, or it
 //! names the first fault of that input and has printed nothing. `answer` reads what the words of a command name, in the
@@ -44,6 +44,5 @@ pub use opened_box::OpenedBox;
 pub use progress::Watch;
 pub use resource_text::{Goal, Omitted, Omitting, Progress, Unwatched};
 pub use table_commands::{
-    Attr, Bag, DeviceForm, Dump, Explain, Ids, Map, Opened, Query, Rows, attr_bytes, bag_bytes,
-    dump_bytes, explain_bytes, query_bytes, rows_bytes,
+    Opened, attr_bytes, bag_bytes, dump_bytes, explain_bytes, query_bytes, rows_bytes,
 };

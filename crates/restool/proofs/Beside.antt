@@ -11,8 +11,8 @@ use Rattle.resource_tool.specs.command_base.Inputs.{Places}
 use Rattle.resource_tool.specs.command_base.Stop.{stop_of, tool}
 use Rattle.restool.specs.declared.request.Request.{Request}
 use Rattle.restool.specs.declared.request.Request.TheVariants as asks
-use Rattle.restool.specs.Left.{LayerWordsOf, layer_words, left_lines}
-use Rattle.restool.specs.Request.{Answers, ErrorsGet}
+use Rattle.restool.specs.Left.{LayerWordsOf, left_lines}
+use Rattle.restool.specs.Request.{Answers, ErrorsGet, layer_words}
 use Rattle.restool.specs.Run.{CarriesOutRequest}
 
 pub same-twice : (answered told outcome : Result Status Stop) → IfOk told (λ status. answered ≡ Ok status) → IfOk outcome (λ status. told ≡ Ok status)

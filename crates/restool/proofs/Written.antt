@@ -14,14 +14,14 @@ use Rattle.resource_tool.specs.command_base.CarriesOut.{CarriesOut}
 use Rattle.resource_tool.specs.command_base.Inputs.{Places, layers_of, table_of}
 use Rattle.resource_tool.specs.command_base.Output.{Output, Prints, PrintsOneOf}
 use Rattle.resource_tool.specs.command_base.Stop.{StopOf, stop_of, tool}
-use Rattle.resource_tool.specs.table_commands.TableOutput.{rows_output, dump_output, ids_output}
-use Rattle.resource_tool.specs.table_commands.MapOutput.{MapBytes, MapOutput, PrintsBoth, map_files, map_output}
-use Rattle.resource_tool.specs.table_commands.DeviceOutput.{as_output}
-use Rattle.resource_tool.specs.table_commands.Opened.{OpenIdOf}
-use Rattle.resource_tool.specs.table_commands.QueryOutput.{OpenQueryOf, query_answer}
-use Rattle.resource_tool.specs.table_commands.ExplainOutput.{explain_answer}
-use Rattle.resource_tool.specs.table_commands.BagOutput.{bag_answer}
-use Rattle.resource_tool.specs.table_commands.AttrOutput.{OpenAttrOf, attr_answer}
+use Rattle.table_commands.specs.TableOutput.{rows_output, dump_output, ids_output}
+use Rattle.table_commands.specs.MapOutput.{MapBytes, MapOutput, PrintsBoth, map_files, map_output}
+use Rattle.table_commands.specs.DeviceOutput.{as_output}
+use Rattle.table_commands.specs.Opened.{OpenIdOf}
+use Rattle.table_commands.specs.QueryOutput.{OpenQueryOf, query_answer}
+use Rattle.table_commands.specs.ExplainOutput.{explain_answer}
+use Rattle.table_commands.specs.BagOutput.{bag_answer}
+use Rattle.table_commands.specs.AttrOutput.{OpenAttrOf, attr_answer}
 use Rattle.resource_tool.specs.Answered.{PrintsBothOneOf}
 use Rattle.resource_tool.specs.Make.{OpenMakeOf, MakesOpened, OnceShown}
 use Rattle.resource_tool.specs.MakeOutput.{IsMakeAnswer}

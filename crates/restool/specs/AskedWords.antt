@@ -10,8 +10,8 @@ use Rattle.resource_tool.specs.command_base.names.NamedSet.{named_set_in}
 use Rattle.resource_tool.specs.command_base.names.WordFile.{file_path_in}
 use Rattle.restool.specs.declared.asked_words.Asks.{Asks}
 use Rattle.restool.specs.declared.asked_words.Asks.TheVariants.{Resources, Goals}
-use Rattle.restool.specs.declared.words_fault.WordsFault.{WordsFault}
-use Rattle.restool.specs.declared.words_fault.WordsFault.TheVariants.{BadId, OutOfMemory}
+use Rattle.restool.specs.declared.argument_fault.ArgumentFault.{ArgumentFault}
+use Rattle.restool.specs.declared.argument_fault.ArgumentFault.TheVariants.{BadId, OutOfMemory}
 
 -- where one resource stands: the one that a word asks for, or the word, if it asks for none
 abbrev pub named_word : List ℕ → Result NamedOf (List ℕ)
@@ -29,20 +29,20 @@ asked_word asks word = if is_some (file_path_in word) || asks_for asks word then
 -- ---- how they are read
 
 -- a call gave the resource that is meant, or named the word that asks for none
-abbrev pub ReadsNamed : Result Named WordsFault → Result NamedOf (List ℕ) → Type 0
+abbrev pub ReadsNamed : Result Named ArgumentFault → Result NamedOf (List ℕ) → Type 0
 ReadsNamed (Ok named) meant = meant ≡ Ok (named_of named)
 ReadsNamed (Err (BadId word)) meant = meant ≡ Err word.now
 ReadsNamed (Err fault) meant = ⊥
 
 -- a call gave the word that is meant, or named it; or memory ran out
-abbrev pub ReadsWord : Result (Bor (List ℕ)) WordsFault → Result (List ℕ) (List ℕ) → Type 0
+abbrev pub ReadsWord : Result (Bor (List ℕ)) ArgumentFault → Result (List ℕ) (List ℕ) → Type 0
 ReadsWord (Ok word) meant = meant ≡ Ok word.now
 ReadsWord (Err (BadId word)) meant = meant ≡ Err word.now
 ReadsWord (Err OutOfMemory) meant = Unit {0}
 ReadsWord (Err fault) meant = ⊥
 
 -- the same of several, of which the first that asks for none is named
-abbrev pub ReadsWords : Result (Vec (Bor (List ℕ)) Global) WordsFault → Result (List (List ℕ)) (List ℕ) → Type 0
+abbrev pub ReadsWords : Result (Vec (Bor (List ℕ)) Global) ArgumentFault → Result (List (List ℕ)) (List ℕ) → Type 0
 ReadsWords (Ok words) meant = meant ≡ Ok (texts_of words)
 ReadsWords (Err (BadId word)) meant = meant ≡ Err word.now
 ReadsWords (Err OutOfMemory) meant = Unit {0}

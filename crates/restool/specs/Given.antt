@@ -5,8 +5,8 @@ use Rattle.std.specs.Str.Parse.{IsNumeral, digits_value, without_leading_plus}
 use Rattle.resource_tool.specs.command_base.answer_text.config_record.locales.declared.locale_rule.LocaleRule.{LocaleRule}
 use Rattle.resource_tool.specs.command_base.answer_text.config_record.locales.declared.locale_rule.LocaleRule.TheVariants.{LanguageAndRegion, Android}
 use Rattle.clap.specs.Walk.{Row, first_of, one_of, all_of}
-use Rattle.restool.specs.declared.words_fault.WordsFault.{WordsFault}
-use Rattle.restool.specs.declared.words_fault.WordsFault.TheVariants as faults
+use Rattle.restool.specs.declared.argument_fault.ArgumentFault.{ArgumentFault}
+use Rattle.restool.specs.declared.argument_fault.ArgumentFault.TheVariants as faults
 use Rattle.restool.specs.CommandLine.{most_nodes, nodes_if_left_out, greatest_goal}
 
 -- the word of an argument that takes one; it is required, so there is one
@@ -43,20 +43,20 @@ rule_named None = Ok LanguageAndRegion
 rule_named (Some word) = if bytes_eq word (codes "android") then Ok Android else Err word
 
 -- a call gave the rule that is meant, or named the word that names none
-abbrev pub ReadsRule : Result LocaleRule WordsFault → Result LocaleRule (List ℕ) → Type 0
+abbrev pub ReadsRule : Result LocaleRule ArgumentFault → Result LocaleRule (List ℕ) → Type 0
 ReadsRule (Ok rule) meant = meant ≡ Ok rule
 ReadsRule (Err (faults.BadRule word)) meant = meant ≡ Err word.now
 ReadsRule (Err fault) meant = ⊥
 
 -- Words were read that are to ask for resources or goals: what was read is right for what they ask, or the first word that
 -- asks for nothing is named. Where memory ran out, nothing is said.
-abbrev pub ReadsAlong : {S X : Type 0} → Result S (List ℕ) → (S → X → Type 0) → Result X WordsFault → Type 0
+abbrev pub ReadsAlong : {S X : Type 0} → Result S (List ℕ) → (S → X → Type 0) → Result X ArgumentFault → Type 0
 ReadsAlong {S} meant IsRight (Ok x) = (spelled : S) × (meant ≡ Ok spelled) × IsRight spelled x
 ReadsAlong meant IsRight (Err (faults.BadId word)) = meant ≡ Err word.now
 ReadsAlong meant IsRight (Err faults.OutOfMemory) = Unit {0}
 ReadsAlong meant IsRight (Err fault) = ⊥
 
 -- The same, where a word names the rule of locales, and is read first.
-abbrev pub ReadsByRule : {X : Type 0} → Result LocaleRule (List ℕ) → (LocaleRule → Result X WordsFault → Type 0) → Result X WordsFault → Type 0
+abbrev pub ReadsByRule : {X : Type 0} → Result LocaleRule (List ℕ) → (LocaleRule → Result X ArgumentFault → Type 0) → Result X ArgumentFault → Type 0
 ReadsByRule meant Reads (Err (faults.BadRule word)) = meant ≡ Err word.now
 ReadsByRule meant Reads result = (rule : LocaleRule) × (meant ≡ Ok rule) × Reads rule result

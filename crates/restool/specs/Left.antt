@@ -10,28 +10,13 @@ use Rattle.resource_tool.specs.command_base.Inputs.{Places}
 use Rattle.resource_tool.specs.command_base.LeftOut.{has_overlays, left_of}
 use Rattle.resource_tool.specs.command_base.Stop.{StopOf}
 use Rattle.restool.specs.declared.left.LayerWords as lent
-use Rattle.restool.specs.declared.request.Request.{Request}
-use Rattle.restool.specs.declared.request.Request.TheVariants as requests
 
--- the words of a request that give layers
+-- words that give layers
 pub data LayerWordsOf : Type 0 where
   no_layers : LayerWordsOf
   layers : List ℕ → LayerWordsOf
   -- of two stacks that are compared
   both_layers : List ℕ → List ℕ → LayerWordsOf
-
-abbrev pub layer_words : Request → LayerWordsOf
-layer_words (requests.Ids it) = layers it.layers.now
-layer_words (requests.Survey it) = layers it.layers.now
-layer_words (requests.Show it) = layers it.layers.now
-layer_words (requests.Query it) = layers it.layers.now
-layer_words (requests.Explain it) = layers it.layers.now
-layer_words (requests.Bag it) = layers it.layers.now
-layer_words (requests.Attr it) = layers it.layers.now
-layer_words (requests.Make it) = layers it.layers.now
-layer_words (requests.Check it) = layers it.layers.now
-layer_words (requests.Diff it) = both_layers it.old.now it.new.now
-layer_words _ = no_layers
 
 -- whether maps are made for one of them
 abbrev pub name_overlays : LayerWordsOf → Bool

@@ -10,27 +10,30 @@ use Rattle.contract_words.specs.Faults.{◌>>=◌}
 use Rattle.json_input.specs.Each.{each}
 use Rattle.resource_tool.specs.command_base.answer_text.config_record.locales.declared.locale_rule.LocaleRule.{LocaleRule}
 use Rattle.resource_tool.specs.command_base.names.Named.{NamedOf, named_of}
+use Rattle.restool.specs.declared.argument_fault.ArgumentFault.{ArgumentFault}
 use Rattle.restool.specs.declared.words_fault.WordsFault.{WordsFault}
 use Rattle.restool.specs.declared.words_fault.WordsFault.TheVariants as faults
 use Rattle.restool.specs.declared.request.Request.{Request}
 use Rattle.restool.specs.declared.request.Request.TheVariants as requests
 use Rattle.restool.specs.declared.request.Command.{Command}
 use Rattle.restool.specs.declared.request.Command.TheVariants.{Rows, Dump, Map, Ids, Survey, Show, Query, Explain, Bag, Attr, Make, Check, Diff, Device}
+use Rattle.restool.specs.WordsFault.{read_of_words}
 use Rattle.restool.specs.CommandLine.{command, device, flag, goal_number, goals, ids, layers, locales, maybe_one_word, maybe_words, names, nodes, one_word, several_words}
 use Rattle.restool.specs.Given.{IsGiven, IsGoalNumber, IsNodeLimit, ReadsAlong, ReadsByRule, rule_named, word_at, words_at}
 use Rattle.restool.specs.AskedWords.{asked_word, named_word}
+use Rattle.restool.specs.Left.{LayerWordsOf, no_layers, layers as layers_in, both_layers}
 use Rattle.resource_tool.specs.command_base.FileWords.{texts_of}
 use Rattle.restool.specs.declared.asked_words.Asks.TheVariants.{Resources, Goals}
 use Rattle.resource_tool.specs.command_base.declared.status.Status.{Status}
 use Rattle.resource_tool.specs.command_base.declared.stop.Stop.{Stop}
 use Rattle.resource_tool.specs.command_base.Inputs.{Places}
-use Rattle.resource_tool.specs.table_commands.TableOutput.{ListsIds, PrintsRows, PrintsDump}
-use Rattle.resource_tool.specs.table_commands.MapOutput.{PrintsMap}
-use Rattle.resource_tool.specs.table_commands.QueryOutput.{Queries}
-use Rattle.resource_tool.specs.table_commands.ExplainOutput.{Explains}
-use Rattle.resource_tool.specs.table_commands.BagOutput.{PrintsBag}
-use Rattle.resource_tool.specs.table_commands.AttrOutput.{PrintsAttr}
-use Rattle.resource_tool.specs.table_commands.DeviceOutput.{PrintsDevice}
+use Rattle.table_commands.specs.TableOutput.{ListsIds, PrintsRows, PrintsDump}
+use Rattle.table_commands.specs.MapOutput.{PrintsMap}
+use Rattle.table_commands.specs.QueryOutput.{Queries}
+use Rattle.table_commands.specs.ExplainOutput.{Explains}
+use Rattle.table_commands.specs.BagOutput.{PrintsBag}
+use Rattle.table_commands.specs.AttrOutput.{PrintsAttr}
+use Rattle.table_commands.specs.DeviceOutput.{PrintsDevice}
 use Rattle.resource_tool.specs.Make.{Makes}
 use Rattle.resource_tool.specs.Check.{Checks}
 use Rattle.report_commands.specs.Survey.{Surveys}
@@ -200,7 +203,7 @@ IsDeviceOf rule rows (requests.Device it) =
 IsDeviceOf rule rows _ = ⊥
 
 -- a command was read, whose arguments have these rows; what they ask for is read from left to right
-abbrev pub ReadsCommand : Command → List Row → Result Request WordsFault → Type 0
+abbrev pub ReadsCommand : Command → List Row → Result Request ArgumentFault → Type 0
 ReadsCommand Rows rows result = IsOkAnd result (IsRowsOf rows)
 ReadsCommand Dump rows result = IsOkAnd result (IsDumpOf rows)
 ReadsCommand Map rows result = IsOkAnd result (IsMapOf rows)
@@ -223,8 +226,8 @@ ReadsCommandLine words (Err (faults.CommandLine error)) = IsAmong (kind_of error
 ReadsCommandLine words (Err faults.OutOfMemory) = Unit {0}
 ReadsCommandLine words result =
     (fault_of command_line words ≡ [])
-    × ((name : List ℕ) × (rows : List Row) × (subcommand_of command_line words ≡ Some (name, rows))
-    × IsSomeAnd (command_of name) (λ command. ReadsCommand command rows result))
+    × ((name : List ℕ) × (rows : List Row) × (read : Result Request ArgumentFault) × (subcommand_of command_line words ≡ Some (name, rows))
+    × IsSomeAnd (command_of name) (λ command. ReadsCommand command rows read) × (result ≡ read_of_words read))
 
 -- The same, where there may be no words after the program's name: they ask for the rows of the standard input.
 abbrev pub AsksFor : List (List ℕ) → Result Request WordsFault → Type 0
@@ -232,6 +235,20 @@ AsksFor (name ∷ word ∷ words) result = ReadsCommandLine (name ∷ word ∷ w
 AsksFor _ result = IsOkAnd result (AsksForRows (codes "-"))
 
 -- ---- what a request is answered
+
+-- the words that give layers
+abbrev pub layer_words : Request → LayerWordsOf
+layer_words (requests.Ids it) = layers_in it.layers.now
+layer_words (requests.Survey it) = layers_in it.layers.now
+layer_words (requests.Show it) = layers_in it.layers.now
+layer_words (requests.Query it) = layers_in it.layers.now
+layer_words (requests.Explain it) = layers_in it.layers.now
+layer_words (requests.Bag it) = layers_in it.layers.now
+layer_words (requests.Attr it) = layers_in it.layers.now
+layer_words (requests.Make it) = layers_in it.layers.now
+layer_words (requests.Check it) = layers_in it.layers.now
+layer_words (requests.Diff it) = both_layers it.old.now it.new.now
+layer_words _ = no_layers
 
 -- A request, from what the places have: as the crate of its command says. Only `map`, `make` and `check` themselves have lines for
 -- errors.

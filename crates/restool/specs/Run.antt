@@ -8,10 +8,10 @@ use Rattle.resource_tool.specs.command_base.Inputs.{Places}
 use Rattle.resource_tool.specs.command_base.CarriesOut.{IsKept}
 use Rattle.restool.specs.declared.request.Request.{Request}
 use Rattle.restool.specs.declared.words_fault.WordsFault.{WordsFault}
-use Rattle.restool.specs.Request.{Answers, AsksFor, ErrorsGet}
+use Rattle.restool.specs.Request.{Answers, AsksFor, ErrorsGet, layer_words}
 use Rattle.restool.specs.WordsFault.{is_output, words_line, status_after_words}
 use Rattle.restool.specs.Ending.{EndsAs}
-use Rattle.restool.specs.Left.{SaysLeft, layer_words}
+use Rattle.restool.specs.Left.{SaysLeft}
 
 -- the streams that the program writes to
 pub record Streams (W V : Type 0) : Type 0 where

@@ -1,5 +1,5 @@
 -- Why words ask for nothing, and what is said then.
-use Rattle.std.specs.Prelude.{ℕ, Bool, true, false, List, [], ◌∷◌, ◌++◌, codes, Option, Some, None, if◌then◌else◌}
+use Rattle.std.specs.Prelude.{ℕ, Bool, true, false, List, [], ◌∷◌, ◌++◌, codes, Option, Some, None, Result, Ok, Err, if◌then◌else◌}
 use Rattle.clap.specs.Values.{kind_of}
 use Rattle.clap.specs.declared.error.Error.{Error}
 use Rattle.clap.specs.declared.error.kind.ErrorKind.{ErrorKind}
@@ -8,6 +8,8 @@ use Rattle.resource_tool.specs.command_base.FaultText.{fault_line}
 use Rattle.resource_tool.specs.command_base.declared.exit_status.ExitStatus.{ExitStatus}
 use Rattle.resource_tool.specs.command_base.declared.exit_status.ExitStatus.TheVariants.{Done, BadCommandLine, Memory, Failed}
 use Rattle.resource_tool.specs.command_base.declared.fault.ToolFault.TheVariants as tools
+use Rattle.restool.specs.declared.argument_fault.ArgumentFault.{ArgumentFault}
+use Rattle.restool.specs.declared.argument_fault.ArgumentFault.TheVariants as arguments
 use Rattle.restool.specs.declared.words_fault.WordsFault.{WordsFault}
 use Rattle.restool.specs.declared.words_fault.WordsFault.TheVariants as faults
 
@@ -15,6 +17,17 @@ use Rattle.restool.specs.declared.words_fault.WordsFault.TheVariants as faults
 abbrev pub fault_of_kind : ErrorKind → Error → WordsFault
 fault_of_kind kinds.OutOfMemory error = faults.OutOfMemory
 fault_of_kind _ error = faults.CommandLine error
+
+-- for what is wrong with a word of an argument
+abbrev pub fault_of_argument : ArgumentFault → WordsFault
+fault_of_argument (arguments.BadRule word) = faults.BadRule word
+fault_of_argument (arguments.BadId word) = faults.BadId word
+fault_of_argument arguments.OutOfMemory = faults.OutOfMemory
+
+-- what was read of arguments, or why they ask for nothing
+abbrev pub read_of_words : {X : Type 0} → Result X ArgumentFault → Result X WordsFault
+read_of_words (Ok x) = Ok x
+read_of_words (Err fault) = Err (fault_of_argument fault)
 
 -- where the words of a process are not read: one of them is not UTF-8, or memory ran out
 abbrev pub IsOfReading : WordsFault → Type 0

@@ -7,9 +7,9 @@ ghost use Rattle.restool.specs.AskedWords.{ReadsNamed, ReadsWords, asked_word, n
 ghost use Rattle.restool.specs.Given.{IsGiven, IsGoalNumber, IsNodeLimit, ReadsRule, word_at, words_at};
 ghost use Rattle.restool.specs.Request.{locales_at};
 
+use crate::argument_fault::ArgumentFault;
 use crate::asked_words::{Asks, asked_words, named_word};
 use crate::command_line::{Argument, DOT, LOCALES, MAX_NODES, MOST_NODES, NODES_IF_LEFT_OUT};
-use crate::words_fault::WordsFault;
 use clap::ArgMatches;
 use resource_tool::{LocaleRule, Named};
 use std::alloc::Global;
@@ -34,13 +34,13 @@ pub(crate) fn given_maybe_word<'a>(given: &ArgMatches<'a>, argument: &Argument) 
 const ANDROID: &str = "android";
 
 /// By which rule locales are compared.
-pub(crate) fn given_rule<'a>(given: &ArgMatches<'a>) -> Result<LocaleRule, WordsFault<'a>>
+pub(crate) fn given_rule<'a>(given: &ArgMatches<'a>) -> Result<LocaleRule, ArgumentFault<'a>>
     ensures { ReadsRule result (locales_at (rows_of (found_of given.now))) }
 {
     match given_maybe_word(given, &LOCALES) {
         None => Ok(LocaleRule::LanguageAndRegion),
         Some(word) if word == ANDROID => Ok(LocaleRule::Android),
-        Some(word) => Err(WordsFault::BadRule(word)),
+        Some(word) => Err(ArgumentFault::BadRule(word)),
     }
 }
 
@@ -48,7 +48,7 @@ pub(crate) fn given_rule<'a>(given: &ArgMatches<'a>) -> Result<LocaleRule, Words
 pub(crate) fn given_named<'a>(
     given: &ArgMatches<'a>,
     argument: &Argument,
-) -> Result<Named<'a>, WordsFault<'a>>
+) -> Result<Named<'a>, ArgumentFault<'a>>
     ensures { ReadsNamed result (named_word (word_at argument.now.name.now (rows_of (found_of given.now)))) }
 {
     named_word(given_word(given, argument))
@@ -61,7 +61,7 @@ pub(crate) fn given_asked<'a>(
     given: &ArgMatches<'a>,
     argument: &Argument,
     asks: Asks,
-) -> Result<Vec<&'a str>, WordsFault<'a>>
+) -> Result<Vec<&'a str>, ArgumentFault<'a>>
     ensures { ReadsWords result (each (asked_word asks) (words_at argument.now.name.now (rows_of (found_of given.now)))) }
 {
     match given.get_strs(argument.name) {

@@ -4,7 +4,7 @@ ghost use Rattle.std.specs.Prelude.{map};
 ghost use Rattle.json_input.specs.Each.{each};
 ghost use Rattle.restool.specs.AskedWords.{ReadsNamed, ReadsWord, ReadsWords, asked_word, named_word};
 
-use crate::words_fault::WordsFault;
+use crate::argument_fault::ArgumentFault;
 use resource_tool::{GoalFault, Named, NamedGoal, NamedSet, file_path};
 use std::alloc::Global;
 
@@ -16,12 +16,12 @@ pub(crate) enum Asks {
 }
 
 /// The resource that a word asks for.
-pub(crate) fn named_word<'a>(word: &'a str) -> Result<Named<'a>, WordsFault<'a>>
+pub(crate) fn named_word<'a>(word: &'a str) -> Result<Named<'a>, ArgumentFault<'a>>
     ensures { ReadsNamed result (named_word word.entry.now) }
 {
     match Named::read(word) {
         Some(named) => Ok(named),
-        None => Err(WordsFault::BadId(word)),
+        None => Err(ArgumentFault::BadId(word)),
     }
 }
 
@@ -31,7 +31,7 @@ pub(crate) fn asked_words<'a>(
     alloc: Global,
     words: &[&'a str],
     asks: Asks,
-) -> Result<Vec<&'a str>, WordsFault<'a>>
+) -> Result<Vec<&'a str>, ArgumentFault<'a>>
     ensures { ReadsWords result (each (asked_word asks) (map (λ word. word.now) words.now)) }
 {
     let mut read = Vec::new(alloc);
@@ -41,7 +41,7 @@ pub(crate) fn asked_words<'a>(
     Ok(read)
 }
 
-fn asked_word<'a>(alloc: Global, word: &'a str, asks: Asks) -> Result<&'a str, WordsFault<'a>>
+fn asked_word<'a>(alloc: Global, word: &'a str, asks: Asks) -> Result<&'a str, ArgumentFault<'a>>
     ensures { ReadsWord result (asked_word asks word.entry.now) }
 {
     if file_path(word).is_some() {
@@ -50,12 +50,12 @@ fn asked_word<'a>(alloc: Global, word: &'a str, asks: Asks) -> Result<&'a str, W
     match asks {
         Asks::Resources => match NamedSet::read(word) {
             Some(_) => Ok(word),
-            None => Err(WordsFault::BadId(word)),
+            None => Err(ArgumentFault::BadId(word)),
         },
         Asks::Goals => match NamedGoal::read(alloc, word) {
             Ok(_) => Ok(word),
-            Err(GoalFault::Malformed) => Err(WordsFault::BadId(word)),
-            Err(GoalFault::OutOfMemory) => Err(WordsFault::OutOfMemory),
+            Err(GoalFault::Malformed) => Err(ArgumentFault::BadId(word)),
+            Err(GoalFault::OutOfMemory) => Err(ArgumentFault::OutOfMemory),
         },
     }
 }

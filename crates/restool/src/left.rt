@@ -3,9 +3,8 @@
 ghost use Rattle.std.specs.Prelude.{◌≡◌, false, [], IfOk, IfSome};
 ghost use Rattle.contract_words.specs.Exact.{GivesOr};
 ghost use Rattle.resource_tool.specs.command_base.LeftOut.{has_overlays, left_of};
-ghost use Rattle.restool.specs.Left.{layer_words, left_lines, lines_read, name_overlays, words_seen};
+ghost use Rattle.restool.specs.Left.{left_lines, lines_read, name_overlays, words_seen};
 
-use crate::request::Request;
 use command_base::{Inputs, Side, Stop, ToolFault, left_of_word};
 use std::alloc::{AllocError, Global};
 
@@ -16,26 +15,6 @@ pub(crate) enum LayerWords<'a> {
     One(&'a str),
     /// Of two stacks that are compared.
     Both(&'a str, &'a str),
-}
-
-pub(crate) fn layer_words<'a>(request: &Request<'a>) -> LayerWords<'a>
-    ensures { words_seen result ≡ layer_words request.now }
-{
-    match request {
-        Request::Ids(ids) => LayerWords::One(ids.layers),
-        Request::Survey(survey) => LayerWords::One(survey.layers),
-        Request::Show(show) => LayerWords::One(show.layers),
-        Request::Query(query) => LayerWords::One(query.layers),
-        Request::Explain(explain) => LayerWords::One(explain.layers),
-        Request::Bag(bag) => LayerWords::One(bag.layers),
-        Request::Attr(attr) => LayerWords::One(attr.layers),
-        Request::Make(make) => LayerWords::One(make.layers),
-        Request::Check(check) => LayerWords::One(check.layers),
-        Request::Diff(diff) => LayerWords::Both(diff.old, diff.new),
-        Request::Rows(_) | Request::Dump(_) | Request::Map(_) | Request::Device(_) => {
-            LayerWords::None
-        }
-    }
 }
 
 /// What the made maps leave out, in lines. Nothing is said of layers that can't be read.

@@ -4,9 +4,11 @@
 ghost use Rattle.std.specs.Prelude.{◌≡◌, IfSome};
 ghost use Rattle.clap.specs.Words.{rows_of, found_of};
 ghost use Rattle.resource_tool.specs.command_base.declared.fault.ToolFault.TheVariants.{Write};
-ghost use Rattle.restool.specs.Request.{Answers, ReadsCommand, ErrorsGet};
+ghost use Rattle.restool.specs.Left.{words_seen};
+ghost use Rattle.restool.specs.Request.{Answers, ReadsCommand, ErrorsGet, layer_words};
 ghost use Rattle.resource_tool.specs.command_base.CarriesOut.{IsKept};
 
+use crate::argument_fault::ArgumentFault;
 use crate::arguments::{
     given_asked, given_flag, given_goal_number, given_maybe_word, given_named, given_nodes,
     given_rule, given_word,
@@ -17,17 +19,15 @@ use crate::command_line::{
     GOALS, ID, IDS, KEEP, LAYERS, LOCALES, MAX_NODES, MAYBE_BOX, NAMES, NEW, OLD, OMIT, OVERLAY,
     STYLES, TABLE, TARGET, Usage,
 };
-use crate::words_fault::WordsFault;
+use crate::left::LayerWords;
 use clap::ArgMatches;
 use diff_command::Diff;
 use report_commands::{Show, Survey};
-use resource_tool::{
-    Attr, Bag, Check, DeviceForm, Dump, Explain, Ids, Inputs, Make, Map, Query, Rows, Status, Stop,
-    Watch,
-};
+use resource_tool::{Check, Inputs, Make, Status, Stop, Watch};
 use std::alloc::Global;
 use std::io::Write;
 use std::time::Clock;
+use table_commands::{Attr, Bag, DeviceForm, Dump, Explain, Ids, Map, Query, Rows};
 
 /// What words ask for: a command, with what its words ask. The words of resources and of goals are kept as they are: each
 /// asks for some, or names a file of such words.
@@ -204,7 +204,7 @@ pub(crate) fn request_of<'a>(
     alloc: Global,
     command: Command,
     given: &ArgMatches<'a>,
-) -> Result<Request<'a>, WordsFault<'a>>
+) -> Result<Request<'a>, ArgumentFault<'a>>
     ensures { ReadsCommand command (rows_of (found_of given.now)) result }
 {
     match command {
@@ -238,7 +238,7 @@ pub(crate) fn request_of<'a>(
     }
 }
 
-fn survey_of<'a>(given: &ArgMatches<'a>) -> Result<Request<'a>, WordsFault<'a>>
+fn survey_of<'a>(given: &ArgMatches<'a>) -> Result<Request<'a>, ArgumentFault<'a>>
     ensures { ReadsCommand Command.Survey (rows_of (found_of given.now)) result }
 {
     let locales = given_rule(given)?;
@@ -249,7 +249,7 @@ fn survey_of<'a>(given: &ArgMatches<'a>) -> Result<Request<'a>, WordsFault<'a>>
     }))
 }
 
-fn query_of<'a>(alloc: Global, given: &ArgMatches<'a>) -> Result<Request<'a>, WordsFault<'a>>
+fn query_of<'a>(alloc: Global, given: &ArgMatches<'a>) -> Result<Request<'a>, ArgumentFault<'a>>
     ensures { ReadsCommand Command.Query (rows_of (found_of given.now)) result }
 {
     let locales = given_rule(given)?;
@@ -262,7 +262,7 @@ fn query_of<'a>(alloc: Global, given: &ArgMatches<'a>) -> Result<Request<'a>, Wo
     }))
 }
 
-fn explain_of<'a>(given: &ArgMatches<'a>) -> Result<Request<'a>, WordsFault<'a>>
+fn explain_of<'a>(given: &ArgMatches<'a>) -> Result<Request<'a>, ArgumentFault<'a>>
     ensures { ReadsCommand Command.Explain (rows_of (found_of given.now)) result }
 {
     let locales = given_rule(given)?;
@@ -275,7 +275,7 @@ fn explain_of<'a>(given: &ArgMatches<'a>) -> Result<Request<'a>, WordsFault<'a>>
     }))
 }
 
-fn bag_of<'a>(given: &ArgMatches<'a>) -> Result<Request<'a>, WordsFault<'a>>
+fn bag_of<'a>(given: &ArgMatches<'a>) -> Result<Request<'a>, ArgumentFault<'a>>
     ensures { ReadsCommand Command.Bag (rows_of (found_of given.now)) result }
 {
     let locales = given_rule(given)?;
@@ -289,7 +289,7 @@ fn bag_of<'a>(given: &ArgMatches<'a>) -> Result<Request<'a>, WordsFault<'a>>
 }
 
 #[tactic(auto, unfolding(crate::specs::Request::attr_asked))]
-fn attr_of<'a>(alloc: Global, given: &ArgMatches<'a>) -> Result<Request<'a>, WordsFault<'a>>
+fn attr_of<'a>(alloc: Global, given: &ArgMatches<'a>) -> Result<Request<'a>, ArgumentFault<'a>>
     ensures { ReadsCommand Command.Attr (rows_of (found_of given.now)) result }
 {
     let locales = given_rule(given)?;
@@ -304,7 +304,7 @@ fn attr_of<'a>(alloc: Global, given: &ArgMatches<'a>) -> Result<Request<'a>, Wor
     }))
 }
 
-fn make_of<'a>(alloc: Global, given: &ArgMatches<'a>) -> Result<Request<'a>, WordsFault<'a>>
+fn make_of<'a>(alloc: Global, given: &ArgMatches<'a>) -> Result<Request<'a>, ArgumentFault<'a>>
     ensures { ReadsCommand Command.Make (rows_of (found_of given.now)) result }
 {
     let locales = given_rule(given)?;
@@ -319,7 +319,7 @@ fn make_of<'a>(alloc: Global, given: &ArgMatches<'a>) -> Result<Request<'a>, Wor
     }))
 }
 
-fn check_of<'a>(alloc: Global, given: &ArgMatches<'a>) -> Result<Request<'a>, WordsFault<'a>>
+fn check_of<'a>(alloc: Global, given: &ArgMatches<'a>) -> Result<Request<'a>, ArgumentFault<'a>>
     ensures { ReadsCommand Command.Check (rows_of (found_of given.now)) result }
 {
     let locales = given_rule(given)?;
@@ -333,7 +333,7 @@ fn check_of<'a>(alloc: Global, given: &ArgMatches<'a>) -> Result<Request<'a>, Wo
     }))
 }
 
-fn diff_of<'a>(alloc: Global, given: &ArgMatches<'a>) -> Result<Request<'a>, WordsFault<'a>>
+fn diff_of<'a>(alloc: Global, given: &ArgMatches<'a>) -> Result<Request<'a>, ArgumentFault<'a>>
     ensures { ReadsCommand Command.Diff (rows_of (found_of given.now)) result }
 {
     let locales = given_rule(given)?;
@@ -347,7 +347,7 @@ fn diff_of<'a>(alloc: Global, given: &ArgMatches<'a>) -> Result<Request<'a>, Wor
     }))
 }
 
-fn device_of<'a>(given: &ArgMatches<'a>) -> Result<Request<'a>, WordsFault<'a>>
+fn device_of<'a>(given: &ArgMatches<'a>) -> Result<Request<'a>, ArgumentFault<'a>>
     ensures { ReadsCommand Command.Device (rows_of (found_of given.now)) result }
 {
     let locales = given_rule(given)?;
@@ -356,6 +356,27 @@ fn device_of<'a>(given: &ArgMatches<'a>) -> Result<Request<'a>, WordsFault<'a>>
         locales,
         config: given_flag(given, &CONFIG),
     }))
+}
+
+/// The words of a request that give layers.
+pub(crate) fn layer_words<'a>(request: &Request<'a>) -> LayerWords<'a>
+    ensures { words_seen result ≡ layer_words request.now }
+{
+    match request {
+        Request::Ids(ids) => LayerWords::One(ids.layers),
+        Request::Survey(survey) => LayerWords::One(survey.layers),
+        Request::Show(show) => LayerWords::One(show.layers),
+        Request::Query(query) => LayerWords::One(query.layers),
+        Request::Explain(explain) => LayerWords::One(explain.layers),
+        Request::Bag(bag) => LayerWords::One(bag.layers),
+        Request::Attr(attr) => LayerWords::One(attr.layers),
+        Request::Make(make) => LayerWords::One(make.layers),
+        Request::Check(check) => LayerWords::One(check.layers),
+        Request::Diff(diff) => LayerWords::Both(diff.old, diff.new),
+        Request::Rows(_) | Request::Dump(_) | Request::Map(_) | Request::Device(_) => {
+            LayerWords::None
+        }
+    }
 }
 
 /// Answers a request. Where it is not answered, nothing is written, unless a write fails.

@@ -6,8 +6,8 @@ ghost use Rattle.restool.specs.Run.{CarriesOutRequest, Runs};
 
 use crate::ending::{Reported, end, said_beside, written_out};
 use crate::hints::hint_of;
-use crate::left::{layer_words, left_lines};
-use crate::request::{Request, answer};
+use crate::left::left_lines;
+use crate::request::{Request, answer, layer_words};
 use crate::words::read_words;
 use resource_tool::{ExitStatus, Inputs, Status, Stop, ToolFault, Watch};
 use std::alloc::Global;

@@ -10,11 +10,12 @@ use crate::command_line::command_line;
 use crate::request::{Command, Request, request_of};
 use crate::words_fault::WordsFault;
 use clap::ArgMatches;
-use resource_tool::{Rows, STANDARD_INPUT};
+use resource_tool::STANDARD_INPUT;
 use std::alloc::Global;
 use std::env;
 use std::io::{self, ErrorKind};
 use std::rt::Env;
+use table_commands::Rows;
 
 /// The words that the program was started with. The first is its name.
 pub fn program_words<R: Env + AllocGlobal>(rt: &R) -> Result<Vec<String>, WordsFault<'static>>
@@ -55,7 +56,7 @@ fn read_command<'a>(alloc: Global, words: &'a [String]) -> Result<Request<'a>, W
 {
     let matches = matches_of(alloc, words)?;
     match matches.subcommand() {
-        Some((name, given)) => request_of(alloc, Command::of_name(name), given),
+        Some((name, given)) => Ok(request_of(alloc, Command::of_name(name), given)?),
         None => unreachable!(),
     }
 }

@@ -5,8 +5,9 @@ ghost use Rattle.std.specs.Io.KnownBytes.{Appends};
 ghost use Rattle.contract_words.specs.Writes.{Writes};
 ghost use Rattle.clap.specs.Values.{kind_of};
 ghost use Rattle.restool.specs.declared.words_fault.WordsFault.TheVariants.{OutOfMemory};
-ghost use Rattle.restool.specs.WordsFault.{fault_of_kind, is_asked_for};
+ghost use Rattle.restool.specs.WordsFault.{fault_of_argument, fault_of_kind, is_asked_for};
 
+use crate::argument_fault::ArgumentFault;
 use crate::ending::Reported;
 use clap::error::ErrorKind;
 use resource_tool::{ExitStatus, ToolFault, fault_text};
@@ -113,6 +114,18 @@ impl From<AllocError> for WordsFault<'_> {
 
     fn from(_error: AllocError) -> Self {
         WordsFault::OutOfMemory
+    }
+}
+
+impl<'a> From<ArgumentFault<'a>> for WordsFault<'a> {
+    ghost from_gives = { λ fault e. e ≡ fault_of_argument fault };
+
+    fn from(fault: ArgumentFault<'a>) -> Self {
+        match fault {
+            ArgumentFault::BadRule(word) => WordsFault::BadRule(word),
+            ArgumentFault::BadId(word) => WordsFault::BadId(word),
+            ArgumentFault::OutOfMemory => WordsFault::OutOfMemory,
+        }
     }
 }
 

@@ -1,6 +1,6 @@
 //! The commands that answer from tables, by what their words ask or over bytes, to a writer: `rows` and `dump` of one
-//! table, `map` of a target and an overlay, `ids` of layers; and for one device and the layers of a stack `query`, `explain`, `bag` and
-//! `attr`.
+//! table, `map` of a target and an overlay, `ids` of layers; for one device and the layers of a stack `query`, `explain`, `bag` and
+//! `attr`; and `device`, of a device alone.
 //!
 //! For the crates above: `answer` of a command reads what its words name, and prints what that means and nothing else;
 //! or it gives why it stops, and has printed nothing, unless a write failed. A call over bytes does the same of them,

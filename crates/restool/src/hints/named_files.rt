@@ -1,24 +1,19 @@
 //! What the words of a request name.
 
-use crate::request::Request;
+use crate::left::LayerWords;
+use crate::request::{Request, layer_words};
 use command_base::{LocaleRule, Side};
 
 impl<'a> Request<'a> {
     /// Where the layers are; of two stacks those of one side.
     pub(crate) fn layers(&self, side: Side) -> Option<&'a str> {
-        match (self, side) {
-            (Request::Ids(ids), _) => Some(ids.layers),
-            (Request::Survey(survey), _) => Some(survey.layers),
-            (Request::Show(show), _) => Some(show.layers),
-            (Request::Query(query), _) => Some(query.layers),
-            (Request::Explain(explain), _) => Some(explain.layers),
-            (Request::Bag(bag), _) => Some(bag.layers),
-            (Request::Attr(attr), _) => Some(attr.layers),
-            (Request::Make(make), _) => Some(make.layers),
-            (Request::Check(check), _) => Some(check.layers),
-            (Request::Diff(diff), Side::Old) => Some(diff.old),
-            (Request::Diff(diff), Side::New) => Some(diff.new),
-            _ => None,
+        match layer_words(self) {
+            LayerWords::None => None,
+            LayerWords::One(word) => Some(word),
+            LayerWords::Both(old, new) => Some(match side {
+                Side::Old => old,
+                Side::New => new,
+            }),
         }
     }
 

@@ -4,9 +4,9 @@ use crate::hints::Asked;
 use crate::hints::members::is_short;
 use crate::hints::nearest::Nearest;
 use command_base::{InputFault, Inputs, Place, Side};
-use resource_tool::Ids;
 use std::alloc::Global;
 use std::str;
+use table_commands::Ids;
 
 /// Stands for all entries of a type.
 const ALL: &str = "/*";

@@ -1,6 +1,7 @@
 use Rattle.std.proofs.Common.{◌≡◌, refl, ap, ◌∙◌}
 use Rattle.std.specs.Io.Buffered.{writer_inner}
-use Rattle.restool.specs.Left.{layer_words, name_overlays, words_seen}
+use Rattle.restool.specs.Request.{layer_words}
+use Rattle.restool.specs.Left.{name_overlays, words_seen}
 use Rattle.restool.proofs.Beside.{same-twice, stop-twice, failed-twice, stopped-twice, kept-behind, lines-behind, without-memory}
 use Rattle.restool.proofs.Written.{answers-behind, shows-behind, unwritten-behind}
 use Rattle.restool.proofs.run.carry_out.Goals as goal
