@@ -1,6 +1,7 @@
 //! What is lent from the bytes of the input: it outlives the table and the stack that gave it. So does what all members of a
 //! box have in common outlive the styles that were asked. Each function that lends it ends what it is lent from.
 
+use crate::layers::{Malformed, push_base, push_overlay, stack_of_base};
 use crate::marked::{begin, bytes_of, end, tell, tell_found, word};
 use cert_checker::{CommonTrace, ConfigBox, Coord, OpenBox, ResId, Stack};
 use res_value::Cell;
@@ -8,7 +9,6 @@ use resource_table::{Row, Table};
 use std::alloc::Global;
 use std::test::Fail;
 use string_pool::Text;
-use test_layers::{LayerFault, push_base, push_overlay, stack_of_base};
 
 /// The resource of entry 0.
 const FIRST: ResId = ResId(0x7f01_0000);
@@ -28,7 +28,7 @@ pub fn call(rt: &HostRuntime, words: &[String]) -> Result<(), Fail> {
 
 // Tells the first row of a table with its API level, the rows of its bag, and the table's first string.
 fn tell_parts(rt: &HostRuntime, bytes: &[u8]) -> Result<(), Fail> {
-    let (row, text) = parts_of(rt.alloc(), bytes).ok_or(LayerFault::Malformed)?;
+    let (row, text) = parts_of(rt.alloc(), bytes).ok_or(Malformed)?;
     tell(rt, (row.id, row.config.get(Coord::Sdk)));
     if let Cell::Bag { rows, .. } = row.cell {
         for named in rows {
@@ -48,7 +48,7 @@ fn parts_of(alloc: Global, bytes: &[u8]) -> Option<(Row<'_>, Text<'_>)> {
 
 // Tells what the candidates of a base and of an overlay hold, which are two inputs.
 fn tell_candidates(rt: &HostRuntime, base: &[u8], overlay: &[u8], map: &str) -> Result<(), Fail> {
-    let cells = cells_of(rt.alloc(), base, overlay, map).ok_or(LayerFault::Malformed)?;
+    let cells = cells_of(rt.alloc(), base, overlay, map).ok_or(Malformed)?;
     for cell in &cells {
         tell(rt, *cell);
     }
@@ -73,7 +73,7 @@ fn cells_of<'a>(
 
 // Tells what all members of a box have in common of the attribute under the style that the first entry is.
 fn tell_common(rt: &HostRuntime, bytes: &[u8], json: &[u8]) -> Result<(), Fail> {
-    let stack = stack_of_base(rt.alloc(), bytes).ok_or(LayerFault::Malformed)?;
+    let stack = stack_of_base(rt.alloc(), bytes).ok_or(Malformed)?;
     let members = ConfigBox::read(rt.alloc(), json)?;
     tell(rt, common(rt, &stack, members)?);
     Ok(())

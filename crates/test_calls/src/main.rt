@@ -11,6 +11,7 @@
 mod commands;
 mod handed_on;
 mod inputs;
+mod layers;
 mod lent;
 mod marked;
 mod stacks;

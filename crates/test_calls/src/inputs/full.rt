@@ -1,10 +1,10 @@
 //! The pushes of layers over as many as there can be, which take no memory and hand back what was not pushed.
 
+use crate::layers::{Malformed, SAME, push_base};
 use crate::marked::{begin, bytes_of, end, tell};
 use bags_themes::{IdMap, MOST_LAYERS, ResId, Stack, Table};
 use std::alloc::Global;
 use std::test::Fail;
-use test_layers::{LayerFault, SAME, push_base};
 
 /// The resource of entry 0.
 const FIRST: ResId = ResId(0x7f01_0000);
@@ -24,7 +24,7 @@ pub fn base(rt: &HostRuntime, word: &str) -> Result<(), Fail> {
 }
 
 fn base_of(rt: &HostRuntime, bytes: &[u8]) -> Result<(), Fail> {
-    let mut stack = full_stack(rt.alloc(), bytes).ok_or(LayerFault::Malformed)?;
+    let mut stack = full_stack(rt.alloc(), bytes).ok_or(Malformed)?;
     let table = Table::open(rt.alloc(), bytes)?;
     begin(rt);
     let pushed = stack.push_base(table);
@@ -42,7 +42,7 @@ pub fn overlay(rt: &HostRuntime, word: &str) -> Result<(), Fail> {
 }
 
 fn overlay_of(rt: &HostRuntime, bytes: &[u8]) -> Result<(), Fail> {
-    let stack = full_stack(rt.alloc(), bytes).ok_or(LayerFault::Malformed)?;
+    let stack = full_stack(rt.alloc(), bytes).ok_or(Malformed)?;
     let table = Table::open(rt.alloc(), bytes)?;
     let map = IdMap::read(rt.alloc(), SAME)?;
     push_overlay(rt, stack, table, map);

@@ -1,11 +1,11 @@
 //! The labels of two stacks, for `tests/check_pairs.py`.
 
+use crate::layers::{Malformed, SAME, push_base, push_overlay};
 use crate::marked::bytes_of;
 use bags_themes::Stack;
 use stack_diff::{NamedStack, name_pairs};
 use std::alloc::Global;
 use std::test::Fail;
-use test_layers::{LayerFault, SAME, push_base, push_overlay};
 
 /// Stands between two layers.
 const COMMA: char = ',';
@@ -40,8 +40,8 @@ fn layers_of(alloc: Global, word: &str) -> Result<Vec<Layer>, Fail> {
 }
 
 fn told_of(rt: &HostRuntime, old: &[Layer], new: &[Layer]) -> Result<(), Fail> {
-    let old = stack_of(rt.alloc(), old).ok_or(LayerFault::Malformed)?;
-    let new = stack_of(rt.alloc(), new).ok_or(LayerFault::Malformed)?;
+    let old = stack_of(rt.alloc(), old).ok_or(Malformed)?;
+    let new = stack_of(rt.alloc(), new).ok_or(Malformed)?;
     tell_pairs(rt, &old, &new)
 }
 

@@ -1,9 +1,9 @@
 //! Themes of two styles, the bags of entries 0 and 1.
 
+use crate::layers::{Malformed, device_of};
 use crate::marked::{begin, end, tell};
 use bags_themes::{Device, ResId, Stack, Theme};
 use std::test::Fail;
-use test_layers::{LayerFault, device_of};
 
 const STYLES: [ResId; 2] = [ResId(0x7f01_0000), ResId(0x7f01_0001)];
 
@@ -17,7 +17,7 @@ const ATTRS: [ResId; 4] = [
 /// Applies the second style, to an empty theme or after the first, with force or without: which a word says by being
 /// there.
 pub fn applied(rt: &HostRuntime, stack: &Stack<'_>, first: &str, forced: &str) -> Result<(), Fail> {
-    let device = device_of("").ok_or(LayerFault::Malformed)?;
+    let device = device_of("").ok_or(Malformed)?;
     let mut theme = Theme::new(rt.alloc());
     if !first.is_empty() {
         theme.apply(stack, STYLES[0], true, &device)?;

@@ -7,7 +7,7 @@ const MEDIUM: u64 = 160;
 
 /// The device of these qualifiers, as `locale=fr,sdk=26`; its density is 160 where none is named. None where
 /// one is not known.
-pub fn device_of(qualifiers: &str) -> Option<Device> {
+pub(crate) fn device_of(qualifiers: &str) -> Option<Device> {
     let mut fields = Fields {
         numbers: [0; 25],
         locale: Locale::NONE,

@@ -4,16 +4,16 @@ use overlay_map::{IdMap, Stack, Table};
 use std::alloc::Global;
 
 /// An id map in which entry 0 stands for entry 0.
-pub const SAME: &[u8] = br#"[["0x7f010000","0x7f010000"]]"#;
+pub(crate) const SAME: &[u8] = br#"[["0x7f010000","0x7f010000"]]"#;
 
 /// Puts a base over the layers of a stack; None where it is refused.
-pub fn push_base<'a>(alloc: Global, stack: &mut Stack<'a>, bytes: &'a [u8]) -> Option<()> {
+pub(crate) fn push_base<'a>(alloc: Global, stack: &mut Stack<'a>, bytes: &'a [u8]) -> Option<()> {
     let table = Table::open(alloc, bytes).ok()?;
     stack.push_base(table).ok()
 }
 
 /// Puts an overlay over the layers of a stack; None where it is refused.
-pub fn push_overlay<'a>(
+pub(crate) fn push_overlay<'a>(
     alloc: Global,
     stack: &mut Stack<'a>,
     bytes: &'a [u8],
@@ -25,7 +25,7 @@ pub fn push_overlay<'a>(
 }
 
 /// The stack of a base.
-pub fn stack_of_base(alloc: Global, bytes: &[u8]) -> Option<Stack<'_>> {
+pub(crate) fn stack_of_base(alloc: Global, bytes: &[u8]) -> Option<Stack<'_>> {
     let mut stack = Stack::new(alloc);
     push_base(alloc, &mut stack, bytes)?;
     Some(stack)
