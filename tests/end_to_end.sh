@@ -152,8 +152,8 @@ else
     echo "not run, since python3 is missing: random maps"
 fi
 
-# ---- ids: the names of a dump, each once
-sed -n 's/^  \(0x[0-9a-f]* [^ ]*\) .*/\1/p' "$tables/rich.dump.txt" | sort -u >rich.ids
+# ---- ids: the names of a dump, each once and without quotes
+sed -n 's/^  \(0x[0-9a-f]* [^ ]*\) .*/\1/p' "$tables/rich.dump.txt" | tr -d '"' | sort -u >rich.ids
 cd "$tables" || exit 1
 check "ids of real layers" 0 "$work/rich.ids" $none ids rich.layers.json
 check "ids of real layers with an overlay" 0 "$work/rich.ids" $none ids rich-overlay.layers.json
