@@ -223,7 +223,8 @@ def device_runs():
 
 def word_runs():
     """Runs whose words are layers, or a device."""
-    yield Run("a word of layers", ["query", "+".join(APKS), PHONE, "0x7f050000"], [*APKS, PHONE], out=lines(TITLE, "set-aside 1"))
+    # What the map of the overlay leaves out is found first.
+    yield Run("a word of layers", ["query", "+".join(APKS), PHONE, "0x7f050000"], [*APKS, *APKS, PHONE], out=lines(TITLE, "set-aside 1"))
     yield Run("a device as a word", ["query", LAYERS, GERMAN, "0x7f050000"], LAYER_FILES, out=lines(TITLE, "set-aside 1"))
     json = '"locale":"de-DE","smallestWidthDp":360,"widthDp":360,"heightDp":640,"screenSize":2,"orientation":1,"uiType":1,"night":2'
     yield Run("device", ["device", GERMAN], out=f"{{{json},\"density\":320,\"sdk\":27}}\n")

@@ -1,5 +1,5 @@
 -- What the maps leave out that are made of the overlays of a word: the lines of `map`, each behind its layer.
-use Rattle.std.specs.Prelude.{ℕ, ◌++◌, ◌&&◌, Bool, List, [], codes, length, slice_get, Option, Some, None, Result, Ok, if◌then◌else◌}
+use Rattle.std.specs.Prelude.{ℕ, ◌++◌, ◌&&◌, Bool, List, [], codes, length, slice_get, Option, Some, None, Result, Ok, Err, if◌then◌else◌}
 use Rattle.std.specs.List.{list_any}
 use Rattle.std.specs.Option.{option_map_or}
 use Rattle.answer_text.specs.LayerText.{layer_text}
@@ -7,14 +7,12 @@ use Rattle.contract_words.specs.Faults.{◌>>=◌}
 use Rattle.contract_words.specs.Sequences.{joined_from}
 use Rattle.command_base.specs.declared.fault.ToolFault.{ToolFault}
 use Rattle.command_base.specs.declared.side.Side.{Side}
-use Rattle.command_base.specs.CarriesOut.{read_or_stop}
-use Rattle.command_base.specs.Inputs.{Places, layers_of, table_at_place}
+use Rattle.command_base.specs.Inputs.{table_at_place}
 use Rattle.command_base.specs.ListWord.{ListedLayer, is_list_word, is_plus, layers_in_word}
 use Rattle.command_base.specs.MadeMap.{made_map}
 use Rattle.command_base.specs.MapText.{lines_with}
 use Rattle.command_base.specs.SideName.{side_name}
 use Rattle.command_base.specs.StackBytes.{LayerBytes, table_of_layer}
-use Rattle.command_base.specs.Stop.{StopOf}
 
 -- `old ` or `new `, where two stacks are compared
 abbrev pub side_mark : Option Side → List ℕ
@@ -49,6 +47,11 @@ left_in side listed layers = joined_from (left_at side listed layers) 0 (length 
 abbrev pub has_overlays : List ℕ → Bool
 has_overlays word = is_list_word word && list_any is_plus word
 
--- those of the layers of a word, from what the places have
-unfoldable pub left_of : Option Side → Places → List ℕ → Result (List ℕ) StopOf
-left_of side places word = if has_overlays word then (layers_of places word >>= λ layers. read_or_stop (left_in side (layers_in_word word) layers)) else Ok []
+-- the lines, where all tables are opened; where one is not, the command stops, and nothing is said
+abbrev pub lines_or_none : Result (List ℕ) ToolFault → List ℕ
+lines_or_none (Ok lines) = lines
+lines_or_none (Err fault) = []
+
+-- what is said of the layers that were read of a word
+abbrev pub left_of : Option Side → List ℕ → List LayerBytes → List ℕ
+left_of side word layers = if has_overlays word then lines_or_none (left_in side (layers_in_word word) layers) else []

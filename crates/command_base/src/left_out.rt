@@ -1,30 +1,26 @@
 //! What the maps leave out that are made of the overlays of a word.
 
-ghost use Rattle.std.specs.Prelude.{◌≡◌, false, [], map, length, IfOk, IfSome};
+ghost use Rattle.std.specs.Prelude.{◌≡◌, [], map, IfOk};
 ghost use Rattle.std.specs.List.{list_any};
 ghost use Rattle.answer_text.specs.OnLine.{on_line};
 ghost use Rattle.contract_words.specs.Exact.{GivesOr};
 ghost use Rattle.contract_words.specs.Sequences.{Pushes};
 ghost use Rattle.contract_words.specs.Writes.{Writes};
 ghost use Rattle.command_base.specs.declared.fault.ToolFault.TheVariants.{OutOfMemory};
-ghost use Rattle.command_base.specs.CarriesOut.{read_or_stop};
 ghost use Rattle.command_base.specs.FilesSeen.{bytes_of, layers_held};
 ghost use Rattle.command_base.specs.Inputs.{table_at_place};
 ghost use Rattle.command_base.specs.LeftOut.{base_of, has_overlays, layer_mark, left_at, left_by_map, left_in, left_of, side_mark};
-ghost use Rattle.command_base.specs.ListWord.{is_plus, layers_in_word};
+ghost use Rattle.command_base.specs.ListWord.{is_plus};
 ghost use Rattle.command_base.specs.ListWordSeen.{listed_of};
 ghost use Rattle.command_base.specs.StackBytesSeen.{layer_bytes};
-ghost use Rattle.command_base.specs.Stop.{GivesOrStops};
 
 use crate::fault::ToolFault;
-use crate::inputs::Inputs;
 use crate::layer_files::LayerFiles;
 use crate::layer_parts::LayerParts;
 use crate::list_word::{ListedLayer, is_list_word, layers_in_word};
 use crate::made_map::MadeMap;
 use crate::side::Side;
 use crate::stack::open_table;
-use crate::stop::Stop;
 use answer_text::{write_layer, write_on_line};
 use std::alloc::{AllocError, Global};
 use std::io::{self, Write};
@@ -32,28 +28,31 @@ use std::io::{self, Write};
 /// What stands before an overlay in a word that is a list.
 const OVERLAY: u8 = b'+';
 
-/// What `map` says of the maps that are made of the overlays of a word: its lines, each behind its layer, and behind the side
-/// where two stacks are compared. The layers are read for it; of a word without overlays there is nothing to say, and nothing
-/// is read.
+/// What `map` says of the maps that were made of the overlays of a word: its lines, each behind its layer, and behind the side
+/// where two stacks are compared. These are the layers that were read of the word.
 ///
 /// ```text
-/// let lines = left_of_word(alloc, &inputs, None, "app.apk+overlay.apk")?; // layer 1 unmapped 0x7f010003 "string"/"title"
+/// let files = LayerFiles::read(alloc, &inputs, "app.apk+overlay.apk")?;
+/// let lines = left_of(alloc, None, "app.apk+overlay.apk", &files)?; // layer 1 unmapped 0x7f010003 "string"/"title"
 /// ```
-#[tactic(auto, unfolding(crate::specs::LeftOut::left_of))]
-pub fn left_of_word<'a, I: Inputs>(
+pub fn left_of(
     alloc: Global,
-    inputs: &I,
     side: Option<Side>,
-    word: &'a str,
-) -> Result<Vec<u8>, Stop<'a>>
-    ensures lines { IfSome (I.places inputs.now) (λ places. GivesOrStops bytes_of result (left_of side places word.entry.now)) }
-    ensures nothing { has_overlays word.entry.now ≡ false → IfOk result (λ lines. lines.items ≡ []) }
+    word: &str,
+    files: &LayerFiles,
+) -> Result<Vec<u8>, AllocError>
+    ensures { IfOk result (λ lines. lines.items ≡ left_of side word.now (layers_held files.now)) }
 {
     if !has_overlays(word) {
         return Ok(Vec::new(alloc));
     }
-    let files = LayerFiles::read(alloc, inputs, word)?;
-    left_of_files(alloc, side, word, &files)
+    let layers = files.layers(alloc)?;
+    let listed = layers_in_word(alloc, word)?;
+    match left_of_layers(alloc, side, &listed, &layers) {
+        Ok(lines) => Ok(lines),
+        Err(ToolFault::OutOfMemory) => Err(AllocError),
+        Err(_) => Ok(Vec::new(alloc)),
+    }
 }
 
 /// Says such lines, where there are any.
@@ -67,7 +66,8 @@ pub fn say_left<E: Write + Drop>(lines: &[u8], errors: &mut E) -> io::Result<()>
     write_on_line(lines, errors)
 }
 
-fn has_overlays(word: &str) -> bool
+/// Whether maps are made for a word: it is a list, and has an overlay.
+pub fn has_overlays(word: &str) -> bool
     ensures { result ≡ has_overlays word.now }
 {
     is_list_word(word) && has_plus(word.as_bytes())
@@ -77,19 +77,6 @@ fn has_plus(word: &[u8]) -> bool
     ensures { result ≡ list_any is_plus word.now }
 {
     word.iter().any(|byte| *byte == OVERLAY)
-}
-
-fn left_of_files(
-    alloc: Global,
-    side: Option<Side>,
-    word: &str,
-    files: &LayerFiles,
-) -> Result<Vec<u8>, Stop<'static>>
-    ensures { GivesOrStops bytes_of result (read_or_stop (left_in side (layers_in_word word.now) (layers_held files.now))) }
-{
-    let layers = files.layers(alloc)?;
-    let listed = layers_in_word(alloc, word)?;
-    Ok(left_of_layers(alloc, side, &listed, &layers)?)
 }
 
 #[tactic(auto, using(crate::proofs::LeftSteps::from_steps))]

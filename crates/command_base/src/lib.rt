@@ -83,7 +83,7 @@ pub use layer_files::LayerFiles;
 pub use layer_list::LayerList;
 pub use layer_parts::LayerParts;
 pub use layers_fault::LayersFault;
-pub use left_out::{left_of_word, say_left};
+pub use left_out::{has_overlays, left_of, say_left};
 pub use list_word::{ListedLayer, is_list_word, layers_in_word};
 pub use made_map::MadeMap;
 pub use names::{GoalFault, Name, Named, NamedGoal, NamedSet, NamedStack, SharedNames, file_path};

@@ -1,5 +1,5 @@
 -- What came of an answer, in two steps: lines were said beside it, and then what was kept back of it was written.
-use Rattle.std.proofs.Common.{◌≡◌, ℕ, Bool, List, Option, Some, None, Result, Ok, Err, refl, sym, ap, subst, ◌∙◌}
+use Rattle.std.proofs.Common.{◌≡◌, ◌≢◌, ℕ, Bool, List, Option, Some, None, Result, Ok, Err, refl, sym, ap, subst, ◌∙◌}
 use Rattle.std.specs.Prelude.{IsOk, IfOk, IfErr, IfSome, OnOk}
 use Rattle.std.specs.Io.KnownBytes.{Appends}
 use Rattle.resource_tool.specs.command_base.answer_text.OnLine.{on_line}
@@ -11,9 +11,10 @@ use Rattle.resource_tool.specs.command_base.Inputs.{Places}
 use Rattle.resource_tool.specs.command_base.Stop.{stop_of, tool}
 use Rattle.restool.specs.declared.request.Request.{Request}
 use Rattle.restool.specs.declared.request.Request.TheVariants as asks
-use Rattle.restool.specs.Left.{LayerWordsOf, left_lines}
-use Rattle.restool.specs.Request.{Answers, ErrorsGet, layer_words}
+use Rattle.restool.specs.Left.{LayerWordsOf, StopsAt, left_lines}
+use Rattle.restool.specs.Request.{ErrorsGet, layer_words}
 use Rattle.restool.specs.Run.{CarriesOutRequest}
+use Rattle.restool.proofs.Unread.{answers-unread}
 
 pub same-twice : (answered told outcome : Result Status Stop) → IfOk told (λ status. answered ≡ Ok status) → IfOk outcome (λ status. told ≡ Ok status)
     → IfOk outcome (λ status. answered ≡ Ok status)
@@ -56,30 +57,9 @@ lines-behind says (Some places) before after told outcome lines given words seen
     said-behind told outcome (Appends (says before) (says after) (on_line (left_lines places seen))) same
     (subst (λ (t : List ℕ). OnOk told (Appends (says before) (says after) (on_line t))) (lent ∙ are ∙ ap (λ (w : LayerWordsOf). left_lines places w) is) said)
 
--- ---- want of memory
+-- ---- layers that are not read
 
-module _ {W V : Type 0} (is_terminal : Bool) (contents : W → Option (List ℕ)) (says : V → Option (List ℕ)) (old : W) (before : V) (stop : Stop) (is : stop_of stop ≡ tool OutOfMemory) where
-  -- Nothing is said of an answer then.
-  answers : (places : Places) (request : Request) → Answers is_terminal contents says old old before before places request (Err stop)
-  answers places (asks.Rows it) = λ other. absurd (other is)
-  answers places (asks.Dump it) = λ other. absurd (other is)
-  answers places (asks.Map it) = λ other. absurd (other is)
-  answers places (asks.Ids it) = λ other. absurd (other is)
-  answers places (asks.Survey it) = λ other. absurd (other is)
-  answers places (asks.Show it) = λ other. absurd (other is)
-  answers places (asks.Query it) = λ other. absurd (other is)
-  answers places (asks.Explain it) = λ other. absurd (other is)
-  answers places (asks.Bag it) = λ other. absurd (other is)
-  answers places (asks.Attr it) = λ other. absurd (other is)
-  answers places (asks.Make it) = λ other. absurd (other is)
-  answers places (asks.Check it) = λ other. absurd (other is)
-  answers places (asks.Diff it) = λ other. absurd (other is)
-  answers places (asks.Device it) = λ other. absurd (other is)
-
-  answers-known : (known : Option Places) (request : Request) → IfSome known (λ places. Answers is_terminal contents says old old before before places request (Err stop))
-  answers-known None request = tt
-  answers-known (Some places) request = answers places request
-
+module _ {W V : Type 0} (is_terminal : Bool) (contents : W → Option (List ℕ)) (says : V → Option (List ℕ)) (old : W) (before : V) (stop : Stop) where
   shows : (request : Request) → ErrorsGet is_terminal before before request (Err stop)
   shows (asks.Rows it) = refl
   shows (asks.Dump it) = refl
@@ -103,10 +83,16 @@ module _ {W V : Type 0} (is_terminal : Bool) (contents : W → Option (List ℕ)
   says-known None words = tt
   says-known (Some places) words = tt
 
-  pub without-memory : (known : Option Places) (request : Request) (after : W) (outcome : Result Status Stop) → outcome ≡ Err stop → after ≡ old
+  pub carried-unread : (known : Option Places) (request : Request) (words : LayerWordsOf) (after : W) (outcome : Result Status Stop) → words ≡ layer_words request
+      → IfSome known (λ places. stop_of stop ≢ tool OutOfMemory → StopsAt places words (stop_of stop)) → outcome ≡ Err stop → after ≡ old
       → CarriesOutRequest contents says known is_terminal (record { out = old; errors = before }) (record { out = after; errors = before }) request outcome
-  without-memory known request after outcome ends same =
-      let here : CarriesOutRequest contents says known is_terminal (record { out = old; errors = before }) (record { out = old; errors = before }) request (Err stop) =
-      (before, answers-known known request, shows request, (says-known known (layer_words request), λ _. refl, λ _. refl), λ _. refl) in
+  carried-unread known request words after outcome is at ends same =
+      let here : CarriesOutRequest contents says known is_terminal (record { out = old; errors = before }) (record { out = old; errors = before }) request (Err stop) = (
+        before,
+        answers-unread is_terminal contents says old before stop known request words is at,
+        shows request,
+        (says-known known (layer_words request), λ _. refl, λ _. refl),
+        λ _. refl,
+      ) in
       subst (λ (w : W). CarriesOutRequest contents says known is_terminal (record { out = old; errors = before }) (record { out = w; errors = before }) request outcome) (sym same)
       (subst (λ (r : Result Status Stop). CarriesOutRequest contents says known is_terminal (record { out = old; errors = before }) (record { out = old; errors = before }) request r) (sym ends) here)

@@ -6,4 +6,5 @@ pub mod CommandLineFacts
 pub mod NamedCommand
 mod IdTexts
 mod GoalWords
+mod Unread
 mod Beside

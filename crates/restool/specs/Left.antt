@@ -1,13 +1,16 @@
 -- What is said beside an answer of the maps that were made for its layers.
-use Rattle.std.specs.Prelude.{◌≡◌, ◌||◌, ◌++◌, ℕ, Bool, false, List, [], Option, Some, None, Result, Ok, Err, IfSome, OnOk}
+use Rattle.std.specs.Prelude.{◌≡◌, ◌⊎◌, ◌||◌, ◌++◌, ℕ, Bool, false, List, [], Option, Some, None, Result, Ok, Err, IfSome, OnOk, if◌then◌else◌}
 use Rattle.std.specs.Io.KnownBytes.{Appends}
 use Rattle.resource_tool.specs.command_base.answer_text.OnLine.{on_line}
+use Rattle.resource_tool.specs.command_base.declared.side.Side.{Side}
 use Rattle.resource_tool.specs.command_base.declared.side.Side.TheVariants.{Old, New}
 use Rattle.resource_tool.specs.command_base.declared.status.Status.{Status}
 use Rattle.resource_tool.specs.command_base.declared.stop.Stop.{Stop}
 use Rattle.resource_tool.specs.command_base.CarriesOut.{IsKept}
-use Rattle.resource_tool.specs.command_base.Inputs.{Places}
-use Rattle.resource_tool.specs.command_base.LeftOut.{has_overlays, left_of}
+use Rattle.resource_tool.specs.command_base.Inputs.{Places, layers_of, layers_on_side}
+use Rattle.resource_tool.specs.command_base.LeftOut.{has_overlays, left_in, lines_or_none}
+use Rattle.resource_tool.specs.command_base.ListWord.{layers_in_word}
+use Rattle.resource_tool.specs.command_base.StackBytes.{LayerBytes}
 use Rattle.resource_tool.specs.command_base.Stop.{StopOf}
 use Rattle.restool.specs.declared.left.LayerWords as lent
 
@@ -24,16 +27,27 @@ name_overlays no_layers = false
 name_overlays (layers word) = has_overlays word
 name_overlays (both_layers old new) = has_overlays old || has_overlays new
 
--- the lines of what was read; where it was not, the command stops, and nothing is said
-abbrev pub lines_read : Result (List ℕ) StopOf → List ℕ
-lines_read (Ok lines) = lines
-lines_read (Err stop) = []
+-- what is said of what was read of a word; where it was not read, the command stops, and nothing is said
+abbrev pub lines_of_read : Option Side → List ℕ → Result (List LayerBytes) StopOf → List ℕ
+lines_of_read side word (Ok read) = lines_or_none (left_in side (layers_in_word word) read)
+lines_of_read side word (Err stop) = []
+
+abbrev pub said_of : Option Side → List ℕ → Result (List LayerBytes) StopOf → List ℕ
+said_of side word read = if has_overlays word then lines_of_read side word read else []
 
 -- what the made maps leave out, in lines, from what the places have
 abbrev pub left_lines : Places → LayerWordsOf → List ℕ
 left_lines places no_layers = []
-left_lines places (layers word) = lines_read (left_of None places word)
-left_lines places (both_layers old new) = lines_read (left_of (Some Old) places old) ++ lines_read (left_of (Some New) places new)
+left_lines places (layers word) = said_of None word (layers_of places word)
+left_lines places (both_layers old new) = said_of (Some Old) old (layers_on_side Old places old) ++ said_of (Some New) new (layers_on_side New places new)
+
+-- the layers of such words are not read, and this is why; of two the old ones come first
+abbrev pub StopsAt : Places → LayerWordsOf → StopOf → Type 0
+StopsAt places no_layers stop = ⊥
+StopsAt places (layers word) stop = layers_of places word ≡ Err stop
+StopsAt places (both_layers old new) stop =
+    (layers_on_side Old places old ≡ Err stop)
+    ⊎ ((read : List LayerBytes) × (layers_on_side Old places old ≡ Ok read) × (layers_on_side New places new ≡ Err stop))
 
 -- Errors, which were before and are after, got these lines where there is an answer. Where there is none they are as they were,
 -- unless a write failed, and so they are where no maps were made.

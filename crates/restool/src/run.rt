@@ -1,6 +1,6 @@
 //! From words to the exit status.
 
-ghost use Rattle.std.specs.Prelude.{◌≡◌, [], map, string_bytes};
+ghost use Rattle.std.specs.Prelude.{◌≡◌, [], map, Err, string_bytes};
 ghost use Rattle.std.specs.Io.Buffered.{writer_buffer, writer_inner};
 ghost use Rattle.restool.specs.Run.{CarriesOutRequest, Runs};
 
@@ -9,7 +9,7 @@ use crate::hints::hint_of;
 use crate::left::left_lines;
 use crate::request::{Request, answer, layer_words};
 use crate::words::read_words;
-use resource_tool::{ExitStatus, Inputs, Status, Stop, ToolFault, Watch};
+use resource_tool::{ExitStatus, Inputs, Status, Stop, Watch};
 use std::alloc::Global;
 use std::io::{BufWriter, Write};
 use std::time::Clock;
@@ -92,8 +92,9 @@ fn carry_out<'a, I: Inputs, C: Clock, O: Write + Drop, E: Write + Drop>(
         (record { out = writer_inner out; errors = errors.old }) (record { out = result.out; errors = errors.new }) request.now result.outcome }
 {
     let is_terminal = watch.is_terminal;
-    let Ok(lines) = left_lines(alloc, inputs, layer_words(request)) else {
-        return without_memory(out);
+    let lines = match left_lines(alloc, inputs, layer_words(request)) {
+        Ok(lines) => lines,
+        Err(stop) => return unanswered(alloc, inputs, is_terminal, request, stop, out),
     };
     let answered = answer(alloc, inputs, watch, request, &mut out, errors);
     let told = said_beside(answered, &lines, errors);
@@ -111,16 +112,26 @@ fn carry_out<'a, I: Inputs, C: Clock, O: Write + Drop, E: Write + Drop>(
     Carried { outcome, hint, out }
 }
 
-fn without_memory<'a, O: Write + Drop>(out: BufWriter<O>) -> Carried<'a, O>
+// A request whose layers are not read.
+fn unanswered<'a, I: Inputs, O: Write + Drop>(
+    alloc: Global,
+    inputs: &I,
+    is_terminal: bool,
+    request: &Request<'a>,
+    stop: Stop<'a>,
+    out: BufWriter<O>,
+) -> Carried<'a, O>
     ensures out { result.out ≡ writer_inner out }
-    ensures outcome { result.outcome ≡ Err (Stop.Tool ToolFault.OutOfMemory) }
+    ensures outcome { result.outcome ≡ Err stop.entry }
 {
     let (out, _nothing) = out.into_parts();
-    Carried {
-        outcome: Err(Stop::Tool(ToolFault::OutOfMemory)),
-        hint: None,
-        out,
-    }
+    let outcome = Err(stop);
+    let hint = if is_terminal {
+        hint_of(alloc, inputs, request, &outcome, b"")
+    } else {
+        None
+    };
+    Carried { outcome, hint, out }
 }
 
 // What is kept back yet of the output; none of it where memory runs out.

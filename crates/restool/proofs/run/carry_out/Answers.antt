@@ -2,15 +2,16 @@ use Rattle.std.proofs.Common.{◌≡◌, refl, ap, ◌∙◌}
 use Rattle.std.specs.Io.Buffered.{writer_inner}
 use Rattle.restool.specs.Request.{layer_words}
 use Rattle.restool.specs.Left.{name_overlays, words_seen}
-use Rattle.restool.proofs.Beside.{same-twice, stop-twice, failed-twice, stopped-twice, kept-behind, lines-behind, without-memory}
+use Rattle.restool.proofs.Beside.{same-twice, stop-twice, failed-twice, stopped-twice, kept-behind, lines-behind, carried-unread}
 use Rattle.restool.proofs.Written.{answers-behind, shows-behind, unwritten-behind}
 use Rattle.restool.proofs.run.carry_out.Goals as goal
 
-pub returns-in_default : goal.returns-in_default
-returns-in_default g c =
-    let none = c.without_memory.ensures in
-    without-memory c.args.watch.is_terminal g.O.Write.contents g.E.Write.contents (writer_inner c.args.out) c.args.errors.now _ refl
-    (g.I.Inputs.places c.args.inputs.now) c.args.request.now c.without_memory.result.out c.without_memory.result.outcome none.outcome none.out
+pub returns-in-Err : goal.returns-in-Err
+returns-in-Err g c =
+    let unread = c.unanswered.ensures in
+    carried-unread c.args.watch.is_terminal g.O.Write.contents g.E.Write.contents (writer_inner c.args.out) c.args.errors.now c.in-Err.stop
+    (g.I.Inputs.places c.args.inputs.now) c.args.request.now (words_seen c.layer_words.result) c.unanswered.result.out c.unanswered.result.outcome
+    c.layer_words.ensures c.in-Err.ensures.stops unread.outcome unread.out
 
 pub returns : goal.returns
 returns g c =
