@@ -25,7 +25,7 @@ from case_words import read_words
 from check_names import Words, written
 from named_tables import Table
 from plain_certificates import id_text
-from plain_diff import Both, Stack, asks_for, devices_text, pairs_of
+from plain_diff import Both, Stack, asks_for, devices_text, pairs_of, part_of
 from plain_names import label_text
 from plain_words import Missing, Two, check_packages
 from plain_trees import Traces, have_larger_trees, varying
@@ -34,7 +34,7 @@ from random_cases import Focus
 from random_locales import LocaleApps, LocaleFocus
 
 CASES_OF_A_JOB = 25
-DEVICES = re.compile(r"( on(?: [A-Za-z]+=[A-Za-z0-9.,-]+)+)?$")
+DEVICES = re.compile(r"( on(?: [^ \"]+)+)?$")
 NODE_LIMIT = "node limit\n", "", 1
 SHOWN = 700
 
@@ -55,7 +55,8 @@ class Case:
             )
             self.box = focus_of(chance).random_box(SIZES)
         self.members = self.box.members()
-        self.stacks = Both(*(Stack(layers, focus_of.layers_of) for layers in (self.old, self.new)))
+        self.is_raw = number % 3 == 2
+        self.stacks = Both(*(Stack(layers, focus_of.layers_of, self.is_raw) for layers in (self.old, self.new)))
         known = [(table, own is not None) for table, own in self.old + self.new]
         words = Words(chance, known) if chance.random() < 0.2 else None
         self.words = [words.several() for _ in range(chance.randint(1, 4))] if words else []
@@ -77,7 +78,7 @@ class Case:
         """The files, and the words of the command."""
         write_inputs(folder, self.old, self.new, self.box.json())
         limit = [] if self.limit is None else ["--max-nodes", str(self.limit)]
-        return ["diff", *self.options, *limit, "old", "new", "box", *written(self.chance, folder, self.words)]
+        return ["diff", *self.options, *limit, *["--raw"] * self.is_raw, "old", "new", "box", *written(self.chance, folder, self.words)]
 
 
 def write_inputs(folder, old, new, box):
@@ -111,25 +112,17 @@ def written_once(folder, names, some):
 
 
 class Line:
-    """A line of a change: how it goes on behind the label, its devices as text, and the rows below."""
+    """A line of a change: how it goes on behind the label, its devices as text, and the values of the coordinates that they name, and
+    the rows below."""
 
-    def __init__(self, text, rows):
+    def __init__(self, case, text, rows):
         self.bytes = "".join(f"{line}\n" for line in [text, *rows]).encode()
         self.devices = DEVICES.search(text)[0]
         self.change = text[: len(text) - len(self.devices)], tuple(rows)
-
-    def part(self, box):
-        """The values of the coordinates that the devices name."""
-        return {name: values_of(box, name, text) for name, text in (word.split("=") for word in self.devices.split()[1:])}
-
-
-def values_of(box, name, text):
-    if name == "locale":
-        return ["" if value == "none" else value for value in text.split(",")]
-    if not box.is_range(name):
-        return [int(value) for value in text.split(",")]
-    low, _, high = text.partition("..")
-    return range(int(low), int(high or low) + 1)
+        try:
+            self.part = part_of(case.box, self.devices, case.is_raw)
+        except ValueError:
+            self.part = {}
 
 
 def lines_needed(case, changes):
@@ -146,9 +139,9 @@ def faults_of_lines(case, lines, changes):
     if lines != sorted(lines, key=lambda line: line.bytes):
         yield "lines in another order"
     for line in lines:
-        part = line.part(case.box)
+        part = line.part
         is_rising = all(list(values) == case.box.in_order(name, values) for name, values in part.items())
-        if devices_text(case.box, part) != line.devices or not is_rising:
+        if devices_text(case.box, part, case.is_raw) != line.devices or not is_rising:
             yield f"devices written as{line.devices}"
         here = [place for place, device in enumerate(case.members) if all(device[name] in part[name] for name in part)]
         if not here:
@@ -197,7 +190,7 @@ def faults_of_text(case, pairs, text):
         if None in ids:
             faults = [] if lines[first:place] == [(due, [])] else [f"{lines[first:place + 1]}, where {due} is due"]
         else:
-            told = [Line(line[len(due) :], rows) for line, rows in lines[first:place]]
+            told = [Line(case, line[len(due) :], rows) for line, rows in lines[first:place]]
             changes = changes_of(case, ids)
             same += not any(changes)
             faults = [f"{label}: {fault}" for fault in faults_of_lines(case, told, changes)]

@@ -52,15 +52,24 @@ def words_in(folder, path):
     return words
 
 
-def words_asked(folder, asked, form):
-    """The words of a command line, with those of files in the place of words that name some. Each has to have this form."""
-    words = []
-    for word in asked:
-        names_file = word.startswith("@") and not XML_NAME.fullmatch(word)
-        words += words_in(folder, word[1:]) if names_file else [word]
+def names_file(word):
+    return word.startswith("@") and not XML_NAME.fullmatch(word)
+
+
+def check_forms(words, form):
     for word in words:
         if not form.fullmatch(word):
             raise Stop("bad id", word)
+
+
+def words_asked(folder, asked, form):
+    """The words of a command line, with those of files in the place of words that name some. Each has to have this form, and
+    those of the command line are looked at before a file is read."""
+    check_forms([word for word in asked if not names_file(word)], form)
+    words = []
+    for word in asked:
+        words += words_in(folder, word[1:]) if names_file(word) else [word]
+    check_forms(words, form)
     return words
 
 

@@ -108,7 +108,7 @@ def faults_of_form(nodes, picture):
 def faults_of_pictures(files, case, shown):
     faults = []
     for number, (goal, nodes) in enumerate(case.goals):
-        got = files.printed("show", "--dot", str(number), "layers", "certificate")
+        got = files.printed("show", *case.raw, "--dot", str(number), "layers", "certificate")
         want = text_of(shown.picture(number, goal, nodes)), 0
         faults += [] if got == want else [f"picture {number}: {got}", f"wanted: {want}"]
         faults += faults_of_form(nodes, got[0])
@@ -131,14 +131,15 @@ def faults_of_refused(files, case):
 def check_case(program, number):
     chance = random.Random(number)
     case = ShownCase(chance, has_styles=number % 2 == 1)
-    shown = Shown(case.shown)
+    is_raw = number % 3 == 2
+    case.raw, shown = ["--raw"] * is_raw, Shown(case.shown, is_raw)
     with tempfile.TemporaryDirectory() as folder:
         files = Files(program, folder, case)
         for place, layer in enumerate(case.shown):
             with open(os.path.join(folder, f"table{place}"), "wb") as table:
                 table.write(layer.table)
         files.write("certificate", certificate_json(case.goals))
-        got, want = files.printed("show", "layers", "certificate"), (text_of(shown.certificate(case.goals)), 0)
+        got, want = files.printed("show", *case.raw, "layers", "certificate"), (text_of(shown.certificate(case.goals)), 0)
         faults = [] if got == want else [f"printed: {got}", f"wanted: {want}"]
         faults += faults_of_pictures(files, case, shown)
         refused = []

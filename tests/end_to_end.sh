@@ -102,6 +102,7 @@ if command -v python3 >/dev/null; then
     ends "worked rows of small tables and texts" 0 "python3 '$here/tests/worked_rows.py' \"\$0\" 4"
     ends "worked reports of small tables and certificates" 0 "python3 '$here/tests/worked_reports.py' \"\$0\" 4"
     ends "worked styles and bags" 0 "python3 '$here/tests/worked_styles.py' \"\$0\" 4"
+    ends "worked answers in Android's notation" 0 "python3 '$here/tests/worked_notation.py' \"\$0\" 4"
     ends "worked devices and configurations" 0 "python3 '$here/tests/worked_configurations.py' \"\$0\" 4"
     ends "worked words: apks, lists of layers, devices" 0 "python3 '$here/tests/worked_words.py' \"\$0\" 4"
     ends "hints on a terminal, and none elsewhere" 0 "python3 '$here/tests/worked_hints.py' \"\$0\" 4"
@@ -182,8 +183,10 @@ answers() {
             "python3 '$here/tests/check_explanations.py' \"\$0\" $1.layers.json $2.device.json 4"
         ends "bags and attributes of $1 for $2" 0 \
             "python3 '$here/tests/check_bags.py' \"\$0\" $1.layers.json $2.device.json 4"
+        ends "answers of $1 for $2 in Android's notation" 0 \
+            "python3 '$here/tests/check_notation.py' \"\$0\" $1.layers.json $2.device.json 4"
     else
-        echo "not run, since python3 is missing: explanations, bags and attributes of $1 for $2"
+        echo "not run, since python3 is missing: explanations, bags and attributes of $1 for $2, and Android's notation of them"
     fi
     cd "$work" || exit 1
 }
@@ -437,6 +440,7 @@ no_diff "an attribute under styles is not compared" 2 'command: bad id attr/a@st
 ends "diff without a box" 2 '"$0" diff old new'
 ends "a change within 0 nodes" 2 '"$0" diff --max-nodes 0 old new box'
 ends "a change within too many nodes" 2 '"$0" diff --max-nodes 1000001 old new box'
+ends "two raw forms of a change" 2 '"$0" diff --raw --raw old new box'
 ends "two limits of a change" 2 '"$0" diff --max-nodes 1 --max-nodes 1 old new box'
 ends "names beside the ids of a change" 2 '"$0" diff --names old new box'
 ends "diff to a closed output" 5 '"$0" diff new new box >&-'
@@ -450,6 +454,15 @@ printf '%s\n' 'changed bool/whistles true -> false' \
     'changed string/title "Teapot" -> "Porcelain teapot" on locale=en-GB,en-US' \
     'changed string/title "Teekanne" -> "Porzellankanne" on locale=de-AT,de-CH,de-DE' 'set-aside 1 1' 'same 14' >changed.out
 cd "$here" || exit 1
+check "what the porcelain changes, raw" 1 "$work/changed.out" $none \
+    diff --raw "$work/plain" examples/porcelain/layers.json examples/porcelain/phones.json
+printf '%s\n' 'changed bool/whistles true -> false' \
+    'changed color/clay #b5651d -> #fff8f4ec on notnight' \
+    'changed dimen/handle 12dp -> 16dp on <198dpi' \
+    'changed string/brand "Teapot" -> "Porcelain teapot" on en-rGB,en-rUS' \
+    'changed string/brand "Teekanne" -> "Porzellankanne" on all but en-rGB,en-rUS' \
+    'changed string/title "Teapot" -> "Porcelain teapot" on en-rGB,en-rUS' \
+    'changed string/title "Teekanne" -> "Porzellankanne" on all but en-rGB,en-rUS' 'set-aside 1 1' 'same 14' >"$work/changed.out"
 check "what the porcelain changes" 1 "$work/changed.out" $none \
     diff "$work/plain" examples/porcelain/layers.json examples/porcelain/phones.json
 cd "$work" || exit 1
@@ -534,6 +547,8 @@ if command -v python3 >/dev/null; then
     ends "DEFINITIONS.md and HEADLINE.md are up to date" 0 "python3 '$here/tools/definitions.py' --check"
     ends "the tables of locales are those of its lists" 0 "python3 '$here/tools/locale_tables.py' --check"
     ends "known rows of a phone's locales" 0 "python3 '$here/tests/plain_locales.py' >&2"
+    ends "known texts of Android's notation" 0 "python3 '$here/tests/plain_notation.py' 1000 >&2"
+    ends "known devices in Android's words" 0 "python3 '$here/tests/plain_devices.py' 1000 >&2"
     ends "planted bugs apply, and are few" 0 "python3 '$here/tests/planted_bugs.py' --apply >&2"
 else
     echo "not run, since python3 is missing: links and files that pages name, DEFINITIONS.md, HEADLINE.md, tables and rows of locales, planted bugs"
@@ -705,6 +720,7 @@ ends "survey without layers" 2 '"$0" survey'
 ends "survey with two boxes" 2 '"$0" survey layers box box'
 ends "show without a certificate" 2 '"$0" show layers'
 ends "show of two certificates" 2 '"$0" show layers certificate certificate'
+ends "a raw certificate of a word" 2 '"$0" show --raw=yes layers certificate'
 ends "a picture of no goal" 2 '"$0" show layers certificate --dot'
 ends "a picture of a goal that is no number" 2 '"$0" show --dot first layers certificate'
 ends "a picture of a goal below 0" 2 '"$0" show --dot=-1 layers certificate'
@@ -728,9 +744,6 @@ ends "what proved it, and of which sources" 0 \
 ends "which program ./restool runs" 0 "sh '$here/tests/prebuilt.sh' >&2"
 ends "the prebuilt program, where it is of these sources" 0 "sh '$here/tests/same_prebuilt.sh' >told"
 cat told
-
-# ---- what the toolchain reads
-ends "few paths through crates.txt" 0 "python3 '$here/tools/paths.py' --check >&2"
 
 # ---- each way to stop
 ends "each way to stop" 0 "sh '$here/tests/stops/stops.sh' \"\$0\" >&2"

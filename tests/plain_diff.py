@@ -5,13 +5,18 @@ two contents is what a line of a change says behind its label, and the lines of 
 from collections import namedtuple
 from itertools import zip_longest
 
+import plain_devices
 from plain_map import first_rows
 from plain_names import label_text, said_text
+from plain_notation import formats_text, xml_text
 from plain_rules import COORDS, Layers, by_id, step_of, value_text
 from plain_words import is_asked, parts_of
 
 REFERENCE, ATTRIBUTE, STRING, BOOLEAN = 1, 2, 3, 0x12
 NUMBERS = range(0x10, 0x20)
+COMPLEX = 5, 6
+FORMATS = 0x01000000
+OF_ATTRIBUTES = dict(zip(range(FORMATS, FORMATS + 4), ("format", "min", "max", "localization")))
 QUANTITIES = dict(zip(range(0x01000004, 0x0100000A), ("other", "zero", "one", "two", "few", "many")))
 
 Said = namedtuple("Said", "text read")
@@ -42,9 +47,11 @@ def in_order(label):
 
 
 class Stack:
-    """Layers over one another: each a table with its rows and strings, and the id map of an overlay, None at a base."""
+    """Layers over one another: each a table with its rows and strings, and the id map of an overlay, None at a base. What they say
+    is printed in Android's notation, or raw."""
 
-    def __init__(self, layers, layers_of=Layers):
+    def __init__(self, layers, layers_of=Layers, is_raw=False):
+        self.is_raw = is_raw
         self.layers = layers_of([(by_id((row.id, row.record, row.cell) for row in table.rows), own) for table, own in layers])
         self.strings = [table.strings for table, _ in layers]
         bases = [table for table, own in layers if own is None]
@@ -83,11 +90,21 @@ class Stack:
     def value_content(self, layer, kind, word):
         if kind == STRING:
             text = self.string_content(layer, word)
+        elif (kind, word) == (REFERENCE, 0) and not self.is_raw:
+            text = "@null"
         elif kind in (REFERENCE, ATTRIBUTE):
             text = f"{'@' if kind == REFERENCE else '?'}{self.id_content(word)}"
         else:
-            text = value_text(kind, word)
+            text = value_text(kind, word) if self.is_raw else xml_text(kind, word_read(kind, word))
         return Said(text, read_of(kind, word, text))
+
+    def row(self, type_name, place, name, layer, kind, word):
+        """A row of a bag. Of the formats of an attribute it has the words."""
+        key, text = self.key(type_name, place, name)
+        said = self.value_content(layer, kind, word)
+        if key == (2, (1, FORMATS)) and kind in NUMBERS and not self.is_raw:
+            said = said._replace(text=formats_text(kind, word_read(kind, word)))
+        return Row(key, text, said)
 
     def content(self, name, device):
         """What an id says at a device."""
@@ -108,9 +125,7 @@ class Stack:
             return self.no_content("too many parents", name)
         first = self.first.get(name)
         type_name = first and first.names[0]
-        said = [
-            Row(*self.key(type_name, place, row), self.value_content(layer, *value)) for place, (row, layer, value) in enumerate(rows)
-        ]
+        said = [self.row(type_name, place, row, layer, *value) for place, (row, layer, value) in enumerate(rows)]
         return tuple(sorted(said, key=lambda row: row.key))
 
     def key(self, type_name, place, name):
@@ -120,7 +135,8 @@ class Stack:
         if type_name == "plurals" and name in QUANTITIES:
             return (1, name), QUANTITIES[name]
         label = self.label(name)
-        return (2, in_order(label)), label_text(self.packages, label)
+        text = label_text(self.packages, label)
+        return (2, in_order(label)), text if self.is_raw else OF_ATTRIBUTES.get(label, text)
 
     def trace(self, name, device):
         """What the candidates of an id do, and those of its references and, of a bag, of its parents; and the end."""
@@ -128,6 +144,13 @@ class Stack:
         if end[0] == "bag":
             look_ups = look_ups + self.layers.way_of_bag(end[1], device)[0]
         return tuple(step_of(decided) for _, told in look_ups for _, decided in told), end
+
+
+def word_read(kind, word):
+    """What a device reads of a word: of a boolean whether it is 0, and not bits 6 and 7 of a dimension or a fraction."""
+    if kind == BOOLEAN:
+        return word and 0xFFFFFFFF
+    return word & ~0xC0 if kind in COMPLEX else word
 
 
 def read_of(kind, word, text):
@@ -217,11 +240,41 @@ def values_text(box, name, values):
     return ",".join("none" if value == "" else str(value) for value in values)
 
 
-def devices_text(box, part):
+def set_of(box, name, values):
+    """The values of a coordinate as plain_devices has them."""
+    return (values[0], values[-1]) if box.is_range(name) else list(values)
+
+
+def devices_text(box, part, is_raw):
     """The devices of a part of a box, which is the values of some coordinates: those where it is narrower."""
+    if not is_raw:
+        whole = {name: set_of(box, name, values) for name, values in box.sets.items()}
+        return plain_devices.devices_text(whole, {name: set_of(box, name, values) for name, values in part.items()})
     said = [
         f" {name}={values_text(box, name, part[name])}"
         for name in COORDS
         if name in part and len(part[name]) < len(box.sets[name])
     ]
     return f" on{''.join(said)}" if said else ""
+
+
+def part_of(box, text, is_raw):
+    """The values of the coordinates that are written behind ` on`."""
+    if not is_raw:
+        whole = {name: set_of(box, name, values) for name, values in box.sets.items()}
+        said = plain_devices.part_of(whole, text)
+        return {
+            name: range(values[0], values[1] + 1) if isinstance(values, tuple) else values
+            for name, values in said.items()
+            if values != whole[name]
+        }
+    return {name: values_of(box, name, said) for name, said in (word.split("=") for word in text.split()[1:])}
+
+
+def values_of(box, name, text):
+    if name == "locale":
+        return ["" if value == "none" else value for value in text.split(",")]
+    if not box.is_range(name):
+        return [int(value) for value in text.split(",")]
+    low, _, high = text.partition("..")
+    return range(int(low), int(high or low) + 1)

@@ -71,6 +71,15 @@ def locale_parts(language_bytes, region_bytes, script, variant):
     return [f"{name}={said}" for name, said in named.items() if said]
 
 
+def number_word(name, number):
+    """The word of a number, or its letters, or its name."""
+    if (name, number) == ("mnc", 65535):
+        return "mnc00"
+    words = [word for word, meant in WORDS.get(name, {}).items() if meant == number]
+    front, end = ("v", "") if name == "sdk" else AROUND.get(name, (f"{name}=", ""))
+    return words[0] if words else f"{front}{number}{end}"
+
+
 def number_parts(name, numbers):
     number = numbers[name]
     if name == "width":
@@ -78,12 +87,7 @@ def number_parts(name, numbers):
     if name == "sdk":
         minor = numbers["minor"]
         return [f"v{number}" + (f".{minor}" if minor else "")] if number or minor else []
-    if number == 0:
-        return []
-    if (name, number) == ("mnc", 65535):
-        return ["mnc00"]
-    words = [word for word, meant in WORDS.get(name, {}).items() if meant == number]
-    return words or [str(number).join(AROUND[name]) if name in AROUND else f"{name}={number}"]
+    return [number_word(name, number)] if number else []
 
 
 def config_text(record):
@@ -175,7 +179,7 @@ def exact_text(kind, word):
 
 def xml_text(kind, word):
     """The text of a value without the names of resources and strings."""
-    named = {(0, 0): "@null", (0, 1): "@empty", (1, 0): "@null", (18, 0): "false", (18, 0xFFFFFFFF): "true"}
+    named = {(0, 0): "null", (0, 1): "@empty", (1, 0): "@null", (18, 0): "false", (18, 0xFFFFFFFF): "true"}
     text = named.get((kind, word))
     if kind in UNITS:
         text = complex_text(kind, word)
@@ -188,6 +192,20 @@ def xml_text(kind, word):
     elif 28 <= kind <= 31:
         text = color_text(kind, word)
     return exact_text(kind, word) if text is None else text
+
+
+FORMATS = {
+    0: "reference", 1: "string", 2: "integer", 3: "boolean", 4: "color", 5: "float", 6: "dimension", 7: "fraction", 16: "enum", 17: "flags",
+}
+"""The bits of an attribute's row 0x01000000 (ResTable_map::TYPE_REFERENCE and on)."""
+
+
+def formats_text(kind, word):
+    """What an attribute may be. Where its 16 low bits are set it may be anything."""
+    types = {16, 17} if word & 0xFFFF == 0xFFFF else set(range(32))
+    words = ["any"] * (types == {16, 17}) + [FORMATS.get(bit, "") for bit in sorted(types) if word >> bit & 1]
+    is_said = kind in (KINDS["decimal"], KINDS["hex"]) and words and all(words) and word < 1 << 18
+    return "|".join(words) if is_said else xml_text(kind, word)
 
 
 def complex_word(size, is_negative, unit):
@@ -364,13 +382,18 @@ VALUES = [
     ("float", 0x7FC00000, "float 0x7fc00000"),
     ("float", 0x7F800000, "float 0x7f800000"),
     ("float", 0x00000001, "float 0x00000001"),
-    ("null", 0, "@null"),
+    ("null", 0, "null"),
     ("null", 1, "@empty"),
     ("null", 2, "null 0x00000002"),
     ("reference", 0, "@null"),
     ("reference", 0x7F010000, "@0x7f010000"),
 ]
 """Kinds, words and their texts, as the rules have them and as aapt writes such words."""
+FORMATTED = [
+    (16, 1 << 4 | 1, "reference|color"), (16, 0xFFFF, "any"), (17, 0x1FFFF, "any|enum"), (16, 1 << 17, "flags"),
+    (16, 1 << 16 | 1 << 2, "integer|enum"), (16, 0xFF, "reference|string|integer|boolean|color|float|dimension|fraction"),
+    (16, 0, "0"), (17, 1 << 8, "0x100"), (16, 1 << 18 | 1, "262145"), (18, 0xFFFFFFFF, "true"), (1, 0, "@null"),
+]
 OTHERS = [(2, 0x01010001, "?0x01010001"), (3, 5, "string 5"), (7, 0x02010000, "dynamic 0x02010000"), (8, 9, "kind 0x08 0x00000009")]
 
 
@@ -393,11 +416,6 @@ def faults_of_reading(record, text):
         yield f"{text}: locale {read_locale}"
     if read != {name: said.get(name, 1 if name == "uiType" else 0) for name in NAMES if name in said or name == "uiType"}:
         yield f"{text}: {read}"
-
-
-def meant(kind, word):
-    """A reference to nothing says what an undefined value says."""
-    return (0, 0) if (kind, word) == (1, 0) else (kind, word)
 
 
 def faults_of_number(kind, word, text):
@@ -436,9 +454,20 @@ def faults_of_values(values):
             yield f"{xml_text(kind, word)}, not {text}"
     for kind, word in values:
         text = xml_text(kind, word)
-        if seen.setdefault(text, meant(kind, word)) != meant(kind, word):
+        if seen.setdefault(text, (kind, word)) != (kind, word):
             yield f"two are {text}"
         yield from faults_of_number(kind, word, text)
+
+
+def faults_of_formats():
+    seen = {}
+    for kind, word, text in FORMATTED:
+        if formats_text(kind, word) != text:
+            yield f"{formats_text(kind, word)}, not {text}"
+    for word in range(1 << 18):
+        text = formats_text(KINDS["decimal"], word)
+        if seen.setdefault(text, word) != word:
+            yield f"two are {text}"
 
 
 def main(words):
@@ -451,10 +480,10 @@ def main(words):
     elif prints == "--values":
         print("\n".join(f"{kind} {word} {xml_text(kind, word)}" for kind, word in values))
     else:
-        faults = [*faults_of_configs(records), *faults_of_values(values)]
+        faults = [*faults_of_configs(records), *faults_of_values(values), *faults_of_formats()]
         for fault in faults[:20]:
             print("failed:", fault)
-        tried = len(CONFIGS) + len(VALUES) + len(OTHERS) + 2 * cases
+        tried = len(CONFIGS) + len(VALUES) + len(OTHERS) + len(FORMATTED) + (1 << 18) + 2 * cases
         print(f"{tried - len(faults)} passed, {len(faults)} failed")
         sys.exit(len(faults) > 0)
 

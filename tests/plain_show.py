@@ -7,12 +7,14 @@ from typing import NamedTuple, Optional
 
 from plain_bags import Attribute
 from plain_certificates import id_text
-from plain_names import named
+from plain_devices import test_text as test_notation
+from plain_names import label_text, named
+from plain_notation import xml_text
 from plain_rules import end_text
 
 MOST_DEPTH = 32
 MOST_OF_A_LABEL = 2000
-STRING = 3
+REFERENCE, ATTRIBUTE, STRING = 1, 2, 3
 
 
 class Line(NamedTuple):
@@ -75,28 +77,45 @@ def dot_name(line):
 
 
 class Shown:
-    """What is shown over layers."""
+    """What is shown over layers, in Android's notation or raw."""
 
-    def __init__(self, layers):
-        self.layers = layers
+    def __init__(self, layers, is_raw):
+        self.layers, self.is_raw = layers, is_raw
         self.bases = [layer for layer in layers if layer.is_base]
         self.packages = [package for layer in self.bases for package in layer.packages]
 
+    def names_of(self, name):
+        """The names of the first row that an id has in a base."""
+        return next((layer.names[name] for layer in self.bases if name in layer.names), (None, None))
+
     def named(self, name):
-        """An id, and the word for the names of the first row that it has in a base."""
-        found = next((layer.names[name] for layer in self.bases if name in layer.names), (None, None))
-        return named(self.packages, name, found)
+        """An id, and the word for its names."""
+        return named(self.packages, name, self.names_of(name))
+
+    def value(self, kind, word, string):
+        """A value as XML has it: a string by its text, where there is one, and an id by its names."""
+        if kind == STRING and string is not None:
+            return string
+        names = self.names_of(word) if kind in (REFERENCE, ATTRIBUTE) else (None, None)
+        return xml_text(kind, word) if None in names else "@?"[kind - 1] + label_text(self.packages, (word >> 24, *names))
 
     def leaf(self, leaf):
         if "bag" in leaf:
             return f"bag {self.named(int(leaf['bag'], 16))}"
-        text = end_text(("value", leaf["layer"], leaf["kind"], leaf["word"]))
-        if leaf["layer"] >= len(self.layers):
-            return f"{text} (no such layer)"
-        return f"{text} {self.layers[leaf['layer']].strings.get(leaf['word'])[1]}" if leaf["kind"] == STRING else text
+        kind, word, place = leaf["kind"], leaf["word"], leaf["layer"]
+        strings = self.layers[place].strings if place < len(self.layers) else None
+        string = strings.get(word)[1] if kind == STRING and strings else None
+        if self.is_raw:
+            text = end_text(("value", place, kind, word)) + (f" {string}" if string else "")
+        else:
+            text = f"value layer {place} {self.value(kind, word, string)}"
+        return text if strings else f"{text} (no such layer)"
+
+    def test(self, test):
+        return test_text(test) if self.is_raw else test_notation(test)
 
     def label(self, node):
-        return test_text(node) if "coord" in node else self.leaf(node)
+        return self.test(node) if "coord" in node else self.leaf(node)
 
     def goal(self, goal):
         if isinstance(goal, Attribute):

@@ -6,7 +6,7 @@
 The cases are such as worked_rows.py has, and what is printed of them is the same."""
 from worked_rows import A, B, BAD, FIRST, ID, MEDIUM_BOX, NOWHERE, SECOND, TO_198, Case, check_groups, files_of, lines, over
 
-CHECK, MAKE, SHOW = f"check layers box certificate {ID}", f"make layers box {ID}", "show layers certificate"
+CHECK, MAKE, SHOW = f"check layers box certificate {ID}", f"make layers box {ID}", "show --raw layers certificate"
 
 
 def value(word, layer=0):

@@ -316,11 +316,47 @@ CASES = [
 ]
 
 
+FORMATS = 0x01000000
+NOTATED = [
+    # The same in Android's notation.
+    (
+        changed(resource("string/cancel", (ANY, Text("Cancel")), (GERMAN, Text("Abbruch")))),
+        (),
+        'changed string/cancel "Abbrechen" -> "Abbruch" on de-rAT,de-rDE\nsame 11',
+    ),
+    (
+        changed(resource("dimen/margin", (ANY, dp(4)), (LAND, dp(8)), (WIDE, (5, 0x3002)))),
+        ("dimen/*",),
+        "changed dimen/margin 16dp -> 48sp on sw>=600dp\nsame 1",
+    ),
+    (
+        changed(resource("color/ink", (ANY, (0x1D, 0xFFB5651D)), (NIGHT, WHITE))),
+        ("color/ink",),
+        "changed color/ink #ff000000 -> #b5651d on notnight\nsame 0",
+    ),
+    (
+        changed(resource("style/Card", (ANY, Bag(0, [("attr/size", "@dimen/margin"), ("attr/tint", (1, 0))])))),
+        ("style/Card",),
+        "changed style/Card on v<26\n  attr/tint @color/ink -> @null\nchanged style/Card on v>=26\n"
+        "  attr/size @dimen/handle -> @dimen/margin\n  attr/tint @color/ink -> @null\nsame 0",
+    ),
+    (
+        changed(resource("attr/size", (ANY, Bag(0, [(FORMATS, (0x10, 0x41)), (FORMATS + 1, (0x10, 3))])))),
+        ("attr/size",),
+        "changed attr/size 0 -> bag\n  added format reference|dimension\n  added min 3\nsame 0",
+    ),
+    (one("attr/x", Bag(0, [(FORMATS, (0x11, 0x1FFFF))])), (), "changed attr/x\n  format 0x200 -> any|enum\nsame 0",
+     one("attr/x", Bag(0, [(FORMATS, (0x11, 0x200))]))),
+    (one("dimen/x", (6, 0x30000030)), (), "changed dimen/x 1.5 -> 37.5%\nsame 0", one("dimen/x", (4, 0x3FC00000))),
+]
+
+
 def check_case(program, folder, place):
-    """The fault of a case."""
-    after, words, due, *before = CASES[place]
+    """The fault of a case. The first ones are printed raw."""
+    after, words, due, *before = [*CASES, *NOTATED][place]
     write_inputs(folder, before[0] if before else app(APP), after, BOX)
-    done = subprocess.run([program, "diff", "old", "new", "box", *words], cwd=folder, capture_output=True, text=True)
+    form = ["--raw"] * (place < len(CASES))
+    done = subprocess.run([program, "diff", *form, "old", "new", "box", *words], cwd=folder, capture_output=True, text=True)
     lines, status = done.stdout + done.stderr, int(due.startswith(("changed ", "added ", "removed ", "no resource ")))
     if (lines, done.returncode) == (f"{due}\n", status):
         return ""
@@ -329,9 +365,9 @@ def check_case(program, folder, place):
 
 def main():
     with tempfile.TemporaryDirectory() as folder:
-        faults = [check_case(os.path.abspath(sys.argv[1]), folder, place) for place in range(len(CASES))]
+        faults = [check_case(os.path.abspath(sys.argv[1]), folder, place) for place in range(len(CASES + NOTATED))]
     print("".join(faults), end="")
-    print(f"{len(CASES)} cases")
+    print(f"{len(CASES + NOTATED)} cases")
     sys.exit(any(faults))
 
 

@@ -171,6 +171,37 @@ SHOWN = [
         "goals 1"]),
 ]
 
+NOTATED = [
+    # The same in Android's notation.
+    (PORCELAIN, [
+        "goal 0 0x7f050000 nodes 3",
+        "0\tif de-rAT,de-rCH,de-rDE",
+        "1\t  value layer 1 !NoSuch",
+        '2\telse value layer 1 "A"',
+        "goal 1 0x7f030000 nodes 3",
+        "0\tif <198dpi",
+        "1\t  value layer 1 16dp",
+        "2\telse value layer 0 13dp",
+        "goals 2"]),
+    (STYLED, [
+        f"goal 0 0x01010001 under {ID} s/k 0x7f010009 nodes 4",
+        "0\tif notnight,night=0",
+        "1\t  if no-locale,fr",
+        f"2\t    bag {ID} s/k",
+        "3\t  else value layer 5 string 0 (no such layer)",
+        "\telse ends early",
+        "goals 1"]),
+    (LONG, [
+        f"goal 0 {ID} s/k nodes 2",
+        "0\tvalue layer 0 7",
+        "1\tnot reached: if v<21",
+        "goals 1"]),
+    ({"version": 1, "goals": [{"id": ID, "nodes": [{"layer": 0, "kind": kind, "word": word}]} for kind, word in (
+        (1, 0), (1, 0x7F010000), (2, 0x7F010000), (2, 0x01010001), (7, 5), (18, 1), (18, 0xFFFFFFFF))]}, [
+        line for place, text in enumerate(("@null", "@s/k", "?s/k", "?0x01010001", "dynamic 0x00000005", "kind 0x12 0x00000001", "true"))
+        for line in (f"goal {place} {ID} s/k nodes 1", f"0\tvalue layer 0 {text}")] + ["goals 7"]),
+]
+
 PICTURE = [
     "digraph {",
     f'  label="goal 0 0x01010001 under {ID} s/k 0x7f010009";',
@@ -188,12 +219,18 @@ PICTURE = [
 ]
 
 
+NOTATED_PICTURE = [line.replace("night one of 1 0", "notnight,night=0").replace("locale one of none fr", "no-locale,fr") for line in PICTURE]
+
+
 def of_certificates():
     """Over a base with the names of one resource, and an overlay with one string, which stands for nothing."""
     files = files_of([TABLE_B, (table_of_lines("0 [] string", pool_of_string(b"\1\1A\0")), [])])
     for certificate, told in SHOWN:
+        yield Case("show --raw layers certificate", lines(told), certificate=certificate, **files)
+    yield Case("show --raw --dot 0 layers certificate", lines(PICTURE), certificate=STYLED, **files)
+    for certificate, told in NOTATED:
         yield Case("show layers certificate", lines(told), certificate=certificate, **files)
-    yield Case("show --dot 0 layers certificate", lines(PICTURE), certificate=STYLED, **files)
+    yield Case("show --dot 0 layers certificate", lines(NOTATED_PICTURE), certificate=STYLED, **files)
     yield Case("show --dot 1 layers certificate", "no goal 1\n", "", 1, certificate=STYLED, **files)
 
 

@@ -787,7 +787,7 @@ def of_escapes():
         text = table_of_lines("0 [] string", pool_of_string(bytes([3, len(text)]) + text + b"\0"))
         certificate = {"version": 1, "goals": [{"id": ID, "nodes": [{"layer": 1, "kind": 3, "word": 0}]}]}
         out = f'goal 0 {ID} s/"{written}" nodes 1\n0\tvalue layer 1 string 0 "{written}"\ngoals 1\n'
-        yield Case("show layers certificate", out, certificate=certificate, **files_of([table, (text, SAME)]))
+        yield Case("show --raw layers certificate", out, certificate=certificate, **files_of([table, (text, SAME)]))
         # The texts of the other commands stay.
         yield over([text], f"query layers device {ID}", f'{ID} value layer 0 string 0 "{name}"\nset-aside 0\n')
     for code in (0x84, 0x86, 0xA0, 0x2027, 0x202F, 0x2065, 0x206A, 0xFEFF):
@@ -798,7 +798,7 @@ def of_escapes():
 
 def compared(old, new, out, status=1, box=MEDIUM_BOX, words=()):
     files = {**files_of(old, "old"), **files_of(new, "new"), "box": box}
-    return Case(["diff", "old", "new", "box", *words], out, "", status, **files)
+    return Case(["diff", "--raw", "old", "new", "box", *words], out, "", status, **files)
 
 
 BAG_BEFORE = f"0 [] bag 0x7f010001 {A}=1\n1 [] bag 0x00000000 {B}=5 {C}=8\n1 [sdk=26] bag 0x00000000 {B}=5"

@@ -211,7 +211,7 @@ def of_list_words():
         yield Case(["query", word, "device", ID], "", fault + "\n", status, **FILES)
         of_side = fault.replace("refused: ", "refused: new ")
         yield Case(["diff", "b.arsc", word, "box"], "", of_side + "\n", status, **FILES)
-    yield Case("diff b.arsc b.arsc+n.arsc box", "changed s/k decimal 5 -> decimal 9\nsame 0\n", "", 1, **FILES)
+    yield Case("diff --raw b.arsc b.arsc+n.arsc box", "changed s/k decimal 5 -> decimal 9\nsame 0\n", "", 1, **FILES)
     yield Case("ids b.arsc+n.arsc", f"{ID} s/k\n", **FILES)
     # With a map that somebody else made it is the same.
     yield Case(f"query list device {ID}", says(1, 9), list=listed("b.arsc", ("n.arsc", "map")), map=[[ID, ID]], **FILES)
@@ -291,6 +291,28 @@ PRINTED = [
     ({"density": 160, "uiType": 1, "orientation": 7}, "orientation"),
 ]
 
+BY_PHONE = ["--locales", "android"]
+WRITTEN = [
+    # The text of a device, by which rule its locale is read, and how it is written.
+    ('{"density":1}', [], '{"density":1}'),
+    ('{"density":32767,"mcc":0,"locale":"","minor":0}', [], '{"density":32767}'),
+    (' { "sdk" : 27 , "locale" : "fil-PH" , "width" : 5 , "density" : 3.2e2 , "density" : 320 } ', [], '{"locale":"fil-PH","density":320,"width":5,"sdk":27}'),
+    ('{"minor":1,"density":160,"mcc":65535}', [], '{"mcc":65535,"density":160,"minor":1}'),
+    ('{"density":160,"locale":"es-419"}', [], '{"locale":"es-419","density":160}'),
+    ('{"density":160,"locale":"sr-Latn-RS"}', BY_PHONE, '{"locale":"sr-Latn-RS","density":160}'),
+    ('{"density":160,"locale":"zh-Hant-HK"}', BY_PHONE, '{"locale":"zh-HK","density":160}'),
+    ('{"density":160}', BY_PHONE, '{"density":160}'),
+    (
+        '{"minor":25,"sdk":24,"height":23,"width":22,"navigation":4,"keyboard":3,"navHidden":2,"keysHidden":3,"touchscreen":3,'
+        '"density":16,"night":2,"uiType":7,"orientation":3,"hdr":2,"wideColor":1,"round":2,"long":1,"screenSize":4,"heightDp":7,'
+        '"widthDp":6,"smallestWidthDp":5,"layoutDirection":2,"locale":"fr-CA","mnc":2,"mcc":1}',
+        [],
+        '{"mcc":1,"mnc":2,"locale":"fr-CA","layoutDirection":2,"smallestWidthDp":5,"widthDp":6,"heightDp":7,"screenSize":4,"long":1,'
+        '"round":2,"wideColor":1,"hdr":2,"orientation":3,"uiType":7,"night":2,"density":16,"touchscreen":3,"keysHidden":3,'
+        '"navHidden":2,"keyboard":3,"navigation":4,"width":22,"height":23,"sdk":24,"minor":25}',
+    ),
+]
+
 
 def of_forms():
     for device, text in FORMS:
@@ -298,6 +320,8 @@ def of_forms():
         yield Case(["device", word], text + "\n", **files)
         # What is printed is read as that device.
         yield Case(["device", "device"], text + "\n", device=text)
+    for text, options, written in WRITTEN:
+        yield Case(["device", *options, "device"], written + "\n", device=text)
     for device, said in PRINTED:
         out, err, status = (said, "", 0) if said.startswith("config") else ("", f"no word {said}\n", 1)
         yield Case("device --config device", out, err, status, device=device)

@@ -21,7 +21,7 @@ from worked_calls import TEXTS, WITHOUT_MEMORY, rows
 
 HERE = Path(__file__).resolve().parent.parent.parent
 PROGRAM = HERE / "crates" / "test_calls" / "out" / "test_calls"
-WANTS = ("OutOfMemory", "AllocError")
+WANTS = ("OutOfMemory", "out of memory", "AllocError")
 """What a call says where memory runs out."""
 NEVER_MADE = 1 << 40
 MOST_SHOWN = 400

@@ -52,7 +52,7 @@ def main():
     with tempfile.TemporaryDirectory() as folder:
         write_inputs(folder, [(table(0), None)], [(table(RISE), None)], {"density": [160], "mnc": [*CARRIERS]})
         for name, words, lines in TESTS:
-            done = subprocess.run([program, "diff", "old", "new", "box", *words], cwd=folder, capture_output=True, text=True)
+            done = subprocess.run([program, "diff", "--raw", "old", "new", "box", *words], cwd=folder, capture_output=True, text=True)
             if (done.returncode, done.stdout.splitlines(), done.stderr) != (1, lines, ""):
                 failed += 1
                 print(f"failed: {name}: status {done.returncode}, {done.stdout[:300]}{done.stderr}")

@@ -119,6 +119,31 @@ EXPLAINED = lines(
     "candidate 4 layer 1 [locale=de] took over equal",
     "end value layer 1 string 1",
 )
+IN_NOTATION = {
+    "rows": lines(
+        "row 0x7f020000 (default) false", "row 0x7f030000 (default) #fff8f4ec", "row 0x7f040000 (default) 16dp",
+        'row 0x7f050000 (default) "Porcelain teapot"', 'row 0x7f050000 de "Porzellankanne"', "rows 5 set-aside 0",
+    ),
+    "dump": lines(
+        'package 0x7f "org.example.porcelain"', "  0x7f020000 bool/whistles flags 0x00000000 (default) false",
+        "  0x7f030000 color/clay flags 0x00000000 (default) #fff8f4ec", "  0x7f040000 dimen/handle flags 0x00000000 (default) 16dp",
+        '  0x7f050000 string/title flags 0x00000004 (default) "Porcelain teapot"',
+        '  0x7f050000 string/title flags 0x00000004 de "Porzellankanne"',
+    ),
+    "explain": lines(
+        "string/brand", f"  {TEAPOT}  (default)  @string/title  first", "string/title",
+        f'  {TEAPOT}     (default)  "Teapot"            first', f'  {TEAPOT}     de         "Teekanne"          took over: locale (P3)',
+        f'  {PORCELAIN}  (default)  "Porcelain teapot"  kept out: locale (P3)',
+        f'  {PORCELAIN}  de         "Porzellankanne"    took over: same configuration, of an overlay',
+        "  1 more row does not match", f'"Porzellankanne" from {PORCELAIN} de',
+    ),
+    "bag": lines(
+        "0x01010433 @color/accent from rich.arsc", "attr/cardColor #ff111111 from rich.arsc", "attr/cardGap 48dp from rich.arsc",
+        "attr/sides 0x5 from rich.arsc", "attr/chained ?attr/cardColor from rich.arsc",
+    ),
+}
+"""What is printed with `--android`."""
+
 BAG = lines(
     "0x01010433 layer 0 @0x7f040002",
     "0x7f010000 layer 0 argb8 #ff111111",
@@ -156,21 +181,32 @@ SURVEYED = lines(
 )
 SHOWN = lines(
     "goal 0 0x7f050000 string/title nodes 3",
-    "0\tif locale one of de-AT de-CH de-DE",
-    '1\t  value layer 1 string 1 "Porzellankanne"',
-    '2\telse value layer 1 string 0 "Porcelain teapot"',
+    "0\tif de-rAT,de-rCH,de-rDE",
+    '1\t  value layer 1 "Porzellankanne"',
+    '2\telse value layer 1 "Porcelain teapot"',
     "goal 1 0x7f030000 dimen/handle nodes 3",
-    "0\tif density at most 197",
-    "1\t  value layer 1 dimension 16/2^0 dp",
-    "2\telse value layer 0 dimension 13/2^0 dp",
+    "0\tif <198dpi",
+    "1\t  value layer 1 16dp",
+    "2\telse value layer 0 13dp",
     "goals 2",
+)
+PICTURED = lines(
+    "digraph {",
+    '  label="goal 1 0x7f030000 dimen/handle";',
+    "  node [shape=box];",
+    '  n0 [label="density at most 197"];',
+    '  n1 [label="value layer 1 dimension 16/2^0 dp"];',
+    "  n0 -> n1 [label=yes];",
+    '  n2 [label="value layer 0 dimension 13/2^0 dp"];',
+    "  n0 -> n2 [label=no];",
+    "}",
 )
 ASIDE = "set-aside 1 1"
 DIFFERENT = lines(
-    "changed color/clay argb8 #fff8f4ec -> argb8 #ffb87333 on night=1",
-    "changed color/clay rgb8 #ff402000 -> argb8 #ff7a4a20 on night=2",
-    'changed string/brand "Porcelain teapot" -> "Copper teapot" on locale=en-GB,en-US',
-    'changed string/title "Porcelain teapot" -> "Copper teapot" on locale=en-GB,en-US',
+    "changed color/clay #402000 -> #ff7a4a20 on night",
+    "changed color/clay #fff8f4ec -> #ffb87333 on notnight",
+    'changed string/brand "Porcelain teapot" -> "Copper teapot" on en-rGB,en-rUS',
+    'changed string/title "Porcelain teapot" -> "Copper teapot" on en-rGB,en-rUS',
     ASIDE,
     "same 16",
 )
@@ -214,6 +250,10 @@ def device_runs():
     yield Run("absent", [*query, absent], OF_PHONE, 1, lines(f"{absent} absent {absent}", "set-aside 1"))
     yield Run("explain", ["explain", LAYERS, PHONE, "0x7f050002"], OF_PHONE, out=EXPLAINED)
     yield Run("bag", ["bag", *TABLET, "0x7f0c0002"], OF_TABLET, out=BAG, folder=TABLES)
+    told = lines(f'string/title "Porzellankanne" from {PORCELAIN} de', "set-aside 1")
+    yield Run("query --android", ["query", "--android", *query[1:], "0x7f050000"], OF_PHONE, out=told)
+    yield Run("explain --android", ["explain", "--android", LAYERS, PHONE, "0x7f050002"], OF_PHONE, out=IN_NOTATION["explain"])
+    yield Run("bag --android", ["bag", "--android", *TABLET, "0x7f0c0002"], OF_TABLET, out=IN_NOTATION["bag"], folder=TABLES)
     yield Run("no bag", ["bag", LAYERS, PHONE, "0x7f050000"], OF_PHONE, 1, "no bag Plain\n")
     styles = ["0x7f010000", "0x7f0c0000", "0x7f0c0001"]
     value = "0x7f010000 value layer 0 argb8 #"
@@ -238,6 +278,8 @@ def layers_runs():
     yield Run("survey", ["survey", LAYERS, PHONES], [*LAYER_FILES, PHONES], out=SURVEYED)
     yield Run("survey without a box", ["survey", LAYERS], LAYER_FILES, out=SURVEYED)
     yield Run("show", ["show", LAYERS, CERTIFICATE], [*LAYER_FILES, CERTIFICATE], out=SHOWN)
+    pictured = ["show", "--raw", "--dot", "1", LAYERS, CERTIFICATE]
+    yield Run("show --raw --dot", pictured, [*LAYER_FILES, CERTIFICATE], out=PICTURED)
     yield Run("no goal", ["show", "--dot", "2", LAYERS, CERTIFICATE], [*LAYER_FILES, CERTIFICATE], 1, "no goal 2\n")
 
 
@@ -265,6 +307,8 @@ def change_runs():
     yield Run("diff", ["diff", *change], of_change, 1, DIFFERENT)
     title = [line for line in DIFFERENT.splitlines() if "/title" in line]
     yield Run("diff of names", ["diff", *change, "string/title", "dimen/*"], of_change, 1, lines(*title, ASIDE, "same 4"))
+    title = [line.replace("en-rGB,en-rUS", "locale=en-GB,en-US") for line in title]
+    yield Run("diff --raw", ["diff", "--raw", *change, "string/title", "dimen/*"], of_change, 1, lines(*title, ASIDE, "same 4"))
     of_same = ["diff", "--max-nodes", "3", LAYERS, LAYERS, PHONES, "string/*"]
     yield Run("diff of the same", of_same, [*LAYER_FILES, *LAYER_FILES, PHONES], out=lines(ASIDE, "same 3"))
     limited = ["diff", "--max-nodes", "1", *change, "string/title"]
@@ -330,6 +374,8 @@ def runs(folder):
     yield Run("rows", ["rows", PORCELAIN], [PORCELAIN], out=ROWS)
     yield Run("no words", [], [STANDARD_INPUT], out=ROWS, given=os.path.join(HERE, PORCELAIN))
     yield Run("dump", ["dump", PORCELAIN], [PORCELAIN], out=DUMP)
+    yield Run("rows --android", ["rows", "--android", PORCELAIN], [PORCELAIN], out=IN_NOTATION["rows"])
+    yield Run("dump --android", ["dump", "--android", PORCELAIN], [PORCELAIN], out=IN_NOTATION["dump"])
     yield Run("map", ["map", TEAPOT, PORCELAIN], [TEAPOT, PORCELAIN], out=MADE_MAP)
     yield from layers_runs()
     yield from device_runs()

@@ -86,7 +86,7 @@ def of_reports():
     yield surveyed(CUT, [], "Chunk Oversize 0")
     yield from of_certificates()
     for certificate, told in map(deep_tree, (True, False)):
-        yield Case("show layers certificate", lines(told), certificate=certificate, **files_of([MEDIUM_AND_HIGH]))
+        yield Case("show --raw layers certificate", lines(told), certificate=certificate, **files_of([MEDIUM_AND_HIGH]))
 
 
 def deep_tree(is_whole):

@@ -398,7 +398,6 @@ if tool python3 "refused memory, files and bytes" && tool cc "refused memory, fi
     calls=$here/crates/test_calls/out/test_calls
     if calls_are_built; then
         counts calls.py ./refuse.so
-        shell "pairs of random stacks" 0 '' "python3 '$here/tests/check_pairs.py' '$calls' 400 4 >pairs || { cat pairs >&2; exit 1; }"
     fi
 fi
 

@@ -17,10 +17,9 @@ Row = namedtuple("Row", "name words answer unchanged")
 what the call is to change where it is refused."""
 
 ID = "0x7f010000"
-FIRST = f"ResId({0x7F010000})"
-A, B, C, D = (f"ResId({0x01010001 + place})" for place in range(4))
-ONE, TWO, SEVEN = (f"Value {{ kind: 16, word: {word} }}" for word in (1, 2, 7))
-EMPTY = "Value { kind: 0, word: 1 }"
+A, B, C, D = (f"{0x01010001 + place:#010x}" for place in range(4))
+ONE, TWO, SEVEN = (f"decimal {word}" for word in (1, 2, 7))
+EMPTY = "empty"
 STYLED = f"0x01010001@{ID}"
 MEDIUM, MEDIUM_BOX, NO_BOX = '{"density":160}', '{"density":[160]}', "{}"
 DENSITIES = "0 [density=160] 1\n0 [density=320] 2"
@@ -61,25 +60,20 @@ def over(name, table, words, *answer, unchanged=()):
     return row("stacks", name, [bytes_of_table(table), *words], *answer, unchanged=unchanged)
 
 
+def number(id):
+    """An id, as it is shown by its number."""
+    return f"ResId({int(id, 16)})"
+
+
+FIRST = number(ID)
+
+
 def value(meant):
-    return f"Value {{ layer: 0, value: {meant} }}"
+    return f"value layer 0 {meant}"
 
 
 def absent(id):
-    return f"Absent {{ id: {id} }}"
-
-
-def other(word):
-    """What a number says."""
-    return f"Other {{ kind: 16, word: {word} }}"
-
-
-def row_said(label, word):
-    return f"RowContent {{ key: Called({label}), value: {other(word)} }}"
-
-
-def name_label(entry_name):
-    return f'Name {{ package: 127, type_name: "s", entry_name: "{entry_name}" }}'
+    return f"absent {id}"
 
 
 def table_named(cells, **kind):
@@ -91,30 +85,23 @@ def table_named(cells, **kind):
 # ---- two resources
 
 
-def contents(before, after):
-    return f"Some(Contents {{ before: {before}, after: Value({other(after)}) }})"
+CONTENTS = '"contents"'
 
 
-def difference(table, answer):
-    return over("difference_at", table, [], answer)
+def difference(table, *answer):
+    return over("difference_at", table, [], *answer)
 
 
 def difference_rows():
     """How entry 1 differs from entry 0: where that names a resource in UTF-16, and where it is a bag whose rows stand in
     another order, of their ids and of their names."""
-    changed = f"Changed {{ key: Called(Id({A})), before: {other(1)}, after: {other(7)} }}"
-    removed, added = row_said(f"Id({B})", 2), row_said(f"Id({C})", 3)
-    yield difference(DIFFERENT_BAGS, f"Some(Rows([{changed}, Removed({removed}), Added({added})]))")
-    named = table_named({"k": "?s/k", "m": (0x10, 5)}, is_utf16=True)
-    yield difference(named, contents(f"Value(Attribute({name_label('k')}))", 5))
-    numbers = range(MANY)
-    many = " ".join(f"{0x01010001 + number:#010x}={number}" for number in reversed(numbers))
-    said = ", ".join(row_said(f"Id(ResId({0x01010001 + number}))", number) for number in numbers)
-    yield difference(f"0 [] bag 0x00000000 {many}\n1 [] 5", contents(f"Bag([{said}])", 5))
-    rows = {f"n{place * 7 % MANY:02}": (0x10, place) for place in numbers}
+    yield difference(DIFFERENT_BAGS, *(f'"{word}"' for word in ("changed", "removed", "added")))
+    yield difference(table_named({"k": "?s/k", "m": (0x10, 5)}, is_utf16=True), CONTENTS)
+    cells = " ".join(f"{0x01010001 + number:#010x}={number}" for number in reversed(range(MANY)))
+    yield difference(f"0 [] bag 0x00000000 {cells}\n1 [] 5", CONTENTS)
+    rows = {f"n{place * 7 % MANY:02}": (0x10, place) for place in range(MANY)}
     bag = Bag(0, [(f"s/{name}", value) for name, value in rows.items()])
-    said = ", ".join(row_said(name_label(name), number) for name, (_, number) in sorted(rows.items()))
-    yield difference(table_named({"k": bag, **rows}), contents(f"Bag([{said}])", 0))
+    yield difference(table_named({"k": bag, **rows}), CONTENTS)
 
 
 # ---- goals, themes and candidates
@@ -143,7 +130,7 @@ def goal_rows():
 
 
 def candidate_rows():
-    one, two, three = (f"(Plain(Value {{ kind: 16, word: {word} }}), " for word in (1, 2, 3))
+    one, two, three = (f"(Value {{ kind: 16, word: {word} }}, " for word in (1, 2, 3))
     yield over("Live::new", LOCALES, [BOTH_LOCALES], f"{one}false)", f"{two}false)")
     yield over("Live::new", LOCALES, ['{"density":[160],"locale":["de"]}'], f"{two}true)")
     yield over("Live::half", LOCALES, [BOTH_LOCALES], f"{two}true)")
@@ -176,31 +163,9 @@ UNSTYLED = '{"attr":"0x01010001","nodes":[%s],"styles":[]}'
 BLANKS = ' { "version" : 1 , "goals" : [ { "nodes" : [ { "word" : 1 , "layer" : 0 , "kind" : 16 } ] , "id" : "0x7F01000A" } ] } '
 LINES = [
     ('{"density":320,"uiType":1,"locale":"fil-PH","width":5,"sdk":27}', "b+fil+PH-xhdpi-5x0-v27"),
-    ('{"density":320}', "NoWord(UiType)"),
+    ('{"density":320}', "NoWord uiType"),
 ]
 """Devices, and the lines that Android writes of them."""
-PRINTED = [(LINES[0][0], f"config: {LINES[0][1]}"), LINES[1]]
-"""The same, as `am get-config` prints them."""
-JSON_TEXTS = [
-    ('{"density":1}', "", '{"density":1}'),
-    ('{"density":32767,"mcc":0,"locale":"","minor":0}', "", '{"density":32767}'),
-    (' { "sdk" : 27 , "locale" : "fil-PH" , "width" : 5 , "density" : 3.2e2 , "density" : 320 } ', "", '{"locale":"fil-PH","density":320,"width":5,"sdk":27}'),
-    ('{"minor":1,"density":160,"mcc":65535}', "", '{"mcc":65535,"density":160,"minor":1}'),
-    ('{"density":160,"locale":"es-419"}', "", '{"locale":"es-419","density":160}'),
-    ('{"density":160,"locale":"sr-Latn-RS"}', "android", '{"locale":"sr-Latn-RS","density":160}'),
-    ('{"density":160,"locale":"zh-Hant-HK"}', "android", '{"locale":"zh-HK","density":160}'),
-    ('{"density":160}', "android", '{"density":160}'),
-    (
-        '{"minor":25,"sdk":24,"height":23,"width":22,"navigation":4,"keyboard":3,"navHidden":2,"keysHidden":3,"touchscreen":3,'
-        '"density":16,"night":2,"uiType":7,"orientation":3,"hdr":2,"wideColor":1,"round":2,"long":1,"screenSize":4,"heightDp":7,'
-        '"widthDp":6,"smallestWidthDp":5,"layoutDirection":2,"locale":"fr-CA","mnc":2,"mcc":1}',
-        "",
-        '{"mcc":1,"mnc":2,"locale":"fr-CA","layoutDirection":2,"smallestWidthDp":5,"widthDp":6,"heightDp":7,"screenSize":4,"long":1,'
-        '"round":2,"wideColor":1,"hdr":2,"orientation":3,"uiType":7,"night":2,"density":16,"touchscreen":3,"keysHidden":3,'
-        '"navHidden":2,"keyboard":3,"navigation":4,"width":22,"height":23,"sdk":24,"minor":25}',
-    ),
-]
-"""Devices, the rule of their locales, and how they are written as JSON."""
 WRITTEN = [
     # A certificate, and how it is written.
     *((text, text) for text in (NO_GOALS, ONE_LEAF, certificate(tree(*NODES), tree(id="0x00000000")))),
@@ -214,7 +179,6 @@ WRITTEN = [
 def certificate_rows():
     yield from (row("inputs", "Cert::write", [text], written) for text, written in WRITTEN)
     yield from (row("inputs", "config_line_by", [text], line) for text, line in LINES)
-    yield from (row("inputs", "print_config_by", [text], printed) for text, printed in PRINTED)
 
 
 # ---- commands over bytes and a writer; after a fault the number of writes is told
@@ -248,12 +212,12 @@ def box_rows():
     shown = "first density=198", "second density=197"
     rejected = "rejected goal 0 node 0 N6 MixedTrace", *shown, "set-aside 0", NEGATIVE
     yield command("check_bytes", DENSITIES, TO_198, *rejected, more=ONE_LEAF)
-    yield command("check_bytes", DENSITIES, NO_BOX, "(Box(Density), 0)", more=ONE_LEAF)
-    yield command("check_bytes", DENSITIES, TO_197, "(Certificate(Syntax), 0)", more="{")
+    yield command("check_bytes", DENSITIES, NO_BOX, "(refused: box: Density, 0)", more=ONE_LEAF)
+    yield command("check_bytes", DENSITIES, TO_197, "(refused: certificate: Syntax, 0)", more="{")
     counter = "counter goal 0", "device locale=de density=160", f"end absent {ID}", NEGATIVE
     yield command("make_bytes", FRENCH, BOTH_LOCALES, *counter)
     yield command("make_bytes", "0 [] 1", MEDIUM_BOX, ONE_LEAF, DONE)
-    yield command("make_bytes", "0 [] 1", NO_BOX, "(Box(Density), 0)")
+    yield command("make_bytes", "0 [] 1", NO_BOX, "(refused: box: Density, 0)")
 
 
 def unasked_rows():
@@ -278,12 +242,11 @@ SPAN, SPANS_END = struct.pack("<III", 0, 1, 2), b"\xff" * 4
 
 
 def lent_rows():
-    """What outlives the table, the stack or the styles that lent it, told when these are gone."""
-    rows = (f"({name}, Value {{ kind: 16, word: {word} }})" for name, word in ((A, 7), (B, 8)))
+    """What outlives the table or the stack that lent it, told when these are gone."""
+    rows = (f"({number(name)}, Value {{ kind: 16, word: {word} }})" for name, word in ((A, 7), (B, 8)))
     yield row("lent", "Table::all_rows", [BAG_TABLE], f"({FIRST}, 21)", *rows, "Utf8([122])")
-    cells = (f"Plain(Value {{ kind: 16, word: {word} }})" for word in (5, 6))
-    yield row("lent", "Stack::candidates", [TABLE_A, table_of_lines("1 [] 6"), OTHER_ENTRY], *cells)
-    yield row("lent", "OpenBox::common_trace", [BAG_TABLE, '{"density":[160],"sdk":[21]}'], f"One({value(SEVEN)})")
+    values = (f"Value {{ kind: 16, word: {word} }}" for word in (5, 6))
+    yield row("lent", "Stack::candidates", [TABLE_A, table_of_lines("1 [] 6"), OTHER_ENTRY], *values)
 
 
 def span_rows():
@@ -307,24 +270,23 @@ def rows():
 
 
 WITHOUT_MEMORY = [
-    difference("0 [] string\n1 [] 2", contents("Value(Broken(NoSuch(0)))", 2)),
-    difference("0 [] 1\n1 [] 2", contents(f"Value({other(1)})", 2)),
+    difference("0 [] string\n1 [] 2", CONTENTS),
+    difference("0 [] 1\n1 [] 2", CONTENTS),
     over("goal_end", "0 [] @0x7f010001\n1 [] 7", [ID], value(SEVEN)),
-    over("goal_end", "0 [] bag 0x00000000", [ID], f"Bag {{ id: {FIRST} }}"),
+    over("goal_end", "0 [] bag 0x00000000", [ID], f"bag {ID}"),
     over("Live::new", LOCALES, ['{"density":[160],"locale":["en"]}']),
-    command("check_bytes", CUT, TO_197, "(LayerTable(0, Chunk(Oversize(0))), 0)", more=ONE_LEAF),
+    command("check_bytes", CUT, TO_197, "(refused: layer 0 table: Chunk Oversize 0, 0)", more=ONE_LEAF),
     row("inputs", "Stack::push_base", [TABLE_A], "(TooManyLayers, 64, true)"),
     row("inputs", "Stack::push_overlay", [TABLE_A], "(TooManyLayers, 64, true)", f"Some({FIRST})"),
     row("inputs", "Table::find", [TABLE_B], f"(Some({FIRST}), None)"),
     row("inputs", "Chunks::new", [NO_ROWS + TABLE_A], "2", "2"),
-    row("inputs", "Device::check", [], "Some(FieldRange(LayoutDirection))"),
-    *(row("inputs", "write_device_json", [text, rule], written) for text, rule, written in JSON_TEXTS),
-    row("inputs", "Goal::attr", [], f"Some(Attr {{ attr: {A}, styles: [{FIRST}] }})"),
+    row("inputs", "Device::check", [], "Some(FieldRange layoutDirection)"),
+    row("inputs", "Goal::attr", [], f"Some(Attr {{ attr: {number(A)}, styles: [{FIRST}] }})"),
     *span_rows(),
     *lent_rows(),
 ]
 """Calls that take no memory: of one value, of a box that no candidate matches, of a table that is refused at once, over as many
-layers as there can be, of names and chunks, of devices, of parts, and of styles; and those of what is lent, to which none is
+layers as there can be, of names and chunks, of parts, and of styles; and those of what is lent, to which none is
 refused."""
 
 

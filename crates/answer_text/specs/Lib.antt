@@ -12,6 +12,17 @@ pub mod ExplainText
 pub mod Line
 pub mod LastTypeName
 pub mod Unfolded
+pub mod InOrder
+pub mod Content
+pub mod ContentSeen
+pub mod ReadWord
+pub mod ValueContent
+pub mod RowKeys
+pub mod ContentAt
+pub mod ReadAlike
+pub mod ValueText
+pub mod ValueNotation
+pub mod InForm
 pub use Rattle.contract_words.specs as contract_words
 pub use Rattle.bags_themes.specs as bags_themes
 pub use Rattle.bags_themes.specs.reference_resolver

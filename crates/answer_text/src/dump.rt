@@ -48,8 +48,9 @@ fn write_package<'a, W: Write + Drop>(
     write_rows(table, owner.rows(), records, type_name, out)
 }
 
+/// Writes the line of a package.
 #[tactic(auto, unfolding(crate::specs::DumpText::package_line))]
-fn write_package_line<W: Write + Drop>(owner: &Package<'_>, out: &mut W) -> io::Result<()>
+pub fn write_package_line<W: Write + Drop>(owner: &Package<'_>, out: &mut W) -> io::Result<()>
     ensures { Writes W.contents out.old out.new result (package_line (package_of owner.now)) }
 {
     write_package_id(owner.id(), out)?;
@@ -145,8 +146,9 @@ fn write_row_front<W: Write + Drop>(
     write_names(table, row, type_name, out)
 }
 
+/// Writes the flags of a row, behind what stands before them.
 #[tactic(auto, unfolding(crate::specs::DumpText::flags_text))]
-fn write_flags<W: Write + Drop>(flags: u32, out: &mut W) -> io::Result<()>
+pub fn write_flags<W: Write + Drop>(flags: u32, out: &mut W) -> io::Result<()>
     ensures { Writes W.contents out.old out.new result (flags_text flags) }
 {
     out.write_all(b" flags ")?;

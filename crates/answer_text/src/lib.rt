@@ -1,6 +1,11 @@
 //! The lines that commands print of rows, ends and explanations, written straight to a writer, and the pieces that
 //! they share with lines of faults: which layer it is, and a name with an id, a coordinate or a number behind it.
 //!
+//! What a resource says at a device, apart from ids and indexes, is its content: a value, where a string stands for itself
+//! and an id for what it is called, or the rows of a bag, or what stands in place of these. `content_at` gives it;
+//! `write_value_content` and `write_row_key` write its parts, `write_value_notation` and `write_key_notation` as XML does,
+//! and `write_value_in` and `write_key_in` in either `Form`.
+//!
 //! For the crates above: what each call appends is the one text of its value, as `specs/` define it,
 //! and nothing else; the only error is the writer's.
 //!
@@ -21,11 +26,14 @@
 #![tactic(auto)]
 
 mod cell;
+mod content;
 mod decision;
+mod device_content;
 mod dump;
 mod end;
 mod explanation;
 mod goal;
+mod in_form;
 mod last_record;
 mod last_type_name;
 mod layer;
@@ -34,22 +42,36 @@ mod name;
 mod named;
 mod on_line;
 mod query;
+mod read_alike;
+mod row_key;
 mod rows;
+mod value_notation;
+mod value_text;
+mod values;
 
 pub use bags_themes::{
     BagFault, BagRow, Cell, Device, DeviceFault, End, IdMap, MOST_LAYERS, MapFault, MapRows, Pool,
     PoolFault, ResId, Row, Stack, StackFault, Table, TableFault, Theme, Value, bag, kind, resolve,
 };
-pub use dump::dump_text;
+pub use content::{BrokenString, Content, Quantity, RowContent, RowKey, ValueContent};
+pub use device_content::{content_at, content_of_end, end_of};
+pub use dump::{dump_text, write_flags, write_package_line};
 pub use end::{end_text, write_end_line, write_end_with_name, write_end_with_string};
 pub use explanation::explain;
 pub use goal::write_goal_words;
+pub use in_form::{write_key_in, write_row_value_in, write_value_in};
 pub use layer::write_layer;
 pub use name::{NamesBeside, write_its_name};
 pub use named::{write_named_coord, write_named_id, write_named_number};
 pub use names::StackNames;
+pub use notation::Form;
 pub use on_line::write_on_line;
 pub use query::{query_line, set_aside_line, strings_of_layer};
-pub use res_value::{write_hex, write_id, write_value};
-pub use rows::rows_text;
+pub use read_alike::is_same_label;
+pub use res_value::{write_id, write_value};
+pub use row_key::Keys;
+pub use rows::{rows_text, write_totals};
 pub use string_pool::write_string;
+pub use value_notation::{write_key_notation, write_row_notation, write_value_notation};
+pub use value_text::{write_row_key, write_value_content};
+pub use values::value_content;

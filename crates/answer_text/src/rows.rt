@@ -35,8 +35,9 @@ pub fn rows_text<W: Write + Drop>(table: &Table<'_>, out: &mut W) -> io::Result<
     write_totals(count, set_aside, out)
 }
 
+/// Writes the line with a number of rows, and how many of them are set aside.
 #[tactic(auto, unfolding(crate::specs::RowsText::totals_text))]
-fn write_totals<W: Write + Drop>(count: u128, set_aside: u128, out: &mut W) -> io::Result<()>
+pub fn write_totals<W: Write + Drop>(count: u128, set_aside: u128, out: &mut W) -> io::Result<()>
     ensures { Writes W.contents out.old out.new result (totals_text count set_aside) }
 {
     writeln!(out, "rows {count} set-aside {set_aside}")

@@ -3,7 +3,7 @@
 use reference_resolver::{ResId, Value};
 
 /// A row of a bag, its own or an inherited one (AOSP: `ResTable::bag_entry`).
-#[derive(Clone, Copy, Debug, PartialEq, Eq)]
+#[derive(Clone, Copy)]
 pub struct BagRow {
     /// An attribute in a style, an item's number in an array, a quantity in plurals.
     pub name: ResId,

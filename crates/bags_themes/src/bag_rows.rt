@@ -6,7 +6,7 @@ use crate::bag_row::BagRow;
 use std::marker::Model;
 
 /// The rows of a bag, merged into those of its parents. Contracts see them as a list.
-#[derive(Debug, Drop)]
+#[derive(Drop)]
 pub struct BagRows {
     pub(crate) rows: Vec<BagRow>,
 }

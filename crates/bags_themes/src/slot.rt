@@ -8,7 +8,7 @@ use crate::theme_value::ThemeValue;
 use reference_resolver::{End, ResId, is_reference, kind};
 
 /// What an attribute reaches in a theme.
-#[derive(Clone, Copy, Debug, PartialEq, Eq)]
+#[derive(Clone, Copy)]
 pub enum Slot {
     /// A reference to this id.
     Refers(ResId),
@@ -17,7 +17,7 @@ pub enum Slot {
 }
 
 /// Where one attribute leads.
-#[derive(Clone, Copy, PartialEq, Eq)]
+#[derive(Clone, Copy)]
 pub(crate) enum AttributeStep {
     /// To this attribute.
     Follows(ResId),

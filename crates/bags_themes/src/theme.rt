@@ -31,7 +31,7 @@ pub(crate) const REFERENCES_AFTER_SLOT: u8 = REFERENCES_FOLLOWED - 1;
 
 /// What styles have set for attributes (AOSP: `ResTable::Theme`). Contracts see it as the list of attributes
 /// with their values, by look-up alone.
-#[derive(Debug, Drop)]
+#[derive(Drop)]
 pub struct Theme {
     alloc: Global,
     values: AttributeValues,

@@ -6,7 +6,7 @@ ghost use Rattle.bags_themes.specs.Theme.{is_undefined_value};
 use reference_resolver::{Value, kind};
 
 /// A value that is set for an attribute (AOSP: `ResTable::Theme::theme_entry`).
-#[derive(Clone, Copy, Debug)]
+#[derive(Clone, Copy)]
 pub(crate) struct ThemeValue {
     /// The index of the layer that it came from.
     pub layer: usize,

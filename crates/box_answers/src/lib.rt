@@ -31,8 +31,7 @@ mod search;
 mod tried_numbers;
 
 pub use config_precedence::{
-    Coord, Device, Locale, LocaleFault, LocaleRule, Record, is_compared_plainly, read_locale,
-    write_locale,
+    Coord, Device, Locale, LocaleFault, LocaleRule, Record, read_locale, write_locale,
 };
 pub use member_pair::MemberPair;
 pub use members::{corner, is_member, set_at};

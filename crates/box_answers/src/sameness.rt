@@ -19,7 +19,7 @@ use crate::search::member_where;
 use config_precedence::{Coord, Device, Record, conditions, rules};
 
 /// What all members of a box answer.
-#[derive(Clone, Copy, Debug, PartialEq, Eq)]
+#[derive(Clone, Copy)]
 pub enum Sameness {
     /// All answer yes.
     Always,

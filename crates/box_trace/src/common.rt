@@ -4,7 +4,7 @@ use crate::parting::Parting;
 use bags_themes::{Cand, End};
 
 /// What the traces of all members of a box have in common.
-#[derive(Clone, Copy, Debug)]
+#[derive(Clone, Copy)]
 pub enum CommonTrace<'a> {
     /// All members have one trace, and this is its end.
     One(End),

@@ -138,6 +138,9 @@ impl<'a, 's> OpenBox<'a, 's> {
     {
         self.walk.weightiest_parting(alloc, first, &self.members)
     }
+
+    /// Drops the box. Where a crate drops it so, and never otherwise, how that is done is proved here alone.
+    pub fn close(self) {}
 }
 
 /// Whether a part of a box has at most about half of its values at a coordinate. Candidates are judged anew only then: in a

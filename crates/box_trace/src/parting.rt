@@ -14,7 +14,7 @@ use bags_themes::{Cand, Device, Step};
 use config_box::{ConfigBox, Coord, MemberPair, Sameness, Values};
 
 /// What is asked of a candidate.
-#[derive(Clone, Copy, Debug, PartialEq, Eq)]
+#[derive(Clone, Copy)]
 pub enum Asked {
     /// Whether it matches.
     Matches,
@@ -23,7 +23,7 @@ pub enum Asked {
 }
 
 /// Where the members of a box part: a question that they do not all answer alike.
-#[derive(Clone, Copy, Debug)]
+#[derive(Clone, Copy)]
 pub struct Parting<'a> {
     /// Two members side by side. The first answers yes, the second no.
     pub pair: MemberPair,

@@ -1,5 +1,4 @@
 pub mod Law
-pub mod Places
 pub mod MarkSteps
 pub mod BoxSteps
 pub mod LeafSteps

@@ -4,7 +4,7 @@ use crate::rule::Rule;
 use crate::verdict::Shown;
 
 /// A rule that fails at a node, and the devices that show it.
-#[derive(Clone, Copy, PartialEq, Eq)]
+#[derive(Clone, Copy)]
 pub(crate) struct Failure {
     pub(crate) rule: Rule,
     pub(crate) shown: Shown,

@@ -21,14 +21,14 @@ mod laws;
 mod leaf;
 mod node;
 mod one_device;
-mod open_boxes;
 mod rule;
 mod tree;
 mod verdict;
 mod whole_box;
 
 pub use box_trace::{
-    Cand, CommonTrace, Coord, Device, End, Live, Locale, MOST_LAYERS, OpenBox, Parting, Stack,
+    Cand, CommonTrace, Coord, Device, End, Live, Locale, MOST_LAYERS, OpenBox, OpenBoxes, Parting,
+    Stack,
 };
 pub use cert_tree::{
     Cert, CertGoal, Choice, ConfigBox, Goal, Node, OutOfMemory, Progress, ResId, Split, Test,
@@ -37,6 +37,6 @@ pub use cert_tree::{
 pub use checking::check;
 pub use laws::{accepted_holds, ids_end_by_references, traces_end_by_rules};
 pub use one_device::goal_end;
-pub use open_boxes::OpenBoxes;
 pub use rule::Rule;
 pub use verdict::{Shown, Verdict};
+pub use whole_box::goal_boxes;

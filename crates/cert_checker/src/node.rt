@@ -10,9 +10,8 @@ ghost use Rattle.cert_checker.specs.OpenBoxes.{TakesNode, TakesTest};
 
 use crate::failure::Failure;
 use crate::leaf::take_leaf;
-use crate::open_boxes::OpenBoxes;
 use crate::rule::Rule;
-use box_trace::{End, OpenBox, Stack};
+use box_trace::{End, OpenBox, OpenBoxes, Stack};
 use cert_tree::{Node, OutOfMemory, Split, Test};
 use std::alloc::Global;
 
@@ -41,7 +40,7 @@ pub(crate) fn take_node<'a, 's>(
         }
         Node::Bag { id } => take_leaf(alloc, stack, &mut part, End::Bag { id: *id }),
     };
-    drop(part);
+    part.close();
     outcome
 }
 

@@ -5,7 +5,7 @@ ghost use Rattle.cert_checker.specs.Rule.{number_of, name_of};
 
 /// A rule that fails. The first of a goal's nodes at which one fails is named, and there the rule of the lowest
 /// number.
-#[derive(Clone, Copy, Debug, PartialEq, Eq)]
+#[derive(Clone, Copy)]
 pub enum Rule {
     /// N1: the certificate's goals are not the ones that are asked, in their order.
     GoalList,

@@ -9,9 +9,9 @@ ghost use Rattle.cert_checker.specs.OpenBoxes.{IsWholeBox, IsOutcome};
 
 use crate::failure::Failure;
 use crate::node::take_node;
-use crate::open_boxes::OpenBoxes;
 use crate::rule::Rule;
-use box_trace::Stack;
+use crate::whole_box::goal_boxes;
+use box_trace::{OpenBoxes, Stack};
 use cert_tree::{CertGoal, ConfigBox, Node, OutOfMemory};
 use std::alloc::Global;
 
@@ -25,9 +25,9 @@ pub(crate) fn check_tree(
 ) -> Result<Option<(usize, Failure)>, OutOfMemory>
     ensures { IfOk result (IsOutcome (goal_trace stack.now (goal_of tree.now).goal) members.now (goal_of tree.now).nodes) }
 {
-    let mut open_boxes = OpenBoxes::of_goal(alloc, stack, &tree.goal, members)?;
+    let mut open_boxes = goal_boxes(alloc, stack, &tree.goal, members)?;
     let outcome = check_nodes(alloc, stack, tree.nodes.as_slice(), &mut open_boxes);
-    drop(open_boxes);
+    open_boxes.close();
     outcome
 }
 

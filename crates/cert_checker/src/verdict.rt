@@ -4,7 +4,7 @@ use crate::rule::Rule;
 use box_trace::{Device, End};
 
 /// What a check says of a certificate.
-#[derive(Clone, Copy, Debug, PartialEq, Eq)]
+#[derive(Clone, Copy)]
 pub enum Verdict {
     /// No rule fails.
     Accepted,
@@ -20,7 +20,7 @@ pub enum Verdict {
 }
 
 /// The devices that show why a rule fails.
-#[derive(Clone, Copy, Debug, PartialEq, Eq)]
+#[derive(Clone, Copy)]
 pub enum Shown {
     /// Where the certificate itself shows it.
     Nothing,

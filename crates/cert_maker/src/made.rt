@@ -3,7 +3,7 @@
 use cert_checker::{Cert, Device, End};
 
 /// What the maker answers.
-#[derive(Debug, Drop)]
+#[derive(Drop)]
 pub enum Made {
     /// A certificate that is accepted, within the limit. Its tests are all needed.
     Cert(Cert),

@@ -3,7 +3,7 @@
 use cert_checker::{Cert, Device, End};
 
 /// A goal that is left out, since it has no value at some device.
-#[derive(Debug, Drop)]
+#[derive(Drop)]
 pub struct Omitted {
     /// Its place among the goals that are asked, from 0.
     pub goal: usize,
@@ -14,7 +14,7 @@ pub struct Omitted {
 }
 
 /// What the maker answers where it leaves goals out.
-#[derive(Debug, Drop)]
+#[derive(Drop)]
 pub enum Omitting {
     /// A certificate of the goals that are kept, as of `Made`, and those that are left out, in rising places.
     Cert {

@@ -8,7 +8,7 @@ ghost use Rattle.cert_checker.specs.OpenBoxes.{IsWholeBox};
 ghost use Rattle.cert_maker.specs.Growth.{IsGrown};
 
 use crate::growth::add_node;
-use cert_checker::{ConfigBox, Device, End, Goal, Node, OpenBoxes, OutOfMemory, Stack};
+use cert_checker::{ConfigBox, Device, End, Goal, Node, OpenBoxes, OutOfMemory, Stack, goal_boxes};
 use std::alloc::Global;
 
 /// What became of a tree.
@@ -33,9 +33,9 @@ pub(crate) fn grow_tree(
 ) -> Result<Grown, OutOfMemory>
     ensures { IfOk result (IsGrown (goal_trace stack.now (goal_seen goal.now)) members.now most) }
 {
-    let mut open_boxes = OpenBoxes::of_goal(alloc, stack, goal, members)?;
+    let mut open_boxes = goal_boxes(alloc, stack, goal, members)?;
     let grown = grow_nodes(alloc, stack, most, &mut open_boxes);
-    drop(open_boxes);
+    open_boxes.close();
     grown
 }
 
@@ -52,7 +52,7 @@ fn grow_nodes<'a, 's>(
     let mut nodes = Vec::new(alloc);
     'boxes: while let Some(mut part) = open_boxes.pop() {
         let found = add_node(alloc, stack, &mut part, &mut nodes, open_boxes);
-        drop(part);
+        part.close();
         if let Some((device, end)) = found? {
             return Ok(Grown::Counterexample(device, end));
         }

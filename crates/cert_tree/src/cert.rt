@@ -18,13 +18,13 @@ use std::alloc::{AllocError, Global};
 pub type OutOfMemory = AllocError;
 
 /// Goals with their trees.
-#[derive(Debug, Drop)]
+#[derive(Drop)]
 pub struct Cert {
     pub goals: Vec<CertGoal>,
 }
 
 /// A goal with its tree: the list of its nodes.
-#[derive(Debug, Drop)]
+#[derive(Drop)]
 pub struct CertGoal {
     pub goal: Goal,
     pub nodes: Vec<Node>,

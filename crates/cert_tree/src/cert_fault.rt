@@ -6,12 +6,13 @@ ghost use Rattle.cert_tree.specs.declared.cert_fault.CertFault.TheVariants.{Synt
 
 use json_input::JsonFault;
 use std::alloc::{AllocError, AllocFailed};
+use std::fmt::{self, Debug, Display, Formatter};
 use thiserror::Error;
 
 /// Why no certificate was read. A text is first read; then it has to be an object, then its version is
 /// looked at, then the shape of the whole; then goal by goal its shape, how many nodes there are with it, and its nodes. The first
 /// fault is named.
-#[derive(Clone, Copy, Debug, PartialEq, Eq, Error)]
+#[derive(Clone, Copy, Error)]
 pub enum CertFault {
     /// The bytes are no JSON text that `serde_json` reads.
     #[error("Syntax")]
@@ -28,6 +29,13 @@ pub enum CertFault {
     TooManyNodes,
     #[error("OutOfMemory")]
     OutOfMemory,
+}
+
+/// By its text.
+impl Debug for CertFault {
+    fn fmt<W: fmt::Write>(&self, f: &mut Formatter<W>) -> fmt::Result {
+        Display::fmt(self, f)
+    }
 }
 
 impl From<JsonFault> for CertFault {

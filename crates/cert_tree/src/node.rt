@@ -4,7 +4,7 @@ use config_box::Test;
 use res_value::{ResId, Value};
 
 /// A node of a tree: a test, or a leaf that says where the goal ends.
-#[derive(Debug, Drop)]
+#[derive(Drop)]
 pub enum Node {
     /// The devices that answer yes go on at the next node, the others after all nodes of those.
     Test(Test),

@@ -5,6 +5,7 @@ ghost use Rattle.chunk_walk.specs.Layout.{least_header_size};
 
 use crate::chunk_header::first_chunk;
 use crate::chunks::Chunks;
+use std::fmt::{self, Debug, Display, Formatter};
 use thiserror::Error;
 
 /// The bytes that each chunk begins with: a kind, the header's size, the chunk's size.
@@ -15,7 +16,7 @@ pub(crate) const LEAST_HEADER_SIZE: usize = 8;
 pub const ALIGNMENT: usize = 4;
 
 /// What is wrong with a chunk, and its place. Of several faults the first of this list is named.
-#[derive(Clone, Copy, Debug, PartialEq, Eq, Error)]
+#[derive(Clone, Copy, Error)]
 pub enum ChunkFault {
     /// Fewer than eight bytes are left.
     #[error("Truncated {0}")]
@@ -34,8 +35,15 @@ pub enum ChunkFault {
     Oversize(usize),
 }
 
+/// By its text.
+impl Debug for ChunkFault {
+    fn fmt<W: fmt::Write>(&self, f: &mut Formatter<W>) -> fmt::Result {
+        Display::fmt(self, f)
+    }
+}
+
 /// A chunk (AOSP: `ResChunk_header` and what follows it), lent from the bytes of its file.
-#[derive(Clone, Copy, Debug)]
+#[derive(Clone, Copy)]
 pub struct Chunk<'a> {
     /// What the chunk is: a table, a package, a type .. (AOSP: `RES_TABLE_TYPE` and its like).
     pub kind: u16,

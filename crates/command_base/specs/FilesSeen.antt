@@ -1,5 +1,5 @@
 -- How contracts see the bytes of files.
-use Rattle.std.specs.Prelude.{ℕ, List, map, Vec}
+use Rattle.std.specs.Prelude.{ℕ, List, map, string_bytes, Vec}
 use Rattle.std.specs.Option.{option_map}
 use Rattle.std.specs.declared.alloc.Global.{Global}
 use Rattle.command_base.specs.StackBytes as stacks
@@ -25,8 +25,12 @@ all_held layers = map layer_held layers.items
 abbrev pub layers_held : LayerFiles → List stacks.LayerBytes
 layers_held files = all_held files.files
 
+-- the paths of their tables
+abbrev pub paths_held : LayerFiles → List (List ℕ)
+paths_held files = map string_bytes files.paths.items
+
 abbrev pub device_held : DeviceFiles → DeviceBytes
-device_held files = record { layers = layers_held files.layers; device = device_text_of files.device }
+device_held files = record { layers = layers_held files.layers; paths = paths_held files.layers; device = device_text_of files.device }
 
 abbrev pub asked_held : AskedFiles → AskedBytes
-asked_held asked = record { layers = layers_held asked.layers; device = device_text_of asked.device; words = strings_held asked.words }
+asked_held asked = record { layers = layers_held asked.layers; paths = paths_held asked.layers; device = device_text_of asked.device; words = strings_held asked.words }

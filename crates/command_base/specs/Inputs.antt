@@ -1,5 +1,5 @@
 -- What is read, and in which order.
-use Rattle.std.specs.Prelude.{ℕ, List, [], ◌∷◌, ◌++◌, length, nat_lt, slice_get, codes, Option, Some, None, Result, Ok, Err, if◌then◌else◌}
+use Rattle.std.specs.Prelude.{ℕ, List, [], ◌∷◌, ◌++◌, map, length, nat_lt, slice_get, codes, Option, Some, None, Result, Ok, Err, if◌then◌else◌}
 use Rattle.std.specs.List.{enumerate_from}
 use Rattle.std.specs.Str.{bytes_eq}
 use Rattle.apk_member.specs.declared.fault.ApkFault.{ApkFault}
@@ -16,6 +16,7 @@ use Rattle.command_base.specs.ListWord.{ListedLayer, is_list_word, layers_in_wor
 use Rattle.command_base.specs.MadeMap.{made_map}
 use Rattle.command_base.specs.MapText.{map_text}
 use Rattle.command_base.specs.overlay_map.Layer.{most_layers}
+use Rattle.command_base.specs.declared.layers_fault.LayersFault.{LayersFault}
 use Rattle.command_base.specs.declared.layers_fault.LayersFault.TheVariants.{TooManyLayers}
 use Rattle.command_base.specs.StackBytes.{LayerBytes, table_of_layer}
 use Rattle.command_base.specs.declared.input.InputFault.{InputFault}
@@ -136,3 +137,20 @@ layers_of places word = if is_list_word word then layers_named places word else 
 -- the same of one of two stacks that are compared: a fault of its list names the side
 abbrev pub layers_on_side : Side → Places → List ℕ → Result (List LayerBytes) StopOf
 layers_on_side side places path = or_stop (stop_on_side side) (layers_of places path)
+
+-- ---- the paths of tables
+
+abbrev pub paths_listed : Result (List LayerPaths) LayersFault → List (List ℕ)
+paths_listed (Ok layers) = map (λ layer. layer.table) layers
+paths_listed (Err fault) = []
+
+abbrev pub paths_in_json : Result (List ℕ) StopOf → List (List ℕ)
+paths_in_json (Ok json) = paths_listed (layers_in json)
+paths_in_json (Err stop) = []
+
+abbrev pub paths_in_word : List ℕ → List (List ℕ)
+paths_in_word word = map (λ layer. layer.path) (layers_in_word word)
+
+-- The paths of the tables of layers, as the word or the list has them; none where the list is not read.
+unfoldable pub paths_of_layers : Places → List ℕ → List (List ℕ)
+paths_of_layers places word = if is_list_word word then paths_in_word word else paths_in_json (file_of places word)

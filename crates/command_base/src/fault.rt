@@ -20,12 +20,13 @@ use answer_text::{DeviceFault, MapFault, StackFault, TableFault, write_layer};
 use apk_member::ApkFault;
 use cert_tree::{BoxFault, CertFault};
 use std::alloc::AllocError;
+use std::fmt::{self, Debug, Display, Formatter};
 use std::io::{self, Write};
 use thiserror::Error;
 
 /// Why a command was not carried out: the part of its input that is refused, or what failed. Layers
 /// are named by their place, from 0.
-#[derive(Clone, Copy, Debug, PartialEq, Eq, Error)]
+#[derive(Clone, Copy, Error)]
 pub enum ToolFault {
     /// The apk of a command that reads one table alone.
     #[error("refused: apk: {0}")]
@@ -64,6 +65,13 @@ pub enum ToolFault {
     /// The writer failed.
     #[error("Write")]
     Write,
+}
+
+/// By its text.
+impl Debug for ToolFault {
+    fn fmt<W: fmt::Write>(&self, f: &mut Formatter<W>) -> fmt::Result {
+        Display::fmt(self, f)
+    }
 }
 
 impl ToolFault {

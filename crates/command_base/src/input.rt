@@ -5,6 +5,7 @@ ghost use Rattle.command_base.specs.Input.{ReadsWithin};
 ghost use Rattle.command_base.specs.declared.input.InputFault.TheVariants.{OutOfMemory};
 
 use std::alloc::{AllocError, Global};
+use std::fmt::{self, Debug, Display, Formatter};
 use std::io::{ErrorKind, Read};
 use thiserror::Error;
 
@@ -16,7 +17,7 @@ const PIECE_SIZE: usize = 16_384;
 const FIRST_ROOM: usize = 1_048_576;
 
 /// Why an input was not read.
-#[derive(Clone, Copy, Debug, PartialEq, Eq, Error)]
+#[derive(Clone, Copy, Error)]
 pub enum InputFault {
     /// A read failed, or the end did not come within the reads that are made at most.
     #[error("Read")]
@@ -26,6 +27,13 @@ pub enum InputFault {
     TooLarge,
     #[error("OutOfMemory")]
     OutOfMemory,
+}
+
+/// By its text.
+impl Debug for InputFault {
+    fn fmt<W: fmt::Write>(&self, f: &mut Formatter<W>) -> fmt::Result {
+        Display::fmt(self, f)
+    }
 }
 
 impl From<AllocError> for InputFault {

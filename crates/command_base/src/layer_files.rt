@@ -1,6 +1,6 @@
 //! The files of layers.
 
-ghost use Rattle.std.specs.Prelude.{◌≡◌, [], map, IfOk, IfSome};
+ghost use Rattle.std.specs.Prelude.{◌≡◌, [], map, string_bytes, IfOk, IfSome};
 ghost use Rattle.std.specs.List.{enumerate_from};
 ghost use Rattle.json_input.specs.Each.{each};
 ghost use Rattle.command_base.specs.LayerListSeen.{paths_of, all_paths_of};
@@ -8,9 +8,9 @@ ghost use Rattle.command_base.specs.StackBytesSeen.{layer_bytes};
 ghost use Rattle.command_base.specs.Stop.{GivesOrStops};
 ghost use Rattle.command_base.specs.contract_words.Exact.{GivesOr};
 ghost use Rattle.command_base.specs.declared.fault.ToolFault.TheVariants.{OutOfMemory};
-ghost use Rattle.command_base.specs.Inputs.{layer_of, layers_in_file, layers_named, layers_of, layers_on_side, made_json, named_layer, named_layers, table_at_place};
+ghost use Rattle.command_base.specs.Inputs.{file_of, layer_of, layers_in_file, layers_named, layers_of, layers_on_side, made_json, named_layer, named_layers, paths_in_json, paths_in_word, paths_of_layers, table_at_place};
 ghost use Rattle.command_base.specs.ListWordSeen.{listed_of};
-ghost use Rattle.command_base.specs.FilesSeen.{bytes_of, layer_held, all_held, layers_held};
+ghost use Rattle.command_base.specs.FilesSeen.{bytes_of, layer_held, all_held, layers_held, paths_held};
 
 use crate::fault::ToolFault;
 use crate::inputs::{Inputs, file_bytes, layer_file_bytes, listed_table_file};
@@ -32,21 +32,24 @@ struct LayerBytes {
     map: Option<Vec<u8>>,
 }
 
-/// The bytes of the files of layers: each table with its id map, if it is an overlay.
+/// The bytes of the files of layers: each table with its id map, if it is an overlay. The paths of the tables are those of the
+/// word or of the list.
 #[derive(Drop)]
 pub struct LayerFiles {
     files: Vec<LayerBytes>,
+    paths: Vec<String>,
 }
 
 impl LayerFiles {
     /// Reads the layers of a word: of the list that it is, or of that in the file at this path.
-    #[tactic(auto, unfolding(crate::specs::Inputs::layers_of))]
+    #[tactic(auto, unfolding(crate::specs::Inputs::layers_of, crate::specs::Inputs::paths_of_layers))]
     pub fn read<'a, I: Inputs>(
         alloc: Global,
         inputs: &I,
         word: &'a str,
     ) -> Result<LayerFiles, Stop<'a>>
-        ensures { IfSome (I.places inputs.now) (λ places. GivesOrStops layers_held result (layers_of places word.entry.now)) }
+        ensures layers { IfSome (I.places inputs.now) (λ places. GivesOrStops layers_held result (layers_of places word.entry.now)) }
+        ensures paths { IfSome (I.places inputs.now) (λ places. IfOk result (λ files. paths_held files ≡ paths_of_layers places word.entry.now)) }
     {
         if is_list_word(word) {
             LayerFiles::read_named(alloc, inputs, word)
@@ -62,12 +65,14 @@ impl LayerFiles {
         inputs: &I,
         word: &'a str,
     ) -> Result<LayerFiles, Stop<'a>>
-        ensures { IfSome (I.places inputs.now) (λ places. GivesOrStops layers_held result (layers_named places word.entry.now)) }
+        ensures layers { IfSome (I.places inputs.now) (λ places. GivesOrStops layers_held result (layers_named places word.entry.now)) }
+        ensures paths { IfOk result (λ files. paths_held files ≡ paths_in_word word.entry.now) }
     {
         let layers = layers_in_word(alloc, word)?;
         check_count(layers.len())?;
         let files = read_each_named(alloc, inputs, &layers)?;
-        Ok(LayerFiles { files })
+        let paths = listed_paths(alloc, &layers)?;
+        Ok(LayerFiles { files, paths })
     }
 
     // Those of a list in a file: the list, and then the files that it names, each table before its id map.
@@ -77,12 +82,14 @@ impl LayerFiles {
         inputs: &I,
         path: &'a str,
     ) -> Result<LayerFiles, Stop<'a>>
-        ensures { IfSome (I.places inputs.now) (λ places. GivesOrStops layers_held result (layers_in_file places path.entry.now)) }
+        ensures layers { IfSome (I.places inputs.now) (λ places. GivesOrStops layers_held result (layers_in_file places path.entry.now)) }
+        ensures paths { IfSome (I.places inputs.now) (λ places. IfOk result (λ files. paths_held files ≡ paths_in_json (file_of places path.entry.now))) }
     {
         let json = file_bytes(inputs, path)?;
         let list = LayerList::read(alloc, &json)?;
+        let paths = table_paths(alloc, &list.paths)?;
         let files = read_each_layer(alloc, inputs, list.paths)?;
-        Ok(LayerFiles { files })
+        Ok(LayerFiles { files, paths })
     }
 
     /// The same of one of two stacks that are compared; a fault of its list names the side.
@@ -101,6 +108,13 @@ impl LayerFiles {
         }
     }
 
+    /// The paths of the tables, as the word or the list has them.
+    pub fn paths(&self) -> &[String]
+        ensures { map string_bytes result.now ≡ paths_held self.now }
+    {
+        &self.paths
+    }
+
     /// The layers, lent.
     pub fn layers(&self, alloc: Global) -> Result<Vec<LayerParts<&[u8]>>, AllocError>
         ensures { IfOk result (λ layers. map layer_bytes layers.items ≡ layers_held self.now) }
@@ -111,6 +125,30 @@ impl LayerFiles {
         }
         Ok(layers)
     }
+}
+
+// The paths of a word that is a list.
+fn listed_paths(alloc: Global, layers: &[ListedLayer<'_>]) -> Result<Vec<String>, AllocError>
+    ensures { IfOk result (λ paths. map string_bytes paths.items ≡ map (λ layer. layer.path) (map listed_of layers.now)) }
+{
+    let mut paths = Vec::new(alloc);
+    for layer in layers {
+        let path = String::from_str(alloc, layer.path)?;
+        paths.push(path)?;
+    }
+    Ok(paths)
+}
+
+// The paths of tables that a list in a file has.
+fn table_paths(alloc: Global, layers: &[LayerParts<String>]) -> Result<Vec<String>, AllocError>
+    ensures { IfOk result (λ paths. map string_bytes paths.items ≡ map (λ layer. layer.table) (map paths_of layers.now)) }
+{
+    let mut paths = Vec::new(alloc);
+    for (table, _) in layers {
+        let path = String::from_str(alloc, table.as_str())?;
+        paths.push(path)?;
+    }
+    Ok(paths)
 }
 
 // Reads the layers of a word that is a list, one after the other.

@@ -8,12 +8,13 @@ ghost use Rattle.command_base.specs.LayersFaultText.{layers_fault_text};
 
 use json_input::JsonFault;
 use std::alloc::{AllocError, AllocFailed};
+use std::fmt::{self, Debug, Display, Formatter};
 use std::io::{self, Write};
 use thiserror::Error;
 
 /// What is wrong with a list of layers. A text is first read, then the shape of all its layers is
 /// looked at; their number comes last.
-#[derive(Clone, Copy, Debug, PartialEq, Eq, Error)]
+#[derive(Clone, Copy, Error)]
 pub enum LayersFault {
     /// The bytes are no JSON text that `serde_json` reads.
     #[error("Syntax")]
@@ -27,6 +28,13 @@ pub enum LayersFault {
     TooManyLayers,
     #[error("OutOfMemory")]
     OutOfMemory,
+}
+
+/// By its text.
+impl Debug for LayersFault {
+    fn fmt<W: fmt::Write>(&self, f: &mut Formatter<W>) -> fmt::Result {
+        Display::fmt(self, f)
+    }
 }
 
 impl From<JsonFault> for LayersFault {

@@ -54,17 +54,54 @@ impl MadeMap {
     {
         let pairs = made_pairs(alloc, target, overlay)?;
         let json = json_text(alloc, &pairs)?;
-        let first = FirstRows::new(alloc, overlay)?;
-        let mapped = MappedIds::new(alloc, &pairs)?;
-        let unmapped = unmapped_rows(alloc, &first, &mapped)?;
-        let astray = astray_references(alloc, overlay, &first, &mapped)?;
-        let left = left_text(alloc, before, overlay, &unmapped, &astray)?;
+        let left = left_of(alloc, before, overlay, &pairs)?;
         Ok(MadeMap {
             json,
-            left,
-            is_whole: unmapped.is_empty() && astray.is_empty(),
+            left: left.lines,
+            is_whole: left.is_none,
         })
     }
+}
+
+/// What a map leaves out of its overlay.
+#[derive(Drop)]
+struct Left {
+    lines: Vec<u8>,
+    is_none: bool,
+}
+
+fn left_of(
+    alloc: Global,
+    before: &[u8],
+    overlay: &Table<'_>,
+    pairs: &[(ResId, ResId)],
+) -> Result<Left, AllocError>
+    ensures lines { IfOk result (λ left. left.lines.items ≡ lines_with before.now overlay.now (pairs_of pairs.now)) }
+    ensures none { IfOk result (λ left. left.is_none ≡ is_whole overlay.now (pairs_of pairs.now)) }
+{
+    let first = FirstRows::new(alloc, overlay)?;
+    let mapped = MappedIds::new(alloc, pairs)?;
+    left_among(alloc, before, overlay, &first, &mapped)
+}
+
+fn left_among<'a>(
+    alloc: Global,
+    before: &[u8],
+    overlay: &Table<'a>,
+    first: &FirstRows<'_, 'a>,
+    mapped: &MappedIds<'_>,
+) -> Result<Left, AllocError>
+    requires { first.now.table.now ≡ overlay.now }
+    ensures lines { IfOk result (λ left. left.lines.items ≡ lines_with before.now overlay.now (pairs_of mapped.now.pairs.now)) }
+    ensures none { IfOk result (λ left. left.is_none ≡ is_whole overlay.now (pairs_of mapped.now.pairs.now)) }
+{
+    let unmapped = unmapped_rows(alloc, first, mapped)?;
+    let astray = astray_references(alloc, overlay, first, mapped)?;
+    let lines = left_text(alloc, before, overlay, &unmapped, &astray)?;
+    Ok(Left {
+        lines,
+        is_none: unmapped.is_empty() && astray.is_empty(),
+    })
 }
 
 fn json_text(alloc: Global, pairs: &[(ResId, ResId)]) -> Result<Vec<u8>, AllocError>

@@ -7,12 +7,13 @@ ghost use Rattle.config_box.specs.declared.box_fault.BoxFault.TheVariants.{Synta
 use box_answers::Coord;
 use json_input::JsonFault;
 use std::alloc::{AllocError, AllocFailed};
+use std::fmt::{self, Debug, Display, Formatter};
 use thiserror::Error;
 
 /// Why no box was read. A text is first read, then its shape is looked at; then the coordinates are checked in
 /// their order, and the first fault is named. At one coordinate the faults are looked for in the order of this
 /// list, each in the whole of what is listed there.
-#[derive(Clone, Copy, Debug, PartialEq, Eq, Error)]
+#[derive(Clone, Copy, Error)]
 pub enum BoxFault {
     /// The bytes are no JSON text that `serde_json` reads.
     #[error("Syntax")]
@@ -38,6 +39,13 @@ pub enum BoxFault {
     Density,
     #[error("OutOfMemory")]
     OutOfMemory,
+}
+
+/// By its text.
+impl Debug for BoxFault {
+    fn fmt<W: fmt::Write>(&self, f: &mut Formatter<W>) -> fmt::Result {
+        Display::fmt(self, f)
+    }
 }
 
 impl From<JsonFault> for BoxFault {

@@ -5,7 +5,7 @@ ghost use Rattle.std.specs.Prelude.{◌≡◌};
 use box_answers::{Coord, Locale, has_locale, has_number};
 
 /// A test of one coordinate. It is answered by each device.
-#[derive(Debug, Drop)]
+#[derive(Drop)]
 pub enum Test {
     /// Is the number at most this?
     AtMost(Coord, u32),
@@ -14,7 +14,7 @@ pub enum Test {
 }
 
 /// Values of a coordinate, as they are written: in any order, and perhaps more than once.
-#[derive(Debug, Drop)]
+#[derive(Drop)]
 pub enum Choice {
     Numbers(Vec<u32>),
     Locales(Vec<Locale>),

@@ -6,7 +6,7 @@ ghost use Rattle.box_answers.specs.Members.{sets_of, set_at};
 use box_answers::{Coord, Locale, NumberSet, set_at};
 
 /// The values that a box has at a coordinate.
-#[derive(Clone, Copy, Debug)]
+#[derive(Clone, Copy)]
 pub enum Values<'a> {
     /// All numbers from the first to the second.
     Range(u32, u32),

@@ -4,7 +4,7 @@ ghost use Rattle.std.specs.Prelude.{◌≡◌};
 ghost use Rattle.config_match.specs.Answer.{answer_where, answer_of_condition, is_pass, is_yes};
 
 /// What a rule says of two records at a device.
-#[derive(Clone, Copy, Debug, PartialEq, Eq)]
+#[derive(Clone, Copy)]
 pub enum Answer {
     /// The first record is better.
     Yes,

@@ -13,7 +13,7 @@ use crate::locale::by_locale;
 use crate::screen_size::by_screen_size;
 
 /// What a rule may look at in a configuration.
-#[derive(Clone, Copy, Debug, PartialEq, Eq)]
+#[derive(Clone, Copy, PartialEq, Eq)]
 pub struct Numbers {
     /// The number at its coordinate.
     pub first: u64,
@@ -23,7 +23,7 @@ pub struct Numbers {
 
 /// What a rule asks of two records at a device. The comparisons say which of two records is better,
 /// the conditions whether the first suits the device.
-#[derive(Clone, Copy, Debug, PartialEq, Eq)]
+#[derive(Clone, Copy)]
 pub enum Kind {
     /// Where the two differ and the device says something: the one that says something is better.
     Given,

@@ -3,7 +3,7 @@
 use config_record::Coord;
 
 /// What fails first where a record does not match.
-#[derive(Clone, Copy, Debug, PartialEq, Eq)]
+#[derive(Clone, Copy)]
 pub enum Mismatch {
     /// The record has a script or a variant.
     SetAside,

@@ -8,7 +8,7 @@ use crate::kind::{Kind, Numbers};
 use config_record::{Coord, Device, Record};
 
 /// A question of some kind at a coordinate; for dimensions it is the first of the two.
-#[derive(Clone, Copy, Debug, PartialEq, Eq)]
+#[derive(Clone, Copy)]
 pub struct Rule {
     pub kind: Kind,
     pub coord: Coord,

@@ -16,7 +16,7 @@ use std::alloc::Global;
 
 /// A configuration that is asked for: 24 numbers, none above the greatest of its coordinate, and a
 /// locale that a text gives. The density is one of 1 to 32767.
-#[derive(Clone, Copy, Debug, PartialEq, Eq)]
+#[derive(Clone, Copy)]
 pub struct Device {
     /// What is compared at each coordinate, in their order; at the locale the number of its bytes.
     numbers: [u64; COORD_COUNT],

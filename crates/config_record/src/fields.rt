@@ -12,11 +12,12 @@ ghost use Rattle.config_record.specs.declared.fields.DeviceFault.TheVariants.{Sy
 use crate::coord::{COORD_COUNT, Coord};
 use json_input::JsonFault;
 use locales::{Locale, LocaleFault};
+use std::fmt::{self, Debug, Display, Formatter};
 use thiserror::Error;
 
 /// A number for each coordinate, in their order, and a locale, for `Device::check`. The number at the
 /// place of the locale is not used.
-#[derive(Clone, Copy, Debug, PartialEq, Eq)]
+#[derive(Clone, Copy)]
 pub struct Fields {
     pub numbers: [u64; COORD_COUNT],
     pub locale: Locale,
@@ -24,7 +25,7 @@ pub struct Fields {
 
 /// Why no device was made. A text is first read, then its shape is looked at; then the coordinates are
 /// checked in their order, and the first fault is named.
-#[derive(Clone, Copy, Debug, PartialEq, Eq, Error)]
+#[derive(Clone, Copy, Error)]
 pub enum DeviceFault {
     /// The bytes are no JSON text that `serde_json` reads.
     #[error("Syntax")]
@@ -44,6 +45,13 @@ pub enum DeviceFault {
     Density,
     #[error("OutOfMemory")]
     OutOfMemory,
+}
+
+/// By its text.
+impl Debug for DeviceFault {
+    fn fmt<W: fmt::Write>(&self, f: &mut Formatter<W>) -> fmt::Result {
+        Display::fmt(self, f)
+    }
 }
 
 impl From<JsonFault> for DeviceFault {

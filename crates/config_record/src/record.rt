@@ -4,6 +4,7 @@ ghost use Rattle.std.specs.Prelude.{◌≡◌, ◌≢◌, ◌<◌, ◌≤◌, tr
 
 use crate::coord::Coord;
 use locales::{Locale, is_zero, kept_script, u32_at};
+use std::fmt::{self, Debug, Display, Formatter};
 use thiserror::Error;
 
 mod fields;
@@ -45,7 +46,7 @@ const NAV_HIDDEN_SHIFT: u32 = 2;
 const NAV_HIDDEN_MASK: u8 = 0x03;
 
 /// What is wrong with a record. Of two faults the first of this list is named.
-#[derive(Clone, Copy, Debug, PartialEq, Eq, Error)]
+#[derive(Clone, Copy, Error)]
 pub enum RecordFault {
     /// There are fewer than four bytes, or the size that they say is below 28.
     #[error("Size")]
@@ -55,9 +56,16 @@ pub enum RecordFault {
     Outside,
 }
 
+/// By its text.
+impl Debug for RecordFault {
+    fn fmt<W: fmt::Write>(&self, f: &mut Formatter<W>) -> fmt::Result {
+        Display::fmt(self, f)
+    }
+}
+
 /// A stored configuration (AOSP: `ResTable_config`), lent from the bytes that it stands in. Fields
 /// past the end of a short one are zero.
-#[derive(Clone, Copy, Debug)]
+#[derive(Clone, Copy)]
 pub struct Record<'a> {
     bytes: &'a [u8],
 }

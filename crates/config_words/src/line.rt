@@ -11,16 +11,24 @@ use crate::line_parts::line_text;
 use crate::read::read_line;
 use config_record::{Coord, Device, LocaleRule};
 use std::alloc::Global;
+use std::fmt::{self, Debug, Display, Formatter};
 use thiserror::Error;
 
 /// Why there is no line of a device.
-#[derive(Clone, Copy, Debug, PartialEq, Eq, Error)]
+#[derive(Clone, Copy, Error)]
 pub enum NoLine {
     /// What the device has at this coordinate no part can say. It is the first such one.
     #[error("NoWord {0}")]
     NoWord(Coord),
     #[error("OutOfMemory")]
     OutOfMemory,
+}
+
+/// By its text.
+impl Debug for NoLine {
+    fn fmt<W: fmt::Write>(&self, f: &mut Formatter<W>) -> fmt::Result {
+        Display::fmt(self, f)
+    }
 }
 
 /// The line of a device, as Android writes it. It is read back by a rule before it is given. For a phone a script is

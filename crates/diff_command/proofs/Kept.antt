@@ -8,6 +8,7 @@ use Rattle.std.specs.declared.cmp.Ordering.{Ordering}
 use Rattle.std.specs.declared.cmp.Ordering.TheVariants.{Less, Equal, Greater}
 use Rattle.std.proofs.lemmas.Bool.{cases_Bool}
 use Rattle.std.proofs.lemmas.Map.Lookups.{exact_pairs, exact_unsigned}
+use Rattle.notation.specs.declared.form.Form.{Form}
 use Rattle.stack_diff.specs.config_box.box_answers.NumberSet.{SetOf}
 use Rattle.stack_diff.specs.names.declared.pair.Sides.{Sides}
 use Rattle.stack_diff.specs.names.declared.pair.Sides.TheVariants.{Both}
@@ -33,30 +34,30 @@ tied Greater e = absurd cc
 one-id : (ids others : ℕ × ℕ) → is_at (ids_cmp ids) others ≡ true → ids ≡ others
 one-id ids others is = exact_pairs nat_cmp nat_cmp exact_unsigned exact_unsigned ids others (tied (ids_cmp ids others) is)
 
-module _ (stacks : StacksOf) (sets : List SetOf) where
+module _ (form : Form) (stacks : StacksOf) (sets : List SetOf) where
   -- at first nothing is
-  pub kept-none : (kept : Kept) → IsEmpty kept → IsKept stacks sets kept
+  pub kept-none : (kept : Kept) → IsEmpty kept → IsKept form stacks sets kept
   kept-none kept none ids judged found = (let empty : None ≡ Some judged = sym (ap (λ (entries : List ((ℕ × ℕ) × Judged)). lookup (is_at (ids_cmp ids)) entries) none) ∙ found in absurd cc)
 
   -- one more
-  pub kept-more : (kept more : Kept) (old new : ResId) (one : Judged) → IsKept stacks sets kept → ((ids : ℕ × ℕ) → get ids_cmp more ids ≡ cond (is_at (ids_cmp (old.0, new.0)) ids) (Some one) (get ids_cmp kept ids))
-      → IsRight stacks sets (Both old new) one → IsKept stacks sets more
+  pub kept-more : (kept more : Kept) (old new : ResId) (one : Judged) → IsKept form stacks sets kept → ((ids : ℕ × ℕ) → get ids_cmp more ids ≡ cond (is_at (ids_cmp (old.0, new.0)) ids) (Some one) (get ids_cmp kept ids))
+      → IsRight form stacks sets (Both old new) one → IsKept form stacks sets more
   kept-more kept more old new one all update right ids judged found =
       elim (cases_Bool (is_at (ids_cmp (old.0, new.0)) ids)) [
         | inl is ↦ (let same : Some one ≡ Some judged = sym (update ids ∙ ap (λ (here : Bool). cond here (Some one) (get ids_cmp kept ids)) is) ∙ found in
             let it : one ≡ judged = cc in
-            subst (λ (pair : ℕ × ℕ). IsRight stacks sets (Both (record { 0 = pair.0 }) (record { 0 = pair.1 })) judged) (one-id (old.0, new.0) ids is)
-            (subst (IsRight stacks sets (Both old new)) it right))
+            subst (λ (pair : ℕ × ℕ). IsRight form stacks sets (Both (record { 0 = pair.0 }) (record { 0 = pair.1 })) judged) (one-id (old.0, new.0) ids is)
+            (subst (IsRight form stacks sets (Both old new)) it right))
         | inr not ↦ all ids judged (sym (update ids ∙ ap (λ (here : Bool). cond here (Some one) (get ids_cmp kept ids)) not) ∙ found)
       ]
 
   -- what is told of other labels
-  pub right-shared : (sides : Sides) (judged other : Judged) → told_of other.told ≡ told_of judged.told → other.nodes ≡ judged.nodes → IsRight stacks sets sides judged → IsRight stacks sets sides other
+  pub right-shared : (sides : Sides) (judged other : Judged) → told_of other.told ≡ told_of judged.told → other.nodes ≡ judged.nodes → IsRight form stacks sets sides judged → IsRight form stacks sets sides other
   right-shared sides judged other told nodes right = record {
-    told = subst (IsTold stacks sets sides) (sym told) right.told;
+    told = subst (IsTold form stacks sets sides) (sym told) right.told;
     tree = subst (λ (count : ℕ). HasTreeOf stacks sets sides (λ n. n ≡ count)) (sym nodes) right.tree;
   }
 
   -- or it is above the limit
-  pub right-above : (sides : Sides) (judged : Judged) (most : ℕ) → most < judged.nodes → IsRight stacks sets sides judged → HasTreeOf stacks sets sides (λ nodes. most < nodes)
+  pub right-above : (sides : Sides) (judged : Judged) (most : ℕ) → most < judged.nodes → IsRight form stacks sets sides judged → HasTreeOf stacks sets sides (λ nodes. most < nodes)
   right-above sides judged most above right = tree-turned stacks sets sides (λ nodes. nodes ≡ judged.nodes) (λ nodes. most < nodes) (λ nodes same. omega (arith, same, above)) right.tree

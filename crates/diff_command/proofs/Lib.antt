@@ -4,5 +4,4 @@ pub mod SameBytes
 pub mod Counts
 pub mod Kept
 pub mod Blocks
-pub mod DevicesNamed
-pub use Rattle.stack_diff.proofs.InOrder
+pub use Rattle.answer_text.proofs.InOrder

@@ -1,5 +1,5 @@
 -- The devices of a part of a box as text: what the part has at the coordinates where it is narrower.
-use Rattle.std.specs.Prelude.{ℕ, ◌^◌, ◌/◌, ◌+◌, ◌-◌, ◌==◌, nat_lt, Bool, List, [], ◌∷◌, ◌++◌, length, codes, if◌then◌else◌}
+use Rattle.std.specs.Prelude.{ℕ, ◌^◌, ◌/◌, ◌==◌, List, [], ◌∷◌, ◌++◌, codes, if◌then◌else◌}
 use Rattle.std.specs.List.{flat_map, list_any}
 use Rattle.std.specs.Fmt.{decimal}
 use Rattle.stack_diff.specs.config_box.config_record.declared.coord.Coord.{Coord}
@@ -8,6 +8,10 @@ use Rattle.stack_diff.specs.config_box.config_record.locales.LocaleNumber.{local
 use Rattle.stack_diff.specs.config_box.config_record.locales.Text.{locale_text}
 use Rattle.stack_diff.specs.config_box.box_answers.NumberSet.{SetOf, RangeOf, NumbersOf, LocalesOf}
 use Rattle.stack_diff.specs.config_box.box_answers.Members.{set_at}
+use Rattle.notation.specs.declared.form.Form.{Form}
+use Rattle.notation.specs.declared.form.Form.TheVariants.{Android, Raw}
+use Rattle.notation.specs.DevicesNotation as android
+use Rattle.notation.specs.Narrower.{is_narrower}
 
 -- ---- the values of a coordinate
 
@@ -35,16 +39,6 @@ values_text (LocalesOf numbers) = listed locale_value numbers
 
 -- ---- where a part is narrower than the whole
 
--- how many numbers a set has
-abbrev pub number_count : SetOf → ℕ
-number_count (RangeOf low high) = high - low + 1
-number_count (NumbersOf numbers) = length numbers
-number_count (LocalesOf numbers) = length numbers
-
--- the part has fewer numbers there
-unfoldable pub is_narrower : List SetOf → List SetOf → Coord → Bool
-is_narrower whole part c = nat_lt (number_count (set_at part c)) (number_count (set_at whole c))
-
 -- ` COORD=VALUES`
 unfoldable pub coord_text : List SetOf → Coord → List ℕ
 coord_text part c = codes " " ++ name_of c ++ codes "=" ++ values_text (set_at part c)
@@ -53,9 +47,12 @@ coord_text part c = codes " " ++ name_of c ++ codes "=" ++ values_text (set_at p
 unfoldable pub narrower_text : List SetOf → List SetOf → Coord → List ℕ
 narrower_text whole part c = if is_narrower whole part c then coord_text part c else []
 
--- ` on COORD=VALUES COORD=VALUES` for these coordinates; nothing where the part is narrower at none of them
-abbrev pub on_text : List SetOf → List SetOf → List Coord → List ℕ
-on_text whole part cs = if list_any (is_narrower whole part) cs then codes " on" ++ flat_map (narrower_text whole part) cs else []
-
+-- ` on COORD=VALUES COORD=VALUES`; nothing where the part is narrower at no coordinate
 unfoldable pub devices_text : List SetOf → List SetOf → List ℕ
-devices_text whole part = on_text whole part all_coords
+devices_text whole part =
+    if list_any (is_narrower whole part) all_coords then codes " on" ++ flat_map (narrower_text whole part) all_coords else []
+
+-- in either form
+unfoldable pub devices_in : Form → List SetOf → List SetOf → List ℕ
+devices_in Android whole part = android.devices_text whole part
+devices_in Raw whole part = devices_text whole part

@@ -15,6 +15,7 @@ use Rattle.command_base.specs.Output.{PrintsOneOf}
 use Rattle.command_base.specs.StackBytes.{LayerBytes}
 use Rattle.command_base.specs.Stop.{StopOf}
 use Rattle.command_base.specs.names.NamedPairs.{pairs_named}
+use Rattle.notation.specs.declared.form.Form.{Form}
 use Rattle.stack_diff.specs.config_box.config_record.locales.declared.locale_rule.LocaleRule.{LocaleRule}
 use Rattle.stack_diff.specs.names.Pairs.{PairOf, name_pairs}
 use Rattle.diff_command.specs.declared.diff.Diff.{Diff}
@@ -62,14 +63,14 @@ diff_opened rule old new box_json words = do
 -- ---- the answer
 
 -- from what was opened, if it is
-abbrev pub DiffsOpened : {W : Type 0} → (W → Option (List ℕ)) → W → W → ℕ → Result OpenDiffOf StopOf → Result Status Stop → Type 0
-DiffsOpened contents old new max_nodes opened result =
-    CarriesOut (λ diff done. PrintsOneOf (IsDiffOutput diff.pairs max_nodes) contents old new done (Ok diff.opened)) opened result
+abbrev pub DiffsOpened : {W : Type 0} → (W → Option (List ℕ)) → W → W → Form → ℕ → Result OpenDiffOf StopOf → Result Status Stop → Type 0
+DiffsOpened contents old new form max_nodes opened result =
+    CarriesOut (λ diff done. PrintsOneOf (IsDiffOutput form diff.pairs max_nodes) contents old new done (Ok diff.opened)) opened result
 
 -- from the files, if they are read
 abbrev pub DiffsFiles : {W : Type 0} → (W → Option (List ℕ)) → W → W → Diff → Result DiffBytes StopOf → Result Status Stop → Type 0
 DiffsFiles contents old new diff read result =
-    DiffsOpened contents old new diff.max_nodes (read >>= λ files. diff_opened diff.locales files.old files.new files.box_json files.words) result
+    DiffsOpened contents old new diff.form diff.max_nodes (read >>= λ files. diff_opened diff.locales files.old files.new files.box_json files.words) result
 
 -- from what the places have
 abbrev pub Diffs : {W : Type 0} → (W → Option (List ℕ)) → W → W → Places → Diff → Result Status Stop → Type 0

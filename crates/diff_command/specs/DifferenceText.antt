@@ -2,22 +2,23 @@
 use Rattle.std.specs.Prelude.{ℕ, List, [], ◌∷◌, ◌++◌, codes}
 use Rattle.std.specs.List.{flat_map}
 use Rattle.stack_diff.specs.config_box.box_answers.NumberSet.{SetOf}
-use Rattle.stack_diff.specs.Content.{RowContentOf, ContentOf, ValueOf, BagOf, AbsentOf, TooManyReferencesOf, TooManyParentsOf}
+use Rattle.notation.specs.declared.form.Form.{Form}
+use Rattle.answer_text.specs.Content.{RowContentOf, ContentOf, ValueOf, BagOf, AbsentOf, TooManyReferencesOf, TooManyParentsOf}
 use Rattle.stack_diff.specs.Difference.{RowDifferenceOf, RowRemoved, RowAdded, RowChanged, DifferenceOf, RowsDiffer, ContentsDiffer}
-use Rattle.stack_diff.specs.ValueText.{value_content_text, key_text}
+use Rattle.answer_text.specs.InForm.{key_in, row_value_in}
 use Rattle.stack_diff.specs.names.Packages.{PackageNameOf}
-use Rattle.diff_command.specs.DevicesText.{devices_text}
+use Rattle.diff_command.specs.DevicesText.{devices_in}
 use Rattle.diff_command.specs.ContentText.{content_text}
 use Rattle.diff_command.specs.RowsText.{removed_row, added_row}
 
 -- ---- rows
 
 -- `  removed KEY VALUE`, `  added KEY VALUE` or `  KEY BEFORE -> AFTER`
-unfoldable pub row_line : List PackageNameOf → RowDifferenceOf → List ℕ
-row_line packages (RowRemoved row) = removed_row packages row
-row_line packages (RowAdded row) = added_row packages row
-row_line packages (RowChanged key before after) =
-    codes "  " ++ key_text packages key ++ codes " " ++ value_content_text packages before ++ codes " -> " ++ value_content_text packages after ++ 10 ∷ []
+unfoldable pub row_line : Form → List PackageNameOf → RowDifferenceOf → List ℕ
+row_line form packages (RowRemoved row) = removed_row form packages row
+row_line form packages (RowAdded row) = added_row form packages row
+row_line form packages (RowChanged key before after) =
+    codes "  " ++ key_in form packages key ++ codes " " ++ row_value_in form packages key before ++ codes " -> " ++ row_value_in form packages key after ++ 10 ∷ []
 
 -- what is no bag has no rows
 abbrev pub rows_in : ContentOf → List RowContentOf
@@ -28,17 +29,17 @@ rows_in (TooManyReferencesOf label) = []
 rows_in (TooManyParentsOf label) = []
 
 -- those of the rows that differ; of a bag on one side alone all of them
-unfoldable pub row_lines : List PackageNameOf → DifferenceOf → List ℕ
-row_lines packages (RowsDiffer rows) = flat_map (row_line packages) rows
-row_lines packages (ContentsDiffer before after) = flat_map (removed_row packages) (rows_in before) ++ flat_map (added_row packages) (rows_in after)
+unfoldable pub row_lines : Form → List PackageNameOf → DifferenceOf → List ℕ
+row_lines form packages (RowsDiffer rows) = flat_map (row_line form packages) rows
+row_lines form packages (ContentsDiffer before after) = flat_map (removed_row form packages) (rows_in before) ++ flat_map (added_row form packages) (rows_in after)
 
 -- ---- behind `changed LABEL`
 
 -- ` BEFORE -> AFTER`; nothing for two bags, whose rows tell it
-unfoldable pub before_and_after : List PackageNameOf → DifferenceOf → List ℕ
-before_and_after packages (RowsDiffer rows) = []
-before_and_after packages (ContentsDiffer before after) = codes " " ++ content_text packages before ++ codes " -> " ++ content_text packages after
+unfoldable pub before_and_after : Form → List PackageNameOf → DifferenceOf → List ℕ
+before_and_after form packages (RowsDiffer rows) = []
+before_and_after form packages (ContentsDiffer before after) = codes " " ++ content_text form packages before ++ codes " -> " ++ content_text form packages after
 
 -- ` BEFORE -> AFTER on ..`, for the devices of a part of the whole box, and the lines of rows
-unfoldable pub difference_text : List PackageNameOf → DifferenceOf → List SetOf → List SetOf → List ℕ
-difference_text packages difference whole part = before_and_after packages difference ++ devices_text whole part ++ 10 ∷ row_lines packages difference
+unfoldable pub difference_text : Form → List PackageNameOf → DifferenceOf → List SetOf → List SetOf → List ℕ
+difference_text form packages difference whole part = before_and_after form packages difference ++ devices_in form whole part ++ 10 ∷ row_lines form packages difference

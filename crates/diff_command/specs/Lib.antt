@@ -7,11 +7,11 @@ pub mod OpenedSeen
 pub mod Diff
 pub mod NameLines
 pub mod DevicesText
-pub mod DevicesLaw
 pub mod ContentText
 pub mod RowsText
 pub mod DifferenceText
 pub mod Unfolded
+pub use Rattle.notation.specs as notation
 pub use Rattle.stack_diff.specs as stack_diff
 pub use Rattle.stack_diff.specs.config_box
 pub use Rattle.stack_diff.specs.names

@@ -1,17 +1,18 @@
 -- The rows that one of two bags alone has, a line each.
 use Rattle.std.specs.Prelude.{ℕ, List, [], ◌∷◌, ◌++◌, codes}
-use Rattle.stack_diff.specs.Content.{RowContentOf}
-use Rattle.stack_diff.specs.ValueText.{value_content_text, key_text}
+use Rattle.notation.specs.declared.form.Form.{Form}
+use Rattle.answer_text.specs.Content.{RowContentOf}
+use Rattle.answer_text.specs.InForm.{key_in, row_value_in}
 use Rattle.stack_diff.specs.names.Packages.{PackageNameOf}
 
 -- `KEY VALUE`
-unfoldable pub row_text : List PackageNameOf → RowContentOf → List ℕ
-row_text packages row = key_text packages row.key ++ codes " " ++ value_content_text packages row.value ++ 10 ∷ []
+unfoldable pub row_text : Form → List PackageNameOf → RowContentOf → List ℕ
+row_text form packages row = key_in form packages row.key ++ codes " " ++ row_value_in form packages row.key row.value ++ 10 ∷ []
 
 -- the line `  removed KEY VALUE`
-unfoldable pub removed_row : List PackageNameOf → RowContentOf → List ℕ
-removed_row packages row = codes "  removed " ++ row_text packages row
+unfoldable pub removed_row : Form → List PackageNameOf → RowContentOf → List ℕ
+removed_row form packages row = codes "  removed " ++ row_text form packages row
 
 -- the line `  added KEY VALUE`
-unfoldable pub added_row : List PackageNameOf → RowContentOf → List ℕ
-added_row packages row = codes "  added " ++ row_text packages row
+unfoldable pub added_row : Form → List PackageNameOf → RowContentOf → List ℕ
+added_row form packages row = codes "  added " ++ row_text form packages row

@@ -3,12 +3,13 @@ use Rattle.std.specs.Prelude.{◌≡◌, ℕ, Bool, ◌<◌, ◌≤◌, List, []
 use Rattle.std.specs.Cmp.Lexicographic.{slice_cmp}
 use Rattle.std.specs.List.{AllZip, flat_map, sum}
 use Rattle.std.specs.Ordering.{is_lt, nat_cmp}
+use Rattle.notation.specs.declared.form.Form.{Form}
 use Rattle.stack_diff.specs.config_box.box_answers.NumberSet.{SetOf}
 use Rattle.stack_diff.specs.names.Packages.{PackageNameOf}
 use Rattle.stack_diff.specs.names.Pairs.{PairOf}
 use Rattle.stack_diff.specs.names.declared.pair.Sides.{Sides}
 use Rattle.stack_diff.specs.names.declared.pair.Sides.TheVariants.{Removed, Added, Both}
-use Rattle.stack_diff.specs.InOrder.{in_order}
+use Rattle.answer_text.specs.InOrder.{in_order}
 use Rattle.stack_diff.specs.Stacks.{StacksOf, differs}
 use Rattle.stack_diff.specs.Changes.{ChangeOf}
 use Rattle.stack_diff.specs.Fewest.{AreToldShort}
@@ -25,26 +26,26 @@ pub data ToldOf : Type 0 where
   ChangedTold : List (List ℕ) → ToldOf
 
 -- a block for each change and each of its boxes
-abbrev pub change_blocks : List PackageNameOf → List SetOf → ChangeOf → List (List ℕ)
-change_blocks packages whole change = map (difference_text packages change.difference whole) change.boxes
+abbrev pub change_blocks : Form → List PackageNameOf → List SetOf → ChangeOf → List (List ℕ)
+change_blocks form packages whole change = map (difference_text form packages change.difference whole) change.boxes
 
 -- byte by byte, and the shorter first where it begins the other
 abbrev pub is_block_before : List ℕ → List ℕ → Bool
 is_block_before block other = is_lt (slice_cmp nat_cmp block other)
 
 -- those of all changes, in the order of their bytes
-unfoldable pub blocks_of : List PackageNameOf → List SetOf → List ChangeOf → List (List ℕ)
-blocks_of packages whole changes = in_order is_block_before (flat_map (change_blocks packages whole) changes)
+unfoldable pub blocks_of : Form → List PackageNameOf → List SetOf → List ChangeOf → List (List ℕ)
+blocks_of form packages whole changes = in_order is_block_before (flat_map (change_blocks form packages whole) changes)
 
-abbrev pub changes_told : List PackageNameOf → List SetOf → List ChangeOf → ToldOf
-changes_told packages whole [] = SameTold
-changes_told packages whole (change ∷ changes) = ChangedTold (blocks_of packages whole (change ∷ changes))
+abbrev pub changes_told : Form → List PackageNameOf → List SetOf → List ChangeOf → ToldOf
+changes_told form packages whole [] = SameTold
+changes_told form packages whole (change ∷ changes) = ChangedTold (blocks_of form packages whole (change ∷ changes))
 
 -- it is right, by what the label stands for: of both stacks all changes are told, in few boxes
-abbrev pub IsTold : StacksOf → List SetOf → Sides → ToldOf → Type 0
-IsTold stacks sets (Removed id) told = told ≡ RemovedTold
-IsTold stacks sets (Added id) told = told ≡ AddedTold
-IsTold stacks sets (Both old new) told = (changes : List ChangeOf) × AreToldShort (differs stacks old new) sets changes × (told ≡ changes_told stacks.packages sets changes)
+abbrev pub IsTold : Form → StacksOf → List SetOf → Sides → ToldOf → Type 0
+IsTold form stacks sets (Removed id) told = told ≡ RemovedTold
+IsTold form stacks sets (Added id) told = told ≡ AddedTold
+IsTold form stacks sets (Both old new) told = (changes : List ChangeOf) × AreToldShort (differs stacks old new) sets changes × (told ≡ changes_told form stacks.packages sets changes)
 
 -- ---- the limit
 
@@ -64,6 +65,6 @@ pub record HaveTrees (stacks : StacksOf) (sets : List SetOf) (pairs : List PairO
 -- ---- all labels
 
 -- what is told of each is right, with trees within the limit; or there are such trees above it
-abbrev pub AreTold : StacksOf → List SetOf → List PairOf → ℕ → Option (List ToldOf) → Type 0
-AreTold stacks sets pairs most (Some told) = AllZip (λ pair one. IsTold stacks sets pair.sides one) pairs told × HaveTrees stacks sets pairs (λ nodes. nodes ≤ most)
-AreTold stacks sets pairs most None = HaveTrees stacks sets pairs (λ nodes. most < nodes)
+abbrev pub AreTold : Form → StacksOf → List SetOf → List PairOf → ℕ → Option (List ToldOf) → Type 0
+AreTold form stacks sets pairs most (Some told) = AllZip (λ pair one. IsTold form stacks sets pair.sides one) pairs told × HaveTrees stacks sets pairs (λ nodes. nodes ≤ most)
+AreTold form stacks sets pairs most None = HaveTrees stacks sets pairs (λ nodes. most < nodes)

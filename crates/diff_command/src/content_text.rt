@@ -3,23 +3,25 @@
 ghost use Rattle.std.specs.Prelude.{◌++◌};
 ghost use Rattle.contract_words.specs.Writes.{Writes};
 ghost use Rattle.stack_diff.specs.names.Label.{label_of};
-ghost use Rattle.stack_diff.specs.ContentSeen.{content_of};
+ghost use Rattle.answer_text.specs.ContentSeen.{content_of};
 ghost use Rattle.stack_diff.specs.names.LabelText.{label_text};
 ghost use Rattle.diff_command.specs.ContentText.{content_text};
 
-use stack_diff::{Content, Label, PackageNames, write_value_content};
+use answer_text::{Content, Form, write_value_in};
+use stack_diff::{Label, PackageNames};
 use std::io::{self, Write};
 
 #[tactic(auto, unfolding(crate::specs::ContentText::content_text))]
 pub(crate) fn write_content<W: Write + Drop>(
+    form: Form,
     packages: &PackageNames<'_>,
     content: &Content<'_>,
     out: &mut W,
 ) -> io::Result<()>
-    ensures { Writes W.contents out.old out.new result (content_text packages.now (content_of content.now)) }
+    ensures { Writes W.contents out.old out.new result (content_text form packages.now (content_of content.now)) }
 {
     match content {
-        Content::Value(value) => write_value_content(packages, value, out),
+        Content::Value(value) => write_value_in(form, packages, value, out),
         Content::Bag(_) => out.write_all(b"bag"),
         Content::Absent(label) => write_with_label(packages, b"absent ", label, out),
         Content::TooManyReferences(label) => {

@@ -1,55 +1,51 @@
 //! The devices of a part of a box, written.
 
 ghost use Rattle.std.specs.Prelude.{◌≡◌};
-ghost use Rattle.std.specs.List.{flat_map, list_any};
+ghost use Rattle.std.specs.List.{flat_map};
 ghost use Rattle.std.specs.Fmt.{decimal};
 ghost use Rattle.contract_words.specs.Writes.{Writes};
 ghost use Rattle.stack_diff.specs.config_box.BoxSeen.{values_seen};
 ghost use Rattle.stack_diff.specs.config_box.box_answers.NumberSet.{locale_numbers};
 ghost use Rattle.stack_diff.specs.config_box.box_answers.Members.{set_at};
 ghost use Rattle.stack_diff.specs.config_box.config_record.locales.LocaleNumber.{locale_number};
-ghost use Rattle.diff_command.specs.DevicesText.{range_text, locale_value, next_value, listed, values_text, number_count, is_narrower, coord_text, narrower_text, on_text, devices_text};
+ghost use Rattle.diff_command.specs.DevicesText.{range_text, locale_value, next_value, listed, values_text, coord_text, narrower_text, devices_text, devices_in};
 
+use answer_text::Form;
+use notation::{is_narrower, is_narrower_at_one};
 use stack_diff::{ConfigBox, Coord, Locale, Values, write_locale};
 use std::io::{self, Write};
 
-/// Writes which devices a part of a box has: the values of each coordinate at which it has fewer numbers than the
-/// whole, behind ` on`. Where there is no such coordinate it writes nothing.
-///
-/// ```text
-/// write_devices(&phones, &small, &mut out)?; //  on smallestWidthDp=320..599 orientation=2
-/// ```
+/// Writes which devices a part of a box has, behind ` on`: what it has at the coordinates at which it has fewer numbers than the
+/// whole. Where there is no such coordinate it writes nothing.
+#[tactic(auto, unfolding(crate::specs::DevicesText::devices_in))]
+pub(crate) fn write_devices_in<W: Write + Drop>(
+    form: Form,
+    whole: &ConfigBox,
+    part: &ConfigBox,
+    out: &mut W,
+) -> io::Result<()>
+    ensures { Writes W.contents out.old out.new result (devices_in form whole.now part.now) }
+{
+    match form {
+        Form::Android => notation::write_devices(whole, part, out),
+        Form::Raw => write_devices(whole, part, out),
+    }
+}
+
+// ` on smallestWidthDp=320..599 orientation=2`
 #[tactic(auto, unfolding(crate::specs::DevicesText::devices_text, crate::specs::Unfolded::all_coords))]
-pub fn write_devices<W: Write + Drop>(
+fn write_devices<W: Write + Drop>(
     whole: &ConfigBox,
     part: &ConfigBox,
     out: &mut W,
 ) -> io::Result<()>
     ensures { Writes W.contents out.old out.new result (devices_text whole.now part.now) }
 {
-    write_on(whole, part, &Coord::ALL, out)
-}
-
-// Writes those of some coordinates.
-fn write_on<W: Write + Drop>(
-    whole: &ConfigBox,
-    part: &ConfigBox,
-    coords: &[Coord],
-    out: &mut W,
-) -> io::Result<()>
-    ensures { Writes W.contents out.old out.new result (on_text whole.now part.now coords.now) }
-{
-    if !is_narrower_at_one(whole, part, coords) {
+    if !is_narrower_at_one(whole, part) {
         return Ok(());
     }
     out.write_all(b" on")?;
-    write_narrower(whole, part, coords, out)
-}
-
-fn is_narrower_at_one(whole: &ConfigBox, part: &ConfigBox, coords: &[Coord]) -> bool
-    ensures { result ≡ list_any (is_narrower whole.now part.now) coords.now }
-{
-    coords.iter().any(|coord| is_narrower(whole, part, *coord))
+    write_narrower(whole, part, &Coord::ALL, out)
 }
 
 #[tactic(auto, using(contract_words::proofs::TextSteps::puts))]
@@ -80,24 +76,6 @@ fn write_if_narrower<W: Write + Drop>(
         write_coord(part, coord, out)
     } else {
         Ok(())
-    }
-}
-
-// Whether the part has fewer numbers at a coordinate.
-#[tactic(auto, unfolding(crate::specs::DevicesText::is_narrower))]
-fn is_narrower(whole: &ConfigBox, part: &ConfigBox, coord: Coord) -> bool
-    ensures { result ≡ is_narrower whole.now part.now coord }
-{
-    number_count(part.values(coord)) < number_count(whole.values(coord))
-}
-
-fn number_count(values: Values<'_>) -> u64
-    ensures { result ≡ number_count (values_seen values.entry) }
-{
-    match values {
-        Values::Range(low, high) => u64::from(high.saturating_sub(low)) + 1,
-        Values::Numbers(numbers) => numbers.len() as u64,
-        Values::Locales(locales) => locales.len() as u64,
     }
 }
 

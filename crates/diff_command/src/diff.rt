@@ -17,9 +17,10 @@ use crate::judged::tell_all;
 use crate::lines::{some_differ, write_lines};
 use crate::opened::{NamedDiff, OpenedDiff};
 use crate::told::Told;
+use answer_text::Form;
 use command_base::{
-    Inputs, LayerFiles, LayerParts, LocaleRule, Side, Status, Stop, ToolFault, asked_sets,
-    asked_words, file_bytes,
+    Inputs, LayerFiles, LayerParts, LocaleRule, Progress, Side, Status, Stop, ToolFault,
+    asked_sets, asked_words, file_bytes,
 };
 use stack_diff::{NamePair, Stacks};
 use std::alloc::Global;
@@ -36,6 +37,8 @@ pub struct Diff<'a> {
     pub box_path: &'a str,
     /// By which rule locales are compared.
     pub locales: LocaleRule,
+    /// How it is written.
+    pub form: Form,
     /// How many nodes the trees that part the devices have together at most.
     pub max_nodes: u32,
     /// The words that ask for resources, or name a file of such words.
@@ -43,11 +46,13 @@ pub struct Diff<'a> {
 }
 
 impl<'a> Diff<'a> {
-    /// Reads what the words name, and answers them. Where it is not answered, nothing is written, unless a write fails.
-    pub fn answer<I: Inputs, W: Write + Drop>(
+    /// Reads what the words name, and answers them; `progress` comes to know how many names are compared. Where it is not
+    /// answered, nothing is written, unless a write fails.
+    pub fn answer<I: Inputs, P: Progress, W: Write + Drop>(
         &self,
         alloc: Global,
         inputs: &I,
+        progress: &mut P,
         out: &mut W,
     ) -> Result<Status, Stop<'a>>
         ensures answers { IfSome (I.places inputs.now) (λ places. Diffs W.contents out.old out.new places self.now result) }
@@ -61,13 +66,14 @@ impl<'a> Diff<'a> {
             self.box_path,
             &self.words,
         )?;
-        self.answer_of(alloc, &files, out)
+        self.answer_of(alloc, &files, progress, out)
     }
 
-    fn answer_of<W: Write + Drop>(
+    fn answer_of<P: Progress, W: Write + Drop>(
         &self,
         alloc: Global,
         files: &DiffFiles,
+        progress: &mut P,
         out: &mut W,
     ) -> Result<Status, Stop<'static>>
         ensures answers { DiffsFiles W.contents out.old out.new self.now (Ok (diff_held files.now)) result }
@@ -75,21 +81,30 @@ impl<'a> Diff<'a> {
     {
         let old = files.old.layers(alloc)?;
         let new = files.new.layers(alloc)?;
-        self.diff_of(alloc, &old, &new, &files.box_json, &files.words, out)
+        self.diff_of(
+            alloc,
+            &old,
+            &new,
+            &files.box_json,
+            &files.words,
+            progress,
+            out,
+        )
     }
 
     // Reads the words, opens the layers, reads the box, finds what the words ask for, and then prints what becomes of it.
     #[tactic(auto, unfolding(crate::specs::Diff::diff_opened))]
-    fn diff_of<W: Write + Drop>(
+    fn diff_of<P: Progress, W: Write + Drop>(
         &self,
         alloc: Global,
         old: &[LayerParts<&[u8]>],
         new: &[LayerParts<&[u8]>],
         box_json: &[u8],
         words: &[String],
+        progress: &mut P,
         out: &mut W,
     ) -> Result<Status, Stop<'static>>
-        ensures answers { DiffsOpened W.contents out.old out.new self.now.max_nodes
+        ensures answers { DiffsOpened W.contents out.old out.new self.now.form self.now.max_nodes
             (diff_opened self.now.locales (map layer_bytes old.now) (map layer_bytes new.now) box_json.now (map string_bytes words.now)) result }
         ensures unwritten { IsKept out.old out.new result }
     {
@@ -97,7 +112,7 @@ impl<'a> Diff<'a> {
         let opened = OpenedDiff::read_by(alloc, old, new, box_json, self.locales)?;
         let named = opened.named(alloc)?;
         let pairs = named.pairs_for(alloc, &sets)?;
-        Ok(named.diff(alloc, &pairs, self.max_nodes, out)?)
+        Ok(named.diff(alloc, self.form, &pairs, self.max_nodes, progress, out)?)
     }
 }
 
@@ -142,17 +157,27 @@ impl<'o, 'a> NamedDiff<'o, 'a> {
     /// Prints what the new layers say otherwise than the old ones, for some labels and all devices of the box; the status is
     /// Done where nothing differs. Or it prints `node limit`, where the trees that part the devices can have more than
     /// `max_nodes` nodes together. All memory is taken before the first line is written.
-    pub fn diff<W: Write + Drop>(
+    pub fn diff<P: Progress, W: Write + Drop>(
         &self,
         alloc: Global,
+        form: Form,
         pairs: &[NamePair<'a>],
         max_nodes: u32,
+        progress: &mut P,
         out: &mut W,
     ) -> Result<Status, ToolFault>
-        ensures { PrintsOneOf (IsDiffOutput (map pair_of pairs.now) max_nodes) W.contents out.old out.new result (Ok (named_diff self.now)) }
+        ensures { PrintsOneOf (IsDiffOutput form (map pair_of pairs.now) max_nodes) W.contents out.old out.new result (Ok (named_diff self.now)) }
     {
         let stacks = self.stacks();
-        let told = tell_all(alloc, stacks, pairs, self.members, max_nodes)?;
+        let told = tell_all(
+            alloc,
+            form,
+            stacks,
+            pairs,
+            self.members,
+            max_nodes,
+            progress,
+        )?;
         print_told(self.rule, stacks, pairs, told, out)
     }
 }

@@ -8,6 +8,8 @@ ghost use Rattle.diff_command.specs.Judged.{told_of, IsJudged, IsKept};
 ghost use Rattle.diff_command.specs.Telling.{AreTold};
 
 use crate::told::Told;
+use answer_text::Form;
+use command_base::Progress;
 use stack_diff::{ConfigBox, NamePair, ResId, Sides, Stacks, compare};
 use std::alloc::{AllocError, Global};
 use std::collections::BTreeMap;
@@ -20,21 +22,25 @@ struct Judged {
 }
 
 /// What is told of the labels; none where the trees that find it may have more nodes than the limit. The lines of a label
-/// are made as soon as it is compared. Two ids are compared once, however many labels stand for them.
-pub(crate) fn tell_all<'a>(
+/// are made as soon as it is compared. Two ids are compared once, however many labels stand for them. Before each label the
+/// caller comes to know how many are told.
+pub(crate) fn tell_all<'a, P: Progress>(
     alloc: Global,
+    form: Form,
     stacks: Stacks<'_, 'a>,
     pairs: &[NamePair<'a>],
     members: &ConfigBox,
     max_nodes: u32,
+    progress: &mut P,
 ) -> Result<Option<Vec<Told>>, AllocError>
-    ensures { IfOk result (λ told. AreTold (stacks_of stacks.entry) members.now (map pair_of pairs.now) max_nodes (option_map (λ all. map told_of all.items) told)) }
+    ensures { IfOk result (λ told. AreTold form (stacks_of stacks.entry) members.now (map pair_of pairs.now) max_nodes (option_map (λ all. map told_of all.items) told)) }
 {
     let mut told = Vec::with_capacity(alloc, pairs.len())?;
     let mut kept = BTreeMap::new(alloc);
     let mut spare = max_nodes as usize;
     for pair in pairs {
-        let Some(judged) = judge(alloc, stacks, pair.sides, members, spare, &mut kept)? else {
+        progress.goals_done(told.len(), pairs.len());
+        let Some(judged) = judge(alloc, form, stacks, pair.sides, members, spare, &mut kept)? else {
             return Ok(None);
         };
         spare -= judged.nodes;
@@ -47,15 +53,16 @@ pub(crate) fn tell_all<'a>(
 // found of two ids is kept.
 fn judge<'a>(
     alloc: Global,
+    form: Form,
     stacks: Stacks<'_, 'a>,
     sides: Sides,
     members: &ConfigBox,
     most: usize,
     kept: &mut BTreeMap<(u32, u32), Judged>,
 ) -> Result<Option<Judged>, AllocError>
-    requires { IsKept (stacks_of stacks) members.now kept.old }
-    ensures judged { IfOk result (IsJudged (stacks_of stacks.entry) members.now sides most) }
-    ensures kept { OnOk result (IsKept (stacks_of stacks.entry) members.now kept.new) }
+    requires { IsKept form (stacks_of stacks) members.now kept.old }
+    ensures judged { IfOk result (IsJudged form (stacks_of stacks.entry) members.now sides most) }
+    ensures kept { OnOk result (IsKept form (stacks_of stacks.entry) members.now kept.new) }
 {
     match sides {
         Sides::Removed { .. } => Ok(Some(Judged::at_once(Told::Removed))),
@@ -64,7 +71,7 @@ fn judge<'a>(
             if let Some(judged) = kept.get(&(old.0, new.0)) {
                 return judged.within(most);
             }
-            let Some(judged) = judge_both(alloc, stacks, old, new, members, most)? else {
+            let Some(judged) = judge_both(alloc, form, stacks, old, new, members, most)? else {
                 return Ok(None);
             };
             kept.insert((old.0, new.0), judged.shared()?)?;
@@ -76,24 +83,26 @@ fn judge<'a>(
 // The same of two ids, by a comparison.
 fn judge_both<'a>(
     alloc: Global,
+    form: Form,
     stacks: Stacks<'_, 'a>,
     old: ResId,
     new: ResId,
     members: &ConfigBox,
     most: usize,
 ) -> Result<Option<Judged>, AllocError>
-    ensures { IfOk result (IsJudged (stacks_of stacks.entry) members.now (of_sides.Both old new) most) }
+    ensures { IfOk result (IsJudged form (stacks_of stacks.entry) members.now (of_sides.Both old new) most) }
 {
     let Some(compared) = compare(alloc, stacks, old, new, members, most)? else {
         return Ok(None);
     };
-    let told = Told::of(alloc, stacks.packages(), members, &compared.changes)?;
+    let told = Told::of(alloc, form, stacks.packages(), members, &compared.changes)?;
     let nodes = compared.nodes;
     Ok(Some(Judged { told, nodes }))
 }
 
 impl Judged {
     ghost use Rattle.std.specs.Prelude.{◌≡◌, IfOk};
+    ghost use Rattle.notation.specs.declared.form.Form.{Form};
     ghost use Rattle.stack_diff.specs.Stacks.{StacksOf};
     ghost use Rattle.stack_diff.specs.names.declared.pair.Sides.{Sides};
     ghost use Rattle.stack_diff.specs.config_box.box_answers.NumberSet.{SetOf};
@@ -121,7 +130,7 @@ impl Judged {
 
     // The same, if its tree is within this limit.
     fn within(&self, most: usize) -> Result<Option<Judged>, AllocError>
-        ensures { IfOk result (λ judged. (stacks : StacksOf) (sets : List SetOf) (sides : Sides) → IsRight stacks sets sides self.now → IsJudged stacks sets sides most judged) }
+        ensures { IfOk result (λ judged. (form : Form) (stacks : StacksOf) (sets : List SetOf) (sides : Sides) → IsRight form stacks sets sides self.now → IsJudged form stacks sets sides most judged) }
     {
         if self.nodes > most {
             return Ok(None);

@@ -2,18 +2,17 @@
 //!
 //! For the program: `NamedDiff::diff` prints exactly the lines of what becomes of some labels, or `node limit`, and is done where
 //! nothing differs. `Diff::answer` reads the files that its words name, and prints those of the labels that
-//! they ask for; where a file is not read, has a fault, or a name is not there, it stops and prints nothing. A line names
-//! exactly the devices of its part (`devices_are_named`).
+//! they ask for; where a file is not read, has a fault, or a name is not there, it stops and prints nothing.
 //!
 //! ```text
 //! let words = vec![in alloc; "dimen/*"]?;
-//! let diff = Diff { old: "old.json", new: "new.json", box_path: "box.json", locales: LocaleRule::Android, max_nodes: 100_000, words };
-//! diff.answer(alloc, &inputs, &mut out)?; // reads the files first
+//! let diff = Diff { old: "old.json", new: "new.json", box_path: "box.json", locales: LocaleRule::Android, form: Form::Android, max_nodes: 100_000, words };
+//! diff.answer(alloc, &inputs, &mut Unwatched, &mut out)?; // reads the files first
 //!
-//! changed string/cancel "Cancel" -> "Cancel!" on locale=de-AT,de-CH,de-DE
-//! changed dimen/margin dimension 4/2^0 dp -> absent dimen/margin on smallestWidthDp=320..599 orientation=2
-//! changed style/Card on sdk=26..30
-//!   attr/padding dimension 4/2^0 dp -> dimension 3/2^0 dp
+//! changed string/cancel "Cancel" -> "Cancel!" on de-rAT,de-rCH
+//! changed dimen/margin 4dp -> absent dimen/margin on sw<600dp land
+//! changed style/Card on v>=26
+//!   attr/padding 4dp -> 3dp
 //!   added attr/accent ?attr/colorAccent
 //!   removed attr/shadow true
 //! added string/welcome
@@ -27,16 +26,15 @@ mod devices_text;
 mod diff;
 mod difference_text;
 mod judged;
-mod laws;
 mod lines;
 mod name_lines;
 mod opened;
 mod rows_text;
 mod told;
 
+pub use answer_text::Form;
 pub use command_base::{LayerParts, Status, ToolFault};
 pub use diff::Diff;
 pub use difference_text::write_difference;
-pub use laws::devices_are_named;
 pub use opened::{NamedDiff, OpenedDiff};
-pub use stack_diff::{ConfigBox, Label, NamePair, NamedStack, Sides, difference_at, name_pairs};
+pub use stack_diff::{ConfigBox, Label, NamePair, NamedStack, Sides};

@@ -8,16 +8,24 @@ ghost use Rattle.json_input.specs.declared.value.JsonFault.TheVariants.{Syntax, 
 
 use serde_json::Value;
 use std::alloc::Global;
+use std::fmt::{self, Debug, Display, Formatter};
 use thiserror::Error;
 
 /// Why no value was read.
-#[derive(Clone, Copy, Debug, PartialEq, Eq, Error)]
+#[derive(Clone, Copy, Error)]
 pub enum JsonFault {
     /// The bytes are no JSON text that `serde_json` reads.
     #[error("Syntax")]
     Syntax,
     #[error("OutOfMemory")]
     OutOfMemory,
+}
+
+/// By its text.
+impl Debug for JsonFault {
+    fn fmt<W: fmt::Write>(&self, f: &mut Formatter<W>) -> fmt::Result {
+        Display::fmt(self, f)
+    }
 }
 
 /// Reads the value of a JSON text.

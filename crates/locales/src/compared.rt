@@ -16,7 +16,7 @@ const WITHOUT_VARIANT: u64 = 0x8000_0000;
 const LOOKED_FOR: u64 = 2;
 
 /// The locale of a record, with all that a phone compares of it.
-#[derive(Clone, Copy, Debug, PartialEq, Eq)]
+#[derive(Clone, Copy)]
 pub struct RecordLocale {
     /// Its language above its region, as the lists of CLDR have them.
     pub locale: u32,
@@ -28,7 +28,7 @@ pub struct RecordLocale {
 }
 
 /// The locale of a device.
-#[derive(Clone, Copy, Debug, PartialEq, Eq)]
+#[derive(Clone, Copy)]
 pub struct DeviceLocale {
     /// Its language above its region, as the lists of CLDR have them.
     pub locale: u32,

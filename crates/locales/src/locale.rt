@@ -8,11 +8,12 @@ ghost use Rattle.locales.specs.LocaleNumber.{locale_number, locale_of_number};
 
 use crate::zero::is_zero;
 use chunk_walk::write_hex;
+use std::fmt::{self, Debug, Display, Formatter};
 use std::io::{self, Write};
 use thiserror::Error;
 
 /// Why a text is no locale.
-#[derive(Clone, Copy, Debug, PartialEq, Eq, Error)]
+#[derive(Clone, Copy, Error)]
 pub enum LocaleFault {
     /// A dash and a region, without a language.
     #[error("RegionAlone")]
@@ -22,9 +23,16 @@ pub enum LocaleFault {
     Malformed,
 }
 
+/// By its text.
+impl Debug for LocaleFault {
+    fn fmt<W: fmt::Write>(&self, f: &mut Formatter<W>) -> fmt::Result {
+        Display::fmt(self, f)
+    }
+}
+
 /// A language, a region and a script, each as the bytes that a record has (AOSP: `language`, `country` and
 /// `localeScript` of `ResTable_config`). Where all bytes are zero there is none.
-#[derive(Clone, Copy, Debug, PartialEq, Eq)]
+#[derive(Clone, Copy)]
 pub struct Locale {
     pub language: [u8; 2],
     pub region: [u8; 2],

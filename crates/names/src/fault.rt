@@ -13,7 +13,7 @@ use res_value::write_id;
 use std::alloc::{AllocError, AllocFailed, Global};
 
 /// Why words ask for no resource.
-#[derive(Debug, Drop)]
+#[derive(Drop)]
 pub enum NameFault {
     /// The first that asks for nothing that is there: its text, as `0x7f010000`, `dimen/margin`, `dimen/*` or `*`.
     NoResource(String),

@@ -13,7 +13,7 @@ use std::alloc::{AllocError, Global};
 use std::cmp::Ordering;
 
 /// The ids that a label stands for: in the old stack alone, in the new one alone, or in both.
-#[derive(Clone, Copy, Debug)]
+#[derive(Clone, Copy)]
 pub enum Sides {
     Removed { old: ResId },
     Added { new: ResId },

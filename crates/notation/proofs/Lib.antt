@@ -15,3 +15,10 @@ mod NumberTexts
 mod FloatLaw
 mod XmlForms
 mod XmlLaw
+pub mod FormatsLaw
+pub mod ListSteps
+pub mod ListedWords
+pub mod NumberWords
+pub mod LocaleWords
+pub mod DevicesNamed
+pub mod SetLaw

@@ -105,7 +105,7 @@ nothing_before : IsFront []
 unfolding kind_said number_rows word_rows words forms place_of
 nothing_before = record { equals = refl; bracket = refl; digit = refl; said = refl }
 
-neither : (p : ℕ → Bool) (xs ys : List ℕ) → list_any p xs ≡ false → list_any p ys ≡ false → list_any p (xs ++ ys) ≡ false
+pub neither : (p : ℕ → Bool) (xs ys : List ℕ) → list_any p xs ≡ false → list_any p ys ≡ false → list_any p (xs ++ ys) ≡ false
 neither p xs ys first second = list_any-append p xs ys ∙ rw (first, second) refl
 
 second_has : (p : ℕ → Bool) (xs ys : List ℕ) → list_any p ys ≡ true → list_any p (xs ++ ys) ≡ true
@@ -152,10 +152,10 @@ legacy_pieces language (Some text) bytes is known =
 -- ---- tags
 
 -- letters that a script and a variant have
-abbrev is_script_letter : ℕ → Bool
+abbrev pub is_script_letter : ℕ → Bool
 is_script_letter byte = is_capital_letter byte || is_small_letter byte
 
-script_letters : (s : List ℕ) → is_some (written_script s) ≡ true → (list_all is_script_letter s ≡ true) × (length s ≡ 4) × (is_capital_letter (slice_index s 0) ≡ true)
+pub script_letters : (s : List ℕ) → is_some (written_script s) ≡ true → (list_all is_script_letter s ≡ true) × (length s ≡ 4) × (is_capital_letter (slice_index s 0) ≡ true)
 script_letters [] e = absurd cc
 script_letters (a ∷ []) e = absurd cc
 script_letters (a ∷ b ∷ []) e = absurd cc

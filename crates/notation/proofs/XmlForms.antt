@@ -17,7 +17,6 @@ use Rattle.notation.specs.ComplexNotation.{spare_bits, has_own_radix, sign_of, e
 use Rattle.notation.specs.Decimal.{nearest, places_of, with_point, decimal_text}
 use Rattle.notation.specs.FloatNotation.{float_sign, is_zero_float, has_decimal, exact_float, at_least_one, float_decimal, float_notation}
 use Rattle.notation.specs.XmlText.{null_notation, reference_notation, boolean_notation, exact_text, xml_text}
-use Rattle.notation.specs.Meant.{nothing, meant}
 use Rattle.notation.proofs.NumberTexts.{is_point, is_unit, minus_if, IsNumber, with_point_all}
 use Rattle.notation.proofs.ComplexLaw.{Shows, shows, is_negative}
 use Rattle.notation.proofs.FloatLaw.{FloatShows, nothing as zero_float, something, shows-float, some_places, is_negative_float}
@@ -39,7 +38,7 @@ way_by text (x ∷ xs) =
     else if x == 35 then 100 + length text
     else if x == 64 then (if slice_index xs 0 == 110 then 3 else if slice_index xs 0 == 101 then 4 else 30001)
     else if x == 63 then 30002
-    else if x == 110 then 30000
+    else if x == 110 then (if slice_index text 4 == 32 then 30000 else 13)
     else if x == 115 then 9
     else if x == 102 then (if slice_index xs 0 == 108 then 30004 else if slice_index xs 0 == 114 then 10 else 8)
     else if x == 100 then (if slice_index xs 0 == 105 then 11 else 30007)
@@ -64,7 +63,8 @@ prefix_of kind =
     else codes "rgb4 #"
 
 pub data Form (k w : ℕ) (t : List ℕ) : Type 0 where
-  no_value : meant (value k w) ≡ nothing → t ≡ codes "@null" → Form k w t
+  undefined : k ≡ 0 → w ≡ 0 → t ≡ codes "null" → Form k w t
+  no_value : k ≡ 1 → w ≡ 0 → t ≡ codes "@null" → Form k w t
   empty : k ≡ 0 → w ≡ 1 → t ≡ codes "@empty" → Form k w t
   tagged : t ≡ prefix_of k ++ eight_digits w → way_of t ≡ 30000 + k → Form k w t
   unknown : t ≡ text_among [] (value k w) → Form k w t
@@ -93,17 +93,17 @@ FormOf k w = Form k w (xml_text (value k w))
 at_0 : (w : ℕ) → FormOf 0 w
 unfolding xml_text null_notation exact_text value_text null_text
 at_0 w = elim (cases_Bool (w == 0)) [
-  | inl none ↦ rw none (no_value (rw (eqb-true w 0 none) refl) refl)
-  | inr some ↦ rw some (elim (cases_Bool (w == 1)) [
+  | inl none ↦ (let is = eqb-true w 0 none in rw is (undefined refl refl refl))
+  | inr some ↦ elim (cases_Bool (w == 1)) [
     | inl one ↦ rw one (empty refl (eqb-true w 1 one) refl)
-    | inr other ↦ rw other (tagged refl refl)
-  ])
+    | inr other ↦ rw (other, some) (tagged refl refl)
+  ]
 ]
 
 at_1 : (w : ℕ) → FormOf 1 w
 unfolding xml_text reference_notation exact_text value_text
 at_1 w = elim (cases_Bool (w == 0)) [
-  | inl none ↦ rw none (no_value (rw none refl) refl)
+  | inl none ↦ rw none (no_value refl (eqb-true w 0 none) refl)
   | inr some ↦ rw some (tagged refl refl)
 ]
 

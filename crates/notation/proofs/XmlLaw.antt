@@ -1,4 +1,4 @@
--- The text of a value determines what it means.
+-- The text of a value determines it.
 use Rattle.std.proofs.Common.{◌≡◌, ℕ, zero, suc, ◌+◌, ◌-◌, ◌/◌, ◌%◌, ◌^◌, ◌<◌, ◌≤◌, ◌==◌, nat_lt, Bool, true, false, ℤ, pos, negsuc, int_lt, unsigned_abs, List, [], ◌∷◌, ◌++◌, codes, take, drop, Some, refl, sym, ap, subst, ◌∙◌, inl, inr, arith, append_assoc}
 use lib.Signed.{mag}
 use Rattle.std.specs.List.{list_any, list_all, range_with_len}
@@ -22,14 +22,14 @@ use Rattle.notation.specs.ColorNotation.{is_doubled, is_opaque, first_digits, do
 use Rattle.notation.specs.ComplexNotation.{size_of, spare_bits, has_own_radix}
 use Rattle.notation.specs.Decimal.{with_point}
 use Rattle.notation.specs.XmlText.{xml_text}
-use Rattle.notation.specs.Meant.{meant, IsStored}
+use Rattle.notation.specs.Stored.{IsStored}
 use Rattle.notation.proofs.Digits.{unmarked}
 use Rattle.notation.proofs.LocaleTexts.{cut_at-behind, hex-same}
 use Rattle.notation.proofs.DecimalTexts.{with_point-same}
 use Rattle.notation.proofs.NumberTexts.{minus_if, IsNumber, point_of, unit_in, negative_in, with_point_dot, decimal_point}
 use Rattle.notation.proofs.ComplexLaw.{Shows, radix-few, shown-same, same_word, is_negative}
 use Rattle.notation.proofs.FloatLaw.{FloatShows, is_negative_float, float-same}
-use Rattle.notation.proofs.XmlForms.{value, way_of, prefix_of, Form, form_of, told_at, dimension_at, fraction_at, units_of_float, no_value, empty, tagged, unknown, string, a_dimension, a_fraction, whole, hexadecimal, a_float, dimension, fraction, all_bits, no_bits, argb8, rgb8, argb4, rgb4}
+use Rattle.notation.proofs.XmlForms.{value, way_of, prefix_of, Form, form_of, told_at, dimension_at, fraction_at, units_of_float, undefined, no_value, empty, tagged, unknown, string, a_dimension, a_fraction, whole, hexadecimal, a_float, dimension, fraction, all_bits, no_bits, argb8, rgb8, argb4, rgb4}
 
 -- ---- whole numbers
 
@@ -60,7 +60,8 @@ dot_in t negative number is =
 -- ---- the way of each form
 
 abbrev way : {k w : ℕ} {t : List ℕ} → Form k w t → ℕ
-way (no_value is same) = 3
+way (undefined a b same) = 13
+way (no_value a b same) = 3
 way (empty a b same) = 4
 way {k} (tagged same at) = 30000 + k
 way (unknown same) = 12
@@ -81,7 +82,8 @@ way (rgb4 k twice opaque same) = 104
 
 told_way : (k w : ℕ) (t : List ℕ) → w < 2 ^ 32 → (f : Form k w t) → way_of t ≡ way f
 unfolding eight_digits encode_with
-told_way k w t fits (no_value is same) = rw same refl
+told_way k w t fits (undefined a b same) = rw same refl
+told_way k w t fits (no_value a b same) = rw same refl
 told_way k w t fits (empty a b same) = rw same refl
 told_way k w t fits (tagged same at) = at
 told_way k w t fits (unknown same) = rw same refl
@@ -116,7 +118,7 @@ eight-same v w p q same =
     let same_id : one ≡ two = cc in
     ap (λ (id : ResId). id.0) same_id
 
-append-same : (front xs ys : List ℕ) → front ++ xs ≡ front ++ ys → xs ≡ ys
+pub append-same : (front xs ys : List ℕ) → front ++ xs ≡ front ++ ys → xs ≡ ys
 append-same [] xs ys same = same
 append-same (x ∷ front) xs ys same = append-same front xs ys cc
 
@@ -134,7 +136,7 @@ unknown-same j k v w p q r s same =
 
 -- ---- exact dimensions and fractions
 
-list_all-range : (p : ℕ → Bool) (a n i : ℕ) → list_all p (range_with_len a n) ≡ true → i < n → p (a + i) ≡ true
+pub list_all-range : (p : ℕ → Bool) (a n i : ℕ) → list_all p (range_with_len a n) ≡ true → i < n → p (a + i) ≡ true
 list_all-range p a zero i all within = absurd (omega (arith, within))
 list_all-range p a (suc n) zero all within = let both = and_parts (p a) (list_all p (range_with_len (a + 1) n)) all in let same : a + 0 ≡ a = omega arith in rw same both.0
 list_all-range p a (suc n) (suc i) all within =
@@ -320,16 +322,17 @@ short-same d e p q opaque also same =
 
 -- ---- the law
 
-alike : (j k v w n : ℕ) → j ≡ n → k ≡ n → v ≡ w → meant (value j v) ≡ meant (value k w)
-alike j k v w n one other words = let kinds : j ≡ k = one ∙ sym other in let values : value j v ≡ value k w = cc in ap meant values
+alike : (j k v w n : ℕ) → j ≡ n → k ≡ n → v ≡ w → value j v ≡ value k w
+alike j k v w n one other words = let kinds : j ≡ k = one ∙ sym other in cc
 
 tagged-same : (j k v w : ℕ) (t : List ℕ) → v < 2 ^ 32 → w < 2 ^ 32 → t ≡ prefix_of j ++ eight_digits v → t ≡ prefix_of k ++ eight_digits w → j ≡ k → v ≡ w
 tagged-same j k v w t p q one other kinds =
     let two : t ≡ prefix_of j ++ eight_digits w = subst (λ (n : ℕ). t ≡ prefix_of n ++ eight_digits w) (sym kinds) other in
     eight-same v w p q (append-same (prefix_of j) (eight_digits v) (eight_digits w) (sym one ∙ two))
 
-forms-same : (j k v w : ℕ) (t : List ℕ) → j < 2 ^ 8 → k < 2 ^ 8 → v < 2 ^ 32 → w < 2 ^ 32 → Form j v t → Form k w t → meant (value j v) ≡ meant (value k w)
-forms-same j k v w t a b p q (no_value is same) (no_value also equal) = is ∙ sym also
+forms-same : (j k v w : ℕ) (t : List ℕ) → j < 2 ^ 8 → k < 2 ^ 8 → v < 2 ^ 32 → w < 2 ^ 32 → Form j v t → Form k w t → value j v ≡ value k w
+forms-same j k v w t a b p q (undefined kind word same) (undefined other also equal) = alike j k v w 0 kind other (word ∙ sym also)
+forms-same j k v w t a b p q (no_value kind word same) (no_value other also equal) = alike j k v w 1 kind other (word ∙ sym also)
 forms-same j k v w t a b p q (empty kind word same) (empty other also equal) = alike j k v w 0 kind other (word ∙ sym also)
 forms-same j k v w t a b p q (tagged same at) (tagged equal there) =
     let ways = sym at ∙ there in
@@ -367,7 +370,7 @@ forms-same j k v w t a b p q (rgb4 is twice opaque same) (rgb4 also twices opaqu
     alike j k v w 31 is also (eight-same v w p q (short-same (eight_digits v) (eight_digits w) twice twices opaque opaques (sym same ∙ equal)))
 forms-same j k v w t a b p q one other = absurd (let ways = sym (told_way j v t p one) ∙ told_way k w t q other in omega (arith, ways))
 
-pub told : (one other : Value) → IsStored one → IsStored other → xml_text one ≡ xml_text other → meant one ≡ meant other
+pub told : (one other : Value) → IsStored one → IsStored other → xml_text one ≡ xml_text other → one ≡ other
 told one other is also same =
     forms-same one.kind other.kind one.word other.word (xml_text other) is.kind also.kind is.word also.word
     (subst (λ (t : List ℕ). Form one.kind one.word t) same (form_of one.kind one.word is.word)) (form_of other.kind other.word also.word)

@@ -1,24 +1,18 @@
 -- The text of a stored configuration: its qualifiers, as the folder of its resources is called (AOSP: ResTable_config::toString).
-use Rattle.std.specs.Prelude.{ℕ, ◌==◌, List, [], ◌∷◌, codes, unwrap_or, if◌then◌else◌}
+use Rattle.std.specs.Prelude.{ℕ, ◌==◌, List, [], ◌∷◌, codes, if◌then◌else◌}
 use Rattle.std.specs.List.{flat_map, join_with_byte}
-use Rattle.std.specs.Fmt.{decimal}
 use Rattle.std.specs.Option.{option_to_list}
 use Rattle.config_record.specs.declared.coord.Coord.{Coord}
 use Rattle.config_record.specs.declared.coord.Coord.TheVariants as coords
 use Rattle.config_record.specs.locales.Locale.{dash}
-use Rattle.config_record.specs.Coord.{name_of}
-use Rattle.config_record.specs.Qualifiers.{qualifier}
 use Rattle.config_record.specs.Record.{coordinate, locale_in, locale_script, locale_variant}
-use Rattle.config_words.specs.LineParts.{number_part, size_part, version_part, line_order}
+use Rattle.config_words.specs.LineParts.{size_part, version_part, line_order}
+use Rattle.notation.specs.NumberWord.{number_word}
 use Rattle.notation.specs.LocaleParts.{locale_parts}
-
--- its word, or its letters; else its name and the number, as `uiType=1`
-abbrev pub said_number : Coord → ℕ → List ℕ
-said_number coord number = unwrap_or (number_part coord number) (qualifier (name_of coord) (decimal number))
 
 -- 0 says nothing
 unfoldable pub number_parts : Coord → ℕ → List (List ℕ)
-number_parts coord number = if number == 0 then [] else said_number coord number ∷ []
+number_parts coord number = if number == 0 then [] else number_word coord number ∷ []
 
 -- the parts of a coordinate, of a record, which is the list of its bytes
 unfoldable pub parts_at : List ℕ → Coord → List (List ℕ)

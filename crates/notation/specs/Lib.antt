@@ -7,4 +7,12 @@ pub mod ComplexNotation
 pub mod FloatNotation
 pub mod ColorNotation
 pub mod XmlText
-pub mod Meant
+pub mod Stored
+pub mod FormatsText
+pub mod NumberWord
+pub mod LocaleWord
+pub mod Narrower
+pub mod DevicesNotation
+pub mod DevicesLaw
+pub mod TestText
+pub mod Unfolded

@@ -2,6 +2,7 @@
 use Rattle.std.specs.Prelude.{ℕ, ◌==◌, ◌&&◌, ◌||◌, ◌-◌, ◌^◌, not, Bool, List, [], ◌∷◌, ◌++◌, codes, Option, Some, None, unwrap_or, false, if◌then◌else◌}
 use Rattle.std.specs.Fmt.{digits, signed_decimal}
 use Rattle.res_value.specs.declared.value.Value.{Value}
+use Rattle.res_value.specs.Kind.{empty_word}
 use Rattle.res_value.specs.Word.{eight_digits}
 use Rattle.res_value.specs.Complex.{signed_number, dimension_units, fraction_units}
 use Rattle.res_value.specs.ValueText.{text_among, value_text}
@@ -9,11 +10,11 @@ use Rattle.notation.specs.ComplexNotation.{spare_bits, complex_notation}
 use Rattle.notation.specs.FloatNotation.{float_notation}
 use Rattle.notation.specs.ColorNotation.{argb8_notation, rgb8_notation, argb4_notation, rgb4_notation}
 
--- undefined or empty (AOSP: DATA_NULL_UNDEFINED, DATA_NULL_EMPTY)
+-- empty (AOSP: DATA_NULL_EMPTY)
 unfoldable pub null_notation : ℕ → Option (List ℕ)
-null_notation word = if word == 0 then Some (codes "@null") else if word == 1 then Some (codes "@empty") else None
+null_notation word = if word == empty_word then Some (codes "@empty") else None
 
--- tools write `@null` as a reference to 0; the names of others are not known here
+-- tools write a reference to 0 for `@null`; the names of others are not known here
 unfoldable pub reference_notation : ℕ → Option (List ℕ)
 reference_notation word = if word == 0 then Some (codes "@null") else None
 

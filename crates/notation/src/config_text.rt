@@ -13,11 +13,13 @@ ghost use Rattle.config_record.specs.Record.{record_bytes};
 ghost use Rattle.config_words.specs.LineParts.{size_part, version_part};
 ghost use Rattle.notation.specs.Dashes.{WritesParts};
 ghost use Rattle.notation.specs.SameConfig.{IsSameConfig};
-ghost use Rattle.notation.specs.ConfigText.{said_number, number_parts, parts_at, config_parts, config_text};
+ghost use Rattle.notation.specs.ConfigText.{number_parts, parts_at, config_parts, config_text};
 
 use crate::locale_parts::write_locale_parts;
+use crate::number_word::write_number_word;
+use crate::separator::write_separator;
 use config_record::{Coord, Record};
-use config_words::{Form, PART_ORDER, form_for, word_for};
+use config_words::PART_ORDER;
 use std::io::{self, Write};
 
 /// Writes what is not zero, in the words of Android and in its order, with dashes between them; `(default)` where all is.
@@ -107,38 +109,9 @@ fn write_number<W: Write + Drop>(
     if number == 0 {
         return Ok(());
     }
-    write_dash(due, out)?;
-    write_said(coord, number, out)
-}
-
-// A number that is not 0.
-#[tactic(auto, unfolding(config_words::specs::LineParts::number_part))]
-fn write_said<W: Write + Drop>(coord: Coord, number: u32, out: &mut W) -> io::Result<()>
-    requires { number ≢ 0 }
-    ensures { Writes W.contents out.old out.new result (said_number coord number) }
-{
-    if let Some(word) = word_for(coord, number) {
-        return out.write_all(word);
-    }
-    match form_for(coord) {
-        Some(form) => write_by_form(form, number, out),
-        None => write_named(coord, number, out),
-    }
-}
-
-fn write_by_form<W: Write + Drop>(form: Form, number: u32, out: &mut W) -> io::Result<()>
-    ensures { Writes W.contents out.old out.new result (form.front.now ++ decimal number ++ form.end.now) }
-{
-    out.write_all(form.front)?;
-    write!(out, "{number}")?;
-    out.write_all(form.end)
-}
-
-fn write_named<W: Write + Drop>(coord: Coord, number: u32, out: &mut W) -> io::Result<()>
-    ensures { Writes W.contents out.old out.new result (qualifier (name_of coord) (decimal number)) }
-{
-    let name = coord.name();
-    write!(out, "{name}={number}")
+    write_separator(b'-', due, out)?;
+    write_number_word(coord, number, out)?;
+    Ok(())
 }
 
 #[tactic(auto, unfolding(config_words::specs::LineParts::size_part, config_record::specs::Separator::continued))]
@@ -154,7 +127,7 @@ fn write_size<W: Write + Drop>(
     if width == 0 && height == 0 {
         return Ok(());
     }
-    write_dash(due, out)?;
+    write_separator(b'-', due, out)?;
     write!(out, "{width}x{height}")
 }
 
@@ -171,22 +144,10 @@ fn write_version<W: Write + Drop>(
     if sdk == 0 && minor == 0 {
         return Ok(());
     }
-    write_dash(due, out)?;
+    write_separator(b'-', due, out)?;
     write!(out, "v{sdk}")?;
     if minor == 0 {
         return Ok(());
     }
     write!(out, ".{minor}")
-}
-
-/// Writes a dash, but not the first time.
-pub(crate) fn write_dash<W: Write + Drop>(due: &mut bool, out: &mut W) -> io::Result<()>
-    ensures due { due.new ≡ true }
-    ensures text { Writes W.contents out.old out.new result (if due.old then dash ∷ [] else []) }
-{
-    if *due {
-        return out.write_all(b"-");
-    }
-    *due = true;
-    Ok(())
 }

@@ -12,7 +12,7 @@ ghost use Rattle.config_words.specs.LineParts.{behind_sign};
 ghost use Rattle.notation.specs.Dashes.{WritesParts};
 ghost use Rattle.notation.specs.LocaleParts.{is_language, is_script, variant_text, is_variant_letter, are_zeros, is_written_variant, is_variant, are_letters, is_other_word, script_behind, variant_behind, tag_text, letters_text, named_parts, parts_by_letters, locale_parts};
 
-use crate::config_text::write_dash;
+use crate::separator::write_separator;
 use arrayvec::ArrayVec;
 use config_record::{Coord, Locale, Record, write_locale};
 use config_words::{cut_at, is_word};
@@ -75,7 +75,7 @@ fn write_by_text<W: Write + Drop>(
     if !are_letters(language, script, variant) {
         return write_named(locale, script, variant, due, out);
     }
-    write_dash(due, out)?;
+    write_separator(b'-', due, out)?;
     write_letters(language, region, script, variant, out)
 }
 
@@ -181,7 +181,12 @@ fn write_tag<W: Write + Drop>(
     write_variant(variant, out)
 }
 
-fn write_behind<W: Write + Drop>(sign: &[u8], text: Option<&[u8]>, out: &mut W) -> io::Result<()>
+/// Writes a text behind a sign, where there is one.
+pub(crate) fn write_behind<W: Write + Drop>(
+    sign: &[u8],
+    text: Option<&[u8]>,
+    out: &mut W,
+) -> io::Result<()>
     ensures { Writes W.contents out.old out.new result (behind_sign sign.now (option_map (λ text. text.now) text.entry)) }
 {
     let Some(text) = text else {
@@ -242,7 +247,7 @@ fn write_named_locale<W: Write + Drop>(
         return Ok(());
     }
     let name = Coord::Locale.name();
-    write_dash(due, out)?;
+    write_separator(b'-', due, out)?;
     write!(out, "{name}=")?;
     write_locale(locale, out)
 }
@@ -261,7 +266,7 @@ fn write_named_bytes<W: Write + Drop>(
     if is_zero(bytes) {
         return Ok(());
     }
-    write_dash(due, out)?;
+    write_separator(b'-', due, out)?;
     write!(out, "{name}=")?;
     write_hex(bytes, out)
 }

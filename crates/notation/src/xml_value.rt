@@ -5,7 +5,7 @@ ghost use Rattle.std.specs.Fmt.{digits, signed_decimal};
 ghost use Rattle.contract_words.specs.Writes.{Writes};
 ghost use Rattle.res_value.specs.declared.value.Value.{Value};
 ghost use Rattle.res_value.specs.Complex.{signed_number};
-ghost use Rattle.notation.specs.Meant.{meant, IsStored};
+ghost use Rattle.notation.specs.Stored.{IsStored};
 ghost use Rattle.notation.specs.XmlText.{null_notation, reference_notation, boolean_notation, exact_text, xml_text};
 
 use crate::color::{write_argb4, write_argb8, write_rgb4, write_rgb8};
@@ -24,8 +24,8 @@ use std::io::{self, Write};
 pub fn write_xml_value<W: Write + Drop>(value: Value, out: &mut W) -> io::Result<()>
     ensures text { Writes W.contents out.old out.new result (xml_text value) }
 
-    // Two values with one text mean the same.
-    ensures tells { (one other : Value) → IsStored one → IsStored other → xml_text one ≡ xml_text other → meant one ≡ meant other }
+    // Two values with one text are the same.
+    ensures tells { (one other : Value) → IsStored one → IsStored other → xml_text one ≡ xml_text other → one ≡ other }
 {
     write_text(value, out)
 }
@@ -57,7 +57,6 @@ fn write_null<W: Write + Drop>(value: Value, out: &mut W) -> io::Result<()>
         (unwrap_or (null_notation value.word) (exact_text value)) }
 {
     match value.word {
-        kind::NULL_UNDEFINED => out.write_all(b"@null"),
         kind::NULL_EMPTY => out.write_all(b"@empty"),
         _ => write_exact(value, out),
     }

@@ -3,7 +3,7 @@
 use resource_table::Row;
 
 /// A row that may stand for an id, and the layer that it is of.
-#[derive(Clone, Copy, Debug)]
+#[derive(Clone, Copy)]
 pub struct Cand<'a> {
     /// The index of its layer in the stack, from 0.
     pub layer: usize,

@@ -7,11 +7,12 @@ ghost use Rattle.overlay_map.specs.declared.map_fault.MapFault.TheVariants.{Synt
 use json_input::JsonFault;
 use resource_table::ResId;
 use std::alloc::AllocError;
+use std::fmt::{self, Debug, Display, Formatter};
 use thiserror::Error;
 
 /// Why no id map was read. A text is first read, then its shape is looked at; then the pairs are checked
 /// in their order, and the first fault is named.
-#[derive(Clone, Copy, Debug, PartialEq, Eq, Error)]
+#[derive(Clone, Copy, Error)]
 pub enum MapFault {
     /// The bytes are no JSON text that `serde_json` reads.
     #[error("Syntax")]
@@ -27,6 +28,13 @@ pub enum MapFault {
     OtherPackage(ResId),
     #[error("OutOfMemory")]
     OutOfMemory,
+}
+
+/// By its text.
+impl Debug for MapFault {
+    fn fmt<W: fmt::Write>(&self, f: &mut Formatter<W>) -> fmt::Result {
+        Display::fmt(self, f)
+    }
 }
 
 impl From<JsonFault> for MapFault {

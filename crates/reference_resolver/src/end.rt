@@ -3,7 +3,7 @@
 use overlay_map::{ResId, Value};
 
 /// Where a chain of references ends.
-#[derive(Clone, Copy, Debug, PartialEq, Eq)]
+#[derive(Clone, Copy, PartialEq, Eq)]
 pub enum End {
     /// A value that is no reference, and the place of its layer in the stack. If the value is a string,
     /// it is one of that layer's table.

@@ -2,6 +2,7 @@
 use Rattle.std.specs.Prelude.{ℕ, zero, suc, ◌/◌, ◌==◌, ◌||◌, Bool, false, if◌then◌else◌, List, [], ◌∷◌, ◌++◌, take, drop, codes, Option, Some, None, slice_get}
 use Rattle.std.specs.List.{flat_map}
 use Rattle.std.specs.Fmt.{decimal}
+use Rattle.notation.specs.declared.form.Form.{Form}
 use Rattle.command_base.specs.answer_text.OnLine.{on_line}
 use Rattle.command_base.specs.overlay_map.Layer.{LayerOf}
 use Rattle.command_base.specs.cert_tree.Certificate.{NodeOf, GoalOf}
@@ -43,14 +44,14 @@ cut_label text = let n = character_end text 2000 in flat_map escaped (take n tex
 unfoldable pub quoted : List ℕ → List ℕ
 quoted text = 34 ∷ [] ++ cut_label text ++ 34 ∷ []
 
-unfoldable pub unreached_label : List LayerOf → NodeOf → List ℕ
-unreached_label stack node = codes "not reached: " ++ node_label stack node
+unfoldable pub unreached_label : Form → List LayerOf → NodeOf → List ℕ
+unreached_label form stack node = codes "not reached: " ++ node_label form stack node
 
 -- what is shown of a line
-unfoldable pub line_label : List LayerOf → LineOf → List ℕ
-line_label stack (NodeAt number path node) = node_label stack node
-line_label stack (Unreached number node) = unreached_label stack node
-line_label stack (Missing path) = codes "ends early"
+unfoldable pub line_label : Form → List LayerOf → LineOf → List ℕ
+line_label form stack (NodeAt number path node) = node_label form stack node
+line_label form stack (Unreached number node) = unreached_label form stack node
+line_label form stack (Missing path) = codes "ends early"
 
 -- ---- names
 
@@ -87,15 +88,15 @@ arrow_text (Missing path) = arrow_to path.last (line_name (Missing path))
 unfoldable pub statements_with : List ℕ → LineOf → List ℕ
 statements_with label line = codes "  " ++ line_name line ++ codes " [label=" ++ quoted label ++ codes "];" ++ 10 ∷ [] ++ arrow_text line
 
-abbrev pub statements_text : List LayerOf → LineOf → List ℕ
-statements_text stack line = statements_with (on_line (line_label stack line)) line
+abbrev pub statements_text : Form → List LayerOf → LineOf → List ℕ
+statements_text form stack line = statements_with (on_line (line_label form stack line)) line
 
 -- what stands before the lines of a tree; the picture's own label is its goal
 unfoldable pub head_with : List ℕ → List ℕ
 head_with label = (codes "digraph {" ++ 10 ∷ codes "  label=") ++ quoted label ++ (codes ";" ++ 10 ∷ codes "  node [shape=box];" ++ 10 ∷ [])
 
-unfoldable pub dot_text : List LayerOf → ℕ → GoalOf → List ℕ
-dot_text stack number goal = head_with (on_line (goal_head stack number goal.goal)) ++ flat_map (statements_text stack) (tree_lines goal.nodes) ++ codes "}" ++ 10 ∷ []
+unfoldable pub dot_text : Form → List LayerOf → ℕ → GoalOf → List ℕ
+dot_text form stack number goal = head_with (on_line (goal_head stack number goal.goal)) ++ flat_map (statements_text form stack) (tree_lines goal.nodes) ++ codes "}" ++ 10 ∷ []
 
 -- the line `no goal N`
 unfoldable pub no_goal_line : ℕ → List ℕ

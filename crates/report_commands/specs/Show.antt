@@ -1,6 +1,7 @@
 -- What the words of `show` ask, from what the places have to the answer.
 use Rattle.std.specs.Prelude.{ℕ, List, Option, Some, None, Result, Ok}
 use Rattle.contract_words.specs.Faults.{◌>>=◌}
+use Rattle.notation.specs.declared.form.Form.{Form}
 use Rattle.command_base.specs.declared.fault.ToolFault.{ToolFault}
 use Rattle.command_base.specs.declared.status.Status.{Status}
 use Rattle.command_base.specs.declared.stop.Stop.{Stop}
@@ -34,16 +35,16 @@ show_files places layers_path certificate_path = do
 -- ---- the answer
 
 -- what is shown: all trees, or that of the goal of this number as a picture
-abbrev pub shown_output : Option ℕ → ShowBytes → Result Output ToolFault
-shown_output None files = show_output files.layers files.certificate
-shown_output (Some goal) files = show_dot_output files.layers files.certificate goal
+abbrev pub shown_output : Form → Option ℕ → ShowBytes → Result Output ToolFault
+shown_output form None files = show_output form files.layers files.certificate
+shown_output form (Some goal) files = show_dot_output form files.layers files.certificate goal
 
 -- from the files, if they are read
-abbrev pub ShowsFiles : {W : Type 0} → (W → Option (List ℕ)) → W → W → Option ℕ → Result ShowBytes StopOf → Result Status Stop → Type 0
-ShowsFiles contents old new pictured read result =
-    CarriesOut (λ files done. Prints contents old new done (shown_output pictured files)) read result
+abbrev pub ShowsFiles : {W : Type 0} → (W → Option (List ℕ)) → W → W → Form → Option ℕ → Result ShowBytes StopOf → Result Status Stop → Type 0
+ShowsFiles contents old new form pictured read result =
+    CarriesOut (λ files done. Prints contents old new done (shown_output form pictured files)) read result
 
 -- from what the places have
 abbrev pub ShowsTrees : {W : Type 0} → (W → Option (List ℕ)) → W → W → Places → Show → Result Status Stop → Type 0
 ShowsTrees contents old new places show result =
-    ShowsFiles contents old new show.pictured (show_files places show.layers.now show.certificate.now) result
+    ShowsFiles contents old new show.form show.pictured (show_files places show.layers.now show.certificate.now) result

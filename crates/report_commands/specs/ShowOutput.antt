@@ -1,6 +1,7 @@
 -- What the command `show` prints.
 use Rattle.std.specs.Prelude.{ℕ, List, slice_get, Option, Some, None, Result, Ok}
 use Rattle.contract_words.specs.Faults.{◌>>=◌}
+use Rattle.notation.specs.declared.form.Form.{Form}
 use Rattle.command_base.specs.overlay_map.Layer.{LayerOf}
 use Rattle.command_base.specs.declared.fault.ToolFault.{ToolFault}
 use Rattle.command_base.specs.ToolFault.{fault_of_certificate}
@@ -28,29 +29,29 @@ show_inputs layers cert_json = do
   trees ← map_err fault_of_certificate (cert_in_by Android cert_json)
   Ok (record { stack = stack; trees = trees })
 
--- What `show` prints of layers and a certificate that were read: it is done.
-abbrev pub show_answer : ShowInputs → Output
-show_answer inputs = record { status = Done; text = on_line (certificate_text inputs.stack inputs.trees) }
+-- What `show` prints of layers and a certificate that were read, in a form: it is done.
+abbrev pub show_answer : Form → ShowInputs → Output
+show_answer form inputs = record { status = Done; text = on_line (certificate_text form inputs.stack inputs.trees) }
 
 -- What `show` prints of these layers and a certificate's text.
-unfoldable pub show_output : List LayerBytes → List ℕ → Result Output ToolFault
-show_output layers cert_json = do
+unfoldable pub show_output : Form → List LayerBytes → List ℕ → Result Output ToolFault
+show_output form layers cert_json = do
   inputs ← show_inputs layers cert_json
-  Ok (show_answer inputs)
+  Ok (show_answer form inputs)
 
 -- ---- a picture
 
 -- that of a goal by its number, or that there is no such goal
-abbrev pub picture : List LayerOf → ℕ → Option GoalOf → Output
-picture stack number None = record { status = Negative; text = no_goal_line number }
-picture stack number (Some goal) = record { status = Done; text = dot_text stack number goal }
+abbrev pub picture : Form → List LayerOf → ℕ → Option GoalOf → Output
+picture form stack number None = record { status = Negative; text = no_goal_line number }
+picture form stack number (Some goal) = record { status = Done; text = dot_text form stack number goal }
 
 -- What `show --dot` prints of layers and a certificate that were read, for the goal of this number, counted from 0.
-abbrev pub show_dot_answer : ShowInputs → ℕ → Output
-show_dot_answer inputs number = picture inputs.stack number (slice_get inputs.trees number)
+abbrev pub show_dot_answer : Form → ShowInputs → ℕ → Output
+show_dot_answer form inputs number = picture form inputs.stack number (slice_get inputs.trees number)
 
 -- What `show --dot` prints of these layers, a certificate's text and this number of a goal.
-unfoldable pub show_dot_output : List LayerBytes → List ℕ → ℕ → Result Output ToolFault
-show_dot_output layers cert_json number = do
+unfoldable pub show_dot_output : Form → List LayerBytes → List ℕ → ℕ → Result Output ToolFault
+show_dot_output form layers cert_json number = do
   inputs ← show_inputs layers cert_json
-  Ok (show_dot_answer inputs number)
+  Ok (show_dot_answer form inputs number)

@@ -4,7 +4,6 @@ use Rattle.std.specs.List.{flat_map, list_any, enumerate_from}
 use Rattle.contract_words.specs.Faults.{◌>>=◌}
 use Rattle.command_base.specs.cert_tree.config_box.config_record.Coord.{all_coords}
 use Rattle.command_base.specs.cert_tree.config_box.config_record.locales.declared.locale_rule.LocaleRule.{LocaleRule}
-use Rattle.command_base.specs.cert_tree.config_box.config_record.locales.declared.locale_rule.LocaleRule.TheVariants.{LanguageAndRegion}
 use Rattle.command_base.specs.cert_tree.box_answers.NumberSet.{SetOf}
 use Rattle.command_base.specs.cert_tree.config_box.BoxJson.{box_in_by}
 use Rattle.command_base.specs.overlay_map.Layer.{LayerOf}
@@ -80,7 +79,3 @@ surveyed layers (Err fault) = Err fault
 -- What `survey` prints of these layers and a box's text, where locales are compared by this rule.
 unfoldable pub survey_output_by : LocaleRule → List LayerBytes → Option (List ℕ) → Result Output ToolFault
 survey_output_by rule layers box_json = surveyed layers (survey_inputs_by rule layers box_json)
-
--- by language and region
-abbrev pub survey_output : List LayerBytes → Option (List ℕ) → Result Output ToolFault
-survey_output = survey_output_by LanguageAndRegion

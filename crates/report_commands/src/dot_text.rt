@@ -14,7 +14,7 @@ use crate::goal_text::write_goal_head;
 use crate::node_text::write_node_label;
 use crate::path_end::LastAnswer;
 use crate::tree_lines::{TreeLine, tree_lines};
-use answer_text::{StackNames, write_on_line};
+use answer_text::{Form, StackNames, write_on_line};
 use command_base::{CertGoal, Goal, Node};
 use std::alloc::{AllocError, Global};
 use std::io::{self, Write};
@@ -26,15 +26,16 @@ const MOST_OF_A_LABEL: usize = 2000;
 #[tactic(auto, unfolding(crate::specs::DotText::dot_text))]
 pub(crate) fn dot_text(
     alloc: Global,
+    form: Form,
     stack: &StackNames<'_, '_>,
     number: usize,
     goal: &CertGoal,
 ) -> Result<Vec<u8>, AllocError>
-    ensures { IfOk result (λ text. text.items ≡ dot_text stack.now number (goal_of goal.now)) }
+    ensures { IfOk result (λ text. text.items ≡ dot_text form stack.now number (goal_of goal.now)) }
 {
     let lines = tree_lines(alloc, goal.nodes.as_slice())?;
     let mut text = head_of(alloc, stack, number, &goal.goal)?;
-    push_lines(alloc, stack, &lines, &mut text)?;
+    push_lines(alloc, form, stack, &lines, &mut text)?;
     text.extend_from_slice(b"}\n")?;
     Ok(text)
 }
@@ -98,14 +99,15 @@ fn write_head<W: Write + Drop>(label: &[u8], out: &mut W) -> io::Result<()>
 #[tactic(auto, using(contract_words::proofs::TextSteps::puts_slice))]
 fn push_lines(
     alloc: Global,
+    form: Form,
     stack: &StackNames<'_, '_>,
     lines: &[TreeLine<'_>],
     text: &mut Vec<u8>,
 ) -> Result<(), AllocError>
-    ensures { OnOk result (text.new.items ≡ text.old.items ++ flat_map (statements_text stack.now) (map line_of lines.now)) }
+    ensures { OnOk result (text.new.items ≡ text.old.items ++ flat_map (statements_text form stack.now) (map line_of lines.now)) }
 {
     for line in lines {
-        push_line(alloc, stack, line, text)?;
+        push_line(alloc, form, stack, line, text)?;
     }
     Ok(())
 }
@@ -113,13 +115,14 @@ fn push_lines(
 // The label is put together first, since characters of it are written otherwise between quotation marks.
 fn push_line(
     alloc: Global,
+    form: Form,
     stack: &StackNames<'_, '_>,
     line: &TreeLine<'_>,
     text: &mut Vec<u8>,
 ) -> Result<(), AllocError>
-    ensures { OnOk result (text.new.items ≡ text.old.items ++ statements_text stack.now (line_of line.now)) }
+    ensures { OnOk result (text.new.items ≡ text.old.items ++ statements_text form stack.now (line_of line.now)) }
 {
-    let label = label_of(alloc, stack, line)?;
+    let label = label_of(alloc, form, stack, line)?;
     let label = on_line(alloc, &label)?;
     match write_statements(line, &label, text) {
         Ok(()) => Ok(()),
@@ -130,13 +133,14 @@ fn push_line(
 
 fn label_of(
     alloc: Global,
+    form: Form,
     stack: &StackNames<'_, '_>,
     line: &TreeLine<'_>,
 ) -> Result<Vec<u8>, AllocError>
-    ensures { IfOk result (λ label. label.items ≡ line_label stack.now (line_of line.now)) }
+    ensures { IfOk result (λ label. label.items ≡ line_label form stack.now (line_of line.now)) }
 {
     let mut label = Vec::new(alloc);
-    match write_line_label(stack, line, &mut label) {
+    match write_line_label(form, stack, line, &mut label) {
         Ok(()) => Ok(label),
         // To a `Vec` only a want of memory is a fault.
         Err(_) => Err(AllocError),
@@ -145,29 +149,31 @@ fn label_of(
 
 #[tactic(auto, unfolding(crate::specs::DotText::line_label))]
 fn write_line_label<W: Write + Drop>(
+    form: Form,
     stack: &StackNames<'_, '_>,
     line: &TreeLine<'_>,
     out: &mut W,
 ) -> io::Result<()>
-    ensures { Writes W.contents out.old out.new result (line_label stack.now (line_of line.now)) }
+    ensures { Writes W.contents out.old out.new result (line_label form stack.now (line_of line.now)) }
 {
     match line {
-        TreeLine::NodeAt { node, .. } => write_node_label(stack, node, out),
-        TreeLine::Unreached { node, .. } => write_unreached_label(stack, node, out),
+        TreeLine::NodeAt { node, .. } => write_node_label(form, stack, node, out),
+        TreeLine::Unreached { node, .. } => write_unreached_label(form, stack, node, out),
         TreeLine::Missing { .. } => out.write_all(b"ends early"),
     }
 }
 
 #[tactic(auto, unfolding(crate::specs::DotText::unreached_label))]
 fn write_unreached_label<W: Write + Drop>(
+    form: Form,
     stack: &StackNames<'_, '_>,
     node: &Node,
     out: &mut W,
 ) -> io::Result<()>
-    ensures { Writes W.contents out.old out.new result (unreached_label stack.now (node_of node.now)) }
+    ensures { Writes W.contents out.old out.new result (unreached_label form stack.now (node_of node.now)) }
 {
     out.write_all(b"not reached: ")?;
-    write_node_label(stack, node, out)?;
+    write_node_label(form, stack, node, out)?;
     Ok(())
 }
 

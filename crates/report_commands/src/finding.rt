@@ -7,7 +7,7 @@ ghost use Rattle.report_commands.specs.Finding.{place_of, name_of, differs};
 pub const FINDING_COUNT: usize = 16;
 
 /// What a table can have that is read otherwise than a device may read it.
-#[derive(Clone, Copy, Debug, PartialEq, Eq)]
+#[derive(Clone, Copy)]
 pub enum Finding {
     /// A type whose entry offsets have 16 bits.
     ShortOffsets,

@@ -7,7 +7,7 @@ use crate::finding::{FINDING_COUNT, Finding};
 use crate::site::Site;
 
 /// How many of something there are, and where the first is.
-#[derive(Clone, Copy, Debug, PartialEq, Eq)]
+#[derive(Clone, Copy)]
 pub(crate) struct Tally {
     pub count: u32,
     pub first: Site,
@@ -32,7 +32,7 @@ impl Tally {
 }
 
 /// What was found so far: of each finding how many, and where the first is.
-#[derive(Debug, Drop)]
+#[derive(Drop)]
 pub struct Findings {
     tallies: [Tally; FINDING_COUNT],
     differs: bool,

@@ -17,16 +17,14 @@
 //!
 //! ```text
 //! let survey = Survey { layers: "layers.json", box_path: Some("box.json"), locales: LocaleRule::Android };
-//! survey.answer(alloc, &inputs, &mut out)?; // reads the files first
+//! survey.answer(alloc, &inputs, &mut out)?; // warning layer 0 compact-entry 12 first 348
+//!                                           // qualifier density rows 2 from 240 to 320
+//!                                           // warning box lacks orientation
 //!
-//! survey_bytes(alloc, &layers, Some(&box_json), &mut out)?; // warning layer 0 compact-entry 12 first 348
-//!                                                           // qualifier density rows 2 from 240 to 320
-//!                                                           // warning box lacks orientation
-//!
-//! let show = Show { layers: "layers.json", certificate: "certificate.json", pictured: None };
+//! let show = Show { layers: "layers.json", certificate: "certificate.json", form: Form::Android, pictured: None };
 //! show.answer(alloc, &inputs, &mut out)?;
 //!
-//! show_bytes(alloc, &layers, &certificate, &mut out)?; // goal 0 0x7f030000 nodes 3
+//! show_bytes(alloc, Form::Android, &layers, &certificate, &mut out)?; // goal 0 0x7f030000 nodes 3
 //!                                                      // 0  if density at most 197
 //!                                                      // 1    value layer 1 dimension 16/2^0 dp
 //!                                                      // 2  else value layer 0 dimension 13/2^0 dp
@@ -71,5 +69,5 @@ pub use findings::Findings;
 pub use laws::warnings_tell;
 pub use show::{OpenedTrees, Show, show_bytes, show_dot_bytes};
 pub use site::Site;
-pub use survey::{Survey, survey_bytes};
+pub use survey::Survey;
 pub use whole_tree::whole_trees_are_shown;

@@ -10,7 +10,7 @@ ghost use Rattle.report_commands.specs.TreeText.{else_text, behind_text, path_te
 use crate::node_text::write_node;
 use crate::path_end::{LastAnswer, MOST_DEPTH, PathEnd};
 use crate::tree_lines::TreeLine;
-use answer_text::StackNames;
+use answer_text::{Form, StackNames};
 use command_base::Node;
 use std::io::{self, Write};
 
@@ -20,62 +20,66 @@ const SPACES: &[u8; 64] = b"                                                    
 /// Writes the lines of a tree.
 #[tactic(auto, using(contract_words::proofs::TextSteps::puts_slice))]
 pub(crate) fn write_lines<W: Write + Drop>(
+    form: Form,
     stack: &StackNames<'_, '_>,
     lines: &[TreeLine<'_>],
     out: &mut W,
 ) -> io::Result<()>
-    ensures { Writes W.contents out.old out.new result (flat_map (line_text stack.now) (map line_of lines.now)) }
+    ensures { Writes W.contents out.old out.new result (flat_map (line_text form stack.now) (map line_of lines.now)) }
 {
     for line in lines {
-        write_line(stack, line, out)?;
+        write_line(form, stack, line, out)?;
     }
     Ok(())
 }
 
 #[tactic(auto, unfolding(crate::specs::TreeText::line_text))]
 fn write_line<W: Write + Drop>(
+    form: Form,
     stack: &StackNames<'_, '_>,
     line: &TreeLine<'_>,
     out: &mut W,
 ) -> io::Result<()>
-    ensures { Writes W.contents out.old out.new result (line_text stack.now (line_of line.now)) }
+    ensures { Writes W.contents out.old out.new result (line_text form stack.now (line_of line.now)) }
 {
     match line {
         TreeLine::NodeAt { number, path, node } => {
-            write_node_line(stack, *number, *path, node, out)
+            write_node_line(form, stack, *number, *path, node, out)
         }
-        TreeLine::Unreached { number, node } => write_unreached(stack, *number, node, out),
+        TreeLine::Unreached { number, node } => write_unreached(form, stack, *number, node, out),
         TreeLine::Missing { path } => write_missing(*path, out),
     }
 }
 
 #[tactic(auto, unfolding(crate::specs::TreeText::node_line))]
 fn write_node_line<W: Write + Drop>(
+    form: Form,
     stack: &StackNames<'_, '_>,
     number: usize,
     path: PathEnd,
     node: &Node,
     out: &mut W,
 ) -> io::Result<()>
-    ensures { Writes W.contents out.old out.new result (node_line stack.now number path (node_of node.now)) }
+    ensures { Writes W.contents out.old out.new result (node_line form stack.now number path (node_of node.now)) }
 {
     write!(out, "{number}\t")?;
     write_path(path, out)?;
-    write_node(stack, node, out)?;
+    write_node(form, stack, node, out)?;
     out.write_all(b"\n")
 }
 
 #[tactic(auto, unfolding(crate::specs::TreeText::unreached_line))]
 fn write_unreached<W: Write + Drop>(
+    form: Form,
     stack: &StackNames<'_, '_>,
     number: usize,
     node: &Node,
     out: &mut W,
 ) -> io::Result<()>
-    ensures { Writes W.contents out.old out.new result (unreached_line stack.now number (node_of node.now)) }
+    ensures { Writes W.contents out.old out.new result (unreached_line form stack.now number (node_of node.now)) }
 {
     write!(out, "{number}\tnot reached: ")?;
-    write_node(stack, node, out)?;
+    write_node(form, stack, node, out)?;
     out.write_all(b"\n")
 }
 

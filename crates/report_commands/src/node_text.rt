@@ -1,27 +1,36 @@
 //! The nodes of a tree, written.
 
+ghost use Rattle.std.specs.Prelude.{◌++◌, codes};
 ghost use Rattle.std.specs.Option.{option_map};
 ghost use Rattle.contract_words.specs.Writes.{Writes};
 ghost use Rattle.command_base.specs.answer_text.string_pool.Pool.{pool_of};
+ghost use Rattle.command_base.specs.answer_text.LayerText.{layer_text};
+ghost use Rattle.command_base.specs.names.IdWord.{word_of_id};
 ghost use Rattle.command_base.specs.cert_tree.Certificate.{node_of};
-ghost use Rattle.report_commands.specs.TreeText.{no_layer, value_text, bag_text, node_label, if_text, node_text};
+ghost use Rattle.report_commands.specs.TreeText.{no_layer, named_by, string_or_index, leaf_text, value_text, bag_text, node_label, if_text, node_text};
 
-use crate::test_text::write_test;
-use answer_text::{StackNames, end_text, strings_of_layer, write_end_with_string, write_its_name};
+use crate::test_text::write_test_in;
+use answer_text::{
+    Form, StackNames, end_text, strings_of_layer, write_end_with_string, write_its_name,
+    write_layer, write_string,
+};
 use command_base::{End, Node, Pool, ResId, Value};
+use notation::write_xml_value;
+use res_value::kind;
 use std::io::{self, Write};
 
 /// Writes a node for a line of a tree.
 #[tactic(auto, unfolding(crate::specs::TreeText::node_text))]
 pub(crate) fn write_node<W: Write + Drop>(
+    form: Form,
     stack: &StackNames<'_, '_>,
     node: &Node,
     out: &mut W,
 ) -> io::Result<()>
-    ensures { Writes W.contents out.old out.new result (node_text stack.now (node_of node.now)) }
+    ensures { Writes W.contents out.old out.new result (node_text form stack.now (node_of node.now)) }
 {
     write_if(node, out)?;
-    write_node_label(stack, node, out)
+    write_node_label(form, stack, node, out)
 }
 
 #[tactic(auto, unfolding(crate::specs::TreeText::if_text))]
@@ -34,20 +43,22 @@ fn write_if<W: Write + Drop>(node: &Node, out: &mut W) -> io::Result<()>
     }
 }
 
-/// Writes a test in words, or a leaf as `query` writes it. A string value is followed by its string, which is one of the
-/// table of its layer, and a bag by its name.
+/// Writes a test, or a leaf: a value with the string that it names, which is one of the table of its layer, or a bag with its
+/// name.
 #[tactic(auto, unfolding(crate::specs::TreeText::node_label))]
 pub(crate) fn write_node_label<W: Write + Drop>(
+    form: Form,
     stack: &StackNames<'_, '_>,
     node: &Node,
     out: &mut W,
 ) -> io::Result<()>
-    ensures { Writes W.contents out.old out.new result (node_label stack.now (node_of node.now)) }
+    ensures { Writes W.contents out.old out.new result (node_label form stack.now (node_of node.now)) }
 {
     match node {
-        Node::Test(test) => write_test(test, out),
+        Node::Test(test) => write_test_in(form, test, out),
         Node::Value { layer, value } => {
-            write_value(strings_of_layer(stack.stack(), *layer), *layer, *value, out)
+            let strings = strings_of_layer(stack.stack(), *layer);
+            write_value(form, stack, strings, *layer, *value, out)
         }
         Node::Bag { id } => write_bag(stack, *id, out),
     }
@@ -55,15 +66,81 @@ pub(crate) fn write_node_label<W: Write + Drop>(
 
 #[tactic(auto, unfolding(crate::specs::TreeText::value_text))]
 fn write_value<W: Write + Drop>(
+    form: Form,
+    stack: &StackNames<'_, '_>,
     strings: Option<Pool<'_>>,
     layer: usize,
     value: Value,
     out: &mut W,
 ) -> io::Result<()>
-    ensures { Writes W.contents out.old out.new result (value_text (option_map pool_of strings.entry) layer value) }
+    ensures { Writes W.contents out.old out.new result (value_text form stack.now (option_map pool_of strings.entry) layer value) }
 {
-    write_end_with_string(strings, End::Value { layer, value }, out)?;
+    match form {
+        Form::Android => write_leaf(stack, strings, layer, value, out)?,
+        Form::Raw => write_end_with_string(strings, End::Value { layer, value }, out)?,
+    }
     write_no_layer(strings, out)
+}
+
+fn write_leaf<W: Write + Drop>(
+    stack: &StackNames<'_, '_>,
+    strings: Option<Pool<'_>>,
+    layer: usize,
+    value: Value,
+    out: &mut W,
+) -> io::Result<()>
+    ensures { Writes W.contents out.old out.new result
+        (codes "value " ++ layer_text layer ++ codes " " ++ leaf_text stack.now (option_map pool_of strings.entry) value) }
+{
+    out.write_all(b"value ")?;
+    write_layer(layer, out)?;
+    out.write_all(b" ")?;
+    write_leaf_value(stack, strings, value, out)
+}
+
+#[tactic(auto, unfolding(crate::specs::TreeText::leaf_text))]
+fn write_leaf_value<W: Write + Drop>(
+    stack: &StackNames<'_, '_>,
+    strings: Option<Pool<'_>>,
+    value: Value,
+    out: &mut W,
+) -> io::Result<()>
+    ensures { Writes W.contents out.old out.new result (leaf_text stack.now (option_map pool_of strings.entry) value) }
+{
+    match value.kind {
+        kind::STRING => write_string_or_index(strings, value, out),
+        kind::REFERENCE => write_named_by(b"@", stack, value, out),
+        kind::ATTRIBUTE => write_named_by(b"?", stack, value, out),
+        _ => write_xml_value(value, out),
+    }
+}
+
+fn write_string_or_index<W: Write + Drop>(
+    strings: Option<Pool<'_>>,
+    value: Value,
+    out: &mut W,
+) -> io::Result<()>
+    ensures { Writes W.contents out.old out.new result (string_or_index value (option_map pool_of strings.entry)) }
+{
+    match strings {
+        Some(strings) => write_string(strings.get(value.word as usize), out),
+        None => write_xml_value(value, out),
+    }
+}
+
+fn write_named_by<W: Write + Drop>(
+    sign: &[u8],
+    stack: &StackNames<'_, '_>,
+    value: Value,
+    out: &mut W,
+) -> io::Result<()>
+    ensures { Writes W.contents out.old out.new result (named_by sign.now value (word_of_id stack.now value.word)) }
+{
+    let Some(word) = stack.word(ResId(value.word)) else {
+        return write_xml_value(value, out);
+    };
+    out.write_all(sign)?;
+    out.write_all(word)
 }
 
 #[tactic(auto, unfolding(crate::specs::TreeText::no_layer))]

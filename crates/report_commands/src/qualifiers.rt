@@ -16,7 +16,7 @@ use command_base::{Coord, Row, Stack, Table};
 const COORD_COUNT: usize = Coord::ALL.len();
 
 /// How many numbers there are, the least and the greatest of them.
-#[derive(Clone, Copy, Debug, PartialEq, Eq)]
+#[derive(Clone, Copy)]
 pub(crate) struct Spread {
     /// 4294967295 stands for as many and more.
     pub count: u32,
@@ -54,7 +54,7 @@ impl Spread {
 }
 
 /// Of each coordinate the numbers that rows have.
-#[derive(Clone, Copy, Debug)]
+#[derive(Clone, Copy)]
 pub(crate) struct Qualifiers {
     spreads: [Spread; COORD_COUNT],
 }

@@ -22,7 +22,7 @@ use crate::goal_text::write_goal_line;
 use crate::line_text::write_lines;
 use crate::numbered_goal::NumberedGoal;
 use crate::numbered_goals::numbered_goals;
-use answer_text::{StackNames, write_on_line};
+use answer_text::{Form, StackNames, write_on_line};
 use command_base::{
     Cert, CertGoal, Inputs, LayerFiles, LayerParts, LocaleRule, Stack, Status, Stop, ToolFault,
     file_bytes, open_stack,
@@ -37,6 +37,8 @@ pub struct Show<'a> {
     pub layers: &'a str,
     /// Where the certificate lies.
     pub certificate: &'a str,
+    /// How it is written.
+    pub form: Form,
     /// The number of the goal that is shown as a picture; without one all goals are shown as text.
     pub pictured: Option<u32>,
 }
@@ -62,14 +64,21 @@ impl<'a> Show<'a> {
         files: &ShowFiles,
         out: &mut W,
     ) -> Result<Status, Stop<'static>>
-        ensures answers { ShowsFiles W.contents out.old out.new self.now.pictured (Ok (show_held files.now)) result }
+        ensures answers { ShowsFiles W.contents out.old out.new self.now.form self.now.pictured (Ok (show_held files.now)) result }
         ensures unwritten { IsKept out.old out.new result }
     {
         let layers = files.layers.layers(alloc)?;
         let certificate = &files.certificate;
         match self.pictured {
-            None => Ok(show_bytes(alloc, &layers, certificate, out)?),
-            Some(goal) => Ok(show_dot_bytes(alloc, &layers, certificate, goal as usize, out)?),
+            None => Ok(show_bytes(alloc, self.form, &layers, certificate, out)?),
+            Some(goal) => Ok(show_dot_bytes(
+                alloc,
+                self.form,
+                &layers,
+                certificate,
+                goal as usize,
+                out,
+            )?),
         }
     }
 }
@@ -106,14 +115,15 @@ impl ShowFiles {
 #[tactic(auto, unfolding(crate::specs::ShowOutput::show_output))]
 pub fn show_bytes<W: Write + Drop>(
     alloc: Global,
+    form: Form,
     layers: &[LayerParts<&[u8]>],
     certificate: &[u8],
     out: &mut W,
 ) -> Result<Status, ToolFault>
-    ensures { Prints W.contents out.old out.new result (show_output (map layer_bytes layers.now) certificate.now) }
+    ensures { Prints W.contents out.old out.new result (show_output form (map layer_bytes layers.now) certificate.now) }
 {
     let opened = OpenedTrees::read(alloc, layers, certificate)?;
-    opened.show(alloc, out)
+    opened.show(alloc, form, out)
 }
 
 /// Prints the tree of the goal of this number, counted from 0, as a picture in the language DOT; or a line that says that
@@ -121,15 +131,16 @@ pub fn show_bytes<W: Write + Drop>(
 #[tactic(auto, unfolding(crate::specs::ShowOutput::show_dot_output))]
 pub fn show_dot_bytes<W: Write + Drop>(
     alloc: Global,
+    form: Form,
     layers: &[LayerParts<&[u8]>],
     certificate: &[u8],
     goal: usize,
     out: &mut W,
 ) -> Result<Status, ToolFault>
-    ensures { Prints W.contents out.old out.new result (show_dot_output (map layer_bytes layers.now) certificate.now goal) }
+    ensures { Prints W.contents out.old out.new result (show_dot_output form (map layer_bytes layers.now) certificate.now goal) }
 {
     let opened = OpenedTrees::read(alloc, layers, certificate)?;
-    opened.show_dot(alloc, goal, out)
+    opened.show_dot(alloc, form, goal, out)
 }
 
 /// The layers and the certificate that `show` is asked of.
@@ -156,11 +167,16 @@ impl<'a> OpenedTrees<'a> {
     }
 
     /// What `show_bytes` prints of the same layers and certificate.
-    pub fn show<W: Write + Drop>(&self, alloc: Global, out: &mut W) -> Result<Status, ToolFault>
-        ensures { Prints W.contents out.old out.new result (Ok (show_answer (opened_trees self.now))) }
+    pub fn show<W: Write + Drop>(
+        &self,
+        alloc: Global,
+        form: Form,
+        out: &mut W,
+    ) -> Result<Status, ToolFault>
+        ensures { Prints W.contents out.old out.new result (Ok (show_answer form (opened_trees self.now))) }
     {
         let names = StackNames::of(alloc, &self.stack)?;
-        let text = certificate_text(alloc, &names, self.certificate.goals.as_slice())?;
+        let text = certificate_text(alloc, form, &names, self.certificate.goals.as_slice())?;
         write_on_line(&text, out)?;
         Ok(Status::Done)
     }
@@ -169,15 +185,16 @@ impl<'a> OpenedTrees<'a> {
     pub fn show_dot<W: Write + Drop>(
         &self,
         alloc: Global,
+        form: Form,
         goal: usize,
         out: &mut W,
     ) -> Result<Status, ToolFault>
-        ensures { Prints W.contents out.old out.new result (Ok (show_dot_answer (opened_trees self.now) goal)) }
+        ensures { Prints W.contents out.old out.new result (Ok (show_dot_answer form (opened_trees self.now) goal)) }
     {
         match self.certificate.goals.as_slice().get(goal) {
             Some(tree) => {
                 let names = StackNames::of(alloc, &self.stack)?;
-                let text = dot_text(alloc, &names, goal, tree)?;
+                let text = dot_text(alloc, form, &names, goal, tree)?;
                 out.write_all(&text)?;
                 Ok(Status::Done)
             }
@@ -200,14 +217,15 @@ fn write_no_goal<W: Write + Drop>(goal: usize, out: &mut W) -> io::Result<()>
 #[tactic(auto, unfolding(crate::specs::TreeText::certificate_text))]
 fn certificate_text(
     alloc: Global,
+    form: Form,
     stack: &StackNames<'_, '_>,
     goals: &[CertGoal],
 ) -> Result<Vec<u8>, AllocError>
-    ensures { IfOk result (λ text. text.items ≡ certificate_text stack.now (map goal_of goals.now)) }
+    ensures { IfOk result (λ text. text.items ≡ certificate_text form stack.now (map goal_of goals.now)) }
 {
     let numbered = numbered_goals(alloc, goals)?;
     let mut text = Vec::new(alloc);
-    match write_certificate(stack, &numbered, goals.len(), &mut text) {
+    match write_certificate(form, stack, &numbered, goals.len(), &mut text) {
         Ok(()) => Ok(text),
         // To a `Vec` only a want of memory is a fault.
         Err(_) => Err(AllocError),
@@ -215,42 +233,45 @@ fn certificate_text(
 }
 
 fn write_certificate<W: Write + Drop>(
+    form: Form,
     stack: &StackNames<'_, '_>,
     goals: &[NumberedGoal<'_>],
     count: usize,
     out: &mut W,
 ) -> io::Result<()>
-    ensures { Writes W.contents out.old out.new result (flat_map (goal_text stack.now) (map numbered_of goals.now) ++ goals_line count) }
+    ensures { Writes W.contents out.old out.new result (flat_map (goal_text form stack.now) (map numbered_of goals.now) ++ goals_line count) }
 {
-    write_goals(stack, goals, out)?;
+    write_goals(form, stack, goals, out)?;
     write_count(count, out)
 }
 
 #[tactic(auto, using(contract_words::proofs::TextSteps::puts_slice))]
 fn write_goals<W: Write + Drop>(
+    form: Form,
     stack: &StackNames<'_, '_>,
     goals: &[NumberedGoal<'_>],
     out: &mut W,
 ) -> io::Result<()>
-    ensures { Writes W.contents out.old out.new result (flat_map (goal_text stack.now) (map numbered_of goals.now)) }
+    ensures { Writes W.contents out.old out.new result (flat_map (goal_text form stack.now) (map numbered_of goals.now)) }
 {
     for goal in goals {
-        write_goal(stack, goal, out)?;
+        write_goal(form, stack, goal, out)?;
     }
     Ok(())
 }
 
 #[tactic(auto, unfolding(crate::specs::TreeText::goal_text))]
 fn write_goal<W: Write + Drop>(
+    form: Form,
     stack: &StackNames<'_, '_>,
     goal: &NumberedGoal<'_>,
     out: &mut W,
 ) -> io::Result<()>
-    ensures { Writes W.contents out.old out.new result (goal_text stack.now (numbered_of goal.now)) }
+    ensures { Writes W.contents out.old out.new result (goal_text form stack.now (numbered_of goal.now)) }
 {
     let asked = goal.goal;
     write_goal_line(stack, goal.number, &asked.goal, asked.nodes.len(), out)?;
-    write_lines(stack, goal.lines.as_slice(), out)
+    write_lines(form, stack, goal.lines.as_slice(), out)
 }
 
 #[tactic(auto, unfolding(crate::specs::TreeText::goals_line))]

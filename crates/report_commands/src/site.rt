@@ -3,7 +3,7 @@
 use res_value::ResId;
 
 /// Where something was found: the place of a chunk in its file, or the id of a row.
-#[derive(Clone, Copy, Debug, PartialEq, Eq)]
+#[derive(Clone, Copy)]
 pub enum Site {
     Chunk(usize),
     Row(ResId),

@@ -17,7 +17,7 @@ ghost use Rattle.report_commands.specs.BoxGaps.{lacks};
 ghost use Rattle.report_commands.specs.OpenedSeen.{opened_of};
 ghost use Rattle.report_commands.specs.Survey.{Surveys, SurveysFiles, survey_files, survey_held};
 ghost use Rattle.report_commands.specs.SurveyText.{qualifier_line, lacking_line};
-ghost use Rattle.report_commands.specs.SurveyOutput.{qualifiers_text, lacking_text, lacks_some, survey_answer, survey_output, survey_output_by};
+ghost use Rattle.report_commands.specs.SurveyOutput.{qualifiers_text, lacking_text, lacks_some, survey_answer, survey_output_by};
 ghost use Rattle.command_base.specs.CarriesOut.{IsKept};
 
 use crate::layers::write_layers;
@@ -105,23 +105,9 @@ impl SurveyFiles {
     }
 }
 
-/// Prints what of some layers is read otherwise than a device would read it, the qualifiers that their rows have, and
-/// those that the box lacks. The status is Negative where an answer can differ by it from a device's. Where a table is
-/// refused, this is told of the chunks of all tables, if an answer could differ by those of the one that is refused.
-/// Locales are compared by language and region.
-pub fn survey_bytes<W: Write + Drop>(
-    alloc: Global,
-    layers: &[LayerParts<&[u8]>],
-    box_json: Option<&[u8]>,
-    out: &mut W,
-) -> Result<Status, ToolFault>
-    ensures { Prints W.contents out.old out.new result
-        (survey_output (map layer_bytes layers.now) (option_map (λ json. json.now) box_json.entry)) }
-{
-    survey_by(alloc, layers, box_json, LocaleRule::LanguageAndRegion, out)
-}
-
-// The same, where locales are compared by a rule.
+// Prints what of some layers is read otherwise than a device would read it, the qualifiers that their rows have, and those
+// that the box lacks. The status is Negative where an answer can differ by it from a device's. Where a table is refused,
+// this is told of the chunks of all tables, if an answer could differ by those of the one that is refused.
 #[tactic(auto, unfolding(crate::specs::SurveyOutput::survey_output_by))]
 fn survey_by<W: Write + Drop>(
     alloc: Global,

@@ -3,15 +3,27 @@
 ghost use Rattle.std.specs.List.{flat_map};
 ghost use Rattle.contract_words.specs.Writes.{Writes};
 ghost use Rattle.command_base.specs.cert_tree.config_box.Tests.{choice_of, test_of};
-ghost use Rattle.report_commands.specs.TreeText.{number_item, locale_item, choice_text, test_text};
+ghost use Rattle.report_commands.specs.TreeText.{number_item, locale_item, choice_text, test_text, test_in};
 
 use crate::locale_differences::says_nothing;
+use answer_text::Form;
 use command_base::{Choice, Locale, Test, write_locale};
 use std::io::{self, Write};
 
-/// Writes a test: `density at most 197`, `locale one of de-AT de-DE`.
+/// Writes a test: `<198dpi`, `de-rAT,de-rDE`.
+#[tactic(auto, unfolding(crate::specs::TreeText::test_in))]
+pub(crate) fn write_test_in<W: Write + Drop>(form: Form, test: &Test, out: &mut W) -> io::Result<()>
+    ensures { Writes W.contents out.old out.new result (test_in form (test_of test.now)) }
+{
+    match form {
+        Form::Android => notation::write_test(test, out),
+        Form::Raw => write_test(test, out),
+    }
+}
+
+// `density at most 197`, `locale one of de-AT de-DE`.
 #[tactic(auto, unfolding(crate::specs::TreeText::test_text))]
-pub(crate) fn write_test<W: Write + Drop>(test: &Test, out: &mut W) -> io::Result<()>
+fn write_test<W: Write + Drop>(test: &Test, out: &mut W) -> io::Result<()>
     ensures { Writes W.contents out.old out.new result (test_text (test_of test.now)) }
 {
     match test {

@@ -5,7 +5,7 @@ use crate::res_id::ResId;
 use crate::value::Value;
 
 /// What an entry holds (AOSP: what follows a `ResTable_entry`).
-#[derive(Clone, Copy, Debug)]
+#[derive(Clone, Copy)]
 pub enum Cell<'a> {
     /// One value.
     Plain(Value),

@@ -4,15 +4,23 @@ ghost use Rattle.std.specs.Prelude.{◌≡◌};
 ghost use Rattle.res_value.specs.declared.goal_fault.GoalFault.TheVariants.{OutOfMemory};
 
 use std::alloc::{AllocError, AllocFailed};
+use std::fmt::{self, Debug, Display, Formatter};
 use thiserror::Error;
 
 /// Why a word asks for no goal.
-#[derive(Clone, Copy, Debug, PartialEq, Eq, Error)]
+#[derive(Clone, Copy, Error)]
 pub enum GoalFault {
     #[error("Malformed")]
     Malformed,
     #[error("OutOfMemory")]
     OutOfMemory,
+}
+
+/// By its text.
+impl Debug for GoalFault {
+    fn fmt<W: fmt::Write>(&self, f: &mut Formatter<W>) -> fmt::Result {
+        Display::fmt(self, f)
+    }
 }
 
 impl From<AllocError> for GoalFault {

@@ -7,6 +7,7 @@ ghost use Rattle.res_value.specs.Layout.{row_size};
 use crate::res_id::ResId;
 use crate::value::Value;
 use chunk_walk::u32_within;
+use std::fmt::{self, Debug, Display, Formatter};
 use thiserror::Error;
 
 /// How many bytes a row of a bag has.
@@ -18,7 +19,7 @@ const NAME: usize = 0;
 const VALUE: usize = 4;
 
 /// What is wrong with the rows of a bag. That they do not fit is named before a value's size.
-#[derive(Clone, Copy, Debug, PartialEq, Eq, Error)]
+#[derive(Clone, Copy, Error)]
 pub enum MapRowsFault {
     /// There are fewer bytes than the rows have.
     #[error("Short")]
@@ -29,9 +30,16 @@ pub enum MapRowsFault {
     ValueSize(u32),
 }
 
+/// By its text.
+impl Debug for MapRowsFault {
+    fn fmt<W: fmt::Write>(&self, f: &mut Formatter<W>) -> fmt::Result {
+        Display::fmt(self, f)
+    }
+}
+
 /// The rows of a bag that are left (AOSP: `ResTable_map`), in the order of the file, each its name and
 /// its value. They are lent from the bytes that they stand in.
-#[derive(Clone, Copy, Debug)]
+#[derive(Clone, Copy)]
 pub struct MapRows<'a> {
     count: u32,
     left: &'a [u8],

@@ -3,7 +3,7 @@
 use command_base::Status;
 
 /// How a command was answered, and which of its goals the answer is about.
-#[derive(Clone, Copy, Debug, PartialEq, Eq)]
+#[derive(Clone, Copy)]
 pub struct Answered {
     pub status: Status,
     /// The place of the goal from 0: that at which a certificate is rejected, or the one that has no value on a device.

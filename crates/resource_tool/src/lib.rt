@@ -7,7 +7,7 @@
 //!
 //! ```text
 //! let make = Make { layers: "layers.json", box_path: "box.json", locales: LocaleRule::Android, names: false, omit: false, max_nodes: 100_000, goals };
-//! make.answer(alloc, &inputs, Watch { clock: &rt, is_terminal: true }, &mut out, &mut errors)?; // with a line of the work
+//! make.answer(alloc, &inputs, Watch { clock: &rt, is_terminal: true, reached: &reached }, &mut out, &mut errors)?; // with a line of the work
 //!
 //! make_bytes(alloc, &layers, &box_json, &goals, 100_000, &mut out)?; // {"goals":[{"id":"0x7f010000","nodes":[{"kind":16, ..
 //! check_bytes(alloc, &layers, &box_json, &certificate, &goals, &mut out)?; // accepted goals 1 nodes 3
@@ -41,7 +41,7 @@ pub use command_base::{
 pub use goal_told::write_goal_told;
 pub use make::{Make, make_bytes, make_bytes_watched};
 pub use opened_box::OpenedBox;
-pub use progress::Watch;
+pub use progress::{Reached, Watch};
 pub use resource_text::{Goal, Omitted, Omitting, Progress, Unwatched};
 pub use table_commands::{
     Opened, attr_bytes, bag_bytes, dump_bytes, explain_bytes, query_bytes, rows_bytes,

@@ -171,7 +171,8 @@ impl<'a> OpenMake<'a> {
         let goals = self.goals.as_slice();
         let beside = NamesBeside::of(alloc, &opened.stack, names)?;
         let answered = if watch.is_terminal {
-            let mut line = ProgressLine::new(errors, watch.clock);
+            let mut line = ProgressLine::new(errors, watch);
+            line.goals_done(0, goals.len());
             let answered = opened.make_telling(alloc, goals, max_nodes, &mut line, out);
             line.clear();
             answered?
@@ -197,7 +198,8 @@ impl<'a> OpenMake<'a> {
         let opened = &self.opened;
         let goals = self.goals.as_slice();
         let omitting = if watch.is_terminal {
-            let mut line = ProgressLine::new(errors, watch.clock);
+            let mut line = ProgressLine::new(errors, watch);
+            line.goals_done(0, goals.len());
             let omitting = opened.make_omitting(alloc, goals, max_nodes, &mut line);
             line.clear();
             omitting?

@@ -1,6 +1,7 @@
 //! How far the making of a certificate has come.
 
 use resource_text::Progress;
+use std::cell::Cell;
 use std::io::Write;
 use std::time::{Clock, Duration, Instant};
 
@@ -19,6 +20,21 @@ pub struct Watch<'a, C> {
     pub clock: &'a C,
     /// They go to a terminal. Nowhere else is anything shown.
     pub is_terminal: bool,
+    /// How far the work came last, where it was watched.
+    pub reached: &'a Cell<Reached>,
+}
+
+/// How far work came over goals, or over names.
+#[derive(Clone, Copy)]
+pub struct Reached {
+    pub done: usize,
+    pub all: usize,
+}
+
+impl<C> Progress for Watch<'_, C> {
+    fn goals_done(&mut self, done: usize, all: usize) {
+        self.reached.set(Reached { done, all });
+    }
 }
 
 /// A line on a terminal that says how many goals are done, and is rewritten in place. A failure of the
@@ -26,7 +42,7 @@ pub struct Watch<'a, C> {
 #[derive(Drop)]
 pub struct ProgressLine<'a, E, C> {
     errors: &'a mut E,
-    clock: &'a C,
+    watch: Watch<'a, C>,
     /// When the line is next due; None where it never is.
     due: Option<Instant>,
     /// The line stands on the terminal.
@@ -35,11 +51,12 @@ pub struct ProgressLine<'a, E, C> {
 
 impl<'a, E: Write, C: Clock> ProgressLine<'a, E, C> {
     /// Begins to count the time; writes nothing yet.
-    pub fn new(errors: &'a mut E, clock: &'a C) -> Self {
+    pub fn new(errors: &'a mut E, watch: Watch<'a, C>) -> Self {
+        let due = after(BEFORE_THE_FIRST, watch.clock);
         ProgressLine {
             errors,
-            clock,
-            due: after(BEFORE_THE_FIRST, clock),
+            watch,
+            due,
             is_shown: false,
         }
     }
@@ -53,7 +70,7 @@ impl<'a, E: Write, C: Clock> ProgressLine<'a, E, C> {
     }
 
     fn is_due(&self) -> bool {
-        match (self.due, Instant::now(self.clock)) {
+        match (self.due, Instant::now(self.watch.clock)) {
             (Some(due), Ok(now)) => now >= due,
             _ => false,
         }
@@ -62,12 +79,13 @@ impl<'a, E: Write, C: Clock> ProgressLine<'a, E, C> {
 
 impl<E: Write, C: Clock> Progress for ProgressLine<'_, E, C> {
     fn goals_done(&mut self, done: usize, all: usize) {
+        self.watch.goals_done(done, all);
         if done == all {
             self.clear();
         } else if self.is_due() {
             let _ = write!(self.errors, "\r{done} of {all} goals done");
             self.is_shown = true;
-            self.due = after(BETWEEN_TWO, self.clock);
+            self.due = after(BETWEEN_TWO, self.watch.clock);
         }
     }
 }

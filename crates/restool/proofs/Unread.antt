@@ -1,5 +1,5 @@
 -- A request whose layers are not read: its command stops so.
-use Rattle.std.proofs.Common.{◌≡◌, ◌≢◌, ℕ, Bool, List, Option, Some, None, Result, Ok, Err, refl, subst, inl, inr}
+use Rattle.std.proofs.Common.{◌≡◌, ◌≢◌, ℕ, Bool, List, Option, Some, None, Ok, Err, refl, subst, inl, inr}
 use Rattle.std.specs.Prelude.{◌⊎◌, IfSome, option_map}
 use Rattle.resource_tool.specs.command_base.declared.fault.ToolFault.TheVariants.{OutOfMemory}
 use Rattle.resource_tool.specs.command_base.declared.side.Side.TheVariants.{Old, New}

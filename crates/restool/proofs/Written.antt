@@ -11,17 +11,19 @@ use Rattle.resource_tool.specs.command_base.declared.fault.ToolFault.TheVariants
 use Rattle.resource_tool.specs.command_base.declared.status.Status.{Status}
 use Rattle.resource_tool.specs.command_base.declared.stop.Stop.{Stop}
 use Rattle.resource_tool.specs.command_base.CarriesOut.{CarriesOut}
+use Rattle.resource_tool.specs.command_base.DeviceFiles.{asked_files, device_files, paths_asked, paths_read}
+use Rattle.resource_tool.specs.command_base.FileWords.{texts_of}
 use Rattle.resource_tool.specs.command_base.Inputs.{Places, layers_of, table_of}
 use Rattle.resource_tool.specs.command_base.Output.{Output, Prints, PrintsOneOf}
 use Rattle.resource_tool.specs.command_base.Stop.{StopOf, stop_of, tool}
-use Rattle.table_commands.specs.TableOutput.{rows_output, dump_output, ids_output}
+use Rattle.table_commands.specs.TableOutput.{rows_printed, dump_printed, ids_output}
 use Rattle.table_commands.specs.MapOutput.{MapBytes, MapOutput, PrintsBoth, map_files, map_output}
 use Rattle.table_commands.specs.DeviceOutput.{as_output}
 use Rattle.table_commands.specs.Opened.{OpenIdOf}
-use Rattle.table_commands.specs.QueryOutput.{OpenQueryOf, query_answer}
-use Rattle.table_commands.specs.ExplainOutput.{explain_answer}
-use Rattle.table_commands.specs.BagOutput.{bag_answer}
-use Rattle.table_commands.specs.AttrOutput.{OpenAttrOf, attr_answer}
+use Rattle.table_commands.specs.QueryOutput.{OpenQueryOf, query_printed}
+use Rattle.table_commands.specs.ExplainOutput.{explain_printed}
+use Rattle.table_commands.specs.BagOutput.{bag_printed}
+use Rattle.table_commands.specs.AttrOutput.{OpenAttrOf, attr_printed}
 use Rattle.resource_tool.specs.Answered.{PrintsBothOneOf}
 use Rattle.resource_tool.specs.Make.{OpenMakeOf, MakesOpened, OnceShown}
 use Rattle.resource_tool.specs.MakeOutput.{IsMakeAnswer}
@@ -261,29 +263,29 @@ module _ {W V E : Type 0} (is_terminal : Bool) (c : W → Option (List ℕ)) (d 
       → ((X : Type 0) (F : X → Result MapOutput ToolFault) (meant : Result X StopOf)
       → CarriesOut (BeforeBoth F) meant from → CarriesOut (BehindBoth F) meant to)
       → (places : Places) (request : Request) → Answers is_terminal c says old new quiet said places request from → Answers is_terminal d says before after quiet said places request to
-  answers-over from to carry carry_any carry_once carry_first carry_told carry_both places (asks.Rows it) p = carry _ rows_output (table_of places it.table.now) p
-  answers-over from to carry carry_any carry_once carry_first carry_told carry_both places (asks.Dump it) p = carry _ dump_output (table_of places it.table.now) p
+  answers-over from to carry carry_any carry_once carry_first carry_told carry_both places (asks.Rows it) p = carry _ (rows_printed it.android) (table_of places it.table.now) p
+  answers-over from to carry carry_any carry_once carry_first carry_told carry_both places (asks.Dump it) p = carry _ (dump_printed it.android) (table_of places it.table.now) p
   answers-over from to carry carry_any carry_once carry_first carry_told carry_both places (asks.Map it) p =
       carry_both _ (λ (inputs : MapBytes). map_output inputs.target inputs.overlay) (map_files places it.target.now it.overlay.now) p
   answers-over from to carry carry_any carry_once carry_first carry_told carry_both places (asks.Ids it) p = carry _ ids_output (layers_of places it.layers.now) p
   answers-over from to carry carry_any carry_once carry_first carry_told carry_both places (asks.Survey it) p =
       carry _ (λ (files : SurveyBytes). survey_output_by it.locales files.layers files.box_json) _ p
   answers-over from to carry carry_any carry_once carry_first carry_told carry_both places (asks.Show it) p =
-      carry _ (λ (files : ShowBytes). shown_output it.pictured files) _ p
+      carry _ (λ (files : ShowBytes). shown_output it.form it.pictured files) _ p
   answers-over from to carry carry_any carry_once carry_first carry_told carry_both places (asks.Query it) p =
-      carry _ (λ (asked : OpenQueryOf). Ok (query_answer asked.opened asked.ids it.names)) _ p
+      carry _ (λ (asked : OpenQueryOf). Ok (query_printed it.android it.names (paths_asked (asked_files places it.layers.now it.device.now (texts_of it.words))) asked)) _ p
   answers-over from to carry carry_any carry_once carry_first carry_told carry_both places (asks.Explain it) p =
-      carry _ (λ (asked : OpenIdOf). Ok (explain_answer asked.opened asked.id.0 it.names)) _ p
+      carry _ (λ (asked : OpenIdOf). Ok (explain_printed it (paths_read (device_files places it.layers.now it.device.now)) asked)) _ p
   answers-over from to carry carry_any carry_once carry_first carry_told carry_both places (asks.Bag it) p =
-      carry _ (λ (asked : OpenIdOf). Ok (bag_answer asked.opened asked.id.0 it.names)) _ p
+      carry _ (λ (asked : OpenIdOf). Ok (bag_printed it (paths_read (device_files places it.layers.now it.device.now)) asked)) _ p
   answers-over from to carry carry_any carry_once carry_first carry_told carry_both places (asks.Attr it) p =
-      carry _ (λ (asked : OpenAttrOf). Ok (attr_answer asked.opened asked.attr.0 asked.styles it.force it.names)) _ p
+      carry _ (λ (asked : OpenAttrOf). Ok (attr_printed it.android it.names it.force (paths_asked (asked_files places it.layers.now it.device.now (texts_of it.styles))) asked)) _ p
   answers-over from to carry carry_any carry_once carry_first carry_told carry_both places (asks.Make it) p =
       makes-over from to carry_once carry_first it.omit it.names it.max_nodes _ p
   answers-over from to carry carry_any carry_once carry_first carry_told carry_both places (asks.Check it) p =
       carry_told _ _ (λ (asked : OpenCheckOf). IsCheckAnswer asked.goals it.names) (λ (asked : OpenCheckOf). Ok asked.opened) _ p
   answers-over from to carry carry_any carry_once carry_first carry_told carry_both places (asks.Diff it) p =
-      carry_any _ _ (λ (asked : OpenDiffOf). IsDiffOutput asked.pairs it.max_nodes) (λ (asked : OpenDiffOf). Ok asked.opened) _ p
+      carry_any _ _ (λ (asked : OpenDiffOf). IsDiffOutput it.form asked.pairs it.max_nodes) (λ (asked : OpenDiffOf). Ok asked.opened) _ p
   answers-over from to carry carry_any carry_once carry_first carry_told carry_both places (asks.Device it) p = carry _ (λ (text : List ℕ). Ok (as_output text)) _ p
 
   answers-done : (status : Status) → Passes → (places : Places) (request : Request)

@@ -92,3 +92,7 @@ locales = option_word (codes "locales")
 -- the names of ids are asked for
 abbrev pub names : Rule
 names = flag (codes "names")
+
+-- Android's notation is asked for
+abbrev pub android : Rule
+android = flag (codes "android")

@@ -3,7 +3,6 @@ use Rattle.std.specs.Prelude.{◌≡◌, ℕ, Bool, true, false, List, [], ◌�
 use Rattle.std.specs.Io.KnownBytes.{Appends}
 use Rattle.resource_tool.specs.command_base.declared.exit_status.ExitStatus.{ExitStatus}
 use Rattle.resource_tool.specs.command_base.declared.status.Status.{Status}
-use Rattle.resource_tool.specs.command_base.declared.status.Status.TheVariants.{Done, Negative}
 use Rattle.resource_tool.specs.command_base.declared.stop.Stop.{Stop}
 use Rattle.resource_tool.specs.command_base.ExitStatus.{after_status}
 use Rattle.resource_tool.specs.command_base.OneLine.{in_one_line}
@@ -19,12 +18,11 @@ abbrev pub IsTold : {V : Type 0} → (V → Option (List ℕ)) → Bool → V �
 IsTold says is_terminal before after text =
     (hint : Option (List ℕ)) × (is_terminal ≡ false → hint ≡ None) × Appends (says before) (says after) (text ++ hint_line hint)
 
--- The end. After work that is done nothing more is written; behind an answer that is negative maybe a hint, on a terminal. Else
--- errors got the line that says why, if that was written.
+-- The end. Behind an answer nothing more is written, but on a terminal maybe a hint. Else errors got the line that says why, if
+-- that was written.
 abbrev pub EndsAs : {V : Type 0} → (V → Option (List ℕ)) → Bool → V → V → Result Status Stop → Bool → ExitStatus → Type 0
-EndsAs says is_terminal before after (Ok Done) was_written ended = (ended ≡ after_status Done) × (after ≡ before)
-EndsAs says is_terminal before after (Ok Negative) was_written ended =
-    (ended ≡ after_status Negative)
+EndsAs says is_terminal before after (Ok status) was_written ended =
+    (ended ≡ after_status status)
     × (is_terminal ≡ false → after ≡ before)
     × (was_written ≡ true → IsTold says is_terminal before after [])
 EndsAs says is_terminal before after (Err stop) was_written ended =

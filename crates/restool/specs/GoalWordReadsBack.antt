@@ -1,5 +1,5 @@
 -- The word that is written of a goal is read as that goal.
-use Rattle.std.specs.Prelude.{◌≡◌, ◌^◌, ◌<◌, ◌≤◌, false, List, [], ◌∷◌, length, Ok}
+use Rattle.std.specs.Prelude.{◌≡◌, ◌^◌, ◌<◌, ◌≤◌, List, [], ◌∷◌, length, Ok}
 use Rattle.std.specs.List.{All}
 use Rattle.resource_tool.specs.command_base.answer_text.res_value.declared.res_id.ResId.{ResId}
 use Rattle.resource_tool.specs.command_base.answer_text.GoalText.{goal_word}

@@ -18,8 +18,8 @@ use Rattle.restool.specs.declared.request.Request.TheVariants as requests
 use Rattle.restool.specs.declared.request.Command.{Command}
 use Rattle.restool.specs.declared.request.Command.TheVariants.{Rows, Dump, Map, Ids, Survey, Show, Query, Explain, Bag, Attr, Make, Check, Diff, Device}
 use Rattle.restool.specs.WordsFault.{read_of_words}
-use Rattle.restool.specs.CommandLine.{command, device, flag, goal_number, goals, ids, layers, locales, maybe_one_word, maybe_words, names, nodes, one_word, several_words}
-use Rattle.restool.specs.Given.{IsGiven, IsGoalNumber, IsNodeLimit, ReadsAlong, ReadsByRule, rule_named, word_at, words_at}
+use Rattle.restool.specs.CommandLine.{android, command, device, flag, goal_number, goals, ids, layers, locales, maybe_one_word, maybe_words, names, nodes, one_word, several_words}
+use Rattle.restool.specs.Given.{IsGiven, IsFormGiven, IsGoalNumber, IsNodeLimit, ReadsAlong, ReadsByRule, rule_named, word_at, words_at}
 use Rattle.restool.specs.AskedWords.{asked_word, named_word}
 use Rattle.restool.specs.Left.{LayerWordsOf, no_layers, layers as layers_in, both_layers}
 use Rattle.resource_tool.specs.command_base.FileWords.{texts_of}
@@ -45,7 +45,7 @@ use Rattle.resource_tool.specs.command_base.CarriesOut.{IsKept}
 
 -- they ask for the rows of the table at this path
 abbrev pub AsksForRows : List ℕ → Request → Type 0
-AsksForRows path (requests.Rows rows) = rows.table.now ≡ path
+AsksForRows path (requests.Rows rows) = (rows.table.now ≡ path) × (rows.android ≡ false)
 AsksForRows path _ = ⊥
 
 -- ---- the command line
@@ -53,22 +53,22 @@ AsksForRows path _ = ⊥
 -- what each command is called, and what it takes
 abbrev pub commands : List Shape
 commands =
-    command (codes "rows") (one_word (codes "TABLE") ∷ [])
-    ∷ command (codes "dump") (one_word (codes "TABLE") ∷ [])
+    command (codes "rows") (android ∷ one_word (codes "TABLE") ∷ [])
+    ∷ command (codes "dump") (android ∷ one_word (codes "TABLE") ∷ [])
     ∷ command (codes "map") (one_word (codes "TARGET") ∷ one_word (codes "OVERLAY") ∷ [])
     ∷ command (codes "ids") (layers ∷ [])
     ∷ command (codes "survey") (locales ∷ layers ∷ maybe_one_word (codes "BOX") ∷ [])
-    ∷ command (codes "show") (goal_number (codes "dot") ∷ layers ∷ one_word (codes "CERT") ∷ [])
-    ∷ command (codes "query") (locales ∷ names ∷ layers ∷ device ∷ ids ∷ [])
-    ∷ command (codes "explain") (locales ∷ names ∷ layers ∷ device ∷ one_word (codes "ID") ∷ [])
-    ∷ command (codes "bag") (locales ∷ names ∷ layers ∷ device ∷ one_word (codes "ID") ∷ [])
+    ∷ command (codes "show") (flag (codes "raw") ∷ goal_number (codes "dot") ∷ layers ∷ one_word (codes "CERT") ∷ [])
+    ∷ command (codes "query") (locales ∷ names ∷ android ∷ layers ∷ device ∷ ids ∷ [])
+    ∷ command (codes "explain") (locales ∷ names ∷ android ∷ flag (codes "all") ∷ layers ∷ device ∷ one_word (codes "ID") ∷ [])
+    ∷ command (codes "bag") (locales ∷ names ∷ android ∷ layers ∷ device ∷ one_word (codes "ID") ∷ [])
     ∷ command (codes "attr")
-    (locales ∷ flag (codes "keep") ∷ names ∷ layers ∷ device ∷ one_word (codes "ATTR") ∷ several_words (codes "STYLE") ∷ [])
+    (locales ∷ flag (codes "keep") ∷ names ∷ android ∷ layers ∷ device ∷ one_word (codes "ATTR") ∷ several_words (codes "STYLE") ∷ [])
     ∷ command (codes "make")
     (locales ∷ nodes (codes "max-nodes") ∷ flag (codes "omit") ∷ names ∷ layers ∷ one_word (codes "BOX") ∷ goals ∷ [])
     ∷ command (codes "check") (locales ∷ names ∷ layers ∷ one_word (codes "BOX") ∷ one_word (codes "CERT") ∷ goals ∷ [])
     ∷ command (codes "diff")
-    (locales ∷ nodes (codes "max-nodes") ∷ one_word (codes "OLD") ∷ one_word (codes "NEW") ∷ one_word (codes "BOX") ∷ maybe_words (codes "NAME") ∷ [])
+    (locales ∷ flag (codes "raw") ∷ nodes (codes "max-nodes") ∷ one_word (codes "OLD") ∷ one_word (codes "NEW") ∷ one_word (codes "BOX") ∷ maybe_words (codes "NAME") ∷ [])
     ∷ command (codes "device") (locales ∷ flag (codes "config") ∷ device ∷ [])
     ∷ []
 
@@ -126,11 +126,11 @@ attr_asked rows = do
 -- the request of each command, whose arguments have these rows
 
 abbrev pub IsRowsOf : List Row → Request → Type 0
-IsRowsOf rows (requests.Rows it) = it.table.now ≡ word_at (codes "TABLE") rows
+IsRowsOf rows (requests.Rows it) = (it.table.now ≡ word_at (codes "TABLE") rows) × IsGiven (codes "android") rows it.android
 IsRowsOf rows _ = ⊥
 
 abbrev pub IsDumpOf : List Row → Request → Type 0
-IsDumpOf rows (requests.Dump it) = it.table.now ≡ word_at (codes "TABLE") rows
+IsDumpOf rows (requests.Dump it) = (it.table.now ≡ word_at (codes "TABLE") rows) × IsGiven (codes "android") rows it.android
 IsDumpOf rows _ = ⊥
 
 abbrev pub IsMapOf : List Row → Request → Type 0
@@ -150,31 +150,32 @@ IsSurveyOf rule rows _ = ⊥
 abbrev pub IsShowOf : List Row → Request → Type 0
 IsShowOf rows (requests.Show it) =
     (it.layers.now ≡ word_at (codes "LAYERS") rows) × (it.certificate.now ≡ word_at (codes "CERT") rows)
-    × IsGoalNumber (one_of (codes "dot") rows) it.pictured
+    × IsFormGiven rows it.form × IsGoalNumber (one_of (codes "dot") rows) it.pictured
 IsShowOf rows _ = ⊥
 
 abbrev pub IsQueryOf : LocaleRule → List Row → List (List ℕ) → Request → Type 0
 IsQueryOf rule rows asked (requests.Query it) =
     (it.locales ≡ rule) × (it.layers.now ≡ word_at (codes "LAYERS") rows) × (it.device.now ≡ word_at (codes "DEVICE") rows)
-    × IsGiven (codes "names") rows it.names × (asked ≡ texts_of it.words)
+    × IsGiven (codes "names") rows it.names × IsGiven (codes "android") rows it.android × (asked ≡ texts_of it.words)
 IsQueryOf rule rows asked _ = ⊥
 
 abbrev pub IsExplainOf : LocaleRule → List Row → NamedOf → Request → Type 0
 IsExplainOf rule rows asked (requests.Explain it) =
     (it.locales ≡ rule) × (it.layers.now ≡ word_at (codes "LAYERS") rows) × (it.device.now ≡ word_at (codes "DEVICE") rows)
-    × IsGiven (codes "names") rows it.names × (asked ≡ named_of it.resource)
+    × IsGiven (codes "names") rows it.names × IsGiven (codes "android") rows it.android × IsGiven (codes "all") rows it.all
+    × (asked ≡ named_of it.resource)
 IsExplainOf rule rows asked _ = ⊥
 
 abbrev pub IsBagOf : LocaleRule → List Row → NamedOf → Request → Type 0
 IsBagOf rule rows asked (requests.Bag it) =
     (it.locales ≡ rule) × (it.layers.now ≡ word_at (codes "LAYERS") rows) × (it.device.now ≡ word_at (codes "DEVICE") rows)
-    × IsGiven (codes "names") rows it.names × (asked ≡ named_of it.resource)
+    × IsGiven (codes "names") rows it.names × IsGiven (codes "android") rows it.android × (asked ≡ named_of it.resource)
 IsBagOf rule rows asked _ = ⊥
 
 abbrev pub IsAttrOf : LocaleRule → List Row → AttrAsked → Request → Type 0
 IsAttrOf rule rows asked (requests.Attr it) =
     (it.locales ≡ rule) × (it.layers.now ≡ word_at (codes "LAYERS") rows) × (it.device.now ≡ word_at (codes "DEVICE") rows)
-    × IsGiven (codes "names") rows it.names × IsGiven (codes "keep") rows (not it.force)
+    × IsGiven (codes "names") rows it.names × IsGiven (codes "android") rows it.android × IsGiven (codes "keep") rows (not it.force)
     × (asked ≡ record { attr = named_of it.attr; styles = texts_of it.styles })
 IsAttrOf rule rows asked _ = ⊥
 
@@ -194,7 +195,7 @@ IsCheckOf rule rows asked _ = ⊥
 abbrev pub IsDiffOf : LocaleRule → List Row → List (List ℕ) → Request → Type 0
 IsDiffOf rule rows asked (requests.Diff it) =
     (it.locales ≡ rule) × (it.old.now ≡ word_at (codes "OLD") rows) × (it.new.now ≡ word_at (codes "NEW") rows) × (it.box_path.now ≡ word_at (codes "BOX") rows)
-    × IsNodeLimit (one_of (codes "max-nodes") rows) it.max_nodes × (asked ≡ texts_of it.words)
+    × IsFormGiven rows it.form × IsNodeLimit (one_of (codes "max-nodes") rows) it.max_nodes × (asked ≡ texts_of it.words)
 IsDiffOf rule rows asked _ = ⊥
 
 abbrev pub IsDeviceOf : LocaleRule → List Row → Request → Type 0

@@ -1,6 +1,5 @@
 -- From words to the exit status.
 use Rattle.std.specs.Prelude.{◌≡◌, ◌⊎◌, ℕ, Bool, true, false, List, Option, Result, Ok, Err, IfSome}
-use Rattle.std.specs.Io.KnownBytes.{Appends}
 use Rattle.resource_tool.specs.command_base.declared.exit_status.ExitStatus.{ExitStatus}
 use Rattle.resource_tool.specs.command_base.declared.status.Status.{Status}
 use Rattle.resource_tool.specs.command_base.declared.stop.Stop.{Stop}
@@ -10,7 +9,7 @@ use Rattle.restool.specs.declared.request.Request.{Request}
 use Rattle.restool.specs.declared.words_fault.WordsFault.{WordsFault}
 use Rattle.restool.specs.Request.{Answers, AsksFor, ErrorsGet, layer_words}
 use Rattle.restool.specs.WordsFault.{is_output, words_line, status_after_words}
-use Rattle.restool.specs.Ending.{EndsAs}
+use Rattle.restool.specs.Ending.{EndsAs, IsTold}
 use Rattle.restool.specs.Left.{SaysLeft}
 
 -- the streams that the program writes to
@@ -18,12 +17,12 @@ pub record Streams (W V : Type 0) : Type 0 where
   pub out : W
   pub errors : V
 
--- Words that ask for nothing that can be done. The stream of the fault got the line that says why, if that was written, and the
--- other stream nothing.
-abbrev pub TellsFault : {W V : Type 0} → (V → Option (List ℕ)) → Streams W V → Streams W V → WordsFault → Bool → ExitStatus → Type 0
-TellsFault says before after fault was_written ended =
+-- Words that ask for nothing that can be done. The stream of the fault got the line that says why, if that was written, on a
+-- terminal maybe with a hint, and the other stream nothing.
+abbrev pub TellsFault : {W V : Type 0} → (V → Option (List ℕ)) → Bool → Streams W V → Streams W V → WordsFault → Bool → ExitStatus → Type 0
+TellsFault says is_terminal before after fault was_written ended =
     (ended ≡ status_after_words was_written fault)
-    × (was_written ≡ true → IfSome (words_line fault) (Appends (says before.errors) (says after.errors)))
+    × (was_written ≡ true → IfSome (words_line fault) (IsTold says is_terminal before.errors after.errors))
     × (is_output fault ≡ false → after.out ≡ before.out)
     × (is_output fault ≡ true → after.errors ≡ before.errors)
 
@@ -48,5 +47,5 @@ Works {W} {V} contents says known is_terminal before after request was_written e
 -- what was said at the end.
 abbrev pub Runs : {W V : Type 0} → (W → Option (List ℕ)) → (V → Option (List ℕ)) → Option Places → List (List ℕ) → Bool → Streams W V → Streams W V → Bool → ExitStatus → Type 0
 Runs contents says known words is_terminal before after was_written ended =
-    ((fault : WordsFault) × AsksFor words (Err fault) × TellsFault says before after fault was_written ended)
+    ((fault : WordsFault) × AsksFor words (Err fault) × TellsFault says is_terminal before after fault was_written ended)
     ⊎ ((request : Request) × AsksFor words (Ok request) × Works contents says known is_terminal before after request was_written ended)

@@ -4,13 +4,14 @@ ghost use Rattle.std.specs.Prelude.{◌≡◌, map, codes, option_map};
 ghost use Rattle.clap.specs.Words.{all_of, first_of, found_of, one_of, rows_of};
 ghost use Rattle.json_input.specs.Each.{each};
 ghost use Rattle.restool.specs.AskedWords.{ReadsNamed, ReadsWords, asked_word, named_word};
-ghost use Rattle.restool.specs.Given.{IsGiven, IsGoalNumber, IsNodeLimit, ReadsRule, word_at, words_at};
+ghost use Rattle.restool.specs.Given.{IsFormGiven, IsGiven, IsGoalNumber, IsNodeLimit, ReadsRule, word_at, words_at};
 ghost use Rattle.restool.specs.Request.{locales_at};
 
 use crate::argument_fault::ArgumentFault;
 use crate::asked_words::{Asks, asked_words, named_word};
-use crate::command_line::{Argument, DOT, LOCALES, MAX_NODES, MOST_NODES, NODES_IF_LEFT_OUT};
+use crate::command_line::{Argument, DOT, LOCALES, MAX_NODES, MOST_NODES, NODES_IF_LEFT_OUT, RAW};
 use clap::ArgMatches;
+use diff_command::Form;
 use resource_tool::{LocaleRule, Named};
 use std::alloc::Global;
 
@@ -76,6 +77,17 @@ pub(crate) fn given_flag(given: &ArgMatches<'_>, argument: &Argument) -> bool
     ensures { IsGiven argument.now.name.now (rows_of (found_of given.now)) result }
 {
     given.get_one(argument.name).unwrap_or(false)
+}
+
+/// In which form an answer is written.
+pub(crate) fn given_form(given: &ArgMatches<'_>) -> Form
+    ensures { IsFormGiven (rows_of (found_of given.now)) result }
+{
+    if given_flag(given, &RAW) {
+        Form::Raw
+    } else {
+        Form::Android
+    }
 }
 
 /// How many nodes all trees may have.

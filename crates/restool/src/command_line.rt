@@ -206,6 +206,18 @@ pub(crate) const NAMES: Argument = Argument {
     help: "Print the name beside each id",
 };
 
+pub(crate) const NOTATION: Argument = Argument {
+    name: "android",
+    takes: Takes::Nothing,
+    help: "Print names, configurations and values as Android's sources write them, such as dimen/margin sw600dp-land 34.5sp",
+};
+
+pub(crate) const ALL: Argument = Argument {
+    name: "all",
+    takes: Takes::Nothing,
+    help: "With --android print the rows that do not match too",
+};
+
 /// The same of goals. It has the same name, so that it is read as `NAMES` is.
 pub(crate) const GOAL_NAMES: Argument = Argument {
     name: "names",
@@ -231,6 +243,12 @@ pub(crate) const DIFF_NODES: Argument = Argument {
     takes: Takes::Nodes,
     help: "Node limit of the trees that part the devices, all together, 1 to 1000000 \
            [default: 100000]",
+};
+
+pub(crate) const RAW: Argument = Argument {
+    name: "raw",
+    takes: Takes::Nothing,
+    help: "Print each number as a table has it, for other programs, such as dimension 16/2^0 dp",
 };
 
 pub(crate) const DOT: Argument = Argument {

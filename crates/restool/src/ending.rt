@@ -35,13 +35,9 @@ pub fn end<E: Write + Drop>(
 {
     let hint = where_terminal(is_terminal, hint);
     match outcome {
-        Ok(Status::Done) => Reported {
-            status: ExitStatus::Done,
-            was_written: true,
-        },
-        Ok(Status::Negative) => Reported {
+        Ok(status) => Reported {
             was_written: write_hint(hint, errors).is_ok(),
-            status: ExitStatus::Negative,
+            status: ExitStatus::after_status(status),
         },
         Err(stop) => Reported {
             was_written: tell(&stop, hint, errors).is_ok(),
@@ -50,7 +46,8 @@ pub fn end<E: Write + Drop>(
     }
 }
 
-fn where_terminal(is_terminal: bool, hint: Option<&str>) -> Option<&str>
+/// What may be said on a terminal alone.
+pub(crate) fn where_terminal(is_terminal: bool, hint: Option<&str>) -> Option<&str>
     ensures { is_terminal ≡ false → result ≡ None }
 {
     if is_terminal { hint } else { None }
@@ -64,7 +61,8 @@ fn tell<E: Write + Drop>(stop: &Stop<'_>, hint: Option<&str>, errors: &mut E) ->
     write_hint(hint, errors)
 }
 
-fn write_hint<E: Write + Drop>(hint: Option<&str>, errors: &mut E) -> io::Result<()>
+/// Writes a line with what a person may try, where there is something.
+pub(crate) fn write_hint<E: Write + Drop>(hint: Option<&str>, errors: &mut E) -> io::Result<()>
     ensures line { Writes E.contents errors.old errors.new result (hint_line (option_map (λ hint. hint.now) hint.entry)) }
     ensures nothing { hint.entry ≡ None → errors.new ≡ errors.old }
 {

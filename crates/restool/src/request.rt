@@ -10,14 +10,14 @@ ghost use Rattle.resource_tool.specs.command_base.CarriesOut.{IsKept};
 
 use crate::argument_fault::ArgumentFault;
 use crate::arguments::{
-    given_asked, given_flag, given_goal_number, given_maybe_word, given_named, given_nodes,
-    given_rule, given_word,
+    given_asked, given_flag, given_form, given_goal_number, given_maybe_word, given_named,
+    given_nodes, given_rule, given_word,
 };
 use crate::asked_words::Asks;
 use crate::command_line::{
-    ATTRIBUTE, BAG_ID, BOX, CERTIFICATE, COMPARED, CONFIG, DEVICE, DIFF_NODES, DOT, GOAL_NAMES,
-    GOALS, ID, IDS, KEEP, LAYERS, LOCALES, MAX_NODES, MAYBE_BOX, NAMES, NEW, OLD, OMIT, OVERLAY,
-    STYLES, TABLE, TARGET, Usage,
+    ALL, ATTRIBUTE, BAG_ID, BOX, CERTIFICATE, COMPARED, CONFIG, DEVICE, DIFF_NODES, DOT,
+    GOAL_NAMES, GOALS, ID, IDS, KEEP, LAYERS, LOCALES, MAX_NODES, MAYBE_BOX, NAMES, NEW, NOTATION,
+    OLD, OMIT, OVERLAY, RAW, STYLES, TABLE, TARGET, Usage,
 };
 use crate::left::LayerWords;
 use clap::ArgMatches;
@@ -82,12 +82,12 @@ pub(crate) const USAGES: &[Usage] = &[
     Usage {
         name: ROWS,
         about: "Prints the rows of a table, in the order of the file",
-        arguments: &[TABLE],
+        arguments: &[NOTATION, TABLE],
     },
     Usage {
         name: DUMP,
         about: "Prints the packages of a table, and its rows with their names and strings",
-        arguments: &[TABLE],
+        arguments: &[NOTATION, TABLE],
     },
     Usage {
         name: MAP,
@@ -107,27 +107,29 @@ pub(crate) const USAGES: &[Usage] = &[
     Usage {
         name: SHOW,
         about: "Prints a certificate for people, or the tree of one goal as a picture",
-        arguments: &[DOT, LAYERS, CERTIFICATE],
+        arguments: &[RAW, DOT, LAYERS, CERTIFICATE],
     },
     Usage {
         name: QUERY,
         about: "Prints the value that a device loads for each id",
-        arguments: &[LOCALES, NAMES, LAYERS, DEVICE, IDS],
+        arguments: &[LOCALES, NAMES, NOTATION, LAYERS, DEVICE, IDS],
     },
     Usage {
         name: EXPLAIN,
         about: "Prints each candidate for an id, and the rule by which it won or lost",
-        arguments: &[LOCALES, NAMES, LAYERS, DEVICE, ID],
+        arguments: &[LOCALES, NAMES, NOTATION, ALL, LAYERS, DEVICE, ID],
     },
     Usage {
         name: BAG,
         about: "Prints the rows of a style, an array or plurals, with those that it inherits",
-        arguments: &[LOCALES, NAMES, LAYERS, DEVICE, BAG_ID],
+        arguments: &[LOCALES, NAMES, NOTATION, LAYERS, DEVICE, BAG_ID],
     },
     Usage {
         name: ATTR,
         about: "Prints an attribute's value in the theme that those styles build",
-        arguments: &[LOCALES, KEEP, NAMES, LAYERS, DEVICE, ATTRIBUTE, STYLES],
+        arguments: &[
+            LOCALES, KEEP, NAMES, NOTATION, LAYERS, DEVICE, ATTRIBUTE, STYLES,
+        ],
     },
     Usage {
         name: MAKE,
@@ -142,7 +144,7 @@ pub(crate) const USAGES: &[Usage] = &[
     Usage {
         name: DIFF,
         about: "Prints what a change of layers alters, for every device of a box",
-        arguments: &[LOCALES, DIFF_NODES, OLD, NEW, BOX, COMPARED],
+        arguments: &[LOCALES, RAW, DIFF_NODES, OLD, NEW, BOX, COMPARED],
     },
     Usage {
         name: DEVICE_FORM,
@@ -210,9 +212,11 @@ pub(crate) fn request_of<'a>(
     match command {
         Command::Rows => Ok(Request::Rows(Rows {
             table: given_word(given, &TABLE),
+            android: given_flag(given, &NOTATION),
         })),
         Command::Dump => Ok(Request::Dump(Dump {
             table: given_word(given, &TABLE),
+            android: given_flag(given, &NOTATION),
         })),
         Command::Map => Ok(Request::Map(Map {
             target: given_word(given, &TARGET),
@@ -225,6 +229,7 @@ pub(crate) fn request_of<'a>(
         Command::Show => Ok(Request::Show(Show {
             layers: given_word(given, &LAYERS),
             certificate: given_word(given, &CERTIFICATE),
+            form: given_form(given),
             pictured: given_goal_number(given),
         })),
         Command::Query => query_of(alloc, given),
@@ -258,6 +263,7 @@ fn query_of<'a>(alloc: Global, given: &ArgMatches<'a>) -> Result<Request<'a>, Ar
         device: given_word(given, &DEVICE),
         locales,
         names: given_flag(given, &NAMES),
+        android: given_flag(given, &NOTATION),
         words: given_asked(alloc, given, &IDS, Asks::Resources)?,
     }))
 }
@@ -271,6 +277,8 @@ fn explain_of<'a>(given: &ArgMatches<'a>) -> Result<Request<'a>, ArgumentFault<'
         device: given_word(given, &DEVICE),
         locales,
         names: given_flag(given, &NAMES),
+        android: given_flag(given, &NOTATION),
+        all: given_flag(given, &ALL),
         resource: given_named(given, &ID)?,
     }))
 }
@@ -284,6 +292,7 @@ fn bag_of<'a>(given: &ArgMatches<'a>) -> Result<Request<'a>, ArgumentFault<'a>>
         device: given_word(given, &DEVICE),
         locales,
         names: given_flag(given, &NAMES),
+        android: given_flag(given, &NOTATION),
         resource: given_named(given, &BAG_ID)?,
     }))
 }
@@ -298,6 +307,7 @@ fn attr_of<'a>(alloc: Global, given: &ArgMatches<'a>) -> Result<Request<'a>, Arg
         device: given_word(given, &DEVICE),
         locales,
         names: given_flag(given, &NAMES),
+        android: given_flag(given, &NOTATION),
         attr: given_named(given, &ATTRIBUTE)?,
         styles: given_asked(alloc, given, &STYLES, Asks::Resources)?,
         force: !given_flag(given, &KEEP),
@@ -342,6 +352,7 @@ fn diff_of<'a>(alloc: Global, given: &ArgMatches<'a>) -> Result<Request<'a>, Arg
         new: given_word(given, &NEW),
         box_path: given_word(given, &BOX),
         locales,
+        form: given_form(given),
         max_nodes: given_nodes(given),
         words: given_asked(alloc, given, &COMPARED, Asks::Resources)?,
     }))
@@ -383,7 +394,7 @@ pub(crate) fn layer_words<'a>(request: &Request<'a>) -> LayerWords<'a>
 pub(crate) fn answer<'a, I: Inputs, C: Clock, O: Write + Drop, E: Write + Drop>(
     alloc: Global,
     inputs: &I,
-    watch: Watch<'_, C>,
+    mut watch: Watch<'_, C>,
     request: &Request<'a>,
     out: &mut O,
     errors: &mut E,
@@ -406,7 +417,7 @@ pub(crate) fn answer<'a, I: Inputs, C: Clock, O: Write + Drop, E: Write + Drop>(
         Request::Attr(attr) => attr.answer(alloc, inputs, out),
         Request::Make(make) => make.answer(alloc, inputs, watch, out, errors),
         Request::Check(check) => check.answer(alloc, inputs, out, errors),
-        Request::Diff(diff) => diff.answer(alloc, inputs, out),
+        Request::Diff(diff) => diff.answer(alloc, inputs, &mut watch, out),
         Request::Device(form) => form.answer(alloc, inputs, out),
     }
 }

@@ -5,7 +5,7 @@ ghost use Rattle.std.specs.Io.Buffered.{writer_buffer, writer_inner};
 ghost use Rattle.restool.specs.Run.{CarriesOutRequest, Runs};
 
 use crate::ending::{Reported, end, said_beside, written_out};
-use crate::hints::hint_of;
+use crate::hints::{CommandEnd, hint_of, hint_of_words};
 use crate::left::left_lines;
 use crate::request::{Request, answer, layer_words};
 use crate::words::read_words;
@@ -54,11 +54,17 @@ pub fn run_words<I: Inputs, C: Clock, O: Write + Drop, E: Write + Drop>(
             }
         }
         Err(fault) => {
+            let is_terminal = watch.is_terminal;
+            let hint = if is_terminal {
+                hint_of_words(alloc, inputs, words, &fault)
+            } else {
+                None
+            };
             let (mut out, _nothing) = out.into_parts();
             let Reported {
                 status,
                 was_written,
-            } = fault.report(&mut out, errors);
+            } = fault.report(hint.as_deref(), is_terminal, &mut out, errors);
             Ended {
                 status,
                 was_written,
@@ -92,6 +98,7 @@ fn carry_out<'a, I: Inputs, C: Clock, O: Write + Drop, E: Write + Drop>(
         (record { out = writer_inner out; errors = errors.old }) (record { out = result.out; errors = errors.new }) request.now result.outcome }
 {
     let is_terminal = watch.is_terminal;
+    let reached = watch.reached;
     let lines = match left_lines(alloc, inputs, layer_words(request)) {
         Ok(lines) => lines,
         Err(stop) => return unanswered(alloc, inputs, is_terminal, request, stop, out),
@@ -105,7 +112,13 @@ fn carry_out<'a, I: Inputs, C: Clock, O: Write + Drop, E: Write + Drop>(
     };
     let (outcome, out) = written_out(told, out);
     let hint = if is_terminal {
-        hint_of(alloc, inputs, request, &outcome, &said)
+        let ended = CommandEnd {
+            outcome: &outcome,
+            said: &said,
+            left: &lines,
+            reached: reached.get(),
+        };
+        hint_of(alloc, inputs, request, &ended)
     } else {
         None
     };
@@ -127,7 +140,7 @@ fn unanswered<'a, I: Inputs, O: Write + Drop>(
     let (out, _nothing) = out.into_parts();
     let outcome = Err(stop);
     let hint = if is_terminal {
-        hint_of(alloc, inputs, request, &outcome, b"")
+        hint_of(alloc, inputs, request, &CommandEnd::unanswered(&outcome))
     } else {
         None
     };

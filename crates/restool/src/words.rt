@@ -46,6 +46,7 @@ pub fn read_words<'a>(alloc: Global, words: &'a [String]) -> Result<Request<'a>,
     if words.len() <= 1 {
         return Ok(Request::Rows(Rows {
             table: STANDARD_INPUT,
+            android: false,
         }));
     }
     read_command(alloc, words)

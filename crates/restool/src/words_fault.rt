@@ -2,13 +2,14 @@
 
 ghost use Rattle.std.specs.Prelude.{◌≡◌, ◌++◌, ◌∷◌, [], true, false, IfSome, OnOk};
 ghost use Rattle.std.specs.Io.KnownBytes.{Appends};
+ghost use Rattle.std.specs.Option.{option_map};
 ghost use Rattle.contract_words.specs.Writes.{Writes};
 ghost use Rattle.clap.specs.Values.{kind_of};
 ghost use Rattle.restool.specs.declared.words_fault.WordsFault.TheVariants.{OutOfMemory};
 ghost use Rattle.restool.specs.WordsFault.{fault_of_argument, fault_of_kind, is_asked_for};
 
 use crate::argument_fault::ArgumentFault;
-use crate::ending::Reported;
+use crate::ending::{Reported, where_terminal, write_hint};
 use clap::error::ErrorKind;
 use resource_tool::{ExitStatus, ToolFault, fault_text};
 use std::alloc::{AllocError, AllocFailed};
@@ -29,32 +30,58 @@ pub enum WordsFault<'a> {
 }
 
 impl WordsFault<'_> {
+    ghost use Rattle.restool.specs.Ending.{IsTold, hint_line};
     ghost use Rattle.restool.specs.WordsFault.{is_output, words_line, status_after_words};
 
-    /// Says why, on the stream where that belongs, and gives the exit status.
-    pub fn report<O: Write + Drop, E: Write + Drop>(&self, out: &mut O, errors: &mut E) -> Reported
+    /// Says why, on the stream where that belongs, and on a terminal maybe what a person may try, and gives the exit status.
+    pub fn report<O: Write + Drop, E: Write + Drop>(
+        &self,
+        hint: Option<&str>,
+        is_terminal: bool,
+        out: &mut O,
+        errors: &mut E,
+    ) -> Reported
         ensures status { result.status ≡ status_after_words result.was_written self.now }
         ensures line { result.was_written ≡ true → IfSome (words_line self.now)
-            (Appends (E.contents errors.old) (E.contents errors.new)) }
+            (IsTold E.contents is_terminal errors.old errors.new) }
         ensures output { is_output self.now ≡ false → out.new ≡ out.old }
         ensures errors { is_output self.now ≡ true → errors.new ≡ errors.old }
     {
-        let was_written = self.write(out, errors).is_ok();
+        let hint = where_terminal(is_terminal, hint);
+        let was_written = self.write(hint, out, errors).is_ok();
         Reported {
             status: self.status(was_written),
             was_written,
         }
     }
 
-    fn write<O: Write + Drop, E: Write + Drop>(&self, out: &mut O, errors: &mut E) -> io::Result<()>
-        ensures line { OnOk result (IfSome (words_line self.now)
-            (Appends (E.contents errors.old) (E.contents errors.new))) }
+    fn write<O: Write + Drop, E: Write + Drop>(
+        &self,
+        hint: Option<&str>,
+        out: &mut O,
+        errors: &mut E,
+    ) -> io::Result<()>
+        ensures line { OnOk result (IfSome (words_line self.now) (λ line. Appends (E.contents errors.old) (E.contents errors.new)
+            (line ++ hint_line (option_map (λ hint. hint.now) hint.entry)))) }
         ensures output { is_output self.now ≡ false → out.new ≡ out.old }
         ensures errors { is_output self.now ≡ true → errors.new ≡ errors.old }
     {
         match self {
             WordsFault::CommandLine(error) if is_asked_for(error) => write!(out, "{error}"),
             WordsFault::CommandLine(error) => write!(errors, "{error}"),
+            fault => {
+                fault.write_line(errors)?;
+                write_hint(hint, errors)
+            }
+        }
+    }
+
+    // Writes the line that says why. Of a command line clap has the text.
+    fn write_line<E: Write + Drop>(&self, errors: &mut E) -> io::Result<()>
+        ensures { IfSome (words_line self.now) (Writes E.contents errors.old errors.new result) }
+    {
+        match self {
+            WordsFault::CommandLine(_) => Ok(()),
             WordsFault::NotText => errors.write_all(b"command: a word is not UTF-8\n"),
             WordsFault::BadRule(word) => write_line("command: bad rule of locales ", word, errors),
             WordsFault::BadId(word) => write_line("command: bad id ", word, errors),

@@ -8,10 +8,10 @@ use Rattle.stack_diff.specs.declared.difference.Difference.{Difference}
 use Rattle.stack_diff.specs.declared.difference.Difference.TheVariants as differences
 use Rattle.stack_diff.specs.declared.difference.RowDifference.{RowDifference}
 use Rattle.stack_diff.specs.declared.difference.RowDifference.TheVariants as row_differences
-use Rattle.stack_diff.specs.Content.{RowKeyOf, ValueContentOf}
+use Rattle.answer_text.specs.Content.{RowKeyOf, ValueContentOf}
 use Rattle.stack_diff.specs.Difference.{RowDifferenceOf, RowRemoved, RowAdded, RowChanged, DifferenceOf, RowsDiffer, ContentsDiffer}
 use Rattle.stack_diff.specs.DifferenceSeen.{row_difference_of, difference_of}
-use Rattle.stack_diff.proofs.ContentEquality.{both, one_and, same_key, key-Decides, key-told, same_value, value-Decides, value-told, same_row, row-Decides, row-told, rows-told, same_content, content-Decides, content-told}
+use Rattle.answer_text.proofs.ContentEquality.{both, one_and, same_key, key-Decides, key-told, same_value, value-Decides, value-told, same_row, row-Decides, row-told, rows-told, same_content, content-Decides, content-told}
 
 -- ---- two of their views
 

@@ -9,14 +9,14 @@ use Rattle.std.proofs.lemmas.Bool.{cases_Bool}
 use Rattle.std.proofs.lemmas.Slice.Eq.{bytes_eq-Decides}
 use Rattle.answer_text.specs.res_value.declared.value.Value.{Value}
 use Rattle.names.specs.Label.{is_same}
-use Rattle.stack_diff.specs.Content.{ValueContentOf, StringOf, GarbledOf, BrokenOf, ReferenceOf, AttributeOf, OtherOf, RowKeyOf, RowContentOf, ContentOf, ValueOf, BagOf, AbsentOf, TooManyReferencesOf, TooManyParentsOf}
-use Rattle.stack_diff.specs.ReadWord.{kind_read, word_read}
-use Rattle.stack_diff.specs.ReadAlike.{read, value_read, row_read, content_read, are_read_alike, are_alike}
-use Rattle.stack_diff.specs.RowKeys.{key_cmp, is_before}
+use Rattle.answer_text.specs.Content.{ValueContentOf, StringOf, GarbledOf, BrokenOf, ReferenceOf, AttributeOf, OtherOf, RowKeyOf, RowContentOf, ContentOf, ValueOf, BagOf, AbsentOf, TooManyReferencesOf, TooManyParentsOf}
+use Rattle.answer_text.specs.ReadWord.{kind_read, word_read}
+use Rattle.answer_text.specs.ReadAlike.{read, value_read, row_read, content_read, are_read_alike, are_alike}
+use Rattle.answer_text.specs.RowKeys.{key_cmp, is_before}
 use Rattle.stack_diff.specs.Difference.{RowDifferenceOf, RowRemoved, RowAdded, RowChanged, changed_row, row_differences, DifferenceOf, of_rows, difference}
 use Rattle.stack_diff.specs.DifferenceLaw.{DifferenceTells}
-use Rattle.stack_diff.proofs.ContentEquality.{both, one_and, label-Decides, broken-Decides}
-use Rattle.stack_diff.proofs.KeyOrder.{key-antisymm, key-itself, key-exact}
+use Rattle.answer_text.proofs.ContentEquality.{both, one_and, label-Decides, broken-Decides}
+use Rattle.answer_text.proofs.KeyOrder.{key-antisymm, key-itself, key-exact}
 
 -- ---- keys
 

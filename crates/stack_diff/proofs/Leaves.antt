@@ -4,7 +4,7 @@ use Rattle.cert_maker.specs.box_answers.NumberSet.{SetOf}
 use Rattle.cert_maker.specs.box_answers.Members.{IsMember}
 use Rattle.cert_maker.specs.cert_checker.bags_themes.ContentTrace.{content_trace}
 use Rattle.cert_maker.specs.cert_checker.reference_resolver.declared.end.End.{End}
-use Rattle.stack_diff.specs.ContentAt.{end_content, content_at}
+use Rattle.answer_text.specs.ContentAt.{end_content, content_at}
 use Rattle.stack_diff.specs.Difference.{difference}
 use Rattle.stack_diff.proofs.TraceSteps.{trace_tells_content}
 use Rattle.stack_diff.specs.declared.pair.Pair.{Pair}

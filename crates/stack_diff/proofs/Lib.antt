@@ -10,12 +10,8 @@ pub mod FewBoxes
 pub mod Joining
 pub mod Unchanged
 pub mod TraceSteps
-pub mod ContentEquality
-pub mod InOrder
-pub mod KeyOrder
 pub mod DifferenceTells
 pub mod DifferenceEquality
 pub mod RowSteps
-pub mod RowContents
 pub use Rattle.cert_maker.proofs.cert_checker.box_answers
 pub use Rattle.cert_maker.proofs.cert_checker.config_record

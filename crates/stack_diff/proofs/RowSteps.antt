@@ -5,17 +5,17 @@ use Rattle.std.specs.Ordering.{is_lt, ordering_reverse}
 use Rattle.std.specs.declared.cmp.Ordering.{Ordering}
 use Rattle.std.specs.declared.cmp.Ordering.TheVariants.{Less, Equal, Greater}
 use Rattle.std.proofs.lemmas.List.{map-append, append-nil}
-use Rattle.stack_diff.specs.declared.content.RowContent.{RowContent}
+use Rattle.answer_text.specs.declared.content.RowContent.{RowContent}
 use Rattle.stack_diff.specs.declared.difference.RowDifference.{RowDifference}
 use Rattle.stack_diff.specs.declared.difference.RowDifference.TheVariants as of_row
-use Rattle.stack_diff.specs.Content.{RowContentOf}
-use Rattle.stack_diff.specs.ContentSeen.{row_content_of}
-use Rattle.stack_diff.specs.contracts.content.RowKeyOrd.TheImpl.{cmp-value}
-use Rattle.stack_diff.specs.ContentSeen.{row_key_of}
-use Rattle.stack_diff.specs.RowKeys.{is_before}
+use Rattle.answer_text.specs.Content.{RowContentOf}
+use Rattle.answer_text.specs.ContentSeen.{row_content_of}
+use Rattle.answer_text.specs.contracts.content.RowKeyOrd.TheImpl.{cmp-value}
+use Rattle.answer_text.specs.ContentSeen.{row_key_of}
+use Rattle.answer_text.specs.RowKeys.{is_before}
 use Rattle.stack_diff.specs.Difference.{RowDifferenceOf, RowRemoved, RowAdded, changed_row, row_differences}
 use Rattle.stack_diff.specs.DifferenceSeen.{row_difference_of, changed_rows}
-use Rattle.stack_diff.proofs.KeyOrder.{key-ordered, key-antisymm}
+use Rattle.answer_text.proofs.KeyOrder.{key-ordered, key-antisymm}
 use Rattle.stack_diff.proofs.DifferenceTells.{removed_first, added_first, both_first}
 
 -- ---- what is left of two bags

@@ -24,7 +24,7 @@ use Rattle.answer_text.specs.bags_themes.ContentTrace.{ids_behind, content_trace
 use Rattle.answer_text.proofs.bags_themes_proofs.ChainSteps.{chain_of-top, chain_of-deep, chain_of-next}
 use Rattle.answer_text.proofs.bags_themes_proofs.ContentCourses.{bag_here, bag_before}
 use Rattle.answer_text.proofs.reference_resolver.Chains.{ends_within, goes_on_within}
-use Rattle.stack_diff.specs.ContentAt.{bag_content, end_content, content_at}
+use Rattle.answer_text.specs.ContentAt.{bag_content, end_content, content_at}
 use Rattle.stack_diff.specs.TraceLaw.{TraceTellsContent}
 
 -- ---- one look-up

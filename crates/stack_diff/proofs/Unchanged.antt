@@ -4,8 +4,8 @@ use Rattle.std.proofs.lemmas.Bool.{and_parts}
 use Rattle.std.proofs.lemmas.List.Elements.{All-nil}
 use Rattle.cert_maker.specs.res_value.declared.res_id.ResId.{ResId}
 use Rattle.cert_maker.specs.box_answers.NumberSet.{SetOf}
-use Rattle.stack_diff.specs.ContentAt.{content_at}
-use Rattle.stack_diff.specs.ReadAlike.{content_read}
+use Rattle.answer_text.specs.ContentAt.{content_at}
+use Rattle.answer_text.specs.ReadAlike.{content_read}
 use Rattle.stack_diff.specs.Difference.{DifferenceOf}
 use Rattle.stack_diff.proofs.DifferenceTells.{difference_tells}
 use Rattle.config_box.specs.Kinds.{IsOfKinds}

@@ -1,9 +1,9 @@
 -- How two resources differ in what they say.
 use Rattle.std.specs.Prelude.{Bool, false, List, [], ◌∷◌, ◌++◌, map, Option, Some, None, if◌then◌else◌}
 use Rattle.names.specs.Label.{is_same}
-use Rattle.stack_diff.specs.Content.{ValueContentOf, RowKeyOf, RowContentOf, ContentOf, ValueOf, BagOf, AbsentOf, TooManyReferencesOf, TooManyParentsOf}
-use Rattle.stack_diff.specs.ReadAlike.{are_alike}
-use Rattle.stack_diff.specs.RowKeys.{is_before}
+use Rattle.answer_text.specs.Content.{ValueContentOf, RowKeyOf, RowContentOf, ContentOf, ValueOf, BagOf, AbsentOf, TooManyReferencesOf, TooManyParentsOf}
+use Rattle.answer_text.specs.ReadAlike.{are_alike}
+use Rattle.answer_text.specs.RowKeys.{is_before}
 
 -- ---- rows
 

@@ -1,8 +1,8 @@
 -- What is no difference.
 use Rattle.std.specs.Prelude.{◌≡◌, ◌↔◌, None}
-use Rattle.stack_diff.specs.Content.{ContentOf}
+use Rattle.answer_text.specs.Content.{ContentOf}
 use Rattle.stack_diff.specs.Difference.{difference}
-use Rattle.stack_diff.specs.ReadAlike.{content_read}
+use Rattle.answer_text.specs.ReadAlike.{content_read}
 
 -- There is no difference exactly where a device reads the same of both.
 abbrev pub DifferenceTells : Type 0

@@ -1,11 +1,11 @@
 -- How contracts see differences: by what they say, not by their addresses.
 use Rattle.std.specs.Prelude.{List, [], map, Option, Some, None}
-use Rattle.stack_diff.specs.declared.content.RowContent.{RowContent}
+use Rattle.answer_text.specs.declared.content.RowContent.{RowContent}
 use Rattle.stack_diff.specs.declared.difference.RowDifference.{RowDifference}
 use Rattle.stack_diff.specs.declared.difference.RowDifference.TheVariants as of_row
 use Rattle.stack_diff.specs.declared.difference.Difference.{Difference}
 use Rattle.stack_diff.specs.declared.difference.Difference.TheVariants as of_difference
-use Rattle.stack_diff.specs.ContentSeen.{value_content_of, row_key_of, row_content_of, content_of}
+use Rattle.answer_text.specs.ContentSeen.{value_content_of, row_key_of, row_content_of, content_of}
 use Rattle.stack_diff.specs.Difference.{RowDifferenceOf, RowRemoved, RowAdded, RowChanged, changed_row, DifferenceOf, RowsDiffer, ContentsDiffer}
 
 abbrev pub row_difference_of : RowDifference → RowDifferenceOf

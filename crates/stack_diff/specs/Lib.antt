@@ -8,16 +8,7 @@ pub mod NeededTree
 pub mod Tree
 pub mod Grouped
 pub mod Compared
-pub mod Content
-pub mod ContentSeen
-pub mod ReadWord
-pub mod ValueContent
-pub mod InOrder
-pub mod RowKeys
-pub mod ContentAt
 pub mod TraceLaw
-pub mod ReadAlike
-pub mod ValueText
 pub mod Difference
 pub mod DifferenceSeen
 pub mod DifferenceLaw

@@ -2,7 +2,7 @@
 use Rattle.std.specs.Prelude.{ℕ, List, Option}
 use Rattle.cert_maker.specs.cert_checker.reference_resolver.Trace.{Trace}
 use Rattle.cert_maker.specs.cert_checker.bags_themes.ContentTrace.{content_trace}
-use Rattle.stack_diff.specs.ContentAt.{content_at}
+use Rattle.answer_text.specs.ContentAt.{content_at}
 use Rattle.stack_diff.specs.Difference.{DifferenceOf, difference}
 use Rattle.stack_diff.specs.declared.pair.Resource.{Resource}
 use Rattle.stack_diff.specs.declared.pair.Pair.{Pair}

@@ -5,7 +5,7 @@ use Rattle.cert_maker.specs.cert_checker.reference_resolver.Trace.{Trace}
 use Rattle.cert_maker.specs.cert_checker.bags_themes.ContentTrace.{content_trace}
 use Rattle.cert_maker.specs.res_value.declared.res_id.ResId.{ResId}
 use Rattle.names.specs.Packages.{PackageNameOf}
-use Rattle.stack_diff.specs.ContentAt.{content_at}
+use Rattle.answer_text.specs.ContentAt.{content_at}
 use Rattle.stack_diff.specs.Difference.{DifferenceOf, difference}
 use Rattle.stack_diff.specs.declared.stacks.Stacks.{Stacks}
 

@@ -2,7 +2,7 @@
 use Rattle.std.specs.Prelude.{ℕ, ◌≡◌, List}
 use Rattle.answer_text.specs.overlay_map.Layer.{LayerOf}
 use Rattle.answer_text.specs.bags_themes.ContentTrace.{content_trace}
-use Rattle.stack_diff.specs.ContentAt.{content_at}
+use Rattle.answer_text.specs.ContentAt.{content_at}
 
 -- At devices that have one trace an id says the same.
 abbrev pub TraceTellsContent : Type 0

@@ -3,23 +3,23 @@
 ghost use Rattle.std.specs.Prelude.{◌≡◌, ◌++◌, map, None, Some, IfOk, OnOk, if◌then◌else◌};
 ghost use Rattle.std.specs.Option.{option_map, option_to_list};
 ghost use Rattle.answer_text.specs.config_record.DeviceSeen.{device_numbers};
-ghost use Rattle.stack_diff.specs.ContentAt.{end_content, content_at};
-ghost use Rattle.stack_diff.specs.ContentSeen.{row_content_of, content_of};
+ghost use Rattle.answer_text.specs.ContentAt.{end_content, content_at};
+ghost use Rattle.answer_text.specs.ContentSeen.{row_content_of, content_of};
 ghost use Rattle.stack_diff.specs.Difference.{changed_row, row_differences, of_rows, ContentsDiffer, say_same, difference};
 ghost use Rattle.stack_diff.specs.DifferenceSeen.{row_difference_of, changed_rows, difference_of};
 ghost use Rattle.stack_diff.specs.declared.difference.RowDifference.TheVariants.{Removed, Added};
 
-use crate::content::{Content, RowContent, RowKey, ValueContent};
-use crate::device_content::{content_of_end, end_of};
-use crate::read_alike::is_same_label;
-use answer_text::{Device, End, ResId};
+use answer_text::{
+    Content, Device, End, ResId, RowContent, RowKey, ValueContent, content_of_end, end_of,
+    is_same_label,
+};
 use names::NamedStack;
 use std::alloc::{AllocError, Global};
 use std::cmp::Ordering;
 use std::collections::VecDeque;
 
 /// How what a resource says after differs from what it says before.
-#[derive(Debug, PartialEq, Eq, PartialOrd, Ord, Drop)]
+#[derive(PartialEq, Eq, PartialOrd, Ord, Drop)]
 pub enum Difference<'a> {
     /// The rows in which two bags differ, in the order of their keys.
     Rows(Vec<RowDifference<'a>>),
@@ -31,7 +31,7 @@ pub enum Difference<'a> {
 }
 
 /// A row of one bag alone, or two rows of one key whose values a device does not read alike.
-#[derive(Debug, PartialEq, Eq, PartialOrd, Ord, Drop)]
+#[derive(PartialEq, Eq, PartialOrd, Ord, Drop)]
 pub enum RowDifference<'a> {
     Removed(RowContent<'a>),
     Added(RowContent<'a>),
@@ -63,7 +63,7 @@ impl<'a> Difference<'a> {
 /// ```text
 /// let change = difference_at(alloc, &old, old_id, &new, new_id, &phone)?; // dimension 4/2^0 dp -> dimension 3/2^0 dp
 /// ```
-#[tactic(auto, unfolding(crate::specs::ContentAt::content_at))]
+#[tactic(auto, unfolding(answer_text::specs::ContentAt::content_at))]
 pub fn difference_at<'a>(
     alloc: Global,
     old: &NamedStack<'_, 'a>,
@@ -91,8 +91,14 @@ pub fn difference_of_ends<'a>(
     ensures { IfOk result (λ it. option_map difference_of it ≡ difference (end_content old.now old_end (device_numbers device.now)) (end_content new.now new_end (device_numbers device.now))) }
 {
     let before = content_of_end(alloc, old, old_end, device)?;
-    let after = content_of_end(alloc, new, new_end, device)?;
-    difference_between(alloc, before, after)
+    match content_of_end(alloc, new, new_end, device) {
+        Ok(after) => difference_between(alloc, before, after),
+        Err(error) => {
+            // by a call, so that it is not taken apart here
+            drop(before);
+            Err(error)
+        }
+    }
 }
 
 #[tactic(auto, unfolding(crate::specs::Difference::difference))]

@@ -1,9 +1,10 @@
 //! Why a pool, a string or a style is refused.
 
+use std::fmt::{self, Debug, Display, Formatter};
 use thiserror::Error;
 
 /// What is wrong with a pool. Of several faults the first of this list is named.
-#[derive(Clone, Copy, Debug, PartialEq, Eq, Error)]
+#[derive(Clone, Copy, Error)]
 pub enum PoolFault {
     /// The header has fewer than 28 bytes.
     #[error("HeaderSize")]
@@ -16,9 +17,16 @@ pub enum PoolFault {
     Start,
 }
 
+/// By its text.
+impl Debug for PoolFault {
+    fn fmt<W: fmt::Write>(&self, f: &mut Formatter<W>) -> fmt::Result {
+        Display::fmt(self, f)
+    }
+}
+
 /// Why there is no string or style at an index. Of several faults the first on the way through its
 /// bytes is named.
-#[derive(Clone, Copy, Debug, PartialEq, Eq, Error)]
+#[derive(Clone, Copy, Error)]
 pub enum StringFault {
     /// The pool has fewer strings, or styles.
     #[error("NoSuch")]
@@ -29,4 +37,11 @@ pub enum StringFault {
     /// The text is not closed by a zero.
     #[error("NotEnded")]
     NotEnded,
+}
+
+/// By its text.
+impl Debug for StringFault {
+    fn fmt<W: fmt::Write>(&self, f: &mut Formatter<W>) -> fmt::Result {
+        Display::fmt(self, f)
+    }
 }

@@ -2,7 +2,7 @@
 
 /// A run of characters of a string that is marked, as by a tag of HTML (AOSP:
 /// `ResStringPool_span`).
-#[derive(Clone, Copy, Debug, PartialEq, Eq)]
+#[derive(Clone, Copy, Debug)]
 pub struct Span {
     /// The index of the mark's name among the strings of the pool.
     pub name: u32,

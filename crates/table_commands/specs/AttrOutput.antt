@@ -1,5 +1,5 @@
 -- What the command `attr` prints, and what its words ask.
-use Rattle.std.specs.Prelude.{ℕ, Bool, false, List, [], ◌∷◌, ◌++◌, codes, Option, None, Result, Ok, Err}
+use Rattle.std.specs.Prelude.{ℕ, Bool, false, List, [], ◌∷◌, ◌++◌, codes, Option, None, Result, Ok, Err, if◌then◌else◌}
 use Rattle.contract_words.specs.Faults.{◌>>=◌}
 use Rattle.json_input.specs.Each.{each}
 use Rattle.command_base.specs.answer_text.config_record.locales.declared.locale_rule.LocaleRule.{LocaleRule}
@@ -10,15 +10,17 @@ use Rattle.command_base.specs.answer_text.reference_resolver.declared.end.End.{E
 use Rattle.command_base.specs.answer_text.bags_themes.declared.bag_fault.BagFault.{BagFault}
 use Rattle.command_base.specs.answer_text.bags_themes.Theme.{AttributeValues, unset}
 use Rattle.command_base.specs.answer_text.bags_themes.Styles.{values_after_styles}
-use Rattle.command_base.specs.answer_text.bags_themes.Attribute.{attribute_of}
+use Rattle.command_base.specs.answer_text.bags_themes.Attribute.{attribute_of, attributes_followed, slot_of}
 use Rattle.command_base.specs.answer_text.EndText.{end_with_name}
+use Rattle.answer_notation.specs.AttrNotation.{attr_notation}
+use Rattle.answer_notation.specs.Naming.{NamingOf}
 use Rattle.command_base.specs.answer_text.NameText.{name_beside}
 use Rattle.command_base.specs.declared.fault.ToolFault.{ToolFault}
 use Rattle.command_base.specs.declared.status.Status.{Status}
 use Rattle.command_base.specs.declared.stop.Stop.{Stop}
 use Rattle.command_base.specs.CarriesOut.{CarriesOut, found_or_stop, id_named}
 use Rattle.command_base.specs.DeviceText.{DeviceTextOf}
-use Rattle.command_base.specs.DeviceFiles.{AskedBytes, asked_files}
+use Rattle.command_base.specs.DeviceFiles.{AskedBytes, asked_files, paths_asked}
 use Rattle.command_base.specs.FileWords.{set_asked, texts_of}
 use Rattle.command_base.specs.Inputs.{Places}
 use Rattle.command_base.specs.Output.{Output, Prints}
@@ -52,6 +54,20 @@ abbrev pub attr_answer : OpenedOf → ℕ → List ResId → Bool → Bool → O
 attr_answer asked attr styles force names =
     end_or_reason asked.stack attr asked.device names (values_after_styles asked.stack force styles unset asked.device)
 
+-- The same in Android's notation, where the tables of the layers lie at these paths.
+
+abbrev pub told_or_reason : NamingOf → Bool → ℕ → List ℕ → List ResId → Result AttributeValues BagFault → Output
+told_or_reason naming force attr d styles (Ok values) = record {
+  status = status_of_end (attribute_of naming.stack values attr d);
+  text = attr_notation naming force attr d styles (slot_of values attributes_followed attr);
+}
+told_or_reason naming force attr d styles (Err fault) = no_bag fault
+
+abbrev pub attr_in_notation : OpenedOf → List (List ℕ) → ℕ → List ResId → Bool → Output
+attr_in_notation asked paths attr styles force =
+    told_or_reason (record { stack = asked.stack; paths = paths }) force attr asked.device styles
+    (values_after_styles asked.stack force styles unset asked.device)
+
 -- What `attr` prints of these layers, a device's text, an attribute and styles, with or without force, without names.
 unfoldable pub attr_output : List LayerBytes → List ℕ → ℕ → List ResId → Bool → Result Output ToolFault
 attr_output layers device_json attr styles force = do
@@ -79,10 +95,16 @@ attr_opened rule layers device attr words = do
   styles ← found_or_stop (ids_named opened.stack sets)
   Ok (record { opened = opened; attr = attr; styles = styles })
 
+-- what is printed, in Android's notation or with or without names, where the tables of the layers lie at these paths
+abbrev pub attr_printed : Bool → Bool → Bool → List (List ℕ) → OpenAttrOf → Output
+attr_printed android names force paths asked =
+    if android then attr_in_notation asked.opened paths asked.attr.0 asked.styles force
+    else attr_answer asked.opened asked.attr.0 asked.styles force names
+
 -- the answer from the files, if they are read
 abbrev pub PrintsAttrFiles : {W : Type 0} → (W → Option (List ℕ)) → W → W → Attr → Result AskedBytes StopOf → Result Status Stop → Type 0
 PrintsAttrFiles contents old new attr read result =
-    CarriesOut (λ asked done. Prints contents old new done (Ok (attr_answer asked.opened asked.attr.0 asked.styles attr.force attr.names)))
+    CarriesOut (λ asked done. Prints contents old new done (Ok (attr_printed attr.android attr.names attr.force (paths_asked read) asked)))
     (read >>= λ files. attr_opened attr.locales files.layers files.device (named_of attr.attr) files.words) result
 
 -- the answer from what the places have

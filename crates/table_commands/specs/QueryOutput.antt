@@ -11,13 +11,14 @@ use Rattle.command_base.specs.overlay_map.Layer.{LayerOf}
 use Rattle.command_base.specs.answer_text.reference_resolver.declared.end.End.{End}
 use Rattle.command_base.specs.answer_text.reference_resolver.Ends.{references_followed, end_of}
 use Rattle.command_base.specs.answer_text.QueryText.{query_line, set_aside_line}
+use Rattle.answer_notation.specs.EndNotation.{ends_notation}
 use Rattle.command_base.specs.declared.fault.ToolFault.{ToolFault}
 use Rattle.command_base.specs.declared.status.Status.{Status}
 use Rattle.command_base.specs.declared.status.Status.TheVariants.{Done, Negative}
 use Rattle.command_base.specs.declared.stop.Stop.{Stop}
 use Rattle.command_base.specs.CarriesOut.{CarriesOut, found_or_stop}
 use Rattle.command_base.specs.DeviceText.{DeviceTextOf}
-use Rattle.command_base.specs.DeviceFiles.{AskedBytes, asked_files}
+use Rattle.command_base.specs.DeviceFiles.{AskedBytes, asked_files, paths_asked}
 use Rattle.command_base.specs.FileWords.{set_asked, texts_of}
 use Rattle.command_base.specs.Inputs.{Places}
 use Rattle.command_base.specs.Output.{Output, Prints}
@@ -55,6 +56,14 @@ query_text stack device ids names = flat_map (line_of stack device names) ids ++
 abbrev pub query_answer : OpenedOf → List ResId → Bool → Output
 query_answer asked ids names = record { status = query_status asked.stack asked.device ids; text = query_text asked.stack asked.device ids names }
 
+-- What it prints in Android's notation, where the tables of the layers lie at these paths.
+unfoldable pub notation_text : List LayerOf → List (List ℕ) → List ℕ → List ResId → List ℕ
+notation_text stack paths device ids =
+    ends_notation (record { stack = stack; paths = paths }) device ids ++ set_aside_line (rows_set_aside (rule_of (device_locale device)) stack)
+
+abbrev pub query_notation : OpenedOf → List (List ℕ) → List ResId → Output
+query_notation asked paths ids = record { status = query_status asked.stack asked.device ids; text = notation_text asked.stack paths asked.device ids }
+
 -- What `query` prints of these layers, a device's text and these ids, without names.
 unfoldable pub query_output : List LayerBytes → List ℕ → List ResId → Result Output ToolFault
 query_output layers device_json ids = do
@@ -79,10 +88,15 @@ query_opened rule layers device words = do
   ids ← found_or_stop (ids_named opened.stack sets)
   Ok (record { opened = opened; ids = ids })
 
+-- what is printed of them, in Android's notation or with or without names, where the tables of the layers lie at these paths
+abbrev pub query_printed : Bool → Bool → List (List ℕ) → OpenQueryOf → Output
+query_printed android names paths asked =
+    if android then query_notation asked.opened paths asked.ids else query_answer asked.opened asked.ids names
+
 -- the answer from the files, if they are read
 abbrev pub QueriesFiles : {W : Type 0} → (W → Option (List ℕ)) → W → W → Query → Result AskedBytes StopOf → Result Status Stop → Type 0
 QueriesFiles contents old new query read result =
-    CarriesOut (λ asked done. Prints contents old new done (Ok (query_answer asked.opened asked.ids query.names)))
+    CarriesOut (λ asked done. Prints contents old new done (Ok (query_printed query.android query.names (paths_asked read) asked)))
     (read >>= λ files. query_opened query.locales files.layers files.device files.words) result
 
 -- the answer from what the places have

@@ -1,8 +1,9 @@
 -- What the commands print that are asked for one table, `rows` and `dump`, or for layers alone, `ids`, and what their words ask.
-use Rattle.std.specs.Prelude.{ℕ, ◌++◌, ◌∷◌, [], List, None, Option, Result, Ok, Err}
+use Rattle.std.specs.Prelude.{ℕ, Bool, ◌++◌, ◌∷◌, [], List, None, Option, Result, Ok, Err, if◌then◌else◌}
 use Rattle.command_base.specs.answer_text.type_chunks.declared.fault.TableFault.{TableFault}
 use Rattle.command_base.specs.answer_text.resource_table.Table.{TableOf, table_in}
 use Rattle.command_base.specs.answer_text.RowsText.{rows_text}
+use Rattle.answer_notation.specs.TableNotation.{rows_notation, dump_notation}
 use Rattle.command_base.specs.answer_text.DumpText.{dump_text}
 use Rattle.command_base.specs.declared.fault.ToolFault.{ToolFault}
 use Rattle.command_base.specs.ToolFault.{fault_of_table}
@@ -37,6 +38,14 @@ rows_output bytes = output_of rows_text (table_in bytes)
 abbrev pub dump_output : List ℕ → Result Output ToolFault
 dump_output bytes = output_of dump_text (table_in bytes)
 
+-- the same, where they may be asked for in Android's notation
+
+abbrev pub rows_printed : Bool → List ℕ → Result Output ToolFault
+rows_printed android bytes = if android then output_of rows_notation (table_in bytes) else rows_output bytes
+
+abbrev pub dump_printed : Bool → List ℕ → Result Output ToolFault
+dump_printed android bytes = if android then output_of dump_notation (table_in bytes) else dump_output bytes
+
 -- ---- the ids of base layers
 
 -- an id, and behind it the names of the first row that it has in a base layer
@@ -56,11 +65,11 @@ ids_output layers = do
 
 abbrev pub PrintsRows : {W : Type 0} → (W → Option (List ℕ)) → W → W → Places → Rows → Result Status Stop → Type 0
 PrintsRows contents old new places rows result =
-    CarriesOut (λ bytes done. Prints contents old new done (rows_output bytes)) (table_of places rows.table.now) result
+    CarriesOut (λ bytes done. Prints contents old new done (rows_printed rows.android bytes)) (table_of places rows.table.now) result
 
 abbrev pub PrintsDump : {W : Type 0} → (W → Option (List ℕ)) → W → W → Places → Dump → Result Status Stop → Type 0
 PrintsDump contents old new places dump result =
-    CarriesOut (λ bytes done. Prints contents old new done (dump_output bytes)) (table_of places dump.table.now) result
+    CarriesOut (λ bytes done. Prints contents old new done (dump_printed dump.android bytes)) (table_of places dump.table.now) result
 
 abbrev pub ListsIds : {W : Type 0} → (W → Option (List ℕ)) → W → W → Places → Ids → Result Status Stop → Type 0
 ListsIds contents old new places ids result =

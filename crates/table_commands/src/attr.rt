@@ -10,12 +10,13 @@ ghost use Rattle.command_base.specs.Stop.{GivesOrStops};
 ghost use Rattle.command_base.specs.declared.fault.ToolFault.TheVariants.{Write};
 ghost use Rattle.command_base.specs.names.Named.{named_of};
 ghost use Rattle.table_commands.specs.OpenedSeen.{opened_of};
-ghost use Rattle.table_commands.specs.AttrOutput.{attribute_line, attr_answer, attr_output, attr_seen, attr_opened, PrintsAttr, PrintsAttrFiles};
+ghost use Rattle.table_commands.specs.AttrOutput.{attribute_line, attr_answer, attr_in_notation, attr_printed, attr_output, attr_seen, attr_opened, PrintsAttr, PrintsAttrFiles};
 ghost use Rattle.command_base.specs.CarriesOut.{IsKept};
 
 use crate::end_status::status_of_end;
 use crate::no_bag::print_no_bag;
 use crate::opened::Opened;
+use answer_notation::{Naming, attr_text};
 use answer_text::{NamesBeside, write_end_with_name, write_id};
 use command_base::{
     AskedFiles, DeviceText, End, Inputs, LayerParts, LocaleRule, Named, ResId, Status, Stop, Theme,
@@ -36,6 +37,8 @@ pub struct Attr<'a> {
     pub locales: LocaleRule,
     /// Whether the name of each id is printed beside it.
     pub names: bool,
+    /// Whether it is printed in Android's notation, where each id is told by its name.
+    pub android: bool,
     /// Whether the styles are applied with force.
     pub force: bool,
     /// The attribute, by its id or by its name.
@@ -77,7 +80,14 @@ impl<'a> Attr<'a> {
             self.attr,
             &files.words,
         )?;
-        Ok(asked.print(alloc, self.force, self.names, out)?)
+        Ok(asked.print(
+            alloc,
+            self.android,
+            self.names,
+            self.force,
+            files.layers.paths(),
+            out,
+        )?)
     }
 }
 
@@ -114,18 +124,25 @@ impl<'a> OpenAttr<'a> {
         })
     }
 
+    // The tables of the layers lie at these paths.
     fn print<W: Write + Drop>(
         &self,
         alloc: Global,
-        force: bool,
+        android: bool,
         names: bool,
+        force: bool,
+        paths: &[String],
         out: &mut W,
     ) -> Result<Status, ToolFault>
-        ensures { Prints W.contents out.old out.new result
-            (Ok (attr_answer (attr_seen self.now).opened (attr_seen self.now).attr.0 (attr_seen self.now).styles force names)) }
+        ensures { Prints W.contents out.old out.new result (Ok (attr_printed android names force (map string_bytes paths.now) (attr_seen self.now))) }
     {
-        self.opened
-            .attr(alloc, self.attr, &self.styles, force, names, out)
+        if android {
+            self.opened
+                .attr_in_notation(alloc, paths, self.attr, &self.styles, force, out)
+        } else {
+            self.opened
+                .attr(alloc, self.attr, &self.styles, force, names, out)
+        }
     }
 }
 
@@ -169,6 +186,30 @@ impl Opened<'_> {
                 let end = theme.attribute(&self.stack, attr, &self.device);
                 write_attribute(&names, attr, end, out)?;
                 Ok(status_of_end(end))
+            }
+            Err(fault) => print_no_bag(fault, out),
+        }
+    }
+
+    /// The same in Android's notation, where the tables of the layers lie at these paths.
+    pub fn attr_in_notation<W: Write + Drop>(
+        &self,
+        alloc: Global,
+        paths: &[String],
+        attr: ResId,
+        styles: &[ResId],
+        force: bool,
+        out: &mut W,
+    ) -> Result<Status, ToolFault>
+        ensures { Prints W.contents out.old out.new result (Ok (attr_in_notation (opened_of self.now) (map string_bytes paths.now) attr.0 styles.now force)) }
+    {
+        let naming = Naming::of(alloc, &self.stack, paths)?;
+        match Theme::of_styles(alloc, &self.stack, styles, force, &self.device) {
+            Ok(theme) => {
+                let slot = theme.slot(attr);
+                let text = attr_text(&naming, &self.device, force, attr, styles, slot)?;
+                out.write_all(&text)?;
+                Ok(status_of_end(theme.attribute(&self.stack, attr, &self.device)))
             }
             Err(fault) => print_no_bag(fault, out),
         }

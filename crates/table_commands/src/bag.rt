@@ -1,18 +1,20 @@
 //! The command `bag`.
 
-ghost use Rattle.std.specs.Prelude.{◌≡◌, map, Ok, IfSome};
+ghost use Rattle.std.specs.Prelude.{◌≡◌, map, string_bytes, Ok, IfSome};
 ghost use Rattle.std.specs.List.{flat_map};
 ghost use Rattle.contract_words.specs.Writes.{Writes};
 ghost use Rattle.command_base.specs.FilesSeen.{device_held};
 ghost use Rattle.command_base.specs.Output.{Prints};
 ghost use Rattle.command_base.specs.StackBytesSeen.{layer_bytes};
 ghost use Rattle.command_base.specs.declared.fault.ToolFault.TheVariants.{Write};
-ghost use Rattle.table_commands.specs.OpenedSeen.{opened_of};
-ghost use Rattle.table_commands.specs.BagOutput.{id_and_layer, bag_row_line, bag_answer, bag_output, PrintsBag, PrintsBagFiles};
+ghost use Rattle.table_commands.specs.OpenedSeen.{opened_of, id_seen};
+ghost use Rattle.table_commands.specs.BagOutput.{id_and_layer, bag_row_line, bag_answer, bag_in_notation, bag_printed, bag_output, PrintsBag, PrintsBagFiles};
 ghost use Rattle.command_base.specs.CarriesOut.{IsKept};
 
 use crate::no_bag::print_no_bag;
 use crate::opened::{OpenId, Opened};
+use crate::text::print_text;
+use answer_notation::{Naming, bag_text};
 use answer_text::{NamesBeside, bag, write_id, write_layer, write_value};
 use command_base::{
     BagRow, DeviceFiles, Inputs, LayerParts, LocaleRule, Named, ResId, Status, Stop, ToolFault,
@@ -31,6 +33,8 @@ pub struct Bag<'a> {
     pub locales: LocaleRule,
     /// Whether the name of each id is printed beside it.
     pub names: bool,
+    /// Whether they are printed in Android's notation, where each id is told by its name.
+    pub android: bool,
     /// The resource, by its id or by its name.
     pub resource: Named<'a>,
 }
@@ -61,7 +65,26 @@ impl<'a> Bag<'a> {
     {
         let layers = files.layers.layers(alloc)?;
         let asked = OpenId::open(alloc, &layers, &files.device, self.locales, self.resource)?;
-        Ok(asked.opened.bag(alloc, asked.id, self.names, out)?)
+        Ok(asked.bag(alloc, self, files.layers.paths(), out)?)
+    }
+}
+
+impl OpenId<'_> {
+    // The tables of the layers lie at these paths.
+    fn bag<W: Write + Drop>(
+        &self,
+        alloc: Global,
+        asked: &Bag<'_>,
+        paths: &[String],
+        out: &mut W,
+    ) -> Result<Status, ToolFault>
+        ensures { Prints W.contents out.old out.new result (Ok (bag_printed asked.now (map string_bytes paths.now) (id_seen self.now))) }
+    {
+        if asked.android {
+            self.opened.bag_in_notation(alloc, paths, self.id, out)
+        } else {
+            self.opened.bag(alloc, self.id, asked.names, out)
+        }
     }
 }
 
@@ -97,6 +120,26 @@ impl Opened<'_> {
             Ok(rows) => {
                 write_rows(&names, rows.as_slice(), out)?;
                 Ok(Status::Done)
+            }
+            Err(fault) => print_no_bag(fault, out),
+        }
+    }
+
+    /// The same in Android's notation, where the tables of the layers lie at these paths.
+    pub fn bag_in_notation<W: Write + Drop>(
+        &self,
+        alloc: Global,
+        paths: &[String],
+        id: ResId,
+        out: &mut W,
+    ) -> Result<Status, ToolFault>
+        ensures { Prints W.contents out.old out.new result (Ok (bag_in_notation (opened_of self.now) (map string_bytes paths.now) id.0)) }
+    {
+        let naming = Naming::of(alloc, &self.stack, paths)?;
+        match bag(alloc, &self.stack, id, &self.device) {
+            Ok(rows) => {
+                let text = bag_text(&naming, id, rows.as_slice())?;
+                print_text(&text, out)
             }
             Err(fault) => print_no_bag(fault, out),
         }

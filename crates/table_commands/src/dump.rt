@@ -3,9 +3,12 @@
 ghost use Rattle.std.specs.Prelude.{◌≡◌, IfSome};
 ghost use Rattle.command_base.specs.Output.{Prints};
 ghost use Rattle.command_base.specs.declared.fault.ToolFault.TheVariants.{Write};
-ghost use Rattle.table_commands.specs.TableOutput.{dump_output, PrintsDump};
+ghost use Rattle.table_commands.specs.TableOutput.{output_of, dump_output, dump_printed, PrintsDump};
+ghost use Rattle.answer_notation.specs.TableNotation.{dump_notation};
+ghost use Rattle.command_base.specs.answer_text.resource_table.Table.{table_in};
 ghost use Rattle.command_base.specs.CarriesOut.{IsKept};
 
+use crate::text::print_text;
 use answer_text::dump_text;
 use command_base::{Inputs, Status, Stop, Table, ToolFault, table_file};
 use std::alloc::Global;
@@ -16,6 +19,8 @@ use std::io::Write;
 pub struct Dump<'a> {
     /// Where the table lies; `-` is the standard input.
     pub table: &'a str,
+    /// Whether they are printed in Android's notation.
+    pub android: bool,
 }
 
 impl<'a> Dump<'a> {
@@ -30,7 +35,7 @@ impl<'a> Dump<'a> {
         ensures unwritten { IsKept out.old out.new result }
     {
         let file = table_file(inputs, self.table)?;
-        Ok(dump_bytes(alloc, file.table(), out)?)
+        Ok(dump_printed(alloc, self.android, file.table(), out)?)
     }
 }
 
@@ -46,4 +51,32 @@ pub fn dump_bytes<W: Write + Drop>(
     let table = Table::open(alloc, table)?;
     dump_text(&table, out)?;
     Ok(Status::Done)
+}
+
+fn dump_printed<W: Write + Drop>(
+    alloc: Global,
+    android: bool,
+    table: &[u8],
+    out: &mut W,
+) -> Result<Status, ToolFault>
+    ensures { Prints W.contents out.old out.new result (dump_printed android table.now) }
+{
+    if android {
+        dump_in_notation(alloc, table, out)
+    } else {
+        dump_bytes(alloc, table, out)
+    }
+}
+
+// Prints the same in Android's notation.
+fn dump_in_notation<W: Write + Drop>(
+    alloc: Global,
+    table: &[u8],
+    out: &mut W,
+) -> Result<Status, ToolFault>
+    ensures { Prints W.contents out.old out.new result (output_of dump_notation (table_in table.now)) }
+{
+    let opened = Table::open(alloc, table)?;
+    let text = answer_notation::dump_text(alloc, opened)?;
+    print_text(&text, out)
 }

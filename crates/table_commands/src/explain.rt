@@ -1,17 +1,18 @@
 //! The command `explain`.
 
-ghost use Rattle.std.specs.Prelude.{map, Ok, IfSome};
+ghost use Rattle.std.specs.Prelude.{map, string_bytes, Ok, IfSome};
 ghost use Rattle.command_base.specs.FilesSeen.{device_held};
 ghost use Rattle.command_base.specs.Output.{Prints};
 ghost use Rattle.command_base.specs.StackBytesSeen.{layer_bytes};
 ghost use Rattle.command_base.specs.declared.fault.ToolFault.TheVariants.{Write};
 ghost use Rattle.table_commands.specs.OpenedSeen.{opened_of, id_seen};
-ghost use Rattle.table_commands.specs.ExplainOutput.{explain_answer, explain_output, Explains, ExplainsFiles};
+ghost use Rattle.table_commands.specs.ExplainOutput.{explain_answer, explain_in_notation, explain_printed, explain_output, Explains, ExplainsFiles};
 ghost use Rattle.command_base.specs.CarriesOut.{IsKept};
 
 use crate::end_status::status_of_end;
 use crate::opened::{OpenId, Opened};
-use answer_text::{NamesBeside, explain};
+use answer_notation::{Naming, explain_text};
+use answer_text::{NamesBeside, explain, resolve};
 use command_base::{
     DeviceFiles, Inputs, LayerParts, LocaleRule, Named, ResId, Status, Stop, ToolFault,
 };
@@ -29,6 +30,10 @@ pub struct Explain<'a> {
     pub locales: LocaleRule,
     /// Whether the name of each id is printed beside it.
     pub names: bool,
+    /// Whether it is printed in Android's notation, where each id is told by its name.
+    pub android: bool,
+    /// Whether candidates that do not match are printed in Android's notation too.
+    pub all: bool,
     /// The resource, by its id or by its name.
     pub resource: Named<'a>,
 }
@@ -59,20 +64,27 @@ impl<'a> Explain<'a> {
     {
         let layers = files.layers.layers(alloc)?;
         let asked = OpenId::open(alloc, &layers, &files.device, self.locales, self.resource)?;
-        Ok(asked.explain(alloc, self.names, out)?)
+        Ok(asked.explain(alloc, self, files.layers.paths(), out)?)
     }
 }
 
 impl OpenId<'_> {
+    // The tables of the layers lie at these paths.
     fn explain<W: Write + Drop>(
         &self,
         alloc: Global,
-        names: bool,
+        asked: &Explain<'_>,
+        paths: &[String],
         out: &mut W,
     ) -> Result<Status, ToolFault>
-        ensures { Prints W.contents out.old out.new result (Ok (explain_answer (id_seen self.now).opened (id_seen self.now).id.0 names)) }
+        ensures { Prints W.contents out.old out.new result (Ok (explain_printed asked.now (map string_bytes paths.now) (id_seen self.now))) }
     {
-        self.opened.explain(alloc, self.id, names, out)
+        if asked.android {
+            self.opened
+                .explain_in_notation(alloc, paths, asked.all, self.id, out)
+        } else {
+            self.opened.explain(alloc, self.id, asked.names, out)
+        }
     }
 }
 
@@ -108,5 +120,23 @@ impl Opened<'_> {
         let names = NamesBeside::of(alloc, &self.stack, names)?;
         let end = explain(&names, id, &self.device, out)?;
         Ok(status_of_end(end))
+    }
+
+    /// The same in Android's notation, where the tables of the layers lie at these paths; of all candidates, or of those that
+    /// match.
+    pub fn explain_in_notation<W: Write + Drop>(
+        &self,
+        alloc: Global,
+        paths: &[String],
+        all: bool,
+        id: ResId,
+        out: &mut W,
+    ) -> Result<Status, ToolFault>
+        ensures { Prints W.contents out.old out.new result (Ok (explain_in_notation (opened_of self.now) (map string_bytes paths.now) all id.0)) }
+    {
+        let naming = Naming::of(alloc, &self.stack, paths)?;
+        let text = explain_text(&naming, all, &self.device, id)?;
+        out.write_all(&text)?;
+        Ok(status_of_end(resolve(&self.stack, id, &self.device)))
     }
 }

@@ -46,6 +46,7 @@ mod no_bag;
 mod opened;
 mod query;
 mod rows;
+mod text;
 
 pub use attr::{Attr, attr_bytes};
 pub use bag::{Bag, bag_bytes};

@@ -1,8 +1,13 @@
 //! The command `query`.
 
-ghost use Rattle.std.specs.Prelude.{◌≡◌, map, string_bytes, Ok, IfOk, IfSome};
+ghost use Rattle.std.specs.Prelude.{◌≡◌, ◌++◌, map, string_bytes, Ok, IfOk, IfSome};
 ghost use Rattle.contract_words.specs.Writes.{Writes};
 ghost use Rattle.command_base.specs.answer_text.config_record.DeviceSeen.{device_numbers};
+ghost use Rattle.std.specs.List.{list_any};
+ghost use Rattle.command_base.specs.SetAside.{rows_set_aside};
+ghost use Rattle.command_base.specs.answer_text.QueryText.{set_aside_line};
+ghost use Rattle.command_base.specs.answer_text.config_record.Device.{device_locale};
+ghost use Rattle.command_base.specs.answer_text.config_record.locales.LocaleRule.{rule_of};
 ghost use Rattle.command_base.specs.DeviceText.{device_text_of};
 ghost use Rattle.command_base.specs.FilesSeen.{asked_held};
 ghost use Rattle.command_base.specs.Output.{Prints};
@@ -10,15 +15,16 @@ ghost use Rattle.command_base.specs.StackBytesSeen.{layer_bytes};
 ghost use Rattle.command_base.specs.Stop.{GivesOrStops};
 ghost use Rattle.command_base.specs.declared.fault.ToolFault.TheVariants.{Write};
 ghost use Rattle.table_commands.specs.OpenedSeen.{opened_of};
-ghost use Rattle.table_commands.specs.QueryOutput.{end_for, line_of, query_status, query_text, query_answer, query_output, query_seen, query_opened, Queries, QueriesFiles};
+ghost use Rattle.table_commands.specs.QueryOutput.{end_for, is_unresolved_for, line_of, query_status, query_text, query_answer, query_notation, query_printed, query_output, query_seen, query_opened, Queries, QueriesFiles};
 ghost use Rattle.command_base.specs.CarriesOut.{IsKept};
 
 use crate::end_status::is_unresolved;
 use crate::opened::Opened;
+use answer_notation::{Naming, ends_text};
 use answer_text::{NamesBeside, query_line, resolve, set_aside_line};
 use command_base::{
-    AskedFiles, Device, DeviceText, End, Inputs, LayerParts, LocaleRule, ResId, Status, Stop,
-    ToolFault, asked_sets, rows_set_aside,
+    AskedFiles, Device, DeviceText, End, Inputs, LayerParts, LocaleRule, ResId, Stack, Status,
+    Stop, ToolFault, asked_sets, rows_set_aside,
 };
 use names::ids_named;
 use std::alloc::Global;
@@ -35,6 +41,8 @@ pub struct Query<'a> {
     pub locales: LocaleRule,
     /// Whether the name of each id is printed beside it.
     pub names: bool,
+    /// Whether they are printed in Android's notation, where each id is told by its name.
+    pub android: bool,
     /// The words that ask for resources, or name a file of such words.
     pub words: Vec<&'a str>,
 }
@@ -65,7 +73,7 @@ impl<'a> Query<'a> {
     {
         let layers = files.layers.layers(alloc)?;
         let asked = OpenQuery::open(alloc, &layers, &files.device, self.locales, &files.words)?;
-        Ok(asked.print(alloc, self.names, out)?)
+        Ok(asked.print(alloc, self.android, self.names, files.layers.paths(), out)?)
     }
 }
 
@@ -95,15 +103,22 @@ impl<'a> OpenQuery<'a> {
         Ok(OpenQuery { opened, ids })
     }
 
+    // The tables of the layers lie at these paths.
     fn print<W: Write + Drop>(
         &self,
         alloc: Global,
+        android: bool,
         names: bool,
+        paths: &[String],
         out: &mut W,
     ) -> Result<Status, ToolFault>
-        ensures { Prints W.contents out.old out.new result (Ok (query_answer (query_seen self.now).opened (query_seen self.now).ids names)) }
+        ensures { Prints W.contents out.old out.new result (Ok (query_printed android names (map string_bytes paths.now) (query_seen self.now))) }
     {
-        self.opened.query(alloc, &self.ids, names, out)
+        if android {
+            self.opened.query_in_notation(alloc, paths, &self.ids, out)
+        } else {
+            self.opened.query(alloc, &self.ids, names, out)
+        }
     }
 }
 
@@ -138,6 +153,55 @@ impl Opened<'_> {
         let names = NamesBeside::of(alloc, &self.stack, names)?;
         Ok(write_ends(&names, &self.device, ids, out)?)
     }
+
+    /// The same in Android's notation, where the tables of the layers lie at these paths.
+    #[tactic(auto, unfolding(crate::specs::QueryOutput::notation_text))]
+    pub fn query_in_notation<W: Write + Drop>(
+        &self,
+        alloc: Global,
+        paths: &[String],
+        ids: &[ResId],
+        out: &mut W,
+    ) -> Result<Status, ToolFault>
+        ensures { Prints W.contents out.old out.new result (Ok (query_notation (opened_of self.now) (map string_bytes paths.now) ids.now)) }
+    {
+        let naming = Naming::of(alloc, &self.stack, paths)?;
+        let text = ends_text(&naming, &self.device, ids)?;
+        write_notation(&self.stack, &self.device, &text, out)?;
+        Ok(status_of_ids(&self.stack, &self.device, ids))
+    }
+}
+
+// Writes the lines of ids, and one with the number of rows that are set aside.
+fn write_notation<W: Write + Drop>(
+    stack: &Stack<'_>,
+    device: &Device,
+    lines: &[u8],
+    out: &mut W,
+) -> io::Result<()>
+    ensures { Writes W.contents out.old out.new result
+        (lines.now ++ set_aside_line (rows_set_aside (rule_of (device_locale (device_numbers device.now))) stack.now)) }
+{
+    out.write_all(lines)?;
+    let rule = LocaleRule::of(device.locale());
+    set_aside_line(rows_set_aside(stack, rule), out)
+}
+
+fn status_of_ids(stack: &Stack<'_>, device: &Device, ids: &[ResId]) -> Status
+    ensures { result ≡ query_status stack.now (device_numbers device.now) ids.now }
+{
+    if has_unresolved(stack, device, ids) {
+        Status::Negative
+    } else {
+        Status::Done
+    }
+}
+
+fn has_unresolved(stack: &Stack<'_>, device: &Device, ids: &[ResId]) -> bool
+    ensures { result ≡ list_any (is_unresolved_for stack.now (device_numbers device.now)) ids.now }
+{
+    ids.iter()
+        .any(|id| is_unresolved(resolve(stack, *id, device)))
 }
 
 // Writes a line for each id, and one with the number of rows that are set aside.

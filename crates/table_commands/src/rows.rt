@@ -3,9 +3,12 @@
 ghost use Rattle.std.specs.Prelude.{◌≡◌, IfSome};
 ghost use Rattle.command_base.specs.Output.{Prints};
 ghost use Rattle.command_base.specs.declared.fault.ToolFault.TheVariants.{Write};
-ghost use Rattle.table_commands.specs.TableOutput.{rows_output, PrintsRows};
+ghost use Rattle.table_commands.specs.TableOutput.{output_of, rows_output, rows_printed, PrintsRows};
+ghost use Rattle.answer_notation.specs.TableNotation.{rows_notation};
+ghost use Rattle.command_base.specs.answer_text.resource_table.Table.{table_in};
 ghost use Rattle.command_base.specs.CarriesOut.{IsKept};
 
+use crate::text::print_text;
 use answer_text::rows_text;
 use command_base::{Inputs, Status, Stop, Table, ToolFault, table_file};
 use std::alloc::Global;
@@ -16,6 +19,8 @@ use std::io::Write;
 pub struct Rows<'a> {
     /// Where the table lies; `-` is the standard input.
     pub table: &'a str,
+    /// Whether they are printed in Android's notation.
+    pub android: bool,
 }
 
 impl<'a> Rows<'a> {
@@ -30,7 +35,7 @@ impl<'a> Rows<'a> {
         ensures unwritten { IsKept out.old out.new result }
     {
         let file = table_file(inputs, self.table)?;
-        Ok(rows_bytes(alloc, file.table(), out)?)
+        Ok(rows_printed(alloc, self.android, file.table(), out)?)
     }
 }
 
@@ -46,4 +51,32 @@ pub fn rows_bytes<W: Write + Drop>(
     let table = Table::open(alloc, table)?;
     rows_text(&table, out)?;
     Ok(Status::Done)
+}
+
+fn rows_printed<W: Write + Drop>(
+    alloc: Global,
+    android: bool,
+    table: &[u8],
+    out: &mut W,
+) -> Result<Status, ToolFault>
+    ensures { Prints W.contents out.old out.new result (rows_printed android table.now) }
+{
+    if android {
+        rows_in_notation(alloc, table, out)
+    } else {
+        rows_bytes(alloc, table, out)
+    }
+}
+
+// Prints the same in Android's notation.
+fn rows_in_notation<W: Write + Drop>(
+    alloc: Global,
+    table: &[u8],
+    out: &mut W,
+) -> Result<Status, ToolFault>
+    ensures { Prints W.contents out.old out.new result (output_of rows_notation (table_in table.now)) }
+{
+    let opened = Table::open(alloc, table)?;
+    let text = answer_notation::rows_text(alloc, opened)?;
+    print_text(&text, out)
 }

@@ -1,9 +1,8 @@
-//! Calls over the bytes of tables, of certificates and of devices, over layers that tables are put into, and of parts.
+//! Calls over the bytes of tables, of certificates and of devices, over as many layers as there can be, and of parts.
 
 mod certificates;
 mod full;
 mod lines;
-mod pairs;
 mod parts;
 mod tables;
 
@@ -19,12 +18,9 @@ pub fn call(rt: &HostRuntime, words: &[String]) -> Result<(), Fail> {
         "Table::find" => tables::names(rt, given),
         "Cert::write" => certificates::written(rt, given),
         "config_line_by" => lines::line(rt, given),
-        "print_config_by" => lines::printed(rt, given),
-        "write_device_json" => lines::json(rt, given, word(words, 2)),
         "Device::check" => parts::device(rt),
         "Goal::attr" => parts::goal(rt),
         "Stack::push_base" => full::base(rt, given),
-        "Stack::push_overlay" => full::overlay(rt, given),
-        _ => pairs::told(rt, given, word(words, 2)),
+        _ => full::overlay(rt, given),
     }
 }

@@ -1,9 +1,9 @@
-//! What is lent from the bytes of the input: it outlives the table and the stack that gave it. So does what all members of a
-//! box have in common outlive the styles that were asked. Each function that lends it ends what it is lent from.
+//! What is lent from the bytes of the input: it outlives the table and the stack that gave it. Each function that lends it
+//! ends what it is lent from.
 
-use crate::layers::{Malformed, push_base, push_overlay, stack_of_base};
-use crate::marked::{begin, bytes_of, end, tell, tell_found, word};
-use cert_checker::{CommonTrace, ConfigBox, Coord, OpenBox, ResId, Stack};
+use crate::layers::{Malformed, push_base, push_overlay};
+use crate::marked::{bytes_of, tell, word};
+use cert_checker::{Coord, ResId, Stack};
 use res_value::Cell;
 use resource_table::{Row, Table};
 use std::alloc::Global;
@@ -13,16 +13,13 @@ use string_pool::Text;
 /// The resource of entry 0.
 const FIRST: ResId = ResId(0x7f01_0000);
 
-const ATTRIBUTE: ResId = ResId(0x0101_0001);
-
 /// Makes the call that the first word names, of the other words.
 pub fn call(rt: &HostRuntime, words: &[String]) -> Result<(), Fail> {
     let bytes = bytes_of(rt.alloc(), word(words, 1))?;
     let more = bytes_of(rt.alloc(), word(words, 2))?;
     match word(words, 0) {
         "Table::all_rows" => tell_parts(rt, &bytes),
-        "Stack::candidates" => tell_candidates(rt, &bytes, &more, word(words, 3)),
-        _ => tell_common(rt, &bytes, &more),
+        _ => tell_candidates(rt, &bytes, &more, word(words, 3)),
     }
 }
 
@@ -50,7 +47,9 @@ fn parts_of(alloc: Global, bytes: &[u8]) -> Option<(Row<'_>, Text<'_>)> {
 fn tell_candidates(rt: &HostRuntime, base: &[u8], overlay: &[u8], map: &str) -> Result<(), Fail> {
     let cells = cells_of(rt.alloc(), base, overlay, map).ok_or(Malformed)?;
     for cell in &cells {
-        tell(rt, *cell);
+        if let Cell::Plain(value) = cell {
+            tell(rt, *value);
+        }
     }
     Ok(())
 }
@@ -69,22 +68,4 @@ fn cells_of<'a>(
         cells.push(candidate.row.cell).ok()?;
     }
     Some(cells)
-}
-
-// Tells what all members of a box have in common of the attribute under the style that the first entry is.
-fn tell_common(rt: &HostRuntime, bytes: &[u8], json: &[u8]) -> Result<(), Fail> {
-    let stack = stack_of_base(rt.alloc(), bytes).ok_or(Malformed)?;
-    let members = ConfigBox::read(rt.alloc(), json)?;
-    tell(rt, common(rt, &stack, members)?);
-    Ok(())
-}
-
-fn common<'a>(
-    rt: &HostRuntime,
-    stack: &Stack<'a>,
-    members: ConfigBox,
-) -> Result<CommonTrace<'a>, Fail> {
-    let styles = vec![in rt.alloc(); FIRST]?;
-    let mut whole = OpenBox::whole_of_attribute(rt.alloc(), stack, ATTRIBUTE, &styles, members)?;
-    Ok(whole.common_trace(rt.alloc(), stack)?)
 }

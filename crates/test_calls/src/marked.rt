@@ -12,5 +12,5 @@ mod writer;
 pub(crate) use arguments::{word, words};
 pub(crate) use given_bytes::bytes_of;
 pub(crate) use marks::{begin, end};
-pub(crate) use told::{tell, tell_found};
+pub(crate) use told::{tell, tell_end};
 pub(crate) use writer::Writer;

@@ -4,12 +4,13 @@ ghost use Rattle.std.specs.Prelude.{◌≡◌};
 ghost use Rattle.type_chunks.specs.declared.fault.TableFault.TheVariants.{Chunk as in_chunk, OutOfMemory};
 
 use std::alloc::{AllocError, AllocFailed};
+use std::fmt::{self, Debug, Display, Formatter};
 use string_pool::{ChunkFault, PoolFault};
 use thiserror::Error;
 
 /// What is wrong with a table: the first fault in the order of the file, with the place of the
 /// chunk, entry or value that has it, from the file's first byte.
-#[derive(Clone, Copy, Debug, PartialEq, Eq, Error)]
+#[derive(Clone, Copy, Error)]
 pub enum TableFault {
     /// A chunk does not stand as a chunk has to.
     #[error("Chunk {0}")]
@@ -48,6 +49,13 @@ pub enum TableFault {
     Value(usize),
     #[error("OutOfMemory")]
     OutOfMemory,
+}
+
+/// By its text.
+impl Debug for TableFault {
+    fn fmt<W: fmt::Write>(&self, f: &mut Formatter<W>) -> fmt::Result {
+        Display::fmt(self, f)
+    }
 }
 
 impl From<ChunkFault> for TableFault {

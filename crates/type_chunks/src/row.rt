@@ -5,7 +5,7 @@ use res_value::{Cell, ResId};
 
 /// An entry of a type chunk (AOSP: `ResTable_entry`) with what it inherits from its chunk, spec and
 /// package. What it lends is lent from the bytes of the table.
-#[derive(Clone, Copy, Debug)]
+#[derive(Clone, Copy)]
 pub struct Row<'a> {
     pub id: ResId,
     /// The configuration that the row is for.

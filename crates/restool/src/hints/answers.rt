@@ -1,49 +1,65 @@
 //! Hints behind answers that say no.
 
 use crate::command_line::MOST_NODES;
+use crate::hints::Asked;
 use crate::request::Request;
+use command_base::Inputs;
+use resource_tool::Reached;
 use std::alloc::Global;
-use std::str;
 
 /// What is printed where trees have too many nodes.
 const NODE_LIMIT: &[u8] = b"node limit\n";
 
-/// How the first line of a verdict ends where goals are others than those of the certificate.
-const OTHER_GOALS: &str = " N1 GoalList";
+/// How it begins where a goal has no value on a device.
+const COUNTEREXAMPLE: &[u8] = b"counter goal ";
+
+/// An id map without a pair.
+const NOTHING_MAPS: &[u8] = b"[]\n";
 
 /// How many times more nodes are proposed than were allowed.
 const MORE: u32 = 10;
 
-/// A hint behind what a command wrote to its output.
-pub(crate) fn hint_of_answer(alloc: Global, request: &Request<'_>, said: &[u8]) -> Option<String> {
-    match request {
-        Request::Make(make) if said == NODE_LIMIT => hint_of_limit(alloc, make.max_nodes),
-        Request::Diff(diff) if said == NODE_LIMIT => hint_of_limit(alloc, diff.max_nodes),
-        Request::Check(check) if has_other_goals(said) => format!(in alloc;
-            "{} is of other goals than these, maybe of another build, whose ids differ; its own: restool show {} {}",
-            check.certificate, check.layers, check.certificate
-        )
-        .ok(),
-        _ => None,
+impl<I: Inputs> Asked<'_, '_, I> {
+    /// A hint behind what a command wrote to its output, which came so far.
+    pub(crate) fn hint_of_answer(&self, said: &[u8], reached: Reached) -> Option<String> {
+        let alloc = self.alloc;
+        match self.request {
+            Request::Make(make) if said == NODE_LIMIT => {
+                hint_of_limit(alloc, make.max_nodes, reached, "goals")
+            }
+            Request::Diff(diff) if said == NODE_LIMIT => {
+                hint_of_limit(alloc, diff.max_nodes, reached, "names")
+            }
+            Request::Make(_) if said.starts_with(COUNTEREXAMPLE) => format!(in alloc;
+                "--omit leaves out goals without a value on some device, and tells them"
+            ).ok(),
+            Request::Map(_) if said == NOTHING_MAPS => format!(in alloc;
+                "nothing of the overlay maps: is it made for this target?"
+            ).ok(),
+            Request::Check(check) => self.hint_of_verdict(check, said),
+            _ => None,
+        }
     }
 }
 
-fn hint_of_limit(alloc: Global, max_nodes: u32) -> Option<String> {
-    if max_nodes >= MOST_NODES {
-        return format!(in alloc; "ask for fewer goals at a time, or make the box smaller").ok();
+// How far it came over goals or names, and what allows more.
+fn hint_of_limit(alloc: Global, most: u32, reached: Reached, what: &str) -> Option<String> {
+    let came = came_so_far(alloc, most, reached, what)?;
+    if most >= MOST_NODES {
+        return format!(in alloc;
+            "{came}; ask for fewer {what} at a time, or make the box smaller"
+        ).ok();
     }
-    let more = max_nodes.saturating_mul(MORE).min(MOST_NODES);
+    let more = most.saturating_mul(MORE).min(MOST_NODES);
     format!(in alloc;
-        "the trees have more than {max_nodes} nodes; --max-nodes {more} allows more, fewer goals or a smaller box need less"
+        "{came}; --max-nodes {more} allows more, fewer {what} or a smaller box need less"
     ).ok()
 }
 
-fn has_other_goals(said: &[u8]) -> bool {
-    match str::from_utf8(said) {
-        Ok(text) => match text.lines().next() {
-            Some(line) => line.ends_with(OTHER_GOALS),
-            None => false,
-        },
-        Err(_) => false,
+fn came_so_far(alloc: Global, most: u32, reached: Reached, what: &str) -> Option<String> {
+    let Reached { done, all } = reached;
+    if done == 0 && all > most as usize {
+        return format!(in alloc; "there are more {what} than {most}, the limit of nodes").ok();
     }
+    format!(in alloc; "{done} of {all} {what} were done with at most {most} nodes").ok()
 }

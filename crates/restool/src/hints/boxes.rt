@@ -24,7 +24,12 @@ pub(crate) fn hint_of_box(
         BoxFault::Shape => hint_of_shape(alloc, &members),
         BoxFault::FieldRange(Coord::Locale) => hint_of_locales(alloc, &members, rule),
         BoxFault::FieldRange(coord) => hint_of_range(alloc, &members, coord),
-        BoxFault::Density => hint_of_range(alloc, &members, Coord::Density),
+        BoxFault::Density => match hint_of_range(alloc, &members, Coord::Density) {
+            Some(hint) => Some(hint),
+            None => format!(in alloc;
+                "give the densities, as \"density\":[160,320] or \"density\":{{\"from\":120,\"to\":640}}"
+            ).ok(),
+        },
         _ => None,
     }
 }

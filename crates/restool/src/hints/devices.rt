@@ -51,7 +51,8 @@ fn hint_of_shape(alloc: Global, device: &Value) -> Option<String> {
     None
 }
 
-fn is_fit(coord: Coord, value: &Value) -> bool {
+/// Whether a value is of the kind that a qualifier has in a device.
+pub(crate) fn is_fit(coord: Coord, value: &Value) -> bool {
     match coord {
         Coord::Locale => value.is_string(),
         _ => value.as_u64().is_some(),
@@ -68,6 +69,14 @@ fn hint_of_unfit(alloc: Global, coord: Coord, value: &Value) -> Option<String> {
     match coord {
         Coord::Locale => format!(in alloc; "\"locale\" takes a text, as \"es-MX\"").ok(),
         _ => hint_of_value(alloc, coord, value),
+    }
+}
+
+/// What is wrong with a device that is written as words, and has no part that is wrong.
+pub(crate) fn hint_of_line(alloc: Global, fault: DeviceFault) -> Option<String> {
+    match fault {
+        DeviceFault::Density => format!(in alloc; "add the density, as xhdpi or 560dpi").ok(),
+        _ => None,
     }
 }
 

@@ -50,6 +50,18 @@ impl<'a> Request<'a> {
         }
     }
 
+    /// The words that ask for resources or goals, where several may stand.
+    pub(crate) fn words(&self) -> &[&'a str] {
+        match self {
+            Request::Query(query) => &query.words,
+            Request::Attr(attr) => &attr.styles,
+            Request::Make(make) => &make.goals,
+            Request::Check(check) => &check.goals,
+            Request::Diff(diff) => &diff.words,
+            _ => &[],
+        }
+    }
+
     pub(crate) fn certificate(&self) -> Option<&'a str> {
         match self {
             Request::Show(show) => Some(show.certificate),

@@ -23,21 +23,25 @@ impl<'w> Nearest<'w> {
 
     /// Keeps a text where none before is as near.
     pub(crate) fn offer(&mut self, alloc: Global, text: &str) -> Option<()> {
+        self.offer_as(alloc, text, text)
+    }
+
+    /// The same, where another text stands for it.
+    pub(crate) fn offer_as(&mut self, alloc: Global, text: &str, word: &str) -> Option<()> {
         if text.len().abs_diff(self.wanted.len()) >= self.too_many {
             return Some(());
         }
         let edits = levenshtein(alloc, self.wanted, text).ok()?;
         if edits < self.too_many {
             self.too_many = edits;
-            self.found = Some(String::from_str(alloc, text).ok()?);
+            self.found = Some(String::from_str(alloc, word).ok()?);
         }
         Some(())
     }
 
-    /// Takes a text that nothing is nearer than.
-    pub(crate) fn take(&mut self, text: String) {
-        self.too_many = 0;
-        self.found = Some(text);
+    /// Whether what was found is as near as what another has found.
+    pub(crate) fn is_as_near_as(&self, other: &Nearest<'_>) -> bool {
+        self.found.is_some() && self.too_many <= other.too_many
     }
 
     pub(crate) fn found(self) -> Option<String> {

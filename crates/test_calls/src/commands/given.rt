@@ -29,7 +29,7 @@ fn fail_each_write(rt: &HostRuntime, asked: &Asked<'_>, writes: usize) -> Result
     for place in 1..=writes {
         let mut failing = Writer::failing_at(rt.alloc(), place)?;
         let ended = asked.answer(rt.alloc(), &mut failing);
-        if ended != Err(ToolFault::Write) || failing.calls != place {
+        if !matches!(ended, Err(ToolFault::Write)) || failing.calls != place {
             tell(rt, (place, failing.calls, ended));
         }
     }

@@ -4,6 +4,7 @@ use crate::marked::{begin, end, tell};
 use cert_checker::{
     Choice, ConfigBox, Coord, Live, Locale, OutOfMemory, ResId, Split, Stack, Test,
 };
+use res_value::Cell;
 use std::test::Fail;
 
 /// The resource of entry 0.
@@ -38,7 +39,9 @@ fn tell_live(rt: &HostRuntime, found: Result<Live<'_>, OutOfMemory>) {
     match found {
         Ok(live) => {
             for (candidate, is_marked) in live.list() {
-                tell(rt, (candidate.row.cell, *is_marked));
+                if let Cell::Plain(value) = candidate.row.cell {
+                    tell(rt, (value, *is_marked));
+                }
             }
         }
         Err(fault) => tell(rt, fault),

@@ -1,7 +1,7 @@
 //! Themes of two styles, the bags of entries 0 and 1.
 
 use crate::layers::{Malformed, device_of};
-use crate::marked::{begin, end, tell};
+use crate::marked::{begin, end, tell, tell_end};
 use bags_themes::{Device, ResId, Stack, Theme};
 use std::test::Fail;
 
@@ -48,6 +48,6 @@ fn apply(
 // Tells where the attributes of a theme end.
 fn tell_theme(rt: &HostRuntime, stack: &Stack<'_>, theme: &Theme, device: &Device) {
     for attr in ATTRS {
-        tell(rt, theme.attribute(stack, attr, device));
+        tell_end(rt, theme.attribute(stack, attr, device));
     }
 }

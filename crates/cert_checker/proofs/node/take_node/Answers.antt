@@ -6,7 +6,7 @@ use Rattle.std.specs.List.{All}
 use Rattle.box_trace.specs.reference_resolver.Trace.{Trace}
 use Rattle.box_trace.specs.declared.open_box.OpenBox.{OpenBox}
 use Rattle.box_trace.specs.OpenBox.{boxes_of, IsReached}
-use Rattle.box_trace.proofs.OpenBoxes.{boxes-push}
+use Rattle.box_trace.proofs.OpenBoxSteps.{boxes-push}
 use Rattle.std.specs.declared.alloc.AllocError.{AllocError}
 use Rattle.cert_tree.specs.config_box.Tests.{test_of}
 use Rattle.cert_tree.specs.declared.node.Node.{Node}

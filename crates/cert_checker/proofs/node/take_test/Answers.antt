@@ -1,7 +1,7 @@
 use Rattle.std.proofs.Common.{true, false, List, Some, sym, subst}
 use Rattle.std.proofs.lemmas.List.Elements.{All-same, All-push}
 use Rattle.box_trace.specs.OpenBox.{boxes_of, IsReached}
-use Rattle.box_trace.proofs.OpenBoxes.{boxes-push}
+use Rattle.box_trace.proofs.OpenBoxSteps.{boxes-push}
 use Rattle.cert_tree.specs.box_answers.NumberSet.{SetOf}
 use Rattle.cert_tree.specs.box_answers.Members.{IsMember}
 use Rattle.cert_tree.specs.config_box.declared.split.Split.{Split}

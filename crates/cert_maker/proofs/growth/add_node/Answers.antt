@@ -9,7 +9,7 @@ use Rattle.cert_checker.specs.box_trace.CommonTrace.{IsCommonTrace}
 use Rattle.cert_checker.specs.box_trace.OpenBox.{boxes_of}
 use Rattle.cert_checker.specs.cert_tree.Certificate.{node_of}
 use Rattle.cert_checker.specs.FirstFault.{goal_trace}
-use Rattle.cert_checker.proofs.box_trace.OpenBoxes.{rest_of, reached_there, told_in_place}
+use Rattle.cert_checker.proofs.box_trace.OpenBoxSteps.{rest_of, reached_there, told_in_place}
 use Rattle.cert_maker.specs.Growth.{Grows}
 use Rattle.cert_maker.proofs.GoalLayers.{goal-below}
 use Rattle.cert_maker.proofs.Cut.{needed-by-trace}

@@ -9,7 +9,7 @@ use Rattle.cert_checker.specs.cert_tree.Certificate.{node_of}
 use Rattle.cert_checker.specs.cert_tree.declared.node.Node.TheVariants as code
 use Rattle.cert_checker.specs.declared.rule.Rule.TheVariants.{TestKind, EmptyHalf}
 use Rattle.cert_checker.proofs.BoxSteps.{pushed}
-use Rattle.cert_checker.proofs.box_trace.OpenBoxes.{boxes-push}
+use Rattle.cert_checker.proofs.box_trace.OpenBoxSteps.{boxes-push}
 use Rattle.cert_maker.proofs.Steps.{grows-test, map-push}
 use Rattle.cert_maker.proofs.growth.add_test.Goals as goal
 

@@ -6,7 +6,7 @@ use Rattle.cert_checker.specs.cert_tree.Certificate.{node_of}
 use Rattle.cert_checker.specs.FirstFault.{goal_trace}
 use Rattle.cert_checker.specs.box_trace.declared.open_box.OpenBox.{OpenBox}
 use Rattle.cert_checker.specs.box_trace.OpenBox.{boxes_of, IsReached}
-use Rattle.cert_checker.proofs.box_trace.OpenBoxes.{boxes-push}
+use Rattle.cert_checker.proofs.box_trace.OpenBoxSteps.{boxes-push}
 use Rattle.cert_maker.proofs.Steps.{when-none, when-some}
 use Rattle.cert_maker.proofs.Loop.{started, goes-on, done-passes, done-needed, done-fits, too-large, member-of-whole}
 use Rattle.cert_maker.proofs.tree.grow_nodes.Goals as goal

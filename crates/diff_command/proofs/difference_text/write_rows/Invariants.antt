@@ -6,4 +6,4 @@ use Rattle.diff_command.proofs.difference_text.write_rows.Given as goal
 
 abbrev pub invariant-loop-row : goal.invariant-loop-row
 invariant-loop-row g l =
-    PutsAllBut (row_line l.packages) (g.W.Write.contents l.fn.out) (g.W.Write.contents l.out) (map row_difference_of l.rows) (map row_difference_of (drop l.row-index l.rows))
+    PutsAllBut (row_line l.form l.packages) (g.W.Write.contents l.fn.out) (g.W.Write.contents l.out) (map row_difference_of l.rows) (map row_difference_of (drop l.row-index l.rows))

@@ -16,14 +16,14 @@ returns-in-Some-clause-judged c =
     let ids : ℕ × ℕ = (c.in-Both.old.0, c.in-Both.new.0) in
     let found : get ids_cmp c.args.kept.now ids ≡ Some c.in-Some.judged.now = sym c.get.ensures.value ∙ ap option_copied c.in-Some.is in
     let right = c.requires ids c.in-Some.judged.now found in
-    if-ok c.within.result _ (IsJudged stacks sets c.args.sides c.args.most)
-    (λ judged all. subst (λ (sides : Sides). IsJudged stacks sets sides c.args.most judged) (sym c.in-Both.is) (all stacks sets (Both c.in-Both.old c.in-Both.new) right)) c.within.ensures
+    if-ok c.within.result _ (IsJudged c.args.form stacks sets c.args.sides c.args.most)
+    (λ judged all. subst (λ (sides : Sides). IsJudged c.args.form stacks sets sides c.args.most judged) (sym c.in-Both.is) (all c.args.form stacks sets (Both c.in-Both.old c.in-Both.new) right)) c.within.ensures
 
 pub returns-in_ok-insert-in-Both-clause-kept : goal.returns-in_ok-insert-in-Both-clause-kept
 returns-in_ok-insert-in-Both-clause-kept c =
     let stacks = stacks_of c.args.stacks in
     let sets = c.args.members.now in
     let sides : Sides = Both c.in-Both.old c.in-Both.new in
-    let right = (subst (λ (judged : Option Judged). IsJudged stacks sets sides c.args.most judged) c.in-Some-2.is c.in_ok-judged-in-Both.ensures).0 in
-    kept-more stacks sets c.args.kept.now c.insert.new.self c.in-Both.old c.in-Both.new c.in_ok-shared-in-Both.field-0 c.requires c.in_ok-insert-in-Both.ensures.updates.0
-    (right-shared stacks sets sides c.in-Some-2.judged c.in_ok-shared-in-Both.field-0 c.in_ok-shared-in-Both.ensures.told c.in_ok-shared-in-Both.ensures.nodes right)
+    let right = (subst (λ (judged : Option Judged). IsJudged c.args.form stacks sets sides c.args.most judged) c.in-Some-2.is c.in_ok-judged-in-Both.ensures).0 in
+    kept-more c.args.form stacks sets c.args.kept.now c.insert.new.self c.in-Both.old c.in-Both.new c.in_ok-shared-in-Both.field-0 c.requires c.in_ok-insert-in-Both.ensures.updates.0
+    (right-shared c.args.form stacks sets sides c.in-Some-2.judged c.in_ok-shared-in-Both.field-0 c.in_ok-shared-in-Both.ensures.told c.in_ok-shared-in-Both.ensures.nodes right)

@@ -7,8 +7,8 @@ use Rattle.diff_command.specs.Telling.{IsTold, HaveTrees}
 use Rattle.diff_command.proofs.judged.tell_all.Given as goal
 
 abbrev pub invariant-loop-pair : goal.invariant-loop-pair
-invariant-loop-pair l = record {
-  told : AllZip (λ pair one. IsTold (stacks_of l.stacks) l.members pair.sides one) (map pair_of (take l.pair-index l.pairs)) (map told_of l.told.items);
+invariant-loop-pair g l = record {
+  told : AllZip (λ pair one. IsTold l.form (stacks_of l.stacks) l.members pair.sides one) (map pair_of (take l.pair-index l.pairs)) (map told_of l.told.items);
   trees : HaveTrees (stacks_of l.stacks) l.members (map pair_of (take l.pair-index l.pairs)) (λ nodes. nodes + l.spare ≡ l.max_nodes);
-  kept : IsKept (stacks_of l.stacks) l.members l.kept;
+  kept : IsKept l.form (stacks_of l.stacks) l.members l.kept;
 }

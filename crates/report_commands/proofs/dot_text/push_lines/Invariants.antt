@@ -6,4 +6,4 @@ use Rattle.report_commands.specs.DotText.{statements_text}
 use Rattle.report_commands.proofs.dot_text.push_lines.Given as goal
 
 abbrev pub invariant-loop-line : goal.invariant-loop-line
-invariant-loop-line l = PutsAllBut (statements_text l.stack) (Some l.initial.text.items) (Some l.text.items) (map line_of l.lines) (map line_of (drop l.line-index l.lines))
+invariant-loop-line l = PutsAllBut (statements_text l.form l.stack) (Some l.initial.text.items) (Some l.text.items) (map line_of l.lines) (map line_of (drop l.line-index l.lines))

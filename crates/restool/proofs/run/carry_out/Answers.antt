@@ -1,4 +1,4 @@
-use Rattle.std.proofs.Common.{◌≡◌, refl, ap, ◌∙◌}
+use Rattle.std.proofs.Common.{◌≡◌, ap, ◌∙◌}
 use Rattle.std.specs.Io.Buffered.{writer_inner}
 use Rattle.restool.specs.Request.{layer_words}
 use Rattle.restool.specs.Left.{name_overlays, words_seen}

@@ -8,8 +8,3 @@ returns-in-Ok g c =
       rw (← c.in-Ok.is) c.read_words.ensures,
       (c.carry_out-outcome.new.errors, c.carry_out-outcome.result.outcome, c.carry_out-outcome.ensures, c.end-status.ensures),
     )
-
-pub returns-in-Err : goal.returns-in-Err
-returns-in-Err g c =
-    let told = c.report-status.ensures in
-    inl (c.in-Err.fault, rw (← c.in-Err.is) c.read_words.ensures, rw (← c.into_parts-out.ensures.inner) (told.status, told.line, told.output, told.errors))

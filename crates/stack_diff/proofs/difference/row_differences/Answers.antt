@@ -1,6 +1,6 @@
 use Rattle.stack_diff.proofs.RowSteps.{rows-done, no-rows, first-is, takes-first, row-removed_alone, row-added_alone, row-removed, row-added, row-both}
 use Rattle.std.proofs.Common.{◌++◌, map, Option, None, refl, sym, ◌∙◌, ap}
-use Rattle.stack_diff.specs.declared.content.RowContent.{RowContent}
+use Rattle.answer_text.specs.declared.content.RowContent.{RowContent}
 use Rattle.stack_diff.specs.DifferenceSeen.{row_difference_of, changed_rows}
 use Rattle.stack_diff.proofs.difference.row_differences.Goals as goal
 

@@ -2,7 +2,7 @@ use Rattle.std.proofs.Common.{sym, ◌∙◌, ap, subst}
 use Rattle.cert_maker.specs.cert_checker.reference_resolver.Trace.{Trace}
 use Rattle.cert_maker.specs.cert_checker.box_trace.declared.common.CommonTrace.{CommonTrace}
 use Rattle.cert_maker.specs.cert_checker.box_trace.CommonTrace.{IsCommonTrace}
-use Rattle.cert_maker.proofs.cert_checker.box_trace.OpenBoxes.{told_in_place}
+use Rattle.cert_maker.proofs.cert_checker.box_trace.OpenBoxSteps.{told_in_place}
 use Rattle.stack_diff.proofs.pair_box.trace_in.Goals as goal
 
 pub returns-in-One-clause-trace : goal.returns-in-One-clause-trace

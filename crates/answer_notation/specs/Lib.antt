@@ -1,0 +1,11 @@
+pub mod Naming
+pub mod TableNotation
+pub mod EndNotation
+pub mod BagNotation
+pub mod AttrNotation
+pub mod DecisionWords
+pub mod Columns
+pub mod ColumnsSeen
+pub mod ExplainNotation
+pub mod TracedSeen
+pub use Rattle.answer_text.specs as answer_text

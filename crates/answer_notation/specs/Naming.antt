@@ -1,0 +1,47 @@
+-- What stands in answers for ids, values, layers and configurations, in Android's notation.
+use Rattle.std.specs.Prelude.{ℕ, ◌==◌, List, slice_get, Option, Some, None, if◌then◌else◌}
+use Rattle.std.specs.List.{list_all}
+use Rattle.std.specs.Char.{is_ascii_graphic}
+use Rattle.notation.specs.FormatsText.{formats_text}
+use Rattle.res_value.specs.declared.value.Value.{Value}
+use Rattle.answer_text.specs.overlay_map.Layer.{LayerOf}
+use Rattle.names.specs.IdLabel.{label_of_id}
+use Rattle.names.specs.LabelText.{label_text}
+use Rattle.names.specs.NamedIds.{packages_of}
+use Rattle.names.specs.Quoted.{quoted_text}
+use Rattle.answer_text.specs.LayerText.{layer_text}
+use Rattle.answer_text.specs.ValueContent.{value_content}
+use Rattle.answer_text.specs.ValueNotation.{value_notation}
+
+-- A stack, and the paths of the tables of its layers.
+pub record NamingOf : Type 0 where
+  pub stack : List LayerOf
+  pub paths : List (List ℕ)
+
+-- an id, by what it is called
+unfoldable pub id_notation : NamingOf → ℕ → List ℕ
+id_notation naming id = label_text (packages_of naming.stack) (label_of_id naming.stack id)
+
+-- what a value says that a row of the layer at a place holds
+unfoldable pub value_at : NamingOf → ℕ → Value → List ℕ
+value_at naming layer value = value_notation (packages_of naming.stack) (value_content naming.stack layer value)
+
+-- the name of the row by which an attribute says what it may be (AOSP: ResTable_map::ATTR_TYPE)
+abbrev pub formats_name : ℕ
+formats_name = 0x01000000
+
+-- what a row of a bag says that has a name: formats by their words, and any other value as above
+unfoldable pub row_value_at : NamingOf → ℕ → ℕ → Value → List ℕ
+row_value_at naming layer name value = if name == formats_name then formats_text value else value_at naming layer value
+
+-- a path of characters of ASCII that are seen, as it is; any other between quotes, as strings are
+unfoldable pub path_notation : List ℕ → List ℕ
+path_notation path = if list_all is_ascii_graphic path then path else quoted_text path
+
+abbrev pub path_or_place : Option (List ℕ) → ℕ → List ℕ
+path_or_place (Some path) place = path_notation path
+path_or_place None place = layer_text place
+
+-- the layer at a place, by the path of its table; one without a path is `layer L`
+unfoldable pub layer_notation : NamingOf → ℕ → List ℕ
+layer_notation naming place = path_or_place (slice_get naming.paths place) place

@@ -1,0 +1,163 @@
+//! What stands in answers for ids, values and layers.
+
+ghost use Rattle.std.specs.Prelude.{◌≡◌};
+ghost use Rattle.std.specs.List.{list_all};
+ghost use Rattle.std.specs.Char.{is_ascii_graphic};
+ghost use Rattle.contract_words.specs.Writes.{Writes};
+ghost use Rattle.answer_notation.specs.Naming.{path_notation};
+
+use answer_text::{
+    Keys, ResId, Stack, Value, value_content, write_key_notation, write_layer, write_value_notation,
+};
+use names::{NamedStack, PackageNames, write_quoted};
+use notation::write_formats;
+use std::alloc::{AllocError, Global};
+use std::io::{self, Write};
+use std::marker::Model;
+
+/// The name of the row by which an attribute says what it may be (AOSP: `ResTable_map::ATTR_TYPE`).
+const FORMATS: ResId = ResId(0x0100_0000);
+
+/// A stack with its names, and the paths of the tables of its layers. Contracts see it as the stack and the paths.
+#[derive(Drop)]
+pub struct Naming<'s, 'a, 'p> {
+    alloc: Global,
+    stack: NamedStack<'s, 'a>,
+    packages: PackageNames<'a>,
+    paths: &'p [String],
+}
+
+impl<'s, 'a, 'p> Model for Naming<'s, 'a, 'p> {
+    ghost use Rattle.std.specs.Prelude.{◌≡◌, map, string_bytes};
+    ghost use Rattle.names.specs.NamedIds.{packages_of};
+    ghost use Rattle.answer_notation.specs.Naming.{NamingOf};
+
+    ghost Value = { NamingOf };
+
+    ghost view = { λ naming. record { stack = naming.stack; paths = map string_bytes naming.paths.now } };
+
+    ghost invariant = { λ naming. naming.packages ≡ packages_of naming.stack };
+}
+
+impl<'s, 'a, 'p> Naming<'s, 'a, 'p> {
+    ghost use Rattle.std.specs.Prelude.{◌≡◌, map, string_bytes, IfOk};
+    ghost use Rattle.contract_words.specs.Writes.{Writes};
+    ghost use Rattle.answer_notation.specs.Naming.{id_notation, value_at, row_value_at, layer_notation};
+    ghost use Rattle.answer_notation.specs.TableNotation.{key_at};
+
+    /// Notes what the ids of a stack are called, whose tables lie at these paths.
+    pub fn of(
+        alloc: Global,
+        stack: &'s Stack<'a>,
+        paths: &'p [String],
+    ) -> Result<Naming<'s, 'a, 'p>, AllocError>
+        ensures { IfOk result (λ naming. naming ≡ record { stack = stack.now; paths = map string_bytes paths.now }) }
+    {
+        let tables = stack.base_tables(alloc)?;
+        let packages = PackageNames::of(alloc, &tables)?;
+        let stack = NamedStack::of(alloc, stack)?;
+        Ok(Naming {
+            alloc,
+            stack,
+            packages,
+            paths,
+        })
+    }
+
+    pub fn stack(&self) -> &'s Stack<'a>
+        ensures { result.now ≡ self.now.stack }
+    {
+        self.stack.stack()
+    }
+
+    /// What takes memory for it.
+    pub(crate) fn alloc(&self) -> Global {
+        self.alloc
+    }
+
+    /// Writes what an id is called.
+    #[tactic(auto, unfolding(crate::specs::Naming::id_notation))]
+    pub(crate) fn write_id<W: Write + Drop>(&self, id: ResId, out: &mut W) -> io::Result<()>
+        ensures { Writes W.contents out.old out.new result (id_notation self.now id.0) }
+    {
+        let label = self.stack.label_of_id(self.alloc, id)?;
+        self.packages.write_label(&label, out)
+    }
+
+    /// Writes what a value says that a row of the layer at a place holds.
+    #[tactic(auto, unfolding(crate::specs::Naming::value_at))]
+    pub(crate) fn write_value<W: Write + Drop>(
+        &self,
+        layer: usize,
+        value: Value,
+        out: &mut W,
+    ) -> io::Result<()>
+        ensures { Writes W.contents out.old out.new result (value_at self.now layer value) }
+    {
+        let content = value_content(self.alloc, &self.stack, layer, value)?;
+        write_value_notation(&self.packages, &content, out)
+    }
+
+    /// Writes what a row of a bag says that has a name, in the layer at a place.
+    #[tactic(auto, unfolding(crate::specs::Naming::row_value_at))]
+    pub(crate) fn write_row_value<W: Write + Drop>(
+        &self,
+        layer: usize,
+        name: ResId,
+        value: Value,
+        out: &mut W,
+    ) -> io::Result<()>
+        ensures { Writes W.contents out.old out.new result (row_value_at self.now layer name.0 value) }
+    {
+        if name == FORMATS {
+            write_formats(value, out)
+        } else {
+            self.write_value(layer, value, out)
+        }
+    }
+
+    /// Writes what tells the row of a bag with a name and a place from the others.
+    #[tactic(auto, unfolding(crate::specs::TableNotation::key_at))]
+    pub(crate) fn write_key<W: Write + Drop>(
+        &self,
+        keys: Keys,
+        place: usize,
+        name: ResId,
+        out: &mut W,
+    ) -> io::Result<()>
+        ensures { Writes W.contents out.old out.new result (key_at self.now keys place name.0) }
+    {
+        let key = keys.of_row(self.alloc, &self.stack, place, name)?;
+        write_key_notation(&self.packages, &key, out)
+    }
+
+    /// Writes the path of the table of the layer at a place.
+    #[tactic(auto, unfolding(crate::specs::Naming::layer_notation))]
+    pub(crate) fn write_layer<W: Write + Drop>(&self, place: usize, out: &mut W) -> io::Result<()>
+        ensures { Writes W.contents out.old out.new result (layer_notation self.now place) }
+    {
+        match self.paths.get(place) {
+            Some(path) => write_path(path.as_str(), out),
+            None => write_layer(place, out),
+        }
+    }
+}
+
+#[tactic(auto, unfolding(crate::specs::Naming::path_notation))]
+fn write_path<W: Write + Drop>(path: &str, out: &mut W) -> io::Result<()>
+    ensures { Writes W.contents out.old out.new result (path_notation path.now) }
+{
+    let path = path.as_bytes();
+    if is_seen(path) {
+        out.write_all(path)
+    } else {
+        write_quoted(path, out)
+    }
+}
+
+// Whether each character is one of ASCII that is seen.
+fn is_seen(path: &[u8]) -> bool
+    ensures { result ≡ list_all is_ascii_graphic path.now }
+{
+    path.iter().all(|byte| byte.is_ascii_graphic())
+}

@@ -1,0 +1,5 @@
+use Rattle.config_record.proofs.SeparatorSteps.{Continues-joined}
+use Rattle.notation.proofs.formats.write_words.Goals as goal
+
+pub returns : goal.returns
+returns g c = Continues-joined _ _ _ _ _ c.in_ok-write_all_words.ensures

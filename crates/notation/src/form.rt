@@ -1,0 +1,10 @@
+//! The two forms of an answer.
+
+/// How an answer is written.
+#[derive(Clone, Copy, Debug, PartialEq, Eq)]
+pub enum Form {
+    /// In Android's notation, as people read it.
+    Android,
+    /// With each number as a table has it, for other programs.
+    Raw,
+}

@@ -1,0 +1,74 @@
+//! The words of a device's numbers, and the letters of those that have none.
+
+ghost use Rattle.std.specs.Prelude.{◌≡◌, OnOk};
+ghost use Rattle.contract_words.specs.Writes.{Writes};
+ghost use Rattle.config_words.specs.Forms.{forms, form_for};
+ghost use Rattle.notation.specs.NumberWord.{letters_of, letters_by, letters_at, number_text, number_word};
+
+use config_record::Coord;
+use config_words::{form_for, word_for};
+use std::io::{self, Write};
+
+/// What stands before a number and behind it. The sign is left out where another one stands there.
+#[derive(Clone, Copy)]
+pub(crate) struct Letters {
+    pub front: &'static [u8],
+    pub sign: &'static [u8],
+    pub end: &'static [u8],
+}
+
+/// Those of a coordinate.
+#[tactic(auto, unfolding(crate::specs::NumberWord::letters_at))]
+pub(crate) fn letters_at(coord: Coord) -> Letters
+    ensures { letters_of result ≡ letters_at coord }
+{
+    match coord {
+        Coord::Sdk => Letters {
+            front: b"v",
+            sign: b"",
+            end: b"",
+        },
+        _ => letters_by(coord),
+    }
+}
+
+fn letters_by(coord: Coord) -> Letters
+    ensures { letters_of result ≡ letters_by coord (form_for forms coord) }
+{
+    match form_for(coord) {
+        Some(form) => Letters {
+            front: form.front,
+            sign: b"",
+            end: form.end,
+        },
+        None => Letters {
+            front: coord.name().as_bytes(),
+            sign: b"=",
+            end: b"",
+        },
+    }
+}
+
+/// Writes `land`, or `sw600dp`, or `width=600`.
+#[tactic(auto, unfolding(crate::specs::NumberWord::number_word))]
+pub(crate) fn write_number_word<W: Write + Drop>(
+    coord: Coord,
+    number: u32,
+    out: &mut W,
+) -> io::Result<()>
+    ensures { Writes W.contents out.old out.new result (number_word coord number) }
+{
+    match word_for(coord, number) {
+        Some(word) => out.write_all(word),
+        None => write_number(letters_at(coord), number, out),
+    }
+}
+
+fn write_number<W: Write + Drop>(letters: Letters, number: u32, out: &mut W) -> io::Result<()>
+    ensures { Writes W.contents out.old out.new result (number_text (letters_of letters) number) }
+{
+    out.write_all(letters.front)?;
+    out.write_all(letters.sign)?;
+    write!(out, "{number}")?;
+    out.write_all(letters.end)
+}
