@@ -341,7 +341,7 @@ if tool python3 "work of more than a second"; then
     shell "a line of the work on a terminal" 0 '' "grep -q '^[0-9]* of $((goals + 1)) goals done' terminal"
     shell "no line of the work too soon" 0 '' 'cat soon >&2'
     erased=$(printf '\033\\[K')
-    shell "a line that is taken away before a counterexample" 0 '' "tail -n 1 terminal | grep -qx '$erased'"
+    shell "a line that is taken away before a counterexample" 0 '' "tail -n 1 terminal | grep -q '^${erased}hint: --omit '"
     shell "no line of the work in a file where the output is on a terminal" 1 '' "$on_terminal --output \"\$0\" $make 0x7f010001 >made"
     python3 "$here/tests/on_terminal.py" "$program" $omit | grep ' goals done' >terminal
     shell "a line of the work that leaves goals out" 0 '' '[ -s terminal ]'
@@ -351,7 +351,7 @@ if tool python3 "work of more than a second"; then
         words="make $2 $of_pairs $worked 0x7f010001"
         python3 "$here/tests/on_terminal.py" "$program" $words >terminal 2>soon
         "$program" $words >made 2>told
-        sed "/^[0-9]* of [0-9]* goals done\$/d; s/^$erased//" terminal >behind
+        sed "/^[0-9]* of [0-9]* goals done\$/d; s/^$erased//; /^hint: /d" terminal >behind
         shell "$1" 0 '' "head -n 1 told | grep -qx '$3' && cmp told behind"
     }
     told "a goal that is told behind the line of the work" --names "goal $goals 0x7f010001"
