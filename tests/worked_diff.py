@@ -1,10 +1,11 @@
 #!/usr/bin/env python3
-"""Asks `restool diff` what small changes of an app alter, each alone, which was worked out by hand:
+"""Asks `restool diff` what small changes of an app alter, each alone, and `restool values` what small apps say, which was worked out by
+hand:
 
     worked_diff.py PROGRAM
 
 Each case has the layers after a change, words that ask for some resources, and the lines that are due; and, where they are not
-those of one app, the layers before it. The last line is the number of cases."""
+those of one app, the layers before it. Of `values` it has the layers alone. The last line is the number of cases."""
 import os
 import subprocess
 import sys
@@ -351,23 +352,60 @@ NOTATED = [
 ]
 
 
+VALUES = [
+    # Each device is in one line of a resource. Of two coordinates a line is where both have these values, and the rows of a bag stand below.
+    (
+        app(APP),
+        (),
+        "array/steps\n  [0] \"Fill\"\n  [1] \"Boil\"\n"
+        "attr/size 0\nattr/tint 0\n"
+        "color/ink #ff000000 on notnight\ncolor/ink #ffffffff on night\n"
+        "color/text #ff000000 on notnight\ncolor/text #ffffffff on night\n"
+        "dimen/handle 12dp on 160dpi\ndimen/handle 13dp on 320dpi,480dpi\n"
+        "dimen/margin 16dp on sw>=600dp\ndimen/margin 4dp on sw<600dp port\ndimen/margin 8dp on sw<600dp land\n"
+        "plurals/cups\n  other \"%d cups\"\n  one \"%d cup\"\n"
+        "string/cancel \"Abbrechen\" on de-rAT,de-rDE\nstring/cancel \"Cancel\" on all but de-rAT,de-rDE\n"
+        "string/title \"Teapot\"\n"
+        "style/Card on v<26\n  attr/size @dimen/margin\n  attr/tint @color/ink\n"
+        "style/Card on v>=26\n  attr/size @dimen/handle\n  attr/tint @color/ink\n"
+        "style/Card.Flat on v<26\n  attr/size 0dp\n  attr/tint @color/ink\n"
+        "style/Card.Flat on v>=26\n  attr/size 0dp\n  attr/tint @color/ink\n"
+        "resources 12",
+    ),
+]
+
+
 def check_case(program, folder, place):
     """The fault of a case. The first ones are printed raw."""
     after, words, due, *before = [*CASES, *NOTATED][place]
     write_inputs(folder, before[0] if before else app(APP), after, BOX)
     form = ["--raw"] * (place < len(CASES))
-    done = subprocess.run([program, "diff", *form, "old", "new", "box", *words], cwd=folder, capture_output=True, text=True)
-    lines, status = done.stdout + done.stderr, int(due.startswith(("changed ", "added ", "removed ", "no resource ")))
+    status = int(due.startswith(("changed ", "added ", "removed ", "no resource ")))
+    return fault_of(folder, [program, "diff", *form, "old", "new", "box", *words], due, status)
+
+
+def check_values(program, folder, place):
+    """The same of `values`. The layers that are told in Android's notation stand first."""
+    layers, words, due, *form = VALUES[place]
+    write_inputs(folder, [], layers, BOX)
+    return fault_of(folder, [program, "values", *form, "new", "box", *words], due, int(due.startswith("no resource ")))
+
+
+def fault_of(folder, command, due, status):
+    done = subprocess.run(command, cwd=folder, capture_output=True, text=True)
+    lines = done.stdout + done.stderr
     if (lines, done.returncode) == (f"{due}\n", status):
         return ""
-    return f"case {place}: status {done.returncode}\n{lines}where this is due, with {status}\n{due}\n"
+    return f"{command[1:]}: status {done.returncode}\n{lines}where this is due, with {status}\n{due}\n"
 
 
 def main():
+    program = os.path.abspath(sys.argv[1])
     with tempfile.TemporaryDirectory() as folder:
-        faults = [check_case(os.path.abspath(sys.argv[1]), folder, place) for place in range(len(CASES + NOTATED))]
+        faults = [check_case(program, folder, place) for place in range(len(CASES + NOTATED))]
+        faults += [check_values(program, folder, place) for place in range(len(VALUES))]
     print("".join(faults), end="")
-    print(f"{len(CASES + NOTATED)} cases")
+    print(f"{len(faults)} cases")
     sys.exit(any(faults))
 
 

@@ -15,11 +15,11 @@ use Rattle.diff_command.specs.DiffLines.{told_lines, pair_lines, label_lines}
 abbrev pub both_lists : List NamePair → List Told → List (PairOf × ToldOf)
 both_lists pairs told = zip (map pair_of pairs) (map told_of told)
 
-pub pair-next : (packages : List PackageNameOf) (old mid new : Option (List ℕ)) (all : List (PairOf × ToldOf)) (pairs other_pairs : List NamePair) (told other_told : List Told)
-    (pair : NamePair) (one : Told) → PutsAllBut (pair_lines packages) old mid all (both_lists pairs told) → pairs ≡ pair ∷ other_pairs → told ≡ one ∷ other_told
-    → Appends mid new (told_lines packages (label_of pair.label) (told_of one)) → PutsAllBut (pair_lines packages) old new all (both_lists other_pairs other_told)
-pair-next packages old mid new all pairs other_pairs told other_told pair one before first second put =
-    PutsAllBut-next (pair_lines packages) old mid new all (both_lists pairs told) (both_lists other_pairs other_told) (pair_of pair, told_of one) before
+pub pair-next : (before : List ℕ) (packages : List PackageNameOf) (old mid new : Option (List ℕ)) (all : List (PairOf × ToldOf)) (pairs other_pairs : List NamePair) (told other_told : List Told)
+    (pair : NamePair) (one : Told) → PutsAllBut (pair_lines before packages) old mid all (both_lists pairs told) → pairs ≡ pair ∷ other_pairs → told ≡ one ∷ other_told
+    → Appends mid new (told_lines before packages (label_of pair.label) (told_of one)) → PutsAllBut (pair_lines before packages) old new all (both_lists other_pairs other_told)
+pair-next before packages old mid new all pairs other_pairs told other_told pair one puts first second put =
+    PutsAllBut-next (pair_lines before packages) old mid new all (both_lists pairs told) (both_lists other_pairs other_told) (pair_of pair, told_of one) puts
     (rw (first, second) refl) put
 
 zip-none : {A B : Type 0} (xs : List A) → zip {K = A} {X = B} xs [] ≡ []
@@ -30,9 +30,9 @@ none_left : (pairs : List NamePair) (told : List Told) → (pairs ≡ []) ⊎ (t
 none_left pairs told (inl none) = rw none refl
 none_left pairs told (inr none) = rw none (zip-none (map pair_of pairs))
 
-pub pairs-end : (packages : List PackageNameOf) (old mid : Option (List ℕ)) (pairs left_pairs : List NamePair) (told left_told : List Told)
-    → PutsAllBut (pair_lines packages) old mid (both_lists pairs told) (both_lists left_pairs left_told) → (left_pairs ≡ []) ⊎ (left_told ≡ [])
-    → Appends old mid (label_lines packages (map pair_of pairs) (map told_of told))
+pub pairs-end : (before : List ℕ) (packages : List PackageNameOf) (old mid : Option (List ℕ)) (pairs left_pairs : List NamePair) (told left_told : List Told)
+    → PutsAllBut (pair_lines before packages) old mid (both_lists pairs told) (both_lists left_pairs left_told) → (left_pairs ≡ []) ⊎ (left_told ≡ [])
+    → Appends old mid (label_lines before packages (map pair_of pairs) (map told_of told))
 unfolding label_lines
-pairs-end packages old mid pairs left_pairs told left_told before ended =
-    PutsAllBut-done (pair_lines packages) old mid (both_lists pairs told) (both_lists left_pairs left_told) before (none_left left_pairs left_told ended)
+pairs-end before packages old mid pairs left_pairs told left_told puts ended =
+    PutsAllBut-done (pair_lines before packages) old mid (both_lists pairs told) (both_lists left_pairs left_told) puts (none_left left_pairs left_told ended)

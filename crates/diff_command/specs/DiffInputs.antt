@@ -12,6 +12,7 @@ use Rattle.command_base.specs.declared.side.Side.TheVariants.{Old, New}
 use Rattle.command_base.specs.ToolFault.{fault_of_box}
 use Rattle.command_base.specs.StackBytes.{LayerBytes, stack_on_side}
 use Rattle.command_base.specs.MapErr.{map_err}
+use Rattle.stack_diff.specs.ComparedWith.{itself_if}
 use Rattle.stack_diff.specs.Stacks.{StacksOf}
 use Rattle.stack_diff.specs.names.NamedIds.{packages_of}
 
@@ -36,4 +37,4 @@ diff_inputs_by rule old_bytes new_bytes box_json = do
   old ← stack_on_side Old old_bytes
   new ← stack_on_side New new_bytes
   sets ← map_err fault_of_box (box_in_by rule box_json)
-  Ok (record { stacks = record { old = old; new = new; packages = packages_of old ++ packages_of new; are_one = have_same_bytes old_bytes new_bytes }; sets = sets; rule = rule })
+  Ok (record { stacks = record { old = old; new = new; packages = packages_of old ++ packages_of new; compared = itself_if (have_same_bytes old_bytes new_bytes) }; sets = sets; rule = rule })

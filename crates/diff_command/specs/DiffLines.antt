@@ -15,24 +15,24 @@ use Rattle.diff_command.specs.Telling.{ToldOf, RemovedTold, AddedTold, SameTold,
 
 -- ---- a label
 
--- `changed LABEL`, and a block behind it
-unfoldable pub changed_block : List PackageNameOf → LabelOf → List ℕ → List ℕ
-changed_block packages label block = codes "changed " ++ label_text packages label ++ block
+-- the label with these words before it, as `changed LABEL`, and a block behind it
+unfoldable pub block_lines : List ℕ → List PackageNameOf → LabelOf → List ℕ → List ℕ
+block_lines before packages label block = before ++ label_text packages label ++ block
 
--- the lines of a label: none where it says the same in both stacks
-unfoldable pub told_lines : List PackageNameOf → LabelOf → ToldOf → List ℕ
-told_lines packages label RemovedTold = removed_line packages label
-told_lines packages label AddedTold = added_line packages label
-told_lines packages label SameTold = []
-told_lines packages label (ChangedTold blocks) = flat_map (changed_block packages label) blocks
+-- the lines of a label, with these words before its blocks: none where it says the same in both stacks
+unfoldable pub told_lines : List ℕ → List PackageNameOf → LabelOf → ToldOf → List ℕ
+told_lines before packages label RemovedTold = removed_line packages label
+told_lines before packages label AddedTold = added_line packages label
+told_lines before packages label SameTold = []
+told_lines before packages label (ChangedTold blocks) = flat_map (block_lines before packages label) blocks
 
 -- the same of a pair, with what is told of its label
-abbrev pub pair_lines : List PackageNameOf → PairOf × ToldOf → List ℕ
-pair_lines packages one = told_lines packages one.0.label one.1
+abbrev pub pair_lines : List ℕ → List PackageNameOf → PairOf × ToldOf → List ℕ
+pair_lines before packages one = told_lines before packages one.0.label one.1
 
 -- those of all labels, one label after the other
-unfoldable pub label_lines : List PackageNameOf → List PairOf → List ToldOf → List ℕ
-label_lines packages pairs told = flat_map (pair_lines packages) (zip pairs told)
+unfoldable pub label_lines : List ℕ → List PackageNameOf → List PairOf → List ToldOf → List ℕ
+label_lines before packages pairs told = flat_map (pair_lines before packages) (zip pairs told)
 
 -- ---- labels that say the same
 
@@ -66,4 +66,4 @@ set_aside_line rule stacks = counts_line (codes "set-aside") (rows_set_aside rul
 
 -- the lines of labels, then what holds of the stacks, and then how many labels say the same
 unfoldable pub diff_lines : LocaleRule → StacksOf → List PairOf → List ToldOf → List ℕ
-diff_lines rule stacks pairs told = label_lines stacks.packages pairs told ++ shared_names_line stacks ++ set_aside_line rule stacks ++ same_line (same_count told)
+diff_lines rule stacks pairs told = label_lines (codes "changed ") stacks.packages pairs told ++ shared_names_line stacks ++ set_aside_line rule stacks ++ same_line (same_count told)

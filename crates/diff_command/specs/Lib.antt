@@ -5,6 +5,9 @@ pub mod DiffLines
 pub mod DiffOutput
 pub mod OpenedSeen
 pub mod Diff
+pub mod LabelsBeside
+pub mod ValuesOutput
+pub mod Values
 pub mod NameLines
 pub mod DevicesText
 pub mod ContentText

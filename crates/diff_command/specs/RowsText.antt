@@ -1,4 +1,4 @@
--- The rows that one of two bags alone has, a line each.
+-- The rows of a bag, and those that one of two bags alone has, a line each.
 use Rattle.std.specs.Prelude.{ℕ, List, [], ◌∷◌, ◌++◌, codes}
 use Rattle.notation.specs.declared.form.Form.{Form}
 use Rattle.answer_text.specs.Content.{RowContentOf}
@@ -16,3 +16,7 @@ removed_row form packages row = codes "  removed " ++ row_text form packages row
 -- the line `  added KEY VALUE`
 unfoldable pub added_row : Form → List PackageNameOf → RowContentOf → List ℕ
 added_row form packages row = codes "  added " ++ row_text form packages row
+
+-- the line `  KEY VALUE`
+unfoldable pub value_row : Form → List PackageNameOf → RowContentOf → List ℕ
+value_row form packages row = codes "  " ++ row_text form packages row

@@ -7,15 +7,17 @@ ghost use Rattle.answer_text.specs.ContentSeen.{row_content_of, content_of};
 ghost use Rattle.stack_diff.specs.DifferenceSeen.{row_difference_of, difference_of};
 ghost use Rattle.diff_command.specs.DifferenceText.{row_line, rows_in, before_and_after, row_lines, difference_text};
 
-use crate::content_text::write_content;
+use crate::content_text::{write_content, write_content_behind};
 use crate::devices_text::write_devices_in;
-use crate::rows_text::{write_added_row, write_added_rows, write_removed_row, write_removed_rows};
+use crate::rows_text::{
+    write_added_row, write_added_rows, write_removed_row, write_removed_rows, write_value_rows,
+};
 use answer_text::{Content, Form, RowContent, write_key_in, write_row_value_in};
 use stack_diff::{ConfigBox, Difference, PackageNames, RowDifference};
 use std::io::{self, Write};
 
 /// Writes how a resource differs on the devices of a part of the whole box, as it stands behind its label: what it says
-/// before and after, and a line for each row of a bag that differs.
+/// before and after, and a line for each row of a bag that differs; from nothing all that it says, with all rows of a bag.
 ///
 /// ```text
 /// // "Cancel" -> "Cancel!" on de-rAT,de-rCH
@@ -55,6 +57,7 @@ fn write_before_and_after<W: Write + Drop>(
             out.write_all(b" -> ")?;
             write_content(form, packages, after, out)
         }
+        Difference::FromNothing(content) => write_content_behind(form, packages, content, out),
     }
 }
 
@@ -72,6 +75,9 @@ fn write_row_lines<W: Write + Drop>(
         Difference::Contents { before, after } => {
             write_removed_rows(form, packages, rows_in(before), out)?;
             write_added_rows(form, packages, rows_in(after), out)
+        }
+        Difference::FromNothing(content) => {
+            write_value_rows(form, packages, rows_in(content), out)
         }
     }
 }

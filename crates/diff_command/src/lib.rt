@@ -1,4 +1,5 @@
-//! The command `diff`: what a change of layers alters, for every device of a box.
+//! The commands for two stacks and a box: `diff`, what a change of layers alters, and `values`, what each resource says, which is
+//! a stack compared with nothing.
 //!
 //! For the program: `NamedDiff::diff` prints exactly the lines of what becomes of some labels, or `node limit`, and is done where
 //! nothing differs. `Diff::answer` reads the files that its words name, and prints those of the labels that
@@ -19,6 +20,19 @@
 //! removed color/old
 //! same 40
 //! ```
+//!
+//! `Values::answer` does the same of one stack. Each device of the box is in one line of a resource, and in one alone.
+//!
+//! ```text
+//! let values = Values { layers: "layers.json", box_path: "box.json", locales: LocaleRule::Android, form: Form::Android, max_nodes: 100_000, words };
+//! values.answer(alloc, &inputs, &mut Unwatched, &mut out)?;
+//!
+//! string/cancel "Abbrechen" on de-rAT,de-rCH
+//! string/cancel "Cancel" on all but de-rAT,de-rCH
+//! style/Card
+//!   attr/padding 4dp
+//! resources 2
+//! ```
 #![tactic(auto)]
 
 mod content_text;
@@ -31,6 +45,8 @@ mod name_lines;
 mod opened;
 mod rows_text;
 mod told;
+mod value_lines;
+mod values;
 
 pub use answer_text::Form;
 pub use command_base::{LayerParts, Status, ToolFault};
@@ -38,3 +54,4 @@ pub use diff::Diff;
 pub use difference_text::write_difference;
 pub use opened::{NamedDiff, OpenedDiff};
 pub use stack_diff::{ConfigBox, Label, NamePair, NamedStack, Sides};
+pub use values::Values;

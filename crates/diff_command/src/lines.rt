@@ -8,7 +8,7 @@ ghost use Rattle.stack_diff.specs.names.Pairs.{pair_of};
 ghost use Rattle.stack_diff.specs.names.Shared.{shared_ids};
 ghost use Rattle.stack_diff.specs.Stacks.{stacks_of};
 ghost use Rattle.diff_command.specs.Judged.{told_of};
-ghost use Rattle.diff_command.specs.DiffLines.{changed_block, told_lines, label_lines, says_same, same_count, some_differ, counts_line, shared_names_line, set_aside_line, diff_lines};
+ghost use Rattle.diff_command.specs.DiffLines.{block_lines, told_lines, label_lines, says_same, same_count, some_differ, counts_line, shared_names_line, set_aside_line, diff_lines};
 
 use crate::name_lines::{write_added, write_removed, write_same};
 use crate::told::Told;
@@ -27,7 +27,7 @@ pub(crate) fn write_lines<W: Write + Drop>(
 ) -> io::Result<()>
     ensures { Writes W.contents out.old out.new result (diff_lines rule (stacks_of stacks.entry) (map pair_of pairs.now) (map told_of told.now)) }
 {
-    write_labels(stacks.packages(), pairs, told, out)?;
+    write_labels(b"changed ", stacks.packages(), pairs, told, out)?;
     write_shared_names(stacks, out)?;
     write_set_aside(rule, stacks, out)?;
     write_same(same_count(told), out)
@@ -35,63 +35,68 @@ pub(crate) fn write_lines<W: Write + Drop>(
 
 // ---- labels
 
+/// Writes the lines of labels, with these words before each that has blocks.
 #[tactic(auto, unfolding(crate::specs::DiffLines::label_lines), using(contract_words::proofs::TextSteps::puts))]
-fn write_labels<W: Write + Drop>(
+pub(crate) fn write_labels<W: Write + Drop>(
+    before: &[u8],
     packages: &PackageNames<'_>,
     pairs: &[NamePair<'_>],
     told: &[Told],
     out: &mut W,
 ) -> io::Result<()>
-    ensures { Writes W.contents out.old out.new result (label_lines packages.now (map pair_of pairs.now) (map told_of told.now)) }
+    ensures { Writes W.contents out.old out.new result (label_lines before.now packages.now (map pair_of pairs.now) (map told_of told.now)) }
 {
     for (pair, one) in pairs.iter().zip(told) {
-        write_told(packages, &pair.label, one, out)?;
+        write_told(before, packages, &pair.label, one, out)?;
     }
     Ok(())
 }
 
 #[tactic(auto, unfolding(crate::specs::DiffLines::told_lines))]
 fn write_told<W: Write + Drop>(
+    before: &[u8],
     packages: &PackageNames<'_>,
     label: &Label<'_>,
     told: &Told,
     out: &mut W,
 ) -> io::Result<()>
-    ensures { Writes W.contents out.old out.new result (told_lines packages.now (label_of label.now) (told_of told.now)) }
+    ensures { Writes W.contents out.old out.new result (told_lines before.now packages.now (label_of label.now) (told_of told.now)) }
 {
     match told {
         Told::Removed => write_removed(packages, label, out),
         Told::Added => write_added(packages, label, out),
         Told::Same => Ok(()),
-        Told::Changed(blocks) => write_blocks(packages, label, blocks, out),
+        Told::Changed(blocks) => write_blocks(before, packages, label, blocks, out),
     }
 }
 
 #[tactic(auto, using(contract_words::proofs::TextSteps::puts_slice))]
 fn write_blocks<W: Write + Drop>(
+    before: &[u8],
     packages: &PackageNames<'_>,
     label: &Label<'_>,
     blocks: &[Vec<u8>],
     out: &mut W,
 ) -> io::Result<()>
-    ensures { Writes W.contents out.old out.new result (flat_map (changed_block packages.now (label_of label.now)) (map (λ block. block.items) blocks.now)) }
+    ensures { Writes W.contents out.old out.new result (flat_map (block_lines before.now packages.now (label_of label.now)) (map (λ block. block.items) blocks.now)) }
 {
     for block in blocks {
-        write_block(packages, label, block, out)?;
+        write_block(before, packages, label, block, out)?;
     }
     Ok(())
 }
 
-#[tactic(auto, unfolding(crate::specs::DiffLines::changed_block))]
+#[tactic(auto, unfolding(crate::specs::DiffLines::block_lines))]
 fn write_block<W: Write + Drop>(
+    before: &[u8],
     packages: &PackageNames<'_>,
     label: &Label<'_>,
     block: &[u8],
     out: &mut W,
 ) -> io::Result<()>
-    ensures { Writes W.contents out.old out.new result (changed_block packages.now (label_of label.now) block.now) }
+    ensures { Writes W.contents out.old out.new result (block_lines before.now packages.now (label_of label.now) block.now) }
 {
-    out.write_all(b"changed ")?;
+    out.write_all(before)?;
     packages.write_label(label, out)?;
     out.write_all(block)
 }
@@ -107,7 +112,8 @@ fn write_shared_names<W: Write + Drop>(stacks: Stacks<'_, '_>, out: &mut W) -> i
     write_counts(b"warning shared-names", old as u128, new as u128, out)
 }
 
-fn shared_count(stack: &NamedStack<'_, '_>) -> usize
+/// How many ids of a stack have a name that stands for another id.
+pub(crate) fn shared_count(stack: &NamedStack<'_, '_>) -> usize
     ensures { result ≡ length (shared_ids stack.now) }
 {
     match stack.shared_names() {

@@ -14,6 +14,7 @@ use Rattle.resource_tool.specs.Check.{check_files}
 use Rattle.report_commands.specs.Survey.{survey_files}
 use Rattle.report_commands.specs.Show.{show_files}
 use Rattle.diff_command.specs.Diff.{diff_files}
+use Rattle.diff_command.specs.Values.{values_files}
 use Rattle.restool.specs.declared.request.Request.{Request}
 use Rattle.restool.specs.declared.request.Request.TheVariants as asks
 use Rattle.restool.specs.Left.{LayerWordsOf, StopsAt}
@@ -50,6 +51,10 @@ module _ (places : Places) (layers : List ℕ) (stop : StopOf) (at : layers_of p
   unfolding check_files
   check-stops members certificate words = rw (box-stops members) refl
 
+  values-stops : (members : List ℕ) (words : List (List ℕ)) → values_files places layers members words ≡ Err stop
+  unfolding values_files
+  values-stops members words = rw at refl
+
 diff-stops-old : (places : Places) (old new members : List ℕ) (words : List (List ℕ)) (stop : StopOf) → layers_on_side Old places old ≡ Err stop
     → diff_files places old new members words ≡ Err stop
 unfolding diff_files
@@ -84,6 +89,7 @@ module _ {W V : Type 0} (is_terminal : Bool) (contents : W → Option (List ℕ)
   answers places (asks.Make it) at = λ other. inl (rw (goal-stops places it.layers.now (stop_of stop) (at other) it.box_path.now (texts_of it.goals)) refl)
   answers places (asks.Check it) at = λ other. inl (rw (check-stops places it.layers.now (stop_of stop) (at other) it.box_path.now it.certificate.now (texts_of it.goals)) refl)
   answers places (asks.Diff it) at = λ other. inl (rw (diff-stops places it.old.now it.new.now it.box_path.now (texts_of it.words) (stop_of stop) (at other)) refl)
+  answers places (asks.Values it) at = λ other. inl (rw (values-stops places it.layers.now (stop_of stop) (at other) it.box_path.now (texts_of it.words)) refl)
   answers places (asks.Device it) at = λ other. absurd (at other)
 
   pub answers-unread : (known : Option Places) (request : Request) (words : LayerWordsOf) → words ≡ layer_words request

@@ -154,10 +154,10 @@ pub(crate) const IDS: Argument = Argument {
            of a type, * for all, @FILE for those in a file, one a line",
 };
 
-pub(crate) const COMPARED: Argument = Argument {
+pub(crate) const MAYBE_NAMES: Argument = Argument {
     name: "NAME",
     takes: Takes::MaybeWords,
-    help: "Resource to compare, by its id or its name, such as 0x7f010000, dimen/margin or android:dimen/margin; dimen/* for \
+    help: "Resource, by its id or its name, such as 0x7f010000, dimen/margin or android:dimen/margin; dimen/* for \
            all of a type, * for all, @FILE for those in a file, one a line; without one, all",
 };
 
@@ -237,8 +237,8 @@ pub(crate) const MAX_NODES: Argument = Argument {
     help: "Node limit of all trees together, 1 to 1000000 [default: 100000]",
 };
 
-/// The same of a change. It has the same name, so that it is read as `MAX_NODES` is.
-pub(crate) const DIFF_NODES: Argument = Argument {
+/// The same where no certificate is made. It has the same name, so that it is read as `MAX_NODES` is.
+pub(crate) const PARTING_NODES: Argument = Argument {
     name: "max-nodes",
     takes: Takes::Nodes,
     help: "Node limit of the trees that part the devices, all together, 1 to 1000000 \

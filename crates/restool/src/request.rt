@@ -15,13 +15,13 @@ use crate::arguments::{
 };
 use crate::asked_words::Asks;
 use crate::command_line::{
-    ALL, ATTRIBUTE, BAG_ID, BOX, CERTIFICATE, COMPARED, CONFIG, DEVICE, DIFF_NODES, DOT,
-    GOAL_NAMES, GOALS, ID, IDS, KEEP, LAYERS, LOCALES, MAX_NODES, MAYBE_BOX, NAMES, NEW, NOTATION,
-    OLD, OMIT, OVERLAY, RAW, STYLES, TABLE, TARGET, Usage,
+    ALL, ATTRIBUTE, BAG_ID, BOX, CERTIFICATE, CONFIG, DEVICE, DOT, GOAL_NAMES, GOALS, ID, IDS,
+    KEEP, LAYERS, LOCALES, MAX_NODES, MAYBE_BOX, MAYBE_NAMES, NAMES, NEW, NOTATION, OLD, OMIT,
+    OVERLAY, PARTING_NODES, RAW, STYLES, TABLE, TARGET, Usage,
 };
 use crate::left::LayerWords;
 use clap::ArgMatches;
-use diff_command::Diff;
+use diff_command::{Diff, Values};
 use report_commands::{Show, Survey};
 use resource_tool::{Check, Inputs, Make, Status, Stop, Watch};
 use std::alloc::Global;
@@ -46,6 +46,7 @@ pub enum Request<'a> {
     Make(Make<'a>),
     Check(Check<'a>),
     Diff(Diff<'a>),
+    Values(Values<'a>),
     Device(DeviceForm<'a>),
 }
 
@@ -74,6 +75,8 @@ const MAKE: &str = "make";
 const CHECK: &str = "check";
 
 const DIFF: &str = "diff";
+
+const VALUES: &str = "values";
 
 const DEVICE_FORM: &str = "device";
 
@@ -144,7 +147,12 @@ pub(crate) const USAGES: &[Usage] = &[
     Usage {
         name: DIFF,
         about: "Prints what a change of layers alters, for every device of a box",
-        arguments: &[LOCALES, RAW, DIFF_NODES, OLD, NEW, BOX, COMPARED],
+        arguments: &[LOCALES, RAW, PARTING_NODES, OLD, NEW, BOX, MAYBE_NAMES],
+    },
+    Usage {
+        name: VALUES,
+        about: "Prints what each resource says, on which devices of a box",
+        arguments: &[LOCALES, RAW, PARTING_NODES, LAYERS, BOX, MAYBE_NAMES],
     },
     Usage {
         name: DEVICE_FORM,
@@ -169,6 +177,7 @@ pub(crate) enum Command {
     Make,
     Check,
     Diff,
+    Values,
     Device,
 }
 
@@ -195,6 +204,7 @@ impl Command {
             MAKE => Command::Make,
             CHECK => Command::Check,
             DIFF => Command::Diff,
+            VALUES => Command::Values,
             DEVICE_FORM => Command::Device,
             _ => unreachable!(),
         }
@@ -239,6 +249,7 @@ pub(crate) fn request_of<'a>(
         Command::Make => make_of(alloc, given),
         Command::Check => check_of(alloc, given),
         Command::Diff => diff_of(alloc, given),
+        Command::Values => values_of(alloc, given),
         Command::Device => device_of(given),
     }
 }
@@ -354,7 +365,21 @@ fn diff_of<'a>(alloc: Global, given: &ArgMatches<'a>) -> Result<Request<'a>, Arg
         locales,
         form: given_form(given),
         max_nodes: given_nodes(given),
-        words: given_asked(alloc, given, &COMPARED, Asks::Resources)?,
+        words: given_asked(alloc, given, &MAYBE_NAMES, Asks::Resources)?,
+    }))
+}
+
+fn values_of<'a>(alloc: Global, given: &ArgMatches<'a>) -> Result<Request<'a>, ArgumentFault<'a>>
+    ensures { ReadsCommand Command.Values (rows_of (found_of given.now)) result }
+{
+    let locales = given_rule(given)?;
+    Ok(Request::Values(Values {
+        layers: given_word(given, &LAYERS),
+        box_path: given_word(given, &BOX),
+        locales,
+        form: given_form(given),
+        max_nodes: given_nodes(given),
+        words: given_asked(alloc, given, &MAYBE_NAMES, Asks::Resources)?,
     }))
 }
 
@@ -384,6 +409,7 @@ pub(crate) fn layer_words<'a>(request: &Request<'a>) -> LayerWords<'a>
         Request::Make(make) => LayerWords::One(make.layers),
         Request::Check(check) => LayerWords::One(check.layers),
         Request::Diff(diff) => LayerWords::Both(diff.old, diff.new),
+        Request::Values(values) => LayerWords::One(values.layers),
         Request::Rows(_) | Request::Dump(_) | Request::Map(_) | Request::Device(_) => {
             LayerWords::None
         }
@@ -418,6 +444,7 @@ pub(crate) fn answer<'a, I: Inputs, C: Clock, O: Write + Drop, E: Write + Drop>(
         Request::Make(make) => make.answer(alloc, inputs, watch, out, errors),
         Request::Check(check) => check.answer(alloc, inputs, out, errors),
         Request::Diff(diff) => diff.answer(alloc, inputs, &mut watch, out),
+        Request::Values(values) => values.answer(alloc, inputs, &mut watch, out),
         Request::Device(form) => form.answer(alloc, inputs, out),
     }
 }

@@ -9,7 +9,7 @@ use Rattle.stack_diff.specs.declared.difference.Difference.TheVariants as differ
 use Rattle.stack_diff.specs.declared.difference.RowDifference.{RowDifference}
 use Rattle.stack_diff.specs.declared.difference.RowDifference.TheVariants as row_differences
 use Rattle.answer_text.specs.Content.{RowKeyOf, ValueContentOf}
-use Rattle.stack_diff.specs.Difference.{RowDifferenceOf, RowRemoved, RowAdded, RowChanged, DifferenceOf, RowsDiffer, ContentsDiffer}
+use Rattle.stack_diff.specs.Difference.{RowDifferenceOf, RowRemoved, RowAdded, RowChanged, DifferenceOf, RowsDiffer, ContentsDiffer, FromNothing}
 use Rattle.stack_diff.specs.DifferenceSeen.{row_difference_of, difference_of}
 use Rattle.answer_text.proofs.ContentEquality.{both, one_and, same_key, key-Decides, key-told, same_value, value-Decides, value-told, same_row, row-Decides, row-told, rows-told, same_content, content-Decides, content-told}
 
@@ -40,6 +40,7 @@ row_difference-Decides a b = (λ e. absurd cc, λ e. absurd cc)
 abbrev same_difference : DifferenceOf → DifferenceOf → Bool
 same_difference (RowsDiffer rows) (RowsDiffer others) = pointwise same_row_difference rows others
 same_difference (ContentsDiffer a b) (ContentsDiffer c d) = same_content a c && same_content b d
+same_difference (FromNothing a) (FromNothing b) = same_content a b
 same_difference a b = false
 
 difference-Decides : (a b : DifferenceOf) → Decides (same_difference a b) (a ≡ b)
@@ -53,6 +54,7 @@ difference-Decides (ContentsDiffer a b) (ContentsDiffer c d) =
           ap (λ content. ContentsDiffer content b) (olds.0 h.0) ∙ ap (λ content. ContentsDiffer c content) (news.0 h.1)),
       λ e. one_and (olds.1 (let same = e in cc)) (news.1 (let same = e in cc)),
     )
+difference-Decides (FromNothing a) (FromNothing b) = let all = content-Decides a b in (λ e. ap FromNothing (all.0 e), λ e. all.1 (let same = e in cc))
 difference-Decides a b = (λ e. absurd cc, λ e. absurd cc)
 
 -- ---- `==` of two differences
@@ -66,6 +68,7 @@ row_difference-told a b = cc
 is-told : (a b : Difference) → eq-value.it a b ≡ same_difference (difference_of a) (difference_of b)
 is-told (differences.Rows s) (differences.Rows t) = rows-told rows_eq.eq-value.it same_row_difference row_difference_of row_difference-told s.items t.items
 is-told (differences.Contents a b) (differences.Contents c d) = one_and (content-told a c) (content-told b d)
+is-told (differences.FromNothing a) (differences.FromNothing b) = content-told a b
 is-told a b = cc
 
 -- what `==` of two differences says

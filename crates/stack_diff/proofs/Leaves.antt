@@ -5,11 +5,11 @@ use Rattle.cert_maker.specs.box_answers.Members.{IsMember}
 use Rattle.cert_maker.specs.cert_checker.bags_themes.ContentTrace.{content_trace}
 use Rattle.cert_maker.specs.cert_checker.reference_resolver.declared.end.End.{End}
 use Rattle.answer_text.specs.ContentAt.{end_content, content_at}
-use Rattle.stack_diff.specs.Difference.{difference}
+use Rattle.stack_diff.specs.ComparedWith.{told_between}
 use Rattle.stack_diff.proofs.TraceSteps.{trace_tells_content}
 use Rattle.stack_diff.specs.declared.pair.Pair.{Pair}
 use Rattle.stack_diff.specs.declared.pair.Resource.{Resource}
-use Rattle.stack_diff.specs.Sides.{pair_differs, trace_in, pair_traces}
+use Rattle.stack_diff.specs.Sides.{pair_differs, ends_told, trace_in, pair_traces}
 use Rattle.stack_diff.specs.PairBox.{HaveOneTrace, EndAt}
 
 -- at two devices with one trace they differ alike
@@ -17,7 +17,7 @@ pub differ-alike : (pair : Pair) (d e : List ℕ) → pair_traces pair d ≡ pai
 differ-alike pair d e one =
     let before = trace_tells_content pair.before.stack.now pair.before.id.0 d e (ap (λ p. p.0) one) in
     let after = trace_tells_content pair.after.stack.now pair.after.id.0 d e (ap (λ p. p.1) one) in
-    λ i. difference (before i) (after i)
+    λ i. told_between pair.compared (before i) (after i)
 
 -- what is said is what stands at the end of the trace
 at-end : (resource : Resource) (end : End) (d : List ℕ) → (trace_in resource d).end ≡ end → content_at resource.stack.now resource.id.0 d ≡ end_content resource.stack.now end d
@@ -26,8 +26,8 @@ at-end resource end d is = ap (λ (it : End). end_content resource.stack.now it 
 
 -- so how all members differ is how the two ends do at one of them
 pub differ-at-ends : (pair : Pair) (sets : List SetOf) (before after : End) (d e : List ℕ) → HaveOneTrace (IsMember sets) (pair_traces pair) → EndAt pair sets before after → IsMember sets d → IsMember sets e
-    → pair_differs pair d ≡ difference (end_content pair.before.stack.now before e) (end_content pair.after.stack.now after e)
+    → pair_differs pair d ≡ ends_told pair before after e
 differ-at-ends pair sets before after d e one ends m n =
     let old = at-end pair.before before e (ends.before_end e n) in
     let new = at-end pair.after after e (ends.after_end e n) in
-    differ-alike pair d e (one d e m n) ∙ (λ i. difference (old i) (new i))
+    differ-alike pair d e (one d e m n) ∙ (λ i. told_between pair.compared (old i) (new i))

@@ -9,6 +9,7 @@ pub mod Grouping
 pub mod FewBoxes
 pub mod Joining
 pub mod Unchanged
+pub mod AllSaid
 pub mod TraceSteps
 pub mod DifferenceTells
 pub mod DifferenceEquality

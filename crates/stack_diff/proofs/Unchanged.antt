@@ -6,7 +6,11 @@ use Rattle.cert_maker.specs.res_value.declared.res_id.ResId.{ResId}
 use Rattle.cert_maker.specs.box_answers.NumberSet.{SetOf}
 use Rattle.answer_text.specs.ContentAt.{content_at}
 use Rattle.answer_text.specs.ReadAlike.{content_read}
-use Rattle.stack_diff.specs.Difference.{DifferenceOf}
+use Rattle.answer_text.specs.Content.{ContentOf}
+use Rattle.stack_diff.specs.ComparedWith.{with_itself, told_between}
+use Rattle.stack_diff.specs.Difference.{DifferenceOf, difference}
+use Rattle.stack_diff.specs.declared.compared_with.ComparedWith.{ComparedWith}
+use Rattle.stack_diff.specs.declared.compared_with.ComparedWith.TheVariants.{Other, Itself, Nothing}
 use Rattle.stack_diff.proofs.DifferenceTells.{difference_tells}
 use Rattle.config_box.specs.Kinds.{IsOfKinds}
 use Rattle.stack_diff.specs.Stacks.{StacksOf, is_itself, differs, traces}
@@ -29,14 +33,22 @@ no-boxes differs sets changes same none = subst (AreToldShort differs sets) (sym
   },
 )
 
+-- beside itself it differs, if it does, as from another
+as-other : (compared : ComparedWith) → with_itself compared ≡ true → (before after : ContentOf) → difference before after ≡ None → told_between compared before after ≡ None
+as-other Other is before after same = same
+as-other Itself is before after same = same
+as-other Nothing is before after same = absurd cc
+
 module _ (stacks : StacksOf) (sets : List SetOf) (old new : ResId) (itself : is_itself stacks old new ≡ true) where
-  pub told-itself : (changes : List ChangeOf) → (stacks.are_one ≡ true → stacks.new ≡ stacks.old) → changes ≡ [] → AreToldShort (differs stacks old new) sets changes
+  pub told-itself : (changes : List ChangeOf) → (with_itself stacks.compared ≡ true → stacks.new ≡ stacks.old) → changes ≡ [] → AreToldShort (differs stacks old new) sets changes
   told-itself changes one none =
       let parts = and_parts _ _ itself in
       let layers : stacks.old ≡ stacks.new = sym (one parts.0) in
       let id : old.0 ≡ new.0 = eqb-true old.0 new.0 parts.1 in
       no-boxes (differs stacks old new) sets changes
-      (λ d. (difference_tells (content_at stacks.old old.0 d) (content_at stacks.new new.0 d)).1 (λ i. content_read (content_at (layers i) (id i) d))) none
+      (λ d. let before = content_at stacks.old old.0 d in
+      let after = content_at stacks.new new.0 d in
+      as-other stacks.compared parts.0 before after ((difference_tells before after).1 (λ i. content_read (content_at (layers i) (id i) d)))) none
 
   pub tree-itself : (says : ℕ → Type 0) → says 1 → HasTree stacks old new sets says
   tree-itself says one = subst (λ (b : Bool). HasTreeFor b (traces stacks old new) sets says) (sym itself) one

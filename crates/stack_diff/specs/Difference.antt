@@ -36,6 +36,8 @@ pub data DifferenceOf : Type 0 where
   RowsDiffer : List RowDifferenceOf → DifferenceOf
   -- what is said before and after, where one of the two is no bag
   ContentsDiffer : ContentOf → ContentOf → DifferenceOf
+  -- all that is said, where it is compared with nothing
+  FromNothing : ContentOf → DifferenceOf
 
 abbrev pub of_rows : List RowDifferenceOf → Option DifferenceOf
 of_rows [] = None

@@ -6,7 +6,7 @@ use Rattle.stack_diff.specs.declared.difference.RowDifference.TheVariants as of_
 use Rattle.stack_diff.specs.declared.difference.Difference.{Difference}
 use Rattle.stack_diff.specs.declared.difference.Difference.TheVariants as of_difference
 use Rattle.answer_text.specs.ContentSeen.{value_content_of, row_key_of, row_content_of, content_of}
-use Rattle.stack_diff.specs.Difference.{RowDifferenceOf, RowRemoved, RowAdded, RowChanged, changed_row, DifferenceOf, RowsDiffer, ContentsDiffer}
+use Rattle.stack_diff.specs.Difference.{RowDifferenceOf, RowRemoved, RowAdded, RowChanged, changed_row, DifferenceOf, RowsDiffer, ContentsDiffer, FromNothing}
 
 abbrev pub row_difference_of : RowDifference → RowDifferenceOf
 row_difference_of (of_row.Removed row) = RowRemoved (row_content_of row)
@@ -21,3 +21,4 @@ changed_rows None = []
 abbrev pub difference_of : Difference → DifferenceOf
 difference_of (of_difference.Rows rows) = RowsDiffer (map row_difference_of rows.items)
 difference_of (of_difference.Contents before after) = ContentsDiffer (content_of before) (content_of after)
+difference_of (of_difference.FromNothing content) = FromNothing (content_of content)

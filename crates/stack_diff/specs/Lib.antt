@@ -10,8 +10,10 @@ pub mod Grouped
 pub mod Compared
 pub mod TraceLaw
 pub mod Difference
+pub mod ComparedWith
 pub mod DifferenceSeen
 pub mod DifferenceLaw
+pub mod Values
 pub use Rattle.cert_maker.specs.cert_checker
 pub use Rattle.cert_maker.specs as cert_maker
 pub use Rattle.config_box.specs as config_box

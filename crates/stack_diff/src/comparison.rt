@@ -66,6 +66,7 @@ fn compare_by_tree<'a>(
             stack: stacks.new,
             id: new,
         },
+        compared: stacks.compared,
     };
     let Some(leaves) = grow_tree(alloc, pair, members, most)? else {
         return Ok(None);

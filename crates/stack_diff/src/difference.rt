@@ -28,6 +28,8 @@ pub enum Difference<'a> {
         before: Content<'a>,
         after: Content<'a>,
     },
+    /// All that is said, where it is compared with nothing.
+    FromNothing(Content<'a>),
 }
 
 /// A row of one bag alone, or two rows of one key whose values a device does not read alike.

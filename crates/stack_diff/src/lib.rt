@@ -26,6 +26,7 @@
 #![tactic(auto)]
 
 mod change;
+mod compared_with;
 mod comparison;
 mod difference;
 mod grouped;

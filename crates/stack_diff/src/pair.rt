@@ -1,5 +1,6 @@
 //! The resources that are compared.
 
+use crate::compared_with::ComparedWith;
 use answer_text::ResId;
 use names::NamedStack;
 
@@ -10,9 +11,10 @@ pub(crate) struct Resource<'s, 'a> {
     pub(crate) id: ResId,
 }
 
-/// A resource of the stack before, and one of the stack after.
+/// A resource of the stack before, and one of the stack after; and with what the second is compared.
 #[derive(Clone, Copy)]
 pub(crate) struct Pair<'s, 'a> {
     pub(crate) before: Resource<'s, 'a>,
     pub(crate) after: Resource<'s, 'a>,
+    pub(crate) compared: ComparedWith,
 }

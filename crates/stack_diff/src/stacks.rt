@@ -1,23 +1,26 @@
 //! The stacks that are compared.
 
 ghost use Rattle.std.specs.Prelude.{◌≡◌, true};
+ghost use Rattle.stack_diff.specs.ComparedWith.{with_itself};
 
+use crate::compared_with::ComparedWith;
 use answer_text::ResId;
 use names::{NamedStack, PackageNames};
 
-/// Two stacks with their names, and the packages by which resources are told; or one that is compared with itself.
+/// Two stacks with their names, and the packages by which resources are told; or one that is compared with itself, or with
+/// nothing.
 #[derive(Clone, Copy)]
 pub struct Stacks<'s, 'a> {
     pub(crate) old: &'s NamedStack<'s, 'a>,
     pub(crate) new: &'s NamedStack<'s, 'a>,
     pub(crate) packages: &'s PackageNames<'a>,
-    pub(crate) are_one: bool,
-    ghost one: { are_one ≡ true → new.now ≡ old.now },
+    pub(crate) compared: ComparedWith,
+    ghost one: { with_itself compared ≡ true → new.now ≡ old.now },
 }
 
 impl<'s, 'a> Stacks<'s, 'a> {
     ghost use Rattle.std.specs.Prelude.{◌≡◌};
-    ghost use Rattle.stack_diff.specs.Stacks.{one_stack, two_stacks, stacks_of, is_itself};
+    ghost use Rattle.stack_diff.specs.Stacks.{one_stack, two_stacks, beside_nothing, stacks_of, is_itself};
 
     /// Two stacks.
     pub fn two(
@@ -31,7 +34,7 @@ impl<'s, 'a> Stacks<'s, 'a> {
             old,
             new,
             packages,
-            are_one: false,
+            compared: ComparedWith::Other,
         }
     }
 
@@ -43,7 +46,22 @@ impl<'s, 'a> Stacks<'s, 'a> {
             old: stack,
             new: stack,
             packages,
-            are_one: true,
+            compared: ComparedWith::Itself,
+        }
+    }
+
+    /// One stack beside nothing: of a resource all is told that it says.
+    pub fn beside_nothing(
+        stack: &'s NamedStack<'s, 'a>,
+        packages: &'s PackageNames<'a>,
+    ) -> Stacks<'s, 'a>
+        ensures { stacks_of result ≡ beside_nothing stack.now packages.now }
+    {
+        Stacks {
+            old: stack,
+            new: stack,
+            packages,
+            compared: ComparedWith::Nothing,
         }
     }
 
@@ -72,6 +90,6 @@ impl<'s, 'a> Stacks<'s, 'a> {
     pub(crate) fn is_itself(&self, old: ResId, new: ResId) -> bool
         ensures { result ≡ is_itself (stacks_of self.now) old new }
     {
-        self.are_one && old.0 == new.0
+        self.compared.is_itself() && old.0 == new.0
     }
 }

@@ -1,17 +1,21 @@
 //! The tree that parts a box until all members of each part have one trace in either stack.
 
 ghost use Rattle.std.specs.Prelude.{◌≡◌, ℕ, List, [], ◌∷◌, ◌++◌, ◌+◌, IfOk, OnOk};
+ghost use Rattle.std.specs.Option.{option_map};
+ghost use Rattle.answer_text.specs.config_record.DeviceSeen.{device_numbers};
 ghost use Rattle.cert_maker.specs.box_answers.Members.{IsMember};
-ghost use Rattle.stack_diff.specs.Sides.{pair_traces};
+ghost use Rattle.stack_diff.specs.DifferenceSeen.{difference_of};
+ghost use Rattle.stack_diff.specs.Sides.{ends_told, pair_traces};
 ghost use Rattle.stack_diff.specs.PairBox.{HaveOneTrace, EndAt, IsOpen};
 ghost use Rattle.stack_diff.specs.Tree.{TellsLeaf, AddsNode, IsGrown};
 
+use crate::compared_with::ComparedWith;
 use crate::difference::{Difference, difference_of_ends};
 use crate::pair::Pair;
 use crate::pair_box::{PairBox, PairTrace};
-use answer_text::End;
+use answer_text::{Device, End, content_of_end};
 use cert_maker::{ConfigBox, OutOfMemory, parting_test};
-use std::alloc::Global;
+use std::alloc::{AllocError, Global};
 
 /// How the two stacks differ for all members of a leaf.
 #[derive(Drop)]
@@ -106,8 +110,7 @@ fn tell_leaf<'a>(
     ensures { OnOk result (TellsLeaf pair.entry members.now told.old.items told.new.items) }
 {
     let device = members.corner();
-    let (old, new) = (pair.before.stack, pair.after.stack);
-    let found = difference_of_ends(alloc, old, before, new, after, &device)?;
+    let found = told_of_ends(alloc, pair, before, after, &device)?;
     if let Some(difference) = found {
         let difference = Box::new(alloc, difference)?;
         let members = members.shared(alloc)?;
@@ -117,4 +120,26 @@ fn tell_leaf<'a>(
         })?;
     }
     Ok(())
+}
+
+// What is told of two ends, to which the resources lead at this device.
+fn told_of_ends<'a>(
+    alloc: Global,
+    pair: Pair<'_, 'a>,
+    before: End,
+    after: End,
+    device: &Device,
+) -> Result<Option<Difference<'a>>, AllocError>
+    ensures { IfOk result (λ it. option_map difference_of it ≡ ends_told pair.entry before after (device_numbers device.now)) }
+{
+    let (old, new) = (pair.before.stack, pair.after.stack);
+    match pair.compared {
+        ComparedWith::Nothing => {
+            let content = content_of_end(alloc, new, after, device)?;
+            Ok(Some(Difference::FromNothing(content)))
+        }
+        ComparedWith::Other | ComparedWith::Itself => {
+            difference_of_ends(alloc, old, before, new, after, device)
+        }
+    }
 }

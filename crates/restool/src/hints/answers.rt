@@ -30,6 +30,9 @@ impl<I: Inputs> Asked<'_, '_, I> {
             Request::Diff(diff) if said == NODE_LIMIT => {
                 hint_of_limit(alloc, diff.max_nodes, reached, "names")
             }
+            Request::Values(values) if said == NODE_LIMIT => {
+                hint_of_limit(alloc, values.max_nodes, reached, "names")
+            }
             Request::Make(_) if said.starts_with(COUNTEREXAMPLE) => format!(in alloc;
                 "--omit leaves out goals without a value on some device, and tells them"
             ).ok(),

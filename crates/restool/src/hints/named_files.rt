@@ -46,6 +46,7 @@ impl<'a> Request<'a> {
             Request::Make(make) => Some(make.box_path),
             Request::Check(check) => Some(check.box_path),
             Request::Diff(diff) => Some(diff.box_path),
+            Request::Values(values) => Some(values.box_path),
             _ => None,
         }
     }
@@ -58,6 +59,7 @@ impl<'a> Request<'a> {
             Request::Make(make) => &make.goals,
             Request::Check(check) => &check.goals,
             Request::Diff(diff) => &diff.words,
+            Request::Values(values) => &values.words,
             _ => &[],
         }
     }
@@ -81,6 +83,7 @@ impl<'a> Request<'a> {
             Request::Make(make) => make.locales,
             Request::Check(check) => check.locales,
             Request::Diff(diff) => diff.locales,
+            Request::Values(values) => values.locales,
             Request::Device(form) => form.locales,
             _ => LocaleRule::LanguageAndRegion,
         }

@@ -8,5 +8,5 @@ use Rattle.diff_command.proofs.lines.write_labels.Given as goal
 
 abbrev pub invariant-loop-pair : goal.invariant-loop-pair
 invariant-loop-pair g l =
-    PutsAllBut (pair_lines l.packages) (g.W.Write.contents l.fn.out) (g.W.Write.contents l.out) (zip (map pair_of l.pairs) (map told_of l.told))
+    PutsAllBut (pair_lines l.before l.packages) (g.W.Write.contents l.fn.out) (g.W.Write.contents l.out) (zip (map pair_of l.pairs) (map told_of l.told))
     (zip (map pair_of l.pair-iterator.a.rest.now) (map told_of l.pair-iterator.b.rest.now))

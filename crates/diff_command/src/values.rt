@@ -1,0 +1,251 @@
+//! The command `values`.
+
+ghost use Rattle.std.specs.Prelude.{◌≡◌, map, option_map, string_bytes, Some, Ok, IfSome};
+ghost use Rattle.std.specs.List.{All};
+ghost use Rattle.contract_words.specs.Exact.{GivesOr};
+ghost use Rattle.command_base.specs.CarriesOut.{IsKept};
+ghost use Rattle.command_base.specs.Output.{IsOfInput, Prints, PrintsOneOf};
+ghost use Rattle.command_base.specs.StackBytesSeen.{layer_bytes};
+ghost use Rattle.command_base.specs.Stop.{GivesOrStops};
+ghost use Rattle.command_base.specs.declared.fault.ToolFault.TheVariants.{OutOfMemory, Write};
+ghost use Rattle.stack_diff.specs.names.Laws.{id_of};
+ghost use Rattle.stack_diff.specs.names.NameFault.{GivesNamed};
+ghost use Rattle.stack_diff.specs.names.NamedIds.{packages_of};
+ghost use Rattle.stack_diff.specs.names.NamedPairs.{pairs_named};
+ghost use Rattle.stack_diff.specs.names.NamedSet.{named_set_of};
+ghost use Rattle.stack_diff.specs.names.Pairs.{pair_of, name_pairs};
+ghost use Rattle.diff_command.specs.Judged.{told_of};
+ghost use Rattle.diff_command.specs.LabelsBeside.{AreOfOneStack};
+ghost use Rattle.diff_command.specs.Values.{TellsValues, TellsValuesOf, ValuesOpened, opened_values, values_files, values_held, values_inputs_by, values_opened};
+ghost use Rattle.diff_command.specs.ValuesOutput.{values_output, IsValuesOutput};
+
+use crate::judged::tell_all;
+use crate::told::Told;
+use crate::value_lines::write_value_lines;
+use answer_text::Form;
+use command_base::{
+    Inputs, LayerFiles, LayerParts, LocaleRule, NamedSet, Progress, Status, Stop, ToolFault,
+    asked_sets, asked_words, file_bytes, open_stack,
+};
+use names::{NameFault, pairs_named};
+use stack_diff::{ConfigBox, NamePair, NamedStack, PackageNames, Stack, Stacks, name_pairs};
+use std::alloc::{AllocError, Global};
+use std::io::Write;
+
+/// What the words of `values` ask: what some resources say, on which devices of a box.
+#[derive(Drop)]
+pub struct Values<'a> {
+    /// Where the list of layers lies.
+    pub layers: &'a str,
+    /// Where the box lies.
+    pub box_path: &'a str,
+    /// By which rule locales are compared.
+    pub locales: LocaleRule,
+    /// How it is written.
+    pub form: Form,
+    /// How many nodes the trees that part the devices have together at most.
+    pub max_nodes: u32,
+    /// The words that ask for resources, or name a file of such words.
+    pub words: Vec<&'a str>,
+}
+
+impl<'a> Values<'a> {
+    /// Reads what the words name, and answers them; `progress` comes to know how many resources are told. Where it is not
+    /// answered, nothing is written, unless a write fails.
+    pub fn answer<I: Inputs, P: Progress, W: Write + Drop>(
+        &self,
+        alloc: Global,
+        inputs: &I,
+        progress: &mut P,
+        out: &mut W,
+    ) -> Result<Status, Stop<'a>>
+        ensures answers { IfSome (I.places inputs.now) (λ places. TellsValues W.contents out.old out.new places self.now result) }
+        ensures unwritten { IsKept out.old out.new result }
+    {
+        let files = ValuesFiles::read(alloc, inputs, self.layers, self.box_path, &self.words)?;
+        self.answer_of(alloc, &files, progress, out)
+    }
+
+    fn answer_of<P: Progress, W: Write + Drop>(
+        &self,
+        alloc: Global,
+        files: &ValuesFiles,
+        progress: &mut P,
+        out: &mut W,
+    ) -> Result<Status, Stop<'static>>
+        ensures answers { TellsValuesOf W.contents out.old out.new self.now (Ok (values_held files.now)) result }
+        ensures unwritten { IsKept out.old out.new result }
+    {
+        let layers = files.layers.layers(alloc)?;
+        self.values_of(
+            alloc,
+            &layers,
+            &files.box_json,
+            &files.words,
+            progress,
+            out,
+        )
+    }
+
+    // Reads the words, opens the layers, reads the box, finds what the words ask for, and then prints what that says.
+    #[tactic(auto, unfolding(crate::specs::Values::values_opened))]
+    fn values_of<P: Progress, W: Write + Drop>(
+        &self,
+        alloc: Global,
+        layers: &[LayerParts<&[u8]>],
+        box_json: &[u8],
+        words: &[String],
+        progress: &mut P,
+        out: &mut W,
+    ) -> Result<Status, Stop<'static>>
+        ensures answers { ValuesOpened W.contents out.old out.new self.now.form self.now.max_nodes
+            (values_opened self.now.locales (map layer_bytes layers.now) box_json.now (map string_bytes words.now)) result }
+        ensures unwritten { IsKept out.old out.new result }
+    {
+        let sets = asked_sets(alloc, words)?;
+        let opened = OpenedValues::read_by(alloc, layers, box_json, self.locales)?;
+        let stack = NamedStack::of(alloc, &opened.stack)?;
+        let pairs = pairs_for(alloc, &stack, &sets)?;
+        Ok(opened.values(
+            alloc,
+            self.form,
+            &stack,
+            &pairs,
+            self.max_nodes,
+            progress,
+            out,
+        )?)
+    }
+}
+
+/// The bytes of layers and of a box, and the words of the argument that takes several.
+#[derive(Drop)]
+struct ValuesFiles {
+    layers: LayerFiles,
+    box_json: Vec<u8>,
+    words: Vec<String>,
+}
+
+impl ValuesFiles {
+    /// Reads a list of layers with the files that it names, then a box, and the files of words.
+    #[tactic(auto, unfolding(crate::specs::Values::values_files))]
+    fn read<'a, I: Inputs>(
+        alloc: Global,
+        inputs: &I,
+        layers_path: &'a str,
+        box_path: &'a str,
+        words: &[&'a str],
+    ) -> Result<ValuesFiles, Stop<'a>>
+        ensures { IfSome (I.places inputs.now) (λ places. GivesOrStops values_held result
+            (values_files places layers_path.entry.now box_path.entry.now (map (λ word. word.now) words.now))) }
+    {
+        let layers = LayerFiles::read(alloc, inputs, layers_path)?;
+        let box_json = file_bytes(inputs, box_path)?;
+        let words = asked_words(alloc, inputs, words)?;
+        Ok(ValuesFiles {
+            layers,
+            box_json,
+            words,
+        })
+    }
+}
+
+/// The layers and the box.
+#[derive(Drop)]
+struct OpenedValues<'a> {
+    stack: Stack<'a>,
+    members: ConfigBox,
+    /// By which rule the locales of the box are compared.
+    rule: LocaleRule,
+}
+
+impl<'a> OpenedValues<'a> {
+    /// Opens the layers, and then reads the box, whose locales are read and compared by a rule.
+    #[tactic(auto, unfolding(crate::specs::Values::values_inputs_by))]
+    fn read_by(
+        alloc: Global,
+        layers: &[LayerParts<&'a [u8]>],
+        box_json: &[u8],
+        rule: LocaleRule,
+    ) -> Result<OpenedValues<'a>, ToolFault>
+        ensures value { GivesOr OutOfMemory opened_values result (values_inputs_by rule (map layer_bytes layers.now) box_json.now) }
+        ensures of_input { IsOfInput result }
+    {
+        let stack = open_stack(alloc, layers)?;
+        let members = ConfigBox::read_by(alloc, box_json, rule)?;
+        Ok(OpenedValues {
+            stack,
+            members,
+            rule,
+        })
+    }
+
+    /// Prints what the resources of some labels say, on which devices of the box, where these are the names of its layers; or
+    /// `node limit`, where the trees that part the devices can have more than `max_nodes` nodes together. All memory is taken
+    /// before the first line is written.
+    fn values<P: Progress, W: Write + Drop>(
+        &self,
+        alloc: Global,
+        form: Form,
+        stack: &NamedStack<'_, 'a>,
+        pairs: &[NamePair<'a>],
+        max_nodes: u32,
+        progress: &mut P,
+        out: &mut W,
+    ) -> Result<Status, ToolFault>
+        requires named { stack.now ≡ self.now.stack }
+        requires pairs { AreOfOneStack stack.now (map pair_of pairs.now) }
+        ensures { PrintsOneOf (IsValuesOutput form (map pair_of pairs.now) max_nodes) W.contents out.old out.new result (Ok (opened_values self.now)) }
+    {
+        let packages = packages_of(alloc, &self.stack)?;
+        let told = tell_all(
+            alloc,
+            form,
+            Stacks::beside_nothing(stack, &packages),
+            pairs,
+            &self.members,
+            max_nodes,
+            progress,
+        )?;
+        print_values(self.rule, stack, &packages, pairs, told, out)
+    }
+}
+
+fn packages_of<'a>(alloc: Global, stack: &Stack<'a>) -> Result<PackageNames<'a>, AllocError>
+    ensures { IfOk result (λ packages. packages ≡ packages_of stack.now) }
+{
+    let tables = stack.base_tables(alloc)?;
+    PackageNames::of(alloc, &tables)
+}
+
+// The labels of a stack for which some word asks, in rising order; all of them without words.
+fn pairs_for<'a>(
+    alloc: Global,
+    stack: &NamedStack<'_, 'a>,
+    sets: &[NamedSet<'_>],
+) -> Result<Vec<NamePair<'a>>, NameFault>
+    ensures asked { GivesNamed (λ pairs. map pair_of pairs.items) result (pairs_named stack.now stack.now (map named_set_of sets.now) (name_pairs stack.now stack.now)) }
+    ensures of_one { IfOk result (λ pairs. AreOfOneStack stack.now (map pair_of pairs.items)) }
+{
+    let all = name_pairs(alloc, stack, stack)?;
+    pairs_named(alloc, stack, stack, all, sets)
+}
+
+fn print_values<W: Write + Drop>(
+    rule: LocaleRule,
+    stack: &NamedStack<'_, '_>,
+    packages: &PackageNames<'_>,
+    pairs: &[NamePair<'_>],
+    told: Option<Vec<Told>>,
+    out: &mut W,
+) -> Result<Status, ToolFault>
+    requires { packages.now ≡ packages_of stack.now }
+    ensures { Prints W.contents out.old out.new result (Ok (values_output rule stack.now (map pair_of pairs.now) (option_map (λ all. map told_of all.items) told))) }
+{
+    let Some(told) = told else {
+        out.write_all(b"node limit\n")?;
+        return Ok(Status::Negative);
+    };
+    write_value_lines(rule, stack, packages, pairs, &told, out)?;
+    Ok(Status::Done)
+}
