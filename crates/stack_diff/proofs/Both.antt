@@ -1,10 +1,12 @@
 -- What members do alike in two stacks.
-use Rattle.std.proofs.Common.{◌≡◌, List, true, false, ap, refl, subst}
+use Rattle.std.proofs.Common.{◌≡◌, ℕ, List, true, false, ap, refl, subst}
 use Rattle.cert_maker.specs.box_answers.NumberSet.{SetOf}
 use Rattle.cert_maker.specs.box_answers.Members.{IsMember}
 use Rattle.cert_maker.specs.cert_checker.box_trace.Parting.{answer_of, IsToldApart}
 use Rattle.cert_maker.specs.cert_checker.box_trace.declared.parting.Parting.{Parting}
 use Rattle.cert_maker.specs.cert_checker.box_trace.declared.common.CommonTrace.TheVariants.{One}
+use Rattle.cert_maker.specs.cert_checker.bags_themes.ContentTrace.{content_trace}
+use Rattle.cert_maker.specs.cert_checker.reference_resolver.Trace.{Trace}
 use Rattle.cert_maker.specs.cert_checker.reference_resolver.declared.end.End.{End}
 use Rattle.stack_diff.specs.declared.pair.Pair.{Pair}
 use Rattle.stack_diff.specs.Sides.{trace_in, pair_traces}
@@ -35,6 +37,13 @@ parts-after pair sets parting apart = record {
 pub one-in-both : (pair : Pair) (sets : List SetOf) (before after : End) → IsTraceOf (trace_in pair.before) sets (One before) → IsTraceOf (trace_in pair.after) sets (One after)
     → HaveOneTrace (IsMember sets) (pair_traces pair) × EndAt pair sets before after
 one-in-both pair sets before after old new = (λ d e md me i. (old.0 d e md me i, new.0 d e md me i), record { before_end = old.1; after_end = new.1 })
+
+-- a resource beside itself has one trace
+pub one-alone : (pair : Pair) (sets : List SetOf) (end : End) → pair.is_alone ≡ true → IsTraceOf (trace_in pair.after) sets (One end) → HaveOneTrace (IsMember sets) (pair_traces pair) × EndAt pair sets end end
+one-alone pair sets end alone trace =
+    let both = pair.alone alone in
+    let same : trace_in pair.after ≡ trace_in pair.before = λ i d. content_trace (both.0 i) (both.1 i) d in
+    one-in-both pair sets end end (subst (λ (of : List ℕ → Trace). IsTraceOf of sets (One end)) same trace) trace
 
 -- ---- a test
 

@@ -1,5 +1,5 @@
 -- Changes whose boxes are joined.
-use Rattle.std.proofs.Common.{◌≡◌, ℕ, ◌⊎◌, arith, List, [], ◌∷◌, get_or, map, sym, subst, ◌∙◌}
+use Rattle.std.proofs.Common.{◌≡◌, ℕ, ◌≤◌, ◌⊎◌, arith, List, [], ◌∷◌, Option, Some, get_or, map, sym, subst, ◌∙◌}
 use Rattle.std.specs.List.{All, AllPairs, AllZip}
 use Rattle.std.proofs.lemmas.List.Elements.{All-nil, All-cons, All-head, All-tail}
 use Rattle.std.proofs.lemmas.List.Kept.{AllPairs-cons}
@@ -13,12 +13,14 @@ use Rattle.stack_diff.specs.DifferenceSeen.{difference_of}
 use Rattle.stack_diff.specs.declared.pair.Pair.{Pair}
 use Rattle.stack_diff.specs.declared.change.Change.{Change}
 use Rattle.stack_diff.specs.declared.tree.Leaf.{Leaf}
-use Rattle.stack_diff.specs.Sides.{pair_differs}
+use Rattle.stack_diff.specs.declared.tree.Leaves.{Leaves}
+use Rattle.stack_diff.specs.Sides.{pair_differs, pair_traces}
 use Rattle.stack_diff.specs.Once.{KeepsEach}
 use Rattle.stack_diff.specs.Changes.{ChangeOf, change_of, IsSo, AreChanges, boxes_in}
 use Rattle.stack_diff.proofs.Same.{are-changes}
 use Rattle.stack_diff.specs.Fewest.{TellOther, AreToldShort}
-use Rattle.stack_diff.specs.Tree.{AreRight}
+use Rattle.stack_diff.specs.Tree.{AreRight, IsGrown}
+use Rattle.stack_diff.specs.NeededTree.{HasNeededTree}
 use Rattle.stack_diff.specs.Grouped.{IsGathered, AreGathered, JoinsBoxes, Groups}
 use Rattle.stack_diff.proofs.Once.{keeps-on, keeps-all, keeps-behind, keeps-before}
 use Rattle.stack_diff.proofs.FewBoxes.{IsJoinedOf, at-most-once, part-count, none-or-once, few-boxes}
@@ -141,3 +143,10 @@ module _ (pair : Pair) (sets : List SetOf) where
         few-boxes (pair_differs pair) sets (map change_of changes) right.is_box are (apart-joined groups.gathered changes groups.joins groups.gathers.apart)
             (all-flat (IsOfKinds sets) (λ change. change.boxes) (map change_of changes) (λ k c q. (each k c q).kinds)) (joined-of groups.gathered changes groups.joins so_far apart),
       )
+
+-- the same of a tree that was grown within a limit
+pub changes-grown : (pair : Pair) (sets : List SetOf) (most : ℕ) (found : Option Leaves) (leaves : Leaves) (changes : List Change) → IsGrown pair sets most found → found ≡ Some leaves → Groups leaves.told.items changes
+    → AreToldShort (pair_differs pair) sets (map change_of changes) × HasNeededTree (pair_traces pair) sets (λ nodes. nodes ≡ leaves.nodes) × (leaves.nodes ≤ most)
+changes-grown pair sets most found leaves changes grown is groups =
+    let all = subst (λ (one : Option Leaves). IsGrown pair sets most one) is grown in
+    (changes-of pair sets leaves.told.items changes all.0 groups, all.1, all.2)

@@ -1,5 +1,5 @@
 -- A resource beside itself.
-use Rattle.std.proofs.Common.{◌≡◌, ℕ, arith, Bool, true, false, List, [], Option, None, eqb-true, sym, subst}
+use Rattle.std.proofs.Common.{◌≡◌, ℕ, arith, Bool, true, false, List, [], Option, None, eqb-true, refl, sym, subst}
 use Rattle.std.proofs.lemmas.Bool.{and_parts}
 use Rattle.std.proofs.lemmas.List.Elements.{All-nil}
 use Rattle.cert_maker.specs.res_value.declared.res_id.ResId.{ResId}
@@ -7,7 +7,7 @@ use Rattle.cert_maker.specs.box_answers.NumberSet.{SetOf}
 use Rattle.answer_text.specs.ContentAt.{content_at}
 use Rattle.answer_text.specs.ReadAlike.{content_read}
 use Rattle.answer_text.specs.Content.{ContentOf}
-use Rattle.stack_diff.specs.ComparedWith.{with_itself, told_between}
+use Rattle.stack_diff.specs.ComparedWith.{with_itself, with_no_other, told_between}
 use Rattle.stack_diff.specs.Difference.{DifferenceOf, difference}
 use Rattle.stack_diff.specs.declared.compared_with.ComparedWith.{ComparedWith}
 use Rattle.stack_diff.specs.declared.compared_with.ComparedWith.TheVariants.{Other, Itself, Nothing}
@@ -34,16 +34,21 @@ no-boxes differs sets changes same none = subst (AreToldShort differs sets) (sym
 )
 
 -- beside itself it differs, if it does, as from another
+no-other : (compared : ComparedWith) → with_itself compared ≡ true → with_no_other compared ≡ true
+no-other Other is = absurd cc
+no-other Itself is = refl
+no-other Nothing is = absurd cc
+
 as-other : (compared : ComparedWith) → with_itself compared ≡ true → (before after : ContentOf) → difference before after ≡ None → told_between compared before after ≡ None
 as-other Other is before after same = same
 as-other Itself is before after same = same
 as-other Nothing is before after same = absurd cc
 
 module _ (stacks : StacksOf) (sets : List SetOf) (old new : ResId) (itself : is_itself stacks old new ≡ true) where
-  pub told-itself : (changes : List ChangeOf) → (with_itself stacks.compared ≡ true → stacks.new ≡ stacks.old) → changes ≡ [] → AreToldShort (differs stacks old new) sets changes
+  pub told-itself : (changes : List ChangeOf) → (with_no_other stacks.compared ≡ true → stacks.new ≡ stacks.old) → changes ≡ [] → AreToldShort (differs stacks old new) sets changes
   told-itself changes one none =
       let parts = and_parts _ _ itself in
-      let layers : stacks.old ≡ stacks.new = sym (one parts.0) in
+      let layers : stacks.old ≡ stacks.new = sym (one (no-other stacks.compared parts.0)) in
       let id : old.0 ≡ new.0 = eqb-true old.0 new.0 parts.1 in
       no-boxes (differs stacks old new) sets changes
       (λ d. let before = content_at stacks.old old.0 d in

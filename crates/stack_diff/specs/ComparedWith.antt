@@ -10,6 +10,17 @@ with_itself Other = false
 with_itself Itself = true
 with_itself Nothing = false
 
+abbrev pub with_nothing : ComparedWith → Bool
+with_nothing Other = false
+with_nothing Itself = false
+with_nothing Nothing = true
+
+-- the stack before is the one after
+abbrev pub with_no_other : ComparedWith → Bool
+with_no_other Other = false
+with_no_other Itself = true
+with_no_other Nothing = true
+
 -- two stacks, which may be one
 abbrev pub itself_if : Bool → ComparedWith
 itself_if true = Itself

@@ -6,7 +6,7 @@ use Rattle.cert_maker.specs.cert_checker.bags_themes.ContentTrace.{content_trace
 use Rattle.cert_maker.specs.res_value.declared.res_id.ResId.{ResId}
 use Rattle.names.specs.Packages.{PackageNameOf}
 use Rattle.answer_text.specs.ContentAt.{content_at}
-use Rattle.stack_diff.specs.ComparedWith.{with_itself, told_between}
+use Rattle.stack_diff.specs.ComparedWith.{with_itself, with_nothing, told_between}
 use Rattle.stack_diff.specs.Difference.{DifferenceOf}
 use Rattle.stack_diff.specs.declared.compared_with.ComparedWith.{ComparedWith}
 use Rattle.stack_diff.specs.declared.compared_with.ComparedWith.TheVariants.{Other, Itself, Nothing}
@@ -35,6 +35,10 @@ beside_nothing layers packages = record { old = layers; new = layers; packages =
 -- both ids are one resource of one stack
 abbrev pub is_itself : StacksOf → ResId → ResId → Bool
 is_itself stacks old new = with_itself stacks.compared && old.0 == new.0
+
+-- the same where the stack is compared with nothing
+abbrev pub is_alone : StacksOf → ResId → ResId → Bool
+is_alone stacks old new = with_nothing stacks.compared && old.0 == new.0
 
 -- ---- at a device, which is the list of its numbers
 

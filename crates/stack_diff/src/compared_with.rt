@@ -13,11 +13,17 @@ pub(crate) enum ComparedWith {
 
 impl ComparedWith {
     ghost use Rattle.std.specs.Prelude.{◌≡◌};
-    ghost use Rattle.stack_diff.specs.ComparedWith.{with_itself};
+    ghost use Rattle.stack_diff.specs.ComparedWith.{with_itself, with_nothing};
 
     pub(crate) fn is_itself(self) -> bool
         ensures { result ≡ with_itself self }
     {
         matches!(self, ComparedWith::Itself)
+    }
+
+    pub(crate) fn is_nothing(self) -> bool
+        ensures { result ≡ with_nothing self }
+    {
+        matches!(self, ComparedWith::Nothing)
     }
 }

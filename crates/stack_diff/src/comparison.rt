@@ -67,6 +67,7 @@ fn compare_by_tree<'a>(
             id: new,
         },
         compared: stacks.compared,
+        is_alone: stacks.is_alone(old, new),
     };
     let Some(leaves) = grow_tree(alloc, pair, members, most)? else {
         return Ok(None);

@@ -1,5 +1,7 @@
 //! The resources that are compared.
 
+ghost use Rattle.std.specs.Prelude.{◌≡◌, true};
+
 use crate::compared_with::ComparedWith;
 use answer_text::ResId;
 use names::NamedStack;
@@ -17,4 +19,7 @@ pub(crate) struct Pair<'s, 'a> {
     pub(crate) before: Resource<'s, 'a>,
     pub(crate) after: Resource<'s, 'a>,
     pub(crate) compared: ComparedWith,
+    /// Whether both are one resource of one stack, which is compared with nothing: then one trace tells both.
+    pub(crate) is_alone: bool,
+    ghost alone: { is_alone ≡ true → (after.stack.now ≡ before.stack.now) × (after.id.0 ≡ before.id.0) },
 }

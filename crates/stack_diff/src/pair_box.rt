@@ -1,6 +1,6 @@
 //! The boxes of open paths, where two stacks are asked.
 
-ghost use Rattle.std.specs.Prelude.{◌≡◌, ℕ, List, [], ◌∷◌, ◌++◌, IfOk};
+ghost use Rattle.std.specs.Prelude.{◌≡◌, true, ℕ, List, [], ◌∷◌, ◌++◌, IfOk};
 ghost use Rattle.cert_maker.specs.cert_checker.config_record.DeviceSeen.{device_numbers};
 ghost use Rattle.cert_maker.specs.cert_checker.overlay_map.Layer.{LayerOf};
 ghost use Rattle.cert_maker.specs.cert_checker.reference_resolver.Trace.{Trace};
@@ -76,6 +76,9 @@ impl<'a, 's> PairBox<'a, 's> {
         ensures open { IsOpen pair.entry self.new }
         ensures trace { IfOk result (IsPairTrace pair.entry (members_of self.old)) }
     {
+        if pair.is_alone {
+            return self.trace_alone(alloc, pair);
+        }
         // Either goes on as far as it can, so that its halves do not ask again what it has passed.
         let before = trace_in(alloc, pair.before.stack.stack(), &mut self.before)?;
         let after = trace_in(alloc, pair.after.stack.stack(), &mut self.after)?;
@@ -85,6 +88,27 @@ impl<'a, 's> PairBox<'a, 's> {
         };
         match after {
             CommonTrace::One(after) => Ok(PairTrace::One { before, after }),
+            CommonTrace::Mixed(parting) => Ok(PairTrace::Parted(parting)),
+        }
+    }
+
+    // The same of one resource, whose trace tells both.
+    fn trace_alone(
+        &mut self,
+        alloc: Global,
+        pair: Pair<'_, 'a>,
+    ) -> Result<PairTrace<'a>, OutOfMemory>
+        requires open { IsOpen pair self.old }
+        requires alone { pair.is_alone ≡ true }
+        ensures members { members_of self.new ≡ members_of self.old }
+        ensures open { IsOpen pair.entry self.new }
+        ensures trace { IfOk result (IsPairTrace pair.entry (members_of self.old)) }
+    {
+        match trace_in(alloc, pair.after.stack.stack(), &mut self.after)? {
+            CommonTrace::One(end) => Ok(PairTrace::One {
+                before: end,
+                after: end,
+            }),
             CommonTrace::Mixed(parting) => Ok(PairTrace::Parted(parting)),
         }
     }

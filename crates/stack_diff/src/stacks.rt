@@ -1,7 +1,7 @@
 //! The stacks that are compared.
 
 ghost use Rattle.std.specs.Prelude.{◌≡◌, true};
-ghost use Rattle.stack_diff.specs.ComparedWith.{with_itself};
+ghost use Rattle.stack_diff.specs.ComparedWith.{with_no_other};
 
 use crate::compared_with::ComparedWith;
 use answer_text::ResId;
@@ -15,12 +15,12 @@ pub struct Stacks<'s, 'a> {
     pub(crate) new: &'s NamedStack<'s, 'a>,
     pub(crate) packages: &'s PackageNames<'a>,
     pub(crate) compared: ComparedWith,
-    ghost one: { with_itself compared ≡ true → new.now ≡ old.now },
+    ghost one: { with_no_other compared ≡ true → new.now ≡ old.now },
 }
 
 impl<'s, 'a> Stacks<'s, 'a> {
     ghost use Rattle.std.specs.Prelude.{◌≡◌};
-    ghost use Rattle.stack_diff.specs.Stacks.{one_stack, two_stacks, beside_nothing, stacks_of, is_itself};
+    ghost use Rattle.stack_diff.specs.Stacks.{one_stack, two_stacks, beside_nothing, stacks_of, is_itself, is_alone};
 
     /// Two stacks.
     pub fn two(
@@ -91,5 +91,12 @@ impl<'s, 'a> Stacks<'s, 'a> {
         ensures { result ≡ is_itself (stacks_of self.now) old new }
     {
         self.compared.is_itself() && old.0 == new.0
+    }
+
+    /// Whether both ids are one resource of a stack that is compared with nothing.
+    pub(crate) fn is_alone(&self, old: ResId, new: ResId) -> bool
+        ensures { result ≡ is_alone (stacks_of self.now) old new }
+    {
+        self.compared.is_nothing() && old.0 == new.0
     }
 }
