@@ -4,6 +4,7 @@ use Rattle.std.specs.Prelude.{ℕ, List, Option, Result, Ok}
 use Rattle.contract_words.specs.Faults.{◌>>=◌}
 use Rattle.contract_words.specs.Sequences.{joined_each}
 use Rattle.command_base.specs.json_input.Each.{each}
+use Rattle.command_base.specs.declared.fault.ToolFault.{ToolFault}
 use Rattle.command_base.specs.declared.side.Side.TheVariants.{Old, New}
 use Rattle.command_base.specs.declared.status.Status.{Status}
 use Rattle.command_base.specs.declared.stop.Stop.{Stop}
@@ -51,14 +52,17 @@ pub record OpenDiffOf : Type 0 where
   pub opened : DiffInputs
   pub pairs : List PairOf
 
-unfoldable pub diff_opened : LocaleRule → List LayerBytes → List LayerBytes → List ℕ → List (List ℕ) → Result OpenDiffOf StopOf
-diff_opened rule old new box_json words = do
+unfoldable pub opened_asked : List (List ℕ) → Result DiffInputs ToolFault → Result OpenDiffOf StopOf
+opened_asked words read = do
   sets ← each set_asked words
-  opened ← read_or_stop (diff_inputs_by rule old new box_json)
+  opened ← read_or_stop read
   let old = opened.stacks.old
   let new = opened.stacks.new
   pairs ← found_or_stop (pairs_named old new sets (name_pairs old new))
   Ok (record { opened = opened; pairs = pairs })
+
+abbrev pub diff_opened : LocaleRule → List LayerBytes → List LayerBytes → List ℕ → List (List ℕ) → Result OpenDiffOf StopOf
+diff_opened rule old new box_json words = opened_asked words (diff_inputs_by rule old new box_json)
 
 -- ---- the answer
 

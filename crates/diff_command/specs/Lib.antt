@@ -5,7 +5,7 @@ pub mod DiffLines
 pub mod DiffOutput
 pub mod OpenedSeen
 pub mod Diff
-pub mod LabelsBeside
+pub mod AskedPairs
 pub mod ValuesOutput
 pub mod Values
 pub mod NameLines

@@ -13,6 +13,7 @@ ghost use Rattle.diff_command.specs.Judged.{told_of};
 ghost use Rattle.diff_command.specs.OpenedSeen.{named_diff};
 ghost use Rattle.command_base.specs.CarriesOut.{IsKept};
 
+use crate::asked_pairs::asked_pairs;
 use crate::judged::tell_all;
 use crate::lines::{some_differ, write_lines};
 use crate::opened::{NamedDiff, OpenedDiff};
@@ -93,7 +94,7 @@ impl<'a> Diff<'a> {
     }
 
     // Reads the words, opens the layers, reads the box, finds what the words ask for, and then prints what becomes of it.
-    #[tactic(auto, unfolding(crate::specs::Diff::diff_opened))]
+    #[tactic(auto, unfolding(crate::specs::Diff::opened_asked))]
     fn diff_of<P: Progress, W: Write + Drop>(
         &self,
         alloc: Global,
@@ -111,7 +112,7 @@ impl<'a> Diff<'a> {
         let sets = asked_sets(alloc, words)?;
         let opened = OpenedDiff::read_by(alloc, old, new, box_json, self.locales)?;
         let named = opened.named(alloc)?;
-        let pairs = named.pairs_for(alloc, &sets)?;
+        let pairs = asked_pairs(alloc, named.stacks(), &sets)?;
         Ok(named.diff(alloc, self.form, &pairs, self.max_nodes, progress, out)?)
     }
 }

@@ -35,6 +35,7 @@
 //! ```
 #![tactic(auto)]
 
+mod asked_pairs;
 mod content_text;
 mod devices_text;
 mod diff;

@@ -9,9 +9,8 @@ ghost use Rattle.command_base.specs.StackBytesSeen.{layer_bytes};
 ghost use Rattle.command_base.specs.declared.side.Side.TheVariants.{New};
 ghost use Rattle.diff_command.specs.DiffInputs.{have_same_bytes, diff_inputs_by};
 
-use command_base::{LayerParts, LocaleRule, NamedSet, Side, ToolFault, open_side};
-use names::{NameFault, pairs_named};
-use stack_diff::{ConfigBox, NamePair, NamedStack, PackageNames, Stack, Stacks, name_pairs};
+use command_base::{LayerParts, LocaleRule, Side, ToolFault, open_side};
+use stack_diff::{ConfigBox, NamedStack, PackageNames, Stack, Stacks};
 use std::alloc::{AllocError, Global};
 
 /// The layers before a change and those after it, and the box.
@@ -92,10 +91,6 @@ impl<'a> OpenedDiff<'a> {
 }
 
 impl<'o, 'a> NamedDiff<'o, 'a> {
-    ghost use Rattle.stack_diff.specs.names.NameFault.{GivesNamed};
-    ghost use Rattle.stack_diff.specs.names.NamedPairs.{pairs_named};
-    ghost use Rattle.stack_diff.specs.names.NamedSet.{named_set_of};
-    ghost use Rattle.stack_diff.specs.names.Pairs.{pair_of, name_pairs};
     ghost use Rattle.stack_diff.specs.Stacks.{stacks_of};
     ghost use Rattle.diff_command.specs.OpenedSeen.{named_diff};
 
@@ -107,21 +102,6 @@ impl<'o, 'a> NamedDiff<'o, 'a> {
             Some(changed) => Stacks::two(&self.old, changed, &self.packages),
             None => Stacks::one(&self.old, &self.packages),
         }
-    }
-
-    /// The labels of both stacks for which some word asks, in rising order; all of them without words.
-    pub(crate) fn pairs_for(
-        &self,
-        alloc: Global,
-        sets: &[NamedSet<'_>],
-    ) -> Result<Vec<NamePair<'a>>, NameFault>
-        ensures { GivesNamed (λ pairs. map pair_of pairs.items) result
-            (pairs_named (named_diff self.now).stacks.old (named_diff self.now).stacks.new (map named_set_of sets.now) (name_pairs (named_diff self.now).stacks.old (named_diff self.now).stacks.new)) }
-    {
-        let stacks = self.stacks();
-        let (old, new) = (stacks.old_stack(), stacks.new_stack());
-        let all = name_pairs(alloc, old, new)?;
-        pairs_named(alloc, old, new, all, sets)
     }
 }
 

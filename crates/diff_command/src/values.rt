@@ -1,34 +1,30 @@
 //! The command `values`.
 
-ghost use Rattle.std.specs.Prelude.{◌≡◌, map, option_map, string_bytes, Some, Ok, IfSome};
-ghost use Rattle.std.specs.List.{All};
+ghost use Rattle.std.specs.Prelude.{◌≡◌, map, option_map, string_bytes, Ok, IfOk, IfSome};
 ghost use Rattle.contract_words.specs.Exact.{GivesOr};
 ghost use Rattle.command_base.specs.CarriesOut.{IsKept};
 ghost use Rattle.command_base.specs.Output.{IsOfInput, Prints, PrintsOneOf};
 ghost use Rattle.command_base.specs.StackBytesSeen.{layer_bytes};
 ghost use Rattle.command_base.specs.Stop.{GivesOrStops};
 ghost use Rattle.command_base.specs.declared.fault.ToolFault.TheVariants.{OutOfMemory, Write};
-ghost use Rattle.stack_diff.specs.names.Laws.{id_of};
-ghost use Rattle.stack_diff.specs.names.NameFault.{GivesNamed};
 ghost use Rattle.stack_diff.specs.names.NamedIds.{packages_of};
-ghost use Rattle.stack_diff.specs.names.NamedPairs.{pairs_named};
-ghost use Rattle.stack_diff.specs.names.NamedSet.{named_set_of};
-ghost use Rattle.stack_diff.specs.names.Pairs.{pair_of, name_pairs};
+ghost use Rattle.stack_diff.specs.names.Pairs.{pair_of};
+ghost use Rattle.stack_diff.specs.Stacks.{stacks_of};
+ghost use Rattle.diff_command.specs.AskedPairs.{AreOfStacks};
 ghost use Rattle.diff_command.specs.Judged.{told_of};
-ghost use Rattle.diff_command.specs.LabelsBeside.{AreOfOneStack};
-ghost use Rattle.diff_command.specs.Values.{TellsValues, TellsValuesOf, ValuesOpened, opened_values, values_files, values_held, values_inputs_by, values_opened};
+ghost use Rattle.diff_command.specs.Values.{TellsValues, TellsValuesOf, ValuesOpened, alone, opened_values, values_files, values_held, values_inputs_by, values_opened};
 ghost use Rattle.diff_command.specs.ValuesOutput.{values_output, IsValuesOutput};
 
+use crate::asked_pairs::asked_pairs;
 use crate::judged::tell_all;
 use crate::told::Told;
 use crate::value_lines::write_value_lines;
 use answer_text::Form;
 use command_base::{
-    Inputs, LayerFiles, LayerParts, LocaleRule, NamedSet, Progress, Status, Stop, ToolFault,
-    asked_sets, asked_words, file_bytes, open_stack,
+    Inputs, LayerFiles, LayerParts, LocaleRule, Progress, Status, Stop, ToolFault, asked_sets,
+    asked_words, file_bytes, open_stack,
 };
-use names::{NameFault, pairs_named};
-use stack_diff::{ConfigBox, NamePair, NamedStack, PackageNames, Stack, Stacks, name_pairs};
+use stack_diff::{ConfigBox, NamePair, NamedStack, PackageNames, Stack, Stacks};
 use std::alloc::{AllocError, Global};
 use std::io::Write;
 
@@ -77,18 +73,11 @@ impl<'a> Values<'a> {
         ensures unwritten { IsKept out.old out.new result }
     {
         let layers = files.layers.layers(alloc)?;
-        self.values_of(
-            alloc,
-            &layers,
-            &files.box_json,
-            &files.words,
-            progress,
-            out,
-        )
+        self.values_of(alloc, &layers, &files.box_json, &files.words, progress, out)
     }
 
     // Reads the words, opens the layers, reads the box, finds what the words ask for, and then prints what that says.
-    #[tactic(auto, unfolding(crate::specs::Values::values_opened))]
+    #[tactic(auto, unfolding(crate::specs::Diff::opened_asked))]
     fn values_of<P: Progress, W: Write + Drop>(
         &self,
         alloc: Global,
@@ -105,11 +94,13 @@ impl<'a> Values<'a> {
         let sets = asked_sets(alloc, words)?;
         let opened = OpenedValues::read_by(alloc, layers, box_json, self.locales)?;
         let stack = NamedStack::of(alloc, &opened.stack)?;
-        let pairs = pairs_for(alloc, &stack, &sets)?;
+        let packages = packages_of(alloc, &opened.stack)?;
+        let stacks = Stacks::beside_nothing(&stack, &packages);
+        let pairs = asked_pairs(alloc, stacks, &sets)?;
         Ok(opened.values(
             alloc,
             self.form,
-            &stack,
+            stacks,
             &pairs,
             self.max_nodes,
             progress,
@@ -180,34 +171,32 @@ impl<'a> OpenedValues<'a> {
         })
     }
 
-    /// Prints what the resources of some labels say, on which devices of the box, where these are the names of its layers; or
-    /// `node limit`, where the trees that part the devices can have more than `max_nodes` nodes together. All memory is taken
-    /// before the first line is written.
+    /// Prints what the resources of some labels say, on which devices of the box; or `node limit`, where the trees that part the
+    /// devices can have more than `max_nodes` nodes together. All memory is taken before the first line is written.
     fn values<P: Progress, W: Write + Drop>(
         &self,
         alloc: Global,
         form: Form,
-        stack: &NamedStack<'_, 'a>,
+        stacks: Stacks<'_, 'a>,
         pairs: &[NamePair<'a>],
         max_nodes: u32,
         progress: &mut P,
         out: &mut W,
     ) -> Result<Status, ToolFault>
-        requires named { stack.now ≡ self.now.stack }
-        requires pairs { AreOfOneStack stack.now (map pair_of pairs.now) }
+        requires stacks { stacks_of stacks ≡ alone self.now.stack }
+        requires pairs { AreOfStacks (stacks_of stacks) (map pair_of pairs.now) }
         ensures { PrintsOneOf (IsValuesOutput form (map pair_of pairs.now) max_nodes) W.contents out.old out.new result (Ok (opened_values self.now)) }
     {
-        let packages = packages_of(alloc, &self.stack)?;
         let told = tell_all(
             alloc,
             form,
-            Stacks::beside_nothing(stack, &packages),
+            stacks,
             pairs,
             &self.members,
             max_nodes,
             progress,
         )?;
-        print_values(self.rule, stack, &packages, pairs, told, out)
+        print_values(self.rule, stacks, pairs, told, out)
     }
 }
 
@@ -218,34 +207,19 @@ fn packages_of<'a>(alloc: Global, stack: &Stack<'a>) -> Result<PackageNames<'a>,
     PackageNames::of(alloc, &tables)
 }
 
-// The labels of a stack for which some word asks, in rising order; all of them without words.
-fn pairs_for<'a>(
-    alloc: Global,
-    stack: &NamedStack<'_, 'a>,
-    sets: &[NamedSet<'_>],
-) -> Result<Vec<NamePair<'a>>, NameFault>
-    ensures asked { GivesNamed (λ pairs. map pair_of pairs.items) result (pairs_named stack.now stack.now (map named_set_of sets.now) (name_pairs stack.now stack.now)) }
-    ensures of_one { IfOk result (λ pairs. AreOfOneStack stack.now (map pair_of pairs.items)) }
-{
-    let all = name_pairs(alloc, stack, stack)?;
-    pairs_named(alloc, stack, stack, all, sets)
-}
-
 fn print_values<W: Write + Drop>(
     rule: LocaleRule,
-    stack: &NamedStack<'_, '_>,
-    packages: &PackageNames<'_>,
+    stacks: Stacks<'_, '_>,
     pairs: &[NamePair<'_>],
     told: Option<Vec<Told>>,
     out: &mut W,
 ) -> Result<Status, ToolFault>
-    requires { packages.now ≡ packages_of stack.now }
-    ensures { Prints W.contents out.old out.new result (Ok (values_output rule stack.now (map pair_of pairs.now) (option_map (λ all. map told_of all.items) told))) }
+    ensures { Prints W.contents out.old out.new result (Ok (values_output rule (stacks_of stacks.entry) (map pair_of pairs.now) (option_map (λ all. map told_of all.items) told))) }
 {
     let Some(told) = told else {
         out.write_all(b"node limit\n")?;
         return Ok(Status::Negative);
     };
-    write_value_lines(rule, stack, packages, pairs, &told, out)?;
+    write_value_lines(rule, stacks, pairs, &told, out)?;
     Ok(Status::Done)
 }
