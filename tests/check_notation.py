@@ -285,8 +285,10 @@ def told_slot(restool, naming, force, rows_of, attr):
         layer, value = found
         if value.startswith("@") and value != "@0x00000000":
             chain = Chain(restool, value[1:])
-            lines = [line for it in chain.look_ups for line in told_look_up(restool, naming, *it, False)]
-            return [*lines, told_end(naming, chain)]
+            lines = [line for it in chain.look_ups[:FOLLOWED] for line in told_look_up(restool, naming, *it, False)]
+            # the reference of the style is the first of those that are followed
+            beyond = [f"too many references {naming.id(name)}" for name, _ in chain.look_ups[FOLLOWED:]]
+            return [*lines, *(beyond or [told_end(naming, chain)])]
         if not value.startswith("?"):
             return [f"{naming.value(layer, value)} from {naming.paths[layer]}"]
         attr = value[1:]
