@@ -71,7 +71,7 @@ Package: restool
 Version: ${version#restool }
 Architecture: amd64
 Maintainer: The maintainers of restool <maintainers@users.noreply.mirkhaot.example>
-Depends: libc6
+Depends: libc6 (>= 2.34)
 Section: devel
 Priority: optional
 Installed-Size: $(find "$root/usr" -type f -printf '%s\n' | awk '{ sum += int(($1 + 1023) / 1024) } END { print sum }')
