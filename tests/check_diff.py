@@ -22,7 +22,7 @@ from functools import partial
 from itertools import groupby
 
 from case_words import read_words
-from check_names import Words, written
+from check_names import Words, names_file, written
 from named_tables import Table
 from plain_certificates import id_text
 from plain_diff import Both, Stack, asks_for, devices_text, pairs_of, part_of
@@ -59,7 +59,8 @@ class Case:
         self.stacks = Both(*(Stack(layers, focus_of.layers_of, self.is_raw) for layers in (self.old, self.new)))
         known = [(table, own is not None) for table, own in self.old + self.new]
         words = Words(chance, known) if chance.random() < 0.2 else None
-        self.words = [words.several() for _ in range(chance.randint(1, 4))] if words else []
+        asked = [words.several() for _ in range(chance.randint(1, 4))] if words else []
+        self.words = [word.removeprefix("@") if names_file(word) else word for word in asked]
         self.limit = chance.choice((1, 3, 10, 20, 40, 100, 1000)) if chance.random() < 0.15 else None
 
     def pairs(self):

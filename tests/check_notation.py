@@ -49,9 +49,10 @@ def value_of(text):
     name, said = text.split(" ", 1)
     if name in ("dimension", "fraction"):
         kind = 5 + (name == "fraction")
-        number, unit = said.split(" ")
+        number, unit = said.split(" ", 1)
         mantissa, bits = number.split("/2^")
-        return kind, int(mantissa) % (1 << 24) << 8 | (0, 7, 15, 23).index(int(bits)) << 4 | UNITS[kind].index(unit)
+        place = int(unit[len("unit ") :]) if unit.startswith("unit ") else UNITS[kind].index(unit)
+        return kind, int(mantissa) % (1 << 24) << 8 | (0, 7, 15, 23).index(int(bits)) << 4 | place
     if name == "kind":
         return tuple(int(it, 16) for it in said.split(" "))
     kind = {"string": 3, "dynamic": 7}.get(name) or KINDS[name]
@@ -70,7 +71,7 @@ class Table:
 
 
 class Naming:
-    """What ids, values and layers are told by. A name stands for the first id that has it."""
+    """What ids, values and layers are told by. A name stands for the id of the first row that has it."""
 
     def __init__(self, tables, bases, paths):
         self.tables, self.paths = tables, paths
@@ -79,9 +80,9 @@ class Naming:
         for table in bases:
             for name, type_name, entry_name, *_ in table.rows:
                 self.types.setdefault(name, type_name)
-                self.names.setdefault(name, (int(name[2:4], 16), type_name, entry_name))
-        for name in sorted(self.names):
-            owners.setdefault(self.names[name], name)
+                called = int(name[2:4], 16), type_name, entry_name
+                self.names.setdefault(name, called)
+                owners.setdefault(called, name)
         self.owners = owners
 
     def word(self, name):
@@ -284,8 +285,10 @@ def told_slot(restool, naming, force, rows_of, attr):
         layer, value = found
         if value.startswith("@") and value != "@0x00000000":
             chain = Chain(restool, value[1:])
-            lines = [line for it in chain.look_ups for line in told_look_up(restool, naming, *it, False)]
-            return [*lines, told_end(naming, chain)]
+            lines = [line for it in chain.look_ups[:FOLLOWED] for line in told_look_up(restool, naming, *it, False)]
+            # the reference of the style is the first of those that are followed
+            beyond = [f"too many references {naming.id(name)}" for name, _ in chain.look_ups[FOLLOWED:]]
+            return [*lines, *(beyond or [told_end(naming, chain)])]
         if not value.startswith("?"):
             return [f"{naming.value(layer, value)} from {naming.paths[layer]}"]
         attr = value[1:]

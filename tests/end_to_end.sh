@@ -524,6 +524,22 @@ tar -xzf "first/$package.tar.gz" -C unpacked
 unpacked=$work/unpacked/$package
 ends "checksums of the package" 0 "cd '$unpacked' && sha256sum -c --quiet SHA256SUMS"
 ends "checksums of all its files" 0 "[ \$(find '$unpacked' -type f | wc -l) = \$((\$(wc -l <'$unpacked/SHA256SUMS') + 1)) ]"
+if command -v dpkg-deb >/dev/null && command -v python3 >/dev/null; then
+    deb=$(basename first/*.deb)
+    ends "the same .deb twice" 0 "cmp 'first/$deb' 'second/$deb'"
+    ends "what the .deb has" 0 "dpkg-deb -x 'first/$deb' installed"
+    ends "its program" 0 "cmp installed/usr/bin/restool '$unpacked/restool'"
+    ends "its pages" 0 "diff -r -x restool -x SHA256SUMS -x copyright '$unpacked' installed/usr/share/doc/restool"
+    ends "its manual has each command" 0 "gzip -cd installed/usr/share/man/man1/restool.1.gz >manual && for it in '$here'/tests/helps/*.txt; do it=\$(basename \$it .txt); [ \$it = restool ] || grep -qx \".SS \$it\" manual || exit 1; done"
+    shares=installed/usr/share
+    if command -v bash >/dev/null; then
+        ends "what bash completes" 0 "bash '$here/tests/completions.bash' $shares/bash-completion/completions/restool \"\$PWD/installed/usr/bin\" >&2"
+    fi
+    if command -v zsh >/dev/null; then ends "what zsh completes can be read" 0 "zsh -n $shares/zsh/vendor-completions/_restool"; fi
+    if command -v fish >/dev/null; then ends "what fish completes can be read" 0 "fish -n $shares/fish/vendor_completions.d/restool.fish"; fi
+else
+    echo "not run, since dpkg-deb or python3 is missing: the package for apt"
+fi
 path=$PATH
 PATH=$(printf '%s\n' "$path" | tr : '\n' | while read -r it; do [ -x "$it/rt" ] || printf ':%s' "$it"; done)
 PATH=${PATH#:}

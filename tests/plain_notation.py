@@ -6,9 +6,9 @@
 
 tries known texts, and then so many made records and values, 10,000 of each if it is not said, numbered from FIRST on, which is 0
 if it is not given: two with one text are the same, the text of a record that words say is read as it by plain_config.py, and that
-of a number as aapt reads it. Its last line is `N passed, M failed`. With `--configs` before the numbers it prints the made records
-instead, each as the digits of its bytes, a blank, and its text; with `--values` the values, each as its kind, its word and its
-text."""
+of a number as aapt reads it, or as the number beside it, where aapt cuts off what has no room. Its last line is `N passed, M failed`.
+With `--configs` before the numbers it prints the made records instead, each as the digits of its bytes, a blank, and its text; with
+`--values` the values, each as its kind, its word and its text."""
 import random
 import re
 import struct

@@ -1,9 +1,11 @@
 #!/bin/sh
-# Makes restool-VERSION-linux-x86_64.tar.gz and prints its path: package.sh [FOLDER]
+# Makes restool-VERSION-linux-x86_64.tar.gz and restool_VERSION_amd64.deb, and prints their paths: package.sh [FOLDER]
 #
-# FOLDER is where it goes; out/ of the repository if it is left out. It has the program, built here or prebuilt, and what
-# proved it, the README, docs, schemas and examples, the repository's licence files, and SHA256SUMS with the checksums of
-# all these. The same files give the same bytes. Needs GNU tar and gzip.
+# FOLDER is where they go; out/ of the repository if it is left out. The first has the program, built here or prebuilt, and
+# what proved it, the README, docs, schemas and examples, the repository's licence files, and SHA256SUMS with the checksums of
+# all these. The second has the same for Debian's apt, with a manual page and what shells complete, both made from the
+# program's help. The same files give the same bytes. Needs GNU tar and gzip, and for the second dpkg-deb and python3: where
+# they are missing it says so, and makes the first alone.
 here=$(CDPATH='' cd "$(dirname "$0")/.." && pwd) || exit 1
 . "$here/tools/program.sh"
 stop() {
@@ -39,3 +41,45 @@ tar -C "$work" -cf "$work/$name.tar" --format=ustar --sort=name --mtime=@3155328
     --mode=u=rwX,go=rX "$name" || exit 1
 gzip -9n "$work/$name.tar" && cp "$work/$name.tar.gz" "$folder/.$name" && mv "$folder/.$name" "$folder/$name.tar.gz" || exit 1
 echo "$folder/$name.tar.gz"
+
+# ---- for apt
+for tool in dpkg-deb python3; do
+    if ! command -v "$tool" >/dev/null; then
+        echo "package.sh: no .deb without $tool" >&2
+        exit 0
+    fi
+done
+deb=restool_${version#restool }_amd64
+root=$work/$deb
+doc=$root/usr/share/doc/restool
+umask 022
+mkdir -p "$root/DEBIAN" "$root/usr/bin" "$doc" "$root/usr/share/man/man1" "$root/usr/share/bash-completion/completions" \
+    "$root/usr/share/zsh/vendor-completions" "$root/usr/share/fish/vendor_completions.d" || exit 1
+mv "$work/$name/restool" "$root/usr/bin/restool" && rm "$work/$name/SHA256SUMS" && cp -R "$work/$name/." "$doc" || exit 1
+
+# completes SHELL FILE: writes what a shell completes.
+completes() {
+    python3 "$here/tools/completions.py" "$root/usr/bin/restool" "$1" >"$root/usr/share/$2"
+}
+completes bash bash-completion/completions/restool && completes zsh zsh/vendor-completions/_restool &&
+    completes fish fish/vendor_completions.d/restool.fish || exit 1
+printf '%s\n' "${licence:-The licence stands in the files beside this one.}" >"$doc/copyright"
+page=$root/usr/share/man/man1/restool.1
+python3 "$here/tools/man_page.py" "$root/usr/bin/restool" >"$page" && gzip -9n "$page" || exit 1
+cat >"$root/DEBIAN/control" <<END
+Package: restool
+Version: ${version#restool }
+Architecture: amd64
+Maintainer: The maintainers of restool <maintainers@users.noreply.mirkhaot.example>
+Depends: libc6 (>= 2.34)
+Section: devel
+Priority: optional
+Installed-Size: $(find "$root/usr" -type f -printf '%s\n' | awk '{ sum += int(($1 + 1023) / 1024) } END { print sum }')
+Description: reads Android's compiled resource tables
+ It says which value a device loads and why each candidate won or lost, and
+ certifies such answers for whole boxes of devices, by the rules of Android 8.1.
+END
+chmod -R u=rwX,go=rX "$root" && find "$root" -exec touch -h -d @315532800 {} + || exit 1
+SOURCE_DATE_EPOCH=315532800 dpkg-deb --root-owner-group -Zgzip -z9 --build "$root" "$work/$deb.deb" >/dev/null || exit 1
+cp "$work/$deb.deb" "$folder/.$deb" && mv "$folder/.$deb" "$folder/$deb.deb" || exit 1
+echo "$folder/$deb.deb"
