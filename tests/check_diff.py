@@ -1,12 +1,13 @@
 #!/usr/bin/env python3
-"""Holds what `restool diff` prints against a plain reading of the rules, which asks every device of a box:
+"""Holds what `restool diff` prints against a plain reading of the rules, which asks every device of a box; or, where that word stands
+first, what `restool values` prints of the layers after the change:
 
-    check_diff.py [--locales android] PROGRAM CASES [JOBS [FIRST]]
+    check_diff.py [--values] [--locales android] PROGRAM CASES [JOBS [FIRST]]
 
 Two stacks of layers are drawn, mostly an app with overlays before a few changes and after them (random_apps.py), else tables with
 odd names (named_tables.py); a box; and now and then words that ask for some resources, or a limit of nodes. Each label is to be
 told as removed, added or the same, or with lines that say how what each device of the box loads from either stack differs, once
-and in order; and then what the stacks count.
+and in order; and then what the stacks count. Of `values` it is to be told what each device loads.
 
 The cases are numbered from FIRST on, which is 0 if it is not given. The last line counts what was compared."""
 import json
@@ -40,9 +41,11 @@ SHOWN = 700
 
 
 class Case:
-    """Two stacks of layers, a box, words, and a limit of nodes, None where that is left out."""
+    """Two stacks of layers, a box, words, and a limit of nodes, None where that is left out. Of `values` the stack after the change is
+    both."""
 
-    def __init__(self, as_phone, number):
+    def __init__(self, of_values, as_phone, number):
+        self.of_values = of_values
         self.chance = chance = random.Random(number)
         focus_of = LocaleFocus if as_phone else Focus
         self.options = focus_of.options
@@ -54,6 +57,8 @@ class Case:
                 [(Table(chance), {} if chance.random() < 0.2 else None) for _ in range(chance.randint(1, 3))] for _ in range(2)
             )
             self.box = focus_of(chance).random_box(SIZES)
+        if of_values:
+            self.old = self.new
         self.members = self.box.members()
         self.is_raw = number % 3 == 2
         self.stacks = Both(*(Stack(layers, focus_of.layers_of, self.is_raw) for layers in (self.old, self.new)))
@@ -79,7 +84,8 @@ class Case:
         """The files, and the words of the command."""
         write_inputs(folder, self.old, self.new, self.box.json())
         limit = [] if self.limit is None else ["--max-nodes", str(self.limit)]
-        return ["diff", *self.options, *limit, *["--raw"] * self.is_raw, "old", "new", "box", *written(self.chance, folder, self.words)]
+        layers = ["values", "new"] if self.of_values else ["diff", "old", "new"]
+        return [layers[0], *self.options, *limit, *["--raw"] * self.is_raw, *layers[1:], "box", *written(self.chance, folder, self.words)]
 
 
 def write_inputs(folder, old, new, box):
@@ -165,8 +171,9 @@ def faults_of_lines(case, lines, changes):
 
 
 def changes_of(case, ids):
-    """The change of each device, None where both stacks say the same."""
-    return [case.stacks.difference(ids, device) for device in case.members]
+    """The change of each device, None where both stacks say the same; or what it loads."""
+    told = case.stacks.said if case.of_values else case.stacks.difference
+    return [told(ids, device) for device in case.members]
 
 
 def with_rows(text):
@@ -185,7 +192,7 @@ def faults_of_text(case, pairs, text):
     lines, place, same = with_rows(text), 0, 0
     for label, ids in pairs:
         label, first = label_text(case.stacks.packages, label), place
-        due = f"{'added' if ids[0] is None else 'removed' if ids[1] is None else 'changed'} {label}"
+        due = label if case.of_values else f"{'added' if ids[0] is None else 'removed' if ids[1] is None else 'changed'} {label}"
         while lines[place][0] == due or lines[place][0].startswith(f"{due} "):
             place += 1
         if None in ids:
@@ -197,7 +204,8 @@ def faults_of_text(case, pairs, text):
             faults = [f"{label}: {fault}" for fault in faults_of_lines(case, told, changes)]
         if faults:
             return faults
-    rest = [(line, []) for line in [*case.stacks.counts(), f"same {same}", ""]]
+    ends = [*case.stacks.counts_of_one(), f"resources {len(pairs)}"] if case.of_values else [*case.stacks.counts(), f"same {same}"]
+    rest = [(line, []) for line in [*ends, ""]]
     return [] if lines[place:] == rest else [f"at the end {lines[place:]}, where {rest} is due"]
 
 
@@ -218,15 +226,15 @@ def faults_of(case, said):
         return [] if case.limit and is_above_limit(case, pairs) else ["no trees are that large"], "node limit"
     text, messages, status = said
     faults = faults_of_text(case, pairs, text) + ([messages] if messages else [])
-    is_same = not text.startswith(("changed ", "added ", "removed "))
+    is_same = case.of_values or not text.startswith(("changed ", "added ", "removed "))
     faults += [] if status == int(not is_same) else [f"status {status}"]
     if case.limit and sum(None not in ids for _, ids in pairs) > case.limit:
         faults.append("fewer nodes than labels")
-    return faults, "same" if is_same else "changed"
+    return faults, "values" if case.of_values else "same" if is_same else "changed"
 
 
-def check_case(program, as_phone, folder, number):
-    case = Case(as_phone, number)
+def check_case(program, of_values, as_phone, folder, number):
+    case = Case(of_values, as_phone, number)
     done = subprocess.run([program, *case.write(folder)], cwd=folder, capture_output=True)
     said = done.stdout.decode(), done.stderr.decode(), done.returncode
     faults, told = faults_of(case, said)
@@ -234,15 +242,17 @@ def check_case(program, as_phone, folder, number):
     return [f"case {number}: {fault}, of {str(said)[:SHOWN]}" for fault in faults], told, changes
 
 
-def check_cases(program, as_phone, numbers):
+def check_cases(program, of_values, as_phone, numbers):
     with tempfile.TemporaryDirectory() as folder:
-        return [check_case(program, as_phone, folder, number) for number in numbers]
+        return [check_case(program, of_values, as_phone, folder, number) for number in numbers]
 
 
 def main():
+    of_values = sys.argv[1:2] == ["--values"]
+    del sys.argv[1 : 1 + of_values]
     as_phone, program, numbers, jobs = read_words()
     parts = [numbers[at : at + CASES_OF_A_JOB] for at in range(0, len(numbers), CASES_OF_A_JOB)]
-    check = partial(check_cases, program, as_phone)
+    check = partial(check_cases, program, of_values, as_phone)
     told, wrong, lines = Counter(), 0, 0
     with ProcessPoolExecutor(jobs) as pool:
         for faults, what, count in (case for done in pool.map(check, parts) for case in done):

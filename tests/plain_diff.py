@@ -190,6 +190,13 @@ def difference(before, after):
     return f" {' -> '.join(texts)}", lines
 
 
+def all_said(content):
+    """What a line says of a content alone."""
+    if isinstance(content, Said):
+        return f" {content.text}", ()
+    return "", tuple(f"  {row.name} {row.said.text}" for row in content)
+
+
 # ---- two stacks
 
 
@@ -203,6 +210,10 @@ class Both:
     def difference(self, ids, device):
         return difference(*(stack.content(name, device) for stack, name in zip(self.stacks, ids)))
 
+    def said(self, ids, device):
+        """What the stack after says alone."""
+        return all_said(self.stacks[1].content(ids[1], device))
+
     def trace(self, ids, device):
         return tuple(stack.trace(name, device) for stack, name in zip(self.stacks, ids))
 
@@ -213,6 +224,12 @@ class Both:
         for words, counts in (("warning shared-names", shared), ("set-aside", set_aside)):
             if any(counts):
                 yield f"{words} {counts[0]} {counts[1]}"
+
+    def counts_of_one(self):
+        """The same of the stack after alone."""
+        for words, count in (("warning shared-names", self.stacks[1].shared_names()), ("set-aside", self.stacks[1].layers.set_aside())):
+            if count:
+                yield f"{words} {count}"
 
 
 def pairs_of(old, new):

@@ -353,7 +353,7 @@ NOTATED = [
 
 
 VALUES = [
-    # Each device is in one line of a resource. Of two coordinates a line is where both have these values, and the rows of a bag stand below.
+    # Each device is in one line of a resource. Of two qualifiers a line has those that have both values. The rows of a bag stand below.
     (
         app(APP),
         (),
@@ -361,17 +361,51 @@ VALUES = [
         "attr/size 0\nattr/tint 0\n"
         "color/ink #ff000000 on notnight\ncolor/ink #ffffffff on night\n"
         "color/text #ff000000 on notnight\ncolor/text #ffffffff on night\n"
-        "dimen/handle 12dp on 160dpi\ndimen/handle 13dp on 320dpi,480dpi\n"
+        "dimen/handle 12dp on mdpi\ndimen/handle 13dp on xhdpi,xxhdpi\n"
         "dimen/margin 16dp on sw>=600dp\ndimen/margin 4dp on sw<600dp port\ndimen/margin 8dp on sw<600dp land\n"
         "plurals/cups\n  other \"%d cups\"\n  one \"%d cup\"\n"
-        "string/cancel \"Abbrechen\" on de-rAT,de-rDE\nstring/cancel \"Cancel\" on all but de-rAT,de-rDE\n"
+        "string/cancel \"Abbrechen\" on de-rAT,de-rDE\nstring/cancel \"Cancel\" on no-locale,fr-rFR\n"
         "string/title \"Teapot\"\n"
         "style/Card on v<26\n  attr/size @dimen/margin\n  attr/tint @color/ink\n"
         "style/Card on v>=26\n  attr/size @dimen/handle\n  attr/tint @color/ink\n"
-        "style/Card.Flat on v<26\n  attr/size 0dp\n  attr/tint @color/ink\n"
-        "style/Card.Flat on v>=26\n  attr/size 0dp\n  attr/tint @color/ink\n"
+        "style/Card.Flat\n  attr/size 0dp\n  attr/tint @color/ink\n"
         "resources 12",
     ),
+    (with_overlay([resource("dimen/handle", (ANY, dp(16)))]), ("dimen/handle",),
+     "dimen/handle 13dp on xhdpi,xxhdpi\ndimen/handle 16dp on mdpi\nresources 1"),
+    (
+        app(APP),
+        ("dimen/margin", "0x7f010000"),
+        "attr/size decimal 0\ndimen/margin dimension 16/2^0 dp on smallestWidthDp=600..720\n"
+        "dimen/margin dimension 4/2^0 dp on smallestWidthDp=320..599 orientation=1\n"
+        "dimen/margin dimension 8/2^0 dp on smallestWidthDp=320..599 orientation=2\nresources 2",
+        "--raw",
+    ),
+    (app(APP), ("dimen/margin", "dimen/none"), "no resource dimen/none"),
+    # What says nothing on some devices is told there too.
+    (
+        changed(resource("string/cancel", (GERMAN, Text("Abbrechen")))),
+        ("string/cancel",),
+        'string/cancel "Abbrechen" on de-rAT,de-rDE\nstring/cancel absent string/cancel on no-locale,fr-rFR\nresources 1',
+    ),
+    (one("color/a", "@color/a"), (), "color/a too many references color/a\nresources 1"),
+    (one("style/s", Bag("style/s", [])), (), "style/s too many parents style/s\nresources 1"),
+    # A bag without rows is its name alone; one behind a reference is told where it stands, and where it is referred to.
+    (one("style/s", Bag(0, [])), (), "style/s\nresources 1"),
+    (
+        app([resource("string/x", (ANY, "@array/y")), resource("array/y", (ANY, Bag(0, [(0x02000000, dp(2))])))]),
+        (),
+        "array/y\n  [0] 2dp\nstring/x\n  [0] 2dp\nresources 2",
+    ),
+    # Two booleans that are true are one line. Two colors of one word are two, as they are written.
+    (app([resource("bool/b", (ANY, (0x12, 1)), (DENSE, (0x12, 0xFFFFFFFF)))]), (), "bool/b true\nresources 1"),
+    (
+        app([resource("color/c", (ANY, BLACK), (NIGHT, (0x1D, 0xFF000000)))]),
+        (),
+        "color/c #000000 on night\ncolor/c #ff000000 on notnight\nresources 1",
+    ),
+    (shared("same"), (), "dimen/same 1dp\n0x7f010001 2dp\nwarning shared-names 1\nresources 2"),
+    (scripted(2), (), "string/s 1dp\nset-aside 2\nresources 1"),
 ]
 
 
