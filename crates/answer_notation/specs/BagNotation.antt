@@ -4,16 +4,11 @@ use Rattle.std.specs.List.{flat_map, enumerate_from}
 use Rattle.answer_text.specs.bags_themes.declared.bag_row.BagRow.{BagRow}
 use Rattle.answer_text.specs.declared.row_key.Keys.{Keys}
 use Rattle.answer_text.specs.RowKeys.{keys_of}
-use Rattle.answer_notation.specs.Naming.{NamingOf, row_value_at, layer_notation}
-use Rattle.answer_notation.specs.TableNotation.{key_at}
-
--- `VALUE from LAYER`
-unfoldable pub origin_of_row : NamingOf → BagRow → List ℕ
-origin_of_row naming row = row_value_at naming row.layer row.name.0 row.value ++ codes " from " ++ layer_notation naming row.layer
+use Rattle.answer_notation.specs.Naming.{NamingOf, row_at, layer_notation}
 
 -- the line `KEY VALUE from LAYER` of the row at a place
 unfoldable pub row_told : NamingOf → Keys → (ℕ × BagRow) → List ℕ
-row_told naming keys row = key_at naming keys row.0 row.1.name.0 ++ codes " " ++ origin_of_row naming row.1 ++ 10 ∷ []
+row_told naming keys row = row_at naming keys row.0 row.1 ++ codes " from " ++ layer_notation naming row.1.layer ++ 10 ∷ []
 
 -- a line for each row of the bag that an id selects, in their order
 abbrev pub rows_told : NamingOf → ℕ → List BagRow → List ℕ

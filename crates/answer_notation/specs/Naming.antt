@@ -1,17 +1,19 @@
 -- What stands in answers for ids, values, layers and configurations, in Android's notation.
-use Rattle.std.specs.Prelude.{ℕ, ◌==◌, List, slice_get, Option, Some, None, if◌then◌else◌}
+use Rattle.std.specs.Prelude.{ℕ, List, ◌++◌, codes, slice_get, Option, Some, None, if◌then◌else◌}
 use Rattle.std.specs.List.{list_all}
 use Rattle.std.specs.Char.{is_ascii_graphic}
-use Rattle.notation.specs.FormatsText.{formats_text}
 use Rattle.res_value.specs.declared.value.Value.{Value}
+use Rattle.answer_text.specs.bags_themes.declared.bag_row.BagRow.{BagRow}
 use Rattle.answer_text.specs.overlay_map.Layer.{LayerOf}
 use Rattle.names.specs.IdLabel.{label_of_id}
 use Rattle.names.specs.LabelText.{label_text}
 use Rattle.names.specs.NamedIds.{packages_of}
 use Rattle.names.specs.Quoted.{quoted_text}
+use Rattle.answer_text.specs.declared.row_key.Keys.{Keys}
 use Rattle.answer_text.specs.LayerText.{layer_text}
+use Rattle.answer_text.specs.RowKeys.{row_key}
 use Rattle.answer_text.specs.ValueContent.{value_content}
-use Rattle.answer_text.specs.ValueNotation.{value_notation}
+use Rattle.answer_text.specs.ValueNotation.{key_notation, row_notation, value_notation}
 
 -- A stack, and the paths of the tables of its layers.
 pub record NamingOf : Type 0 where
@@ -26,13 +28,12 @@ id_notation naming id = label_text (packages_of naming.stack) (label_of_id namin
 unfoldable pub value_at : NamingOf → ℕ → Value → List ℕ
 value_at naming layer value = value_notation (packages_of naming.stack) (value_content naming.stack layer value)
 
--- the name of the row by which an attribute says what it may be (AOSP: ResTable_map::ATTR_TYPE)
-abbrev pub formats_name : ℕ
-formats_name = 0x01000000
-
--- what a row of a bag says that has a name: formats by their words, and any other value as above
-unfoldable pub row_value_at : NamingOf → ℕ → ℕ → Value → List ℕ
-row_value_at naming layer name value = if name == formats_name then formats_text value else value_at naming layer value
+-- the row of a bag at a place, `KEY VALUE`
+unfoldable pub row_at : NamingOf → Keys → ℕ → BagRow → List ℕ
+row_at naming keys place row =
+    let key = row_key naming.stack keys place row.name.0 in
+    key_notation (packages_of naming.stack) key ++ codes " "
+    ++ row_notation (packages_of naming.stack) key (value_content naming.stack row.layer row.value)
 
 -- a path of characters of ASCII that are seen, as it is; any other between quotes, as strings are
 unfoldable pub path_notation : List ℕ → List ℕ

@@ -3,7 +3,6 @@ use Rattle.std.specs.Prelude.{ℕ, ◌==◌, List, [], ◌∷◌, ◌++◌, code
 use Rattle.std.specs.List.{flat_map, enumerate_from}
 use Rattle.std.specs.Fmt.{decimal}
 use Rattle.notation.specs.ConfigText.{config_text}
-use Rattle.names.specs.NamedIds.{packages_of}
 use Rattle.res_value.specs.Cell.{CellOf, PlainOf, BagOf}
 use Rattle.res_value.specs.ResId.{id_text}
 use Rattle.res_value.specs.declared.res_id.ResId.{ResId}
@@ -14,10 +13,9 @@ use Rattle.answer_text.specs.resource_table.Table.{TableOf, rows_of}
 use Rattle.answer_text.specs.declared.row_key.Keys.{Keys}
 use Rattle.answer_text.specs.DumpText.{package_line, flags_text}
 use Rattle.answer_text.specs.NameText.{its_name}
-use Rattle.answer_text.specs.RowKeys.{keys_of, row_key}
+use Rattle.answer_text.specs.RowKeys.{keys_of}
 use Rattle.answer_text.specs.RowsText.{totals_text}
-use Rattle.answer_text.specs.ValueNotation.{key_notation}
-use Rattle.answer_notation.specs.Naming.{NamingOf, id_notation, value_at, row_value_at}
+use Rattle.answer_notation.specs.Naming.{NamingOf, id_notation, value_at, row_at}
 
 -- a table as the only layer of a stack, whose path nobody asks for
 abbrev pub alone : TableOf → NamingOf
@@ -39,14 +37,10 @@ cell_notation naming (BagOf parent rows) = bag_notation naming parent.0 (length 
 
 -- ---- the rows of a bag
 
--- what tells the row with a name and a place from the others
-unfoldable pub key_at : NamingOf → Keys → ℕ → ℕ → List ℕ
-key_at naming keys place name = key_notation (packages_of naming.stack) (row_key naming.stack keys place name)
-
 -- the line `KEY VALUE`, behind an indent
 unfoldable pub map_row_notation : NamingOf → List ℕ → Keys → (ℕ × (ResId × Value)) → List ℕ
 map_row_notation naming indent keys row =
-    indent ++ key_at naming keys row.0 row.1.0.0 ++ codes " " ++ row_value_at naming 0 row.1.0.0 row.1.1 ++ 10 ∷ []
+    indent ++ row_at naming keys row.0 (record { name = row.1.0; value = row.1.1; layer = 0 }) ++ 10 ∷ []
 
 -- the lines of the rows of the bag that an id has, in the order of the file
 unfoldable pub map_rows_notation : NamingOf → List ℕ → ℕ → CellOf → List ℕ

@@ -3,7 +3,7 @@
 ghost use Rattle.std.specs.Prelude.{◌≡◌, IfOk};
 ghost use Rattle.std.specs.List.{flat_map, enumerate_from};
 ghost use Rattle.contract_words.specs.Writes.{Writes};
-ghost use Rattle.answer_notation.specs.BagNotation.{origin_of_row, row_told, rows_told};
+ghost use Rattle.answer_notation.specs.BagNotation.{row_told, rows_told};
 
 use crate::naming::Naming;
 use answer_text::{BagRow, Keys, ResId};
@@ -52,21 +52,8 @@ fn write_row<W: Write + Drop>(
 ) -> io::Result<()>
     ensures { Writes W.contents out.old out.new result (row_told naming.now keys (place, row)) }
 {
-    naming.write_key(keys, place, row.name, out)?;
-    out.write_all(b" ")?;
-    write_origin(naming, row, out)?;
-    out.write_all(b"\n")
-}
-
-#[tactic(auto, unfolding(crate::specs::BagNotation::origin_of_row))]
-fn write_origin<W: Write + Drop>(
-    naming: &Naming<'_, '_, '_>,
-    row: BagRow,
-    out: &mut W,
-) -> io::Result<()>
-    ensures { Writes W.contents out.old out.new result (origin_of_row naming.now row) }
-{
-    naming.write_row_value(row.layer, row.name, row.value, out)?;
+    naming.write_row(keys, place, row, out)?;
     out.write_all(b" from ")?;
-    naming.write_layer(row.layer, out)
+    naming.write_layer(row.layer, out)?;
+    out.write_all(b"\n")
 }

@@ -7,16 +7,13 @@ ghost use Rattle.contract_words.specs.Writes.{Writes};
 ghost use Rattle.answer_notation.specs.Naming.{path_notation};
 
 use answer_text::{
-    Keys, ResId, Stack, Value, value_content, write_key_notation, write_layer, write_value_notation,
+    BagRow, Keys, ResId, Stack, Value, value_content, write_key_notation, write_layer,
+    write_row_notation, write_value_notation,
 };
 use names::{NamedStack, PackageNames, write_quoted};
-use notation::write_formats;
 use std::alloc::{AllocError, Global};
 use std::io::{self, Write};
 use std::marker::Model;
-
-/// The name of the row by which an attribute says what it may be (AOSP: `ResTable_map::ATTR_TYPE`).
-const FORMATS: ResId = ResId(0x0100_0000);
 
 /// A stack with its names, and the paths of the tables of its layers. Contracts see it as the stack and the paths.
 #[derive(Drop)]
@@ -42,8 +39,7 @@ impl<'s, 'a, 'p> Model for Naming<'s, 'a, 'p> {
 impl<'s, 'a, 'p> Naming<'s, 'a, 'p> {
     ghost use Rattle.std.specs.Prelude.{◌≡◌, map, string_bytes, IfOk};
     ghost use Rattle.contract_words.specs.Writes.{Writes};
-    ghost use Rattle.answer_notation.specs.Naming.{id_notation, value_at, row_value_at, layer_notation};
-    ghost use Rattle.answer_notation.specs.TableNotation.{key_at};
+    ghost use Rattle.answer_notation.specs.Naming.{id_notation, value_at, row_at, layer_notation};
 
     /// Notes what the ids of a stack are called, whose tables lie at these paths.
     pub fn of(
@@ -98,37 +94,22 @@ impl<'s, 'a, 'p> Naming<'s, 'a, 'p> {
         write_value_notation(&self.packages, &content, out)
     }
 
-    /// Writes what a row of a bag says that has a name, in the layer at a place.
-    #[tactic(auto, unfolding(crate::specs::Naming::row_value_at))]
-    pub(crate) fn write_row_value<W: Write + Drop>(
-        &self,
-        layer: usize,
-        name: ResId,
-        value: Value,
-        out: &mut W,
-    ) -> io::Result<()>
-        ensures { Writes W.contents out.old out.new result (row_value_at self.now layer name.0 value) }
-    {
-        if name == FORMATS {
-            write_formats(value, out)
-        } else {
-            self.write_value(layer, value, out)
-        }
-    }
-
-    /// Writes what tells the row of a bag with a name and a place from the others.
-    #[tactic(auto, unfolding(crate::specs::TableNotation::key_at))]
-    pub(crate) fn write_key<W: Write + Drop>(
+    /// Writes the row of a bag at a place: what tells it from the others, and what it says.
+    #[tactic(auto, unfolding(crate::specs::Naming::row_at))]
+    pub(crate) fn write_row<W: Write + Drop>(
         &self,
         keys: Keys,
         place: usize,
-        name: ResId,
+        row: BagRow,
         out: &mut W,
     ) -> io::Result<()>
-        ensures { Writes W.contents out.old out.new result (key_at self.now keys place name.0) }
+        ensures { Writes W.contents out.old out.new result (row_at self.now keys place row) }
     {
-        let key = keys.of_row(self.alloc, &self.stack, place, name)?;
-        write_key_notation(&self.packages, &key, out)
+        let key = keys.of_row(self.alloc, &self.stack, place, row.name)?;
+        write_key_notation(&self.packages, &key, out)?;
+        out.write_all(b" ")?;
+        let content = value_content(self.alloc, &self.stack, row.layer, row.value)?;
+        write_row_notation(&self.packages, &key, &content, out)
     }
 
     /// Writes the path of the table of the layer at a place.

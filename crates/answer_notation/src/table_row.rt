@@ -8,7 +8,7 @@ ghost use Rattle.answer_text.specs.type_chunks.Row.{row_of};
 ghost use Rattle.answer_notation.specs.TableNotation.{parent_notation, bag_notation, cell_notation, map_row_notation, map_rows_notation, row_end_notation};
 
 use crate::naming::Naming;
-use answer_text::{Cell, Keys, MapRows, ResId, Row, Value};
+use answer_text::{BagRow, Cell, Keys, MapRows, ResId, Row, Value};
 use notation::write_config;
 use std::io::{self, Write};
 
@@ -123,8 +123,15 @@ fn write_map_row<W: Write + Drop>(
     ensures { Writes W.contents out.old out.new result (map_row_notation naming.now indent.now keys (place, (name, value))) }
 {
     out.write_all(indent)?;
-    naming.write_key(keys, place, name, out)?;
-    out.write_all(b" ")?;
-    naming.write_row_value(0, name, value, out)?;
+    naming.write_row(
+        keys,
+        place,
+        BagRow {
+            name,
+            value,
+            layer: 0,
+        },
+        out,
+    )?;
     out.write_all(b"\n")
 }

@@ -11,4 +11,4 @@ android_types =
     ∷ codes "raw" ∷ codes "string" ∷ codes "style" ∷ codes "styleable" ∷ codes "transition" ∷ codes "xml" ∷ []
 
 unfoldable pub is_android_type : List ℕ → Bool
-is_android_type type_name = list_any (bytes_eq type_name) android_types
+is_android_type type_name = list_any (λ other. bytes_eq other type_name) android_types

@@ -1,8 +1,6 @@
 //! The types of Android's resources.
 
-ghost use Rattle.std.specs.Prelude.{◌≡◌, map};
-ghost use Rattle.std.specs.List.{list_any};
-ghost use Rattle.std.specs.Str.{bytes_eq};
+ghost use Rattle.std.specs.Prelude.{◌≡◌};
 ghost use Rattle.names.specs.AndroidTypes.{is_android_type};
 
 /// All of them (aapt2: `ResourceType`).
@@ -18,16 +16,5 @@ const TYPES: [&[u8]; 27] = [
 pub(crate) fn is_android_type(type_name: &str) -> bool
     ensures { result ≡ is_android_type type_name.now }
 {
-    is_among(&TYPES, type_name.as_bytes())
-}
-
-fn is_among(texts: &[&[u8]], text: &[u8]) -> bool
-    ensures { result ≡ list_any (bytes_eq text.now) (map (λ other. other.now) texts.now) }
-{
-    'texts: for other in texts {
-        if text == *other {
-            return true;
-        }
-    }
-    false
+    TYPES.contains(&type_name.as_bytes())
 }
