@@ -386,6 +386,7 @@ ends "make to a closed output" 5 '"$0" make layers box 0x7f010000 >&-'
 # What the guide keeps of an app: the certificate, its text, and the warnings of a survey.
 release='examples/release/layers.json examples/release/phones.json @examples/release/goals.txt'
 ends "the certificate of examples/release" 0 "cd '$here' && \"\$0\" make $release | cmp - examples/release/certificate.json"
+ends "what its resources say" 0 "cd '$here' && \"\$0\" values --locales android ${release%% @*} | cmp - examples/release/values.golden"
 ends "its text" 0 "cd '$here' && \"\$0\" show ${release%% *} examples/release/certificate.json | cmp - examples/release/certificate.txt"
 ends "the warnings that it keeps" 0 "cd '$here' && \"\$0\" survey ${release%% @*} | grep ^warning | cmp - examples/release/warnings.txt"
 ends "the map of a second overlay" 0 "cd '$here/examples' && \"\$0\" map teapot/resources.arsc copper/resources.arsc | cmp - copper/map.json"
@@ -443,6 +444,28 @@ ends "a change within too many nodes" 2 '"$0" diff --max-nodes 1000001 old new b
 ends "two raw forms of a change" 2 '"$0" diff --raw --raw old new box'
 ends "two limits of a change" 2 '"$0" diff --max-nodes 1 --max-nodes 1 old new box'
 ends "names beside the ids of a change" 2 '"$0" diff --names old new box'
+
+# ---- values
+line no-values.out 'resources 0'
+check "the values of no layers" 0 no-values.out $none values new box
+check "the limit of values after the box" 0 no-values.out $none values new box --max-nodes 1
+
+# no_values NAME STATUS LINE WORD..: the same of values.
+no_values() {
+    name=$1 status=$2
+    line values.err "$3"
+    shift 3
+    check "$name" "$status" $none values.err values "$@"
+}
+no_values "a list of values of wrong shape comes before the box" 3 'refused: layers: Shape' shapeless absent
+no_values "an absent box of values comes before what is refused" 5 'file: absent' cut-layers absent
+no_values "an absent file of names of values comes before what is refused" 5 'file: nowhere' cut-layers emptied @nowhere
+no_values "a table of values that is cut comes before the box" 3 'refused: layer 0 table: Chunk Truncated 0' cut-layers emptied
+no_values "the wrong box of values comes before a name that is not there" 3 'refused: box: Empty night' new emptied string/none
+no_values "a name that the stack lacks" 1 'no resource string/none' old box 'string/*' string/none
+no_values "a bad name of values comes before the files" 2 'command: bad id string' absent absent string
+ends "values without a box" 2 '"$0" values new'
+ends "values within 0 nodes" 2 '"$0" values --max-nodes 0 new box'
 ends "diff to a closed output" 5 '"$0" diff new new box >&-'
 
 line plain '[{"table":"examples/teapot/resources.arsc"}]'
@@ -470,6 +493,8 @@ if command -v python3 >/dev/null; then
     ends "worked changes of an app" 0 "python3 '$here/tests/worked_diff.py' \"\$0\""
     ends "random changes of layers" 0 "python3 '$here/tests/check_diff.py' \"\$0\" 400 4"
     ends "random changes of layers by a phone's locales" 0 "python3 '$here/tests/check_diff.py' --locales android \"\$0\" 400 4"
+    ends "what random layers say" 0 "python3 '$here/tests/check_diff.py' --values \"\$0\" 400 4"
+    ends "what random layers say by a phone's locales" 0 "python3 '$here/tests/check_diff.py' --values --locales android \"\$0\" 400 4"
 else
     echo "not run, since python3 is missing: worked and random changes of layers"
 fi
@@ -704,7 +729,7 @@ check "ids and a comma name a file" 5 $none "$work/file.err" query $layers $phon
 cd "$work" || exit 1
 
 # ---- words
-for command in rows dump map ids survey show query explain bag attr make check diff device; do
+for command in rows dump map ids survey show query explain bag attr make check diff values device; do
     check "help of $command" 0 "$here/tests/helps/$command.txt" $none "$command" --help
 done
 check "help" 0 "$here/tests/helps/restool.txt" $none --help
