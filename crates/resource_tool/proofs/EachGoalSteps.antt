@@ -1,5 +1,5 @@
 -- The rejections of goals, one after the other.
-use Rattle.std.proofs.Common.{◌≡◌, ℕ, ◌+◌, ◌<◌, arith, zero, suc, Bool, true, false, List, [], ◌∷◌, ◌++◌, drop, length, Option, Some, refl, ap, subst, sym, ◌∙◌, append_assoc}
+use Rattle.std.proofs.Common.{◌≡◌, ℕ, ◌+◌, ◌<◌, arith, zero, suc, Bool, true, false, List, [], ◌∷◌, ◌++◌, drop, length, Some, refl, ap, subst, sym, ◌∙◌, append_assoc}
 use Rattle.std.specs.Prelude.{slice_get}
 use Rattle.std.proofs.lemmas.List.{append-nil}
 use Rattle.std.proofs.lemmas.Option.{slice_get_within}
@@ -67,8 +67,7 @@ from-failing stack sets place at next [] g k rule shown tree others is_at is_nex
 from-failing stack sets place at next (t ∷ ts) zero k rule shown tree others is_at is_next stands before fails behind =
     let here : t ≡ tree = cc in
     let same : next ≡ place + 1 = omega (arith, is_next) in
-    let there : at ≡ place = omega (arith, is_at) in
-    (
+    let there : at ≡ place = omega (arith, is_at) in (
       Rejected 0 k rule shown,
       others,
       subst (λ (t : GoalOf). IsGoalVerdict stack sets t (Rejected 0 k rule shown)) (sym here) fails,
@@ -80,7 +79,7 @@ from-failing stack sets place at next (t ∷ ts) (suc g) k rule shown tree other
   Rejected at k rule shown ∷ others,
   alone-accepted stack sets t (before 0 t (omega arith) refl),
   from-failing stack sets (place + 1) at next ts g k rule shown tree others (omega (arith, is_at)) (omega (arith, is_next)) stands
-  (λ h other lower is. before (suc h) other (omega (arith, lower)) is) fails behind,
+      (λ h other lower is. before (suc h) other (omega (arith, lower)) is) fails behind,
   refl,
 )
 
@@ -109,9 +108,9 @@ all-rejections stack sets asked trees (Rejected g k rule shown) goal others reje
     let next : goal + 1 ≡ suc g = (let same = f.1 in omega (arith, same)) in
     record {
       each = subst (λ (all : List Verdict). AreRejections stack sets 0 trees all) (sym first)
-      (from-failing stack sets 0 g (goal + 1) trees g k rule shown f.0.tree others (omega arith) (omega (arith, next)) f.0.stands f.0.before
-      (alone-rejected stack sets trees g k rule shown f.0)
-      (subst (λ (n : ℕ). AreRejections stack sets (goal + 1) (drop n trees) others) next behind));
+          (from-failing stack sets 0 g (goal + 1) trees g k rule shown f.0.tree others (omega arith) (omega (arith, next)) f.0.stands f.0.before
+          (alone-rejected stack sets trees g k rule shown f.0)
+          (subst (λ (n : ℕ). AreRejections stack sets (goal + 1) (drop n trees) others) next behind));
       others = others;
       first = first;
     }

@@ -1,5 +1,5 @@
 -- What the command `check` prints.
-use Rattle.std.specs.Prelude.{◌≡◌, ℕ, ◌++◌, Bool, List, length, Option, Some, None, Result, Ok}
+use Rattle.std.specs.Prelude.{◌≡◌, ℕ, ◌++◌, Bool, List, [], length, Option, Some, None, Result, Ok, if◌then◌else◌}
 use Rattle.std.specs.List.{flat_map}
 use Rattle.contract_words.specs.Faults.{◌>>=◌}
 use Rattle.table_commands.specs.config_record.locales.declared.locale_rule.LocaleRule.{LocaleRule}
@@ -93,6 +93,10 @@ abbrev pub Tells : List GoalSeen → Bool → CheckInputs → Verdict → Option
 Tells asked names inputs verdict None text lines =
     (text ≡ check_text inputs verdict) × (lines ≡ goal_told_of inputs.stack asked names verdict)
 Tells asked names inputs verdict (Some goal) text lines = TellsAll asked names inputs verdict text lines
+
+-- nothing where names are not asked for (cited by contracts of this crate alone)
+abbrev pub said_lines : Bool → List ℕ → List ℕ
+said_lines names lines = if names then lines else []
 
 -- A verdict that is right is told, with names or without; where all rejections are asked for, those.
 pub record IsCheckAnswer (asked : List GoalSeen) (names all : Bool) (inputs : CheckInputs) (output : Output) (lines : List ℕ) : Type 0 where

@@ -2,6 +2,7 @@
 
 ghost use Rattle.std.specs.Prelude.{◌≡◌, false, map, string_bytes, Ok, IfOk, IfSome};
 ghost use Rattle.contract_words.specs.Exact.{GivesOr};
+ghost use Rattle.contract_words.specs.Writes.{Writes};
 ghost use Rattle.table_commands.specs.command_base.declared.fault.ToolFault.TheVariants.{OutOfMemory, Write};
 ghost use Rattle.table_commands.specs.command_base.Output.{PrintsOneOf, IsOfInput};
 ghost use Rattle.table_commands.specs.command_base.StackBytesSeen.{layer_bytes};
@@ -9,7 +10,7 @@ ghost use Rattle.table_commands.specs.command_base.Stop.{GivesOrStops};
 ghost use Rattle.resource_text.specs.cert_maker.res_value.Goal.{goal_seen};
 ghost use Rattle.resource_tool.specs.Answered.{PrintsBothOneOf};
 ghost use Rattle.resource_tool.specs.Check.{Checks, ChecksFiles, check_files, check_held, check_opened, check_seen, first_opened};
-ghost use Rattle.resource_tool.specs.CheckOutput.{IsCheckOutput, IsCheckAnswer, check_inputs, check_inputs_by, status_of_verdict};
+ghost use Rattle.resource_tool.specs.CheckOutput.{IsCheckOutput, IsCheckAnswer, check_inputs, check_inputs_by, said_lines, status_of_verdict};
 ghost use Rattle.resource_tool.specs.CheckHeadline.{HeadlineHolds};
 ghost use Rattle.resource_tool.specs.OpenedSeen.{opened_cert};
 ghost use Rattle.table_commands.specs.command_base.CarriesOut.{IsKept};
@@ -24,7 +25,7 @@ use command_base::{
 use names::first_goals;
 use resource_text::{Cert, ConfigBox, Goal, Verdict};
 use std::alloc::Global;
-use std::io::Write;
+use std::io::{self, Write};
 
 /// What the words of `check` ask: whether a certificate is true of some goals for a box of devices.
 #[derive(Drop)]
@@ -182,7 +183,8 @@ pub fn check_bytes<W: Write + Drop>(
         (W.contents out.old) (W.contents out.new)) }
 {
     let opened = OpenedCert::read(alloc, layers, box_json, cert)?;
-    opened.check(alloc, goals, out)
+    let status = opened.check(alloc, goals, out)?;
+    Ok(status)
 }
 
 /// The layers, the box and the certificate that `check` is asked of.
@@ -258,7 +260,7 @@ impl<'a> OpenedCert<'a> {
         errors: &mut E,
     ) -> Result<Status, ToolFault>
         ensures both { PrintsBothOneOf (IsCheckAnswer (map goal_seen goals.now) names all) W.contents E.contents
-            out.old out.new errors.old errors.new result (Ok (opened_cert self)) }
+            out.old out.new errors.old errors.new result (Ok (opened_cert self.entry)) }
         ensures quiet { names ≡ false → errors.new ≡ errors.old }
     {
         let verdict = check(alloc, &self.stack, &self.members, goals, &self.certificate)?;
@@ -268,11 +270,20 @@ impl<'a> OpenedCert<'a> {
             return Err(ToolFault::OutOfMemory);
         };
         out.write_all(&told.text)?;
-        if names {
-            errors.write_all(&told.lines)?;
-        }
+        say(names, &told.lines, errors)?;
         Ok(status)
     }
+}
+
+// Nothing is written where names are not asked for.
+fn say<W: Write + Drop>(names: bool, lines: &[u8], errors: &mut W) -> io::Result<()>
+    ensures said { Writes W.contents errors.old errors.new result (said_lines names lines.now) }
+    ensures quiet { names ≡ false → errors.new ≡ errors.old }
+{
+    if names {
+        errors.write_all(lines)?;
+    }
+    Ok(())
 }
 
 fn status_of_verdict(verdict: Verdict) -> Status

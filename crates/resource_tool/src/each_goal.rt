@@ -41,8 +41,9 @@ pub(crate) fn all_rejections(
 {
     let mut trees = trees;
     let behind = trees.split_off(goal + 1)?;
-    let rejections = vec![in alloc; verdict]?;
-    with_rejections(alloc, stack, members, rejections, goal + 1, behind)
+    let first = vec![in alloc; verdict]?;
+    let rejections = with_rejections(alloc, stack, members, first, goal + 1, behind)?;
+    Ok(rejections)
 }
 
 // Adds to rejections those of these goals, of which the first stands at this place of a list.
@@ -96,7 +97,10 @@ fn push_rejection(
     ensures { OnOk result (rejections.new.items ≡ rejections.old.items ++ rejection_at place verdict) }
 {
     let Verdict::Rejected {
-        node, rule, shown, ..
+        node,
+        rule,
+        shown,
+        ..
     } = verdict
     else {
         return Ok(());

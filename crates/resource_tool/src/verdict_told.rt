@@ -39,12 +39,18 @@ impl OpenedCert<'_> {
         verdict: Verdict,
     ) -> io::Result<Told>
         requires { IsVerdict self.stack self.members (map goal_seen goals.now) (goals_of self.certificate) verdict }
-        ensures { IfOk result (λ told. Tells (map goal_seen goals.now) names (opened_cert self) verdict (goes_on all verdict)
+        ensures { IfOk result (λ told. Tells (map goal_seen goals.now) names (opened_cert self.entry) verdict (goes_on all verdict)
             told.text.items told.lines.items) }
     {
         match goes_on(all, &verdict) {
-            Some(goal) => self.all_told(alloc, goals, names, verdict, goal),
-            None => self.verdict_told(alloc, goals, names, &verdict),
+            Some(goal) => {
+                let told = self.all_told(alloc, goals, names, verdict, goal)?;
+                Ok(told)
+            }
+            None => {
+                let told = self.verdict_told(alloc, goals, names, &verdict)?;
+                Ok(told)
+            }
         }
     }
 
@@ -58,7 +64,7 @@ impl OpenedCert<'_> {
     ) -> io::Result<Told>
         requires right { IsVerdict self.stack self.members (map goal_seen goals.now) (goals_of self.certificate) verdict }
         requires at { goes_on true verdict ≡ Some goal }
-        ensures { IfOk result (λ told. TellsAll (map goal_seen goals.now) names (opened_cert self) verdict told.text.items told.lines.items) }
+        ensures { IfOk result (λ told. TellsAll (map goal_seen goals.now) names (opened_cert self.entry) verdict told.text.items told.lines.items) }
     {
         let OpenedCert {
             stack,
@@ -91,7 +97,7 @@ impl OpenedCert<'_> {
         let mut text = Vec::new(alloc);
         write_verdict(verdict, self, &mut text)?;
         let mut lines = Vec::new(alloc);
-        write_goal_told(&names, goals, goal_of_verdict(verdict), &mut lines)?;
+        write_goal_of(&names, goals, verdict, &mut lines)?;
         Ok(Told { text, lines })
     }
 }
@@ -132,9 +138,20 @@ fn write_goals_told<W: Write + Drop>(
         (flat_map (goal_told_of names.now.stack (map goal_seen goals.now) names.now.asked) rejections.now) }
 {
     for rejection in rejections {
-        write_goal_told(names, goals, goal_of_verdict(rejection), out)?;
+        write_goal_of(names, goals, rejection, out)?;
     }
     Ok(())
+}
+
+fn write_goal_of<W: Write + Drop>(
+    names: &NamesBeside<'_, '_>,
+    goals: &[Goal],
+    verdict: &Verdict,
+    out: &mut W,
+) -> io::Result<()>
+    ensures { Writes W.contents out.old out.new result (goal_told_of names.now.stack (map goal_seen goals.now) names.now.asked verdict.now) }
+{
+    write_goal_told(names, goals, goal_of_verdict(verdict), out)
 }
 
 fn goal_of_verdict(verdict: &Verdict) -> Option<usize>

@@ -140,7 +140,13 @@ pub(crate) const USAGES: &[Usage] = &[
         name: CHECK,
         about: "Checks whether a certificate is true for every device of a box",
         arguments: &[
-            LOCALES, GOAL_NAMES, ALL_GOALS, LAYERS, BOX, CERTIFICATE, GOALS,
+            LOCALES,
+            GOAL_NAMES,
+            ALL_GOALS,
+            LAYERS,
+            BOX,
+            CERTIFICATE,
+            GOALS,
         ],
     },
     Usage {
