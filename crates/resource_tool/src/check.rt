@@ -183,8 +183,7 @@ pub fn check_bytes<W: Write + Drop>(
         (W.contents out.old) (W.contents out.new)) }
 {
     let opened = OpenedCert::read(alloc, layers, box_json, cert)?;
-    let status = opened.check(alloc, goals, out)?;
-    Ok(status)
+    Ok(opened.check(alloc, goals, out)?)
 }
 
 /// The layers, the box and the certificate that `check` is asked of.
