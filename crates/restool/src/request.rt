@@ -15,7 +15,7 @@ use crate::arguments::{
 };
 use crate::asked_words::Asks;
 use crate::command_line::{
-    ALL, ATTRIBUTE, BAG_ID, BOX, CERTIFICATE, COMPARED, CONFIG, DEVICE, DIFF_NODES, DOT,
+    ALL, ALL_GOALS, ATTRIBUTE, BAG_ID, BOX, CERTIFICATE, COMPARED, CONFIG, DEVICE, DIFF_NODES, DOT,
     GOAL_NAMES, GOALS, ID, IDS, KEEP, LAYERS, LOCALES, MAX_NODES, MAYBE_BOX, NAMES, NEW, NOTATION,
     OLD, OMIT, OVERLAY, RAW, STYLES, TABLE, TARGET, Usage,
 };
@@ -139,7 +139,15 @@ pub(crate) const USAGES: &[Usage] = &[
     Usage {
         name: CHECK,
         about: "Checks whether a certificate is true for every device of a box",
-        arguments: &[LOCALES, GOAL_NAMES, LAYERS, BOX, CERTIFICATE, GOALS],
+        arguments: &[
+            LOCALES,
+            GOAL_NAMES,
+            ALL_GOALS,
+            LAYERS,
+            BOX,
+            CERTIFICATE,
+            GOALS,
+        ],
     },
     Usage {
         name: DIFF,
@@ -339,6 +347,7 @@ fn check_of<'a>(alloc: Global, given: &ArgMatches<'a>) -> Result<Request<'a>, Ar
         certificate: given_word(given, &CERTIFICATE),
         locales,
         names: given_flag(given, &NAMES),
+        all: given_flag(given, &ALL_GOALS),
         goals: given_asked(alloc, given, &GOALS, Asks::Goals)?,
     }))
 }
