@@ -4,7 +4,7 @@
     check_certificates.py [--locales android] PROGRAM CASES [JOBS [FIRST]]
 
 for so many random layers, boxes of at most some thousand devices, and certificates, of which some are true and most
-have a fault. Every second one has styles, and goals of attributes. Goal, node, rule, and what is shown have to be the same. Of two devices that are shown for a mixed leaf it
+have a fault. Every second one has styles, and goals of attributes. Goal, node, rule, and what is shown have to be the same, with --all of each goal that is rejected. Of two devices that are shown for a mixed leaf it
 is asked whether they stand at it, whether they differ in one coordinate alone, by one where it is a range, and whether
 at the first question that devices at the leaf answer differently the first answers yes and the second no; and what
 `restool explain` or `restool attr` says of them, and of some other device of the box, has to be what the rules say. The cases are
@@ -19,7 +19,7 @@ from functools import partial
 from case_files import Files, device_of
 from case_words import read_words
 from plain_bags import Attribute
-from plain_certificates import certificate_json, goal_word, verdict, verdict_lines
+from plain_certificates import all_lines, certificate_json, goal_word, verdicts, verdict_lines
 from plain_rules import COORDS, end_text
 from random_cases import CertifiedCase
 from random_locales import CertifiedLocaleCase
@@ -57,13 +57,24 @@ def faults_of_pair(case, goal, members, first, second):
     return faults
 
 
+def all_faults(files, case, rejections):
+    """The faults of what is printed of all goals that are rejected. Of two devices there are only the words before them."""
+    lines, status = files.run("check", "--all", "layers", "box", "certificate", *map(goal_word, case.asked))
+    wanted = all_lines(case.layers, case.box, case.asked, case.goals, rejections)
+    seen = [line.split(" ")[0] + " " if line.startswith(("first ", "second ")) else line for line in lines]
+    faults = [] if status == int(len(rejections) > 0) else [f"status {status} of all"]
+    return faults + ([] if seen == wanted else [f"printed of all: {lines}", f"wanted: {wanted}"])
+
+
 def faults_of_verdict(files, case):
     """The faults of a verdict, and what it is."""
-    rejected = verdict(case.layers, case.box, case.asked, case.goals)
+    rejections = list(verdicts(case.layers, case.box, case.asked, case.goals))
+    rejected = next(iter(rejections), None)
+    faults_of_all = all_faults(files, case, rejections)
     wanted = verdict_lines(case.layers, case.box, case.asked, case.goals, rejected)
     lines, status = files.run("check", "layers", "box", "certificate", *map(goal_word, case.asked))
     counted = Counter([f"N{rejected[1].rule}" if rejected else "accepted"])
-    faults = [] if status == int(rejected is not None) else [f"status {status}"]
+    faults = faults_of_all + ([] if status == int(rejected is not None) else [f"status {status}"])
     is_mixed = rejected is not None and rejected[1].rule == 6
     seen = [line.split(" ")[0] + " " if is_mixed and place in (1, 2) else line for place, line in enumerate(lines)]
     if seen != wanted:

@@ -152,22 +152,32 @@ def goal_that_differs(asked, goals):
 def verdict(layers, box, asked, goals):
     """Where a certificate, a list of goals with their nodes, is rejected: the goal and the fault. None where it is
     accepted."""
+    return next(verdicts(layers, box, asked, goals), None)
+
+
+def verdicts(layers, box, asked, goals):
+    """The same of each goal that is rejected, one after the other. Where the goals are others, none is judged."""
     place = goal_that_differs(asked, [goal for goal, _ in goals])
     if place is not None:
-        return place, Fault(0, 1)
+        yield place, Fault(0, 1)
+        return
     for place, (goal, nodes) in enumerate(goals):
-        traces = {}
-
-        def trace_of(device):
-            key = tuple(device.values())
-            if key not in traces:
-                traces[key] = layers.trace(goal, device)
-            return traces[key]
-
-        fault = fault_of_nodes(box, nodes, trace_of)
+        fault = fault_of_nodes(box, nodes, traces_of(layers, goal))
         if fault is not None:
-            return place, fault
-    return None
+            yield place, fault
+
+
+def traces_of(layers, goal):
+    """The trace of a goal at a device, which is found once."""
+    traces = {}
+
+    def trace_of(device):
+        key = tuple(device.values())
+        if key not in traces:
+            traces[key] = layers.trace(goal, device)
+        return traces[key]
+
+    return trace_of
 
 
 def id_text(name):
@@ -198,6 +208,19 @@ def verdict_lines(layers, box, asked, goals, rejected):
     aside = f"set-aside {layers.set_aside()}"
     if rejected is None:
         return [f"accepted goals {len(goals)} nodes {sum(len(nodes) for _, nodes in goals)}", aside]
+    return [*rejection_lines(layers, box, asked, rejected), aside]
+
+
+def all_lines(layers, box, asked, goals, rejections):
+    """The same of `restool check --all`."""
+    if not rejections or rejections[0][1].rule == 1:
+        return verdict_lines(layers, box, asked, goals, next(iter(rejections), None))
+    told = [line for rejected in rejections for line in rejection_lines(layers, box, asked, rejected)]
+    return [*told, f"failed {len(rejections)} of {len(goals)} goals", f"set-aside {layers.set_aside()}"]
+
+
+def rejection_lines(layers, box, asked, rejected):
+    """A rejection by itself."""
     goal, fault = rejected
     lines = [f"rejected goal {goal} node {fault.node} N{fault.rule} {RULES[fault.rule]}"]
     if fault.rule == 6:
@@ -206,4 +229,4 @@ def verdict_lines(layers, box, asked, goals, rejected):
         shown = corner(box, fault.members)
         end = layers.trace(asked[goal], fault.members[0])[1]
         lines += [f"device {device_text(shown)}", f"end {end_text(end)}"]
-    return lines + [aside]
+    return lines

@@ -215,6 +215,52 @@ def of_attributes():
         yield checked(STYLES, MEDIUM_BOX, certificate, rejected(0, "N1 GoalList"), f"{A}@{FIRST},{SECOND}")
 
 
+# ---- all goals that fail
+
+BOTH = "0 [] 1\n1 [] 2"
+WRONG_VALUES = rejected(0, "N8 OtherValue", "device density=160", "end value layer 0 decimal 1")
+NIGHT_PAIR = ["first night=2 density=160", "second night=1 density=160"]
+
+ALL = [
+    # The rows of a table, a box, the goals of a certificate with their trees, and what is printed of those that are asked for.
+    (BOTH, MEDIUM_BOX, [tree(value(1)), tree(value(2), name=SECOND)], [ID, SECOND], ["accepted goals 2 nodes 2"]),
+    (BOTH, MEDIUM_BOX, [tree(value(9)), tree(value(2), name=SECOND)], [ID, SECOND], [*WRONG_VALUES, "failed 1 of 2 goals"]),
+    (
+        BOTH,
+        MEDIUM_BOX,
+        [tree(value(9)), tree(value(1)), tree(name=SECOND), tree(value(2), value(2), name=SECOND), tree(value(2), name=SECOND)],
+        [ID, ID, SECOND, SECOND, SECOND],
+        [*WRONG_VALUES, *rejected(0, "N2 EndsEarly", goal=2), *rejected(1, "N3 LeftOver", goal=3), "failed 3 of 5 goals"],
+    ),
+    (
+        f"{ALIKE_AT_NIGHT}\n1 [night=2] 2",
+        NIGHT_AND_DAY,
+        [tree(among("night", 2), value(1), value(1)), tree(value(1)), tree(among("night", 2), value(2), value(2), name=SECOND)],
+        [ID, ID, SECOND],
+        [
+            *rejected(0, "N6 MixedTrace", *NIGHT_PAIR, goal=1),
+            *rejected(2, "N7 NoValue", "device night=1 density=160", f"end absent {SECOND}", goal=2),
+            "failed 2 of 3 goals",
+        ],
+    ),
+    # Other goals: none is judged.
+    (BOTH, MEDIUM_BOX, [tree(value(9))], [SECOND], rejected(0, "N1 GoalList")),
+    (BOTH, MEDIUM_BOX, [tree(value(9))], [ID, SECOND], rejected(0, "N1 GoalList", goal=1)),
+    (BOTH, MEDIUM_BOX, [tree(value(9)), tree(name=SECOND)], [ID], rejected(0, "N1 GoalList", goal=1)),
+]
+
+
+def of_all():
+    for rows, box, trees, goals, told in ALL:
+        out = lines([*told, "set-aside 0"])
+        status = not told[0].startswith("accepted")
+        files = {**files_of([rows]), "box": box, "certificate": certificate_of(*trees)}
+        yield Case(["check", "--all", "layers", "box", "certificate", *goals], out, "", status, **files)
+        failing = [words.split(" ")[2] for words in told if words.startswith("rejected")]
+        said = lines(f"goal {place} {goals[int(place)]}" for place in failing if int(place) < len(goals))
+        yield Case(["check", "--all", "--names", "layers", "box", "certificate", *goals], out, said, status, **files)
+
+
 # ---- texts
 
 def refused(text, fault):
@@ -405,7 +451,7 @@ def of_all_texts():
             yield over(layers, words, "", f"refused: {fault}\n", 3, box="", certificate="")
 
 
-GROUPS = [of_verdicts, of_attributes, of_texts, of_limits, of_all_texts]
+GROUPS = [of_verdicts, of_attributes, of_all, of_texts, of_limits, of_all_texts]
 
 
 if __name__ == "__main__":

@@ -9,6 +9,7 @@ use Rattle.names.specs.IdLabel.{label_of_id}
 use Rattle.names.specs.LabelText.{label_text}
 use Rattle.names.specs.NamedIds.{packages_of}
 use Rattle.names.specs.Quoted.{quoted_text}
+use Rattle.answer_text.specs.Content.{RowKeyOf}
 use Rattle.answer_text.specs.declared.row_key.Keys.{Keys}
 use Rattle.answer_text.specs.LayerText.{layer_text}
 use Rattle.answer_text.specs.RowKeys.{row_key}
@@ -28,12 +29,17 @@ id_notation naming id = label_text (packages_of naming.stack) (label_of_id namin
 unfoldable pub value_at : NamingOf → ℕ → Value → List ℕ
 value_at naming layer value = value_notation (packages_of naming.stack) (value_content naming.stack layer value)
 
--- the row of a bag at a place, `KEY VALUE`
+-- what the row of a bag says that this tells from the others
+unfoldable pub row_value : NamingOf → RowKeyOf → BagRow → List ℕ
+row_value naming key row = row_notation (packages_of naming.stack) key (value_content naming.stack row.layer row.value)
+
+-- `KEY VALUE`
+unfoldable pub keyed_row : NamingOf → RowKeyOf → BagRow → List ℕ
+keyed_row naming key row = key_notation (packages_of naming.stack) key ++ codes " " ++ row_value naming key row
+
+-- the row of a bag at a place
 unfoldable pub row_at : NamingOf → Keys → ℕ → BagRow → List ℕ
-row_at naming keys place row =
-    let key = row_key naming.stack keys place row.name.0 in
-    key_notation (packages_of naming.stack) key ++ codes " "
-    ++ row_notation (packages_of naming.stack) key (value_content naming.stack row.layer row.value)
+row_at naming keys place row = keyed_row naming (row_key naming.stack keys place row.name.0) row
 
 -- a path of characters of ASCII that are seen, as it is; any other between quotes, as strings are
 unfoldable pub path_notation : List ℕ → List ℕ

@@ -1,6 +1,7 @@
 -- The verdict on a certificate as text.
 use Rattle.std.specs.Prelude.{ℕ, List, [], ◌∷◌, ◌++◌, codes, length}
 use Rattle.std.specs.Fmt.{decimal}
+use Rattle.std.specs.List.{flat_map}
 use Rattle.command_base.specs.answer_text.config_record.DeviceSeen.{device_numbers}
 use Rattle.command_base.specs.answer_text.config_record.Qualifiers.{device_text}
 use Rattle.command_base.specs.answer_text.reference_resolver.declared.end.End.{End}
@@ -40,6 +41,19 @@ shown_text (Two first second) =
     named_device_line (codes "first") (device_numbers first) ++ named_device_line (codes "second") (device_numbers second)
 shown_text (One device end) = device_with_end (device_numbers device) end
 
-unfoldable pub verdict_text : Verdict → List GoalOf → List ℕ
+-- a rejection, with those devices
+unfoldable pub rejection_text : Verdict → List ℕ
+rejection_text Accepted = []
+rejection_text (Rejected goal node rule shown) = rejected_line goal node (number_of rule) (name_of rule) ++ shown_text shown
+
+abbrev pub verdict_text : Verdict → List GoalOf → List ℕ
 verdict_text Accepted goals = accepted_text goals
-verdict_text (Rejected goal node rule shown) goals = rejected_line goal node (number_of rule) (name_of rule) ++ shown_text shown
+verdict_text (Rejected goal node rule shown) goals = rejection_text (Rejected goal node rule shown)
+
+-- the line `failed N of M goals`
+unfoldable pub failed_line : ℕ → ℕ → List ℕ
+failed_line failed goals = codes "failed " ++ decimal failed ++ codes " of " ++ decimal goals ++ codes " goals" ++ 10 ∷ []
+
+-- one rejection after the other, and how many of how many goals these are
+unfoldable pub rejections_text : List Verdict → ℕ → List ℕ
+rejections_text rejections goals = flat_map rejection_text rejections ++ failed_line (length rejections) goals

@@ -18,4 +18,4 @@ pub use cert_maker::{
     Cert, ConfigBox, Goal, Made, Omitted, Omitting, Progress, Rule, Shown, Unwatched, Verdict,
 };
 pub use command_base::{LayersFault, Side, ToolFault, fault_text};
-pub use verdict::{device_with_end, verdict_text};
+pub use verdict::{device_with_end, rejections_text, verdict_text};

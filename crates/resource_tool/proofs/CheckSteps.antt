@@ -1,6 +1,8 @@
 -- The verdict that was printed, from the bytes of the inputs.
-use Rattle.std.proofs.Common.{◌≡◌, ℕ, Bool, List, Option, Ok, refl, ap, subst, ◌∙◌}
+use Rattle.std.proofs.Common.{◌≡◌, ℕ, Bool, true, false, List, [], ◌∷◌, Option, Some, None, Ok, refl, subst, sym, ◌∙◌}
+use Rattle.std.specs.List.{flat_map}
 use Rattle.std.specs.Io.KnownBytes.{Appends}
+use Rattle.table_commands.specs.overlay_map.Layer.{LayerOf}
 use Rattle.resource_text.specs.cert_maker.res_value.Goal.{GoalSeen}
 use Rattle.table_commands.specs.command_base.declared.status.Status.{Status}
 use Rattle.table_commands.specs.command_base.Output.{PrintsOneOf}
@@ -10,7 +12,8 @@ use Rattle.resource_text.specs.cert_maker.cert_checker.Verdict.{IsVerdict}
 use Rattle.resource_text.specs.cert_maker.cert_checker.Headline.{Headline}
 use Rattle.resource_tool.specs.Answered.{PrintsBothOneOf}
 use Rattle.resource_tool.specs.GoalTold.{goal_told}
-use Rattle.resource_tool.specs.CheckOutput.{CheckInputs, check_inputs, IsCheckOutput, IsCheckAnswer, check_text, status_of_verdict, goal_of_verdict}
+use Rattle.resource_tool.specs.CheckOutput.{CheckInputs, check_inputs, IsCheckOutput, IsCheckAnswer, Tells, goal_told_of, said_lines, status_of_verdict}
+use Rattle.resource_tool.specs.EachGoal.{goes_on}
 use Rattle.resource_tool.specs.CheckHeadline.{HeadlineHolds}
 
 pub headline-holds : {W : Type 0} (contents : W → Option (List ℕ)) (old new : W) (layers : List LayerBytes) (box_json cert_json : List ℕ) (asked : List GoalSeen) (status : Status) (inputs : CheckInputs)
@@ -26,21 +29,33 @@ headline-holds contents old new layers box_json cert_json asked status inputs re
       holds = output.headline;
     }
 
--- what is said beside a verdict
-pub told-beside : {W V : Type 0} (contents : W → Option (List ℕ)) (says : V → Option (List ℕ)) (old new : W) (before after : V) (asked : List GoalSeen) (names : Bool) (inputs : CheckInputs)
-    (verdict : Verdict) (status : Status) (about : Option ℕ)
+-- where names are not asked for, nothing is to be said
+
+said-nothing : (stack : List LayerOf) (asked : List GoalSeen) (rejections : List Verdict) → flat_map (goal_told_of stack asked false) rejections ≡ []
+unfolding goal_told
+said-nothing stack asked [] = refl
+said-nothing stack asked (rejection ∷ rejections) = said-nothing stack asked rejections
+
+all-said : (asked : List GoalSeen) (names : Bool) (inputs : CheckInputs) (verdict : Verdict) (goal : Option ℕ) (text lines : List ℕ)
+    → Tells asked names inputs verdict goal text lines → said_lines names lines ≡ lines
+unfolding goal_told
+all-said asked true inputs verdict goal text lines told = refl
+all-said asked false inputs verdict None text lines told = sym told.1
+all-said asked false inputs verdict (Some goal) text lines told = sym (told.said ∙ said-nothing inputs.stack asked told.rejections)
+
+-- what is told of a verdict
+pub told-beside : {W V : Type 0} (contents : W → Option (List ℕ)) (says : V → Option (List ℕ)) (old new : W) (before after : V) (asked : List GoalSeen) (names all : Bool) (inputs : CheckInputs)
+    (verdict : Verdict) (status : Status) (text lines : List ℕ)
     → IsVerdict inputs.stack inputs.sets asked inputs.trees verdict → Headline inputs.stack inputs.sets asked inputs.trees verdict → status ≡ status_of_verdict verdict
-    → Appends (contents old) (contents new) (check_text inputs verdict) → about ≡ goal_of_verdict verdict
-    → Appends (says before) (says after) (goal_told inputs.stack asked names about) → PrintsBothOneOf (IsCheckAnswer asked names) contents says old new before after (Ok status) (Ok inputs)
-told-beside contents says old new before after asked names inputs verdict status about right headline ended put of told = (
+    → Tells asked names inputs verdict (goes_on all verdict) text lines → Appends (contents old) (contents new) text
+    → Appends (says before) (says after) (said_lines names lines)
+    → PrintsBothOneOf (IsCheckAnswer asked names all) contents says old new before after (Ok status) (Ok inputs)
+told-beside contents says old new before after asked names all inputs verdict status text lines right headline ended told put said = (
   inputs,
-  check_text inputs verdict,
-  goal_told inputs.stack asked names about,
+  text,
+  lines,
   refl,
-  record {
-    printed = record { verdict = verdict; right = right; headline = headline; status = ended; text = refl };
-    told = ap (λ (g : Option ℕ). goal_told inputs.stack asked names g) of;
-  },
+  record { verdict = verdict; right = right; headline = headline; status = ended; told = told },
   put,
-  told,
+  subst (λ (t : List ℕ). Appends (says before) (says after) t) (all-said asked names inputs verdict (goes_on all verdict) text lines told) said,
 )

@@ -18,9 +18,9 @@ use Rattle.resource_text.specs.cert_maker.cert_checker.declared.verdict.Verdict.
 use Rattle.resource_text.specs.cert_maker.cert_checker.FirstFault.{goals_in, DifferFirstAt}
 use Rattle.resource_text.specs.cert_maker.cert_checker.Verdict.{IsVerdict}
 use Rattle.resource_tool.specs.Answered.{PrintsBothOneOf}
-use Rattle.resource_tool.specs.GoalTold.{goal_told}
 use Rattle.resource_tool.specs.Check.{OpenCheckOf, first_opened, with_first}
-use Rattle.resource_tool.specs.CheckOutput.{CheckInputs, IsCheckAnswer, check_text, goal_of_verdict, status_of_verdict}
+use Rattle.resource_tool.specs.CheckOutput.{CheckInputs, IsCheckAnswer, Tells, status_of_verdict}
+use Rattle.resource_tool.specs.EachGoal.{goes_on}
 use Rattle.resource_tool.proofs.FirstOf.{carried-on-all, first-at, told-of-first}
 use Rattle.resource_tool.proofs.Told.{told-otherwise}
 
@@ -59,43 +59,45 @@ differs-first trees asked g first =
 -- ---- the verdict
 
 -- where more goals are asked
-checked-longer : (asked : List GoalSeen) (names : Bool) (inputs : CheckInputs) (output : Output) (lines : List ℕ) → length inputs.trees + 1 ≤ length asked → (verdict : Verdict)
-    → IsVerdict inputs.stack inputs.sets (take (length inputs.trees + 1) asked) inputs.trees verdict → output.status ≡ status_of_verdict verdict → output.text ≡ check_text inputs verdict
-    → lines ≡ goal_told inputs.stack (take (length inputs.trees + 1) asked) names (goal_of_verdict verdict) → IsCheckAnswer asked names inputs output lines
-checked-longer asked names inputs output lines longer Accepted right ended text told = absurd (not-same inputs.trees asked longer right.goals)
-checked-longer asked names inputs output lines longer (Rejected g k GoalList shown) (fault, shows) ended text told =
+checked-longer : (asked : List GoalSeen) (names all : Bool) (inputs : CheckInputs) (output : Output) (lines : List ℕ) → length inputs.trees + 1 ≤ length asked → (verdict : Verdict)
+    → IsVerdict inputs.stack inputs.sets (take (length inputs.trees + 1) asked) inputs.trees verdict → output.status ≡ status_of_verdict verdict
+    → Tells (take (length inputs.trees + 1) asked) names inputs verdict (goes_on all verdict) output.text lines → IsCheckAnswer asked names all inputs output lines
+checked-longer asked names all inputs output lines longer Accepted right ended told = absurd (not-same inputs.trees asked longer right.goals)
+checked-longer asked names all inputs output lines longer (Rejected g k GoalList shown) (fault, shows) ended told =
     let differ = differs-first inputs.trees asked g fault.0 in
     record {
-      printed = record { verdict = Rejected g k GoalList shown; right = ((differ, fault.1), shows); headline = (differ, fault.1); status = ended; text = text };
-      told = told ∙ told-of-first inputs.stack asked names (length inputs.trees + 1) g (differs-within inputs.trees asked g fault.0);
+      verdict = Rejected g k GoalList shown;
+      right = ((differ, fault.1), shows);
+      headline = (differ, fault.1);
+      status = ended;
+      told = (told.0, told.1 ∙ told-of-first inputs.stack asked names (length inputs.trees + 1) g (differs-within inputs.trees asked g fault.0));
     }
-checked-longer asked names inputs output lines longer (Rejected g k rule shown) (fault, shows) ended text told = absurd (not-same inputs.trees asked longer fault.goals)
+checked-longer asked names all inputs output lines longer (Rejected g k rule shown) (fault, shows) ended told = absurd (not-same inputs.trees asked longer fault.goals)
 
 -- The law: a verdict for the first goals is one for all.
-pub first-checked : (asked : List GoalSeen) (names : Bool) (inputs : CheckInputs) (output : Output) (lines : List ℕ)
-    → IsCheckAnswer (take (length inputs.trees + 1) asked) names inputs output lines → IsCheckAnswer asked names inputs output lines
-first-checked asked names inputs output lines answer =
+pub first-checked : (asked : List GoalSeen) (names all : Bool) (inputs : CheckInputs) (output : Output) (lines : List ℕ)
+    → IsCheckAnswer (take (length inputs.trees + 1) asked) names all inputs output lines → IsCheckAnswer asked names all inputs output lines
+first-checked asked names all inputs output lines answer =
     elim (cases_lt (length inputs.trees) (length asked)) [
-      | inl longer ↦
-          checked-longer asked names inputs output lines (omega (arith, longer)) answer.printed.verdict answer.printed.right answer.printed.status answer.printed.text answer.told
-      | inr few ↦ subst (λ (goals : List GoalSeen). IsCheckAnswer goals names inputs output lines) (take_all (length inputs.trees + 1) asked (omega (arith, few))) answer
+      | inl longer ↦ checked-longer asked names all inputs output lines (omega (arith, longer)) answer.verdict answer.right answer.status answer.told
+      | inr few ↦ subst (λ (goals : List GoalSeen). IsCheckAnswer goals names all inputs output lines) (take_all (length inputs.trees + 1) asked (omega (arith, few))) answer
     ]
 
 -- So the command that is carried out on the first goals is carried out on all.
-pub checked-of-all : {W V : Type 0} (names : Bool) (contents : W → Option (List ℕ)) (says : V → Option (List ℕ)) (old new : W) (before after : V) (check : OpenCheckOf) (done : Result Status ToolFault)
-    → PrintsBothOneOf (IsCheckAnswer (with_first check).goals names) contents says old new before after done (Ok check.opened)
-    → PrintsBothOneOf (IsCheckAnswer check.goals names) contents says old new before after done (Ok check.opened)
-checked-of-all names contents says old new before after check done told =
-    told-otherwise (IsCheckAnswer (with_first check).goals names) (IsCheckAnswer check.goals names) contents says old new before after done (Ok check.opened)
+pub checked-of-all : {W V : Type 0} (names all : Bool) (contents : W → Option (List ℕ)) (says : V → Option (List ℕ)) (old new : W) (before after : V) (check : OpenCheckOf) (done : Result Status ToolFault)
+    → PrintsBothOneOf (IsCheckAnswer (with_first check).goals names all) contents says old new before after done (Ok check.opened)
+    → PrintsBothOneOf (IsCheckAnswer check.goals names all) contents says old new before after done (Ok check.opened)
+checked-of-all names all contents says old new before after check done told =
+    told-otherwise (IsCheckAnswer (with_first check).goals names all) (IsCheckAnswer check.goals names all) contents says old new before after done (Ok check.opened)
     (λ inputs output lines is answer.
     let same : check.opened ≡ inputs = cc in
-    first-checked check.goals names inputs output lines
-    (subst (λ (i : CheckInputs). IsCheckAnswer (take (length i.trees + 1) check.goals) names inputs output lines) same answer))
+    first-checked check.goals names all inputs output lines
+    (subst (λ (i : CheckInputs). IsCheckAnswer (take (length i.trees + 1) check.goals) names all inputs output lines) same answer))
     told
 
-pub carried-by-first : {W V : Type 0} (names : Bool) (contents : W → Option (List ℕ)) (says : V → Option (List ℕ)) (old new : W) (before after : V) (meant : Result OpenCheckOf StopOf) (result : Result Status Stop)
-    → CarriesOut (λ check done. PrintsBothOneOf (IsCheckAnswer check.goals names) contents says old new before after done (Ok check.opened)) (first_opened meant) result
-    → CarriesOut (λ check done. PrintsBothOneOf (IsCheckAnswer check.goals names) contents says old new before after done (Ok check.opened)) meant result
-carried-by-first names contents says old new before after meant result carried =
-    carried-on-all with_first (λ (check : OpenCheckOf) (done : Result Status ToolFault). PrintsBothOneOf (IsCheckAnswer check.goals names) contents says old new before after done (Ok check.opened)) meant result
-    (checked-of-all names contents says old new before after) carried
+pub carried-by-first : {W V : Type 0} (names all : Bool) (contents : W → Option (List ℕ)) (says : V → Option (List ℕ)) (old new : W) (before after : V) (meant : Result OpenCheckOf StopOf) (result : Result Status Stop)
+    → CarriesOut (λ check done. PrintsBothOneOf (IsCheckAnswer check.goals names all) contents says old new before after done (Ok check.opened)) (first_opened meant) result
+    → CarriesOut (λ check done. PrintsBothOneOf (IsCheckAnswer check.goals names all) contents says old new before after done (Ok check.opened)) meant result
+carried-by-first names all contents says old new before after meant result carried =
+    carried-on-all with_first (λ (check : OpenCheckOf) (done : Result Status ToolFault). PrintsBothOneOf (IsCheckAnswer check.goals names all) contents says old new before after done (Ok check.opened)) meant result
+    (checked-of-all names all contents says old new before after) carried

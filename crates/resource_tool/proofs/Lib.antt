@@ -1,4 +1,5 @@
 pub mod CheckSteps
+pub mod EachGoalSteps
 pub mod FirstOf
 pub mod FirstGoals
 pub mod FirstChecked

@@ -78,7 +78,7 @@ first_opened meant = meant >>= λ check. Ok (with_first check)
 -- from the files, if they are read
 abbrev pub ChecksFiles : {W V : Type 0} → (W → Option (List ℕ)) → (V → Option (List ℕ)) → W → W → V → V → Check → Result CheckBytes StopOf → Result Status Stop → Type 0
 ChecksFiles contents says old new before after check read result =
-    CarriesOut (λ asked done. PrintsBothOneOf (IsCheckAnswer asked.goals check.names) contents says old new before after done (Ok asked.opened))
+    CarriesOut (λ asked done. PrintsBothOneOf (IsCheckAnswer asked.goals check.names check.all) contents says old new before after done (Ok asked.opened))
     (read >>= λ files. check_opened check.locales files.layers files.box_json files.certificate files.words) result
 
 -- from what the places have

@@ -1,5 +1,6 @@
 -- What the command `check` prints.
-use Rattle.std.specs.Prelude.{◌≡◌, ℕ, ◌++◌, Bool, List, Option, Some, None, Result, Ok}
+use Rattle.std.specs.Prelude.{◌≡◌, ℕ, ◌++◌, Bool, List, [], length, Option, Some, None, Result, Ok, if◌then◌else◌}
+use Rattle.std.specs.List.{flat_map}
 use Rattle.contract_words.specs.Faults.{◌>>=◌}
 use Rattle.table_commands.specs.config_record.locales.declared.locale_rule.LocaleRule.{LocaleRule}
 use Rattle.table_commands.specs.config_record.locales.declared.locale_rule.LocaleRule.TheVariants.{LanguageAndRegion}
@@ -16,13 +17,14 @@ use Rattle.resource_text.specs.cert_maker.cert_checker.Headline.{Headline}
 use Rattle.table_commands.specs.command_base.declared.fault.ToolFault.{ToolFault}
 use Rattle.table_commands.specs.command_base.ToolFault.{fault_of_box, fault_of_certificate}
 use Rattle.table_commands.specs.answer_text.QueryText.{set_aside_line}
-use Rattle.resource_text.specs.VerdictText.{verdict_text}
+use Rattle.resource_text.specs.VerdictText.{rejections_text, verdict_text}
 use Rattle.table_commands.specs.command_base.declared.status.Status.{Status}
 use Rattle.table_commands.specs.command_base.declared.status.Status.TheVariants.{Done, Negative}
 use Rattle.table_commands.specs.command_base.Output.{Output}
 use Rattle.table_commands.specs.command_base.SetAside.{rows_set_aside}
 use Rattle.table_commands.specs.command_base.StackBytes.{LayerBytes, stack_in}
 use Rattle.table_commands.specs.command_base.MapErr.{map_err}
+use Rattle.resource_tool.specs.EachGoal.{AreAllRejections, goes_on}
 use Rattle.resource_tool.specs.GoalTold.{goal_told}
 
 -- ---- the inputs
@@ -67,14 +69,39 @@ pub record IsCheckOutput (asked : List GoalSeen) (inputs : CheckInputs) (output 
   pub status : output.status ≡ status_of_verdict verdict
   pub text : output.text ≡ check_text inputs verdict
 
--- ---- the goal that it is about
+-- ---- the same as it is asked, and what is said beside it
 
--- that at which the certificate is rejected
+-- the goal at which a certificate is rejected
 abbrev pub goal_of_verdict : Verdict → Option ℕ
 goal_of_verdict Accepted = None
 goal_of_verdict (Rejected goal node rule shown) = Some goal
 
--- a verdict that is right is printed, and these lines are said of its goal
-pub record IsCheckAnswer (asked : List GoalSeen) (names : Bool) (inputs : CheckInputs) (output : Output) (lines : List ℕ) : Type 0 where
-  pub printed : IsCheckOutput asked inputs output
-  pub told : lines ≡ goal_told inputs.stack asked names (goal_of_verdict printed.verdict)
+-- what is said of the goal of a verdict
+abbrev pub goal_told_of : List LayerOf → List GoalSeen → Bool → Verdict → List ℕ
+goal_told_of stack asked names verdict = goal_told stack asked names (goal_of_verdict verdict)
+
+-- All rejections are printed, with how many of how many goals these are, and these lines are said of their goals. The first of
+-- them is the verdict.
+pub record TellsAll (asked : List GoalSeen) (names : Bool) (inputs : CheckInputs) (verdict : Verdict) (text lines : List ℕ) : Type 0 where
+  pub rejections : List Verdict
+  pub are : AreAllRejections inputs.stack inputs.sets inputs.trees verdict rejections
+  pub printed : text ≡ rejections_text rejections (length inputs.trees) ++ set_aside_line (rows_set_aside inputs.rule inputs.stack)
+  pub said : lines ≡ flat_map (goal_told_of inputs.stack asked names) rejections
+
+-- the verdict alone, or, where it goes on, all rejections
+abbrev pub Tells : List GoalSeen → Bool → CheckInputs → Verdict → Option ℕ → List ℕ → List ℕ → Type 0
+Tells asked names inputs verdict None text lines =
+    (text ≡ check_text inputs verdict) × (lines ≡ goal_told_of inputs.stack asked names verdict)
+Tells asked names inputs verdict (Some goal) text lines = TellsAll asked names inputs verdict text lines
+
+-- nothing where names are not asked for (cited by contracts of this crate alone)
+abbrev pub said_lines : Bool → List ℕ → List ℕ
+said_lines names lines = if names then lines else []
+
+-- A verdict that is right is told, with names or without; where all rejections are asked for, those.
+pub record IsCheckAnswer (asked : List GoalSeen) (names all : Bool) (inputs : CheckInputs) (output : Output) (lines : List ℕ) : Type 0 where
+  pub verdict : Verdict
+  pub right : IsVerdict inputs.stack inputs.sets asked inputs.trees verdict
+  pub headline : Headline inputs.stack inputs.sets asked inputs.trees verdict
+  pub status : output.status ≡ status_of_verdict verdict
+  pub told : Tells asked names inputs verdict (goes_on all verdict) output.text lines

@@ -1,5 +1,6 @@
 pub mod GoalTold
 pub mod Answered
+pub mod EachGoal
 pub mod CheckOutput
 pub mod CheckHeadline
 pub mod MakeOutput

@@ -10,23 +10,22 @@ ghost use Rattle.table_commands.specs.command_base.Stop.{GivesOrStops};
 ghost use Rattle.resource_text.specs.cert_maker.res_value.Goal.{goal_seen};
 ghost use Rattle.resource_tool.specs.Answered.{PrintsBothOneOf};
 ghost use Rattle.resource_tool.specs.Check.{Checks, ChecksFiles, check_files, check_held, check_opened, check_seen, first_opened};
-ghost use Rattle.resource_tool.specs.CheckOutput.{IsCheckOutput, IsCheckAnswer, check_inputs, check_inputs_by, check_text, status_of_verdict, goal_of_verdict};
+ghost use Rattle.resource_tool.specs.CheckOutput.{IsCheckOutput, IsCheckAnswer, check_inputs, check_inputs_by, said_lines, status_of_verdict};
 ghost use Rattle.resource_tool.specs.CheckHeadline.{HeadlineHolds};
 ghost use Rattle.resource_tool.specs.OpenedSeen.{opened_cert};
 ghost use Rattle.table_commands.specs.command_base.CarriesOut.{IsKept};
 
 use crate::box_files::BoxFiles;
-use crate::goal_told::write_goal_told;
-use answer_text::{NamesBeside, set_aside_line};
+use crate::verdict_told::write_verdict;
 use cert_checker::check;
 use command_base::{
     Inputs, LayerFiles, LayerParts, LocaleRule, Stack, Status, Stop, ToolFault, asked_goals,
-    asked_words, file_bytes, open_stack, rows_set_aside,
+    asked_words, file_bytes, open_stack,
 };
 use names::first_goals;
-use resource_text::{Cert, ConfigBox, Goal, Verdict, verdict_text};
+use resource_text::{Cert, ConfigBox, Goal, Verdict};
 use std::alloc::Global;
-use std::io::{self, Write, sink};
+use std::io::{self, Write};
 
 /// What the words of `check` ask: whether a certificate is true of some goals for a box of devices.
 #[derive(Drop)]
@@ -41,6 +40,8 @@ pub struct Check<'a> {
     pub locales: LocaleRule,
     /// Whether the goal at which it is rejected is told with its names.
     pub names: bool,
+    /// Whether the rejections of all goals are printed.
+    pub all: bool,
     /// The words that ask for goals, or name a file of such words.
     pub goals: Vec<&'a str>,
 }
@@ -94,11 +95,8 @@ impl<'a> Check<'a> {
             self.locales,
             &files.words,
         )?;
-        Ok(
-            check
-                .opened
-                .check(alloc, &check.goals, self.names, out, errors)?,
-        )
+        let OpenCheck { opened, goals } = check;
+        Ok(opened.tell(alloc, &goals, self.names, self.all, out, errors)?)
     }
 }
 
@@ -185,7 +183,7 @@ pub fn check_bytes<W: Write + Drop>(
         (W.contents out.old) (W.contents out.new)) }
 {
     let opened = OpenedCert::read(alloc, layers, box_json, cert)?;
-    Ok(opened.check(alloc, goals, false, out, &mut sink())?)
+    Ok(opened.check(alloc, goals, out)?)
 }
 
 /// The layers, the box and the certificate that `check` is asked of.
@@ -235,41 +233,56 @@ impl<'a> OpenedCert<'a> {
         })
     }
 
-    /// What `check_bytes` prints of the same layers, box and certificate. Where names are asked for, and the
-    /// certificate is rejected at a goal of the list, a line with that goal and its names goes to `errors`, after all
-    /// else was written.
-    pub fn check<W: Write + Drop, E: Write + Drop>(
+    /// What `check_bytes` prints of the same layers, box and certificate.
+    pub fn check<W: Write + Drop>(
         &self,
         alloc: Global,
         goals: &[Goal],
+        out: &mut W,
+    ) -> Result<Status, ToolFault>
+        ensures { PrintsOneOf (IsCheckOutput (map goal_seen goals.now)) W.contents out.old out.new result (Ok (opened_cert self.now)) }
+    {
+        let verdict = check(alloc, &self.stack, &self.members, goals, &self.certificate)?;
+        write_verdict(&verdict, self, out)?;
+        Ok(status_of_verdict(verdict))
+    }
+
+    /// Prints the same; or all rejections, where these are asked for and there are any. Where names are asked for, a line with each
+    /// goal of the list at which the certificate is rejected and its names goes to `errors`, after all else was written.
+    fn tell<W: Write + Drop, E: Write + Drop>(
+        self,
+        alloc: Global,
+        goals: &[Goal],
         names: bool,
+        all: bool,
         out: &mut W,
         errors: &mut E,
     ) -> Result<Status, ToolFault>
-        ensures both { PrintsBothOneOf (IsCheckAnswer (map goal_seen goals.now) names) W.contents E.contents
-            out.old out.new errors.old errors.new result (Ok (opened_cert self.now)) }
-        ensures prints { PrintsOneOf (IsCheckOutput (map goal_seen goals.now)) W.contents out.old out.new result (Ok (opened_cert self.now)) }
+        ensures both { PrintsBothOneOf (IsCheckAnswer (map goal_seen goals.now) names all) W.contents E.contents
+            out.old out.new errors.old errors.new result (Ok (opened_cert self.entry)) }
         ensures quiet { names ≡ false → errors.new ≡ errors.old }
     {
-        let names = NamesBeside::of(alloc, &self.stack, names)?;
         let verdict = check(alloc, &self.stack, &self.members, goals, &self.certificate)?;
-        write_verdict(&verdict, self, out)?;
-        let about = goal_of_verdict(&verdict);
-        write_goal_told(&names, goals, about, errors)?;
-        Ok(status_of_verdict(verdict))
+        let status = status_of_verdict(verdict);
+        let Ok(told) = self.told(alloc, goals, names, all, verdict) else {
+            // In memory only a want of it is a fault.
+            return Err(ToolFault::OutOfMemory);
+        };
+        out.write_all(&told.text)?;
+        say(names, &told.lines, errors)?;
+        Ok(status)
     }
 }
 
-#[tactic(auto, unfolding(crate::specs::CheckOutput::check_text))]
-fn write_verdict<W: Write + Drop>(
-    verdict: &Verdict,
-    checked: &OpenedCert<'_>,
-    out: &mut W,
-) -> io::Result<()>
-    ensures { Writes W.contents out.old out.new result (check_text (opened_cert checked.now) verdict.now) }
+// Nothing is written where names are not asked for.
+fn say<W: Write + Drop>(names: bool, lines: &[u8], errors: &mut W) -> io::Result<()>
+    ensures said { Writes W.contents errors.old errors.new result (said_lines names lines.now) }
+    ensures quiet { names ≡ false → errors.new ≡ errors.old }
 {
-    verdict_text(verdict, &checked.certificate, out)?;
-    set_aside_line(rows_set_aside(&checked.stack, checked.rule), out)
+    if names {
+        errors.write_all(lines)?;
+    }
+    Ok(())
 }
 
 fn status_of_verdict(verdict: Verdict) -> Status
@@ -278,14 +291,5 @@ fn status_of_verdict(verdict: Verdict) -> Status
     match verdict {
         Verdict::Accepted => Status::Done,
         Verdict::Rejected { .. } => Status::Negative,
-    }
-}
-
-fn goal_of_verdict(verdict: &Verdict) -> Option<usize>
-    ensures { result ≡ goal_of_verdict verdict.now }
-{
-    match verdict {
-        Verdict::Accepted => None,
-        Verdict::Rejected { goal, .. } => Some(*goal),
     }
 }

@@ -25,11 +25,13 @@
 mod answered;
 mod box_files;
 mod check;
+mod each_goal;
 mod goal_told;
 mod make;
 mod omit;
 mod opened_box;
 mod progress;
+mod verdict_told;
 
 pub use answered::Answered;
 pub use check::{Check, OpenedCert, check_bytes};

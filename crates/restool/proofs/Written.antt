@@ -284,7 +284,7 @@ module _ {W V E : Type 0} (is_terminal : Bool) (c : W → Option (List ℕ)) (d 
   answers-over from to carry carry_any carry_once carry_first carry_told carry_both places (asks.Make it) p =
       makes-over from to carry_once carry_first it.omit it.names it.max_nodes _ p
   answers-over from to carry carry_any carry_once carry_first carry_told carry_both places (asks.Check it) p =
-      carry_told _ _ (λ (asked : OpenCheckOf). IsCheckAnswer asked.goals it.names) (λ (asked : OpenCheckOf). Ok asked.opened) _ p
+      carry_told _ _ (λ (asked : OpenCheckOf). IsCheckAnswer asked.goals it.names it.all) (λ (asked : OpenCheckOf). Ok asked.opened) _ p
   answers-over from to carry carry_any carry_once carry_first carry_told carry_both places (asks.Diff it) p =
       carry_any _ _ (λ (asked : OpenDiffOf). IsDiffOutput it.form asked.pairs it.max_nodes) (λ (asked : OpenDiffOf). Ok asked.opened) _ p
   answers-over from to carry carry_any carry_once carry_first carry_told carry_both places (asks.Values it) p =

@@ -218,6 +218,13 @@ pub(crate) const ALL: Argument = Argument {
     help: "With --android print the rows that do not match too",
 };
 
+/// The same of goals.
+pub(crate) const ALL_GOALS: Argument = Argument {
+    name: "all",
+    takes: Takes::Nothing,
+    help: "Go on behind the first goal that is rejected: print the rejections of all, and how many of how many these are",
+};
+
 /// The same of goals. It has the same name, so that it is read as `NAMES` is.
 pub(crate) const GOAL_NAMES: Argument = Argument {
     name: "names",

@@ -15,9 +15,9 @@ use crate::arguments::{
 };
 use crate::asked_words::Asks;
 use crate::command_line::{
-    ALL, ATTRIBUTE, BAG_ID, BOX, CERTIFICATE, CONFIG, DEVICE, DOT, GOAL_NAMES, GOALS, ID, IDS,
-    KEEP, LAYERS, LOCALES, MAX_NODES, MAYBE_BOX, MAYBE_NAMES, NAMES, NEW, NOTATION, OLD, OMIT,
-    OVERLAY, PARTING_NODES, RAW, STYLES, TABLE, TARGET, Usage,
+    ALL, ALL_GOALS, ATTRIBUTE, BAG_ID, BOX, CERTIFICATE, CONFIG, DEVICE, DOT, GOAL_NAMES, GOALS,
+    ID, IDS, KEEP, LAYERS, LOCALES, MAX_NODES, MAYBE_BOX, MAYBE_NAMES, NAMES, NEW, NOTATION, OLD,
+    OMIT, OVERLAY, PARTING_NODES, RAW, STYLES, TABLE, TARGET, Usage,
 };
 use crate::left::LayerWords;
 use clap::ArgMatches;
@@ -142,7 +142,15 @@ pub(crate) const USAGES: &[Usage] = &[
     Usage {
         name: CHECK,
         about: "Checks whether a certificate is true for every device of a box",
-        arguments: &[LOCALES, GOAL_NAMES, LAYERS, BOX, CERTIFICATE, GOALS],
+        arguments: &[
+            LOCALES,
+            GOAL_NAMES,
+            ALL_GOALS,
+            LAYERS,
+            BOX,
+            CERTIFICATE,
+            GOALS,
+        ],
     },
     Usage {
         name: DIFF,
@@ -350,6 +358,7 @@ fn check_of<'a>(alloc: Global, given: &ArgMatches<'a>) -> Result<Request<'a>, Ar
         certificate: given_word(given, &CERTIFICATE),
         locales,
         names: given_flag(given, &NAMES),
+        all: given_flag(given, &ALL_GOALS),
         goals: given_asked(alloc, given, &GOALS, Asks::Goals)?,
     }))
 }

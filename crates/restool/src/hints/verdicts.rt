@@ -42,6 +42,7 @@ impl<I: Inputs> Asked<'_, '_, I> {
             certificate: check.certificate,
             locales,
             names: false,
+            all: false,
             goals: check.goals.clone().ok()?,
         };
         match other.answer(alloc, &self.again(), &mut Vec::new(alloc), &mut sink()) {

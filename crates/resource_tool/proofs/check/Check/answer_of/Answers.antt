@@ -9,6 +9,6 @@ use Rattle.resource_tool.proofs.check.Check.answer_of.Goals as goal
 pub returns-clause-answers : goal.returns-clause-answers
 returns-clause-answers g c =
     let files = c.args.files.now in
-    carried-by-first c.args.self.now.names g.O.Write.contents g.E.Write.contents c.args.out.now c.check.new.out c.args.errors.now c.check.new.errors
-    (check_opened c.args.self.now.locales (layers_held files.layers) files.box_json.items files.certificate.items (strings_held files.words)) (Ok c.in_ok-check-2.field-0)
+    carried-by-first c.args.self.now.names c.args.self.now.all g.O.Write.contents g.E.Write.contents c.args.out.now c.tell.new.out c.args.errors.now c.tell.new.errors
+    (check_opened c.args.self.now.locales (layers_held files.layers) files.box_json.items files.certificate.items (strings_held files.words)) (Ok c.in_ok-tell.field-0)
     (first_of (search rules, grind (arith, common_steps)))
