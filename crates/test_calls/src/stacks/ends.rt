@@ -47,7 +47,7 @@ fn tell_difference(rt: &HostRuntime, difference: &Difference<'_>) {
                 tell(rt, kind_of(row));
             }
         }
-        Difference::Contents { .. } => tell(rt, "contents"),
+        Difference::Contents { .. } | Difference::FromNothing(_) => tell(rt, "contents"),
     }
 }
 
