@@ -85,7 +85,10 @@ with_all app = fold with_subcommand app commands
 
 -- the program with its commands
 unfoldable pub command_line : App
-command_line = record { top = record program_alone.top { is_leaf = false }; subs = commands }
+command_line = record {
+  top = record (new_shape (codes "restool")) { is_leaf = false; has_version = true; subcommand_required = true };
+  subs = commands;
+}
 
 -- ---- what a command asks for
 
