@@ -556,9 +556,9 @@ if command -v dpkg-deb >/dev/null && command -v python3 >/dev/null; then
     ends "its program" 0 "cmp installed/usr/bin/restool '$unpacked/restool'"
     ends "its pages" 0 "diff -r -x restool -x SHA256SUMS -x copyright '$unpacked' installed/usr/share/doc/restool"
     ends "its manual has each command" 0 "gzip -cd installed/usr/share/man/man1/restool.1.gz >manual && for it in '$here'/tests/helps/*.txt; do it=\$(basename \$it .txt); [ \$it = restool ] || grep -qx \".SS \$it\" manual || exit 1; done"
-    shares=installed/usr/share
+    shares=$work/installed/usr/share
     if command -v bash >/dev/null; then
-        ends "what bash completes" 0 "bash '$here/tests/completions.bash' $shares/bash-completion/completions/restool \"\$PWD/installed/usr/bin\" >&2"
+        ends "what bash completes" 0 "bash '$here/tests/completions.bash' $shares/bash-completion/completions/restool '$work/installed/usr/bin' >&2"
     fi
     if command -v zsh >/dev/null; then ends "what zsh completes can be read" 0 "zsh -n $shares/zsh/vendor-completions/_restool"; fi
     if command -v fish >/dev/null; then ends "what fish completes can be read" 0 "fish -n $shares/fish/vendor_completions.d/restool.fish"; fi
@@ -735,9 +735,9 @@ done
 check "help" 0 "$here/tests/helps/restool.txt" $none --help
 line version.out 'restool 0.1.0'
 check "the version" 0 version.out $none --version
-printf '%s\n' "error: unrecognized subcommand 'tables'" '' 'Usage: restool <COMMAND>' '' \
-    "For more information, try '--help'." >tables.err
-check "no such command" 2 $none tables.err tables
+printf '%s\n' "error: unrecognized subcommand 'xyz'" '' 'Usage: restool <COMMAND>' '' \
+    "For more information, try '--help'." >nameless.err
+check "no such command" 2 $none nameless.err xyz
 printf '%s\n' 'error: the following required arguments were not provided:' '  <TABLE>' '' \
     'Usage: restool rows <TABLE>' '' "For more information, try '--help'." >tableless.err
 check "rows without a table" 2 $none tableless.err rows
