@@ -271,13 +271,11 @@ CHANGES = [
     ),
     # The last line counts the resources.
     (
-        "a new text with three translations",
-        rows("string", tip={"values": "Tip", "values-de": "Tipp", "values-fr": "Astuce", "values-it": "Consiglio"}),
+        "a new text with a translation",
+        rows("string", tip={"values": "Tip", "values-de": "Tipp"}),
         """\
 < resources 120
-> string/tip "Astuce" on fr-rCA,fr-rFR
-> string/tip "Consiglio" on it-rIT
-> string/tip "Tip" on all but de-rAT,de-rDE,fr-rCA,fr-rFR,it-rIT
+> string/tip "Tip" on all but de-rAT,de-rDE
 > string/tip "Tipp" on de-rAT,de-rDE
 > resources 121
 """,
