@@ -52,6 +52,7 @@ module _ (says : List ℕ → ContentOf) (sets : List SetOf) where
 
   is-said : (change : ChangeOf) → IsReal from_nothing sets change → IsSaid says sets (said_of change)
   is-said change real = record {
+    somewhere = real.somewhere;
     devices = real.devices;
     so = All-weaker (SoOn change.difference) (λ part. (d : List ℕ) → IsMember part d → IsMember sets d × (says d ≡ content_after change.difference))
         (λ part so d member. let it = so d member in (it.member, ap content_told it.so)) change.boxes real.so;

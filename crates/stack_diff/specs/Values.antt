@@ -1,5 +1,5 @@
 -- What a resource says, and on which devices of a box: a stack is compared with nothing.
-use Rattle.std.specs.Prelude.{◌≡◌, ℕ, List, map, Some}
+use Rattle.std.specs.Prelude.{◌≡◌, ℕ, ◌<◌, List, map, length, Some}
 use Rattle.std.specs.List.{All, flat_map}
 use Rattle.cert_maker.specs.box_answers.NumberSet.{SetOf}
 use Rattle.cert_maker.specs.box_answers.Members.{IsMember, SomeMember}
@@ -14,8 +14,9 @@ pub record SaidOf : Type 0 where
   pub content : ContentOf
   pub boxes : List (List SetOf)
 
--- no box is empty, and on each device of each, which is one of the whole box, the resource says this
+-- there is a box, none is empty, and on each device of each, which is one of the whole box, the resource says this
 pub record IsSaid (says : List ℕ → ContentOf) (sets : List SetOf) (said : SaidOf) : Type 0 where
+  pub somewhere : 0 < length said.boxes
   pub devices : All SomeMember said.boxes
   pub so : All (λ part. (d : List ℕ) → IsMember part d → IsMember sets d × (says d ≡ said.content)) said.boxes
 
