@@ -1,6 +1,6 @@
 //! Id maps.
 
-ghost use Rattle.std.specs.Prelude.{◌≡◌};
+ghost use Rattle.std.specs.Prelude.{◌≡◌, map, IfOk};
 ghost use Rattle.std.specs.Option.{option_map};
 ghost use Rattle.contract_words.specs.Exact.{GivesOr};
 ghost use Rattle.indexmap.specs.IndexMap.{hasher_of};
@@ -15,7 +15,7 @@ use crate::pairs::pairs_in;
 use indexmap::IndexMap;
 use json_input::read_value;
 use resource_table::ResId;
-use std::alloc::Global;
+use std::alloc::{AllocError, Global};
 use std::marker::Model;
 
 /// Which id of an overlay stands for which id of the stack (AOSP: `IdmapEntries`). Contracts see it as
@@ -47,6 +47,17 @@ impl IdMap {
         let mut pairs = IndexMap::with_capacity_and_hasher(alloc, list.len(), keys)?;
         put_pairs(&list, &mut pairs)?;
         Ok(IdMap { pairs })
+    }
+
+    /// The targets, in the order of its text.
+    pub fn targets(&self, alloc: Global) -> Result<Vec<ResId>, AllocError>
+        ensures { IfOk result (λ targets. map (λ target. target.0) targets.items ≡ map (λ pair. pair.0) self.now) }
+    {
+        let mut targets = Vec::new(alloc);
+        for target in self.pairs.keys() {
+            targets.push(*target)?;
+        }
+        Ok(targets)
     }
 
     /// The overlay's id that stands for a target.
