@@ -5,7 +5,7 @@ ghost use Rattle.std.specs.Option.{option_map};
 ghost use Rattle.contract_words.specs.Exact.{GivesOr};
 ghost use Rattle.indexmap.specs.IndexMap.{hasher_of};
 ghost use Rattle.overlay_map.specs.ContentKeys.{keys_of};
-ghost use Rattle.overlay_map.specs.IdMap.{targets_of, look_of, map_in};
+ghost use Rattle.overlay_map.specs.IdMap.{targets_of, targets_in, look_of, map_in};
 ghost use Rattle.overlay_map.specs.declared.map_fault.MapFault.TheVariants.{OutOfMemory};
 
 use crate::checked_pairs::{keys_of_targets, put_pairs};
@@ -51,7 +51,7 @@ impl IdMap {
 
     /// The targets, in the order of its text.
     pub fn targets(&self, alloc: Global) -> Result<Vec<ResId>, AllocError>
-        ensures { IfOk result (λ targets. map (λ target. target.0) targets.items ≡ map (λ pair. pair.0) self.now) }
+        ensures { IfOk result (λ targets. map (λ target. target.0) targets.items ≡ targets_in self.now) }
     {
         let mut targets = Vec::new(alloc);
         for target in self.pairs.keys() {
