@@ -1,11 +1,12 @@
 //! Which candidate is selected for an id.
 
-ghost use Rattle.std.specs.Prelude.{◌≡◌, map};
+ghost use Rattle.std.specs.Prelude.{◌≡◌, ◌+◌, ◌∷◌, List, map};
 ghost use Rattle.std.specs.Option.{option_map};
 ghost use Rattle.config_precedence.specs.config_record.DeviceSeen.{device_numbers};
 ghost use Rattle.overlay_map.specs.Candidates.{cand_of, candidates_of};
 ghost use Rattle.reference_resolver.specs.Selection.{selected};
-ghost use Rattle.reference_resolver.specs.Takers.{IsTheSelected, picked_at};
+ghost use Rattle.reference_resolver.specs.declared.step.Step.{Step};
+ghost use Rattle.reference_resolver.specs.Takers.{IsTheSelected, picked_at, last_place, places_taken};
 ghost use Rattle.reference_resolver.specs.OrderLaw.{OrderDoesNotMatter};
 
 use crate::step::Step;
@@ -45,10 +46,18 @@ pub fn picked_at(candidates: &[Cand<'_>], device: &Device) -> Option<usize>
     let mut picked = None;
     for (place, candidate) in candidates.iter().enumerate() {
         let step = Step::of(&best, candidate, device);
-        if step == Step::TookOver {
-            picked = Some(place);
-        }
+        picked = picked_after(step, picked, place);
         best = step.best_after(best, *candidate);
     }
     picked
+}
+
+// The place of the best after the candidate at a place did this, where the best before it stood at `picked`.
+fn picked_after(step: Step, picked: Option<usize>, place: usize) -> Option<usize>
+    ensures { (steps : List Step) → last_place result (places_taken (place + 1) steps) ≡ last_place picked (places_taken place (step ∷ steps)) }
+{
+    match step {
+        Step::NoMatch | Step::KeptOut => picked,
+        Step::TookOver => Some(place),
+    }
 }

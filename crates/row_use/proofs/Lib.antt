@@ -1,1 +1,2 @@
-pub use Rattle.cert_maker.proofs.cert_checker.config_record
+pub mod Reaching
+pub mod LoadedSteps

@@ -1,5 +1,7 @@
 pub mod RowPlaces
 pub mod Loading
 pub mod RowUses
+pub mod Indexed
+pub mod Raising
 pub use Rattle.reference_resolver.specs as reference_resolver
-pub use Rattle.cert_maker.specs as cert_maker
+pub use Rattle.config_box.specs as config_box

@@ -1,6 +1,6 @@
 -- What becomes of the rows of a stack on the devices of a box.
 use Rattle.std.specs.Prelude.{◌≡◌, ℕ, List, map, length, Option, Some, None, option_and_then, slice_get, Any}
-use Rattle.cert_maker.specs.box_answers.NumberSet.{SetOf}
+use Rattle.config_box.specs.box_answers.NumberSet.{SetOf}
 use Rattle.reference_resolver.specs.resource_table.Table.{rows_of}
 use Rattle.reference_resolver.specs.overlay_map.Layer.{LayerOf}
 use Rattle.row_use.specs.declared.row_place.RowPlace.{RowPlace}

@@ -1,15 +1,15 @@
 //! The look-up of an id.
 
-ghost use Rattle.std.specs.Prelude.{◌≡◌, map, IfOk};
+ghost use Rattle.std.specs.Prelude.{◌≡◌, ◌++◌, map, IfOk, OnOk};
 ghost use Rattle.reference_resolver.specs.config_record.DeviceSeen.{device_numbers};
 ghost use Rattle.reference_resolver.specs.overlay_map.Candidates.{cand_of, candidates_of};
 ghost use Rattle.row_use.specs.Indexed.{layers_of, stack_among, IsLookUp, loads_of};
-ghost use Rattle.row_use.specs.RowPlaces.{row_places};
+ghost use Rattle.row_use.specs.RowPlaces.{row_places, row_places_at};
 
 use crate::layer_rows::LayerRows;
 use crate::row_place::RowPlace;
-use cert_maker::Device;
-use reference_resolver::{Cand, ResId, Stack, picked_at};
+
+use reference_resolver::{Cand, Device, ResId, Stack, picked_at};
 use std::alloc::{AllocError, Global};
 
 /// Among which rows an id is looked up.
@@ -29,6 +29,8 @@ pub(crate) struct LookUp<'a> {
 
 impl<'a> LookUp<'a> {
     ghost use Rattle.std.specs.Prelude.{◌≡◌, map, IfOk};
+    ghost use Rattle.std.specs.List.{list_any};
+    ghost use Rattle.reference_resolver.specs.overlay_map.Candidates.{cand_of};
     ghost use Rattle.reference_resolver.specs.config_record.DeviceSeen.{device_numbers};
     ghost use Rattle.row_use.specs.Indexed.{layers_of, stack_among, IsLookUp, loads_of};
 
@@ -66,7 +68,6 @@ impl<'a> LookUp<'a> {
 }
 
 // The candidates of an id.
-#[tactic(auto, unfolding(crate::specs::Unfolded::candidates_of))]
 fn candidates_among<'a>(
     alloc: Global,
     stack: &Stack<'a>,

@@ -1,6 +1,8 @@
 //! Where the rows of each id stand in a table.
 
-ghost use Rattle.std.specs.Prelude.{◌≡◌, ◌==◌, ℕ, [], ◌∷◌, ◌++◌, OnOk, if◌then◌else◌};
+ghost use Rattle.std.specs.Prelude.{◌≡◌, ◌≢◌, ◌==◌, ℕ, [], ◌∷◌, ◌++◌, IsTrue, OnOk, if◌then◌else◌};
+ghost use Rattle.std.specs.BTreeSet.{contains};
+ghost use Rattle.std.specs.Ordering.{nat_cmp};
 ghost use Rattle.row_use.specs.Indexed.{places_at};
 
 use reference_resolver::ResId;
@@ -45,5 +47,15 @@ impl Places {
             Some(places) => places,
             None => &[],
         }
+    }
+    /// Puts the ids of all places among others.
+    pub fn put_ids(&self, numbers: &mut BTreeSet<u32>) -> Result<(), AllocError>
+        ensures kept { OnOk result ((id : ℕ) → IsTrue (contains nat_cmp numbers.old id) → IsTrue (contains nat_cmp numbers.new id)) }
+        ensures put { OnOk result ((id : ℕ) → places_at self.now id ≢ [] → IsTrue (contains nat_cmp numbers.new id)) }
+    {
+        for number in self.by_id.keys() {
+            numbers.insert(*number)?;
+        }
+        Ok(())
     }
 }

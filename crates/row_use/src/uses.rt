@@ -1,12 +1,18 @@
 //! What is known of the rows of a stack.
 
-ghost use Rattle.std.specs.Prelude.{◌≡◌, ◌≤◌, ◌→◌, IsTrue, All, map, length, IfOk};
+ghost use Rattle.std.specs.Prelude.{◌≡◌, ◌≢◌, ◌≤◌, ◌↔◌, ℕ, Bool, IsTrue, All, List, Option, Some, map, length, slice_get, None, IfOk, OnOk};
+ghost use Rattle.std.specs.Option.{option_map};
+ghost use Rattle.row_use.specs.declared.row_place.RowPlace.{RowPlace};
 ghost use Rattle.row_use.specs.Indexed.{layers_of};
-ghost use Rattle.row_use.specs.Raising.{level_of, level_told, level_in, level_at, cells_of, raised, KeepsReach, no_more, one_more};
+ghost use Rattle.row_use.specs.RowPlaces.{row_places};
+ghost use Rattle.row_use.specs.RowUses.{told_at};
+ghost use Rattle.row_use.specs.Raising.{level_of, level_told, level_in, level_at, cells_of, raised, KeepsReach, no_more, one_more, all_told, AsksFor, IsBegun};
 
 use crate::layer_rows::LayerRows;
+use crate::look_up::{Among, rows_among};
 use crate::row_place::RowPlace;
 use crate::row_use::RowUse;
+use reference_resolver::ResId;
 use std::alloc::{AllocError, Global};
 
 /// What is known of the rows of a stack, layer by layer. Of those that are not asked for it is nothing.
@@ -16,16 +22,73 @@ pub(crate) struct Uses {
 }
 
 impl Uses {
-    ghost use Rattle.std.specs.Prelude.{◌≡◌, ◌≤◌, IsTrue, All, map, length, IfOk};
+    ghost use Rattle.std.specs.Prelude.{◌≡◌, ◌≢◌, ◌≤◌, ◌↔◌, ℕ, Bool, IsTrue, All, List, Option, Some, map, length, slice_get, None, IfOk, OnOk};
+    ghost use Rattle.std.specs.Option.{option_map};
+    ghost use Rattle.row_use.specs.declared.row_place.RowPlace.{RowPlace};
     ghost use Rattle.row_use.specs.Indexed.{layers_of};
-    ghost use Rattle.row_use.specs.Raising.{level_of, level_at, cells_of, KeepsReach, no_more, one_more};
+    ghost use Rattle.row_use.specs.RowPlaces.{row_places};
+    ghost use Rattle.row_use.specs.RowUses.{told_at};
+    ghost use Rattle.row_use.specs.Raising.{level_of, level_told, level_at, cells_of, raised, KeepsReach, no_more, one_more, all_told, AsksFor, IsBegun};
+
+    /// Before anything is looked up: nothing brings in what is asked for. Those rows are asked for that may stand for one of
+    /// these ids, or all.
+    pub fn of(
+        alloc: Global,
+        layers: &[LayerRows<'_, '_>],
+        asked: Option<&[ResId]>,
+    ) -> Result<Uses, AllocError>
+        ensures { IfOk result (λ uses. IsBegun (layers_of layers.now) (option_map (λ ids. map (λ id. id.0) ids.now) asked.entry) (cells_of uses)) }
+    {
+        let Some(ids) = asked else {
+            return Uses::all_told(alloc, layers, Some(RowUse::Unmapped));
+        };
+        let mut uses = Uses::all_told(alloc, layers, None)?;
+        for id in ids {
+            uses.ask_each(&rows_among(alloc, layers, *id, Among::AllLayers)?);
+        }
+        Ok(uses)
+    }
+
+    // The same of all rows.
+    fn all_told(
+        alloc: Global,
+        layers: &[LayerRows<'_, '_>],
+        told: Option<RowUse>,
+    ) -> Result<Uses, AllocError>
+        ensures { IfOk result (λ uses. cells_of uses ≡ all_told (layers_of layers.now) told) }
+    {
+        let mut uses = Vec::new(alloc);
+        for layer in layers {
+            uses.push(vec![in alloc; told; layer.count]?)?;
+        }
+        Ok(Uses { layers: uses })
+    }
+
+    // Asks for some rows.
+    fn ask_each(&mut self, rows: &[RowPlace])
+        ensures { AsksFor rows.now (cells_of self.old) (cells_of self.new) }
+    {
+        for row in rows {
+            self.lift(row, RowUse::Unmapped, true);
+        }
+    }
 
     /// Raises a row that is asked for to a use, if it is lower.
     pub fn raise(&mut self, row: &RowPlace, to: RowUse)
         ensures { KeepsReach (cells_of self.old) (one_more row.now (level_of to)) (cells_of self.new) no_more }
     {
+        self.lift(row, to, false);
+    }
+
+    // The same, and of a row that is not asked for, where it asks for it.
+    fn lift(&mut self, row: &RowPlace, to: RowUse, asks: bool)
+        ensures here { (told : Option RowUse) → told_at (cells_of self.old) row.now ≡ Some told → level_at (cells_of self.new) row.now ≡ raised asks (level_told told) (level_of to) }
+        ensures others { (other : RowPlace) → other ≢ row.now → told_at (cells_of self.new) other ≡ told_at (cells_of self.old) other }
+        ensures nowhere { told_at (cells_of self.old) row.now ≡ None → cells_of self.new ≡ cells_of self.old }
+        ensures alongside { map length (cells_of self.new) ≡ map length (cells_of self.old) }
+    {
         if let Some(layer) = self.layers.get_mut(row.layer) {
-            raise_in(layer, row.place, to);
+            lift_in(layer, row.place, to, asks);
         }
     }
 
@@ -54,23 +117,27 @@ impl Uses {
     }
 }
 
-fn raise_in(layer: &mut Vec<Option<RowUse>>, place: usize, to: RowUse)
-    ensures here { level_in layer.new.items place ≡ raised (level_in layer.old.items place) (level_of to) }
-    ensures others { (other : ℕ) → other ≢ place → level_in layer.new.items other ≡ level_in layer.old.items other }
+// The same of the row at a place of a layer.
+fn lift_in(layer: &mut Vec<Option<RowUse>>, place: usize, to: RowUse, asks: bool)
+    ensures here { (told : Option RowUse) → slice_get layer.old.items place ≡ Some told → level_in layer.new.items place ≡ raised asks (level_told told) (level_of to) }
+    ensures others { (other : ℕ) → other ≢ place → slice_get layer.new.items other ≡ slice_get layer.old.items other }
+    ensures nowhere { slice_get layer.old.items place ≡ None → layer.new.items ≡ layer.old.items }
     ensures count { length layer.new.items ≡ length layer.old.items }
 {
     if let Some(told) = layer.get_mut(place) {
-        raise_told(told, to);
+        *told = lifted(*told, to, asks);
     }
 }
 
-fn raise_told(told: &mut Option<RowUse>, to: RowUse)
-    ensures { level_told told.new ≡ raised (level_told told.old) (level_of to) }
+// What is known of a row after that.
+fn lifted(told: Option<RowUse>, to: RowUse, asks: bool) -> Option<RowUse>
+    ensures { level_told result ≡ raised asks (level_told told) (level_of to) }
 {
-    if let Some(found) = told {
-        if level(*found) < level(to) {
-            *told = Some(to);
-        }
+    match told {
+        Some(found) if level(to) <= level(found) => told,
+        Some(_) => Some(to),
+        None if asks => Some(to),
+        None => None,
     }
 }
 
