@@ -1,2 +1,5 @@
 pub mod Reaching
 pub mod LoadedSteps
+pub mod CellSteps
+pub mod AskSteps
+pub mod BareStack

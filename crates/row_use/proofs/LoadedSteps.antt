@@ -14,25 +14,25 @@ use Rattle.row_use.proofs.Reaching.{beside, keeps-then, keeps-told, keeps-beside
 -- ---- boxes
 
 in-append : (loads : List ℕ → Option RowPlace) (row : RowPlace) (boxes others : List (List SetOf)) → IsLoadedInOne loads row (boxes ++ others) ↔ (IsLoadedInOne loads row others ⊎ IsLoadedInOne loads row boxes)
-in-append loads row [] others = ((λ h. inl h), (λ h. elim h [ | inl there ↦ there | inr nowhere ↦ absurd nowhere ]))
+in-append loads row [] others = ((λ h. inl h), (λ h. elim h [ inl there ↦ there | inr nowhere ↦ absurd nowhere ]))
 in-append loads row (sets ∷ boxes) others =
     let rest = in-append loads row boxes others in (
-      (λ h. elim h [ | inl here ↦ inr (inl here) | inr more ↦ elim (rest.0 more) [ | inl there ↦ inl there | inr one ↦ inr (inr one) ] ]),
+      (λ h. elim h [ inl here ↦ inr (inl here) | inr more ↦ elim (rest.0 more) [ inl there ↦ inl there | inr one ↦ inr (inr one) ] ]),
       (λ h. elim h [
         | inl there ↦ inr (rest.1 (inl there))
-        | inr mine ↦ elim mine [ | inl here ↦ inl here | inr one ↦ inr (rest.1 (inr one)) ]
+        | inr mine ↦ elim mine [ inl here ↦ inl here | inr one ↦ inr (rest.1 (inr one)) ]
       ]),
     )
 
 -- the members of a box are those of its halves
-in-halves : (loads : List ℕ → Option RowPlace) (row : RowPlace) (sets yes no : List SetOf) (test : TestOf) → IsHalf sets test true yes → IsHalf sets test false no
-    → IsLoadedBy loads row sets ↔ (IsLoadedBy loads row no ⊎ IsLoadedBy loads row yes)
-in-halves loads row sets yes no test is_yes is_no = (
+in-halves : (loads : List ℕ → Option RowPlace) (row : RowPlace) (sets yes_half no_half : List SetOf) (test : TestOf) → IsHalf sets test true yes_half → IsHalf sets test false no_half
+    → IsLoadedBy loads row sets ↔ (IsLoadedBy loads row no_half ⊎ IsLoadedBy loads row yes_half)
+in-halves loads row sets yes_half no_half test is_yes is_no = (
   (λ h. by h (answers test h.0) refl),
-  (λ h. elim h [ | inl some ↦ (some.0, ((is_no.members some.0).0 some.1).member, some.2) | inr some ↦ (some.0, ((is_yes.members some.0).0 some.1).member, some.2) ]),
+  (λ h. elim h [ inl some ↦ (some.0, ((is_no.members some.0).0 some.1).member, some.2) | inr some ↦ (some.0, ((is_yes.members some.0).0 some.1).member, some.2) ]),
 )
   where
-    by : (h : IsLoadedBy loads row sets) (b : Bool) → answers test h.0 ≡ b → IsLoadedBy loads row no ⊎ IsLoadedBy loads row yes
+    by : (h : IsLoadedBy loads row sets) (b : Bool) → answers test h.0 ≡ b → IsLoadedBy loads row no_half ⊎ IsLoadedBy loads row yes_half
     by h true e = inr (h.0, (is_yes.members h.0).1 (record { member = h.1; answers = e }), h.2)
     by h false e = inl (h.0, (is_no.members h.0).1 (record { member = h.1; answers = e }), h.2)
 
@@ -44,10 +44,10 @@ of-last : (loads : List ℕ → Option RowPlace) (to : ℕ) (boxes : List (List 
 of-last loads to boxes part row level =
     let parts = in-append loads row boxes (part ∷ []) in (
       (λ h. elim (parts.0 h.0) [
-        | inl there ↦ elim there [ | inl mine ↦ inl (mine, h.1) | inr nowhere ↦ absurd nowhere ]
+        | inl there ↦ elim there [ inl mine ↦ inl (mine, h.1) | inr nowhere ↦ absurd nowhere ]
         | inr one ↦ inr (one, h.1)
       ]),
-      (λ h. elim h [ | inl mine ↦ (parts.1 (inl (inl mine.0)), mine.1) | inr one ↦ (parts.1 (inr one.0), one.1) ]),
+      (λ h. elim h [ inl mine ↦ (parts.1 (inl (inl mine.0)), mine.1) | inr one ↦ (parts.1 (inr one.0), one.1) ]),
     )
 
 -- where all members load one row, and it is raised
@@ -68,7 +68,7 @@ leaf-raised old new loads to boxes part corner found same member is raised =
       ])),
     )))
     (keeps-then old new new (beside (one_more found to) F) (beside no_more F) F (keeps-beside old new (one_more found to) no_more F raised)
-    (keeps-told new (beside no_more F) F (λ row level. ((λ h. elim h [ | inl nothing ↦ absurd nothing | inr one ↦ one ]), (λ one. inr one)))))
+    (keeps-told new (beside no_more F) F (λ row level. ((λ h. elim h [ inl nothing ↦ absurd nothing | inr one ↦ one ]), (λ one. inr one)))))
 
 -- where they load none
 pub leaf-passed : (old : List (List (Option RowUse))) (loads : List ℕ → Option RowPlace) (to : ℕ) (boxes : List (List SetOf)) (part : List SetOf) (corner : List ℕ)
@@ -84,26 +84,32 @@ leaf-passed old loads to boxes part corner same is =
     ))
 
 -- where its halves are opened
-pub test-opened : (old : List (List (Option RowUse))) (loads : List ℕ → Option RowPlace) (to : ℕ) (boxes : List (List SetOf)) (part yes no : List SetOf) (test : TestOf)
-    → IsHalf part test true yes → IsHalf part test false no
-    → KeepsReach old (loaded_more loads to (boxes ++ part ∷ [])) old (loaded_more loads to (boxes ++ no ∷ yes ∷ []))
-test-opened old loads to boxes part yes no test is_yes is_no =
+pub test-opened : (old : List (List (Option RowUse))) (loads : List ℕ → Option RowPlace) (to : ℕ) (boxes : List (List SetOf)) (part yes_half no_half : List SetOf) (test : TestOf)
+    → IsHalf part test true yes_half → IsHalf part test false no_half
+    → KeepsReach old (loaded_more loads to (boxes ++ part ∷ [])) old (loaded_more loads to (boxes ++ no_half ∷ yes_half ∷ []))
+test-opened old loads to boxes part yes_half no_half test is_yes is_no =
     keeps-told old _ _ (λ row level.
-      let halves = in-halves loads row part yes no test is_yes is_no in
-      let whole = in-append loads row boxes (part ∷ []) in
-      let opened = in-append loads row boxes (no ∷ yes ∷ []) in (
-        (λ h. (opened.1 (elim (whole.0 h.0) [
+    let halves = in-halves loads row part yes_half no_half test is_yes is_no in
+    let whole = in-append loads row boxes (part ∷ []) in
+    let opened = in-append loads row boxes (no_half ∷ yes_half ∷ []) in (
+      (λ h. (
+        opened.1 (elim (whole.0 h.0) [
           | inl there ↦ elim there [
-            | inl mine ↦ elim (halves.0 mine) [ | inl a ↦ inl (inl a) | inr b ↦ inl (inr (inl b)) ]
+            | inl mine ↦ elim (halves.0 mine) [ inl a ↦ inl (inl a) | inr b ↦ inl (inr (inl b)) ]
             | inr nowhere ↦ absurd nowhere
           ]
           | inr one ↦ inr one
-        ]), h.1)),
-        (λ h. (whole.1 (elim (opened.0 h.0) [
+        ]),
+        h.1,
+      )),
+      (λ h. (
+        whole.1 (elim (opened.0 h.0) [
           | inl there ↦ elim there [
             | inl a ↦ inl (inl (halves.1 (inl a)))
-            | inr more ↦ elim more [ | inl b ↦ inl (inl (halves.1 (inr b))) | inr nowhere ↦ absurd nowhere ]
+            | inr more ↦ elim more [ inl b ↦ inl (inl (halves.1 (inr b))) | inr nowhere ↦ absurd nowhere ]
           ]
           | inr one ↦ inr one
-        ]), h.1)),
-      ))
+        ]),
+        h.1,
+      )),
+    ))

@@ -1,6 +1,7 @@
 pub mod RowPlaces
 pub mod Loading
 pub mod RowUses
+pub mod PlacesSeen
 pub mod Indexed
 pub mod Raising
 pub use Rattle.reference_resolver.specs as reference_resolver

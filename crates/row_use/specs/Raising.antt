@@ -59,6 +59,10 @@ no_more row level = ⊥
 abbrev pub one_more : RowPlace → ℕ → RowPlace → ℕ → Type 0
 one_more one to row level = (row ≡ one) × (level ≤ to)
 
+-- rows that stand for an id
+abbrev pub rows_more : List RowPlace → RowPlace → ℕ → Type 0
+rows_more rows row level = Contains rows row × (level ≤ 2)
+
 -- some member of one of these boxes loads a row
 abbrev pub IsLoadedInOne : (List ℕ → Option RowPlace) → RowPlace → List (List SetOf) → Type 0
 IsLoadedInOne loads row [] = ⊥
@@ -67,6 +71,10 @@ IsLoadedInOne loads row (sets ∷ boxes) = IsLoadedBy loads row sets ⊎ IsLoade
 -- the rows that some of their members load, up to a level
 abbrev pub loaded_more : (List ℕ → Option RowPlace) → ℕ → List (List SetOf) → RowPlace → ℕ → Type 0
 loaded_more loads to boxes row level = IsLoadedInOne loads row boxes × (level ≤ to)
+
+-- of an id the rows that some member would load without overlays
+abbrev pub bare_more : List LayerOf → List SetOf → ℕ → RowPlace → ℕ → Type 0
+bare_more stack sets id row level = IsLoadedBy (loaded_row (without_overlays stack) id) row sets × (level ≤ 3)
 
 -- of an id the rows that may stand for it, those that some member loads, and those that some would load without overlays
 pub data id_more (stack : List LayerOf) (sets : List SetOf) (id : ℕ) (row : RowPlace) (level : ℕ) : Type 0 where
@@ -85,14 +93,18 @@ ids_more stack sets (id ∷ ids) row level = id_more stack sets id row level ⊎
 abbrev pub all_told : List LayerOf → Option RowUse → List (List (Option RowUse))
 all_told layers told = map (λ layer. replicate (length (rows_of layer.table)) told) layers
 
--- of what there is, these rows are asked for, and what was asked for before; nothing is raised further
+-- it stands at some level
+abbrev pub IsAtLevel : Option (Option RowUse) → ℕ → Type 0
+IsAtLevel at level = (found : Option RowUse) × (at ≡ Some found) × (level_told found ≡ level)
+
+-- of what there is these rows are asked for, and what was asked for before; nothing is raised further
 pub record AsksFor (rows : List RowPlace) (old new : List (List (Option RowUse))) : Type 0 where
   pub alongside : map length new ≡ map length old
-  pub asked : (row : RowPlace) (told : Option RowUse) → told_at old row ≡ Some told → (1 ≤ level_at new row) ↔ ((1 ≤ level_told told) ⊎ Contains rows row)
+  pub asked_for : (row : RowPlace) (told : Option RowUse) → told_at new row ≡ Some told → (1 ≤ level_told told) ↔ ((1 ≤ level_at old row) ⊎ Contains rows row)
   pub low : (row : RowPlace) → level_at old row ≤ 1 → level_at new row ≤ 1
 
 -- what is asked for of the rows of a stack, and no more
 pub record IsBegun (stack : List LayerOf) (asked : Option (List ℕ)) (cells : List (List (Option RowUse))) : Type 0 where
   pub alongside : map length cells ≡ map (λ layer. length (rows_of layer.table)) stack
-  pub asked : (row : RowPlace) (told : Option RowUse) → told_at cells row ≡ Some told → (1 ≤ level_at cells row) ↔ IsAsked stack asked row
+  pub asked_for : (row : RowPlace) (told : Option RowUse) → told_at cells row ≡ Some told → (1 ≤ level_at cells row) ↔ IsAsked stack asked row
   pub low : (row : RowPlace) → level_at cells row ≤ 1

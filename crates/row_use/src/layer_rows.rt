@@ -1,10 +1,8 @@
 //! The layers of a stack, with the places of their rows.
 
-ghost use Rattle.std.specs.Prelude.{◌≡◌, map, length, is_none, IfOk};
-ghost use Rattle.std.specs.Option.{option_map};
+ghost use Rattle.std.specs.Prelude.{◌≡◌, length};
 ghost use Rattle.reference_resolver.specs.resource_table.Table.{rows_of};
-ghost use Rattle.row_use.specs.Indexed.{ArePlacesOf, layer_of, layers_of, layer_among};
-ghost use Rattle.row_use.specs.RowPlaces.{places_for};
+ghost use Rattle.row_use.specs.PlacesSeen.{ArePlacesOf, ListsIds};
 
 use crate::look_up::Among;
 use crate::places::Places;
@@ -22,13 +20,13 @@ pub(crate) struct LayerRows<'s, 'a> {
     /// How many rows the table has.
     pub count: usize,
     ghost all: { ArePlacesOf (rows_of table.now) places },
+    ghost listed: { ListsIds places },
     ghost counted: { count ≡ length (rows_of table.now) },
 }
 
 impl<'s, 'a> LayerRows<'s, 'a> {
-    ghost use Rattle.std.specs.Prelude.{◌≡◌, is_none, IfOk};
-    ghost use Rattle.std.specs.Option.{option_map};
-    ghost use Rattle.row_use.specs.Indexed.{layer_of, layer_among};
+    ghost use Rattle.std.specs.Prelude.{◌≡◌, IfOk};
+    ghost use Rattle.row_use.specs.Indexed.{layer_of, layers_of, layer_among};
     ghost use Rattle.row_use.specs.RowPlaces.{places_for};
 
     /// Walks once over the rows of the table.
@@ -44,7 +42,8 @@ impl<'s, 'a> LayerRows<'s, 'a> {
         let mut count: usize = 0;
         for row in table.all_rows() {
             places.push(alloc, row.id, count)?;
-            count += 1;
+            // No table of 4 GiB has more rows than this.
+            count = count.checked_add(1).ok_or(AllocError)?;
         }
         Ok(LayerRows {
             table,
@@ -66,21 +65,19 @@ impl<'s, 'a> LayerRows<'s, 'a> {
             _ => &[],
         }
     }
-}
 
-/// The layers of a stack.
-pub(crate) fn layer_rows<'s, 'a>(
-    alloc: Global,
-    stack: &'s Stack<'a>,
-) -> Result<Vec<LayerRows<'s, 'a>>, AllocError>
-    ensures { IfOk result (λ layers. layers_of layers.items ≡ stack.now) }
-{
-    let mut layers = Vec::new(alloc);
-    for index in 0..stack.len() {
-        let Some(table) = stack.layer_table(index) else {
-            unreachable!()
-        };
-        layers.push(LayerRows::of(alloc, table, stack.layer_map(index))?)?;
+    /// The layers of a stack.
+    pub fn all(alloc: Global, stack: &'s Stack<'a>) -> Result<Vec<LayerRows<'s, 'a>>, AllocError>
+        ensures { IfOk result (λ layers. layers_of layers.items ≡ stack.now) }
+    {
+        let mut layers = Vec::new(alloc);
+        for index in 0..stack.len() {
+            let Some(table) = stack.layer_table(index) else {
+                unreachable!()
+            };
+            let layer = LayerRows::of(alloc, table, stack.layer_map(index))?;
+            layers.push(layer)?;
+        }
+        Ok(layers)
     }
-    Ok(layers)
 }

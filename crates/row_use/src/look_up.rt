@@ -3,12 +3,11 @@
 ghost use Rattle.std.specs.Prelude.{◌≡◌, ◌++◌, map, IfOk, OnOk};
 ghost use Rattle.reference_resolver.specs.config_record.DeviceSeen.{device_numbers};
 ghost use Rattle.reference_resolver.specs.overlay_map.Candidates.{cand_of, candidates_of};
-ghost use Rattle.row_use.specs.Indexed.{layers_of, stack_among, IsLookUp, loads_of};
+ghost use Rattle.row_use.specs.Indexed.{layers_of, stack_among, is_kept, IsLookUp, loads_of};
 ghost use Rattle.row_use.specs.RowPlaces.{row_places, row_places_at};
 
 use crate::layer_rows::LayerRows;
 use crate::row_place::RowPlace;
-
 use reference_resolver::{Cand, Device, ResId, Stack, picked_at};
 use std::alloc::{AllocError, Global};
 
@@ -28,9 +27,7 @@ pub(crate) struct LookUp<'a> {
 }
 
 impl<'a> LookUp<'a> {
-    ghost use Rattle.std.specs.Prelude.{◌≡◌, map, IfOk};
-    ghost use Rattle.std.specs.List.{list_any};
-    ghost use Rattle.reference_resolver.specs.overlay_map.Candidates.{cand_of};
+    ghost use Rattle.std.specs.Prelude.{◌≡◌, IsTrue, false, All, IfOk};
     ghost use Rattle.reference_resolver.specs.config_record.DeviceSeen.{device_numbers};
     ghost use Rattle.row_use.specs.Indexed.{layers_of, stack_among, IsLookUp, loads_of};
 
@@ -59,11 +56,16 @@ impl<'a> LookUp<'a> {
         self.rows.get(place).copied()
     }
 
-    /// Whether a candidate is of an overlay.
-    pub fn has_overlay(&self) -> bool
-        ensures { result ≡ list_any (λ candidate. candidate.overlay) (map cand_of self.now.candidates.items) }
+    /// Whether no candidate is of an overlay.
+    pub fn is_of_bases(&self) -> bool
+        ensures { IsTrue result → All (λ candidate. candidate.overlay ≡ false) self.now.candidates.items }
     {
-        self.candidates.iter().any(|candidate| candidate.overlay)
+        for candidate in &self.candidates {
+            if candidate.overlay {
+                return false;
+            }
+        }
+        true
     }
 }
 
@@ -78,14 +80,24 @@ fn candidates_among<'a>(
 {
     let mut candidates = Vec::new(alloc);
     for candidate in stack.candidates(id) {
-        if among == Among::AllLayers || !candidate.overlay {
+        if is_kept(among, &candidate) {
             candidates.push(candidate)?;
         }
     }
     Ok(candidates)
 }
 
-// Where the rows of an id stand.
+// Whether it is a candidate where overlays do something, or nothing.
+fn is_kept(among: Among, candidate: &Cand<'_>) -> bool
+    ensures { result ≡ is_kept among (cand_of candidate.now) }
+{
+    match among {
+        Among::AllLayers => true,
+        Among::BasesAlone => !candidate.overlay,
+    }
+}
+
+/// Where the rows of an id stand.
 pub(crate) fn rows_among(
     alloc: Global,
     layers: &[LayerRows<'_, '_>],

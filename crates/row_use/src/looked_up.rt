@@ -1,9 +1,10 @@
 //! The ids that are looked up.
 
-ghost use Rattle.std.specs.Prelude.{◌≢◌, ℕ, [], map, Contains, IsTrue, IfOk, OnOk};
+ghost use Rattle.std.specs.Prelude.{◌≡◌, ◌≢◌, ◌||◌, ◌→◌, ℕ, [], map, Contains, IsTrue, IfOk, OnOk};
 ghost use Rattle.std.specs.BTreeSet.{contains};
 ghost use Rattle.std.specs.Ordering.{nat_cmp};
 ghost use Rattle.row_use.specs.Indexed.{layer_of, layers_of};
+ghost use Rattle.row_use.specs.PlacesSeen.{is_among};
 ghost use Rattle.row_use.specs.RowPlaces.{places_for, row_places};
 
 use crate::layer_rows::LayerRows;
@@ -43,14 +44,13 @@ fn put_ids(
 {
     match layer.map {
         Some(map) => put_each(&map.targets(alloc)?, numbers),
-        None => layer.places.put_ids(numbers),
+        None => put_each(&layer.places.ids, numbers),
     }
 }
 
 // Puts some ids among others.
 fn put_each(ids: &[ResId], numbers: &mut BTreeSet<u32>) -> Result<(), AllocError>
-    ensures kept { OnOk result ((id : ℕ) → IsTrue (contains nat_cmp numbers.old id) → IsTrue (contains nat_cmp numbers.new id)) }
-    ensures put { OnOk result ((id : ℕ) → Contains (map (λ id. id.0) ids.now) id → IsTrue (contains nat_cmp numbers.new id)) }
+    ensures { OnOk result ((id : ℕ) → IsTrue (contains nat_cmp numbers.old id || is_among ids.now id) → IsTrue (contains nat_cmp numbers.new id)) }
 {
     for id in ids {
         numbers.insert(id.0)?;

@@ -1,33 +1,36 @@
 //! Where the rows of each id stand in a table.
 
-ghost use Rattle.std.specs.Prelude.{◌≡◌, ◌≢◌, ◌==◌, ℕ, [], ◌∷◌, ◌++◌, IsTrue, OnOk, if◌then◌else◌};
-ghost use Rattle.std.specs.BTreeSet.{contains};
-ghost use Rattle.std.specs.Ordering.{nat_cmp};
-ghost use Rattle.row_use.specs.Indexed.{places_at};
+ghost use Rattle.std.specs.Prelude.{◌≡◌, ◌==◌, ℕ, [], ◌∷◌, ◌++◌, OnOk, if◌then◌else◌};
+ghost use Rattle.row_use.specs.PlacesSeen.{places_at, ListsIds};
 
 use reference_resolver::ResId;
 use std::alloc::{AllocError, Global};
-use std::collections::{BTreeMap, BTreeSet};
+use std::collections::BTreeMap;
 
 /// The places of rows by the numbers of their ids.
 #[derive(Drop)]
 pub(crate) struct Places {
     by_id: BTreeMap<u32, Vec<usize>>,
+    /// The ids that have places, each once.
+    pub ids: Vec<ResId>,
 }
 
 impl Places {
     /// No places.
     pub fn new(alloc: Global) -> Places
-        ensures { (id : ℕ) → places_at result id ≡ [] }
+        ensures none { (id : ℕ) → places_at result id ≡ [] }
+        ensures ids { ListsIds result }
     {
         Places {
             by_id: BTreeMap::new(alloc),
+            ids: Vec::new(alloc),
         }
     }
 
     /// Puts a place behind those of an id.
     pub fn push(&mut self, alloc: Global, id: ResId, place: usize) -> Result<(), AllocError>
-        ensures { OnOk result ((other : ℕ) → places_at self.new other ≡ (if id.0 == other then places_at self.old id.0 ++ place ∷ [] else places_at self.old other)) }
+        ensures put { OnOk result ((other : ℕ) → places_at self.new other ≡ (if id.0 == other then places_at self.old id.0 ++ place ∷ [] else places_at self.old other)) }
+        ensures ids { OnOk result (ListsIds self.old → ListsIds self.new) }
     {
         if let Some(places) = self.by_id.get_mut(&id.0) {
             places.push(place)?;
@@ -36,6 +39,7 @@ impl Places {
         let mut places = Vec::new(alloc);
         places.push(place)?;
         self.by_id.insert(id.0, places)?;
+        self.ids.push(id)?;
         Ok(())
     }
 
@@ -47,15 +51,5 @@ impl Places {
             Some(places) => places,
             None => &[],
         }
-    }
-    /// Puts the ids of all places among others.
-    pub fn put_ids(&self, numbers: &mut BTreeSet<u32>) -> Result<(), AllocError>
-        ensures kept { OnOk result ((id : ℕ) → IsTrue (contains nat_cmp numbers.old id) → IsTrue (contains nat_cmp numbers.new id)) }
-        ensures put { OnOk result ((id : ℕ) → places_at self.now id ≢ [] → IsTrue (contains nat_cmp numbers.new id)) }
-    {
-        for number in self.by_id.keys() {
-            numbers.insert(*number)?;
-        }
-        Ok(())
     }
 }

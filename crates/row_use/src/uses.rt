@@ -1,12 +1,12 @@
 //! What is known of the rows of a stack.
 
-ghost use Rattle.std.specs.Prelude.{◌≡◌, ◌≢◌, ◌≤◌, ◌↔◌, ℕ, Bool, IsTrue, All, List, Option, Some, map, length, slice_get, None, IfOk, OnOk};
+ghost use Rattle.std.specs.Prelude.{◌≡◌, ◌≢◌, ◌≤◌, ◌↔◌, ℕ, Bool, IsTrue, IsFalse, All, List, Option, Some, map, length, slice_get, None, IfOk, OnOk};
 ghost use Rattle.std.specs.Option.{option_map};
 ghost use Rattle.row_use.specs.declared.row_place.RowPlace.{RowPlace};
 ghost use Rattle.row_use.specs.Indexed.{layers_of};
 ghost use Rattle.row_use.specs.RowPlaces.{row_places};
 ghost use Rattle.row_use.specs.RowUses.{told_at};
-ghost use Rattle.row_use.specs.Raising.{level_of, level_told, level_in, level_at, cells_of, raised, KeepsReach, no_more, one_more, all_told, AsksFor, IsBegun};
+ghost use Rattle.row_use.specs.Raising.{level_of, level_told, level_in, level_at, cells_of, raised, KeepsReach, no_more, one_more, rows_more, all_told, AsksFor, IsBegun};
 
 use crate::layer_rows::LayerRows;
 use crate::look_up::{Among, rows_among};
@@ -22,13 +22,13 @@ pub(crate) struct Uses {
 }
 
 impl Uses {
-    ghost use Rattle.std.specs.Prelude.{◌≡◌, ◌≢◌, ◌≤◌, ◌↔◌, ℕ, Bool, IsTrue, All, List, Option, Some, map, length, slice_get, None, IfOk, OnOk};
+    ghost use Rattle.std.specs.Prelude.{◌≡◌, ◌≢◌, ◌≤◌, ◌↔◌, ℕ, Bool, IsTrue, IsFalse, All, List, Option, Some, map, length, slice_get, None, IfOk, OnOk};
     ghost use Rattle.std.specs.Option.{option_map};
     ghost use Rattle.row_use.specs.declared.row_place.RowPlace.{RowPlace};
     ghost use Rattle.row_use.specs.Indexed.{layers_of};
     ghost use Rattle.row_use.specs.RowPlaces.{row_places};
     ghost use Rattle.row_use.specs.RowUses.{told_at};
-    ghost use Rattle.row_use.specs.Raising.{level_of, level_told, level_at, cells_of, raised, KeepsReach, no_more, one_more, all_told, AsksFor, IsBegun};
+    ghost use Rattle.row_use.specs.Raising.{level_of, level_told, level_at, cells_of, raised, KeepsReach, no_more, one_more, rows_more, all_told, AsksFor, IsBegun};
 
     /// Before anything is looked up: nothing brings in what is asked for. Those rows are asked for that may stand for one of
     /// these ids, or all.
@@ -106,6 +106,39 @@ impl Uses {
         match self.told(row) {
             Some(found) => found == RowUse::Loaded,
             None => true,
+        }
+    }
+
+    /// Whether some of these rows are asked for.
+    pub fn has_asked(&self, rows: &[RowPlace]) -> bool
+        ensures { IsFalse result → All (λ row. 1 ≤ level_at (cells_of self.now) row → ⊥) rows.now }
+    {
+        for row in rows {
+            if self.is_asked(row) {
+                return true;
+            }
+        }
+        false
+    }
+
+    /// Whether nothing raises any of these rows.
+    pub fn are_settled(&self, rows: &[RowPlace]) -> bool
+        ensures { IsTrue result → All (λ row. 1 ≤ level_at (cells_of self.now) row → 4 ≤ level_at (cells_of self.now) row) rows.now }
+    {
+        for row in rows {
+            if !self.is_settled(row) {
+                return false;
+            }
+        }
+        true
+    }
+
+    /// Raises some rows that stand for an id.
+    pub fn raise_each(&mut self, rows: &[RowPlace])
+        ensures { KeepsReach (cells_of self.old) (rows_more rows.now) (cells_of self.new) no_more }
+    {
+        for row in rows {
+            self.raise(row, RowUse::Unused);
         }
     }
 
