@@ -41,7 +41,7 @@ asks-none cells rows none = record {
   asked_for = λ row told at.
       let e = level-of-told cells row (Some told) at in (
         (λ h. inl (subst (λ n. 1 ≤ n) (sym e) h)),
-        (λ h. elim h [ | inl level ↦ subst (λ n. 1 ≤ n) e level | inr has ↦ absurd (no-row row (subst (λ (rs : List RowPlace). Contains rs row) none has)) ]),
+        (λ h. elim h [ inl level ↦ subst (λ n. 1 ≤ n) e level | inr has ↦ absurd (no-row row (subst (λ (rs : List RowPlace). Contains rs row) none has)) ]),
       );
   low = λ row low. low;
 }
@@ -62,24 +62,22 @@ asks-more old cells new rows row asks here others nowhere alongside = record {
   alongside = alongside ∙ asks.alongside;
   asked_for = λ other told at. elim (same-row other row) [
     | inl same ↦ (
-      let before = there new cells other told alongside at in
-      let at_row = subst (λ (r : RowPlace). told_at cells r ≡ Some before.0) same before.1 in
-      let e = here before.0 at_row in
-      let level = level-of-told new other (Some told) at in
-      let now : level_at new other ≡ raised true (level_told before.0) 1 = ap (level_at new) same ∙ e in
-      (
-        (λ h. inr (subst (Contains (rows ++ row ∷ [])) (sym same) (Contains-push rows row))),
-        (λ h. subst (λ n. 1 ≤ n) (sym now ∙ level) (above-zero (level_told before.0)).0),
-      ))
+        let before = there new cells other told alongside at in
+        let at_row = subst (λ (r : RowPlace). told_at cells r ≡ Some before.0) same before.1 in
+        let e = here before.0 at_row in
+        let level = level-of-told new other (Some told) at in
+        let now : level_at new other ≡ raised true (level_told before.0) 1 = ap (level_at new) same ∙ e in (
+          (λ h. inr (subst (Contains (rows ++ row ∷ [])) (sym same) (Contains-push rows row))),
+          (λ h. subst (λ n. 1 ≤ n) (sym now ∙ level) (above-zero (level_told before.0)).0),
+        ))
     | inr apart ↦ (
-      let h = asks.asked_for other told (sym (others other apart) ∙ at) in
-      (
-        (λ asked. elim (h.0 asked) [ | inl level ↦ inl level | inr has ↦ inr (Contains-append_left rows (row ∷ []) other has) ]),
-        (λ asked. h.1 (elim asked [
-          | inl level ↦ inl level
-          | inr has ↦ elim (Contains-push_cases rows row other has) [ | inl one ↦ inr one | inr e ↦ absurd (apart (sym e)) ]
-        ])),
-      ))
+        let h = asks.asked_for other told (sym (others other apart) ∙ at) in (
+          (λ asked. elim (h.0 asked) [ inl level ↦ inl level | inr has ↦ inr (Contains-append_left rows (row ∷ []) other has) ]),
+          (λ asked. h.1 (elim asked [
+            | inl level ↦ inl level
+            | inr has ↦ elim (Contains-push_cases rows row other has) [ inl one ↦ inr one | inr e ↦ absurd (apart (sym e)) ]
+          ])),
+        ))
   ];
   low = λ other low. elim (same-row other row) [
     | inl same ↦ subst (λ (r : RowPlace). level_at new r ≤ 1) (sym same) (at-row (subst (λ (r : RowPlace). level_at cells r ≤ 1) same (asks.low other low)) (told_at cells row) refl)

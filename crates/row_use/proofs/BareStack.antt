@@ -1,8 +1,8 @@
 -- Stacks where overlays do nothing.
-use Rattle.std.proofs.Common.{◌≡◌, ℕ, ◌+◌, Bool, true, false, IsFalse, List, [], ◌∷◌, ◌++◌, map, Option, Some, None, length, inl, inr, arith, refl, sym, ap, ◌∙◌}
-use Rattle.std.specs.Prelude.{filter, not, ◌==◌, is_some, if◌then◌else◌, Contains}
-use Rattle.std.specs.List.{All}
-use Rattle.std.proofs.lemmas.List.Elements.{All-head, All-tail, Contains-append_cases, Contains-append_left, Contains-append_right}
+use Rattle.std.proofs.Common.{◌≡◌, ℕ, ◌+◌, Bool, true, false, List, [], ◌∷◌, ◌++◌, append_assoc, map, Option, Some, None, length, inl, inr, arith, refl, sym, ap, ◌∙◌}
+use Rattle.std.specs.Prelude.{filter, not, ◌==◌, is_some, ◌||◌, if◌then◌else◌, Contains}
+use Rattle.std.specs.List.{list_any}
+use Rattle.std.proofs.lemmas.List.Elements.{Contains-append_cases, Contains-append_left, Contains-append_right}
 use Rattle.reference_resolver.specs.type_chunks.Row.{RowOf, with_id}
 use Rattle.reference_resolver.specs.resource_table.Table.{TableOf, rows_of}
 use Rattle.reference_resolver.specs.overlay_map.IdMap.{MapOf, look_of}
@@ -67,7 +67,7 @@ kept-candidates BasesAlone stack id = kept-from 0 stack id
 -- ---- what stands for an id without overlays stands for it
 
 pub bare-stands : (stack : List LayerOf) (id : ℕ) (row : RowPlace) → StandsFor (without_overlays stack) row id → StandsFor stack row id
-unfolding row_places
+unfolding row_places look_of
 bare-stands stack id row has = from 0 stack has
   where
     from : (index : ℕ) (layers : List LayerOf) → Contains (row_places_from index (map without_overlay layers) id) row → Contains (row_places_from index layers id) row
@@ -79,15 +79,21 @@ bare-stands stack id row has = from 0 stack has
         ]
       where
         by : (table : TableOf) (m : Option MapOf) → Contains (row_places_at index (places_for (without_overlay (record { table = table; map = m })) id)) row → Contains (row_places_at index (places_for (record { table = table; map = m }) id)) row
-        unfolding look_of
         by table None here = here
         by table (Some m) here = absurd (let within = here.1 in omega (arith, within))
 
 -- ---- where no candidate is of an overlay
 
-no-candidates : (index : ℕ) (rows : List RowOf) (others : List CandOf) → All (λ c. c.overlay ≡ false) (candidates_at index true rows ++ others) → rows ≡ []
+or-false : (a b : Bool) → (a || b) ≡ false → (a ≡ false) × (b ≡ false)
+or-false true b e = absurd cc
+or-false false b e = (refl, e)
+
+is-of-overlay : CandOf → Bool
+is-of-overlay c = c.overlay
+
+no-candidates : (index : ℕ) (rows : List RowOf) (others : List CandOf) → list_any is-of-overlay (candidates_at index true rows ++ others) ≡ false → rows ≡ []
 no-candidates index [] others plain = refl
-no-candidates index (row ∷ rows) others plain = absurd (let e = All-head (λ (c : CandOf). c.overlay ≡ false) (record { layer = index; overlay = true; row = row }) (candidates_at index true rows ++ others) plain in cc)
+no-candidates index (row ∷ rows) others plain = absurd cc
 
 no-places : (id from : ℕ) (rows : List RowOf) → with_id id rows ≡ [] → places_with_id id from rows ≡ []
 no-places id from [] none = refl
@@ -101,23 +107,23 @@ places-none : (table : TableOf) (own : Option ℕ) → rows_with table own ≡ [
 places-none table None none = refl
 places-none table (Some id) none = no-places id 0 (rows_of table) none
 
-all-right : (xs ys : List CandOf) → All (λ c. c.overlay ≡ false) (xs ++ ys) → All (λ c. c.overlay ≡ false) ys
-all-right [] ys plain = plain
-all-right (x ∷ xs) ys plain = all-right xs ys (All-tail (λ (c : CandOf). c.overlay ≡ false) x (xs ++ ys) plain)
+any-right : (xs ys : List CandOf) → list_any is-of-overlay (xs ++ ys) ≡ false → list_any is-of-overlay ys ≡ false
+any-right [] ys plain = plain
+any-right (x ∷ xs) ys plain = any-right xs ys (or-false x.overlay (list_any is-of-overlay (xs ++ ys)) plain).1
 
 record SameFrom (index : ℕ) (layers : List LayerOf) (id : ℕ) : Type 0 where
   pub candidates : candidates_from index (map without_overlay layers) id ≡ candidates_from index layers id
   pub places : row_places_from index (map without_overlay layers) id ≡ row_places_from index layers id
 
-same-from : (index : ℕ) (layers : List LayerOf) (id : ℕ) → All (λ c. c.overlay ≡ false) (candidates_from index layers id) → SameFrom index layers id
+same-from : (index : ℕ) (layers : List LayerOf) (id : ℕ) → list_any is-of-overlay (candidates_from index layers id) ≡ false → SameFrom index layers id
+unfolding look_of
 same-from index [] id plain = record { candidates = refl; places = refl }
 same-from index (layer ∷ layers) id plain = by layer.table layer.map plain
   where
-    rest : (first : List CandOf) → All (λ c. c.overlay ≡ false) (first ++ candidates_from (index + 1) layers id) → SameFrom (index + 1) layers id
-    rest first plain = same-from (index + 1) layers id (all-right first (candidates_from (index + 1) layers id) plain)
+    rest : (first : List CandOf) → list_any is-of-overlay (first ++ candidates_from (index + 1) layers id) ≡ false → SameFrom (index + 1) layers id
+    rest first plain = same-from (index + 1) layers id (any-right first (candidates_from (index + 1) layers id) plain)
 
-    by : (table : TableOf) (m : Option MapOf) → All (λ c. c.overlay ≡ false) (candidates_from index (record { table = table; map = m } ∷ layers) id) → SameFrom index (record { table = table; map = m } ∷ layers) id
-    unfolding look_of
+    by : (table : TableOf) (m : Option MapOf) → list_any is-of-overlay (candidates_from index (record { table = table; map = m } ∷ layers) id) ≡ false → SameFrom index (record { table = table; map = m } ∷ layers) id
     by table None plain =
         let others = rest (candidates_at index false (with_id id (rows_of table))) plain in
         record {
@@ -133,9 +139,22 @@ same-from index (layer ∷ layers) id plain = by layer.table layer.map plain
           places = others.places ∙ sym (ap (λ (places : List ℕ). row_places_at index places ++ row_places_from (index + 1) layers id) (places-none table own none));
         }
 
-pub same-look-up : (stack : List LayerOf) (id : ℕ) → All (λ c. c.overlay ≡ false) (candidates_of stack id) → (d : List ℕ) → loaded_row (without_overlays stack) id d ≡ loaded_row stack id d
+pub same-look-up : (stack : List LayerOf) (id : ℕ) → list_any is-of-overlay (candidates_of stack id) ≡ false → (d : List ℕ) → loaded_row (without_overlays stack) id d ≡ loaded_row stack id d
 unfolding candidates_of row_places loaded_row
 same-look-up stack id plain d =
     let same = same-from 0 stack id plain in
     ap (λ (cs : List CandOf). loaded_among cs (row_places_from 0 (map without_overlay stack) id) d) same.candidates
     ∙ ap (λ (rows : List RowPlace). loaded_among (candidates_from 0 stack id) rows d) same.places
+
+-- ---- candidate by candidate
+
+pub keep-one : (p : CandOf → Bool) (old new : List CandOf) (first : CandOf) (left rest all : List CandOf) → left ≡ first ∷ rest → p first ≡ true → new ≡ old ++ first ∷ [] → old ++ filter p left ≡ all → new ++ filter p rest ≡ all
+keep-one p old new first left rest all split holds pushed before =
+    ap (λ (xs : List CandOf). xs ++ filter p rest) pushed ∙ append_assoc old (first ∷ []) (filter p rest)
+    ∙ ap (λ (b : Bool). old ++ (if b then first ∷ filter p rest else filter p rest)) (sym holds)
+    ∙ ap (λ (xs : List CandOf). old ++ filter p xs) (sym split) ∙ before
+
+pub leave-one : (p : CandOf → Bool) (old : List CandOf) (first : CandOf) (left rest all : List CandOf) → left ≡ first ∷ rest → p first ≡ false → old ++ filter p left ≡ all → old ++ filter p rest ≡ all
+leave-one p old first left rest all split fails before =
+    ap (λ (b : Bool). old ++ (if b then first ∷ filter p rest else filter p rest)) (sym fails)
+    ∙ ap (λ (xs : List CandOf). old ++ filter p xs) (sym split) ∙ before

@@ -1,5 +1,5 @@
 -- What stands at rows, where it changes at one.
-use Rattle.std.proofs.Common.{◌≡◌, ◌≢◌, ◌⊎◌, ◌↔◌, inl, inr, ℕ, zero, suc, ◌≤◌, Bool, true, false, List, [], ◌∷◌, map, length, Option, Some, None, arith, refl, sym, ap, ◌∙◌, subst}
+use Rattle.std.proofs.Common.{◌≡◌, ◌≢◌, ◌⊎◌, ◌↔◌, inl, inr, ℕ, zero, suc, ◌≤◌, ◌<◌, Bool, true, false, List, [], ◌∷◌, map, length, get_or, Option, Some, None, arith, refl, sym, ap, ◌∙◌, subst}
 use Rattle.std.specs.Prelude.{slice_get, slice_set, option_and_then, max}
 use Rattle.std.specs.Option.{option_map_or}
 use Rattle.std.proofs.lemmas.List.{map-set}
@@ -8,6 +8,17 @@ use Rattle.row_use.specs.declared.row_place.RowPlace.{RowPlace}
 use Rattle.row_use.specs.declared.row_use.RowUse.{RowUse}
 use Rattle.row_use.specs.RowUses.{told_at}
 use Rattle.row_use.specs.Raising.{level_told, level_in, level_at, raised, Reaches, KeepsReach, no_more, one_more}
+
+same-parts : (a b : RowPlace) → a.layer ≡ b.layer → a.place ≡ b.place → a ≡ b
+same-parts a b layers places =
+    let with_layer : ℕ → RowPlace = λ layer. record { layer = layer; place = a.place } in
+    let with_place : ℕ → RowPlace = λ place. record { layer = b.layer; place = place } in
+    ap with_layer layers ∙ ap with_place places
+
+pub get-at : {X : Type 0} (xs : List X) (i : ℕ) (x : X) → i < length xs → x ≡ get_or xs i x → slice_get xs i ≡ Some x
+get-at [] i x within is = absurd (omega (arith, within))
+get-at (z ∷ xs) zero x within is = ap (λ y. Some y) (sym is)
+get-at (z ∷ xs) (suc i) x within is = get-at xs i x (omega (arith, within)) is
 
 get-set-here : {X : Type 0} (xs : List X) (i : ℕ) (x y : X) → slice_get xs i ≡ Some x → slice_get (slice_set xs i y) i ≡ Some y
 get-set-here [] i x y e = absurd cc
@@ -39,11 +50,11 @@ module _ (old : List (List (Option RowUse))) (row : RowPlace) (layer new : List 
   pub lift-other : ((place : ℕ) → place ≢ row.place → slice_get new place ≡ slice_get layer place) → (other : RowPlace) → other ≢ row → told_at (slice_set old row.layer new) other ≡ told_at old other
   lift-other others other apart = elim (cases_eq other.layer row.layer) [
     | inl same ↦ (
-      let there = ap (λ i. slice_get (slice_set old row.layer new) i) same ∙ get-set-here old row.layer layer new is in
-      let before = ap (λ i. slice_get old i) same ∙ is in
-      ap (λ o. option_and_then (λ (cells : List (Option RowUse)). slice_get cells other.place) o) there
-      ∙ others other.place (λ e. apart (let both : record { layer = other.layer; place = other.place } ≡ row = (let a = same in let b = e in cc) in both))
-      ∙ sym (ap (λ o. option_and_then (λ (cells : List (Option RowUse)). slice_get cells other.place) o) before))
+        let there = ap (λ i. slice_get (slice_set old row.layer new) i) same ∙ get-set-here old row.layer layer new is in
+        let before = ap (λ i. slice_get old i) same ∙ is in
+        ap (λ o. option_and_then (λ (cells : List (Option RowUse)). slice_get cells other.place) o) there
+        ∙ others other.place (λ e. apart (same-parts other row same e))
+        ∙ sym (ap (λ o. option_and_then (λ (cells : List (Option RowUse)). slice_get cells other.place) o) before))
     | inr differ ↦ ap (λ o. option_and_then (λ (cells : List (Option RowUse)). slice_get cells other.place) o) (get-set-other old row.layer other.layer new differ)
   ]
 
@@ -72,16 +83,16 @@ pub same-told : (old new : List (List (Option RowUse))) (row : RowPlace) → tol
 same-told old new row same = level-of-told new row (told_at old row) same ∙ sym (level-told old row)
 
 above : (level before to : ℕ) → (level ≤ raised false before to) ↔ ((level ≤ before) ⊎ ((1 ≤ before) × (level ≤ to)))
-above level zero to = ((λ h. inl h), (λ h. elim h [ | inl at ↦ at | inr more ↦ absurd (omega (arith, more.0)) ]))
+above level zero to = ((λ h. inl h), (λ h. elim h [ inl at ↦ at | inr more ↦ absurd (omega (arith, more.0)) ]))
 above level (suc before) to = (
-  (λ h. elim (cases_lt (suc before) level) [ | inl gt ↦ inr (omega arith, omega (arith, h, gt)) | inr le ↦ inl le ]),
-  (λ h. elim h [ | inl at ↦ omega (arith, at) | inr more ↦ omega (arith, more.1) ]),
+  (λ h. elim (cases_lt (suc before) level) [ inl gt ↦ inr (omega arith, omega (arith, h, gt)) | inr le ↦ inl le ]),
+  (λ h. elim h [ inl at ↦ omega (arith, at) | inr more ↦ omega (arith, more.1) ]),
 )
 
 pub same-row : (a b : RowPlace) → (a ≡ b) ⊎ (a ≢ b)
 same-row a b = elim (cases_eq a.layer b.layer) [
   | inl layers ↦ elim (cases_eq a.place b.place) [
-    | inl places ↦ inl (let x = layers in let y = places in cc)
+    | inl places ↦ inl (same-parts a b layers places)
     | inr differ ↦ inr (λ e. differ (ap (λ (r : RowPlace). r.place) e))
   ]
   | inr differ ↦ inr (λ e. differ (ap (λ (r : RowPlace). r.layer) e))
@@ -97,11 +108,10 @@ raises-one old new row to here others nowhere alongside = record {
   reach = λ other level. elim (same-row other row) [
     | inl same ↦ subst (λ (r : RowPlace). Reaches new no_more r level ↔ Reaches old (one_more row to) r level) (sym same) (at-row level (told_at old row) refl)
     | inr apart ↦ (
-      let e = same-told old new other (others other apart) in
-      (
-        (λ h. elim h [ | inl at ↦ inl (subst (λ n. level ≤ n) e at) | inr more ↦ absurd more.1 ]),
-        (λ h. elim h [ | inl at ↦ inl (subst (λ n. level ≤ n) (sym e) at) | inr more ↦ absurd (apart more.1.0) ]),
-      ))
+        let e = same-told old new other (others other apart) in (
+          (λ h. elim h [ inl at ↦ inl (subst (λ n. level ≤ n) e at) | inr more ↦ absurd more.1 ]),
+          (λ h. elim h [ inl at ↦ inl (subst (λ n. level ≤ n) (sym e) at) | inr more ↦ absurd (apart more.1.0) ]),
+        ))
   ];
 }
   where
@@ -109,8 +119,8 @@ raises-one old new row to here others nowhere alongside = record {
     at-row level None at =
         let e = level-of-told old row None at in
         let same : level_at new row ≡ level_at old row = ap (λ cells. level_at cells row) (nowhere at) in (
-          (λ h. elim h [ | inl reached ↦ inl (subst (λ n. level ≤ n) same reached) | inr more ↦ absurd more.1 ]),
-          (λ h. elim h [ | inl reached ↦ inl (subst (λ n. level ≤ n) (sym same) reached) | inr more ↦ absurd (let none = more.0 in omega (arith, none, e)) ]),
+          (λ h. elim h [ inl reached ↦ inl (subst (λ n. level ≤ n) same reached) | inr more ↦ absurd more.1 ]),
+          (λ h. elim h [ inl reached ↦ inl (subst (λ n. level ≤ n) (sym same) reached) | inr more ↦ absurd (let none = more.0 in omega (arith, none, e)) ]),
         )
     at-row level (Some told) at =
         let e = level-of-told old row (Some told) at in
@@ -128,3 +138,41 @@ raises-one old new row to here others nowhere alongside = record {
             | inr more ↦ inr (subst (λ n. 1 ≤ n) e more.0, more.1.1)
           ])))),
         )
+
+-- ---- layers as the code has them
+
+module _ {V : Type 0} (f : V → List (Option RowUse)) (layers : List V) (row : RowPlace) where
+  get-map : (xs : List V) (i : ℕ) (layer : V) → slice_get xs i ≡ Some layer → slice_get (map f xs) i ≡ Some (f layer)
+  get-map [] i layer at = absurd cc
+  get-map (x ∷ xs) zero layer at = let e : x ≡ layer = cc in ap (λ y. Some (f y)) e
+  get-map (x ∷ xs) (suc i) layer at = get-map xs i layer at
+
+  module _ (layer new : V) (within : row.layer < length layers) (is : layer ≡ get_or layers row.layer layer) where
+    found : slice_get (map f layers) row.layer ≡ Some (f layer)
+    found = get-map layers row.layer layer (get-at layers row.layer layer within is)
+
+    pub put-here : (asks : Bool) (to : ℕ) → ((told : Option RowUse) → slice_get (f layer) row.place ≡ Some told → level_in (f new) row.place ≡ raised asks (level_told told) to)
+        → (told : Option RowUse) → told_at (map f layers) row ≡ Some told → level_at (map f (slice_set layers row.layer new)) row ≡ raised asks (level_told told) to
+    put-here asks to here told at =
+        ap (λ (cells : List (List (Option RowUse))). level_at cells row) (map-set f layers row.layer new)
+        ∙ lift-here (map f layers) row (f layer) (f new) found asks to here told at
+
+    pub put-other : ((place : ℕ) → place ≢ row.place → slice_get (f new) place ≡ slice_get (f layer) place) → (other : RowPlace) → other ≢ row
+        → told_at (map f (slice_set layers row.layer new)) other ≡ told_at (map f layers) other
+    put-other others other apart =
+        ap (λ (cells : List (List (Option RowUse))). told_at cells other) (map-set f layers row.layer new)
+        ∙ lift-other (map f layers) row (f layer) (f new) found others other apart
+
+    pub put-nowhere : (slice_get (f layer) row.place ≡ None → f new ≡ f layer) → told_at (map f layers) row ≡ None → map f (slice_set layers row.layer new) ≡ map f layers
+    put-nowhere nowhere at = map-set f layers row.layer new ∙ lift-nowhere (map f layers) row (f layer) (f new) found nowhere at
+
+    pub put-alongside : length (f new) ≡ length (f layer) → map length (map f (slice_set layers row.layer new)) ≡ map length (map f layers)
+    put-alongside count = ap (map length) (map-set f layers row.layer new) ∙ lift-alongside (map f layers) row (f layer) (f new) found count
+
+  pub no-layer : (row.layer < length layers → ⊥) → (told : Option RowUse) → told_at (map f layers) row ≡ Some told → ⊥
+  no-layer beyond told at = by layers row.layer beyond at
+    where
+      by : (xs : List V) (i : ℕ) → (i < length xs → ⊥) → option_and_then (λ (cells : List (Option RowUse)). slice_get cells row.place) (slice_get (map f xs) i) ≡ Some told → ⊥
+      by [] i out at = cc
+      by (x ∷ xs) zero out at = out (omega arith)
+      by (x ∷ xs) (suc i) out at = by xs i (λ within. out (omega (arith, within))) at

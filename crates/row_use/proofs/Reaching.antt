@@ -58,14 +58,14 @@ keeps-beside a b A B F keeps = record {
 pub keeps-both : (a b c : List (List (Option RowUse))) (A B : RowPlace → ℕ → Type 0) → KeepsReach a A b no_more → KeepsReach b B c no_more → KeepsReach a (beside A B) c no_more
 keeps-both a b c A B first second =
     keeps-then a b c (beside A B) (beside no_more B) no_more (keeps-beside a b A no_more B first)
-    (keeps-then b b c (beside no_more B) B no_more (keeps-told b (beside no_more B) B (λ row level. ((λ h. elim h [ | inl nothing ↦ absurd nothing | inr more ↦ more ]), (λ more. inr more)))) second)
+    (keeps-then b b c (beside no_more B) B no_more (keeps-told b (beside no_more B) B (λ row level. ((λ h. elim h [ inl nothing ↦ absurd nothing | inr more ↦ more ]), (λ more. inr more)))) second)
 
 -- nothing has to be raised where all is reached
 pub keeps-reached : (a : List (List (Option RowUse))) (A : RowPlace → ℕ → Type 0) → ((row : RowPlace) (level : ℕ) → 1 ≤ level_at a row → A row level → level ≤ level_at a row) → KeepsReach a A a no_more
 keeps-reached a A reached = record {
   alongside = refl;
   reach = λ row level. (
-    (λ h. elim h [ | inl at ↦ inl at | inr more ↦ absurd more.1 ]),
-    (λ h. elim h [ | inl at ↦ inl at | inr more ↦ inl (reached row level more.0 more.1) ]),
+    (λ h. elim h [ inl at ↦ inl at | inr more ↦ absurd more.1 ]),
+    (λ h. elim h [ inl at ↦ inl at | inr more ↦ inl (reached row level more.0 more.1) ]),
   );
 }

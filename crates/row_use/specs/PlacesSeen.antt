@@ -1,5 +1,5 @@
 -- How contracts see the places of ids. (Cited by contracts of this crate alone.)
-use Rattle.std.specs.Prelude.{◌≡◌, ◌≢◌, ◌==◌, ℕ, Bool, IsTrue, List, []}
+use Rattle.std.specs.Prelude.{◌≡◌, ◌==◌, ℕ, Bool, IsTrue, List, [], is_some}
 use Rattle.std.specs.List.{list_any}
 use Rattle.std.specs.BTreeMap.{get}
 use Rattle.std.specs.Option.{option_map_or}
@@ -23,4 +23,8 @@ is_among ids id = list_any (λ other. other.0 == id) ids
 
 -- each id that has places is listed
 abbrev pub ListsIds : Places → Type 0
-ListsIds places = (id : ℕ) → places_at places id ≢ [] → IsTrue (is_among places.ids.items id)
+ListsIds places = (id : ℕ) → IsTrue (is_some (get nat_cmp places.by_id id)) → IsTrue (is_among places.ids.items id)
+
+-- the id of a number
+abbrev pub id_of : ℕ → ResId
+id_of number = record { 0 = number }

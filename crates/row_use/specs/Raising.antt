@@ -1,5 +1,5 @@
 -- How rows are raised to their uses. (Cited by contracts of this crate alone.)
-use Rattle.std.specs.Prelude.{◌≡◌, ◌⊎◌, ◌↔◌, ℕ, zero, suc, ◌≤◌, max, Bool, true, false, List, [], ◌∷◌, map, length, replicate, Option, Some, None, slice_get, Contains}
+use Rattle.std.specs.Prelude.{◌≡◌, ◌⊎◌, ◌↔◌, ℕ, zero, suc, ◌≤◌, nat_le, max, ◌&&◌, Bool, true, false, List, [], ◌∷◌, map, length, replicate, Option, Some, None, slice_get, Contains}
 use Rattle.std.specs.Option.{option_map_or}
 use Rattle.config_box.specs.box_answers.NumberSet.{SetOf}
 use Rattle.reference_resolver.specs.resource_table.Table.{rows_of}
@@ -33,6 +33,13 @@ cells_of uses = map (λ layer. layer.items) uses.layers.items
 
 abbrev pub level_at : List (List (Option RowUse)) → RowPlace → ℕ
 level_at cells row = option_map_or (λ layer. level_in layer row.place) (slice_get cells row.layer) 0
+
+-- a row is asked for; and it is not known to be loaded
+abbrev pub is_asked_at : List (List (Option RowUse)) → RowPlace → Bool
+is_asked_at cells row = nat_le 1 (level_at cells row)
+
+abbrev pub is_open_at : List (List (Option RowUse)) → RowPlace → Bool
+is_open_at cells row = nat_le 1 (level_at cells row) && nat_le (level_at cells row) 3
 
 -- What is asked for is raised to a level, if it is lower; what is not asked for only where this asks for it.
 abbrev pub raised : Bool → ℕ → ℕ → ℕ

@@ -26,6 +26,8 @@ pub(crate) struct LayerRows<'s, 'a> {
 
 impl<'s, 'a> LayerRows<'s, 'a> {
     ghost use Rattle.std.specs.Prelude.{◌≡◌, IfOk};
+    ghost use Rattle.std.specs.Option.{option_map};
+    ghost use Rattle.reference_resolver.specs.overlay_map.Layer.{own_id};
     ghost use Rattle.row_use.specs.Indexed.{layer_of, layers_of, layer_among};
     ghost use Rattle.row_use.specs.RowPlaces.{places_for};
 
@@ -57,12 +59,23 @@ impl<'s, 'a> LayerRows<'s, 'a> {
     pub fn places_for(&self, id: ResId, among: Among) -> &[usize]
         ensures { result.now ≡ places_for (layer_among among (layer_of self.now)) id.0 }
     {
+        match self.own_id(id, among) {
+            Some(own) => self.places.get(own),
+            None => &[],
+        }
+    }
+
+    // The id under which its table has them.
+    #[tactic(auto, unfolding(crate::specs::Unfolded::look_of))]
+    fn own_id(&self, id: ResId, among: Among) -> Option<ResId>
+        ensures { option_map (λ own. own.0) result ≡ own_id (layer_among among (layer_of self.now)) id.0 }
+    {
         let Some(map) = self.map else {
-            return self.places.get(id);
+            return Some(id);
         };
-        match (among, map.look(id)) {
-            (Among::AllLayers, Some(own)) => self.places.get(own),
-            _ => &[],
+        match among {
+            Among::AllLayers => map.look(id),
+            Among::BasesAlone => None,
         }
     }
 

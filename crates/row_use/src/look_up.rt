@@ -27,7 +27,9 @@ pub(crate) struct LookUp<'a> {
 }
 
 impl<'a> LookUp<'a> {
-    ghost use Rattle.std.specs.Prelude.{◌≡◌, IsTrue, false, All, IfOk};
+    ghost use Rattle.std.specs.Prelude.{◌≡◌, map, IfOk};
+    ghost use Rattle.std.specs.List.{list_any};
+    ghost use Rattle.reference_resolver.specs.overlay_map.Candidates.{cand_of};
     ghost use Rattle.reference_resolver.specs.config_record.DeviceSeen.{device_numbers};
     ghost use Rattle.row_use.specs.Indexed.{layers_of, stack_among, IsLookUp, loads_of};
 
@@ -56,16 +58,16 @@ impl<'a> LookUp<'a> {
         self.rows.get(place).copied()
     }
 
-    /// Whether no candidate is of an overlay.
-    pub fn is_of_bases(&self) -> bool
-        ensures { IsTrue result → All (λ candidate. candidate.overlay ≡ false) self.now.candidates.items }
+    /// Whether a candidate is of an overlay.
+    pub fn has_overlay(&self) -> bool
+        ensures { result ≡ list_any (λ candidate. candidate.overlay) (map cand_of self.now.candidates.items) }
     {
         for candidate in &self.candidates {
             if candidate.overlay {
-                return false;
+                return true;
             }
         }
-        true
+        false
     }
 }
 
@@ -98,6 +100,7 @@ fn is_kept(among: Among, candidate: &Cand<'_>) -> bool
 }
 
 /// Where the rows of an id stand.
+#[tactic(auto, unfolding(crate::specs::RowPlaces::row_places))]
 pub(crate) fn rows_among(
     alloc: Global,
     layers: &[LayerRows<'_, '_>],

@@ -1,10 +1,10 @@
 //! The ids that are looked up.
 
-ghost use Rattle.std.specs.Prelude.{◌≡◌, ◌≢◌, ◌||◌, ◌→◌, ℕ, [], map, Contains, IsTrue, IfOk, OnOk};
+ghost use Rattle.std.specs.Prelude.{◌≡◌, ◌≢◌, ◌||◌, ℕ, [], map, Contains, IsTrue, IfOk, OnOk};
 ghost use Rattle.std.specs.BTreeSet.{contains};
 ghost use Rattle.std.specs.Ordering.{nat_cmp};
 ghost use Rattle.row_use.specs.Indexed.{layer_of, layers_of};
-ghost use Rattle.row_use.specs.PlacesSeen.{is_among};
+ghost use Rattle.row_use.specs.PlacesSeen.{is_among, id_of};
 ghost use Rattle.row_use.specs.RowPlaces.{places_for, row_places};
 
 use crate::layer_rows::LayerRows;
@@ -28,7 +28,7 @@ pub(crate) fn looked_up_ids(
 
 // The ids of these numbers.
 fn ids_in(alloc: Global, numbers: &BTreeSet<u32>) -> Result<Vec<ResId>, AllocError>
-    ensures { IfOk result (λ ids. map (λ id. id.0) ids.items ≡ numbers.now.keys) }
+    ensures { IfOk result (λ ids. ids.items ≡ map id_of numbers.now.keys) }
 {
     numbers.iter().map(|number| ResId(*number)).collect(alloc)
 }

@@ -1,12 +1,13 @@
 //! What is known of the rows of a stack.
 
 ghost use Rattle.std.specs.Prelude.{◌≡◌, ◌≢◌, ◌≤◌, ◌↔◌, ℕ, Bool, IsTrue, IsFalse, All, List, Option, Some, map, length, slice_get, None, IfOk, OnOk};
+ghost use Rattle.std.specs.List.{list_any};
 ghost use Rattle.std.specs.Option.{option_map};
 ghost use Rattle.row_use.specs.declared.row_place.RowPlace.{RowPlace};
 ghost use Rattle.row_use.specs.Indexed.{layers_of};
 ghost use Rattle.row_use.specs.RowPlaces.{row_places};
 ghost use Rattle.row_use.specs.RowUses.{told_at};
-ghost use Rattle.row_use.specs.Raising.{level_of, level_told, level_in, level_at, cells_of, raised, KeepsReach, no_more, one_more, rows_more, all_told, AsksFor, IsBegun};
+ghost use Rattle.row_use.specs.Raising.{level_of, level_told, level_in, level_at, cells_of, raised, KeepsReach, no_more, one_more, rows_more, is_asked_at, is_open_at, all_told, AsksFor, IsBegun};
 
 use crate::layer_rows::LayerRows;
 use crate::look_up::{Among, rows_among};
@@ -23,12 +24,13 @@ pub(crate) struct Uses {
 
 impl Uses {
     ghost use Rattle.std.specs.Prelude.{◌≡◌, ◌≢◌, ◌≤◌, ◌↔◌, ℕ, Bool, IsTrue, IsFalse, All, List, Option, Some, map, length, slice_get, None, IfOk, OnOk};
+    ghost use Rattle.std.specs.List.{list_any};
     ghost use Rattle.std.specs.Option.{option_map};
     ghost use Rattle.row_use.specs.declared.row_place.RowPlace.{RowPlace};
     ghost use Rattle.row_use.specs.Indexed.{layers_of};
     ghost use Rattle.row_use.specs.RowPlaces.{row_places};
     ghost use Rattle.row_use.specs.RowUses.{told_at};
-    ghost use Rattle.row_use.specs.Raising.{level_of, level_told, level_at, cells_of, raised, KeepsReach, no_more, one_more, rows_more, all_told, AsksFor, IsBegun};
+    ghost use Rattle.row_use.specs.Raising.{level_of, level_told, level_at, cells_of, raised, KeepsReach, no_more, one_more, rows_more, is_asked_at, is_open_at, all_told, AsksFor, IsBegun};
 
     /// Before anything is looked up: nothing brings in what is asked for. Those rows are asked for that may stand for one of
     /// these ids, or all.
@@ -92,26 +94,9 @@ impl Uses {
         }
     }
 
-    /// Whether a row is asked for.
-    pub fn is_asked(&self, row: &RowPlace) -> bool
-        ensures { IsTrue result ↔ (1 ≤ level_at (cells_of self.now) row.now) }
-    {
-        self.told(row).is_some()
-    }
-
-    /// Whether nothing raises a row: it is loaded, or not asked for.
-    pub fn is_settled(&self, row: &RowPlace) -> bool
-        ensures { IsTrue result → 1 ≤ level_at (cells_of self.now) row.now → 4 ≤ level_at (cells_of self.now) row.now }
-    {
-        match self.told(row) {
-            Some(found) => found == RowUse::Loaded,
-            None => true,
-        }
-    }
-
     /// Whether some of these rows are asked for.
     pub fn has_asked(&self, rows: &[RowPlace]) -> bool
-        ensures { IsFalse result → All (λ row. 1 ≤ level_at (cells_of self.now) row → ⊥) rows.now }
+        ensures { result ≡ list_any (is_asked_at (cells_of self.now)) rows.now }
     {
         for row in rows {
             if self.is_asked(row) {
@@ -121,16 +106,31 @@ impl Uses {
         false
     }
 
-    /// Whether nothing raises any of these rows.
-    pub fn are_settled(&self, rows: &[RowPlace]) -> bool
-        ensures { IsTrue result → All (λ row. 1 ≤ level_at (cells_of self.now) row → 4 ≤ level_at (cells_of self.now) row) rows.now }
+    fn is_asked(&self, row: &RowPlace) -> bool
+        ensures { result ≡ is_asked_at (cells_of self.now) row.now }
+    {
+        self.told(row).is_some()
+    }
+
+    /// Whether some of these rows are asked for and not loaded.
+    pub fn has_open(&self, rows: &[RowPlace]) -> bool
+        ensures { result ≡ list_any (is_open_at (cells_of self.now)) rows.now }
     {
         for row in rows {
-            if !self.is_settled(row) {
-                return false;
+            if self.is_open(row) {
+                return true;
             }
         }
-        true
+        false
+    }
+
+    fn is_open(&self, row: &RowPlace) -> bool
+        ensures { result ≡ is_open_at (cells_of self.now) row.now }
+    {
+        match self.told(row) {
+            Some(RowUse::Loaded) | None => false,
+            Some(RowUse::Unmapped | RowUse::Unused | RowUse::Overlaid) => true,
+        }
     }
 
     /// Raises some rows that stand for an id.

@@ -8,5 +8,5 @@ abbrev pub invariant-loop-candidate : goal.invariant-loop-candidate
 invariant-loop-candidate l = record {
   can : (goal.iterator-loop-candidate).can_next l.candidate-iterator;
   ends : (goal.iterator-loop-candidate).is_finite l.candidate-iterator;
-  left : map cand_of l.candidates.items ++ filter (is_kept l.among) l.candidate-iterator ≡ filter (is_kept l.among) (candidates_of l.stack l.id.0);
+  left : map cand_of l.candidates.items ++ filter (is_kept l.among) l.candidate-iterator ≡ filter (is_kept l.among) (candidates_of l.stack l.fn.id.0);
 }

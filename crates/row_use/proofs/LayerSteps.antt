@@ -1,0 +1,72 @@
+-- The layers of a stack, one after the other, and the ids of their rows.
+use Rattle.std.proofs.Common.{◌≡◌, ◌≢◌, ◌⊎◌, inl, inr, ℕ, zero, suc, ◌+◌, ◌<◌, ◌==◌, Bool, true, false, List, [], ◌∷◌, ◌++◌, take, drop, map, length, get_or, Option, Some, None, arith, eqb-eq, refl, sym, ap, ◌∙◌, subst}
+use Rattle.std.specs.Prelude.{slice_get, option_and_then, IsTrue, ◌||◌, if◌then◌else◌, cond, Contains}
+use Rattle.std.specs.Option.{option_map}
+use Rattle.std.specs.List.{list_any}
+use Rattle.std.specs.BTreeSet.{BTreeSet, contains}
+use Rattle.std.specs.Ordering.{nat_cmp}
+use Rattle.std.specs.BTreeMap.{is_at}
+use Rattle.std.proofs.lemmas.List.{map-append, drop_more}
+use Rattle.reference_resolver.specs.res_value.declared.res_id.ResId.{ResId}
+use Rattle.reference_resolver.specs.resource_table.Table.{TableOf}
+use Rattle.reference_resolver.specs.overlay_map.IdMap.{MapOf, look_of, targets_in}
+use Rattle.reference_resolver.specs.overlay_map.Layer.{LayerOf}
+use Rattle.row_use.specs.declared.row_place.RowPlace.{RowPlace}
+use Rattle.row_use.specs.declared.layer_rows.LayerRows.{LayerRows}
+use Rattle.row_use.specs.PlacesSeen.{is_among}
+use Rattle.row_use.specs.RowPlaces.{places_by, places_for, row_places_at, row_places_from}
+use Rattle.row_use.specs.Indexed.{layer_of, layers_of}
+
+-- ---- layers
+
+next-of : (stack : List LayerOf) (k : ℕ) (table : TableOf) (map_of : Option MapOf) → Some table ≡ option_map (λ (layer : LayerOf). layer.table) (slice_get stack k)
+    → map_of ≡ option_and_then (λ (layer : LayerOf). layer.map) (slice_get stack k) → take (k + 1) stack ≡ take k stack ++ record { table = table; map = map_of } ∷ []
+next-of [] k table map_of is_table is_map = absurd cc
+next-of (layer ∷ stack) zero table map_of is_table is_map =
+    let tables : table ≡ layer.table = cc in
+    let with_table : TableOf → LayerOf = λ t. record { table = t; map = map_of } in
+    let with_map : Option MapOf → LayerOf = λ m. record { table = layer.table; map = m } in
+    ap (λ (l : LayerOf). l ∷ []) (sym (ap with_table tables ∙ ap with_map is_map))
+next-of (layer ∷ stack) (suc k) table map_of is_table is_map = ap (λ (ls : List LayerOf). layer ∷ ls) (next-of stack k table map_of is_table is_map)
+
+pub next-layer : (stack : List LayerOf) (k : ℕ) (old new : List LayerRows) (layer : LayerRows) → new ≡ old ++ layer ∷ [] → layers_of old ≡ take k stack
+    → Some (layer_of layer).table ≡ option_map (λ (l : LayerOf). l.table) (slice_get stack k) → (layer_of layer).map ≡ option_and_then (λ (l : LayerOf). l.map) (slice_get stack k)
+    → layers_of new ≡ take (k + 1) stack
+next-layer stack k old new layer pushed before is_table is_map =
+    ap layers_of pushed ∙ map-append layer_of old (layer ∷ []) ∙ ap (λ (ls : List LayerOf). ls ++ layer_of layer ∷ []) before
+    ∙ sym (next-of stack k (layer_of layer).table (layer_of layer).map is_table is_map)
+
+-- ---- ids
+
+same-number : (a b : ℕ) → (a == b) ≡ true → a ≡ b
+same-number a b e = eqb-eq a b e
+
+-- a target that a map knows is one of its targets
+pub target-listed : (targets : List ResId) (m : MapOf) (id own : ℕ) → map (λ (target : ResId). target.0) targets ≡ targets_in m → look_of m id ≡ Some own → IsTrue (is_among targets id)
+unfolding look_of
+target-listed targets [] id own are at = absurd cc
+target-listed [] (pair ∷ m) id own are at = absurd cc
+target-listed (target ∷ targets) (pair ∷ m) id own are at =
+    let first : target.0 ≡ pair.0 = cc in
+    let rest : map (λ (t : ResId). t.0) targets ≡ targets_in m = cc in
+    ap (λ (n : ℕ). (n == id) || is_among targets id) first ∙ by (pair.0 == id) (target-listed targets m id own rest) at
+  where
+    by : (b : Bool) → (look_of m id ≡ Some own → IsTrue (is_among targets id)) → (if b then Some pair.1 else look_of m id) ≡ Some own → (b || is_among targets id) ≡ true
+    by true later at = refl
+    by false later at = later at
+
+-- rows stand for it in an overlay
+pub target-of-places : (targets : List ResId) (table : TableOf) (m : MapOf) (id : ℕ) → map (λ (target : ResId). target.0) targets ≡ targets_in m → places_by table (look_of m id) ≢ [] → IsTrue (is_among targets id)
+target-of-places targets table m id are some = by (look_of m id) refl some
+  where
+    by : (o : Option ℕ) → look_of m id ≡ o → places_by table o ≢ [] → IsTrue (is_among targets id)
+    by None at some = absurd (some refl)
+    by (Some own) at some = target-listed targets m id own are at
+
+-- rows stand for an id in some layer, or in one of those that are left
+pub in-layer : (index : ℕ) (layer : LayerOf) (layers : List LayerOf) (id : ℕ) → row_places_from index (layer ∷ layers) id ≢ [] → (places_for layer id ≢ []) ⊎ (row_places_from (index + 1) layers id ≢ [])
+in-layer index layer layers id some = by (places_for layer id) some
+  where
+    by : (places : List ℕ) → row_places_at index places ++ row_places_from (index + 1) layers id ≢ [] → (places ≢ []) ⊎ (row_places_from (index + 1) layers id ≢ [])
+    by [] some = inr some
+    by (place ∷ places) some = inl (λ e. cc)
