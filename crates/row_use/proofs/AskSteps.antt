@@ -17,7 +17,7 @@ use Rattle.row_use.proofs.CellSteps.{level-of-told, same-told, same-row}
 
 there-in : {X : Type 0} (xs ys : List X) (i : ℕ) (x : X) → length xs ≡ length ys → slice_get xs i ≡ Some x → (y : X) × (slice_get ys i ≡ Some y)
 there-in [] ys i x same at = absurd cc
-there-in (z ∷ xs) [] i x same at = absurd cc
+there-in (z ∷ xs) [] i x same at = absurd (omega (arith, same))
 there-in (z ∷ xs) (y ∷ ys) zero x same at = (y, refl)
 there-in (z ∷ xs) (y ∷ ys) (suc i) x same at = there-in xs ys i x (omega (arith, same)) at
 

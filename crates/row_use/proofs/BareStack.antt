@@ -2,6 +2,7 @@
 use Rattle.std.proofs.Common.{◌≡◌, ℕ, ◌+◌, Bool, true, false, List, [], ◌∷◌, ◌++◌, append_assoc, map, Option, Some, None, length, inl, inr, arith, refl, sym, ap, ◌∙◌}
 use Rattle.std.specs.Prelude.{filter, not, ◌==◌, is_some, ◌||◌, if◌then◌else◌, Contains}
 use Rattle.std.specs.List.{list_any}
+use Rattle.std.proofs.lemmas.Bool.{or_parts}
 use Rattle.std.proofs.lemmas.List.Elements.{Contains-append_cases, Contains-append_left, Contains-append_right}
 use Rattle.reference_resolver.specs.type_chunks.Row.{RowOf, with_id}
 use Rattle.reference_resolver.specs.resource_table.Table.{TableOf, rows_of}
@@ -84,24 +85,23 @@ bare-stands stack id row has = from 0 stack has
 
 -- ---- where no candidate is of an overlay
 
-or-false : (a b : Bool) → (a || b) ≡ false → (a ≡ false) × (b ≡ false)
-or-false true b e = absurd cc
-or-false false b e = (refl, e)
+pub true-not-false : true ≡ false → ⊥
+true-not-false e = absurd cc
 
-is-of-overlay : CandOf → Bool
+abbrev pub is-of-overlay : CandOf → Bool
 is-of-overlay c = c.overlay
 
 no-candidates : (index : ℕ) (rows : List RowOf) (others : List CandOf) → list_any is-of-overlay (candidates_at index true rows ++ others) ≡ false → rows ≡ []
 no-candidates index [] others plain = refl
-no-candidates index (row ∷ rows) others plain = absurd cc
+no-candidates index (row ∷ rows) others plain = absurd (true-not-false plain)
 
 no-places : (id from : ℕ) (rows : List RowOf) → with_id id rows ≡ [] → places_with_id id from rows ≡ []
 no-places id from [] none = refl
-no-places id from (row ∷ rows) none = by (row.id == id) none
+no-places id from (row ∷ rows) none = by (row.id == id) (no-places id (from + 1) rows) none
   where
-    by : (b : Bool) → (if b then row ∷ with_id id rows else with_id id rows) ≡ [] → (if b then from ∷ places_with_id id (from + 1) rows else places_with_id id (from + 1) rows) ≡ []
-    by true none = absurd cc
-    by false none = no-places id (from + 1) rows none
+    by : (b : Bool) → (with_id id rows ≡ [] → places_with_id id (from + 1) rows ≡ []) → (if b then row ∷ with_id id rows else with_id id rows) ≡ [] → (if b then from ∷ places_with_id id (from + 1) rows else places_with_id id (from + 1) rows) ≡ []
+    by true others none = absurd cc
+    by false others none = others none
 
 places-none : (table : TableOf) (own : Option ℕ) → rows_with table own ≡ [] → places_by table own ≡ []
 places-none table None none = refl
@@ -109,7 +109,7 @@ places-none table (Some id) none = no-places id 0 (rows_of table) none
 
 any-right : (xs ys : List CandOf) → list_any is-of-overlay (xs ++ ys) ≡ false → list_any is-of-overlay ys ≡ false
 any-right [] ys plain = plain
-any-right (x ∷ xs) ys plain = any-right xs ys (or-false x.overlay (list_any is-of-overlay (xs ++ ys)) plain).1
+any-right (x ∷ xs) ys plain = any-right xs ys (or_parts x.overlay (list_any is-of-overlay (xs ++ ys)) plain).1
 
 record SameFrom (index : ℕ) (layers : List LayerOf) (id : ℕ) : Type 0 where
   pub candidates : candidates_from index (map without_overlay layers) id ≡ candidates_from index layers id
@@ -118,22 +118,18 @@ record SameFrom (index : ℕ) (layers : List LayerOf) (id : ℕ) : Type 0 where
 same-from : (index : ℕ) (layers : List LayerOf) (id : ℕ) → list_any is-of-overlay (candidates_from index layers id) ≡ false → SameFrom index layers id
 unfolding look_of
 same-from index [] id plain = record { candidates = refl; places = refl }
-same-from index (layer ∷ layers) id plain = by layer.table layer.map plain
+same-from index (layer ∷ layers) id plain =
+    by layer.table layer.map (same-from (index + 1) layers id (any-right (candidates_at index (is_some layer.map) (rows_for layer id)) (candidates_from (index + 1) layers id) plain)) plain
   where
-    rest : (first : List CandOf) → list_any is-of-overlay (first ++ candidates_from (index + 1) layers id) ≡ false → SameFrom (index + 1) layers id
-    rest first plain = same-from (index + 1) layers id (any-right first (candidates_from (index + 1) layers id) plain)
-
-    by : (table : TableOf) (m : Option MapOf) → list_any is-of-overlay (candidates_from index (record { table = table; map = m } ∷ layers) id) ≡ false → SameFrom index (record { table = table; map = m } ∷ layers) id
-    by table None plain =
-        let others = rest (candidates_at index false (with_id id (rows_of table))) plain in
-        record {
-          candidates = ap (λ (more : List CandOf). candidates_at index false (with_id id (rows_of table)) ++ more) others.candidates;
-          places = ap (λ (more : List RowPlace). row_places_at index (places_with_id id 0 (rows_of table)) ++ more) others.places;
-        }
-    by table (Some m) plain =
+    by : (table : TableOf) (m : Option MapOf) → SameFrom (index + 1) layers id → list_any is-of-overlay (candidates_from index (record { table = table; map = m } ∷ layers) id) ≡ false
+        → SameFrom index (record { table = table; map = m } ∷ layers) id
+    by table None others plain = record {
+      candidates = ap (λ (more : List CandOf). candidates_at index false (with_id id (rows_of table)) ++ more) others.candidates;
+      places = ap (λ (more : List RowPlace). row_places_at index (places_with_id id 0 (rows_of table)) ++ more) others.places;
+    }
+    by table (Some m) others plain =
         let own = look_of m id in
         let none = no-candidates index (rows_with table own) (candidates_from (index + 1) layers id) plain in
-        let others = rest (candidates_at index true (rows_with table own)) plain in
         record {
           candidates = others.candidates ∙ sym (ap (λ (rows : List RowOf). candidates_at index true rows ++ candidates_from (index + 1) layers id) none);
           places = others.places ∙ sym (ap (λ (places : List ℕ). row_places_at index places ++ row_places_from (index + 1) layers id) (places-none table own none));

@@ -1,19 +1,24 @@
 -- The layers of a stack, one after the other, and the ids of their rows.
-use Rattle.std.proofs.Common.{◌≡◌, ◌≢◌, ◌⊎◌, inl, inr, ℕ, zero, suc, ◌+◌, ◌<◌, ◌==◌, Bool, true, false, List, [], ◌∷◌, ◌++◌, take, drop, map, length, get_or, Option, Some, None, arith, eqb-eq, refl, sym, ap, ◌∙◌, subst}
-use Rattle.std.specs.Prelude.{slice_get, option_and_then, IsTrue, ◌||◌, if◌then◌else◌, cond, Contains}
+use Rattle.std.proofs.Common.{◌≡◌, ◌≢◌, ◌⊎◌, inl, inr, ℕ, zero, suc, ◌+◌, ◌<◌, ◌==◌, Bool, true, false, List, [], ◌∷◌, ◌++◌, take, drop, map, length, get_or, Option, Some, None, arith, refl, sym, ap, ◌∙◌, subst}
+use Rattle.std.specs.Prelude.{slice_get, option_and_then, IsTrue, ◌||◌, if◌then◌else◌, cond, nat_lt, Contains}
 use Rattle.std.specs.Option.{option_map}
 use Rattle.std.specs.List.{list_any}
 use Rattle.std.specs.BTreeSet.{BTreeSet, contains}
-use Rattle.std.specs.Ordering.{nat_cmp}
+use Rattle.std.specs.Ordering.{nat_cmp, is_eq}
+use Rattle.std.specs.declared.cmp.Ordering.TheVariants.{Less, Equal, Greater}
 use Rattle.std.specs.BTreeMap.{is_at}
-use Rattle.std.proofs.lemmas.List.{map-append, drop_more}
+use Rattle.std.proofs.lemmas.Cmp.{nat_cmp_total}
+use Rattle.std.proofs.lemmas.Map.Lookups.{exact_unsigned}
+use Rattle.std.proofs.lemmas.Map.Views.{btree_set_contains_iff, exact_unsigned_eq}
+use Rattle.std.proofs.lemmas.Bool.{le-ltb, eq-eqb}
+use Rattle.std.proofs.lemmas.List.{map-append}
 use Rattle.reference_resolver.specs.res_value.declared.res_id.ResId.{ResId}
 use Rattle.reference_resolver.specs.resource_table.Table.{TableOf}
 use Rattle.reference_resolver.specs.overlay_map.IdMap.{MapOf, look_of, targets_in}
 use Rattle.reference_resolver.specs.overlay_map.Layer.{LayerOf}
 use Rattle.row_use.specs.declared.row_place.RowPlace.{RowPlace}
 use Rattle.row_use.specs.declared.layer_rows.LayerRows.{LayerRows}
-use Rattle.row_use.specs.PlacesSeen.{is_among}
+use Rattle.row_use.specs.PlacesSeen.{is_among, id_of}
 use Rattle.row_use.specs.RowPlaces.{places_by, places_for, row_places_at, row_places_from}
 use Rattle.row_use.specs.Indexed.{layer_of, layers_of}
 
@@ -27,7 +32,8 @@ next-of (layer ∷ stack) zero table map_of is_table is_map =
     let with_table : TableOf → LayerOf = λ t. record { table = t; map = map_of } in
     let with_map : Option MapOf → LayerOf = λ m. record { table = layer.table; map = m } in
     ap (λ (l : LayerOf). l ∷ []) (sym (ap with_table tables ∙ ap with_map is_map))
-next-of (layer ∷ stack) (suc k) table map_of is_table is_map = ap (λ (ls : List LayerOf). layer ∷ ls) (next-of stack k table map_of is_table is_map)
+next-of (layer ∷ stack) (suc k) table map_of is_table is_map =
+    ap (λ (n : ℕ). take n (layer ∷ stack)) (let e : suc k + 1 ≡ suc (k + 1) = omega arith in e) ∙ ap (λ (ls : List LayerOf). layer ∷ ls) (next-of stack k table map_of is_table is_map)
 
 pub next-layer : (stack : List LayerOf) (k : ℕ) (old new : List LayerRows) (layer : LayerRows) → new ≡ old ++ layer ∷ [] → layers_of old ≡ take k stack
     → Some (layer_of layer).table ≡ option_map (λ (l : LayerOf). l.table) (slice_get stack k) → (layer_of layer).map ≡ option_and_then (λ (l : LayerOf). l.map) (slice_get stack k)
@@ -37,9 +43,6 @@ next-layer stack k old new layer pushed before is_table is_map =
     ∙ sym (next-of stack k (layer_of layer).table (layer_of layer).map is_table is_map)
 
 -- ---- ids
-
-same-number : (a b : ℕ) → (a == b) ≡ true → a ≡ b
-same-number a b e = eqb-eq a b e
 
 -- a target that a map knows is one of its targets
 pub target-listed : (targets : List ResId) (m : MapOf) (id own : ℕ) → map (λ (target : ResId). target.0) targets ≡ targets_in m → look_of m id ≡ Some own → IsTrue (is_among targets id)
@@ -70,3 +73,40 @@ in-layer index layer layers id some = by (places_for layer id) some
     by : (places : List ℕ) → row_places_at index places ++ row_places_from (index + 1) layers id ≢ [] → (places ≢ []) ⊎ (row_places_from (index + 1) layers id ≢ [])
     by [] some = inr some
     by (place ∷ places) some = inl (λ e. cc)
+
+-- ---- a set of numbers
+
+pub contained : (numbers : BTreeSet ℕ) (id : ℕ) → IsTrue (contains nat_cmp numbers id) → Contains numbers.keys id
+contained numbers id has = (btree_set_contains_iff nat_cmp_total exact_unsigned numbers id).0 has
+
+pub numbers-of-ids : (numbers : List ℕ) → map (λ (id : ResId). id.0) (map id_of numbers) ≡ numbers
+numbers-of-ids [] = refl
+numbers-of-ids (number ∷ numbers) = ap (λ (ns : List ℕ). number ∷ ns) (numbers-of-ids numbers)
+
+equal-is-at : (a b : ℕ) → (a == b) ≡ true → is_at (nat_cmp a) b ≡ true
+equal-is-at a b e = subst (λ (n : ℕ). is_at (nat_cmp a) n ≡ true) (exact_unsigned_eq a b e) (by (nat_lt a a) (a == a) (le-ltb a a (omega arith)) (eq-eqb a a refl))
+  where
+    by : (less same : Bool) → less ≡ false → same ≡ true → is_eq (cond less Less (cond same Equal Greater)) ≡ true
+    by false true e f = refl
+    by false false e f = f
+    by true same e f = sym e
+
+-- one number more
+pub put-next : (numbers new : BTreeSet ℕ) (first : ResId) (left rest : List ResId) → left ≡ first ∷ rest → ((q : ℕ) → contains nat_cmp new q ≡ cond (is_at (nat_cmp first.0) q) true (contains nat_cmp numbers q))
+    → (id : ℕ) → IsTrue (contains nat_cmp numbers id || is_among left id) → IsTrue (contains nat_cmp new id || is_among rest id)
+put-next numbers new first left rest split updates id has =
+    ap (λ (b : Bool). b || is_among rest id) (updates id)
+    ∙ by (first.0 == id) refl (contains nat_cmp numbers id) (ap (λ (ids : List ResId). contains nat_cmp numbers id || is_among ids id) (sym split) ∙ has)
+  where
+    by : (b : Bool) → (first.0 == id) ≡ b → (old : Bool) → (old || (b || is_among rest id)) ≡ true → (cond (is_at (nat_cmp first.0) id) true old || is_among rest id) ≡ true
+    by true e old has = ap (λ (b : Bool). cond b true old || is_among rest id) (equal-is-at first.0 id e)
+    by false e true has = either (is_at (nat_cmp first.0) id)
+      where
+        either : (b : Bool) → (cond b true true || is_among rest id) ≡ true
+        either true = refl
+        either false = refl
+    by false e false has = later (is_at (nat_cmp first.0) id) has
+      where
+        later : (b : Bool) → is_among rest id ≡ true → (cond b true false || is_among rest id) ≡ true
+        later true has = refl
+        later false has = has

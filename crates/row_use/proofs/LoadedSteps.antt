@@ -113,3 +113,10 @@ test-opened old loads to boxes part yes_half no_half test is_yes is_no =
         h.1,
       )),
     ))
+
+-- where no box is open
+pub none-left : (cells : List (List (Option RowUse))) (loads : List ℕ → Option RowPlace) (to : ℕ) (boxes : List (List SetOf)) → boxes ≡ [] → KeepsReach cells (loaded_more loads to boxes) cells no_more
+none-left cells loads to boxes none = keeps-told cells (loaded_more loads to boxes) no_more (λ row level. (
+  (λ more. subst (IsLoadedInOne loads row) none more.0),
+  (λ nothing. absurd nothing),
+))

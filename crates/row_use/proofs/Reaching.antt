@@ -69,3 +69,9 @@ keeps-reached a A reached = record {
     (λ h. elim h [ inl at ↦ inl at | inr more ↦ inl (reached row level more.0 more.1) ]),
   );
 }
+
+-- the first of what is left
+pub keeps-first : (a b : List (List (Option RowUse))) (A F : RowPlace → ℕ → Type 0) → KeepsReach a A b no_more → KeepsReach a (beside A F) b F
+keeps-first a b A F first =
+    keeps-then a b b (beside A F) (beside no_more F) F (keeps-beside a b A no_more F first)
+    (keeps-told b (beside no_more F) F (λ row level. ((λ h. elim h [ | inl nothing ↦ absurd nothing | inr more ↦ more ]), (λ more. inr more))))

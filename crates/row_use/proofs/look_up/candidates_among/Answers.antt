@@ -12,8 +12,8 @@ loop-candidate-init c = record {
   can = tt;
   ends = tt;
   left =
-      ap (λ (found : List Cand). map cand_of found ++ filter (is_kept c.args.among) c.candidates-candidate-iterator.result) c.new-candidates.ensures.items
-      ∙ ap (filter (is_kept c.args.among)) c.candidates-candidate-iterator.ensures.candidates;
+      ap (λ (found : List Cand). map cand_of found ++ filter (is_kept c.args.among) c.into_iter-candidate-iterator.result) c.new-candidates.ensures.items
+      ∙ ap (filter (is_kept c.args.among)) (c.into_iter-candidate-iterator.ensures.into_iter_gives ∙ c.candidates-candidate-items.ensures.candidates);
 }
 
 pub loop-candidate-preserved-in-Continue-1 : goal.loop-candidate-preserved-in-Continue-1
@@ -30,5 +30,5 @@ loop-candidate-preserved c = record { can = tt; ends = tt; left = leave-one (is_
 
 pub returns : goal.returns
 returns c =
-    sym (append-nil (map cand_of c.loop-candidate.candidates.items)) ∙ ap (λ (left : List CandOf). map cand_of c.loop-candidate.candidates.items ++ filter (is_kept c.args.among) left) (sym c.in-None.ensures.steps)
+    sym (append-nil (map cand_of c.loop-candidate.candidates.items)) ∙ ap (λ (left : List CandOf). map cand_of c.loop-candidate.candidates.items ++ filter (is_kept c.args.among) left) (sym c.in-None.ensures.steps.0)
     ∙ c.loop-candidate.invariant.left ∙ kept-candidates c.args.among c.args.stack.now c.args.id.0
