@@ -147,7 +147,7 @@ begun-all stack cells are = record {
   alongside = ap (map length) are ∙ alongside-all (Some Unmapped) stack;
   asked_for = λ row told at.
       let e = told-all (Some Unmapped) stack row.layer row.place told (ap (λ (cs : List (List (Option RowUse))). told_at cs row) (sym are) ∙ at) in
-      let level = level-of-told cells row (Some told) at ∙ ap level_told e in
+      let level : level_at cells row ≡ 1 = level-of-told cells row (Some told) at ∙ ap level_told e in
       ((λ _. tt), (λ _. omega (arith, level)));
   low = level-all stack (Some Unmapped) cells are (omega arith);
 }
@@ -157,7 +157,7 @@ begun-none stack cells are = record {
   alongside = ap (map length) are ∙ alongside-all None stack;
   asked_for = λ row told at.
       let e = told-all None stack row.layer row.place told (ap (λ (cs : List (List (Option RowUse))). told_at cs row) (sym are) ∙ at) in
-      let level = level-of-told cells row (Some told) at ∙ ap level_told e in
+      let level : level_at cells row ≡ 0 = level-of-told cells row (Some told) at ∙ ap level_told e in
       ((λ h. absurd (omega (arith, level, h))), (λ asked. absurd (let within = asked.1.1 in omega (arith, within))));
   low = level-all stack None cells are (omega arith);
 }

@@ -23,10 +23,10 @@ not-nil : {X : Type 0} (xs : List X) (x : X) → Contains xs x → xs ≢ []
 not-nil xs x has none = let within = has.1 in let long = ap length none in absurd (omega (arith, within, long))
 
 positive : (found : RowUse) (n : ℕ) → n ≡ level_told (Some found) → 1 ≤ n
-positive Unmapped n e = omega (arith, e)
-positive Unused n e = omega (arith, e)
-positive Overlaid n e = omega (arith, e)
-positive Loaded n e = omega (arith, e)
+positive Unmapped n e = let is : n ≡ 1 = e in omega (arith, is)
+positive Unused n e = let is : n ≡ 2 = e in omega (arith, is)
+positive Overlaid n e = let is : n ≡ 3 = e in omega (arith, is)
+positive Loaded n e = let is : n ≡ 4 = e in omega (arith, is)
 
 module _ (stack : List LayerOf) (sets : List SetOf) (ids : List ℕ) (complete : (id : ℕ) → row_places stack id ≢ [] → Contains ids id) where
   of-one : (some : List ℕ) (id : ℕ) (row : RowPlace) (level : ℕ) → Contains some id → id_more stack sets id row level → ids_more stack sets some row level
@@ -68,34 +68,38 @@ module _ (stack : List LayerOf) (sets : List SetOf) (ids : List ℕ) (complete :
     stands-is : (id : ℕ) → StandsFor stack row id → 2 ≤ n
     stands-is id has = (more 2 (omega arith)).1 (of-all id row 2 has (stands has (omega arith)))
 
-    becomes : (use_of : RowUse) → level_told (Some use_of) ≡ n → IsUse stack sets row use_of
-    becomes Unmapped is = λ id has. let le = stands-is id has in absurd (omega (arith, is, le))
+    becomes : (becoming : RowUse) → level_told (Some becoming) ≡ n → IsUse stack sets row becoming
+    becomes Unmapped is = λ id has. let e : 1 ≡ n = is in let le = stands-is id has in omega (arith, e, le)
     becomes Unused is =
-        let one = some-one ids row 2 ((more 2 (omega arith)).0 (omega (arith, is))) in
-        ((one.0, more-stands stack sets one.0 row 2 one.1), (λ load. let le = loaded-is load in omega (arith, is, le)), (λ load. let le = bare-is load in omega (arith, is, le)))
+        let e : 2 ≡ n = is in
+        let one = some-one ids row 2 ((more 2 (omega arith)).0 (omega (arith, e))) in
+        ((one.0, more-stands stack sets one.0 row 2 one.1), (λ load. let le = loaded-is load in omega (arith, e, le)), (λ load. let le = bare-is load in omega (arith, e, le)))
     becomes Overlaid is =
-        let one = some-one ids row 3 ((more 3 (omega arith)).0 (omega (arith, is))) in
-        ((λ load. let le = loaded-is load in omega (arith, is, le)), elim (to-bare one.0 row one.1) [
-          | inl load ↦ absurd (let le = loaded-is load in omega (arith, is, le))
-          | inr load ↦ load
-        ])
-    becomes Loaded is = is-loaded (omega (arith, is))
+        let e : 3 ≡ n = is in
+        let one = some-one ids row 3 ((more 3 (omega arith)).0 (omega (arith, e))) in (
+          (λ load. let le = loaded-is load in omega (arith, e, le)),
+          elim (to-bare one.0 row one.1) [
+            | inl load ↦ absurd (let le = loaded-is load in omega (arith, e, le))
+            | inr load ↦ load
+          ],
+        )
+    becomes Loaded is = let e : 4 ≡ n = is in is-loaded (omega (arith, e))
 
   module _ (asked : Option (List ℕ)) (start end : List (List (Option RowUse))) (begun : IsBegun stack asked start) (keeps : KeepsReach start (ids_more stack sets ids) end no_more) where
     more-of : (row : RowPlace) → 1 ≤ level_at start row → level_at start row ≤ 1 → (level : ℕ) → 2 ≤ level → (level ≤ level_at end row) ↔ ids_more stack sets ids row level
     more-of row one low level two = (
-      (λ le. elim ((keeps.reach row level).0 (inl le)) [ | inl at ↦ absurd (omega (arith, at, low, two)) | inr more ↦ more.1 ]),
-      (λ more. elim ((keeps.reach row level).1 (inr (one, more))) [ | inl le ↦ le | inr nothing ↦ absurd nothing.1 ]),
+      (λ le. elim ((keeps.reach row level).0 (inl le)) [ inl at ↦ absurd (omega (arith, at, low, two)) | inr more ↦ more.1 ]),
+      (λ more. elim ((keeps.reach row level).1 (inr (one, more))) [ inl le ↦ le | inr nothing ↦ absurd nothing.1 ]),
     )
 
     one-at-end : (row : RowPlace) → 1 ≤ level_at start row → 1 ≤ level_at end row
-    one-at-end row one = elim ((keeps.reach row 1).1 (inl one)) [ | inl le ↦ le | inr nothing ↦ absurd nothing.1 ]
+    one-at-end row one = elim ((keeps.reach row 1).1 (inl one)) [ inl le ↦ le | inr nothing ↦ absurd nothing.1 ]
 
     one-at-start : (row : RowPlace) → 1 ≤ level_at end row → 1 ≤ level_at start row
-    one-at-start row one = elim ((keeps.reach row 1).0 (inl one)) [ | inl le ↦ le | inr more ↦ more.0 ]
+    one-at-start row one = elim ((keeps.reach row 1).0 (inl one)) [ inl le ↦ le | inr more ↦ more.0 ]
 
     is-told : (row : RowPlace) (told : Option RowUse) → level_at end row ≡ level_told told → (1 ≤ level_at start row) ↔ IsAsked stack asked row → level_at start row ≤ 1 → IsToldOf stack sets asked row told
-    is-told row None level asked_for low = λ ask. let one = one-at-end row (asked_for.1 ask) in omega (arith, one, level)
+    is-told row None level asked_for low = λ ask. let one = one-at-end row (asked_for.1 ask) in let none : level_at end row ≡ 0 = level in omega (arith, one, none)
     is-told row (Some becoming) level asked_for low =
         let one = one-at-start row (positive becoming (level_at end row) level) in
         (asked_for.0 one, becomes row (level_at end row) (more-of row one low) becoming (sym level))

@@ -74,4 +74,4 @@ keeps-reached a A reached = record {
 pub keeps-first : (a b : List (List (Option RowUse))) (A F : RowPlace → ℕ → Type 0) → KeepsReach a A b no_more → KeepsReach a (beside A F) b F
 keeps-first a b A F first =
     keeps-then a b b (beside A F) (beside no_more F) F (keeps-beside a b A no_more F first)
-    (keeps-told b (beside no_more F) F (λ row level. ((λ h. elim h [ | inl nothing ↦ absurd nothing | inr more ↦ more ]), (λ more. inr more))))
+    (keeps-told b (beside no_more F) F (λ row level. ((λ h. elim h [ inl nothing ↦ absurd nothing | inr more ↦ more ]), (λ more. inr more))))

@@ -1,6 +1,6 @@
 -- Rows that are raised one after the other, and what is raised for an id.
 use Rattle.std.proofs.Common.{◌≡◌, ◌⊎◌, ◌↔◌, inl, inr, ℕ, zero, suc, ◌≤◌, ◌<◌, Bool, true, false, List, [], ◌∷◌, ◌++◌, length, get_or, map, Option, Some, None, arith, refl, sym, ap, ◌∙◌, subst}
-use Rattle.std.specs.Prelude.{slice_get, option_and_then, slice_index_or, Contains, nat_le, ◌&&◌}
+use Rattle.std.specs.Prelude.{slice_get, option_and_then, slice_index_or, Contains, IfSome, nat_le, ◌&&◌}
 use Rattle.std.specs.List.{list_any}
 use Rattle.std.proofs.lemmas.List.Elements.{Contains-push, Contains-push_cases, Contains-append_left, Contains-append_right}
 use Rattle.std.proofs.lemmas.Bool.{le-leb, and_cases, cases_lt}
@@ -15,8 +15,8 @@ use Rattle.row_use.specs.declared.look_up.LookUp.{LookUp}
 use Rattle.row_use.specs.RowPlaces.{StandsFor, row_places}
 use Rattle.row_use.specs.Loading.{IsLoadedBy, loaded_among, loaded_row, without_overlays}
 use Rattle.row_use.specs.Indexed.{IsLookUp, loads_of}
-use Rattle.row_use.specs.Raising.{level_at, is_asked_at, is_open_at, KeepsReach, no_more, one_more, rows_more, bare_more, loaded_more, id_more, stands, bare, loaded}
-use Rattle.row_use.proofs.Reaching.{beside, keeps-then, keeps-told, keeps-both, keeps-reached, asked-before}
+use Rattle.row_use.specs.Raising.{level_at, is_asked_at, is_open_at, KeepsReach, no_more, one_more, rows_more, bare_more, loaded_more, id_more, stands, bare, loaded, ids_more}
+use Rattle.row_use.proofs.Reaching.{beside, keeps-then, keeps-told, keeps-both, keeps-first, keeps-reached, asked-before}
 use Rattle.row_use.proofs.BareStack.{bare-stands, same-look-up, is-of-overlay, true-not-false}
 
 -- ---- some rows
@@ -32,7 +32,7 @@ pub one-row-more : (old cells new : List (List (Option RowUse))) (rows : List Ro
 one-row-more old cells new rows row before step =
     keeps-then old old new (rows_more (rows ++ row ∷ [])) (beside (rows_more rows) (one_more row 2)) no_more
     (keeps-told old (rows_more (rows ++ row ∷ [])) (beside (rows_more rows) (one_more row 2)) (λ other level. (
-      (λ more. elim (Contains-push_cases rows row other more.0) [ | inl has ↦ inl (has, more.1) | inr e ↦ inr (sym e, more.1) ]),
+      (λ more. elim (Contains-push_cases rows row other more.0) [ inl has ↦ inl (has, more.1) | inr e ↦ inr (sym e, more.1) ]),
       (λ more. elim more [
         | inl has ↦ (Contains-append_left rows (row ∷ []) other has.0, has.1)
         | inr one ↦ (subst (Contains (rows ++ row ∷ [])) (sym one.0) (Contains-push rows row), one.1)
@@ -73,7 +73,7 @@ not-asked level e one = true-not-false (sym (le-leb 1 level one) ∙ e)
 not-open : (level : ℕ) → (nat_le 1 level && nat_le level 3) ≡ false → 1 ≤ level → 4 ≤ level
 not-open level e one = elim (and_cases (nat_le 1 level) (nat_le level 3) e) [
   | inl none ↦ absurd (not-asked level none one)
-  | inr more ↦ elim (cases_lt 3 level) [ | inl lt ↦ omega (arith, lt) | inr le ↦ absurd (true-not-false (sym (le-leb level 3 le) ∙ more)) ]
+  | inr more ↦ elim (cases_lt 3 level) [ inl lt ↦ omega (arith, lt) | inr le ↦ absurd (true-not-false (sym (le-leb level 3 le) ∙ more)) ]
 ]
 
 -- no row that stands for an id is asked for
@@ -112,7 +112,7 @@ bare-raised stack sets id look_up old new is step =
     keeps-then old old new (bare_more stack sets id) (loaded_more (loads_of look_up) 3 (sets ∷ [])) no_more
     (keeps-told old _ _ (λ row level. (
       (λ more. (inl (to-load _ _ (λ d. sym (same d)) row sets more.0), more.1)),
-      (λ more. elim more.0 [ | inl load ↦ (to-load _ _ same row sets load, more.1) | inr nothing ↦ absurd nothing ]),
+      (λ more. elim more.0 [ inl load ↦ (to-load _ _ same row sets load, more.1) | inr nothing ↦ absurd nothing ]),
     ))) step
 
 -- all that an id raises
@@ -151,3 +151,26 @@ bare-reached stack sets id look_up old new is plain step =
       | inl four ↦ omega (arith, four, low)
       | inr nothing ↦ absurd nothing.1
     ])
+
+-- ---- ids one after the other
+
+-- what holds of what stands in a `Some`
+pub some-of : {X : Type 0} (o : Option X) (x : X) (P : X → Type 0) → o ≡ Some x → IfSome o P → P x
+some-of o x P is given = subst (λ found. IfSome found P) is given
+
+pub no-id : (stack : List LayerOf) (sets : List SetOf) (cells : List (List (Option RowUse))) (ids : List ℕ) → ids ≡ [] → KeepsReach cells (ids_more stack sets ids) cells no_more
+no-id stack sets cells ids none = keeps-told cells (ids_more stack sets ids) no_more (λ row level. (
+  (λ more. subst (λ (some : List ℕ). ids_more stack sets some row level) none more),
+  (λ nothing. absurd nothing),
+))
+
+pub next-id : (stack : List LayerOf) (sets : List SetOf) (old now new : List (List (Option RowUse))) (all left rest : List ℕ) (id : ℕ) → left ≡ id ∷ rest → KeepsReach old (ids_more stack sets all) now (ids_more stack sets left)
+    → KeepsReach now (id_more stack sets id) new no_more → KeepsReach old (ids_more stack sets all) new (ids_more stack sets rest)
+next-id stack sets old now new all left rest id split before step =
+    keeps-then old now new (ids_more stack sets all) (ids_more stack sets left) (ids_more stack sets rest) before
+    (keeps-then now now new (ids_more stack sets left) (beside (id_more stack sets id) (ids_more stack sets rest)) (ids_more stack sets rest)
+    (keeps-told now (ids_more stack sets left) (beside (id_more stack sets id) (ids_more stack sets rest)) (λ row level. (
+      (λ more. subst (λ (some : List ℕ). ids_more stack sets some row level) split more),
+      (λ more. subst (λ (some : List ℕ). ids_more stack sets some row level) (sym split) more),
+    )))
+    (keeps-first now new (id_more stack sets id) (ids_more stack sets rest) step))

@@ -1,6 +1,7 @@
 //! The rows that members of a box load for an id.
 
 ghost use Rattle.std.specs.Prelude.{◌≡◌, ◌++◌, ◌∷◌, [], ℕ, List, All, IfOk, IfSome};
+ghost use Rattle.config_box.specs.box_answers.NumberSet.{SetOf};
 ghost use Rattle.config_box.specs.box_answers.Members.{IsMember};
 ghost use Rattle.cert_maker.specs.cert_checker.box_trace.OpenBox.{boxes_of};
 ghost use Rattle.config_box.specs.Tests.{test_of};

@@ -46,7 +46,8 @@ impl Uses {
         };
         let mut uses = Uses::all_told(alloc, layers, None)?;
         for id in ids {
-            uses.ask_each(&rows_among(alloc, layers, *id, Among::AllLayers)?);
+            let rows = rows_among(alloc, layers, *id, Among::AllLayers)?;
+            uses.ask_each(&rows);
         }
         Ok(uses)
     }

@@ -13,9 +13,6 @@ use Rattle.row_use.proofs.loaded_rows.raise_in_boxes.Goals as goal
 pub boxes-init : goal.boxes-init
 boxes-init c = record { open_for = c.requires; keeps = keeps-told _ _ _ (λ row level. ((λ more. more), (λ more. more))) }
 
-pub look_at-requires : goal.look_at-requires
-look_at-requires c = (All-pop (IsOpenFor c.args.stack.now c.args.look_up.now) c.boxes.open_boxes c.pop.new.self (Some c.in-Some.part) c.in-Some.ensures.items c.boxes.invariant.open_for).1
-
 pub boxes-preserved : goal.boxes-preserved
 boxes-preserved c =
     let loads = loads_of c.args.look_up.now in

@@ -33,10 +33,10 @@ pub fn row_uses(
     let mut uses = Uses::of(alloc, &layers, asked)?;
     let ids = looked_up_ids(alloc, &layers)?;
     let raised = raise_ids(alloc, stack, &layers, &ids, members, max_nodes, &mut uses)?;
-    if raised.is_none() {
-        return Ok(None);
+    match raised {
+        Some(_) => Ok(Some(uses.layers)),
+        None => Ok(None),
     }
-    Ok(Some(uses.layers))
 }
 
 // Raises the rows that may stand for some ids, and tells how many nodes may still be looked at; none where that takes more.
@@ -108,6 +108,14 @@ fn raise_overlaid<'a>(
     if !uses.has_open(&look_up.rows) {
         return Ok(Some(left));
     }
-    let raised = raise_loaded(alloc, stack, &look_up, members, RowUse::Overlaid, left, uses)?;
+    let raised = raise_loaded(
+        alloc,
+        stack,
+        &look_up,
+        members,
+        RowUse::Overlaid,
+        left,
+        uses,
+    )?;
     Ok(raised)
 }

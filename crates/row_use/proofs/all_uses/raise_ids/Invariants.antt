@@ -1,6 +1,6 @@
 use Rattle.std.proofs.Common.{map, drop}
 use Rattle.row_use.specs.Raising.{cells_of, KeepsReach, ids_more}
-use Rattle.row_use.proofs.row_uses.raise_ids.Given as goal
+use Rattle.row_use.proofs.all_uses.raise_ids.Given as goal
 
 abbrev pub invariant-loop-id : goal.invariant-loop-id
 invariant-loop-id l =
