@@ -1,16 +1,20 @@
 -- What is asked for, before anything is looked up.
-use Rattle.std.proofs.Common.{◌≡◌, ◌≢◌, ◌⊎◌, ◌↔◌, inl, inr, ℕ, zero, suc, ◌≤◌, Bool, true, false, List, [], ◌∷◌, ◌++◌, map, length, replicate, Option, Some, None, arith, refl, sym, ap, ◌∙◌, subst}
-use Rattle.std.specs.Prelude.{slice_get, option_and_then, max, Contains}
-use Rattle.std.specs.Option.{option_map_or}
-use Rattle.std.proofs.lemmas.List.Elements.{Contains-push, Contains-push_cases, Contains-append_left, Contains-append_right}
+use Rattle.std.proofs.Common.{◌≡◌, ◌≢◌, inl, inr, ℕ, zero, suc, ◌+◌, ◌≤◌, ◌<◌, true, List, [], ◌∷◌, ◌++◌, map, length, take, get_or, replicate, Option, Some, None, arith, refl, sym, ap, ◌∙◌, subst}
+use Rattle.std.specs.Prelude.{slice_get, option_and_then, Contains}
+use Rattle.std.proofs.lemmas.List.{take_more, map-append}
+use Rattle.std.proofs.lemmas.List.Elements.{Contains-push, Contains-push_cases, Contains-append_left}
+use Rattle.reference_resolver.specs.res_value.declared.res_id.ResId.{ResId}
 use Rattle.reference_resolver.specs.resource_table.Table.{rows_of}
 use Rattle.reference_resolver.specs.overlay_map.Layer.{LayerOf}
 use Rattle.row_use.specs.declared.row_place.RowPlace.{RowPlace}
 use Rattle.row_use.specs.declared.row_use.RowUse.{RowUse}
 use Rattle.row_use.specs.declared.row_use.RowUse.TheVariants.{Unmapped}
 use Rattle.row_use.specs.RowPlaces.{StandsFor, row_places}
-use Rattle.row_use.specs.RowUses.{told_at, IsAsked}
+use Rattle.row_use.specs.RowUses.{told_at}
 use Rattle.row_use.specs.Raising.{level_told, level_at, raised, all_told, AsksFor, IsBegun}
+use Rattle.row_use.specs.declared.look_up.Among.TheVariants.{AllLayers}
+use Rattle.row_use.specs.Indexed.{stack_among}
+use Rattle.row_use.proofs.BareStack.{all-layers}
 use Rattle.row_use.proofs.CellSteps.{level-of-told, same-told, same-row}
 
 -- ---- lists of one length
@@ -161,3 +165,16 @@ begun-none stack cells are = record {
       ((λ h. absurd (omega (arith, level, h))), (λ asked. absurd (let within = asked.1.1 in omega (arith, within))));
   low = level-all stack None cells are (omega arith);
 }
+
+-- the rows of one id more
+pub asked-more : (stack : List LayerOf) (ids : List ResId) (k : ℕ) (d : ResId) (rows found : List RowPlace) (old new : List (List (Option RowUse))) → k < length ids
+    → IsBegun stack (Some (map (λ (id : ResId). id.0) (take k ids))) old → rows ≡ found → found ≡ row_places (stack_among AllLayers stack) (get_or ids k d).0 → AsksFor rows old new
+    → IsBegun stack (Some (map (λ (id : ResId). id.0) (take (k + 1) ids))) new
+asked-more stack ids k d rows found old new within begun same are asks =
+    subst (λ (some : List ℕ). IsBegun stack (Some some) new) (sym (ap (map (λ (id : ResId). id.0)) (take_more ids k d within) ∙ map-append (λ (id : ResId). id.0) (take k ids) (get_or ids k d ∷ [])))
+    (asked-ids stack (map (λ (id : ResId). id.0) (take k ids)) (get_or ids k d).0 rows old new begun
+    (same ∙ are ∙ ap (λ (layers : List LayerOf). row_places layers (get_or ids k d).0) (all-layers stack)) asks)
+
+-- of the same stack
+pub begun-over : (a b : List LayerOf) (asked : Option (List ℕ)) (cells : List (List (Option RowUse))) → a ≡ b → IsBegun a asked cells → IsBegun b asked cells
+begun-over a b asked cells same begun = subst (λ (layers : List LayerOf). IsBegun layers asked cells) same begun

@@ -1,13 +1,13 @@
 -- Stacks where overlays do nothing.
-use Rattle.std.proofs.Common.{◌≡◌, ℕ, ◌+◌, Bool, true, false, List, [], ◌∷◌, ◌++◌, append_assoc, map, Option, Some, None, length, inl, inr, arith, refl, sym, ap, ◌∙◌}
-use Rattle.std.specs.Prelude.{filter, not, ◌==◌, is_some, ◌||◌, if◌then◌else◌, Contains}
+use Rattle.std.proofs.Common.{◌≡◌, ℕ, ◌+◌, Bool, true, false, List, [], ◌∷◌, ◌++◌, append_assoc, map, Option, Some, None, inl, inr, arith, refl, sym, ap, ◌∙◌}
+use Rattle.std.specs.Prelude.{filter, ◌==◌, is_some, if◌then◌else◌, Contains}
 use Rattle.std.specs.List.{list_any}
 use Rattle.std.proofs.lemmas.Bool.{or_parts}
 use Rattle.std.proofs.lemmas.List.Elements.{Contains-append_cases, Contains-append_left, Contains-append_right}
 use Rattle.reference_resolver.specs.type_chunks.Row.{RowOf, with_id}
 use Rattle.reference_resolver.specs.resource_table.Table.{TableOf, rows_of}
 use Rattle.reference_resolver.specs.overlay_map.IdMap.{MapOf, look_of}
-use Rattle.reference_resolver.specs.overlay_map.Layer.{LayerOf, own_id, rows_for, rows_with}
+use Rattle.reference_resolver.specs.overlay_map.Layer.{LayerOf, rows_for, rows_with}
 use Rattle.reference_resolver.specs.overlay_map.Candidates.{CandOf, candidates_at, candidates_from, candidates_of}
 use Rattle.row_use.specs.declared.row_place.RowPlace.{RowPlace}
 use Rattle.row_use.specs.declared.look_up.Among.{Among}

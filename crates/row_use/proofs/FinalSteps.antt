@@ -1,18 +1,14 @@
 -- What becomes of the rows, where all ids were looked up.
-use Rattle.std.proofs.Common.{◌≡◌, ◌≢◌, ◌⊎◌, ◌↔◌, inl, inr, ℕ, zero, suc, ◌≤◌, ◌<◌, List, [], ◌∷◌, ◌++◌, map, length, Option, Some, None, arith, refl, sym, ap, ◌∙◌, subst}
-use Rattle.std.specs.Prelude.{slice_get, option_and_then, Contains}
-use Rattle.std.proofs.lemmas.List.Elements.{Contains-append_right}
+use Rattle.std.proofs.Common.{◌≡◌, ◌≢◌, ◌⊎◌, ◌↔◌, inl, inr, ℕ, zero, suc, ◌≤◌, List, [], ◌∷◌, length, Option, Some, None, arith, sym, ap, ◌∙◌, subst}
+use Rattle.std.specs.Prelude.{Contains}
 use Rattle.config_box.specs.box_answers.NumberSet.{SetOf}
-use Rattle.config_box.specs.box_answers.Members.{IsMember}
 use Rattle.reference_resolver.specs.overlay_map.Layer.{LayerOf}
-use Rattle.reference_resolver.specs.overlay_map.Candidates.{candidates_of}
-use Rattle.reference_resolver.specs.Takers.{picked_at}
 use Rattle.row_use.specs.declared.row_place.RowPlace.{RowPlace}
 use Rattle.row_use.specs.declared.row_use.RowUse.{RowUse}
 use Rattle.row_use.specs.declared.row_use.RowUse.TheVariants.{Unmapped, Unused, Overlaid, Loaded}
 use Rattle.row_use.specs.RowPlaces.{StandsFor, row_places}
-use Rattle.row_use.specs.Loading.{IsLoadedBy, IsLoaded, loaded_row, without_overlays}
-use Rattle.row_use.specs.RowUses.{told_at, IsAsked, IsUse, IsToldOf, AreUses}
+use Rattle.row_use.specs.Loading.{IsLoaded, without_overlays}
+use Rattle.row_use.specs.RowUses.{IsAsked, IsUse, IsToldOf, AreUses}
 use Rattle.row_use.specs.Raising.{level_told, level_at, KeepsReach, no_more, id_more, stands, bare, loaded, ids_more, IsBegun}
 use Rattle.row_use.proofs.CellSteps.{level-of-told}
 use Rattle.row_use.proofs.AskSteps.{there}

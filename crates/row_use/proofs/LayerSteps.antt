@@ -1,8 +1,7 @@
 -- The layers of a stack, one after the other, and the ids of their rows.
-use Rattle.std.proofs.Common.{◌≡◌, ◌≢◌, ◌⊎◌, inl, inr, ℕ, zero, suc, ◌+◌, ◌<◌, ◌==◌, Bool, true, false, List, [], ◌∷◌, ◌++◌, take, drop, map, length, get_or, Option, Some, None, arith, refl, sym, ap, ◌∙◌, subst}
+use Rattle.std.proofs.Common.{◌≡◌, ◌≢◌, ◌⊎◌, inl, inr, ℕ, zero, suc, ◌+◌, ◌==◌, Bool, true, false, List, [], ◌∷◌, ◌++◌, take, map, Option, Some, None, arith, refl, sym, ap, ◌∙◌, subst}
 use Rattle.std.specs.Prelude.{slice_get, option_and_then, IsTrue, ◌||◌, if◌then◌else◌, cond, nat_lt, Contains}
 use Rattle.std.specs.Option.{option_map}
-use Rattle.std.specs.List.{list_any}
 use Rattle.std.specs.BTreeSet.{BTreeSet, contains}
 use Rattle.std.specs.Ordering.{nat_cmp, is_eq}
 use Rattle.std.specs.declared.cmp.Ordering.TheVariants.{Less, Equal, Greater}
@@ -16,7 +15,6 @@ use Rattle.reference_resolver.specs.res_value.declared.res_id.ResId.{ResId}
 use Rattle.reference_resolver.specs.resource_table.Table.{TableOf}
 use Rattle.reference_resolver.specs.overlay_map.IdMap.{MapOf, look_of, targets_in}
 use Rattle.reference_resolver.specs.overlay_map.Layer.{LayerOf}
-use Rattle.row_use.specs.declared.row_place.RowPlace.{RowPlace}
 use Rattle.row_use.specs.declared.layer_rows.LayerRows.{LayerRows}
 use Rattle.row_use.specs.PlacesSeen.{is_among, id_of}
 use Rattle.row_use.specs.RowPlaces.{places_by, places_for, row_places_at, row_places_from}
@@ -110,3 +108,8 @@ put-next numbers new first left rest split updates id has =
         later : (b : Bool) → is_among rest id ≡ true → (cond b true false || is_among rest id) ≡ true
         later true has = refl
         later false has = has
+
+-- no layer is left
+pub has-all : {A : Type 0} (index : ℕ) (left : List LayerOf) (id : ℕ) → left ≡ [] → A ⊎ (row_places_from index left id ≢ []) → A
+has-all index left id none (inl has) = has
+has-all index left id none (inr some) = absurd (some (ap (λ (layers : List LayerOf). row_places_from index layers id) none))

@@ -1,6 +1,5 @@
 -- Which rows the members of boxes load.
-use Rattle.std.proofs.Common.{◌≡◌, ◌⊎◌, ◌↔◌, inl, inr, ℕ, ◌≤◌, Bool, true, false, List, [], ◌∷◌, ◌++◌, append-nil, Option, Some, None, map, refl, sym, ap, ◌∙◌, subst}
-use Rattle.std.specs.Prelude.{slice_get, option_and_then}
+use Rattle.std.proofs.Common.{◌≡◌, ◌⊎◌, ◌↔◌, inl, inr, ℕ, ◌≤◌, Bool, true, false, List, [], ◌∷◌, ◌++◌, Option, Some, None, refl, sym, ap, ◌∙◌, subst}
 use Rattle.config_box.specs.box_answers.NumberSet.{SetOf}
 use Rattle.config_box.specs.box_answers.Members.{IsMember}
 use Rattle.config_box.specs.Tests.{TestOf, answers}

@@ -1,5 +1,5 @@
 -- How rows are raised, step by step.
-use Rattle.std.proofs.Common.{◌≡◌, ◌⊎◌, ◌↔◌, inl, inr, ℕ, ◌≤◌, List, map, length, Option, refl, sym, ◌∙◌}
+use Rattle.std.proofs.Common.{◌⊎◌, ◌↔◌, inl, inr, ℕ, ◌≤◌, List, Option, refl, ◌∙◌}
 use Rattle.row_use.specs.declared.row_place.RowPlace.{RowPlace}
 use Rattle.row_use.specs.declared.row_use.RowUse.{RowUse}
 use Rattle.row_use.specs.Raising.{level_at, Reaches, KeepsReach, no_more}

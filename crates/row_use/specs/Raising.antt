@@ -1,5 +1,5 @@
 -- How rows are raised to their uses. (Cited by contracts of this crate alone.)
-use Rattle.std.specs.Prelude.{◌≡◌, ◌⊎◌, ◌↔◌, ℕ, zero, suc, ◌≤◌, nat_le, max, ◌&&◌, Bool, true, false, List, [], ◌∷◌, map, length, replicate, Option, Some, None, slice_get, Contains}
+use Rattle.std.specs.Prelude.{◌≡◌, ◌⊎◌, ◌↔◌, ℕ, zero, suc, ◌≤◌, nat_le, max, ◌&&◌, Bool, true, false, List, [], ◌∷◌, map, length, replicate, Option, Some, slice_get, Contains}
 use Rattle.std.specs.Option.{option_map_or}
 use Rattle.config_box.specs.box_answers.NumberSet.{SetOf}
 use Rattle.reference_resolver.specs.resource_table.Table.{rows_of}

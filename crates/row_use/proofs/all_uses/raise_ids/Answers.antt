@@ -1,4 +1,4 @@
-use Rattle.std.proofs.Common.{◌≡◌, ◌∷◌, List, Option, map, drop, ap, ◌∙◌}
+use Rattle.std.proofs.Common.{map, ap}
 use Rattle.std.proofs.lemmas.List.{drop_more, drop_all}
 use Rattle.reference_resolver.specs.res_value.declared.res_id.ResId.{ResId}
 use Rattle.row_use.specs.Raising.{cells_of}

@@ -1,17 +1,14 @@
-use Rattle.std.proofs.Common.{ℕ, List, ◌∷◌, ◌++◌, [], sym, ◌∙◌, ap, subst}
-use Rattle.std.proofs.lemmas.List.{map-append}
-use Rattle.std.proofs.lemmas.List.Elements.{All-same, All-push}
+use Rattle.std.proofs.Common.{ℕ, List, ◌∷◌, ◌++◌, [], sym, ◌∙◌, subst}
 use Rattle.config_box.specs.box_answers.NumberSet.{SetOf}
 use Rattle.config_box.specs.box_answers.Members.{IsMember}
 use Rattle.config_box.specs.Tests.{test_of}
 use Rattle.reference_resolver.specs.Trace.{Trace}
 use Rattle.cert_maker.specs.cert_checker.box_trace.declared.common.CommonTrace.{CommonTrace}
-use Rattle.cert_maker.specs.cert_checker.box_trace.declared.open_box.OpenBox.{OpenBox}
 use Rattle.cert_maker.specs.cert_checker.box_trace.CommonTrace.{IsCommonTrace}
 use Rattle.cert_maker.specs.cert_checker.box_trace.OpenBox.{boxes_of}
 use Rattle.cert_maker.proofs.cert_checker.box_trace.OpenBoxSteps.{rest_of, reached_there, told_in_place}
 use Rattle.row_use.specs.Indexed.{loads_of}
-use Rattle.row_use.specs.OpenBoxes.{trace_of_look_up, IsOpenFor}
+use Rattle.row_use.specs.OpenBoxes.{trace_of_look_up}
 use Rattle.row_use.specs.Raising.{level_of, cells_of, KeepsReach, loaded_more}
 use Rattle.row_use.proofs.LoadedSteps.{test-opened}
 use Rattle.row_use.proofs.OpenSteps.{same-loads, all-opened, boxes-opened}

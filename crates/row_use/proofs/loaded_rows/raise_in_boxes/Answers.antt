@@ -1,11 +1,11 @@
-use Rattle.std.proofs.Common.{List, ◌∷◌, ◌++◌, [], Some, sym, ap, ◌∙◌, subst}
+use Rattle.std.proofs.Common.{List, Some, ap, subst}
 use Rattle.std.proofs.lemmas.List.Elements.{All-pop}
 use Rattle.config_box.specs.box_answers.NumberSet.{SetOf}
 use Rattle.cert_maker.specs.cert_checker.box_trace.OpenBox.{boxes_of}
 use Rattle.cert_maker.proofs.cert_checker.box_trace.OpenBoxSteps.{boxes-push}
 use Rattle.row_use.specs.Indexed.{loads_of}
 use Rattle.row_use.specs.OpenBoxes.{IsOpenFor}
-use Rattle.row_use.specs.Raising.{level_of, cells_of, KeepsReach, loaded_more, no_more}
+use Rattle.row_use.specs.Raising.{level_of, cells_of, KeepsReach, loaded_more}
 use Rattle.row_use.proofs.Reaching.{keeps-then, keeps-told}
 use Rattle.row_use.proofs.LoadedSteps.{none-left}
 use Rattle.row_use.proofs.loaded_rows.raise_in_boxes.Goals as goal

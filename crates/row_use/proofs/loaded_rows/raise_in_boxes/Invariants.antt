@@ -1,4 +1,3 @@
-use Rattle.std.proofs.Common.{List}
 use Rattle.std.specs.List.{All}
 use Rattle.cert_maker.specs.cert_checker.box_trace.OpenBox.{boxes_of}
 use Rattle.row_use.specs.Indexed.{loads_of}

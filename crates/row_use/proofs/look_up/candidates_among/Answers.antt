@@ -1,4 +1,4 @@
-use Rattle.std.proofs.Common.{◌≡◌, ◌++◌, [], List, map, append-nil, sym, ap, ◌∙◌}
+use Rattle.std.proofs.Common.{◌++◌, List, map, append-nil, sym, ap, ◌∙◌}
 use Rattle.std.specs.Prelude.{filter}
 use Rattle.std.proofs.lemmas.List.{map-append}
 use Rattle.reference_resolver.specs.overlay_map.declared.candidate.Cand.{Cand}

@@ -1,4 +1,4 @@
-use Rattle.std.proofs.Common.{rules, ◌≡◌, ◌≢◌, ◌⊎◌, inl, inr, ℕ, [], ◌∷◌, ◌+◌, List, drop, map, sym, ap, ◌∙◌, subst}
+use Rattle.std.proofs.Common.{◌≡◌, ◌≢◌, inl, inr, ℕ, [], ◌∷◌, ◌+◌, List, drop, map, sym, ap, ◌∙◌, subst}
 use Rattle.std.proofs.lemmas.List.{drop_more, drop_all}
 use Rattle.std.proofs.lemmas.Result.{IfOk-weaker}
 use Rattle.std.specs.Prelude.{Contains}
@@ -6,7 +6,7 @@ use Rattle.reference_resolver.specs.res_value.declared.res_id.ResId.{ResId}
 use Rattle.row_use.specs.declared.layer_rows.LayerRows.{LayerRows}
 use Rattle.row_use.specs.RowPlaces.{row_places_from, row_places}
 use Rattle.row_use.specs.Indexed.{layer_of, layers_of}
-use Rattle.row_use.proofs.LayerSteps.{in-layer, contained, numbers-of-ids}
+use Rattle.row_use.proofs.LayerSteps.{in-layer, contained, numbers-of-ids, has-all}
 use Rattle.row_use.proofs.looked_up.looked_up_ids.Goals as goal
 
 pub loop-layer-init : goal.loop-layer-init
@@ -30,8 +30,5 @@ pub returns : goal.returns
 unfolding row_places
 returns c =
     IfOk-weaker c.ids_in.result _ _ (λ ids are id some.
-    let has = elim (c.loop-layer.invariant id some) [
-      | inl has ↦ has
-      | inr more ↦ absurd (more (ap (λ (left : List LayerRows). row_places_from c.loop-layer.layer-index (layers_of left) id) (drop_all c.loop-layer.layer-index c.args.layers.now c.loop-layer-test.false)))
-    ] in
+    let has = has-all c.loop-layer.layer-index _ id (ap layers_of (drop_all c.loop-layer.layer-index c.args.layers.now c.loop-layer-test.false)) (c.loop-layer.invariant id some) in
     subst (λ (ns : List ℕ). Contains ns id) (sym (ap (map (λ (id : ResId). id.0)) are ∙ numbers-of-ids c.loop-layer.numbers.keys)) (contained c.loop-layer.numbers id has)) c.ids_in.ensures

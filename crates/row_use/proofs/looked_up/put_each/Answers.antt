@@ -1,4 +1,3 @@
-use Rattle.std.proofs.Common.{◌∷◌, drop}
 use Rattle.std.proofs.lemmas.List.{drop_more}
 use Rattle.row_use.proofs.LayerSteps.{put-next}
 use Rattle.row_use.proofs.looked_up.put_each.Goals as goal

@@ -1,11 +1,10 @@
-use Rattle.std.proofs.Common.{◌≡◌, ◌∙◌, Option, List, ap, map, subst, sym}
+use Rattle.std.proofs.Common.{◌∙◌, ap, map}
 use Rattle.std.specs.Option.{option_map}
 use Rattle.std.specs.BTreeSet.{contains}
 use Rattle.std.specs.Ordering.{nat_cmp}
 use Rattle.std.proofs.lemmas.Bool.{or_right}
 use Rattle.std.proofs.lemmas.Result.{on_ok_weaker}
 use Rattle.reference_resolver.specs.res_value.declared.res_id.ResId.{ResId}
-use Rattle.reference_resolver.specs.overlay_map.Layer.{LayerOf}
 use Rattle.row_use.specs.RowPlaces.{places_for}
 use Rattle.row_use.specs.PlacesSeen.{is_among}
 use Rattle.row_use.proofs.LayerSteps.{target-of-places}

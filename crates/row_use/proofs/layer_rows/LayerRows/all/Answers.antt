@@ -1,4 +1,4 @@
-use Rattle.std.proofs.Common.{◌≡◌, Option, Some, ap, ◌∙◌, sym}
+use Rattle.std.proofs.Common.{Some, ap, ◌∙◌}
 use Rattle.std.specs.Option.{option_map}
 use Rattle.row_use.proofs.LayerSteps.{next-layer}
 use Rattle.row_use.proofs.layer_rows.LayerRows.all.Goals as goal

@@ -1,8 +1,8 @@
-use Rattle.std.proofs.Common.{◌≡◌, ◌+◌, ◌∷◌, ◌++◌, [], List, take, sym, ap, ◌∙◌, subst}
+use Rattle.std.proofs.Common.{List, sym, subst}
 use Rattle.std.proofs.lemmas.List.{take_more}
 use Rattle.row_use.specs.declared.row_place.RowPlace.{RowPlace}
 use Rattle.row_use.specs.Raising.{AsksFor, cells_of}
-use Rattle.row_use.proofs.AskSteps.{asks-none, asks-more}
+use Rattle.row_use.proofs.AskSteps.{asks-more}
 use Rattle.row_use.proofs.uses.Uses.ask_each.Goals as goal
 
 pub loop-row-preserved : goal.loop-row-preserved

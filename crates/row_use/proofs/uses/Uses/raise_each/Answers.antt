@@ -1,4 +1,4 @@
-use Rattle.std.proofs.Common.{◌≡◌, ◌+◌, ◌∷◌, ◌++◌, [], List, take, sym, subst}
+use Rattle.std.proofs.Common.{List, sym, subst}
 use Rattle.std.proofs.lemmas.List.{take_more}
 use Rattle.row_use.specs.declared.row_place.RowPlace.{RowPlace}
 use Rattle.row_use.specs.Raising.{cells_of, rows_more, no_more, KeepsReach}
