@@ -1,6 +1,6 @@
 //! Stacks.
 
-ghost use Rattle.std.specs.Prelude.{◌≡◌, ◌≤◌, ◌<◌, ◌^◌, [], ◌∷◌, ◌++◌, All, length, map, slice_get, vec_len, vec_capacity, nat_eq, OnOk, IfOk, IfErr};
+ghost use Rattle.std.specs.Prelude.{◌≡◌, ◌≤◌, ◌<◌, ◌^◌, [], ◌∷◌, ◌++◌, All, length, map, slice_get, vec_len, vec_capacity, nat_eq, option_and_then, OnOk, IfOk, IfErr};
 ghost use Rattle.resource_table.specs.Table.{rows_of};
 ghost use Rattle.std.specs.Option.{option_map};
 ghost use Rattle.overlay_map.specs.Layer.{most_layers, base_tables, HasFewRows};
@@ -101,6 +101,13 @@ impl<'a> Stack<'a> {
             Some(layer) => Some(layer.table.table()),
             None => None,
         }
+    }
+
+    /// The id map of the layer of an index, where that is an overlay.
+    pub fn layer_map(&self, index: usize) -> Option<&IdMap>
+        ensures { option_map (λ map. map.now) result ≡ option_and_then (λ layer. layer.map) (slice_get self.now index) }
+    {
+        self.layers.get(index)?.map.as_ref()
     }
 
     /// The tables of the base layers, the lowest first.
