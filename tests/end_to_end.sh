@@ -729,7 +729,7 @@ check "ids and a comma name a file" 5 $none "$work/file.err" query $layers $phon
 cd "$work" || exit 1
 
 # ---- words
-for command in rows dump map ids survey show query explain bag attr make check diff values device; do
+for command in rows dump map ids survey show query explain bag attr make check diff values unused device; do
     check "help of $command" 0 "$here/tests/helps/$command.txt" $none "$command" --help
 done
 check "help" 0 "$here/tests/helps/restool.txt" $none --help

@@ -401,6 +401,7 @@ module _ {T E : Type 0} (is_terminal : Bool) (contents : T → Option (List ℕ)
   shows-behind (asks.Attr it) shown = shown
   shows-behind (asks.Diff it) shown = shown
   shows-behind (asks.Values it) shown = shown
+  shows-behind (asks.Unused it) shown = shown
   shows-behind (asks.Device it) shown = shown
 
   -- Where there is no answer and no write failed, the writer behind is as it was.
