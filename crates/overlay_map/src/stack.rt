@@ -3,7 +3,7 @@
 ghost use Rattle.std.specs.Prelude.{◌≡◌, ◌≤◌, ◌<◌, ◌^◌, [], ◌∷◌, ◌++◌, All, length, map, slice_get, vec_len, vec_capacity, nat_eq, OnOk, IfOk, IfErr};
 ghost use Rattle.resource_table.specs.Table.{rows_of};
 ghost use Rattle.std.specs.Option.{option_map};
-ghost use Rattle.overlay_map.specs.Layer.{most_layers, base_tables, HasFewRows};
+ghost use Rattle.overlay_map.specs.Layer.{by_itself, most_layers, base_tables, HasFewRows};
 ghost use Rattle.overlay_map.specs.Pushing.{RefusesLayer, PushesLayer, base_of, overlay_of};
 ghost use Rattle.overlay_map.specs.SetAside.{set_aside_in_stack};
 ghost use Rattle.overlay_map.specs.Candidates.{candidates_of};
@@ -101,6 +101,20 @@ impl<'a> Stack<'a> {
             Some(layer) => Some(layer.table.table()),
             None => None,
         }
+    }
+
+    /// Each of its layers as a stack by itself, as a base.
+    pub fn apart(self, alloc: Global) -> Result<Vec<Stack<'a>>, AllocError>
+        ensures apart { IfOk result (λ stacks. stacks.items ≡ map by_itself self) }
+        ensures few { IfOk result (λ stacks. length stacks.items ≤ most_layers) }
+    {
+        let mut stacks = Vec::new(alloc);
+        for layer in self.layers {
+            let table = layer.table;
+            let layers = vec![in alloc; Layer { table, map: None }]?;
+            stacks.push(Stack { layers })?;
+        }
+        Ok(stacks)
     }
 
     /// The tables of the base layers, the lowest first.

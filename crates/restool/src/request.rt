@@ -479,7 +479,7 @@ pub(crate) fn answer<'a, I: Inputs, C: Clock, O: Write + Drop, E: Write + Drop>(
         Request::Check(check) => check.answer(alloc, inputs, out, errors),
         Request::Diff(diff) => diff.answer(alloc, inputs, &mut watch, out),
         Request::Values(values) => values.answer(alloc, inputs, &mut watch, out),
-        Request::Unused(unused) => unused.answer(alloc, inputs, &mut watch, out),
+        Request::Unused(unused) => unused.answer(alloc, inputs, out),
         Request::Device(form) => form.answer(alloc, inputs, out),
     }
 }

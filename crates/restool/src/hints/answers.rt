@@ -33,9 +33,6 @@ impl<I: Inputs> Asked<'_, '_, I> {
             Request::Values(values) if said == NODE_LIMIT => {
                 hint_of_limit(alloc, values.max_nodes, reached, "names")
             }
-            Request::Unused(unused) if said == NODE_LIMIT => {
-                hint_of_limit(alloc, unused.max_nodes, reached, "names")
-            }
             Request::Make(_) if said.starts_with(COUNTEREXAMPLE) => format!(in alloc;
                 "--omit leaves out goals without a value on some device, and tells them"
             ).ok(),
