@@ -21,6 +21,10 @@ unfoldable pub look_of : MapOf → ℕ → Option ℕ
 look_of [] target = None
 look_of (pair ∷ pairs) target = if pair.0 == target then Some pair.1 else look_of pairs target
 
+-- its targets
+abbrev pub targets_in : MapOf → List ℕ
+targets_in map_of = map (λ pair. pair.0) map_of
+
 -- a target and the overlay's id, as ids
 abbrev pub IdPair : Type 0
 IdPair = ResId × ResId

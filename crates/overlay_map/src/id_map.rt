@@ -1,11 +1,11 @@
 //! Id maps.
 
-ghost use Rattle.std.specs.Prelude.{◌≡◌};
+ghost use Rattle.std.specs.Prelude.{◌≡◌, map, IfOk};
 ghost use Rattle.std.specs.Option.{option_map};
 ghost use Rattle.contract_words.specs.Exact.{GivesOr};
 ghost use Rattle.indexmap.specs.IndexMap.{hasher_of};
 ghost use Rattle.overlay_map.specs.ContentKeys.{keys_of};
-ghost use Rattle.overlay_map.specs.IdMap.{targets_of, look_of, map_in};
+ghost use Rattle.overlay_map.specs.IdMap.{targets_of, targets_in, look_of, map_in};
 ghost use Rattle.overlay_map.specs.declared.map_fault.MapFault.TheVariants.{OutOfMemory};
 
 use crate::checked_pairs::{keys_of_targets, put_pairs};
@@ -15,7 +15,7 @@ use crate::pairs::pairs_in;
 use indexmap::IndexMap;
 use json_input::read_value;
 use resource_table::ResId;
-use std::alloc::Global;
+use std::alloc::{AllocError, Global};
 use std::marker::Model;
 
 /// Which id of an overlay stands for which id of the stack (AOSP: `IdmapEntries`). Contracts see it as
@@ -47,6 +47,17 @@ impl IdMap {
         let mut pairs = IndexMap::with_capacity_and_hasher(alloc, list.len(), keys)?;
         put_pairs(&list, &mut pairs)?;
         Ok(IdMap { pairs })
+    }
+
+    /// The targets, in the order of its text.
+    pub fn targets(&self, alloc: Global) -> Result<Vec<ResId>, AllocError>
+        ensures { IfOk result (λ targets. map (λ target. target.0) targets.items ≡ targets_in self.now) }
+    {
+        let mut targets = Vec::new(alloc);
+        for target in self.pairs.keys() {
+            targets.push(*target)?;
+        }
+        Ok(targets)
     }
 
     /// The overlay's id that stands for a target.

@@ -1,6 +1,6 @@
 //! Stacks.
 
-ghost use Rattle.std.specs.Prelude.{◌≡◌, ◌≤◌, ◌<◌, ◌^◌, [], ◌∷◌, ◌++◌, All, length, map, slice_get, vec_len, vec_capacity, nat_eq, OnOk, IfOk, IfErr};
+ghost use Rattle.std.specs.Prelude.{◌≡◌, ◌≤◌, ◌<◌, ◌^◌, [], ◌∷◌, ◌++◌, All, length, map, slice_get, vec_len, vec_capacity, nat_eq, option_and_then, OnOk, IfOk, IfErr};
 ghost use Rattle.resource_table.specs.Table.{rows_of};
 ghost use Rattle.std.specs.Option.{option_map};
 ghost use Rattle.overlay_map.specs.Layer.{by_itself, most_layers, base_tables, HasFewRows};
@@ -103,18 +103,11 @@ impl<'a> Stack<'a> {
         }
     }
 
-    /// Each of its layers as a stack by itself, as a base.
-    pub fn apart(self, alloc: Global) -> Result<Vec<Stack<'a>>, AllocError>
-        ensures apart { IfOk result (λ stacks. stacks.items ≡ map by_itself self) }
-        ensures few { IfOk result (λ stacks. length stacks.items ≤ most_layers) }
+    /// The id map of the layer of an index, where that is an overlay.
+    pub fn layer_map(&self, index: usize) -> Option<&IdMap>
+        ensures { option_map (λ map. map.now) result ≡ option_and_then (λ layer. layer.map) (slice_get self.now index) }
     {
-        let mut stacks = Vec::new(alloc);
-        for layer in self.layers {
-            let table = layer.table;
-            let layers = vec![in alloc; Layer { table, map: None }]?;
-            stacks.push(Stack { layers })?;
-        }
-        Ok(stacks)
+        self.layers.get(index)?.map.as_ref()
     }
 
     /// The tables of the base layers, the lowest first.
@@ -140,6 +133,20 @@ impl<'a> Stack<'a> {
             }
         }
         None
+    }
+
+    /// Each of its layers as a stack by itself, as a base.
+    pub fn apart(self, alloc: Global) -> Result<Vec<Stack<'a>>, AllocError>
+        ensures apart { IfOk result (λ stacks. stacks.items ≡ map by_itself self.entry) }
+        ensures few { IfOk result (λ stacks. length stacks.items ≤ most_layers) }
+    {
+        let mut stacks = Vec::new(alloc);
+        for layer in self.layers {
+            let table = layer.table;
+            let layers = vec![in alloc; Layer { table, map: None }]?;
+            stacks.push(Stack { layers })?;
+        }
+        Ok(stacks)
     }
 
     /// How many rows of all layers are set aside: their locale has a script or a variant, and by

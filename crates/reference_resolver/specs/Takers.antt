@@ -49,3 +49,13 @@ pub record IsTheSelected (candidates : List CandOf) (d : List ℕ) (chosen : Opt
   pub is : IsSelected candidates d chosen
   pub only : (other : Option CandOf) → IsSelected candidates d other → other ≡ chosen
   pub steps : AreTakers candidates d None 0 (places_taken 0 (scan_candidates step_of None candidates d))
+
+-- the last of some places, or this one where there are none
+abbrev pub last_place : Option ℕ → List ℕ → Option ℕ
+last_place found [] = found
+last_place found (place ∷ places) = last_place (Some place) places
+
+-- The place, among candidates, of the one that a device selects: none where none matches. Two candidates that are equal stand at
+-- two places, and one of them is selected.
+unfoldable pub picked_at : List CandOf → List ℕ → Option ℕ
+picked_at candidates d = last_place None (places_taken 0 (scan_candidates step_of None candidates d))
