@@ -142,9 +142,7 @@ impl<'a> Stack<'a> {
     {
         let mut stacks = Vec::new(alloc);
         for layer in self.layers {
-            let table = layer.table;
-            let layers = vec![in alloc; Layer { table, map: None }]?;
-            stacks.push(Stack { layers })?;
+            stacks.push(by_itself(alloc, layer)?)?;
         }
         Ok(stacks)
     }
@@ -171,6 +169,16 @@ impl<'a> Stack<'a> {
     {
         Cands::new(&self.layers, id)
     }
+}
+
+// The table of a layer as a base, the only layer of a stack.
+fn by_itself<'a>(alloc: Global, layer: Layer<'a>) -> Result<Stack<'a>, AllocError>
+    requires { HasFewRows layer }
+    ensures { IfOk result (λ stack. stack ≡ by_itself layer.entry) }
+{
+    let table = layer.table;
+    let layers = vec![in alloc; Layer { table, map: None }]?;
+    Ok(Stack { layers })
 }
 
 // Makes room for one layer more, where one may stand, and notes where the rows of its table stand. Refused where
