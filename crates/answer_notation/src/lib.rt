@@ -28,7 +28,6 @@ pub use bag_rows::bag_text;
 pub use dump::dump_text;
 pub use ends::ends_text;
 pub use explanation::explain_text;
-pub use lone_table::lone_table;
 pub use naming::Naming;
 pub use rows::rows_text;
 pub use table_row::write_row_end;

@@ -19,7 +19,7 @@ pub(crate) fn stack_of(alloc: Global, table: Table<'_>) -> Result<Stack<'_>, All
 }
 
 /// The table of such a stack.
-pub fn lone_table<'s, 'a>(stack: &'s Stack<'a>) -> &'s Table<'a>
+pub(crate) fn lone_table<'s, 'a>(stack: &'s Stack<'a>) -> &'s Table<'a>
     requires { length stack.now ≡ 1 }
     ensures { option_map (λ layer. layer.table) (slice_get stack.now 0) ≡ Some result.now }
 {

@@ -30,7 +30,7 @@ mod tree;
 mod trees;
 
 pub use cert_checker::{
-    Cand, Cert, CommonTrace, ConfigBox, Device, Goal, OpenBox, OpenBoxes, OutOfMemory, Parting, Progress, ResId, Rule,
+    Cert, CommonTrace, ConfigBox, Goal, OpenBox, OutOfMemory, Parting, Progress, ResId, Rule,
     Shown, Split, Stack, Test, Unwatched, Verdict,
 };
 pub use laws::{least_tree, trace_equality};

@@ -1,17 +1,19 @@
 //! The rows that no device loads, written and counted.
 
-ghost use Rattle.std.specs.Prelude.{◌≡◌, ◌<◌, ◌≤◌, ◌*◌, ◌^◌, ◌++◌, fold, length, zip, OnOk, IfOk};
-ghost use Rattle.std.specs.List.{flat_map};
+ghost use Rattle.std.specs.Prelude.{◌≡◌, ℕ, ◌+◌, ◌<◌, ◌*◌, ◌^◌, ◌++◌, fold, length, map, zip, OnOk, IfOk};
+ghost use Rattle.std.specs.List.{enumerate_from, flat_map};
 ghost use Rattle.contract_words.specs.Writes.{Writes};
 ghost use Rattle.answer_notation.specs.TableNotation.{alone};
 ghost use Rattle.answer_text.specs.resource_table.Table.{rows_of};
 ghost use Rattle.answer_text.specs.type_chunks.Row.{row_of};
-ghost use Rattle.notation.specs.res_value.Cell.{cell_of};
-ghost use Rattle.diff_command.specs.UnusedOutput.{entry_size, row_line, totals_line, use_line, with_row};
+ghost use Rattle.res_value.specs.Cell.{cell_of};
+ghost use Rattle.res_value.specs.MapRows.{map_rows_of};
+ghost use Rattle.answer_text.specs.overlay_map.Layer.{LayerOf, by_itself};
+ghost use Rattle.diff_command.specs.UnusedOutput.{entry_size, layer_lines, row_line, totals_line, totals_of, use_line, used_rows, with_row};
 ghost use Rattle.diff_command.specs.UnusedTotals.{IsWithin};
 
-use answer_notation::{Naming, lone_table, write_row_end};
-use answer_text::{Cell, Row, Table, write_layer};
+use answer_notation::{Naming, write_row_end};
+use answer_text::{Cell, MapRows, Row, Table, write_layer};
 use row_use::RowUse;
 use stack_diff::Stack;
 use std::alloc::{AllocError, Global};
@@ -47,7 +49,8 @@ impl Totals {
     #[tactic(auto, unfolding(crate::specs::UnusedOutput::with_row))]
     fn add(&mut self, row: &Row<'_>, row_use: Option<RowUse>)
         requires { IsWithin (2 ^ 80) self.old }
-        ensures { self.new ≡ with_row self.old (row_of row.now, row_use) }
+        ensures counted { self.new ≡ with_row self.old (row_of row.now, row_use) }
+        ensures within { (most : ℕ) → IsWithin most self.old → IsWithin (most + 1) self.new }
     {
         match row_use {
             Some(RowUse::Loaded) => self.loaded += 1,
@@ -67,9 +70,18 @@ impl Totals {
         requires { IsWithin (2 ^ 80) self }
         ensures { Writes W.contents out.old out.new result (totals_line self) }
     {
-        let rows = self.loaded + self.unused + self.overlaid + self.unmapped;
-        write!(out, "rows {rows} unused {} overlaid {}", self.unused, self.overlaid)?;
-        writeln!(out, " unmapped {} bytes {}", self.unmapped, self.bytes)
+        let Totals {
+            loaded,
+            overlaid,
+            unused,
+            unmapped,
+            bytes,
+        } = self;
+        let rows = loaded + unused + overlaid + unmapped;
+        writeln!(
+            out,
+            "rows {rows} unused {unused} overlaid {overlaid} unmapped {unmapped} bytes {bytes}"
+        )
     }
 }
 
@@ -80,8 +92,15 @@ fn entry_size(cell: Cell<'_>) -> u128
 {
     match cell {
         Cell::Plain(_) => 16,
-        Cell::Bag { rows, .. } => 16 + 12 * rows.len() as u128,
+        Cell::Bag { rows, .. } => bag_size(rows),
     }
+}
+
+fn bag_size(rows: MapRows<'_>) -> u128
+    ensures value { result ≡ 16 + 12 * length (map_rows_of rows.entry) }
+    ensures few { result < 2 ^ 36 }
+{
+    16 + 12 * rows.len() as u128
 }
 
 /// Pushes the lines of the rows of a stack that are told, layer by layer, and counts all rows that are asked for.
@@ -91,14 +110,17 @@ pub(crate) fn push_layers(
     uses: &[Vec<Option<RowUse>>],
     text: &mut Vec<u8>,
 ) -> Result<Totals, AllocError>
-    ensures text { OnOk result (text.new.items ≡ text.old.items ++ flat_map layer_lines (enumerate_from 0 (zip stack (map (λ of_layer. of_layer.items) uses.now)))) }
-    ensures totals { IfOk result (λ totals. totals ≡ totals_of stack (map (λ of_layer. of_layer.items) uses.now)) }
+    ensures text { OnOk result (text.new.items ≡ text.old.items ++ flat_map layer_lines (enumerate_from 0 (zip stack.entry (map (λ of_layer. of_layer.items) uses.now)))) }
+    ensures totals { IfOk result (λ totals. totals ≡ totals_of stack.entry (map (λ of_layer. of_layer.items) uses.now)) }
     ensures within { IfOk result (IsWithin (2 ^ 80)) }
 {
     let mut totals = Totals::new();
     let mut place = 0;
     let layers = stack.apart(alloc)?;
-    for (layer, of_layer) in layers.iter().zip(uses) {
+    for of_layer in uses {
+        let Some(layer) = layers.get(place) else {
+            return Ok(totals);
+        };
         push_layer(alloc, place, layer, of_layer, &mut totals, text)?;
         place += 1;
     }
@@ -114,15 +136,17 @@ fn push_layer(
     totals: &mut Totals,
     text: &mut Vec<u8>,
 ) -> Result<(), AllocError>
-    requires lone { length stack.now ≡ 1 }
     requires few { place < 64 }
     requires within { IsWithin (place * 2 ^ 64) totals.old }
     ensures text { (layer : LayerOf) → stack.now ≡ by_itself layer → OnOk result (text.new.items ≡ text.old.items ++ layer_lines (place, (layer, uses.now))) }
     ensures counted { (layer : LayerOf) → stack.now ≡ by_itself layer → OnOk result (totals.new ≡ fold with_row totals.old (used_rows (layer, uses.now))) }
     ensures within { OnOk result (IsWithin ((place + 1) * 2 ^ 64) totals.new) }
 {
+    let Some(table) = stack.layer_table(0) else {
+        return Ok(());
+    };
     let naming = Naming::of(alloc, stack, &[])?;
-    match write_rows(&naming, place, lone_table(stack), uses, totals, text) {
+    match write_rows(&naming, place, table, uses, totals, text) {
         Ok(()) => Ok(()),
         // To a `Vec` only a want of memory is a fault.
         Err(_) => Err(AllocError),
@@ -130,6 +154,7 @@ fn push_layer(
 }
 
 // Writes the lines of the rows of a table that are told, and counts all rows that are asked for.
+#[tactic(auto, using(contract_words::proofs::TextSteps::puts))]
 fn write_rows<W: Write + Drop>(
     naming: &Naming<'_, '_, '_>,
     place: usize,
@@ -144,7 +169,11 @@ fn write_rows<W: Write + Drop>(
     ensures counted { OnOk result (totals.new ≡ fold with_row totals.old (zip (rows_of table.now) uses.now)) }
     ensures within { OnOk result (IsWithin ((place + 1) * 2 ^ 64) totals.new) }
 {
-    for (row, row_use) in table.all_rows().zip(uses) {
+    let mut rows = table.all_rows();
+    for row_use in uses {
+        let Some(row) = rows.next() else {
+            return Ok(());
+        };
         write_use(naming, place, &row, *row_use, out)?;
         totals.add(&row, *row_use);
     }
