@@ -1,6 +1,7 @@
 pub mod Division
 pub mod Live
 pub mod Walk
+pub mod TraceAmong
 pub mod Parting
 pub mod CommonTrace
 pub mod CommonStep

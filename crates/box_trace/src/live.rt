@@ -30,7 +30,7 @@ impl<'a> Model for Live<'a> {
 impl<'a> Live<'a> {
     ghost use Rattle.std.specs.Prelude.{◌≡◌, IfOk, map};
     ghost use Rattle.config_box.specs.box_answers.Members.{IsMember};
-    ghost use Rattle.bags_themes.specs.overlay_map.Candidates.{candidates_of};
+    ghost use Rattle.bags_themes.specs.overlay_map.Candidates.{cand_of, candidates_of};
     ghost use Rattle.box_trace.specs.Live.{live_of, candidates_in, MarkedMatchAll, AreLive};
 
     /// Those of an id. Each candidate is asked of all members.
@@ -46,6 +46,23 @@ impl<'a> Live<'a> {
         for candidate in stack.candidates(id) {
             if let Some(marked) = judged(&candidate, members) {
                 list.push((candidate, marked))?;
+            }
+        }
+        Ok(Live { list })
+    }
+
+    /// Those of some candidates.
+    pub fn among(
+        alloc: Global,
+        candidates: &[Cand<'a>],
+        members: &ConfigBox,
+    ) -> Result<Live<'a>, OutOfMemory>
+        ensures { IfOk result (AreLive (IsMember members.now) (map cand_of candidates.now)) }
+    {
+        let mut list = Vec::new(alloc);
+        for candidate in candidates {
+            if let Some(marked) = judged(candidate, members) {
+                list.push((*candidate, marked))?;
             }
         }
         Ok(Live { list })

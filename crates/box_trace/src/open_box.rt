@@ -5,7 +5,7 @@ ghost use Rattle.std.specs.Prelude.{ℕ, List};
 use crate::common::CommonTrace;
 use crate::parting::Parting;
 use crate::walk::Walk;
-use bags_themes::{Course, CourseStep, ResId, Stack};
+use bags_themes::{Cand, Course, CourseStep, ResId, Stack};
 use config_box::{ConfigBox, Coord, OutOfMemory, Values};
 use std::alloc::Global;
 
@@ -23,8 +23,9 @@ ghost use Rattle.config_box.specs.box_answers.Members.{IsMember};
 ghost use Rattle.box_trace.specs.Live.{MarkedMatchAll};
 
 impl<'a, 's> OpenBox<'a, 's> {
-    ghost use Rattle.std.specs.Prelude.{◌≡◌, ℕ, List, IfOk};
+    ghost use Rattle.std.specs.Prelude.{◌≡◌, ℕ, List, IfOk, map};
     ghost use Rattle.config_box.specs.box_answers.Members.{IsMember};
+    ghost use Rattle.bags_themes.specs.overlay_map.Candidates.{cand_of};
     ghost use Rattle.bags_themes.specs.overlay_map.Layer.{LayerOf};
     ghost use Rattle.bags_themes.specs.reference_resolver.Ends.{references_followed};
     ghost use Rattle.bags_themes.specs.reference_resolver.Trace.{Trace, trace_of};
@@ -34,6 +35,7 @@ impl<'a, 's> OpenBox<'a, 's> {
     ghost use Rattle.box_trace.specs.OpenBox.{IsReached};
     ghost use Rattle.box_trace.specs.CommonTrace.{IsCommonTrace};
     ghost use Rattle.box_trace.specs.Parting.{IsToldApart};
+    ghost use Rattle.box_trace.specs.TraceAmong.{trace_among};
 
     /// A whole box, where nothing of an id is asked yet, and at most twenty references are followed.
     pub fn whole(
@@ -74,6 +76,23 @@ impl<'a, 's> OpenBox<'a, 's> {
         ensures reached { IfOk result (IsReached stack.now (content_trace stack.now id.0)) }
     {
         OpenBox::from_step(alloc, stack, Course::of_content(id), members)
+    }
+
+    /// The same of what some candidates do, and nothing behind them: so no stack is asked.
+    pub fn whole_among(
+        alloc: Global,
+        candidates: &[Cand<'a>],
+        members: ConfigBox,
+    ) -> Result<OpenBox<'a, 's>, OutOfMemory>
+        ensures members { IfOk result (λ part. part.members ≡ members) }
+        ensures reached { IfOk result (λ part. (stack : List LayerOf) → IsReached stack (trace_among (map cand_of candidates.now)) part) }
+    {
+        let walk = Walk::among(alloc, candidates, &members)?;
+        Ok(OpenBox {
+            members,
+            walk,
+            is_stale: false,
+        })
     }
 
     // The same, where this is what comes first.

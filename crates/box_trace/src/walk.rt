@@ -9,7 +9,7 @@ use crate::parting::{Parting, parting_at};
 use crate::step::best_after;
 use crate::waiting::{Part, Waiting, open_conditions, still_open};
 use crate::weight::weightiest;
-use bags_themes::{Cand, Course, CourseStep, ResId, Stack};
+use bags_themes::{Cand, Course, CourseStep, End, ResId, Stack};
 use config_box::{ConfigBox, Coord, OutOfMemory};
 use std::alloc::Global;
 use std::rc::Rc;
@@ -35,6 +35,7 @@ impl<'a, 's> Walk<'a, 's> {
     ghost use Rattle.std.specs.Prelude.{◌≡◌, ℕ, List, IfOk, IfSome, IfNone, [], length, map};
     ghost use Rattle.config_box.specs.box_answers.NumberSet.{SetOf};
     ghost use Rattle.config_box.specs.box_answers.Members.{IsMember};
+    ghost use Rattle.bags_themes.specs.overlay_map.Candidates.{cand_of};
     ghost use Rattle.bags_themes.specs.overlay_map.Layer.{LayerOf};
     ghost use Rattle.bags_themes.specs.reference_resolver.Trace.{Trace};
     ghost use Rattle.bags_themes.specs.Course.{trace_from};
@@ -43,6 +44,7 @@ impl<'a, 's> Walk<'a, 's> {
     ghost use Rattle.box_trace.specs.Walk.{live_ahead, HaveWalked, TellsMatches};
     ghost use Rattle.box_trace.specs.Parting.{IsToldApart, IsParting};
     ghost use Rattle.box_trace.specs.CommonTrace.{IsCommonTrace};
+    ghost use Rattle.box_trace.specs.TraceAmong.{trace_among};
 
     /// Before what comes first.
     pub(crate) fn from_step(
@@ -86,6 +88,27 @@ impl<'a, 's> Walk<'a, 's> {
         Ok(Walk {
             id,
             course,
+            live: Rc::new(alloc, live)?,
+            passed: 0,
+            best: None,
+            known: Known::Nothing,
+        })
+    }
+
+    /// Before the first of some candidates, behind which nothing comes.
+    pub(crate) fn among(
+        alloc: Global,
+        candidates: &[Cand<'a>],
+        members: &ConfigBox,
+    ) -> Result<Walk<'a, 's>, OutOfMemory>
+        ensures walked { IfOk result (λ walk. (stack : List LayerOf) → HaveWalked stack (IsMember members.now) (trace_among (map cand_of candidates.now)) walk) }
+        ensures marked { IfOk result (λ walk. MarkedMatchAll (IsMember members.now) walk.live.value) }
+    {
+        let live = Live::among(alloc, candidates, members)?;
+        let id = ResId(0);
+        Ok(Walk {
+            id,
+            course: Course::Ended(End::Absent { id }),
             live: Rc::new(alloc, live)?,
             passed: 0,
             best: None,

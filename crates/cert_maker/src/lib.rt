@@ -30,8 +30,8 @@ mod tree;
 mod trees;
 
 pub use cert_checker::{
-    Cert, CommonTrace, ConfigBox, Goal, OpenBox, OutOfMemory, Parting, Progress, ResId, Rule,
-    Shown, Split, Stack, Test, Unwatched, Verdict,
+    Cand, Cert, CommonTrace, ConfigBox, Device, Goal, OpenBox, OpenBoxes, OutOfMemory, Parting,
+    Progress, ResId, Rule, Shown, Split, Stack, Test, Unwatched, Verdict,
 };
 pub use laws::{least_tree, trace_equality};
 pub use made::Made;

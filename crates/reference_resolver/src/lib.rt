@@ -30,5 +30,5 @@ pub use overlay_map::{
     PackageRows, Pool, PoolFault, ResId, Row, Stack, StackFault, Table, TableFault, Value, kind,
 };
 pub use references::{REFERENCES_FOLLOWED, resolve, resolve_within};
-pub use selection::{Pick, select};
+pub use selection::{Pick, picked_at, select};
 pub use step::Step;

@@ -1,11 +1,12 @@
 //! Which candidate is selected for an id.
 
-ghost use Rattle.std.specs.Prelude.{◌≡◌};
+ghost use Rattle.std.specs.Prelude.{◌≡◌, ◌+◌, ◌∷◌, List, map};
 ghost use Rattle.std.specs.Option.{option_map};
 ghost use Rattle.config_precedence.specs.config_record.DeviceSeen.{device_numbers};
 ghost use Rattle.overlay_map.specs.Candidates.{cand_of, candidates_of};
 ghost use Rattle.reference_resolver.specs.Selection.{selected};
-ghost use Rattle.reference_resolver.specs.Takers.{IsTheSelected};
+ghost use Rattle.reference_resolver.specs.declared.step.Step.{Step};
+ghost use Rattle.reference_resolver.specs.Takers.{IsTheSelected, picked_at, last_place, places_taken};
 ghost use Rattle.reference_resolver.specs.OrderLaw.{OrderDoesNotMatter};
 
 use crate::step::Step;
@@ -34,4 +35,29 @@ pub fn select<'a>(stack: &Stack<'a>, id: ResId, device: &Device) -> Option<Pick<
         best = Step::of(&best, &candidate, device).best_after(best, candidate);
     }
     best
+}
+
+/// The place, among candidates, of the one that a device selects.
+#[tactic(auto, unfolding(crate::specs::Takers::picked_at))]
+pub fn picked_at(candidates: &[Cand<'_>], device: &Device) -> Option<usize>
+    ensures { result ≡ picked_at (map cand_of candidates.now) (device_numbers device.now) }
+{
+    let mut best = None;
+    let mut picked = None;
+    for (place, candidate) in candidates.iter().enumerate() {
+        let step = Step::of(&best, candidate, device);
+        picked = picked_after(step, picked, place);
+        best = step.best_after(best, *candidate);
+    }
+    picked
+}
+
+// The place of the best after the candidate at a place did this, where the best before it stood at `picked`.
+fn picked_after(step: Step, picked: Option<usize>, place: usize) -> Option<usize>
+    ensures { (steps : List Step) → last_place result (places_taken (place + 1) steps) ≡ last_place picked (places_taken place (step ∷ steps)) }
+{
+    match step {
+        Step::NoMatch | Step::KeptOut => picked,
+        Step::TookOver => Some(place),
+    }
 }

@@ -1,1 +1,10 @@
-pub use Rattle.cert_maker.proofs.cert_checker.config_record
+pub mod Reaching
+pub mod LoadedSteps
+pub mod OpenSteps
+pub mod CellSteps
+pub mod AskSteps
+pub mod LayerSteps
+pub mod BareStack
+pub mod RowSteps
+pub mod FinalSteps
+pub use Rattle.cert_maker.proofs as cert_maker

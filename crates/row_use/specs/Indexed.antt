@@ -1,28 +1,15 @@
--- The rows of a stack, indexed by their ids. (Cited by contracts of this crate alone.)
-use Rattle.std.specs.Prelude.{◌≡◌, ℕ, List, [], map, Option}
-use Rattle.std.specs.BTreeMap.{BTreeMap, get}
-use Rattle.std.specs.Option.{option_map, option_map_or}
-use Rattle.std.specs.Ordering.{nat_cmp}
-use Rattle.std.specs.Vec.{Vec}
-use Rattle.reference_resolver.specs.type_chunks.Row.{RowOf}
+-- The layers of a stack, indexed by the ids of their rows. (Cited by contracts of this crate alone.)
+use Rattle.std.specs.Prelude.{◌≡◌, ℕ, Bool, true, not, List, map, Option}
+use Rattle.std.specs.Option.{option_map}
 use Rattle.reference_resolver.specs.overlay_map.Layer.{LayerOf}
-use Rattle.reference_resolver.specs.overlay_map.Candidates.{candidates_of, cand_of}
-use Rattle.row_use.specs.declared.places.Places.{Places}
+use Rattle.reference_resolver.specs.overlay_map.Candidates.{CandOf, candidates_of, cand_of}
 use Rattle.row_use.specs.declared.layer_rows.LayerRows.{LayerRows}
 use Rattle.row_use.specs.declared.look_up.Among.{Among}
 use Rattle.row_use.specs.declared.look_up.Among.TheVariants.{AllLayers, BasesAlone}
 use Rattle.row_use.specs.declared.look_up.LookUp.{LookUp}
 use Rattle.row_use.specs.declared.row_place.RowPlace.{RowPlace}
-use Rattle.row_use.specs.RowPlaces.{places_with_id, row_places}
-use Rattle.row_use.specs.Loading.{loaded_among, without_overlay, without_overlays}
-
--- the places that stand for an id
-abbrev pub places_at : Places → ℕ → List ℕ
-places_at places id = option_map_or (λ found. found.items) (get nat_cmp places.by_id id) []
-
--- of each id they are those of its rows
-abbrev pub ArePlacesOf : List RowOf → Places → Type 0
-ArePlacesOf rows places = (id : ℕ) → places_at places id ≡ places_with_id id 0 rows
+use Rattle.row_use.specs.RowPlaces.{row_places}
+use Rattle.row_use.specs.Loading.{loaded_among, without_overlay}
 
 abbrev pub layer_of : LayerRows → LayerOf
 layer_of layer = record { table = layer.table.now; map = option_map (λ map. map.now) layer.map }
@@ -36,8 +23,12 @@ layer_among AllLayers layer = layer
 layer_among BasesAlone layer = without_overlay layer
 
 abbrev pub stack_among : Among → List LayerOf → List LayerOf
-stack_among AllLayers stack = stack
-stack_among BasesAlone stack = without_overlays stack
+stack_among among stack = map (layer_among among) stack
+
+-- whether a candidate is one there
+abbrev pub is_kept : Among → CandOf → Bool
+is_kept AllLayers candidate = true
+is_kept BasesAlone candidate = not candidate.overlay
 
 -- the candidates of an id, and where their rows stand
 pub record IsLookUp (stack : List LayerOf) (id : ℕ) (look_up : LookUp) : Type 0 where

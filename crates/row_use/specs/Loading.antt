@@ -1,7 +1,7 @@
 -- Which rows do the devices of a box load?
 use Rattle.std.specs.Prelude.{◌≡◌, ℕ, List, [], map, Option, Some, None, option_and_then, slice_get}
-use Rattle.cert_maker.specs.box_answers.NumberSet.{SetOf}
-use Rattle.cert_maker.specs.box_answers.Members.{IsMember}
+use Rattle.config_box.specs.box_answers.NumberSet.{SetOf}
+use Rattle.config_box.specs.box_answers.Members.{IsMember}
 use Rattle.reference_resolver.specs.overlay_map.IdMap.{MapOf}
 use Rattle.reference_resolver.specs.overlay_map.Layer.{LayerOf}
 use Rattle.reference_resolver.specs.overlay_map.Candidates.{CandOf, candidates_of}

@@ -1,6 +1,6 @@
 -- What becomes of the rows of a stack on the devices of a box.
-use Rattle.std.specs.Prelude.{◌≡◌, ℕ, List, map, length, Option, Some, None, option_and_then, slice_get, Any}
-use Rattle.cert_maker.specs.box_answers.NumberSet.{SetOf}
+use Rattle.std.specs.Prelude.{◌≡◌, ℕ, List, map, length, Option, Some, None, option_and_then, slice_get, Contains}
+use Rattle.config_box.specs.box_answers.NumberSet.{SetOf}
 use Rattle.reference_resolver.specs.resource_table.Table.{rows_of}
 use Rattle.reference_resolver.specs.overlay_map.Layer.{LayerOf}
 use Rattle.row_use.specs.declared.row_place.RowPlace.{RowPlace}
@@ -20,12 +20,12 @@ IsUse stack sets row Loaded = IsLoaded stack sets row
 -- all rows are asked for, or those that may stand for one of these ids
 abbrev pub IsAsked : List LayerOf → Option (List ℕ) → RowPlace → Type 0
 IsAsked stack None row = Unit {0}
-IsAsked stack (Some ids) row = Any (StandsFor stack row) ids
+IsAsked stack (Some ids) row = (id : ℕ) × Contains ids id × StandsFor stack row id
 
 -- what is told of a row: nothing where it is not asked for
 abbrev pub IsToldOf : List LayerOf → List SetOf → Option (List ℕ) → RowPlace → Option RowUse → Type 0
 IsToldOf stack sets asked row None = ¬ IsAsked stack asked row
-IsToldOf stack sets asked row (Some use) = IsAsked stack asked row × IsUse stack sets row use
+IsToldOf stack sets asked row (Some becomes) = IsAsked stack asked row × IsUse stack sets row becomes
 
 -- what stands at a row, where layer by layer something stands alongside the rows
 abbrev pub told_at : List (List (Option RowUse)) → RowPlace → Option (Option RowUse)

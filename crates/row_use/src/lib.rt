@@ -12,12 +12,18 @@
 //! ```
 #![tactic(auto)]
 
+mod all_uses;
+mod layer_rows;
+mod loaded_rows;
+mod look_up;
+mod looked_up;
+mod places;
 mod row_place;
 mod row_use;
-mod row_uses;
+mod uses;
 
+pub use all_uses::row_uses;
 pub use cert_maker::{ConfigBox, OutOfMemory};
 pub use reference_resolver::{ResId, Stack};
 pub use row_place::RowPlace;
 pub use row_use::RowUse;
-pub use row_uses::row_uses;

@@ -1,0 +1,7 @@
+use Rattle.std.proofs.Common.{map, drop}
+use Rattle.row_use.specs.Raising.{cells_of, KeepsReach, ids_more}
+use Rattle.row_use.proofs.all_uses.raise_ids.Given as goal
+
+abbrev pub invariant-loop-id : goal.invariant-loop-id
+invariant-loop-id l =
+    KeepsReach (cells_of l.fn.uses) (ids_more l.stack l.members (map (λ id. id.0) l.ids)) (cells_of l.uses) (ids_more l.stack l.members (map (λ id. id.0) (drop l.id-index l.ids)))

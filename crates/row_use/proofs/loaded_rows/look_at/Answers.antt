@@ -1,0 +1,59 @@
+use Rattle.std.proofs.Common.{ℕ, List, ◌∷◌, ◌++◌, [], sym, ◌∙◌, subst}
+use Rattle.config_box.specs.box_answers.NumberSet.{SetOf}
+use Rattle.config_box.specs.box_answers.Members.{IsMember}
+use Rattle.config_box.specs.Tests.{test_of}
+use Rattle.reference_resolver.specs.Trace.{Trace}
+use Rattle.cert_maker.specs.cert_checker.box_trace.declared.common.CommonTrace.{CommonTrace}
+use Rattle.cert_maker.specs.cert_checker.box_trace.CommonTrace.{IsCommonTrace}
+use Rattle.cert_maker.specs.cert_checker.box_trace.OpenBox.{boxes_of}
+use Rattle.cert_maker.proofs.cert_checker.box_trace.OpenBoxSteps.{rest_of, reached_there, told_in_place}
+use Rattle.row_use.specs.Indexed.{loads_of}
+use Rattle.row_use.specs.OpenBoxes.{trace_of_look_up}
+use Rattle.row_use.specs.Raising.{level_of, cells_of, KeepsReach, loaded_more}
+use Rattle.row_use.proofs.LoadedSteps.{test-opened}
+use Rattle.row_use.proofs.OpenSteps.{same-loads, all-opened, boxes-opened}
+use Rattle.row_use.proofs.loaded_rows.look_at.Goals as goal
+
+pub raise_row-requires : goal.raise_row-requires
+raise_row-requires c = λ d e m n.
+    let trace = trace_of_look_up c.args.look_up.now in
+    let sets = c.args.part.now.members in
+    let common = subst (λ (k : CommonTrace). IsCommonTrace k sets trace) c.in-One.is (c.in_ok-common.ensures.common trace c.requires) in
+    let same = c.in_ok-common.ensures.members in
+    same-loads c.args.look_up.now sets c.in-One.field-0 common d e (subst (λ (s : List SetOf). IsMember s d) same m) (subst (λ (s : List SetOf). IsMember s e) same n)
+
+pub returns-in-One-clause-keeps : goal.returns-in-One-clause-keeps
+returns-in-One-clause-keeps c =
+    let loads = loads_of c.args.look_up.now in
+    let boxes = boxes_of c.args.open_boxes.now in
+    subst (λ (sets : List SetOf). KeepsReach (cells_of c.args.uses.now) (loaded_more loads (level_of c.args.to) (boxes ++ sets ∷ [])) (cells_of c.raise_row.new.uses) (loaded_more loads (level_of c.args.to) boxes))
+    c.in_ok-common.ensures.members (c.raise_row.ensures boxes)
+
+pub parting_test-requires : goal.parting_test-requires
+parting_test-requires c =
+    let stack = c.args.stack.now in
+    let rest : List ℕ → Trace = rest_of stack c.args.part.now.walk in
+    let reached = reached_there stack c.args.part.now in
+    (told_in_place rest _ c.in-Mixed.first _ c.args.part.now.members _ _ c.in-Mixed.is c.in_ok-common.ensures.members c.in_ok-parting-in-Mixed.ensures.members (c.in_ok-common.ensures.common rest reached)
+    (c.in_ok-parting-in-Mixed.ensures.told stack rest (c.in_ok-common.ensures.reached rest reached))).separates
+
+pub open_halves-requires : goal.open_halves-requires
+open_halves-requires c = c.in_ok-test-in-Mixed.ensures.needed.passes
+
+pub returns-in_ok-open_halves-in-Mixed-clause-keeps : goal.returns-in_ok-open_halves-in-Mixed-clause-keeps
+returns-in_ok-open_halves-in-Mixed-clause-keeps c =
+    let loads = loads_of c.args.look_up.now in
+    let boxes = boxes_of c.args.open_boxes.now in
+    let cells = cells_of c.args.uses.now in
+    let to = level_of c.args.to in
+    let opens = c.in_ok-open_halves-in-Mixed.ensures in
+    let same = c.in_ok-parting-in-Mixed.ensures.members ∙ c.in_ok-common.ensures.members in
+    subst (λ (opened : List (List SetOf)). KeepsReach cells (loaded_more loads to (boxes ++ c.args.part.now.members ∷ [])) cells (loaded_more loads to opened)) (sym (boxes-opened _ _ _ _ opens))
+    (subst (λ (sets : List SetOf). KeepsReach cells (loaded_more loads to (boxes ++ sets ∷ [])) cells (loaded_more loads to (boxes ++ opens.no_half.members ∷ opens.yes_half.members ∷ []))) same
+    (test-opened cells loads to boxes _ opens.yes_half.members opens.no_half.members (test_of c.in_ok-test-in-Mixed.test) opens.yes_members opens.no_members))
+
+pub returns-in_ok-open_halves-in-Mixed-clause-open : goal.returns-in_ok-open_halves-in-Mixed-clause-open
+returns-in_ok-open_halves-in-Mixed-clause-open c = λ all.
+    let stack = c.args.stack.now in
+    let trace = trace_of_look_up c.args.look_up.now in
+    all-opened stack c.args.look_up.now _ _ _ _ c.in_ok-open_halves-in-Mixed.ensures (c.in_ok-parting-in-Mixed.ensures.reached stack trace (c.in_ok-common.ensures.reached trace c.requires)) all
