@@ -13,9 +13,7 @@ ghost use Rattle.diff_command.specs.Values.{opened_values, values_held};
 
 use crate::unused_rows::push_layers;
 use crate::values::{OpenedValues, ValuesFiles};
-use command_base::{
-    Inputs, LayerParts, LocaleRule, NamedSet, Status, Stop, ToolFault, asked_sets,
-};
+use command_base::{Inputs, LayerParts, LocaleRule, NamedSet, Status, Stop, ToolFault, asked_sets};
 use names::{NameFault, ids_named};
 use row_use::{RowUse, row_uses};
 use stack_diff::{ResId, Stack};
@@ -113,7 +111,13 @@ fn tell_unused<W: Write + Drop>(
     ensures { PrintsOneOf (IsUnusedOutput (option_map (λ ids. ids.items) asked)) W.contents out.old out.new result (Ok (opened_values opened)) }
 {
     let OpenedValues { stack, members, .. } = opened;
-    let uses = row_uses(alloc, &stack, &members, asked.as_deref(), max_nodes as usize)?;
+    let uses = row_uses(
+        alloc,
+        &stack,
+        &members,
+        asked.as_deref(),
+        max_nodes as usize,
+    )?;
     print_unused(alloc, stack, uses, out)
 }
 

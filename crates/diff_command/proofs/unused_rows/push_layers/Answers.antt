@@ -13,9 +13,9 @@ loop-of_layer-preserved c =
     let there = c.in-Some.ensures.lookup in
     let apart = c.deref.ensures.value ∙ before.apart in
     let found = found-layer c.args.stack place c.in-Some.layer.now (subst (λ layers. place < length layers) apart there.3.0)
-        (subst (λ layers. c.in-Some.layer.now ≡ get_or layers place c.in-Some.layer.now) apart there.1) in
+    (subst (λ layers. c.in-Some.layer.now ≡ get_or layers place c.in-Some.layer.now) apart there.1) in
     let second = seen-next (λ of_layer. of_layer.items) c.args.uses.now place item (omega (arith, before.place, c.loop-of_layer-test.true))
-        (subst (λ i. item ≡ get_or c.args.uses.now i item) (sym before.place) c.of_layer-item.is) in
+    (subst (λ i. item ≡ get_or c.args.uses.now i item) (sym before.place) c.of_layer-item.is) in
     let split = both-next _ _ _ _ found.0 item.items found.1 second in
     let own = c.deref-in-loop-of_layer.ensures.value in record {
       apart = before.apart;
