@@ -108,7 +108,7 @@ fn tell_unused<W: Write + Drop>(
     max_nodes: u32,
     out: &mut W,
 ) -> Result<Status, ToolFault>
-    ensures { PrintsOneOf (IsUnusedOutput (option_map (λ ids. ids.items) asked)) W.contents out.old out.new result (Ok (opened_values opened)) }
+    ensures { PrintsOneOf (IsUnusedOutput (option_map (λ ids. ids.items) asked)) W.contents out.old out.new result (Ok (opened_values opened.entry)) }
 {
     let OpenedValues { stack, members, .. } = opened;
     let uses = row_uses(
@@ -127,7 +127,7 @@ fn print_unused<W: Write + Drop>(
     uses: Option<Vec<Vec<Option<RowUse>>>>,
     out: &mut W,
 ) -> Result<Status, ToolFault>
-    ensures { Prints W.contents out.old out.new result (Ok (unused_output stack (option_map (λ all. map (λ of_layer. of_layer.items) all.items) uses))) }
+    ensures { Prints W.contents out.old out.new result (Ok (unused_output stack.entry (option_map (λ all. map (λ of_layer. of_layer.items) all.items) uses))) }
 {
     let Some(uses) = uses else {
         out.write_all(b"node limit\n")?;
