@@ -30,3 +30,4 @@ pub use ends::ends_text;
 pub use explanation::explain_text;
 pub use naming::Naming;
 pub use rows::rows_text;
+pub use table_row::write_row_end;

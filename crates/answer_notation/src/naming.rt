@@ -74,7 +74,7 @@ impl<'s, 'a, 'p> Naming<'s, 'a, 'p> {
 
     /// Writes what an id is called.
     #[tactic(auto, unfolding(crate::specs::Naming::id_notation))]
-    pub(crate) fn write_id<W: Write + Drop>(&self, id: ResId, out: &mut W) -> io::Result<()>
+    pub fn write_id<W: Write + Drop>(&self, id: ResId, out: &mut W) -> io::Result<()>
         ensures { Writes W.contents out.old out.new result (id_notation self.now id.0) }
     {
         let label = self.stack.label_of_id(self.alloc, id)?;

@@ -14,7 +14,7 @@ use std::io::{self, Write};
 
 /// Writes how the line of a row ends, its configuration and what it holds, and behind an indent each line of a bag.
 #[tactic(auto, unfolding(crate::specs::TableNotation::row_end_notation))]
-pub(crate) fn write_row_end<W: Write + Drop>(
+pub fn write_row_end<W: Write + Drop>(
     naming: &Naming<'_, '_, '_>,
     indent: &[u8],
     row: &Row<'_>,

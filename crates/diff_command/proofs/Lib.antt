@@ -5,4 +5,5 @@ pub mod Counts
 pub mod Kept
 pub mod Blocks
 pub mod Valued
+pub mod UsedRows
 pub use Rattle.answer_text.proofs.InOrder

@@ -1,5 +1,5 @@
 -- Layers of a stack, the later over the earlier.
-use Rattle.std.specs.Prelude.{ℕ, ◌<◌, ◌^◌, Bool, List, [], filter, length, map, Option, Some, None, is_none}
+use Rattle.std.specs.Prelude.{ℕ, ◌<◌, ◌^◌, Bool, List, [], ◌∷◌, filter, length, map, Option, Some, None, is_none}
 use Rattle.resource_table.specs.type_chunks.Row.{RowOf, with_id}
 use Rattle.resource_table.specs.Table.{TableOf, rows_of}
 use Rattle.overlay_map.specs.IdMap.{MapOf, look_of}
@@ -16,6 +16,10 @@ most_layers = 64
 
 abbrev pub is_base : LayerOf → Bool
 is_base layer = is_none layer.map
+
+-- the table of a layer as the only layer of a stack, a base
+abbrev pub by_itself : LayerOf → List LayerOf
+by_itself layer = record { table = layer.table; map = None } ∷ []
 
 -- the tables of the base layers, the lowest first
 abbrev pub base_tables : List LayerOf → List TableOf

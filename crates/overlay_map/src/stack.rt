@@ -3,7 +3,7 @@
 ghost use Rattle.std.specs.Prelude.{◌≡◌, ◌≤◌, ◌<◌, ◌^◌, [], ◌∷◌, ◌++◌, All, length, map, slice_get, vec_len, vec_capacity, nat_eq, option_and_then, OnOk, IfOk, IfErr};
 ghost use Rattle.resource_table.specs.Table.{rows_of};
 ghost use Rattle.std.specs.Option.{option_map};
-ghost use Rattle.overlay_map.specs.Layer.{most_layers, base_tables, HasFewRows};
+ghost use Rattle.overlay_map.specs.Layer.{by_itself, most_layers, base_tables, HasFewRows};
 ghost use Rattle.overlay_map.specs.Pushing.{RefusesLayer, PushesLayer, base_of, overlay_of};
 ghost use Rattle.overlay_map.specs.SetAside.{set_aside_in_stack};
 ghost use Rattle.overlay_map.specs.Candidates.{candidates_of};
@@ -135,6 +135,18 @@ impl<'a> Stack<'a> {
         None
     }
 
+    /// Each of its layers as a stack by itself, as a base.
+    pub fn apart(self, alloc: Global) -> Result<Vec<Stack<'a>>, AllocError>
+        ensures apart { IfOk result (λ stacks. stacks.items ≡ map by_itself self.entry) }
+        ensures few { IfOk result (λ stacks. length stacks.items ≤ most_layers) }
+    {
+        let mut stacks = Vec::new(alloc);
+        for layer in self.layers {
+            stacks.push(by_itself(alloc, layer)?)?;
+        }
+        Ok(stacks)
+    }
+
     /// How many rows of all layers are set aside: their locale has a script or a variant, and by
     /// language and region they match no device.
     #[tactic(auto, unfolding(crate::specs::SetAside::set_aside_in_stack))]
@@ -157,6 +169,16 @@ impl<'a> Stack<'a> {
     {
         Cands::new(&self.layers, id)
     }
+}
+
+// The table of a layer as a base, the only layer of a stack.
+fn by_itself<'a>(alloc: Global, layer: Layer<'a>) -> Result<Stack<'a>, AllocError>
+    requires { HasFewRows layer }
+    ensures { IfOk result (λ stack. stack ≡ by_itself layer.entry) }
+{
+    let table = layer.table;
+    let layers = vec![in alloc; Layer { table, map: None }]?;
+    Ok(Stack { layers })
 }
 
 // Makes room for one layer more, where one may stand, and notes where the rows of its table stand. Refused where
