@@ -1,2 +1,3 @@
 pub mod VerdictText
+pub mod RejectionNotation
 pub use Rattle.cert_maker.specs as cert_maker
