@@ -83,6 +83,10 @@ abbrev pub claim_at : List GoalOf → Verdict → Option End
 claim_at trees Accepted = None
 claim_at trees (Rejected goal node rule shown) = claim_in (slice_get trees goal) node
 
+-- a verdict on these trees, with that end
+abbrev pub rejection_of : List GoalOf → Verdict → Rejection
+rejection_of trees verdict = record { verdict = verdict; claimed = claim_at trees verdict }
+
 -- ---- in either form
 
 -- in Android's notation, where the names of a stack are given
@@ -93,8 +97,7 @@ rejection_in (Some naming) asked rejection = rejection_notation naming asked rej
 -- a verdict on these trees
 abbrev pub verdict_in : Option NamingOf → List GoalSeen → List GoalOf → Verdict → List ℕ
 verdict_in naming asked trees Accepted = accepted_text trees
-verdict_in naming asked trees (Rejected goal node rule shown) =
-    rejection_in naming asked (record { verdict = Rejected goal node rule shown; claimed = claim_at trees (Rejected goal node rule shown) })
+verdict_in naming asked trees (Rejected goal node rule shown) = rejection_in naming asked (rejection_of trees (Rejected goal node rule shown))
 
 -- one rejection after the other, and how many of how many goals these are
 unfoldable pub rejections_in : Option NamingOf → List GoalSeen → List Rejection → ℕ → List ℕ

@@ -14,6 +14,7 @@
 mod rejection;
 mod verdict;
 
+pub use answer_notation::Naming;
 pub use answer_text::{dump_text, end_text, explain, rows_text};
 pub use cert_maker::{
     Cert, ConfigBox, Goal, Made, Omitted, Omitting, Progress, Rule, Shown, Unwatched, Verdict,

@@ -25,11 +25,11 @@ pub struct Rejection {
 impl Rejection {
     ghost use Rattle.std.specs.Prelude.{◌≡◌};
     ghost use Rattle.cert_maker.specs.cert_tree.Certificate.{goals_of};
-    ghost use Rattle.resource_text.specs.RejectionNotation.{claim_at};
+    ghost use Rattle.resource_text.specs.RejectionNotation.{rejection_of};
 
     /// By this verdict on a certificate.
     pub fn of(verdict: Verdict, certificate: &Cert) -> Rejection
-        ensures { result ≡ record { verdict = verdict; claimed = claim_at (goals_of certificate.now) verdict } }
+        ensures { result ≡ rejection_of (goals_of certificate.now) verdict }
     {
         Rejection {
             verdict,
