@@ -287,7 +287,14 @@ NOTATED = [
     (f"0 [] @{NOWHERE}", MEDIUM_BOX, [value(1)], 0, "N7 NoValue", [ONE, f"on any device: absent {NOWHERE}"]),
     # Of a device stands what rows have, of all ids on the way.
     (BY_NIGHT, ON_ONE_PHONE, [value(9)], 0, "N8 OtherValue", ["claimed 9 from layers0", "on de night: 3 from layers0 night"]),
-    (BY_NIGHT, ON_ONE_PHONE | {"night": [1], "locale": [""]}, [value(9)], 0, "N8 OtherValue", ["claimed 9 from layers0", "on no-locale notnight: 4 from layers0 (default)"]),
+    (
+        BY_NIGHT,
+        ON_ONE_PHONE | {"night": [1], "locale": [""]},
+        [value(9)],
+        0,
+        "N8 OtherValue",
+        ["claimed 9 from layers0", "on no-locale notnight: 4 from layers0 (default)"],
+    ),
     # Where two differ is marked.
     (MEDIUM_AND_HIGH, TO_198, [value(1)], 0, "N6 MixedTrace", [ONE, "on *198dpi*: 2 from layers0 xhdpi", "on *197dpi*: 1 from layers0 mdpi"]),
     ("0 [locale=fr] 1\n0 [] 2", FRENCH_AND_GERMAN, [value(1)], 0, "N6 MixedTrace", [ONE, "on *fr*: 1 from layers0 fr", "on *de*: 2 from layers0 (default)"]),
@@ -330,19 +337,25 @@ def in_words(goal, node, rule, *shown):
 
 def notated(layers, box, trees, asked, told, options="--android", said="", version=1):
     files = {**files_of(layers), "box": box, "certificate": certificate_of(*trees, version=version)}
-    return Case(["check", *options.split(" "), "layers", "box", "certificate", *asked], lines([*told, "set-aside 0"]), said, told[0].startswith("rejected"), **files)
+    words = ["check", *options.split(" "), "layers", "box", "certificate", *asked]
+    return Case(words, lines([*told, "set-aside 0"]), said, told[0].startswith("rejected"), **files)
+
+
+def of_notated_styles():
+    for attr, styles, box, rule, shown in NOTATED_STYLES:
+        told = in_words(f"{attr} under {' '.join(styles)}", 0, rule, ONE, *shown)
+        yield notated([STYLES], box, [tree_under(attr, styles, value(1))], [f"{attr}@{','.join(styles)}"], told, version=2)
 
 
 def of_notation():
     for rows, box, nodes, node, rule, shown in NOTATED:
         yield notated([rows], box, [tree(*nodes)], [ID], in_words(ID, node, rule, *shown))
-    for attr, styles, box, rule, shown in NOTATED_STYLES:
-        goal = f"{attr} under {' '.join(styles)}"
-        yield notated([STYLES], box, [tree_under(attr, styles, value(1))], [f"{attr}@{','.join(styles)}"], in_words(goal, 0, rule, ONE, *shown), version=2)
+    yield from of_notated_styles()
     overlaid = ["0 [] 1", ("0 [] 2", SAME)]
     yield notated(overlaid, MEDIUM_BOX, [tree(value(1))], [ID], in_words(ID, 0, "N8 OtherValue", ONE, "on any device: 2 from layers1 (default)"))
     named = named_table({"dimen/handle": 5})
-    yield notated([named], MEDIUM_BOX, [tree(value(9))], ["dimen/handle"], in_words("dimen/handle", 0, "N8 OtherValue", "claimed 9 from layers0", "on any device: 5 from layers0 (default)"))
+    told = in_words("dimen/handle", 0, "N8 OtherValue", "claimed 9 from layers0", "on any device: 5 from layers0 (default)")
+    yield notated([named], MEDIUM_BOX, [tree(value(9))], ["dimen/handle"], told)
     yield notated([PLAIN], MEDIUM_BOX, [tree(value(1))], [ID], ["accepted goals 1 nodes 1"])
     # Other goals: by its name the one that is asked for, if there is one.
     yield notated([BOTH], MEDIUM_BOX, [tree(value(9))], [SECOND], in_words(SECOND, 0, "N1 GoalList"))
