@@ -3,7 +3,8 @@
 # the sums, as a table: gate.sh [CRATE..]. Without a crate it measures all, and takes as long as the gate, but for the runs
 # of the built program. Each part works from nothing, with one job, on a copy of the repository, and each proof is as the
 # gate makes it (tools/prove.py --as-ci); those below a named crate are proved too. Where the crates of the fixed proof
-# (README.md) are among them, the sum is printed as a multiple of that too.
+# (README.md) are among them, the sum is printed as a multiple of that too. They are proved twice, once before the others and
+# once among the tests and edits, since what runs side by side takes longer: the mean of both is one fixed proof.
 # The environment may give JOBS, how many tests and edits run side by side; and COPY, a copy of the repository: what
 # tools/prove.py --as-ci proved there is not proved again, and what is proved stays there.
 here=$(CDPATH='' cd "$(dirname "$0")/.." && pwd) || exit 1
@@ -48,10 +49,11 @@ make_room() {
     done
 }
 
-# measure_rest WORK CRATE: the tests and edits of a crate that is proved.
+# measure_rest WORK CRATE: the tests and edits of a crate that is proved, and its proof again if it is one of the fixed proof.
 measure_rest() {
     folder=$copy/crates/$2
     make_room "$1" "$2" || return 1
+    case " $fixed " in *" $2 "*) measure "$1" "$2" again python3 "$copy/tools/rt_once.py" as-ci ;; esac
     if grep -rq '^ *#\[test\]' "$folder/src"; then measure "$1" "$2" tests rt test --jobs 1; fi
     if [ -d "$folder/must-fail" ]; then measure "$1" "$2" edits sh -c "cd ../.. && rt must-fail $2"; fi
     rm -rf "$1/rooms/$2"
@@ -93,7 +95,9 @@ if [ "$jobs" -lt 1 ]; then jobs=1; fi
 
 {
     for crate in $fixed; do
-        echo "fixed $(cat "$work/seconds/$crate.proof" 2>/dev/null || echo none)"
+        for part in proof again; do
+            echo "fixed $(cat "$work/seconds/$crate.$part" 2>/dev/null || echo none)"
+        done
     done
     for crate in $named; do
         for part in proof tests edits; do
@@ -101,7 +105,7 @@ if [ "$jobs" -lt 1 ]; then jobs=1; fi
         done
     done
 } | awk '
-    $1 == "fixed" { fixed += $2; if ($2 == "none") unmeasured = 1; next }
+    $1 == "fixed" { fixed += $2 / 2; if ($2 == "none") unmeasured = 1; next }
     { took[$1, $2] = $3; all[$1] += $3; sum[$2] += $3; total += $3; if (!($1 in seen)) { seen[$1] = 1; names[++count] = $1 } }
     function cell(seconds) { return seconds ? sprintf("%.0f", seconds) : "" }
     function row(name, proof, tests, edits, seconds) {
