@@ -2,7 +2,7 @@
 
 ghost use Rattle.std.specs.Prelude.{◌≡◌, map, slice_get};
 ghost use Rattle.std.specs.List.{flat_map};
-ghost use Rattle.std.specs.Option.{option_map};
+ghost use Rattle.std.specs.Option.{option_copied, option_map};
 ghost use Rattle.contract_words.specs.Writes.{Writes};
 ghost use Rattle.cert_maker.specs.cert_tree.Certificate.{goal_of, goals_of};
 ghost use Rattle.cert_maker.specs.res_value.Goal.{goal_seen};
@@ -46,7 +46,7 @@ pub fn write_verdict_in<W: Write + Drop>(
     verdict: &Verdict,
     out: &mut W,
 ) -> io::Result<()>
-    ensures { Writes W.contents out.old out.new result (verdict_in (option_map (λ naming. naming.now) naming.entry) (map goal_seen goals.now)
+    ensures { Writes W.contents out.old out.new result (verdict_in (option_copied naming.entry) (map goal_seen goals.now)
         (goals_of certificate.now) verdict.now) }
 {
     match verdict {
@@ -66,7 +66,7 @@ pub fn write_rejections_in<W: Write + Drop>(
     of: usize,
     out: &mut W,
 ) -> io::Result<()>
-    ensures { Writes W.contents out.old out.new result (rejections_in (option_map (λ naming. naming.now) naming.entry) (map goal_seen goals.now)
+    ensures { Writes W.contents out.old out.new result (rejections_in (option_copied naming.entry) (map goal_seen goals.now)
         rejections.now of) }
 {
     write_each(naming, goals, rejections, out)?;
@@ -81,7 +81,7 @@ fn write_each<W: Write + Drop>(
     out: &mut W,
 ) -> io::Result<()>
     ensures { Writes W.contents out.old out.new result
-        (flat_map (rejection_in (option_map (λ naming. naming.now) naming.entry) (map goal_seen goals.now)) rejections.now) }
+        (flat_map (rejection_in (option_copied naming.entry) (map goal_seen goals.now)) rejections.now) }
 {
     for rejection in rejections {
         write_rejection_in(naming, goals, rejection, out)?;
@@ -96,7 +96,7 @@ fn write_rejection_in<W: Write + Drop>(
     out: &mut W,
 ) -> io::Result<()>
     ensures { Writes W.contents out.old out.new result
-        (rejection_in (option_map (λ naming. naming.now) naming.entry) (map goal_seen goals.now) rejection.now) }
+        (rejection_in (option_copied naming.entry) (map goal_seen goals.now) rejection.now) }
 {
     match naming {
         Some(naming) => {

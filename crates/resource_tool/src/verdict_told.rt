@@ -2,7 +2,7 @@
 
 ghost use Rattle.std.specs.Prelude.{◌≡◌, ◌++◌, true, None, Some, map, string_bytes, IfOk};
 ghost use Rattle.std.specs.List.{flat_map};
-ghost use Rattle.std.specs.Option.{option_map};
+ghost use Rattle.std.specs.Option.{option_copied};
 ghost use Rattle.contract_words.specs.Writes.{Writes};
 ghost use Rattle.table_commands.specs.answer_text.QueryText.{set_aside_line};
 ghost use Rattle.resource_text.specs.RejectionNotation.{rejections_in};
@@ -99,6 +99,7 @@ impl OpenedCert<'_> {
         Ok(Told { text, lines })
     }
 
+    #[tactic(auto, unfolding(crate::specs::CheckOutput::told_text))]
     fn verdict_told(
         &self,
         alloc: Global,
@@ -165,7 +166,7 @@ fn write_rejections<W: Write + Drop>(
     out: &mut W,
 ) -> io::Result<()>
     ensures { Writes W.contents out.old out.new result
-        (rejections_in (option_map (λ naming. naming.now) naming.entry) (map goal_seen goals.now) rejections.now of ++ set_aside_line set_aside) }
+        (rejections_in (option_copied naming.entry) (map goal_seen goals.now) rejections.now of ++ set_aside_line set_aside) }
 {
     write_rejections_in(naming, goals, rejections, of, out)?;
     set_aside_line(set_aside, out)
