@@ -1,8 +1,10 @@
 #!/bin/sh
-# Times `restool diff` of two builds of the table of Android's framework that differ in ten rows, for the devices of a phone
-# maker, beside `restool make` of all ids that have a value: it is to take four times as long at most. Then of two files of the
-# same build, beside a query that opens both: one and a half times as long at most.
-# Each command runs three times, and those of one build ten times; the least time counts, and the greatest peak of memory.
+# Times what goes over all resources of the table of Android's framework, for the devices of a phone maker: `restool make` of all
+# ids that have a value; `diff` of two builds of the table that differ in ten rows, which is to take four times as long at most;
+# `values`, one and a half times; and `unused`, if the program has it. Then `diff` of two files of one build, beside a query that
+# opens both: one and a half times as long at most.
+# The first run five times, in turn, and those of one build ten times; the least time counts, and the greatest peak of memory.
+# Beside other work look at what they take of the processor.
 #
 # The framework's table is found as in make.sh. Needs GNU time (Debian's package time) and python3.
 #
@@ -23,13 +25,19 @@ echo '[{"table":"framework.arsc"},{"table":"again.arsc"}]' >both.layers
 echo '{"density":320}' >device
 box=$here/phones.json
 
-# ---- ten rows
+# ---- all resources
 
-made=$(timed 3 '{"goals"' sh -c 'exec "$0" make --omit --max-nodes 1000000 framework.layers "$1" "*" 2>omitted' "$program" "$box") || exit 1
-told=$(timed 3 'changed ' "$program" diff --max-nodes 1000000 framework.layers changed.layers "$box") || exit 1
-echo "$made $told $(wc -c <framework.arsc) $(wc -l <rows) $(grep -c '^changed ' printed) $(sed -n 's/^same //p' printed)" | awk '{
-    printf "the framework'\''s table, %d bytes, beside one of which %d rows are others: %d changes, %d resources say the same\n", $5, $6, $7, $8
-    printf "  make %s s, %s MB; diff %s s, %s MB, %.2f of that\n", $1, $2, $3, $4, $3 / $1 }'
+all="--max-nodes 1000000 framework.layers"
+set -- "$program make --omit $all $box '*'" "$program diff $all changed.layers $box" "$program values $all $box"
+"$program" unused --help >help 2>&1 && set -- "$@" "$program unused $all $box"
+python3 "$here/least.py" 5 "$@" 2>told >times || { tail -n 1 told >&2; exit 1; }
+"$program" diff $all changed.layers "$box" >changes
+"$program" values $all "$box" >said || exit 1
+echo "the framework's table, $(wc -c <framework.arsc) bytes: $(tail -n 1 said), in $(wc -l <said) lines;" \
+    "beside one of which $(wc -l <rows) rows are others: $(grep -c '^changed ' changes) changes, $(tail -n 1 changes)"
+awk 'BEGIN { split("make diff values unused", names) }
+    NR == 1 { wall = $1; worked = $3 }
+    { printf "  %s %.2f s, %.2f of the processor, %.0f MB; %.2f and %.2f of make\n", names[NR], $1 / 1e3, $3 / 1e3, $2 / 1e6, $1 / wall, $3 / worked }' times
 
 # ---- one build
 

@@ -495,8 +495,11 @@ if command -v python3 >/dev/null; then
     ends "random changes of layers by a phone's locales" 0 "python3 '$here/tests/check_diff.py' --locales android \"\$0\" 400 4"
     ends "what random layers say" 0 "python3 '$here/tests/check_diff.py' --values \"\$0\" 400 4"
     ends "what random layers say by a phone's locales" 0 "python3 '$here/tests/check_diff.py' --values --locales android \"\$0\" 400 4"
+    by_aapt=--aapt
+    command -v aapt >/dev/null || { by_aapt='' && echo "not run, since aapt is missing: releases of an app as it builds them"; }
+    ends "what twelve changes of an app move in what its resources say" 0 "python3 '$here/tests/worked_releases.py' \"\$0\" $by_aapt"
 else
-    echo "not run, since python3 is missing: worked and random changes of layers"
+    echo "not run, since python3 is missing: worked and random changes of layers, releases of an app"
 fi
 
 # ---- README and the guide: what they show after a command is what it prints
