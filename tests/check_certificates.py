@@ -4,11 +4,12 @@
     check_certificates.py [--locales android] PROGRAM CASES [JOBS [FIRST]]
 
 for so many random layers, boxes of at most some thousand devices, and certificates, of which some are true and most
-have a fault. Every second one has styles, and goals of attributes. Goal, node, rule, and what is shown have to be the same, with --all of each goal that is rejected. Of two devices that are shown for a mixed leaf it
-is asked whether they stand at it, whether they differ in one coordinate alone, by one where it is a range, and whether
+have a fault. Every second one has styles, and goals of attributes. Goal, node, rule, and what is shown have to be the same,
+with --all of each goal that is rejected, and with --android in its notation. Of two devices that are shown for a mixed leaf
+it is asked whether they stand at it, whether they differ in one coordinate alone, by one where it is a range, and whether
 at the first question that devices at the leaf answer differently the first answers yes and the second no; and what
-`restool explain` or `restool attr` says of them, and of some other device of the box, has to be what the rules say. The cases are
-numbered from FIRST on, which is 0 if it is not given. The last line counts the certificates by their verdicts."""
+`restool explain` or `restool attr` says of them, and of some other device of the box, has to be what the rules say. The
+cases are numbered from FIRST on, which is 0 if it is not given. The last line counts the certificates by their verdicts."""
 import random
 import sys
 import tempfile
@@ -20,6 +21,7 @@ from case_files import Files, device_of
 from case_words import read_words
 from plain_bags import Attribute
 from plain_certificates import all_lines, certificate_json, goal_word, verdicts, verdict_lines
+from plain_rejections import in_words
 from plain_rules import COORDS, end_text
 from random_cases import CertifiedCase
 from random_locales import CertifiedLocaleCase
@@ -63,7 +65,10 @@ def all_faults(files, case, rejections):
     wanted = all_lines(case.layers, case.box, case.asked, case.goals, rejections)
     seen = [line.split(" ")[0] + " " if line.startswith(("first ", "second ")) else line for line in lines]
     faults = [] if status == int(len(rejections) > 0) else [f"status {status} of all"]
-    return faults + ([] if seen == wanted else [f"printed of all: {lines}", f"wanted: {wanted}"])
+    if seen != wanted:
+        return faults + [f"printed of all: {lines}", f"wanted: {wanted}"]
+    noted, wanted = files.run("check", "--all", "--android", "layers", "box", "certificate", *map(goal_word, case.asked)), (in_words(case, lines), status)
+    return faults + ([] if noted == wanted else [f"printed in Android's notation: {noted}", f"wanted: {wanted}"])
 
 
 def faults_of_verdict(files, case):

@@ -13,7 +13,7 @@ import sys
 import unicodedata
 from concurrent.futures import ThreadPoolExecutor
 
-from plain_notation import KINDS, NAMES, UNITS, config_text, formats_text, record_of, xml_text
+from plain_notation import KINDS, NAMES, UNITS, config_of, formats_text, xml_text
 from plain_names import label_text
 from printed import CANDIDATE, Restool
 
@@ -28,14 +28,6 @@ QUANTITIES = {4: "other", 5: "zero", 6: "one", 7: "two", 8: "few", 9: "many"}
 OWN_KEYS = {0: "format", 1: "min", 2: "max", 3: "localization"}
 ATTRIBUTES_ASKED = 60
 FOLLOWED = 20
-
-
-def config_of(record):
-    """The notation of a record that is printed between brackets."""
-    said = dict(part.split("=") for part in record[1:-1].split(",") if part)
-    language, _, region = said.pop("locale", "").partition("-")
-    script, variant = (bytes.fromhex(said.pop(name, "")) for name in ("script", "variant"))
-    return config_text(record_of(language, region, script, variant, **{name: int(number) for name, number in said.items()}))
 
 
 def value_of(text):

@@ -305,6 +305,14 @@ def record_of(language="", region="", script=b"", variant=b"", computed=0, **sai
     )
 
 
+def config_of(record):
+    """The notation of a record that is printed between brackets."""
+    said = dict(part.split("=") for part in record[1:-1].split(",") if part)
+    language, _, region = said.pop("locale", "").partition("-")
+    script, variant = (bytes.fromhex(said.pop(name, "")) for name in ("script", "variant"))
+    return config_text(record_of(language, region, script, variant, **{name: int(number) for name, number in said.items()}))
+
+
 CONFIGS = [
     (record_of(), "(default)"),
     (record_of("fr", "CA", smallestWidthDp=600, orientation=2, night=2, density=320, sdk=13), "fr-rCA-sw600dp-land-night-xhdpi-v13"),

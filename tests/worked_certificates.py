@@ -4,7 +4,7 @@
     worked_certificates.py PROGRAM [JOBS]
 
 The cases are such as worked_rows.py has, and what is printed of them is the same."""
-from worked_rows import A, B, BAD, FIRST, ID, MEDIUM_BOX, NOWHERE, SECOND, TO_198, Case, check_groups, files_of, lines, over
+from worked_rows import A, B, BAD, FIRST, ID, MEDIUM_BOX, NOWHERE, SAME, SECOND, TO_198, Case, check_groups, files_of, lines, named_table, over
 
 CHECK, MAKE, SHOW = f"check layers box certificate {ID}", f"make layers box {ID}", "show --raw layers certificate"
 
@@ -261,6 +261,120 @@ def of_all():
         yield Case(["check", "--all", "--names", "layers", "box", "certificate", *goals], out, said, status, **files)
 
 
+# ---- in Android's notation
+
+IN_WORDS = {
+    "N1 GoalList": "the certificate is for other goals",
+    "N2 EndsEarly": "the list of nodes ends before the tree",
+    "N3 LeftOver": "the tree ends before this node",
+    "N4 TestKind": "the box cannot be tested like this",
+    "N5 EmptyHalf": "all devices there answer alike",
+    "N6 MixedTrace": "devices there come to it by different decisions",
+    "N7 NoValue": "it has no value there",
+    "N8 OtherValue": "it has another value there",
+}
+ONE = "claimed 1 from layers0"
+BY_NIGHT = f"0 [] @{SECOND}\n0 [locale=de] @{SECOND}\n1 [night=2] 3\n1 [] 4"
+ON_ONE_PHONE = {"density": [160], "locale": ["de"], "night": [2], "sdk": [26], "uiType": [1]}
+
+NOTATED = [
+    # The rows of a table, a box, the nodes of a tree for entry 0, the node and the rule at which it is rejected, and what is shown.
+    (PLAIN, MEDIUM_BOX, [value(2)], 0, "N8 OtherValue", ["claimed 2 from layers0", "on any device: 1 from layers0 (default)"]),
+    (PLAIN, MEDIUM_BOX, [value(1, layer=1)], 0, "N8 OtherValue", ["claimed 1 from layer 1", "on any device: 1 from layers0 (default)"]),
+    (PLAIN, MEDIUM_BOX, [BAG], 0, "N8 OtherValue", [f"claimed bag {ID}", "on any device: 1 from layers0 (default)"]),
+    ("0 [] bag 0x00000000", MEDIUM_BOX, [OTHER_BAG], 0, "N8 OtherValue", [f"claimed bag {SECOND}", "on any device: bag from layers0 (default)"]),
+    (f"0 [] @{ID}", MEDIUM_BOX, [value(1)], 0, "N7 NoValue", [ONE, f"on any device: too many references {ID}"]),
+    (f"0 [] @{NOWHERE}", MEDIUM_BOX, [value(1)], 0, "N7 NoValue", [ONE, f"on any device: absent {NOWHERE}"]),
+    # Of a device stands what rows have, of all ids on the way.
+    (BY_NIGHT, ON_ONE_PHONE, [value(9)], 0, "N8 OtherValue", ["claimed 9 from layers0", "on de night: 3 from layers0 night"]),
+    (
+        BY_NIGHT,
+        ON_ONE_PHONE | {"night": [1], "locale": [""]},
+        [value(9)],
+        0,
+        "N8 OtherValue",
+        ["claimed 9 from layers0", "on no-locale notnight: 4 from layers0 (default)"],
+    ),
+    # Where two differ is marked.
+    (MEDIUM_AND_HIGH, TO_198, [value(1)], 0, "N6 MixedTrace", [ONE, "on *198dpi*: 2 from layers0 xhdpi", "on *197dpi*: 1 from layers0 mdpi"]),
+    ("0 [locale=fr] 1\n0 [] 2", FRENCH_AND_GERMAN, [value(1)], 0, "N6 MixedTrace", [ONE, "on *fr*: 1 from layers0 fr", "on *de*: 2 from layers0 (default)"]),
+    (
+        f"{MEDIUM_AND_HIGH}\n0 [night=2] 9",
+        TO_198 | {"night": [1]},
+        [value(1)],
+        0,
+        "N6 MixedTrace",
+        [ONE, "on notnight *198dpi*: 2 from layers0 xhdpi", "on notnight *197dpi*: 1 from layers0 mdpi"],
+    ),
+    (
+        SMALL_AND_DEFAULT,
+        {"density": [160], "screenSize": {"from": 1, "to": 2}},
+        [value(2)],
+        0,
+        "N6 MixedTrace",
+        ["claimed 2 from layers0", "on *normal*: 2 from layers0 (default)", "on *small*: 1 from layers0 small"],
+    ),
+    # No device is shown.
+    (PLAIN, densities(120, 640), [at_most(160), value(1)], 2, "N2 EndsEarly", []),
+    (PLAIN, densities(120, 640), [value(1), value(1)], 1, "N3 LeftOver", []),
+    (PLAIN, densities(120, 640), [at_most(0, "locale"), value(1), value(1)], 0, "N4 TestKind", []),
+    (PLAIN, densities(120, 640), [at_most(640), value(1), value(1)], 0, "N5 EmptyHalf", []),
+]
+
+NOTATED_STYLES = [
+    # The same of an attribute under styles.
+    (A, [FIRST], TO_198, "N6 MixedTrace", ["on *198dpi*: 2 from layers0", "on *197dpi*: 1 from layers0"]),
+    (A, [FIRST, NOWHERE], TO_198, "N6 MixedTrace", [f"on *198dpi*: absent {NOWHERE}", f"on *197dpi*: absent {NOWHERE}"]),
+    (A, [NOWHERE, FIRST], TO_198, "N7 NoValue", [f"on any device: absent {NOWHERE}"]),
+    (B, [FIRST], MEDIUM_BOX, "N7 NoValue", [f"on mdpi: absent {B}"]),
+    (A, [FIRST, SECOND], MEDIUM_BOX, "N8 OtherValue", ["on mdpi: 7 from layers0"]),
+]
+
+
+def in_words(goal, node, rule, *shown):
+    return [f"rejected {goal} node {node} {rule}: {IN_WORDS[rule]}", *(f"  {line}" for line in shown)]
+
+
+def notated(layers, box, trees, asked, told, options="--android", said="", version=1):
+    files = {**files_of(layers), "box": box, "certificate": certificate_of(*trees, version=version)}
+    words = ["check", *options.split(" "), "layers", "box", "certificate", *asked]
+    return Case(words, lines([*told, "set-aside 0"]), said, told[0].startswith("rejected"), **files)
+
+
+def of_notated_styles():
+    for attr, styles, box, rule, shown in NOTATED_STYLES:
+        told = in_words(f"{attr} under {' '.join(styles)}", 0, rule, ONE, *shown)
+        yield notated([STYLES], box, [tree_under(attr, styles, value(1))], [f"{attr}@{','.join(styles)}"], told, version=2)
+
+
+def of_notation():
+    for rows, box, nodes, node, rule, shown in NOTATED:
+        yield notated([rows], box, [tree(*nodes)], [ID], in_words(ID, node, rule, *shown))
+    yield from of_notated_styles()
+    overlaid = ["0 [] 1", ("0 [] 2", SAME)]
+    yield notated(overlaid, MEDIUM_BOX, [tree(value(1))], [ID], in_words(ID, 0, "N8 OtherValue", ONE, "on any device: 2 from layers1 (default)"))
+    named = named_table({"dimen/handle": 5})
+    told = in_words("dimen/handle", 0, "N8 OtherValue", "claimed 9 from layers0", "on any device: 5 from layers0 (default)")
+    yield notated([named], MEDIUM_BOX, [tree(value(9))], ["dimen/handle"], told)
+    yield notated([PLAIN], MEDIUM_BOX, [tree(value(1))], [ID], ["accepted goals 1 nodes 1"])
+    # Other goals: by its name the one that is asked for, if there is one.
+    yield notated([BOTH], MEDIUM_BOX, [tree(value(9))], [SECOND], in_words(SECOND, 0, "N1 GoalList"))
+    yield notated([BOTH], MEDIUM_BOX, [tree(value(9))], [ID, SECOND, SECOND], in_words(SECOND, 0, "N1 GoalList"), "--all --android")
+    yield notated([BOTH], MEDIUM_BOX, [tree(value(9)), tree(name=SECOND)], [ID], in_words("goal 1", 0, "N1 GoalList"))
+    # All goals that fail.
+    trees = [tree(value(9)), tree(value(1)), tree(name=SECOND), tree(value(3), name=SECOND)]
+    told = [
+        *in_words(ID, 0, "N8 OtherValue", "claimed 9 from layers0", "on any device: 1 from layers0 (default)"),
+        *in_words(SECOND, 0, "N2 EndsEarly"),
+        *in_words(SECOND, 0, "N8 OtherValue", "claimed 3 from layers0", "on any device: 2 from layers0 (default)"),
+    ]
+    asked = [ID, ID, SECOND, SECOND]
+    said = lines(f"goal {place} {asked[place]}" for place in (0, 2, 3))
+    yield notated([BOTH], MEDIUM_BOX, trees, asked, told[:3])
+    yield notated([BOTH], MEDIUM_BOX, trees, asked, [*told, "failed 3 of 4 goals"], "--all --android")
+    yield notated([BOTH], MEDIUM_BOX, trees, asked, [*told, "failed 3 of 4 goals"], "--all --android --names", said)
+
+
 # ---- texts
 
 def refused(text, fault):
@@ -451,7 +565,7 @@ def of_all_texts():
             yield over(layers, words, "", f"refused: {fault}\n", 3, box="", certificate="")
 
 
-GROUPS = [of_verdicts, of_attributes, of_all, of_texts, of_limits, of_all_texts]
+GROUPS = [of_verdicts, of_attributes, of_all, of_notation, of_texts, of_limits, of_all_texts]
 
 
 if __name__ == "__main__":

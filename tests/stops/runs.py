@@ -158,6 +158,14 @@ REJECTED = lines(
     f"second {DEVICE_198.replace('198', '197')}",
     "set-aside 1",
 )
+NOTATED = lines(
+    "rejected dimen/handle node 0 N6 MixedTrace: devices there come to it by different decisions",
+    f"  claimed 16dp from {PORCELAIN}",
+    f"  on sw320dp *198dpi* v21: 13dp from {TEAPOT} xhdpi-v4",
+    f"  on sw320dp *197dpi* v21: 16dp from {PORCELAIN} (default)",
+    "failed 1 of 2 goals",
+    "set-aside 1",
+)
 MADE = lines(
     '{"goals":[{"id":"0x7f050000","nodes":[{"coord":"locale","in":["de-AT","de-CH","de-DE"]},'
     '{"kind":3,"layer":1,"word":1},{"kind":3,"layer":1,"word":0}]},'
@@ -291,6 +299,7 @@ def box_runs():
     yield Run("rejected", ["check", LAYERS, PHONES, WRONG, *GOALS], [*of_box, WRONG], 1, REJECTED)
     goal = "goal 1 0x7f030000 dimen/handle\n"
     yield Run("check --names", ["check", "--names", LAYERS, PHONES, WRONG, *GOALS], [*of_box, WRONG], 1, REJECTED, goal)
+    yield Run("check --android", ["check", "--android", "--all", LAYERS, PHONES, WRONG, *GOALS], [*of_box, WRONG], 1, NOTATED)
     yield Run("make", ["make", LAYERS, PHONES, *GOALS], of_box, out=MADE)
     yield Run("counter", ["make", LAYERS, PHONES, "0x7f050009"], of_box, 1, COUNTER)
     omit, absent = ["make", "--omit", "--max-nodes", "6", LAYERS, PHONES], "0x7f050009"

@@ -16,8 +16,8 @@ import worked_rows
 from worked_boxes import of_joined
 from worked_calls import CHAIN, LONG
 from worked_certificates import (
-    CHECKED, FRENCH_AND_GERMAN, GOAL_LISTS, MEDIUM_AND_HIGH, PARTED, STYLED, STYLES, at_most, certificate_of, checked, rejected,
-    tree, tree_under, value,
+    CHECKED, FRENCH_AND_GERMAN, GOAL_LISTS, MEDIUM_AND_HIGH, PARTED, STYLED, STYLES, at_most, certificate_of, checked,
+    of_notated_styles, rejected, tree, tree_under, value,
 )
 from worked_made import NODE_LIMIT, ONE_LEAF, counter, made, of_names, of_omitted, written
 from worked_reports import of_certificates, of_surveys, surveyed
@@ -168,6 +168,7 @@ def of_checked():
     for attr, styles, box, nodes, told in firsts(STYLED):
         certificate = certificate_of(tree_under(attr, styles, *nodes), version=2)
         yield checked(STYLES, box, certificate, told, f"{attr}@{','.join(styles)}")
+    yield from of_notated_styles()
     yield from of_names()
 
 

@@ -3,6 +3,9 @@ pub mod TableNotation
 pub mod EndNotation
 pub mod BagNotation
 pub mod AttrNotation
+pub mod GoalLookUps
+pub mod GoalNotation
+pub mod DeviceNotation
 pub mod DecisionWords
 pub mod Columns
 pub mod ColumnsSeen

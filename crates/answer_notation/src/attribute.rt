@@ -200,8 +200,9 @@ fn write_slot<W: Write + Drop>(
     }
 }
 
+/// Writes where an attribute ends.
 #[tactic(auto, unfolding(crate::specs::AttrNotation::slot_end))]
-fn write_slot_end<W: Write + Drop>(
+pub(crate) fn write_slot_end<W: Write + Drop>(
     naming: &Naming<'_, '_, '_>,
     end: End,
     out: &mut W,

@@ -1,7 +1,6 @@
 -- The verdict on a certificate as text.
 use Rattle.std.specs.Prelude.{ℕ, List, [], ◌∷◌, ◌++◌, codes, length}
 use Rattle.std.specs.Fmt.{decimal}
-use Rattle.std.specs.List.{flat_map}
 use Rattle.command_base.specs.answer_text.config_record.DeviceSeen.{device_numbers}
 use Rattle.command_base.specs.answer_text.config_record.Qualifiers.{device_text}
 use Rattle.command_base.specs.answer_text.reference_resolver.declared.end.End.{End}
@@ -53,7 +52,3 @@ verdict_text (Rejected goal node rule shown) goals = rejection_text (Rejected go
 -- the line `failed N of M goals`
 unfoldable pub failed_line : ℕ → ℕ → List ℕ
 failed_line failed goals = codes "failed " ++ decimal failed ++ codes " of " ++ decimal goals ++ codes " goals" ++ 10 ∷ []
-
--- one rejection after the other, and how many of how many goals these are
-unfoldable pub rejections_text : List Verdict → ℕ → List ℕ
-rejections_text rejections goals = flat_map rejection_text rejections ++ failed_line (length rejections) goals

@@ -11,11 +11,14 @@
 //! ```
 #![tactic(auto)]
 
+mod rejection;
 mod verdict;
 
+pub use answer_notation::Naming;
 pub use answer_text::{dump_text, end_text, explain, rows_text};
 pub use cert_maker::{
     Cert, ConfigBox, Goal, Made, Omitted, Omitting, Progress, Rule, Shown, Unwatched, Verdict,
 };
 pub use command_base::{LayersFault, Side, ToolFault, fault_text};
-pub use verdict::{device_with_end, rejections_text, verdict_text};
+pub use rejection::{Rejection, write_rejections_in, write_verdict_in};
+pub use verdict::{device_with_end, verdict_text};

@@ -1,11 +1,10 @@
 //! The verdict on a certificate, written.
 
 ghost use Rattle.std.specs.Prelude.{◌≡◌};
-ghost use Rattle.std.specs.List.{flat_map};
 ghost use Rattle.contract_words.specs.Writes.{Writes};
 ghost use Rattle.command_base.specs.answer_text.config_record.DeviceSeen.{device_numbers};
 ghost use Rattle.cert_maker.specs.cert_tree.Certificate.{goals_of, node_count};
-ghost use Rattle.resource_text.specs.VerdictText.{accepted_line, accepted_text, rejected_line, named_device_line, device_with_end, failed_line, rejection_text, rejections_text, shown_text, verdict_text};
+ghost use Rattle.resource_text.specs.VerdictText.{accepted_line, accepted_text, rejected_line, named_device_line, device_with_end, failed_line, rejection_text, shown_text, verdict_text};
 
 use answer_text::write_end_line;
 use cert_maker::{Cert, Shown, Verdict};
@@ -27,38 +26,21 @@ pub fn verdict_text<W: Write + Drop>(
     }
 }
 
-/// Writes rejections, one after the other, and how many goals of a list these are.
-#[tactic(auto, unfolding(crate::specs::VerdictText::rejections_text))]
-pub fn rejections_text<W: Write + Drop>(
-    rejections: &[Verdict],
+/// Writes how many goals of a list are rejected.
+#[tactic(auto, unfolding(crate::specs::VerdictText::failed_line))]
+pub(crate) fn write_failed<W: Write + Drop>(
+    failed: usize,
     goals: usize,
     out: &mut W,
 ) -> io::Result<()>
-    ensures { Writes W.contents out.old out.new result (rejections_text rejections.now goals) }
-{
-    write_rejections(rejections, out)?;
-    write_failed(rejections.len(), goals, out)
-}
-
-#[tactic(auto, using(contract_words::proofs::TextSteps::puts))]
-fn write_rejections<W: Write + Drop>(rejections: &[Verdict], out: &mut W) -> io::Result<()>
-    ensures { Writes W.contents out.old out.new result (flat_map rejection_text rejections.now) }
-{
-    for rejection in rejections {
-        write_rejection(rejection, out)?;
-    }
-    Ok(())
-}
-
-#[tactic(auto, unfolding(crate::specs::VerdictText::failed_line))]
-fn write_failed<W: Write + Drop>(failed: usize, goals: usize, out: &mut W) -> io::Result<()>
     ensures { Writes W.contents out.old out.new result (failed_line failed goals) }
 {
     writeln!(out, "failed {failed} of {goals} goals")
 }
 
+/// Writes a rejection.
 #[tactic(auto, unfolding(crate::specs::VerdictText::rejection_text))]
-fn write_rejection<W: Write + Drop>(rejection: &Verdict, out: &mut W) -> io::Result<()>
+pub(crate) fn write_rejection<W: Write + Drop>(rejection: &Verdict, out: &mut W) -> io::Result<()>
     ensures { Writes W.contents out.old out.new result (rejection_text rejection.now) }
 {
     match rejection {
@@ -75,7 +57,8 @@ fn write_rejection<W: Write + Drop>(rejection: &Verdict, out: &mut W) -> io::Res
     }
 }
 
-fn write_accepted<W: Write + Drop>(certificate: &Cert, out: &mut W) -> io::Result<()>
+/// Writes how many goals and nodes a certificate has that is accepted.
+pub(crate) fn write_accepted<W: Write + Drop>(certificate: &Cert, out: &mut W) -> io::Result<()>
     ensures { Writes W.contents out.old out.new result (accepted_text (goals_of certificate.now)) }
 {
     write_counts(certificate.goals.len(), node_count(certificate), out)

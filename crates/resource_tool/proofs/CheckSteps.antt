@@ -8,11 +8,12 @@ use Rattle.table_commands.specs.command_base.declared.status.Status.{Status}
 use Rattle.table_commands.specs.command_base.Output.{PrintsOneOf}
 use Rattle.table_commands.specs.command_base.StackBytes.{LayerBytes}
 use Rattle.resource_text.specs.cert_maker.cert_checker.declared.verdict.Verdict.{Verdict}
+use Rattle.resource_text.specs.declared.rejection.Rejection.{Rejection}
 use Rattle.resource_text.specs.cert_maker.cert_checker.Verdict.{IsVerdict}
 use Rattle.resource_text.specs.cert_maker.cert_checker.Headline.{Headline}
 use Rattle.resource_tool.specs.Answered.{PrintsBothOneOf}
 use Rattle.resource_tool.specs.GoalTold.{goal_told}
-use Rattle.resource_tool.specs.CheckOutput.{CheckInputs, check_inputs, IsCheckOutput, IsCheckAnswer, Tells, goal_told_of, said_lines, status_of_verdict}
+use Rattle.resource_tool.specs.CheckOutput.{CheckInputs, check_inputs, IsCheckOutput, IsCheckAnswer, Tells, TellingOf, goal_told_of, said_lines, status_of_verdict}
 use Rattle.resource_tool.specs.EachGoal.{goes_on}
 use Rattle.resource_tool.specs.CheckHeadline.{HeadlineHolds}
 
@@ -31,31 +32,31 @@ headline-holds contents old new layers box_json cert_json asked status inputs re
 
 -- where names are not asked for, nothing is to be said
 
-said-nothing : (stack : List LayerOf) (asked : List GoalSeen) (rejections : List Verdict) → flat_map (goal_told_of stack asked false) rejections ≡ []
+said-nothing : (stack : List LayerOf) (asked : List GoalSeen) (rejections : List Rejection) → flat_map (λ rejection. goal_told_of stack asked false rejection.verdict) rejections ≡ []
 unfolding goal_told
 said-nothing stack asked [] = refl
 said-nothing stack asked (rejection ∷ rejections) = said-nothing stack asked rejections
 
-all-said : (asked : List GoalSeen) (names : Bool) (inputs : CheckInputs) (verdict : Verdict) (goal : Option ℕ) (text lines : List ℕ)
-    → Tells asked names inputs verdict goal text lines → said_lines names lines ≡ lines
+all-said : (asked : List GoalSeen) (names all : Bool) (paths : Option (List (List ℕ))) (inputs : CheckInputs) (verdict : Verdict) (goal : Option ℕ) (text lines : List ℕ)
+    → Tells asked (record { names = names; all = all; paths = paths }) inputs verdict goal text lines → said_lines names lines ≡ lines
 unfolding goal_told
-all-said asked true inputs verdict goal text lines told = refl
-all-said asked false inputs verdict None text lines told = sym told.1
-all-said asked false inputs verdict (Some goal) text lines told = sym (told.said ∙ said-nothing inputs.stack asked told.rejections)
+all-said asked true all paths inputs verdict goal text lines told = refl
+all-said asked false all paths inputs verdict None text lines told = sym told.1
+all-said asked false all paths inputs verdict (Some goal) text lines told = sym (told.said ∙ said-nothing inputs.stack asked told.rejections)
 
 -- what is told of a verdict
-pub told-beside : {W V : Type 0} (contents : W → Option (List ℕ)) (says : V → Option (List ℕ)) (old new : W) (before after : V) (asked : List GoalSeen) (names all : Bool) (inputs : CheckInputs)
+pub told-beside : {W V : Type 0} (contents : W → Option (List ℕ)) (says : V → Option (List ℕ)) (old new : W) (before after : V) (asked : List GoalSeen) (telling : TellingOf) (inputs : CheckInputs)
     (verdict : Verdict) (status : Status) (text lines : List ℕ)
     → IsVerdict inputs.stack inputs.sets asked inputs.trees verdict → Headline inputs.stack inputs.sets asked inputs.trees verdict → status ≡ status_of_verdict verdict
-    → Tells asked names inputs verdict (goes_on all verdict) text lines → Appends (contents old) (contents new) text
-    → Appends (says before) (says after) (said_lines names lines)
-    → PrintsBothOneOf (IsCheckAnswer asked names all) contents says old new before after (Ok status) (Ok inputs)
-told-beside contents says old new before after asked names all inputs verdict status text lines right headline ended told put said = (
+    → Tells asked telling inputs verdict (goes_on telling.all verdict) text lines → Appends (contents old) (contents new) text
+    → Appends (says before) (says after) (said_lines telling.names lines)
+    → PrintsBothOneOf (IsCheckAnswer asked telling) contents says old new before after (Ok status) (Ok inputs)
+told-beside contents says old new before after asked telling inputs verdict status text lines right headline ended told put said = (
   inputs,
   text,
   lines,
   refl,
   record { verdict = verdict; right = right; headline = headline; status = ended; told = told },
   put,
-  subst (λ (t : List ℕ). Appends (says before) (says after) t) (all-said asked names inputs verdict (goes_on all verdict) text lines told) said,
+  subst (λ (t : List ℕ). Appends (says before) (says after) t) (all-said asked telling.names telling.all telling.paths inputs verdict (goes_on telling.all verdict) text lines told) said,
 )

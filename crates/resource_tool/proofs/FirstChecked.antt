@@ -1,6 +1,6 @@
 -- What a check says of the first goals of a list, one more than the certificate has trees, it says of the whole list: where
 -- there are more, the lists differ in the same place.
-use Rattle.std.proofs.Common.{◌≡◌, ℕ, ◌+◌, ◌<◌, ◌≤◌, inl, inr, arith, Bool, List, length, take, Option, Result, Ok, ap, subst, sym, ◌∙◌, length-take}
+use Rattle.std.proofs.Common.{◌≡◌, ℕ, ◌+◌, ◌<◌, ◌≤◌, inl, inr, arith, List, ◌++◌, length, take, Option, Some, None, Result, Ok, ap, subst, sym, ◌∙◌, length-take}
 use Rattle.std.proofs.lemmas.Bool.{cases_lt}
 use Rattle.std.proofs.lemmas.List.{take_all, length-map}
 use Rattle.std.proofs.lemmas.Option.{slice_get_past}
@@ -12,14 +12,20 @@ use Rattle.table_commands.specs.command_base.Stop.{StopOf}
 use Rattle.table_commands.specs.command_base.Output.{Output}
 use Rattle.resource_text.specs.cert_maker.cert_tree.Certificate.{GoalOf}
 use Rattle.resource_text.specs.cert_maker.res_value.Goal.{GoalSeen}
+use Rattle.resource_text.specs.answer_notation.Naming.{NamingOf}
+use Rattle.resource_text.specs.RejectionNotation.{claim_at, rejected_notation, rejection_notation, shown_of, verdict_in}
+use Rattle.table_commands.specs.answer_text.QueryText.{set_aside_line}
+use Rattle.table_commands.specs.command_base.SetAside.{rows_set_aside}
+use Rattle.resource_text.specs.cert_maker.cert_checker.declared.rule.Rule.{Rule}
 use Rattle.resource_text.specs.cert_maker.cert_checker.declared.rule.Rule.TheVariants.{GoalList}
+use Rattle.resource_text.specs.cert_maker.cert_checker.declared.verdict.Shown.{Shown}
 use Rattle.resource_text.specs.cert_maker.cert_checker.declared.verdict.Verdict.{Verdict}
 use Rattle.resource_text.specs.cert_maker.cert_checker.declared.verdict.Verdict.TheVariants.{Accepted, Rejected}
 use Rattle.resource_text.specs.cert_maker.cert_checker.FirstFault.{goals_in, DifferFirstAt}
 use Rattle.resource_text.specs.cert_maker.cert_checker.Verdict.{IsVerdict}
 use Rattle.resource_tool.specs.Answered.{PrintsBothOneOf}
 use Rattle.resource_tool.specs.Check.{OpenCheckOf, first_opened, with_first}
-use Rattle.resource_tool.specs.CheckOutput.{CheckInputs, IsCheckAnswer, Tells, status_of_verdict}
+use Rattle.resource_tool.specs.CheckOutput.{CheckInputs, IsCheckAnswer, Tells, TellingOf, naming_of, status_of_verdict, told_text}
 use Rattle.resource_tool.specs.EachGoal.{goes_on}
 use Rattle.resource_tool.proofs.FirstOf.{carried-on-all, first-at, told-of-first}
 use Rattle.resource_tool.proofs.Told.{told-otherwise}
@@ -58,46 +64,60 @@ differs-first trees asked g first =
 
 -- ---- the verdict
 
+-- where a goal is among the first, a rejection at it reads the same
+reads-of-first : (naming : Option NamingOf) (asked : List GoalSeen) (trees : List GoalOf) (n g k : ℕ) (rule : Rule) (shown : Shown) → g < n
+    → verdict_in naming (take n asked) trees (Rejected g k rule shown) ≡ verdict_in naming asked trees (Rejected g k rule shown)
+unfolding rejection_notation
+reads-of-first None asked trees n g k rule shown within = refl
+reads-of-first (Some naming) asked trees n g k rule shown within =
+    ap (λ (goal : Option GoalSeen). rejected_notation naming goal g k rule ++ shown_of naming (claim_at trees (Rejected g k rule shown)) goal shown) (first-at n asked g within)
+
+text-of-first : (telling : TellingOf) (asked : List GoalSeen) (inputs : CheckInputs) (n g k : ℕ) (rule : Rule) (shown : Shown) → g < n
+    → told_text telling (take n asked) inputs (Rejected g k rule shown) ≡ told_text telling asked inputs (Rejected g k rule shown)
+unfolding told_text
+text-of-first telling asked inputs n g k rule shown within =
+    ap (λ (text : List ℕ). text ++ set_aside_line (rows_set_aside inputs.rule inputs.stack)) (reads-of-first (naming_of telling inputs.stack) asked inputs.trees n g k rule shown within)
+
 -- where more goals are asked
-checked-longer : (asked : List GoalSeen) (names all : Bool) (inputs : CheckInputs) (output : Output) (lines : List ℕ) → length inputs.trees + 1 ≤ length asked → (verdict : Verdict)
+checked-longer : (asked : List GoalSeen) (telling : TellingOf) (inputs : CheckInputs) (output : Output) (lines : List ℕ) → length inputs.trees + 1 ≤ length asked → (verdict : Verdict)
     → IsVerdict inputs.stack inputs.sets (take (length inputs.trees + 1) asked) inputs.trees verdict → output.status ≡ status_of_verdict verdict
-    → Tells (take (length inputs.trees + 1) asked) names inputs verdict (goes_on all verdict) output.text lines → IsCheckAnswer asked names all inputs output lines
-checked-longer asked names all inputs output lines longer Accepted right ended told = absurd (not-same inputs.trees asked longer right.goals)
-checked-longer asked names all inputs output lines longer (Rejected g k GoalList shown) (fault, shows) ended told =
+    → Tells (take (length inputs.trees + 1) asked) telling inputs verdict (goes_on telling.all verdict) output.text lines → IsCheckAnswer asked telling inputs output lines
+checked-longer asked telling inputs output lines longer Accepted right ended told = absurd (not-same inputs.trees asked longer right.goals)
+checked-longer asked telling inputs output lines longer (Rejected g k GoalList shown) (fault, shows) ended told =
     let differ = differs-first inputs.trees asked g fault.0 in
     record {
       verdict = Rejected g k GoalList shown;
       right = ((differ, fault.1), shows);
       headline = (differ, fault.1);
       status = ended;
-      told = (told.0, told.1 ∙ told-of-first inputs.stack asked names (length inputs.trees + 1) g (differs-within inputs.trees asked g fault.0));
+      told = (told.0 ∙ text-of-first telling asked inputs (length inputs.trees + 1) g k GoalList shown (differs-within inputs.trees asked g fault.0), told.1 ∙ told-of-first inputs.stack asked telling.names (length inputs.trees + 1) g (differs-within inputs.trees asked g fault.0));
     }
-checked-longer asked names all inputs output lines longer (Rejected g k rule shown) (fault, shows) ended told = absurd (not-same inputs.trees asked longer fault.goals)
+checked-longer asked telling inputs output lines longer (Rejected g k rule shown) (fault, shows) ended told = absurd (not-same inputs.trees asked longer fault.goals)
 
 -- The law: a verdict for the first goals is one for all.
-pub first-checked : (asked : List GoalSeen) (names all : Bool) (inputs : CheckInputs) (output : Output) (lines : List ℕ)
-    → IsCheckAnswer (take (length inputs.trees + 1) asked) names all inputs output lines → IsCheckAnswer asked names all inputs output lines
-first-checked asked names all inputs output lines answer =
+pub first-checked : (asked : List GoalSeen) (telling : TellingOf) (inputs : CheckInputs) (output : Output) (lines : List ℕ)
+    → IsCheckAnswer (take (length inputs.trees + 1) asked) telling inputs output lines → IsCheckAnswer asked telling inputs output lines
+first-checked asked telling inputs output lines answer =
     elim (cases_lt (length inputs.trees) (length asked)) [
-      | inl longer ↦ checked-longer asked names all inputs output lines (omega (arith, longer)) answer.verdict answer.right answer.status answer.told
-      | inr few ↦ subst (λ (goals : List GoalSeen). IsCheckAnswer goals names all inputs output lines) (take_all (length inputs.trees + 1) asked (omega (arith, few))) answer
+      | inl longer ↦ checked-longer asked telling inputs output lines (omega (arith, longer)) answer.verdict answer.right answer.status answer.told
+      | inr few ↦ subst (λ (goals : List GoalSeen). IsCheckAnswer goals telling inputs output lines) (take_all (length inputs.trees + 1) asked (omega (arith, few))) answer
     ]
 
 -- So the command that is carried out on the first goals is carried out on all.
-pub checked-of-all : {W V : Type 0} (names all : Bool) (contents : W → Option (List ℕ)) (says : V → Option (List ℕ)) (old new : W) (before after : V) (check : OpenCheckOf) (done : Result Status ToolFault)
-    → PrintsBothOneOf (IsCheckAnswer (with_first check).goals names all) contents says old new before after done (Ok check.opened)
-    → PrintsBothOneOf (IsCheckAnswer check.goals names all) contents says old new before after done (Ok check.opened)
-checked-of-all names all contents says old new before after check done told =
-    told-otherwise (IsCheckAnswer (with_first check).goals names all) (IsCheckAnswer check.goals names all) contents says old new before after done (Ok check.opened)
+pub checked-of-all : {W V : Type 0} (telling : TellingOf) (contents : W → Option (List ℕ)) (says : V → Option (List ℕ)) (old new : W) (before after : V) (check : OpenCheckOf) (done : Result Status ToolFault)
+    → PrintsBothOneOf (IsCheckAnswer (with_first check).goals telling) contents says old new before after done (Ok check.opened)
+    → PrintsBothOneOf (IsCheckAnswer check.goals telling) contents says old new before after done (Ok check.opened)
+checked-of-all telling contents says old new before after check done told =
+    told-otherwise (IsCheckAnswer (with_first check).goals telling) (IsCheckAnswer check.goals telling) contents says old new before after done (Ok check.opened)
     (λ inputs output lines is answer.
     let same : check.opened ≡ inputs = cc in
-    first-checked check.goals names all inputs output lines
-    (subst (λ (i : CheckInputs). IsCheckAnswer (take (length i.trees + 1) check.goals) names all inputs output lines) same answer))
+    first-checked check.goals telling inputs output lines
+    (subst (λ (i : CheckInputs). IsCheckAnswer (take (length i.trees + 1) check.goals) telling inputs output lines) same answer))
     told
 
-pub carried-by-first : {W V : Type 0} (names all : Bool) (contents : W → Option (List ℕ)) (says : V → Option (List ℕ)) (old new : W) (before after : V) (meant : Result OpenCheckOf StopOf) (result : Result Status Stop)
-    → CarriesOut (λ check done. PrintsBothOneOf (IsCheckAnswer check.goals names all) contents says old new before after done (Ok check.opened)) (first_opened meant) result
-    → CarriesOut (λ check done. PrintsBothOneOf (IsCheckAnswer check.goals names all) contents says old new before after done (Ok check.opened)) meant result
-carried-by-first names all contents says old new before after meant result carried =
-    carried-on-all with_first (λ (check : OpenCheckOf) (done : Result Status ToolFault). PrintsBothOneOf (IsCheckAnswer check.goals names all) contents says old new before after done (Ok check.opened)) meant result
-    (checked-of-all names all contents says old new before after) carried
+pub carried-by-first : {W V : Type 0} (telling : TellingOf) (contents : W → Option (List ℕ)) (says : V → Option (List ℕ)) (old new : W) (before after : V) (meant : Result OpenCheckOf StopOf) (result : Result Status Stop)
+    → CarriesOut (λ check done. PrintsBothOneOf (IsCheckAnswer check.goals telling) contents says old new before after done (Ok check.opened)) (first_opened meant) result
+    → CarriesOut (λ check done. PrintsBothOneOf (IsCheckAnswer check.goals telling) contents says old new before after done (Ok check.opened)) meant result
+carried-by-first telling contents says old new before after meant result carried =
+    carried-on-all with_first (λ (check : OpenCheckOf) (done : Result Status ToolFault). PrintsBothOneOf (IsCheckAnswer check.goals telling) contents says old new before after done (Ok check.opened)) meant result
+    (checked-of-all telling contents says old new before after) carried

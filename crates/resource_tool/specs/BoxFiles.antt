@@ -3,28 +3,29 @@
 use Rattle.std.specs.Prelude.{ℕ, List, Result, Ok}
 use Rattle.contract_words.specs.Faults.{◌>>=◌}
 use Rattle.contract_words.specs.Sequences.{joined_each}
-use Rattle.table_commands.specs.command_base.FilesSeen.{layers_held}
+use Rattle.table_commands.specs.command_base.FilesSeen.{layers_held, paths_held}
 use Rattle.table_commands.specs.command_base.FileWords.{strings_held, words_at}
-use Rattle.table_commands.specs.command_base.Inputs.{Places, file_of, layers_of}
+use Rattle.table_commands.specs.command_base.Inputs.{Places, file_of, layers_of, paths_of_layers}
 use Rattle.table_commands.specs.command_base.StackBytes.{LayerBytes}
 use Rattle.table_commands.specs.command_base.Stop.{StopOf}
 use Rattle.resource_tool.specs.declared.box_files.BoxFiles.{BoxFiles}
 use Rattle.resource_tool.specs.declared.box_files.GoalFiles.{GoalFiles}
 
--- the bytes of layers and of a box
+-- the bytes of layers, with the paths of their tables, and of a box
 pub record BoxBytes : Type 0 where
   pub layers : List LayerBytes
+  pub paths : List (List ℕ)
   pub box_json : List ℕ
 
 abbrev pub box_held : BoxFiles → BoxBytes
-box_held files = record { layers = layers_held files.layers; box_json = files.box_json.items }
+box_held files = record { layers = layers_held files.layers; paths = paths_held files.layers; box_json = files.box_json.items }
 
 -- layers and then the box
 unfoldable pub box_files : Places → List ℕ → List ℕ → Result BoxBytes StopOf
 box_files places layers_path box_path = do
   layers ← layers_of places layers_path
   box_json ← file_of places box_path
-  Ok (record { layers = layers; box_json = box_json })
+  Ok (record { layers = layers; paths = paths_of_layers places layers_path; box_json = box_json })
 
 -- the bytes of layers and of a box, and the words of goals
 pub record GoalBytes : Type 0 where

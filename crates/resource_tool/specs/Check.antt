@@ -1,13 +1,13 @@
 -- What the words of `check` ask, from what the places have to the answer. First come the words of files, then the faults of
 -- inputs, and then the first word that asks for no resource.
-use Rattle.std.specs.Prelude.{ℕ, ◌+◌, List, map, length, take, Option, Result, Ok}
+use Rattle.std.specs.Prelude.{ℕ, ◌+◌, List, [], map, length, take, Option, Some, None, Result, Ok, Err, if◌then◌else◌}
 use Rattle.contract_words.specs.Faults.{◌>>=◌}
 use Rattle.contract_words.specs.Sequences.{joined_each}
 use Rattle.json_input.specs.Each.{each}
 use Rattle.table_commands.specs.command_base.declared.status.Status.{Status}
 use Rattle.table_commands.specs.command_base.declared.stop.Stop.{Stop}
 use Rattle.table_commands.specs.command_base.CarriesOut.{CarriesOut, read_or_stop, found_or_stop}
-use Rattle.table_commands.specs.command_base.FilesSeen.{layers_held}
+use Rattle.table_commands.specs.command_base.FilesSeen.{layers_held, paths_held}
 use Rattle.table_commands.specs.command_base.FileWords.{goal_asked, strings_held, texts_of, words_at}
 use Rattle.table_commands.specs.command_base.Inputs.{Places, file_of}
 use Rattle.table_commands.specs.command_base.StackBytes.{LayerBytes}
@@ -20,14 +20,15 @@ use Rattle.resource_tool.specs.declared.check.CheckFiles.{CheckFiles}
 use Rattle.resource_tool.specs.declared.check.OpenCheck.{OpenCheck}
 use Rattle.resource_tool.specs.Answered.{PrintsBothOneOf}
 use Rattle.resource_tool.specs.BoxFiles.{box_files}
-use Rattle.resource_tool.specs.CheckOutput.{CheckInputs, IsCheckAnswer, check_inputs_by}
+use Rattle.resource_tool.specs.CheckOutput.{CheckInputs, IsCheckAnswer, TellingOf, check_inputs_by}
 use Rattle.resource_tool.specs.OpenedSeen.{opened_cert}
 
 -- ---- the files
 
--- layers, the bytes of a box and of a certificate, and the words of goals
+-- layers with the paths of their tables, the bytes of a box and of a certificate, and the words of goals
 pub record CheckBytes : Type 0 where
   pub layers : List LayerBytes
+  pub paths : List (List ℕ)
   pub box_json : List ℕ
   pub certificate : List ℕ
   pub words : List (List ℕ)
@@ -35,10 +36,16 @@ pub record CheckBytes : Type 0 where
 abbrev pub check_held : CheckFiles → CheckBytes
 check_held files = record {
   layers = layers_held files.layers;
+  paths = paths_held files.layers;
   box_json = files.box_json.items;
   certificate = files.certificate.items;
   words = strings_held files.words;
 }
+
+-- the paths of the tables of layers that are read
+abbrev pub paths_checked : Result CheckBytes StopOf → List (List ℕ)
+paths_checked (Ok files) = files.paths
+paths_checked (Err stop) = []
 
 -- layers, a box, a certificate, and then the files of words
 unfoldable pub check_files : Places → List ℕ → List ℕ → List ℕ → List (List ℕ) → Result CheckBytes StopOf
@@ -46,7 +53,7 @@ check_files places layers_path box_path certificate_path words = do
   files ← box_files places layers_path box_path
   certificate ← file_of places certificate_path
   words ← joined_each (words_at places) words
-  Ok (record { layers = files.layers; box_json = files.box_json; certificate = certificate; words = words })
+  Ok (record { layers = files.layers; paths = files.paths; box_json = files.box_json; certificate = certificate; words = words })
 
 -- ---- the goals
 
@@ -75,10 +82,14 @@ first_opened meant = meant >>= λ check. Ok (with_first check)
 
 -- ---- the answer
 
+-- how a verdict is told, where the tables of the layers lie at these paths
+abbrev pub telling_of : Check → List (List ℕ) → TellingOf
+telling_of check paths = record { names = check.names; all = check.all; paths = if check.android then Some paths else None }
+
 -- from the files, if they are read
 abbrev pub ChecksFiles : {W V : Type 0} → (W → Option (List ℕ)) → (V → Option (List ℕ)) → W → W → V → V → Check → Result CheckBytes StopOf → Result Status Stop → Type 0
 ChecksFiles contents says old new before after check read result =
-    CarriesOut (λ asked done. PrintsBothOneOf (IsCheckAnswer asked.goals check.names check.all) contents says old new before after done (Ok asked.opened))
+    CarriesOut (λ asked done. PrintsBothOneOf (IsCheckAnswer asked.goals (telling_of check (paths_checked read))) contents says old new before after done (Ok asked.opened))
     (read >>= λ files. check_opened check.locales files.layers files.box_json files.certificate files.words) result
 
 -- from what the places have

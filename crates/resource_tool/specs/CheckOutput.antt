@@ -1,6 +1,7 @@
 -- What the command `check` prints.
 use Rattle.std.specs.Prelude.{◌≡◌, ℕ, ◌++◌, Bool, List, [], length, Option, Some, None, Result, Ok, if◌then◌else◌}
 use Rattle.std.specs.List.{flat_map}
+use Rattle.std.specs.Option.{option_map}
 use Rattle.contract_words.specs.Faults.{◌>>=◌}
 use Rattle.table_commands.specs.config_record.locales.declared.locale_rule.LocaleRule.{LocaleRule}
 use Rattle.table_commands.specs.config_record.locales.declared.locale_rule.LocaleRule.TheVariants.{LanguageAndRegion}
@@ -17,7 +18,10 @@ use Rattle.resource_text.specs.cert_maker.cert_checker.Headline.{Headline}
 use Rattle.table_commands.specs.command_base.declared.fault.ToolFault.{ToolFault}
 use Rattle.table_commands.specs.command_base.ToolFault.{fault_of_box, fault_of_certificate}
 use Rattle.table_commands.specs.answer_text.QueryText.{set_aside_line}
-use Rattle.resource_text.specs.VerdictText.{rejections_text, verdict_text}
+use Rattle.resource_text.specs.declared.rejection.Rejection.{Rejection}
+use Rattle.resource_text.specs.RejectionNotation.{rejections_in, verdict_in}
+use Rattle.resource_text.specs.VerdictText.{verdict_text}
+use Rattle.resource_text.specs.answer_notation.Naming.{NamingOf}
 use Rattle.table_commands.specs.command_base.declared.status.Status.{Status}
 use Rattle.table_commands.specs.command_base.declared.status.Status.TheVariants.{Done, Negative}
 use Rattle.table_commands.specs.command_base.Output.{Output}
@@ -71,6 +75,22 @@ pub record IsCheckOutput (asked : List GoalSeen) (inputs : CheckInputs) (output 
 
 -- ---- the same as it is asked, and what is said beside it
 
+-- How a verdict is told: with names beside it, of all goals; in Android's notation, where paths of the tables of the layers are
+-- given.
+pub record TellingOf : Type 0 where
+  pub names : Bool
+  pub all : Bool
+  pub paths : Option (List (List ℕ))
+
+-- the names of the layers, for that notation
+abbrev pub naming_of : TellingOf → List LayerOf → Option NamingOf
+naming_of telling stack = option_map (λ paths. record { stack = stack; paths = paths }) telling.paths
+
+-- the verdict as it is told, and the same line behind it
+unfoldable pub told_text : TellingOf → List GoalSeen → CheckInputs → Verdict → List ℕ
+told_text telling asked inputs verdict =
+    verdict_in (naming_of telling inputs.stack) asked inputs.trees verdict ++ set_aside_line (rows_set_aside inputs.rule inputs.stack)
+
 -- the goal at which a certificate is rejected
 abbrev pub goal_of_verdict : Verdict → Option ℕ
 goal_of_verdict Accepted = None
@@ -82,26 +102,27 @@ goal_told_of stack asked names verdict = goal_told stack asked names (goal_of_ve
 
 -- All rejections are printed, with how many of how many goals these are, and these lines are said of their goals. The first of
 -- them is the verdict.
-pub record TellsAll (asked : List GoalSeen) (names : Bool) (inputs : CheckInputs) (verdict : Verdict) (text lines : List ℕ) : Type 0 where
-  pub rejections : List Verdict
+pub record TellsAll (asked : List GoalSeen) (telling : TellingOf) (inputs : CheckInputs) (verdict : Verdict) (text lines : List ℕ) : Type 0 where
+  pub rejections : List Rejection
   pub are : AreAllRejections inputs.stack inputs.sets inputs.trees verdict rejections
-  pub printed : text ≡ rejections_text rejections (length inputs.trees) ++ set_aside_line (rows_set_aside inputs.rule inputs.stack)
-  pub said : lines ≡ flat_map (goal_told_of inputs.stack asked names) rejections
+  pub printed : text ≡ rejections_in (naming_of telling inputs.stack) asked rejections (length inputs.trees)
+      ++ set_aside_line (rows_set_aside inputs.rule inputs.stack)
+  pub said : lines ≡ flat_map (λ rejection. goal_told_of inputs.stack asked telling.names rejection.verdict) rejections
 
 -- the verdict alone, or, where it goes on, all rejections
-abbrev pub Tells : List GoalSeen → Bool → CheckInputs → Verdict → Option ℕ → List ℕ → List ℕ → Type 0
-Tells asked names inputs verdict None text lines =
-    (text ≡ check_text inputs verdict) × (lines ≡ goal_told_of inputs.stack asked names verdict)
-Tells asked names inputs verdict (Some goal) text lines = TellsAll asked names inputs verdict text lines
+abbrev pub Tells : List GoalSeen → TellingOf → CheckInputs → Verdict → Option ℕ → List ℕ → List ℕ → Type 0
+Tells asked telling inputs verdict None text lines =
+    (text ≡ told_text telling asked inputs verdict) × (lines ≡ goal_told_of inputs.stack asked telling.names verdict)
+Tells asked telling inputs verdict (Some goal) text lines = TellsAll asked telling inputs verdict text lines
 
 -- nothing where names are not asked for (cited by contracts of this crate alone)
 abbrev pub said_lines : Bool → List ℕ → List ℕ
 said_lines names lines = if names then lines else []
 
--- A verdict that is right is told, with names or without; where all rejections are asked for, those.
-pub record IsCheckAnswer (asked : List GoalSeen) (names all : Bool) (inputs : CheckInputs) (output : Output) (lines : List ℕ) : Type 0 where
+-- A verdict that is right is told as it is asked; where all rejections are asked for, those.
+pub record IsCheckAnswer (asked : List GoalSeen) (telling : TellingOf) (inputs : CheckInputs) (output : Output) (lines : List ℕ) : Type 0 where
   pub verdict : Verdict
   pub right : IsVerdict inputs.stack inputs.sets asked inputs.trees verdict
   pub headline : Headline inputs.stack inputs.sets asked inputs.trees verdict
   pub status : output.status ≡ status_of_verdict verdict
-  pub told : Tells asked names inputs verdict (goes_on all verdict) output.text lines
+  pub told : Tells asked telling inputs verdict (goes_on telling.all verdict) output.text lines

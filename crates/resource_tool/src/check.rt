@@ -9,7 +9,7 @@ ghost use Rattle.table_commands.specs.command_base.StackBytesSeen.{layer_bytes};
 ghost use Rattle.table_commands.specs.command_base.Stop.{GivesOrStops};
 ghost use Rattle.resource_text.specs.cert_maker.res_value.Goal.{goal_seen};
 ghost use Rattle.resource_tool.specs.Answered.{PrintsBothOneOf};
-ghost use Rattle.resource_tool.specs.Check.{Checks, ChecksFiles, check_files, check_held, check_opened, check_seen, first_opened};
+ghost use Rattle.resource_tool.specs.Check.{Checks, ChecksFiles, check_files, check_held, check_opened, check_seen, first_opened, telling_of};
 ghost use Rattle.resource_tool.specs.CheckOutput.{IsCheckOutput, IsCheckAnswer, check_inputs, check_inputs_by, said_lines, status_of_verdict};
 ghost use Rattle.resource_tool.specs.CheckHeadline.{HeadlineHolds};
 ghost use Rattle.resource_tool.specs.OpenedSeen.{opened_cert};
@@ -42,6 +42,8 @@ pub struct Check<'a> {
     pub names: bool,
     /// Whether the rejections of all goals are printed.
     pub all: bool,
+    /// Whether a rejection is printed in Android's notation, where each id is told by its name.
+    pub android: bool,
     /// The words that ask for goals, or name a file of such words.
     pub goals: Vec<&'a str>,
 }
@@ -96,7 +98,7 @@ impl<'a> Check<'a> {
             &files.words,
         )?;
         let OpenCheck { opened, goals } = check;
-        Ok(opened.tell(alloc, &goals, self.names, self.all, out, errors)?)
+        Ok(opened.tell(alloc, &goals, self, files.layers.paths(), out, errors)?)
     }
 }
 
@@ -247,29 +249,30 @@ impl<'a> OpenedCert<'a> {
         Ok(status_of_verdict(verdict))
     }
 
-    /// Prints the same; or all rejections, where these are asked for and there are any. Where names are asked for, a line with each
-    /// goal of the list at which the certificate is rejected and its names goes to `errors`, after all else was written.
+    /// Prints the same, or a rejection in Android's notation; or all rejections, where these are asked for and there are any. Where
+    /// names are asked for, a line with each goal of the list at which the certificate is rejected and its names goes to `errors`,
+    /// after all else was written. The tables of the layers lie at these paths.
     fn tell<W: Write + Drop, E: Write + Drop>(
         self,
         alloc: Global,
         goals: &[Goal],
-        names: bool,
-        all: bool,
+        asked: &Check<'_>,
+        paths: &[String],
         out: &mut W,
         errors: &mut E,
     ) -> Result<Status, ToolFault>
-        ensures both { PrintsBothOneOf (IsCheckAnswer (map goal_seen goals.now) names all) W.contents E.contents
-            out.old out.new errors.old errors.new result (Ok (opened_cert self.entry)) }
-        ensures quiet { names ≡ false → errors.new ≡ errors.old }
+        ensures both { PrintsBothOneOf (IsCheckAnswer (map goal_seen goals.now) (telling_of asked.now (map string_bytes paths.now)))
+            W.contents E.contents out.old out.new errors.old errors.new result (Ok (opened_cert self.entry)) }
+        ensures quiet { asked.now.names ≡ false → errors.new ≡ errors.old }
     {
         let verdict = check(alloc, &self.stack, &self.members, goals, &self.certificate)?;
         let status = status_of_verdict(verdict);
-        let Ok(told) = self.told(alloc, goals, names, all, verdict) else {
+        let Ok(told) = self.told(alloc, goals, asked, paths, verdict) else {
             // In memory only a want of it is a fault.
             return Err(ToolFault::OutOfMemory);
         };
         out.write_all(&told.text)?;
-        say(names, &told.lines, errors)?;
+        say(asked.names, &told.lines, errors)?;
         Ok(status)
     }
 }

@@ -1,13 +1,14 @@
 //! Each goal of a certificate by itself.
 
-ghost use Rattle.std.specs.Prelude.{◌≡◌, ◌∷◌, ◌++◌, ◌+◌, ◌<◌, ◌^◌, List, length, map, drop, IfOk, OnOk};
-ghost use Rattle.resource_text.specs.cert_maker.cert_checker.declared.verdict.Verdict.{Verdict};
+ghost use Rattle.std.specs.Prelude.{◌≡◌, ◌∷◌, [], ◌++◌, ◌+◌, ◌<◌, ◌^◌, List, length, map, drop, IfOk, OnOk};
 ghost use Rattle.resource_text.specs.cert_maker.cert_tree.Certificate.{goal_of};
-ghost use Rattle.resource_tool.specs.EachGoal.{IsGoalVerdict, AreRejections, IsWith, goes_on, rejection_at};
+ghost use Rattle.resource_text.specs.RejectionNotation.{claim_at};
+ghost use Rattle.resource_text.specs.declared.rejection.Rejection.{Rejection};
+ghost use Rattle.resource_tool.specs.EachGoal.{IsGoalVerdict, AreRejections, IsWith, at_place, goes_on};
 
 use cert_checker::{CertGoal, Rule, check};
 use command_base::Stack;
-use resource_text::{Cert, ConfigBox, Verdict};
+use resource_text::{Cert, ConfigBox, Rejection, Verdict};
 use std::alloc::{AllocError, Global};
 use std::slice::from_ref;
 
@@ -26,22 +27,22 @@ pub(crate) fn goes_on(all: bool, verdict: &Verdict) -> Option<usize>
     }
 }
 
-/// A verdict by which one of these goals is rejected, and those on the goals behind it that are rejected too.
+/// The rejection of one of these goals, and those of the goals behind it that are rejected too.
 pub(crate) fn all_rejections(
     alloc: Global,
     stack: &Stack<'_>,
     members: &ConfigBox,
     trees: Vec<CertGoal>,
     goal: usize,
-    verdict: Verdict,
-) -> Result<Vec<Verdict>, AllocError>
+    first: Rejection,
+) -> Result<Vec<Rejection>, AllocError>
     requires { goal < length trees.items }
-    ensures { IfOk result (λ rejections. (others : List Verdict) × (rejections.items ≡ verdict ∷ others)
+    ensures { IfOk result (λ rejections. (others : List Rejection) × (rejections.items ≡ first ∷ others)
         × AreRejections stack.now members.now (goal + 1) (drop (goal + 1) (map goal_of trees.items)) others) }
 {
     let mut trees = trees;
     let behind = trees.split_off(goal + 1)?;
-    let first = vec![in alloc; verdict]?;
+    let first = vec![in alloc; first]?;
     let rejections = with_rejections(alloc, stack, members, first, goal + 1, behind)?;
     Ok(rejections)
 }
@@ -51,65 +52,71 @@ fn with_rejections(
     alloc: Global,
     stack: &Stack<'_>,
     members: &ConfigBox,
-    before: Vec<Verdict>,
+    before: Vec<Rejection>,
     place: usize,
     trees: Vec<CertGoal>,
-) -> Result<Vec<Verdict>, AllocError>
+) -> Result<Vec<Rejection>, AllocError>
     requires { place + length trees.items < 2 ^ 64 }
     ensures { IfOk result (λ rejections. IsWith stack.now members.now before.items place (map goal_of trees.items) rejections.items) }
 {
     let mut rejections = before;
     let mut place = place;
     for tree in trees {
-        let verdict = check_alone(alloc, stack, members, tree)?;
-        push_rejection(&mut rejections, place, verdict)?;
+        let rejection = check_alone(alloc, stack, members, tree)?;
+        push_rejection(&mut rejections, place, rejection)?;
         place += 1;
     }
     Ok(rejections)
 }
 
-// The verdict on a goal.
+// The verdict on a goal, with what its leaf claims.
 fn check_alone(
     alloc: Global,
     stack: &Stack<'_>,
     members: &ConfigBox,
     tree: CertGoal,
-) -> Result<Verdict, AllocError>
-    ensures { IfOk result (IsGoalVerdict stack.now members.now (goal_of tree)) }
+) -> Result<Rejection, AllocError>
+    ensures { IfOk result (λ rejection. IsGoalVerdict stack.now members.now (goal_of tree) rejection.verdict
+        × (rejection.claimed ≡ claim_at (goal_of tree ∷ []) rejection.verdict)) }
 {
     let alone = Cert {
         goals: vec![in alloc; tree]?,
     };
-    check(
+    let verdict = check(
         alloc,
         stack,
         members,
         from_ref(&alone.goals[0].goal),
         &alone,
-    )
+    )?;
+    Ok(Rejection::of(verdict, &alone))
 }
 
 fn push_rejection(
-    rejections: &mut Vec<Verdict>,
+    rejections: &mut Vec<Rejection>,
     place: usize,
-    verdict: Verdict,
+    rejection: Rejection,
 ) -> Result<(), AllocError>
-    ensures { OnOk result (rejections.new.items ≡ rejections.old.items ++ rejection_at place verdict) }
+    ensures { OnOk result (rejections.new.items ≡ rejections.old.items ++ at_place place rejection.verdict rejection.claimed) }
 {
     let Verdict::Rejected {
         node,
         rule,
         shown,
         ..
-    } = verdict
+    } = rejection.verdict
     else {
         return Ok(());
     };
-    rejections.push(Verdict::Rejected {
+    let verdict = Verdict::Rejected {
         goal: place,
         node,
         rule,
         shown,
+    };
+    rejections.push(Rejection {
+        verdict,
+        claimed: rejection.claimed,
     })?;
     Ok(())
 }

@@ -1,24 +1,28 @@
 //! What `check` tells of a verdict.
 
-ghost use Rattle.std.specs.Prelude.{◌≡◌, ◌++◌, true, None, Some, map, IfOk};
+ghost use Rattle.std.specs.Prelude.{◌≡◌, ◌++◌, true, None, Some, map, string_bytes, IfOk};
 ghost use Rattle.std.specs.List.{flat_map};
+ghost use Rattle.std.specs.Option.{option_copied};
 ghost use Rattle.contract_words.specs.Writes.{Writes};
 ghost use Rattle.table_commands.specs.answer_text.QueryText.{set_aside_line};
-ghost use Rattle.resource_text.specs.VerdictText.{rejections_text};
+ghost use Rattle.resource_text.specs.RejectionNotation.{rejections_in};
 ghost use Rattle.resource_text.specs.cert_maker.cert_checker.Verdict.{IsVerdict};
 ghost use Rattle.resource_text.specs.cert_maker.cert_tree.Certificate.{goals_of};
 ghost use Rattle.resource_text.specs.cert_maker.res_value.Goal.{goal_seen};
-ghost use Rattle.resource_tool.specs.CheckOutput.{Tells, TellsAll, check_text, goal_of_verdict, goal_told_of};
+ghost use Rattle.resource_tool.specs.Check.{telling_of};
+ghost use Rattle.resource_tool.specs.CheckOutput.{Tells, TellsAll, check_text, goal_of_verdict, goal_told_of, naming_of, told_text};
 ghost use Rattle.resource_tool.specs.EachGoal.{goes_on};
 ghost use Rattle.resource_tool.specs.OpenedSeen.{opened_cert};
 
-use crate::check::OpenedCert;
+use crate::check::{Check, OpenedCert};
 use crate::each_goal::{all_rejections, goes_on};
 use crate::goal_told::write_goal_told;
 use answer_text::{NamesBeside, set_aside_line};
-use command_base::rows_set_aside;
-use resource_text::{Goal, Verdict, rejections_text, verdict_text};
-use std::alloc::Global;
+use command_base::{Stack, rows_set_aside};
+use resource_text::{
+    Goal, Naming, Rejection, Verdict, verdict_text, write_rejections_in, write_verdict_in,
+};
+use std::alloc::{AllocError, Global};
 use std::io::{self, Write};
 
 /// What is printed, and what is said beside it.
@@ -34,21 +38,21 @@ impl OpenedCert<'_> {
         self,
         alloc: Global,
         goals: &[Goal],
-        names: bool,
-        all: bool,
+        asked: &Check<'_>,
+        paths: &[String],
         verdict: Verdict,
     ) -> io::Result<Told>
         requires { IsVerdict self.stack self.members (map goal_seen goals.now) (goals_of self.certificate) verdict }
-        ensures { IfOk result (λ told. Tells (map goal_seen goals.now) names (opened_cert self.entry) verdict (goes_on all verdict)
-            told.text.items told.lines.items) }
+        ensures { IfOk result (λ told. Tells (map goal_seen goals.now) (telling_of asked.now (map string_bytes paths.now)) (opened_cert self.entry)
+            verdict (goes_on asked.now.all verdict) told.text.items told.lines.items) }
     {
-        match goes_on(all, &verdict) {
+        match goes_on(asked.all, &verdict) {
             Some(goal) => {
-                let told = self.all_told(alloc, goals, names, verdict, goal)?;
+                let told = self.all_told(alloc, goals, asked, paths, verdict, goal)?;
                 Ok(told)
             }
             None => {
-                let told = self.verdict_told(alloc, goals, names, &verdict)?;
+                let told = self.verdict_told(alloc, goals, asked, paths, &verdict)?;
                 Ok(told)
             }
         }
@@ -58,14 +62,17 @@ impl OpenedCert<'_> {
         self,
         alloc: Global,
         goals: &[Goal],
-        names: bool,
+        asked: &Check<'_>,
+        paths: &[String],
         verdict: Verdict,
         goal: usize,
     ) -> io::Result<Told>
         requires right { IsVerdict self.stack self.members (map goal_seen goals.now) (goals_of self.certificate) verdict }
         requires at { goes_on true verdict ≡ Some goal }
-        ensures { IfOk result (λ told. TellsAll (map goal_seen goals.now) names (opened_cert self.entry) verdict told.text.items told.lines.items) }
+        ensures { IfOk result (λ told. TellsAll (map goal_seen goals.now) (telling_of asked.now (map string_bytes paths.now)) (opened_cert self.entry)
+            verdict told.text.items told.lines.items) }
     {
+        let first = Rejection::of(verdict, &self.certificate);
         let OpenedCert {
             stack,
             members,
@@ -74,32 +81,67 @@ impl OpenedCert<'_> {
         } = self;
         let trees = certificate.goals;
         let of = trees.len();
-        let rejections = all_rejections(alloc, &stack, &members, trees, goal, verdict)?;
-        let names = NamesBeside::of(alloc, &stack, names)?;
+        let rejections = all_rejections(alloc, &stack, &members, trees, goal, first)?;
+        let names = NamesBeside::of(alloc, &stack, asked.names)?;
+        let naming = naming_of(alloc, &stack, asked, paths)?;
+        let set_aside = rows_set_aside(&stack, rule);
         let mut text = Vec::new(alloc);
-        write_rejections(&rejections, of, rows_set_aside(&stack, rule), &mut text)?;
+        write_rejections(
+            naming.as_ref(),
+            goals,
+            &rejections,
+            of,
+            set_aside,
+            &mut text,
+        )?;
         let mut lines = Vec::new(alloc);
         write_goals_told(&names, goals, &rejections, &mut lines)?;
         Ok(Told { text, lines })
     }
 
+    #[tactic(auto, unfolding(crate::specs::CheckOutput::told_text))]
     fn verdict_told(
         &self,
         alloc: Global,
         goals: &[Goal],
-        names: bool,
+        asked: &Check<'_>,
+        paths: &[String],
         verdict: &Verdict,
     ) -> io::Result<Told>
-        ensures { IfOk result (λ told. Tells (map goal_seen goals.now) names (opened_cert self.now) verdict.now None
-            told.text.items told.lines.items) }
+        ensures { IfOk result (λ told. Tells (map goal_seen goals.now) (telling_of asked.now (map string_bytes paths.now)) (opened_cert self.now)
+            verdict.now None told.text.items told.lines.items) }
     {
-        let names = NamesBeside::of(alloc, &self.stack, names)?;
+        let names = NamesBeside::of(alloc, &self.stack, asked.names)?;
+        let naming = naming_of(alloc, &self.stack, asked, paths)?;
         let mut text = Vec::new(alloc);
-        write_verdict(verdict, self, &mut text)?;
+        write_verdict_in(
+            naming.as_ref(),
+            goals,
+            &self.certificate,
+            verdict,
+            &mut text,
+        )?;
+        set_aside_line(rows_set_aside(&self.stack, self.rule), &mut text)?;
         let mut lines = Vec::new(alloc);
         write_goal_of(&names, goals, verdict, &mut lines)?;
         Ok(Told { text, lines })
     }
+}
+
+// What the ids of a stack are called, where Android's notation is asked for.
+fn naming_of<'s, 'a, 'p>(
+    alloc: Global,
+    stack: &'s Stack<'a>,
+    asked: &Check<'_>,
+    paths: &'p [String],
+) -> Result<Option<Naming<'s, 'a, 'p>>, AllocError>
+    ensures { IfOk result (λ naming. naming ≡ naming_of (telling_of asked.now (map string_bytes paths.now)) stack.now) }
+{
+    if !asked.android {
+        return Ok(None);
+    }
+    let naming = Naming::of(alloc, stack, paths)?;
+    Ok(Some(naming))
 }
 
 /// Writes a verdict, and how many rows are set aside.
@@ -116,14 +158,17 @@ pub(crate) fn write_verdict<W: Write + Drop>(
 }
 
 fn write_rejections<W: Write + Drop>(
-    rejections: &[Verdict],
-    goals: usize,
+    naming: Option<&Naming<'_, '_, '_>>,
+    goals: &[Goal],
+    rejections: &[Rejection],
+    of: usize,
     set_aside: u128,
     out: &mut W,
 ) -> io::Result<()>
-    ensures { Writes W.contents out.old out.new result (rejections_text rejections.now goals ++ set_aside_line set_aside) }
+    ensures { Writes W.contents out.old out.new result
+        (rejections_in (option_copied naming.entry) (map goal_seen goals.now) rejections.now of ++ set_aside_line set_aside) }
 {
-    rejections_text(rejections, goals, out)?;
+    write_rejections_in(naming, goals, rejections, of, out)?;
     set_aside_line(set_aside, out)
 }
 
@@ -131,14 +176,14 @@ fn write_rejections<W: Write + Drop>(
 fn write_goals_told<W: Write + Drop>(
     names: &NamesBeside<'_, '_>,
     goals: &[Goal],
-    rejections: &[Verdict],
+    rejections: &[Rejection],
     out: &mut W,
 ) -> io::Result<()>
     ensures { Writes W.contents out.old out.new result
-        (flat_map (goal_told_of names.now.stack (map goal_seen goals.now) names.now.asked) rejections.now) }
+        (flat_map (λ rejection. goal_told_of names.now.stack (map goal_seen goals.now) names.now.asked rejection.verdict) rejections.now) }
 {
     for rejection in rejections {
-        write_goal_of(names, goals, rejection, out)?;
+        write_goal_of(names, goals, &rejection.verdict, out)?;
     }
     Ok(())
 }

@@ -28,7 +28,7 @@ use Rattle.resource_tool.specs.Answered.{PrintsBothOneOf}
 use Rattle.resource_tool.specs.Make.{OpenMakeOf, MakesOpened, OnceShown}
 use Rattle.resource_tool.specs.MakeOutput.{IsMakeAnswer}
 use Rattle.resource_tool.specs.OmitOutput.{IsOmitOutput, LinesFirst}
-use Rattle.resource_tool.specs.Check.{OpenCheckOf}
+use Rattle.resource_tool.specs.Check.{OpenCheckOf, check_files, paths_checked, telling_of}
 use Rattle.resource_tool.specs.CheckOutput.{IsCheckAnswer}
 use Rattle.report_commands.specs.Survey.{SurveyBytes}
 use Rattle.report_commands.specs.SurveyOutput.{survey_output_by}
@@ -285,7 +285,7 @@ module _ {W V E : Type 0} (is_terminal : Bool) (c : W → Option (List ℕ)) (d 
   answers-over from to carry carry_any carry_once carry_first carry_told carry_both places (asks.Make it) p =
       makes-over from to carry_once carry_first it.omit it.names it.max_nodes _ p
   answers-over from to carry carry_any carry_once carry_first carry_told carry_both places (asks.Check it) p =
-      carry_told _ _ (λ (asked : OpenCheckOf). IsCheckAnswer asked.goals it.names it.all) (λ (asked : OpenCheckOf). Ok asked.opened) _ p
+      carry_told _ _ (λ (asked : OpenCheckOf). IsCheckAnswer asked.goals (telling_of it (paths_checked (check_files places it.layers.now it.box_path.now it.certificate.now (texts_of it.goals))))) (λ (asked : OpenCheckOf). Ok asked.opened) _ p
   answers-over from to carry carry_any carry_once carry_first carry_told carry_both places (asks.Diff it) p =
       carry_any _ _ (λ (asked : OpenDiffOf). IsDiffOutput it.form asked.pairs it.max_nodes) (λ (asked : OpenDiffOf). Ok asked.opened) _ p
   answers-over from to carry carry_any carry_once carry_first carry_told carry_both places (asks.Values it) p =

@@ -68,7 +68,7 @@ commands =
     (locales ∷ flag (codes "keep") ∷ names ∷ android ∷ layers ∷ device ∷ one_word (codes "ATTR") ∷ several_words (codes "STYLE") ∷ [])
     ∷ command (codes "make")
     (locales ∷ nodes (codes "max-nodes") ∷ flag (codes "omit") ∷ names ∷ layers ∷ one_word (codes "BOX") ∷ goals ∷ [])
-    ∷ command (codes "check") (locales ∷ names ∷ flag (codes "all") ∷ layers ∷ one_word (codes "BOX") ∷ one_word (codes "CERT") ∷ goals ∷ [])
+    ∷ command (codes "check") (locales ∷ names ∷ android ∷ flag (codes "all") ∷ layers ∷ one_word (codes "BOX") ∷ one_word (codes "CERT") ∷ goals ∷ [])
     ∷ command (codes "diff")
     (locales ∷ flag (codes "raw") ∷ nodes (codes "max-nodes") ∷ one_word (codes "OLD") ∷ one_word (codes "NEW") ∷ one_word (codes "BOX") ∷ maybe_words (codes "NAME") ∷ [])
     ∷ command (codes "values")
@@ -205,8 +205,8 @@ IsMakeOf rule rows asked _ = ⊥
 abbrev pub IsCheckOf : LocaleRule → List Row → List (List ℕ) → Request → Type 0
 IsCheckOf rule rows asked (requests.Check it) =
     (it.locales ≡ rule) × (it.layers.now ≡ word_at (codes "LAYERS") rows) × (it.box_path.now ≡ word_at (codes "BOX") rows)
-    × (it.certificate.now ≡ word_at (codes "CERT") rows) × IsGiven (codes "names") rows it.names × IsGiven (codes "all") rows it.all
-    × (asked ≡ texts_of it.goals)
+    × (it.certificate.now ≡ word_at (codes "CERT") rows) × IsGiven (codes "names") rows it.names × IsGiven (codes "android") rows it.android
+    × IsGiven (codes "all") rows it.all × (asked ≡ texts_of it.goals)
 IsCheckOf rule rows asked _ = ⊥
 
 abbrev pub IsDiffOf : LocaleRule → List Row → List (List ℕ) → Request → Type 0

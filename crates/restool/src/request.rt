@@ -148,6 +148,7 @@ pub(crate) const USAGES: &[Usage] = &[
         arguments: &[
             LOCALES,
             GOAL_NAMES,
+            NOTATION,
             ALL_GOALS,
             LAYERS,
             BOX,
@@ -369,6 +370,7 @@ fn check_of<'a>(alloc: Global, given: &ArgMatches<'a>) -> Result<Request<'a>, Ar
         certificate: given_word(given, &CERTIFICATE),
         locales,
         names: given_flag(given, &NAMES),
+        android: given_flag(given, &NOTATION),
         all: given_flag(given, &ALL_GOALS),
         goals: given_asked(alloc, given, &GOALS, Asks::Goals)?,
     }))

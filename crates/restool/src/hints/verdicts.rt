@@ -9,11 +9,14 @@ use std::str;
 /// How the first line of a verdict ends where goals are others than those of the certificate.
 const OTHER_GOALS: &str = " N1 GoalList";
 
+/// The same in Android's notation.
+const OTHER_GOALS_IN_WORDS: &str = " N1 GoalList: the certificate is for other goals";
+
 impl<I: Inputs> Asked<'_, '_, I> {
     /// Where its goals are others; or by which other rule of locales it is true.
     pub(crate) fn hint_of_verdict(&self, check: &Check<'_>, said: &[u8]) -> Option<String> {
         let line = str::from_utf8(said).ok()?.lines().next()?;
-        if line.ends_with(OTHER_GOALS) {
+        if line.ends_with(OTHER_GOALS) || line.ends_with(OTHER_GOALS_IN_WORDS) {
             return match self.hint_of_goals(check) {
                 Some(hint) => Some(hint),
                 None => format!(in self.alloc;
@@ -43,6 +46,7 @@ impl<I: Inputs> Asked<'_, '_, I> {
             locales,
             names: false,
             all: false,
+            android: false,
             goals: check.goals.clone().ok()?,
         };
         match other.answer(alloc, &self.again(), &mut Vec::new(alloc), &mut sink()) {

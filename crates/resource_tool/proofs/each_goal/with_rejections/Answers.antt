@@ -10,8 +10,8 @@ overflow_add-place c = let more = ap length c.in-Some.ensures.steps.0 in let tot
 
 pub loop-tree-preserved : goal.loop-tree-preserved
 loop-tree-preserved c = (
-  all_but-next _ _ _ _ _ _ _ _ _ _ _ _ c.loop-tree.invariant.0 (ap (λ (trees : List CertGoal). map goal_of trees) c.in-Some.ensures.steps.0) c.in_ok-verdict.ensures
-      c.in_ok-push_rejection.ensures,
+  all_but-next _ _ _ _ _ _ _ _ _ _ _ _ c.loop-tree.invariant.0 (ap (λ (trees : List CertGoal). map goal_of trees) c.in-Some.ensures.steps.0) c.in_ok-rejection.ensures.0
+      (rw c.in_ok-rejection.ensures.1 at c.in_ok-push_rejection.ensures),
   (let more = ap length c.in-Some.ensures.steps.0 in let total = c.loop-tree.invariant.1 in omega (arith, more, total)),
 )
 

@@ -1,6 +1,7 @@
-use Rattle.std.proofs.Common.{◌≡◌, length, map, arith}
+use Rattle.std.proofs.Common.{◌≡◌, ◌∷◌, length, map, arith, ap, ◌∙◌}
 use Rattle.std.proofs.lemmas.List.{length-map}
 use Rattle.resource_text.specs.cert_maker.res_value.Goal.{goal_seen}
+use Rattle.resource_text.specs.declared.rejection.Rejection.{Rejection}
 use Rattle.resource_text.specs.cert_maker.cert_tree.Certificate.{goal_of}
 use Rattle.resource_tool.specs.OpenedSeen.{opened_cert}
 use Rattle.resource_tool.proofs.EachGoalSteps.{all-rejections}
@@ -15,7 +16,7 @@ returns c =
     record {
       rejections = c.in_ok-rejections.rejections.items;
       are = all-rejections inputs.stack inputs.sets (map goal_seen c.args.goals.now) inputs.trees c.args.verdict c.args.goal found.0 c.in_ok-rejections.rejections.items c.requires.right c.requires.at
-          found.1 found.2;
-      printed = rw (c.new-text.ensures.items, c.deref.ensures.value, count, c.rows_set_aside.ensures) at c.in_ok-write_rejections.ensures;
+          (found.1 ∙ ap (λ (first : Rejection). first ∷ found.0) c.of-first.ensures) found.2;
+      printed = rw (c.new-text.ensures.items, c.deref.ensures.value, count, c.rows_set_aside-set_aside.ensures, c.as_ref.ensures.value, c.in_ok-naming.ensures) at c.in_ok-write_rejections.ensures;
       said = rw (c.new-lines.ensures.items, c.deref-2.ensures.value, c.in_ok-names.ensures) at c.in_ok-write_goals_told.ensures;
     }
