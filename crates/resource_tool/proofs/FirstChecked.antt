@@ -1,6 +1,6 @@
 -- What a check says of the first goals of a list, one more than the certificate has trees, it says of the whole list: where
 -- there are more, the lists differ in the same place.
-use Rattle.std.proofs.Common.{◌≡◌, ℕ, ◌+◌, ◌<◌, ◌≤◌, inl, inr, arith, List, ◌++◌, length, take, Option, Some, None, Result, Ok, ap, subst, sym, ◌∙◌, length-take}
+use Rattle.std.proofs.Common.{◌≡◌, ℕ, ◌+◌, ◌<◌, ◌≤◌, inl, inr, arith, List, ◌++◌, length, take, Option, Some, None, Result, Ok, refl, ap, subst, sym, ◌∙◌, length-take}
 use Rattle.std.proofs.lemmas.Bool.{cases_lt}
 use Rattle.std.proofs.lemmas.List.{take_all, length-map}
 use Rattle.std.proofs.lemmas.Option.{slice_get_past}

@@ -1,4 +1,4 @@
-mod Answering
+pub mod Answering
 pub mod QuerySteps
 pub mod SamePath
 pub mod Cited
