@@ -6,4 +6,5 @@ pub mod Kept
 pub mod Blocks
 pub mod Valued
 pub mod UsedRows
+pub mod PrintedUnused
 pub use Rattle.answer_text.proofs.InOrder
