@@ -1,18 +1,17 @@
 -- A tree that grows until no box is open, or it is too large.
-use Rattle.std.proofs.Common.{◌≡◌, ℕ, ◌+◌, ◌≤◌, ◌<◌, inl, inr, arith, true, false, List, [], ◌∷◌, ◌++◌, append_assoc, length, length-append, reverse, sym, ◌∙◌, ap, refl, subst}
+use Rattle.std.proofs.Common.{◌≡◌, ℕ, ◌+◌, ◌<◌, inl, inr, arith, true, false, List, [], ◌∷◌, ◌++◌, append_assoc, length, length-append, reverse, sym, ◌∙◌, refl, subst}
 use Rattle.config_box.specs.box_answers.NumberSet.{SetOf}
-use Rattle.config_box.specs.box_answers.Members.{IsMember, IsBox}
-use Rattle.config_box.specs.Tests.{TestOf}
+use Rattle.config_box.specs.box_answers.Members.{IsBox}
 use Rattle.reference_resolver.specs.Trace.{Trace}
 use Rattle.cert_maker.specs.cert_tree.Certificate.{NodeOf, TestAt, ValueAt, BagAt}
 use Rattle.cert_maker.specs.cert_checker.Paths.{Path, after, root}
-use Rattle.cert_maker.specs.cert_checker.OpenBoxes.{IsBoxAt, Stand}
+use Rattle.cert_maker.specs.cert_checker.OpenBoxes.{Stand}
 use Rattle.cert_maker.specs.Needed.{IsNeeded, IsNeededAt}
 use Rattle.cert_maker.proofs.cert_checker.BoxSteps.{whole, half, popped, pushed}
 use Rattle.cert_maker.proofs.Parts.{Part, part-more, part-walk, walk-map, part-map, leaves, part-leaves}
 use Rattle.cert_maker.proofs.Steps.{moved}
-use Rattle.row_use.specs.Parting.{HaveOneTrace, PartsAt, IsParting}
-use Rattle.row_use.specs.OpenBoxes.{AddsTest, AddsNode}
+use Rattle.row_use.specs.Parting.{PartsAt, IsParting}
+use Rattle.row_use.specs.OpenBoxes.{AddsNode}
 
 module _ (trace : List ℕ → Trace) (sets : List SetOf) where
   abbrev holds : NodeOf → Path → Type 0

@@ -1,5 +1,5 @@
 -- What ids take of a limit, one after the other.
-use Rattle.std.proofs.Common.{◌≡◌, ◌≢◌, ◌⊎◌, inl, inr, ℕ, ◌+◌, ◌<◌, ◌≤◌, true, false, List, [], ◌∷◌, length, map, Option, Some, None, arith, refl, sym, ap, ◌∙◌, subst}
+use Rattle.std.proofs.Common.{◌≡◌, ◌≢◌, inl, inr, ℕ, ◌+◌, ◌≤◌, true, false, List, [], ◌∷◌, length, Option, Some, None, arith, refl, sym, ap, subst}
 use Rattle.std.specs.Prelude.{Contains}
 use Rattle.std.specs.List.{list_any}
 use Rattle.std.specs.List.Sorted.{IsStrictlySortedBy}
@@ -8,7 +8,6 @@ use Rattle.std.proofs.lemmas.List.Folds.{Any-from_list_any}
 use Rattle.std.proofs.lemmas.Bool.{leb-true}
 use Rattle.config_box.specs.box_answers.NumberSet.{SetOf}
 use Rattle.reference_resolver.specs.overlay_map.Layer.{LayerOf}
-use Rattle.reference_resolver.specs.overlay_map.Candidates.{CandOf, candidates_of}
 use Rattle.reference_resolver.specs.Trace.{Trace}
 use Rattle.cert_maker.specs.cert_checker.box_trace.TraceAmong.{trace_among}
 use Rattle.cert_maker.specs.cert_tree.Certificate.{NodeOf}
@@ -21,8 +20,8 @@ use Rattle.row_use.specs.RowUses.{told_at, IsAsked}
 use Rattle.row_use.specs.Loading.{without_overlays}
 use Rattle.row_use.specs.Indexed.{IsLookUp}
 use Rattle.row_use.specs.OpenBoxes.{trace_of_look_up}
-use Rattle.row_use.specs.Parting.{IsParting, IsParted, trace_of, HasTrees, Counts, HaveTrees, NothingTold, IsWithin}
-use Rattle.row_use.specs.Raising.{level_at, level_told, is_asked_at, KeepsReach, no_more, IsBegun}
+use Rattle.row_use.specs.Parting.{IsParting, IsParted, trace_of, Counts, HaveTrees, NothingTold, IsWithin}
+use Rattle.row_use.specs.Raising.{level_at, is_asked_at, KeepsReach, IsBegun}
 use Rattle.row_use.specs.Limit.{Leaves, BareParted, BareNeeded, AsksAt, NoneAsked, IdLeaves, IdsLeave}
 use Rattle.row_use.proofs.CellSteps.{level-of-told}
 use Rattle.row_use.proofs.Growing.{parting-needed}
@@ -96,13 +95,16 @@ pub counts-map : (stack : List LayerOf) (old new : (List ℕ → Trace) → List
 counts-map stack old new asks wants passes skips f g h id count (inl none) = inl (h id none.0, none.1)
 counts-map stack old new asks wants passes skips f g h id count (inr some) =
     let has = some.1 in
-    inr ((some.0.0, some.0.1, g some.0.0 some.0.2), record {
-      nodes = has.nodes;
-      tree = f _ has.nodes has.tree;
-      bare = has.bare;
-      bare_tree = elim has.bare_tree [ inl none ↦ inl none | inr tree ↦ inr (f _ has.bare tree) ];
-      in_all = has.in_all;
-    })
+    inr (
+      (some.0.0, some.0.1, g some.0.0 some.0.2),
+      record {
+        nodes = has.nodes;
+        tree = f _ has.nodes has.tree;
+        bare = has.bare;
+        bare_tree = elim has.bare_tree [ inl none ↦ inl none | inr tree ↦ inr (f _ has.bare tree) ];
+        in_all = has.in_all;
+      },
+    )
 
 pub trees-map : (stack : List LayerOf) (tree : (List ℕ → Trace) → List NodeOf → Type 0) (asks wants : RowPlace → Type 0) (passes skips : ℕ → Type 0) → ((row : RowPlace) → asks row → wants row) → ((id : ℕ) → passes id → skips id)
     → (ids : List ℕ) (count : ℕ) → HaveTrees tree stack asks passes ids count → HaveTrees tree stack wants skips ids count
@@ -149,9 +151,9 @@ module _ (stack : List LayerOf) (sets : List SetOf) (start : List (List (Option 
       let a = so_far.is in
       let b = step.2 in
       let now = counts-map stack (λ trace. IsParting trace sets) (λ trace. IsParting trace sets) (AsksAt cells) (AsksAt start) (NoneAsked stack cells) (NoneAsked stack start) (λ trace nodes is. is)
-          (λ row one. asked-before start cells A B keeps row one) (λ other none row has one. none row has (asked-after start cells A B keeps row one)) id here step.1 in
+      (λ row one. asked-before start cells A B keeps row one) (λ other none row has one. none row has (asked-after start cells A B keeps row one)) id here step.1 in
       let weak = counts-map stack (λ trace. IsParting trace sets) (λ trace. IsNeeded trace sets) (AsksAt start) (AsksAt start) (NoneAsked stack start) (λ id. Unit {0}) (λ trace nodes is. parting-needed trace sets nodes is)
-          (λ row one. one) (λ other none. tt) id here now in
+      (λ row one. one) (λ other none. tt) id here now in
       record {
         count = so_far.count + here;
         is = omega (arith, a, b);
@@ -174,7 +176,7 @@ module _ (stack : List LayerOf) (sets : List SetOf) (start : List (List (Option 
       let a = so_far.is in
       let b = step.2 in
       let weak = counts-map stack (λ trace. IsNeeded trace sets) (λ trace. IsNeeded trace sets) (AsksAt cells) (AsksAt start) (λ id. Unit {0}) (λ id. Unit {0}) (λ trace nodes is. is)
-          (λ row one. asked-before start cells A B keeps row one) (λ other none. tt) id here step.1 in (
+      (λ row one. asked-before start cells A B keeps row one) (λ other none. tt) id here step.1 in (
         so_far.count + (here + 0),
         so_far.needed (here + 0) (subst (λ (ids : List ℕ). Needed ids (here + 0)) (sym e) (here, 0, weak, none-counted stack (λ trace. IsNeeded trace sets) (AsksAt start) others, refl)),
         omega (arith, a, b),

@@ -1,4 +1,4 @@
-use Rattle.std.proofs.Common.{◌≡◌, ℕ, ◌+◌, ◌-◌, List, Some, arith, sym, ap, subst}
+use Rattle.std.proofs.Common.{◌≡◌, ◌+◌, ◌-◌, List, Some, arith, ap, subst}
 use Rattle.std.proofs.lemmas.List.Elements.{All-pop}
 use Rattle.config_box.specs.box_answers.NumberSet.{SetOf}
 use Rattle.cert_maker.specs.cert_checker.box_trace.OpenBox.{boxes_of}
