@@ -18,7 +18,7 @@ use Rattle.row_use.proofs.RowSteps.{loaded-stands, more-stands}
 not-nil : {X : Type 0} (xs : List X) (x : X) → Contains xs x → xs ≢ []
 not-nil xs x has none = let within = has.1 in let long = ap length none in absurd (omega (arith, within, long))
 
-positive : (found : RowUse) (n : ℕ) → n ≡ level_told (Some found) → 1 ≤ n
+pub positive : (found : RowUse) (n : ℕ) → n ≡ level_told (Some found) → 1 ≤ n
 positive Unmapped n e = let is : n ≡ 1 = e in omega (arith, is)
 positive Unused n e = let is : n ≡ 2 = e in omega (arith, is)
 positive Overlaid n e = let is : n ≡ 3 = e in omega (arith, is)

@@ -31,7 +31,7 @@ keeps-told a A B same = record {
 pub asked-before : (a b : List (List (Option RowUse))) (A B : RowPlace → ℕ → Type 0) → KeepsReach a A b B → (row : RowPlace) → 1 ≤ level_at b row → 1 ≤ level_at a row
 asked-before a b A B keeps row asked = elim ((keeps.reach row 1).0 (inl asked)) [ inl at ↦ at | inr more ↦ more.0 ]
 
-asked-after : (a b : List (List (Option RowUse))) (A B : RowPlace → ℕ → Type 0) → KeepsReach a A b B → (row : RowPlace) → 1 ≤ level_at a row → 1 ≤ level_at b row
+pub asked-after : (a b : List (List (Option RowUse))) (A B : RowPlace → ℕ → Type 0) → KeepsReach a A b B → (row : RowPlace) → 1 ≤ level_at a row → 1 ≤ level_at b row
 asked-after a b A B keeps row asked = elim ((keeps.reach row 1).1 (inl asked)) [ inl at ↦ at | inr more ↦ more.0 ]
 
 aside : (a : List (List (Option RowUse))) (A F : RowPlace → ℕ → Type 0) (row : RowPlace) (level : ℕ) → Reaches a A row level → Reaches a (beside A F) row level

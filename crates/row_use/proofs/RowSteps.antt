@@ -60,14 +60,14 @@ more-stands stack sets id row level (stands has le) = has
 more-stands stack sets id row level (bare load le) = bare-stands stack id row (loaded-stands (without_overlays stack) sets id row load)
 more-stands stack sets id row level (loaded load le) = loaded-stands stack sets id row load
 
-none-of : (p : RowPlace → Bool) (rows : List RowPlace) (row : RowPlace) → list_any p rows ≡ false → Contains rows row → p row ≡ false
+pub none-of : (p : RowPlace → Bool) (rows : List RowPlace) (row : RowPlace) → list_any p rows ≡ false → Contains rows row → p row ≡ false
 none-of p rows row none has = by (p row) refl
   where
     by : (b : Bool) → p row ≡ b → b ≡ false
     by false e = refl
     by true e = sym (list_any_at p rows has.0 row has.1 (ap p has.2 ∙ e)) ∙ none
 
-not-asked : (level : ℕ) → nat_le 1 level ≡ false → 1 ≤ level → ⊥
+pub not-asked : (level : ℕ) → nat_le 1 level ≡ false → 1 ≤ level → ⊥
 not-asked level e one = true-not-false (sym (le-leb 1 level one) ∙ e)
 
 not-open : (level : ℕ) → (nat_le 1 level && nat_le level 3) ≡ false → 1 ≤ level → 4 ≤ level

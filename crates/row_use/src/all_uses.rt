@@ -3,6 +3,8 @@
 ghost use Rattle.std.specs.Prelude.{◌≡◌, map, IfOk, IfSome};
 ghost use Rattle.std.specs.Option.{option_map};
 ghost use Rattle.row_use.specs.RowUses.{AreUses};
+ghost use Rattle.row_use.specs.Parting.{IsWithin};
+ghost use Rattle.row_use.specs.Limit.{Leaves, BareParted, BareNeeded, IdLeaves, IdsLeave};
 ghost use Rattle.row_use.specs.Indexed.{layers_of};
 ghost use Rattle.row_use.specs.Raising.{cells_of, KeepsReach, no_more, bare_more, id_more, ids_more};
 
@@ -26,8 +28,10 @@ pub fn row_uses(
     asked: Option<&[ResId]>,
     max_nodes: usize,
 ) -> Result<Option<Vec<Vec<Option<RowUse>>>>, OutOfMemory>
-    ensures { IfOk result (λ found. IfSome found (λ uses. AreUses stack.now members.now
+    ensures uses { IfOk result (λ found. IfSome found (λ uses. AreUses stack.now members.now
         (option_map (λ ids. map (λ id. id.0) ids.now) asked.entry) (map (λ told. told.items) uses.items))) }
+    ensures within { IfOk result (λ found. IsWithin stack.now members.now (option_map (λ ids. map (λ id. id.0) ids.now) asked.entry) max_nodes
+        (option_map (λ uses. map (λ told. told.items) uses.items) found)) }
 {
     let layers = LayerRows::all(alloc, stack)?;
     let mut uses = Uses::of(alloc, &layers, asked)?;
@@ -50,7 +54,8 @@ fn raise_ids<'a>(
     uses: &mut Uses,
 ) -> Result<Option<usize>, OutOfMemory>
     requires { layers_of layers.now ≡ stack.now }
-    ensures { IfOk result (λ found. IfSome found (λ _. KeepsReach (cells_of uses.old) (ids_more stack.now members.now (map (λ id. id.0) ids.now)) (cells_of uses.new) no_more)) }
+    ensures keeps { IfOk result (λ found. IfSome found (λ _. KeepsReach (cells_of uses.old) (ids_more stack.now members.now (map (λ id. id.0) ids.now)) (cells_of uses.new) no_more)) }
+    ensures tree { IfOk result (IdsLeave stack.now members.now (cells_of uses.old) (map (λ id. id.0) ids.now) left) }
 {
     let mut left = left;
     for id in ids {
@@ -74,7 +79,8 @@ fn raise_id<'a>(
     uses: &mut Uses,
 ) -> Result<Option<usize>, OutOfMemory>
     requires { layers_of layers.now ≡ stack.now }
-    ensures { IfOk result (λ found. IfSome found (λ _. KeepsReach (cells_of uses.old) (id_more stack.now members.now id.0) (cells_of uses.new) no_more)) }
+    ensures keeps { IfOk result (λ found. IfSome found (λ _. KeepsReach (cells_of uses.old) (id_more stack.now members.now id.0) (cells_of uses.new) no_more)) }
+    ensures tree { IfOk result (IdLeaves stack.now members.now (cells_of uses.old) id.0 left) }
 {
     let look_up = LookUp::of(alloc, stack, layers, id, Among::AllLayers)?;
     if !uses.has_asked(&look_up.rows) {
@@ -102,7 +108,8 @@ fn raise_overlaid<'a>(
     uses: &mut Uses,
 ) -> Result<Option<usize>, OutOfMemory>
     requires { layers_of layers.now ≡ stack.now }
-    ensures { IfOk result (λ found. IfSome found (λ _. KeepsReach (cells_of uses.old) (bare_more stack.now members.now id.0) (cells_of uses.new) no_more)) }
+    ensures keeps { IfOk result (λ found. IfSome found (λ _. KeepsReach (cells_of uses.old) (bare_more stack.now members.now id.0) (cells_of uses.new) no_more)) }
+    ensures tree { IfOk result (Leaves (BareParted stack.now members.now id.0) (BareNeeded stack.now members.now id.0) left) }
 {
     let look_up = LookUp::of(alloc, stack, layers, id, Among::BasesAlone)?;
     if !uses.has_open(&look_up.rows) {

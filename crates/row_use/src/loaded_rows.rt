@@ -2,13 +2,14 @@
 
 ghost use Rattle.std.specs.Prelude.{◌≡◌, ◌++◌, ◌∷◌, [], ℕ, List, All, IfOk, IfSome};
 ghost use Rattle.config_box.specs.box_answers.NumberSet.{SetOf};
-ghost use Rattle.config_box.specs.box_answers.Members.{IsMember};
+ghost use Rattle.config_box.specs.box_answers.Members.{IsMember, IsBox};
 ghost use Rattle.cert_maker.specs.cert_checker.box_trace.OpenBox.{boxes_of};
 ghost use Rattle.config_box.specs.Tests.{test_of};
 ghost use Rattle.cert_maker.specs.Growth.{CanBeAsked};
 ghost use Rattle.row_use.specs.Indexed.{loads_of};
 ghost use Rattle.row_use.specs.Raising.{level_of, cells_of, KeepsReach, no_more, loaded_more};
-ghost use Rattle.row_use.specs.OpenBoxes.{IsOpenFor, OpensHalves};
+ghost use Rattle.row_use.specs.Parting.{IsParted};
+ghost use Rattle.row_use.specs.OpenBoxes.{trace_of_look_up, IsOpenFor, OpensHalves, AddsNode};
 
 use crate::look_up::LookUp;
 use crate::row_use::RowUse;
@@ -29,7 +30,8 @@ pub(crate) fn raise_loaded<'a>(
     left: usize,
     uses: &mut Uses,
 ) -> Result<Option<usize>, OutOfMemory>
-    ensures { IfOk result (λ found. IfSome found (λ _. KeepsReach (cells_of uses.old) (loaded_more (loads_of look_up.now) (level_of to) (members.now ∷ [])) (cells_of uses.new) no_more)) }
+    ensures keeps { IfOk result (λ found. IfSome found (λ _. KeepsReach (cells_of uses.old) (loaded_more (loads_of look_up.now) (level_of to) (members.now ∷ [])) (cells_of uses.new) no_more)) }
+    ensures tree { IfOk result (IsParted (trace_of_look_up look_up.now) members.now left) }
 {
     let members = members.shared(alloc)?;
     let whole = OpenBox::whole_among(alloc, &look_up.candidates, members)?;
@@ -50,7 +52,8 @@ fn raise_in_boxes<'a, 's>(
     open_boxes: &mut OpenBoxes<'a, 's>,
 ) -> Result<Option<usize>, OutOfMemory>
     requires { All (IsOpenFor stack.now look_up.now) open_boxes.old }
-    ensures { IfOk result (λ found. IfSome found (λ _. KeepsReach (cells_of uses.old) (loaded_more (loads_of look_up.now) (level_of to) (boxes_of open_boxes.old)) (cells_of uses.new) no_more)) }
+    ensures keeps { IfOk result (λ found. IfSome found (λ _. KeepsReach (cells_of uses.old) (loaded_more (loads_of look_up.now) (level_of to) (boxes_of open_boxes.old)) (cells_of uses.new) no_more)) }
+    ensures tree { IfOk result (λ found. (sets : List SetOf) → IsBox sets → boxes_of open_boxes.old ≡ sets ∷ [] → IsParted (trace_of_look_up look_up.now) sets left found) }
 {
     let mut left = left;
     'boxes: while let Some(mut part) = open_boxes.pop() {
@@ -77,6 +80,7 @@ fn look_at<'a, 's>(
 ) -> Result<(), OutOfMemory>
     requires { IsOpenFor stack.now look_up.now part.old }
     ensures keeps { IfOk result (λ _. KeepsReach (cells_of uses.old) (loaded_more (loads_of look_up.now) (level_of to) (boxes_of open_boxes.old ++ part.old.members ∷ [])) (cells_of uses.new) (loaded_more (loads_of look_up.now) (level_of to) (boxes_of open_boxes.new))) }
+    ensures node { IfOk result (λ _. AddsNode (trace_of_look_up look_up.now) part.old.members (boxes_of open_boxes.old) (boxes_of open_boxes.new)) }
     ensures open { IfOk result (λ _. All (IsOpenFor stack.now look_up.now) open_boxes.old → All (IsOpenFor stack.now look_up.now) open_boxes.new) }
 {
     let common = part.common_trace(alloc, stack)?;

@@ -2,6 +2,7 @@
 
 ghost use Rattle.std.specs.Prelude.{◌≡◌, ◌≢◌, ◌||◌, ℕ, [], map, Contains, IsTrue, IfOk, OnOk};
 ghost use Rattle.std.specs.BTreeSet.{contains};
+ghost use Rattle.std.specs.List.Sorted.{IsStrictlySortedBy};
 ghost use Rattle.std.specs.Ordering.{nat_cmp};
 ghost use Rattle.row_use.specs.Indexed.{layer_of, layers_of};
 ghost use Rattle.row_use.specs.PlacesSeen.{is_among, id_of};
@@ -17,7 +18,8 @@ pub(crate) fn looked_up_ids(
     alloc: Global,
     layers: &[LayerRows<'_, '_>],
 ) -> Result<Vec<ResId>, AllocError>
-    ensures { IfOk result (λ ids. (id : ℕ) → row_places (layers_of layers.now) id ≢ [] → Contains (map (λ id. id.0) ids.items) id) }
+    ensures once { IfOk result (λ ids. IsStrictlySortedBy nat_cmp (map (λ id. id.0) ids.items)) }
+    ensures all { IfOk result (λ ids. (id : ℕ) → row_places (layers_of layers.now) id ≢ [] → Contains (map (λ id. id.0) ids.items) id) }
 {
     let mut numbers = BTreeSet::new(alloc);
     for layer in layers {
@@ -28,7 +30,8 @@ pub(crate) fn looked_up_ids(
 
 // The ids of these numbers.
 fn ids_in(alloc: Global, numbers: &BTreeSet<u32>) -> Result<Vec<ResId>, AllocError>
-    ensures { IfOk result (λ ids. ids.items ≡ map id_of numbers.now.keys) }
+    ensures ids { IfOk result (λ ids. ids.items ≡ map id_of numbers.now.keys) }
+    ensures once { IsStrictlySortedBy nat_cmp numbers.now.keys }
 {
     numbers.iter().map(|number| ResId(*number)).collect(alloc)
 }

@@ -1,4 +1,4 @@
-use Rattle.std.proofs.Common.{ℕ, List, ◌∷◌, ◌++◌, [], sym, ◌∙◌, subst}
+use Rattle.std.proofs.Common.{ℕ, List, ◌∷◌, ◌++◌, [], inl, inr, refl, sym, ◌∙◌, subst}
 use Rattle.config_box.specs.box_answers.NumberSet.{SetOf}
 use Rattle.config_box.specs.box_answers.Members.{IsMember}
 use Rattle.config_box.specs.Tests.{test_of}
@@ -8,8 +8,9 @@ use Rattle.cert_maker.specs.cert_checker.box_trace.CommonTrace.{IsCommonTrace}
 use Rattle.cert_maker.specs.cert_checker.box_trace.OpenBox.{boxes_of}
 use Rattle.cert_maker.proofs.cert_checker.box_trace.OpenBoxSteps.{rest_of, reached_there, told_in_place}
 use Rattle.row_use.specs.Indexed.{loads_of}
-use Rattle.row_use.specs.OpenBoxes.{trace_of_look_up}
+use Rattle.row_use.specs.OpenBoxes.{trace_of_look_up, AddsTest}
 use Rattle.row_use.specs.Raising.{level_of, cells_of, KeepsReach, loaded_more}
+use Rattle.cert_maker.proofs.Cut.{needed-by-trace}
 use Rattle.row_use.proofs.LoadedSteps.{test-opened}
 use Rattle.row_use.proofs.OpenSteps.{same-loads, all-opened, boxes-opened}
 use Rattle.row_use.proofs.loaded_rows.look_at.Goals as goal
@@ -28,6 +29,12 @@ returns-in-One-clause-keeps c =
     let boxes = boxes_of c.args.open_boxes.now in
     subst (λ (sets : List SetOf). KeepsReach (cells_of c.args.uses.now) (loaded_more loads (level_of c.args.to) (boxes ++ sets ∷ [])) (cells_of c.raise_row.new.uses) (loaded_more loads (level_of c.args.to) boxes))
     c.in_ok-common.ensures.members (c.raise_row.ensures boxes)
+
+pub returns-in-One-clause-node : goal.returns-in-One-clause-node
+returns-in-One-clause-node c =
+    let trace = trace_of_look_up c.args.look_up.now in
+    let common = subst (λ (k : CommonTrace). IsCommonTrace k c.args.part.now.members trace) c.in-One.is (c.in_ok-common.ensures.common trace c.requires) in
+    inr (refl, λ d e m n. common.1 d m ∙ sym (common.1 e n))
 
 pub parting_test-requires : goal.parting_test-requires
 parting_test-requires c =
@@ -57,3 +64,21 @@ returns-in_ok-open_halves-in-Mixed-clause-open c = λ all.
     let stack = c.args.stack.now in
     let trace = trace_of_look_up c.args.look_up.now in
     all-opened stack c.args.look_up.now _ _ _ _ c.in_ok-open_halves-in-Mixed.ensures (c.in_ok-parting-in-Mixed.ensures.reached stack trace (c.in_ok-common.ensures.reached trace c.requires)) all
+
+pub returns-in_ok-open_halves-in-Mixed-clause-node : goal.returns-in_ok-open_halves-in-Mixed-clause-node
+returns-in_ok-open_halves-in-Mixed-clause-node c =
+    let trace = trace_of_look_up c.args.look_up.now in
+    let boxes = boxes_of c.args.open_boxes.now in
+    let opens = c.in_ok-open_halves-in-Mixed.ensures in
+    let told =
+    told_in_place trace _ c.in-Mixed.first _ c.args.part.now.members _ _ c.in-Mixed.is c.in_ok-common.ensures.members c.in_ok-parting-in-Mixed.ensures.members (c.in_ok-common.ensures.common trace c.requires)
+    (c.in_ok-parting-in-Mixed.ensures.told c.args.stack.now trace (c.in_ok-common.ensures.reached trace c.requires)) in
+    inl (subst (λ (sets : List SetOf). AddsTest trace sets boxes (boxes_of c.open_halves.new.open_boxes)) (c.in_ok-parting-in-Mixed.ensures.members ∙ c.in_ok-common.ensures.members) (record {
+      test = test_of c.in_ok-test-in-Mixed.test;
+      needed = needed-by-trace trace _ _ _ told.trace_tells c.in_ok-test-in-Mixed.ensures.needed;
+      yes_half = opens.yes_half.members;
+      no_half = opens.no_half.members;
+      opened = boxes-opened _ _ _ _ opens;
+      yes_members = opens.yes_members;
+      no_members = opens.no_members;
+    }))

@@ -2,6 +2,8 @@ use Rattle.std.proofs.Common.{◌≡◌, ◌≢◌, inl, inr, ℕ, [], ◌∷◌
 use Rattle.std.proofs.lemmas.List.{drop_more, drop_all}
 use Rattle.std.proofs.lemmas.Result.{IfOk-weaker}
 use Rattle.std.specs.Prelude.{Contains}
+use Rattle.std.specs.List.Sorted.{IsStrictlySortedBy}
+use Rattle.std.specs.Ordering.{nat_cmp}
 use Rattle.reference_resolver.specs.res_value.declared.res_id.ResId.{ResId}
 use Rattle.row_use.specs.declared.layer_rows.LayerRows.{LayerRows}
 use Rattle.row_use.specs.RowPlaces.{row_places_from, row_places}
@@ -26,9 +28,14 @@ loop-layer-preserved c = λ id some.
       ]
     ]
 
-pub returns : goal.returns
+pub returns-clause-once : goal.returns-clause-once
+returns-clause-once c =
+    IfOk-weaker c.ids_in.result _ _ (λ ids are.
+    subst (IsStrictlySortedBy nat_cmp) (sym (ap (map (λ (id : ResId). id.0)) are ∙ numbers-of-ids c.loop-layer.numbers.keys)) c.ids_in.ensures.once) c.ids_in.ensures.ids
+
+pub returns-clause-all : goal.returns-clause-all
 unfolding row_places
-returns c =
+returns-clause-all c =
     IfOk-weaker c.ids_in.result _ _ (λ ids are id some.
     let has = has-all c.loop-layer.layer-index _ id (ap layers_of (drop_all c.loop-layer.layer-index c.args.layers.now c.loop-layer-test.false)) (c.loop-layer.invariant id some) in
-    subst (λ (ns : List ℕ). Contains ns id) (sym (ap (map (λ (id : ResId). id.0)) are ∙ numbers-of-ids c.loop-layer.numbers.keys)) (contained c.loop-layer.numbers id has)) c.ids_in.ensures
+    subst (λ (ns : List ℕ). Contains ns id) (sym (ap (map (λ (id : ResId). id.0)) are ∙ numbers-of-ids c.loop-layer.numbers.keys)) (contained c.loop-layer.numbers id has)) c.ids_in.ensures.ids
