@@ -9,22 +9,23 @@ use Rattle.command_base.specs.Output.{Prints, PrintsOneOf}
 use Rattle.command_base.specs.declared.fault.ToolFault.{ToolFault}
 use Rattle.command_base.specs.declared.fault.ToolFault.TheVariants.{OutOfMemory, Write}
 use Rattle.command_base.specs.declared.status.Status.{Status}
+use Rattle.row_use.specs.Parting.{IsWithin}
 use Rattle.row_use.specs.RowUses.{AreUses}
 use Rattle.stack_diff.specs.cert_maker.res_value.declared.res_id.ResId.{ResId}
 use Rattle.diff_command.specs.DiffInputs.{DiffInputs}
-use Rattle.diff_command.specs.Unused.{IsUnusedOutput, ids_asked, unused_opened}
+use Rattle.diff_command.specs.Unused.{IsUnusedOutput, ids_asked, numbers_of, unused_opened}
 use Rattle.diff_command.specs.UnusedOutput.{Uses, unused_output}
 use Rattle.diff_command.specs.Values.{values_inputs_by}
 
-pub printed-unused : {W : Type 0} (contents : W → Option (List ℕ)) (old new : W) (asked : Option (List ResId)) (inputs : DiffInputs) (uses : Option (List Uses)) (result : Result Status ToolFault)
-    → IfSome uses (AreUses inputs.stacks.new inputs.sets (option_map (map (λ id. id.0)) asked)) → Prints contents old new result (Ok (unused_output inputs.stacks.new uses))
-    → PrintsOneOf (IsUnusedOutput asked) contents old new result (Ok inputs)
-printed-unused contents old new asked inputs uses (Ok status) right printed =
+pub printed-unused : {W : Type 0} (contents : W → Option (List ℕ)) (old new : W) (asked : Option (List ResId)) (most : ℕ) (inputs : DiffInputs) (uses : Option (List Uses)) (result : Result Status ToolFault)
+    → IfSome uses (AreUses inputs.stacks.new inputs.sets (numbers_of asked)) → IsWithin inputs.stacks.new inputs.sets (numbers_of asked) most uses
+    → Prints contents old new result (Ok (unused_output inputs.stacks.new uses)) → PrintsOneOf (IsUnusedOutput asked most) contents old new result (Ok inputs)
+printed-unused contents old new asked most inputs uses (Ok status) right within printed =
     let same : unused_output inputs.stacks.new uses ≡ record { status = status; text = printed.0 } = cc in
-    (inputs, printed.0, refl, record { uses = uses; right = right; printed = sym same }, printed.2)
-printed-unused contents old new asked inputs uses (Err OutOfMemory) right printed = printed
-printed-unused contents old new asked inputs uses (Err Write) right printed = refl
-printed-unused contents old new asked inputs uses (Err fault) right printed = absurd cc
+    (inputs, printed.0, refl, record { uses = uses; right = right; within = within; printed = sym same }, printed.2)
+printed-unused contents old new asked most inputs uses (Err OutOfMemory) right within printed = printed
+printed-unused contents old new asked most inputs uses (Err Write) right within printed = refl
+printed-unused contents old new asked most inputs uses (Err fault) right within printed = absurd cc
 
 -- what was opened, and the ids that are asked for
 pub unused-with : (rule : LocaleRule) (layers : List LayerBytes) (box_json : List ℕ) (words : List (List ℕ)) (sets : List NamedSetOf) (opened : DiffInputs) (asked : Option (List ResId))

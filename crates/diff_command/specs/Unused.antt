@@ -12,6 +12,7 @@ use Rattle.command_base.specs.Output.{Output, PrintsOneOf}
 use Rattle.command_base.specs.StackBytes.{LayerBytes}
 use Rattle.command_base.specs.Stop.{StopOf}
 use Rattle.command_base.specs.overlay_map.Layer.{LayerOf}
+use Rattle.row_use.specs.Parting.{IsWithin}
 use Rattle.row_use.specs.RowUses.{AreUses}
 use Rattle.stack_diff.specs.cert_maker.res_value.declared.res_id.ResId.{ResId}
 use Rattle.stack_diff.specs.config_box.config_record.locales.declared.locale_rule.LocaleRule.{LocaleRule}
@@ -44,22 +45,26 @@ unused_opened rule layers box_json words = do
 
 -- ---- the answer
 
--- What is printed tells what becomes of the rows of the layers that are asked for, on the devices of the box; or the trees that
--- part these need more nodes than the limit.
-pub record IsUnusedOutput (asked : Option (List ResId)) (inputs : DiffInputs) (output : Output) : Type 0 where
+abbrev pub numbers_of : Option (List ResId) → Option (List ℕ)
+numbers_of asked = option_map (map (λ id. id.0)) asked
+
+-- What is printed tells what becomes of the rows of the layers that are asked for, on the devices of the box, with trees within the
+-- limit; or the trees that part these have more nodes.
+pub record IsUnusedOutput (asked : Option (List ResId)) (most : ℕ) (inputs : DiffInputs) (output : Output) : Type 0 where
   pub uses : Option (List Uses)
-  pub right : IfSome uses (AreUses inputs.stacks.new inputs.sets (option_map (map (λ id. id.0)) asked))
+  pub right : IfSome uses (AreUses inputs.stacks.new inputs.sets (numbers_of asked))
+  pub within : IsWithin inputs.stacks.new inputs.sets (numbers_of asked) most uses
   pub printed : output ≡ unused_output inputs.stacks.new uses
 
 -- from what was opened, if it is
-abbrev pub UnusedOpened : {W : Type 0} → (W → Option (List ℕ)) → W → W → Result OpenUnusedOf StopOf → Result Status Stop → Type 0
-UnusedOpened contents old new opened result =
-    CarriesOut (λ unused done. PrintsOneOf (IsUnusedOutput unused.asked) contents old new done (Ok unused.opened)) opened result
+abbrev pub UnusedOpened : {W : Type 0} → (W → Option (List ℕ)) → W → W → ℕ → Result OpenUnusedOf StopOf → Result Status Stop → Type 0
+UnusedOpened contents old new most opened result =
+    CarriesOut (λ unused done. PrintsOneOf (IsUnusedOutput unused.asked most) contents old new done (Ok unused.opened)) opened result
 
 -- from the files, if they are read
 abbrev pub TellsUnusedOf : {W : Type 0} → (W → Option (List ℕ)) → W → W → Unused → Result ValuesBytes StopOf → Result Status Stop → Type 0
 TellsUnusedOf contents old new unused read result =
-    UnusedOpened contents old new (read >>= λ files. unused_opened unused.locales files.layers files.box_json files.words) result
+    UnusedOpened contents old new unused.max_nodes (read >>= λ files. unused_opened unused.locales files.layers files.box_json files.words) result
 
 -- from what the places have
 abbrev pub TellsUnused : {W : Type 0} → (W → Option (List ℕ)) → W → W → Places → Unused → Result Status Stop → Type 0

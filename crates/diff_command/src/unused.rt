@@ -73,7 +73,7 @@ impl<'a> Unused<'a> {
         words: &[String],
         out: &mut W,
     ) -> Result<Status, Stop<'static>>
-        ensures answers { UnusedOpened W.contents out.old out.new
+        ensures answers { UnusedOpened W.contents out.old out.new self.now.max_nodes
             (unused_opened self.now.locales (map layer_bytes layers.now) box_json.now (map string_bytes words.now)) result }
         ensures unwritten { IsKept out.old out.new result }
     {
@@ -108,7 +108,7 @@ fn tell_unused<W: Write + Drop>(
     max_nodes: u32,
     out: &mut W,
 ) -> Result<Status, ToolFault>
-    ensures { PrintsOneOf (IsUnusedOutput (option_map (λ ids. ids.items) asked)) W.contents out.old out.new result (Ok (opened_values opened.entry)) }
+    ensures { PrintsOneOf (IsUnusedOutput (option_map (λ ids. ids.items) asked) max_nodes) W.contents out.old out.new result (Ok (opened_values opened.entry)) }
 {
     let OpenedValues { stack, members, .. } = opened;
     let uses = row_uses(
