@@ -5,6 +5,4 @@ pub mod Counts
 pub mod Kept
 pub mod Blocks
 pub mod Valued
-pub mod UsedRows
-pub mod PrintedUnused
 pub use Rattle.answer_text.proofs.InOrder
