@@ -20,7 +20,7 @@ pub fn call(rt: &HostRuntime, words: &[String]) -> Result<(), Fail> {
         "Live::new" => boxes::whole(rt, &stack, asked),
         "Live::half" => boxes::half(rt, &stack, asked),
         "Stack::apart" => {
-            uses::layers_apart(rt, &stack);
+            uses::layers_apart(rt, stack);
             Ok(())
         }
         "row_uses" => uses::of_rows(rt, &stack, asked),

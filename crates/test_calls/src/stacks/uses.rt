@@ -9,7 +9,7 @@ use std::test::Fail;
 const MOST_NODES: usize = 100;
 
 /// How many layers a stack has, where each stands by itself.
-pub fn layers_apart(rt: &HostRuntime, stack: &Stack<'_>) {
+pub fn layers_apart(rt: &HostRuntime, stack: Stack<'_>) {
     begin(rt);
     let found = stack.apart(rt.alloc());
     end(rt);
