@@ -466,6 +466,31 @@ no_values "a name that the stack lacks" 1 'no resource string/none' old box 'str
 no_values "a bad name of values comes before the files" 2 'command: bad id string' absent absent string
 ends "values without a box" 2 '"$0" values new'
 ends "values within 0 nodes" 2 '"$0" values --max-nodes 0 new box'
+
+# ---- unused
+line no-rows.out 'rows 0 unused 0 overlaid 0 unmapped 0 bytes 0'
+check "the unused rows of no layers" 0 no-rows.out $none unused new box
+check "the limit of unused after the box" 0 no-rows.out $none unused new box --max-nodes 1
+check "an id that no row stands for" 0 no-rows.out $none unused old box 0x7f7f0000
+
+# no_unused NAME STATUS LINE WORD..: the same of unused.
+no_unused() {
+    name=$1 status=$2
+    line unused.err "$3"
+    shift 3
+    check "$name" "$status" $none unused.err unused "$@"
+}
+no_unused "a list of unused rows of wrong shape comes before the box" 3 'refused: layers: Shape' shapeless absent
+no_unused "an absent box of unused comes before what is refused" 5 'file: absent' cut-layers absent
+no_unused "an absent file of names of unused comes before what is refused" 5 'file: nowhere' cut-layers emptied @nowhere
+no_unused "a table of unused rows that is cut comes before the box" 3 'refused: layer 0 table: Chunk Truncated 0' cut-layers emptied
+no_unused "the wrong box of unused comes before a name that is not there" 3 'refused: box: Empty night' new emptied string/none
+no_unused "a name that no base has" 1 'no resource string/none' old box 'string/*' string/none
+no_unused "a bad name of unused comes before the files" 2 'command: bad id string' absent absent string
+ends "unused without a box" 2 '"$0" unused new'
+ends "unused within 0 nodes" 2 '"$0" unused --max-nodes 0 new box'
+ends "unused rows that are raw" 2 '"$0" unused --raw new box'
+
 ends "diff to a closed output" 5 '"$0" diff new new box >&-'
 
 line plain '[{"table":"examples/teapot/resources.arsc"}]'
@@ -495,6 +520,8 @@ if command -v python3 >/dev/null; then
     ends "random changes of layers by a phone's locales" 0 "python3 '$here/tests/check_diff.py' --locales android \"\$0\" 400 4"
     ends "what random layers say" 0 "python3 '$here/tests/check_diff.py' --values \"\$0\" 400 4"
     ends "what random layers say by a phone's locales" 0 "python3 '$here/tests/check_diff.py' --values --locales android \"\$0\" 400 4"
+    ends "which rows of random layers are unused" 0 "python3 '$here/tests/check_unused.py' \"\$0\" 400 4"
+    ends "which are by a phone's locales" 0 "python3 '$here/tests/check_unused.py' --locales android \"\$0\" 400 4"
     by_aapt=--aapt
     command -v aapt >/dev/null || { by_aapt='' && echo "not run, since aapt is missing: releases of an app as it builds them"; }
     ends "what twelve changes of an app move in what its resources say" 0 "python3 '$here/tests/worked_releases.py' \"\$0\" $by_aapt"
@@ -732,7 +759,7 @@ check "ids and a comma name a file" 5 $none "$work/file.err" query $layers $phon
 cd "$work" || exit 1
 
 # ---- words
-for command in rows dump map ids survey show query explain bag attr make check diff values device; do
+for command in rows dump map ids survey show query explain bag attr make check diff values unused device; do
     check "help of $command" 0 "$here/tests/helps/$command.txt" $none "$command" --help
 done
 check "help" 0 "$here/tests/helps/restool.txt" $none --help

@@ -1,11 +1,11 @@
 #!/usr/bin/env python3
-"""Asks `restool diff` what small changes of an app alter, each alone, and `restool values` what small apps say, which was worked out by
-hand:
+"""Asks `restool diff` what small changes of an app alter, each alone, `restool values` what small apps say, and `restool unused` which of
+their rows no device loads, which was worked out by hand:
 
     worked_diff.py PROGRAM
 
 Each case has the layers after a change, words that ask for some resources, and the lines that are due; and, where they are not
-those of one app, the layers before it. Of `values` it has the layers alone. The last line is the number of cases."""
+those of one app, the layers before it. Of `values` and `unused` it has the layers alone. The last line is the number of cases."""
 import os
 import subprocess
 import sys
@@ -17,7 +17,7 @@ from plain_bags import Bag
 from plain_map import made_map
 from plain_rules import Record
 
-ANY, GERMAN, GREEK, LAND, WIDE, NIGHT, DENSE, NEWER = (
+ANY, GERMAN, GREEK, LAND, WIDE, NIGHT, DENSE, OLDER, NEWER = (
     Record(given)
     for given in (
         {},
@@ -27,6 +27,7 @@ ANY, GERMAN, GREEK, LAND, WIDE, NIGHT, DENSE, NEWER = (
         {"smallestWidthDp": 600},
         {"night": 2},
         {"density": 320},
+        {"sdk": 19},
         {"sdk": 26},
     )
 )
@@ -409,6 +410,83 @@ VALUES = [
 ]
 
 
+def totals(rows, unused=0, overlaid=0, unmapped=0, size=0):
+    return f"rows {rows} unused {unused} overlaid {overlaid} unmapped {unmapped} bytes {size}"
+
+
+def over(resources, *overlays):
+    """An app, and overlays of it by their names."""
+    target = table(resources)
+    return [(target, None)] + [(one, made_map(target.rows, one.rows)) for one in map(table, overlays)]
+
+
+def mapped(overlay, own_of):
+    """An app of two dimensions, and an overlay with this map."""
+    return [(table([resource("dimen/a", (ANY, dp(1))), resource("dimen/b", (ANY, dp(2)))]), None), (table(overlay), own_of)]
+
+
+A, B, NOWHERE = 0x7F010000, 0x7F010001, 0x7F0F0000
+HANDLE = [resource("dimen/handle", (ANY, dp(12)), (DENSE, dp(13)))]
+UNUSED = [
+    (app(APP), (), totals(18)),
+    # No device is Greek. All devices have the row for version 19, which is better than the default.
+    (one("string/s", Text("a")), (), totals(1)),
+    (app([resource("string/s", (ANY, Text("a")), (GREEK, Text("b")))]), (), 'unused layer 0 string/s el "b"\n' + totals(2, 1, size=16)),
+    (app([resource("dimen/d", (ANY, dp(1)), (OLDER, dp(2)), (NEWER, dp(3)))]), (), "unused layer 0 dimen/d (default) 1dp\n" + totals(3, 1, size=16)),
+    # Of two rows of one configuration in a layer the first is loaded, though they are the same.
+    (app([resource("dimen/d", (ANY, dp(1)), (ANY, dp(1)))]), (), "unused layer 0 dimen/d (default) 1dp\n" + totals(2, 1, size=16)),
+    # A row is told also where it is a reference; where it is loaded, it is not asked what it refers to.
+    (app([resource("color/c", (ANY, "@color/d"), (GREEK, "@color/d")), resource("color/d", (GREEK, BLACK))]), (),
+     "unused layer 0 color/c el @color/d\nunused layer 0 color/d el #ff000000\n" + totals(3, 2, size=32)),
+    # A bag has twelve bytes for each of its rows.
+    (
+        app([*APP[:2], resource("style/s", (ANY, tinted(1, BLACK)), (OLDER, Bag("style/s", [])), (GREEK, Bag("style/s", [])))]),
+        ("style/*",),
+        "unused layer 0 style/s (default) bag count 2\n  attr/size 1dp\n  attr/tint #ff000000\n"
+        "unused layer 0 style/s el bag parent style/s count 0\n" + totals(3, 2, size=56),
+    ),
+    # The app's default is loaded without the overlay. At 320 dpi the app's row stays better.
+    (over(HANDLE, HANDLE[:0]), (), totals(2)),
+    (over(HANDLE, [resource("dimen/handle", (ANY, dp(16)))]), (), "overlaid layer 0 dimen/handle (default) 12dp\n" + totals(3, 0, 1)),
+    (over(HANDLE, [resource("dimen/handle", (ANY, dp(16)), (DENSE, dp(17)))]), (),
+     "overlaid layer 0 dimen/handle (default) 12dp\noverlaid layer 0 dimen/handle xhdpi 13dp\n" + totals(4, 0, 2)),
+    # A row that no device loads without the overlay either is unused. So are an overlay's rows, whichever keeps them out.
+    (over([resource("dimen/d", (ANY, dp(1)), (OLDER, dp(2)))], [resource("dimen/d", (ANY, dp(3)))]), (),
+     "unused layer 0 dimen/d (default) 1dp\nunused layer 1 dimen/d (default) 3dp\n" + totals(3, 2, size=32)),
+    (over(HANDLE, [resource("dimen/handle", (ANY, dp(16)))], [resource("dimen/handle", (ANY, dp(20)))]), (),
+     "overlaid layer 0 dimen/handle (default) 12dp\nunused layer 1 dimen/handle (default) 16dp\n" + totals(4, 1, 1, size=16)),
+    # What no map brings in: without words it is told and counted, and with words it stands for none.
+    (over(HANDLE, [resource("dimen/own", (ANY, dp(9)))]), (), "unmapped layer 1 dimen/own (default) 9dp\n" + totals(3, 0, 0, 1)),
+    (over(HANDLE, [resource("dimen/own", (ANY, dp(9)))]), ("*",), totals(2)),
+    (over(HANDLE, [resource("dimen/own", (ANY, dp(9))), resource("dimen/handle", (ANY, dp(8)))]), ("dimen/handle",),
+     "overlaid layer 0 dimen/handle (default) 12dp\n" + totals(3, 0, 1)),
+    # One row for two ids, one that is unused for the one alone, and one for an id that no base has.
+    (mapped([resource("dimen/x", (ANY, dp(3)))], {A: A, B: A}), (),
+     "overlaid layer 0 dimen/a (default) 1dp\noverlaid layer 0 dimen/b (default) 2dp\n" + totals(3, 0, 2)),
+    (mapped([resource("dimen/x", (ANY, dp(3)))], {NOWHERE: A}), (), totals(3)),
+    (mapped([resource("dimen/x", (GREEK, dp(3)))], {NOWHERE: A}), ("0x7f0f0000",), "unused layer 1 dimen/x el 3dp\n" + totals(1, 1, size=16)),
+    (
+        [*over([resource("dimen/a", (OLDER, dp(1))), resource("dimen/b", (GREEK, dp(2)))])[:1],
+         (table([resource("dimen/x", (ANY, dp(3)))]), {A: A, B: A})],
+        ("dimen/b",),
+        "unused layer 0 dimen/b el 2dp\n" + totals(2, 1, size=16),
+    ),
+    # Words ask for some. An id that no row stands for asks for nothing.
+    (app([resource("dimen/d", (ANY, dp(1)), (GREEK, dp(2))), resource("color/c", (GREEK, BLACK))]), ("color/c", "0x7f020000"),
+     "unused layer 0 color/c el #ff000000\n" + totals(1, 1, size=16)),
+    (app(APP), ("0x7f7f0000",), totals(0)),
+    (app(APP), ("dimen/margin", "dimen/none"), "no resource dimen/none"),
+    # Rows that are set aside, also by what they are called where names are shared.
+    (scripted(2), (), "unused layer 0 string/s b+sr+Latn 2dp\n" * 2 + totals(3, 2, size=32)),
+    (app([resource("dimen/same", (ANY, dp(1))), resource("dimen/same", (GREEK, dp(2)))]), (),
+     "unused layer 0 0x7f010001 el 2dp\n" + totals(2, 1, size=16)),
+    # Two tables of one package, of which each says what its own ids are called.
+    ([*one("dimen/a", dp(1)), *app([resource("dimen/b", (ANY, dp(2)))])], (), "unused layer 1 dimen/b (default) 2dp\n" + totals(2, 1, size=16)),
+    (app(HANDLE), (), "node limit", "--max-nodes", "1"),
+    (app(HANDLE), (), totals(2), "--max-nodes", "3"),
+]
+
+
 def check_case(program, folder, place):
     """The fault of a case. The first ones are printed raw."""
     after, words, due, *before = [*CASES, *NOTATED][place]
@@ -425,6 +503,14 @@ def check_values(program, folder, place):
     return fault_of(folder, [program, "values", *form, "new", "box", *words], due, int(due.startswith("no resource ")))
 
 
+def check_unused(program, folder, place):
+    """The same of `unused`."""
+    layers, words, due, *limit = UNUSED[place]
+    write_inputs(folder, [], layers, BOX)
+    status = int("unused layer" in due or due.startswith(("no resource ", "node limit")))
+    return fault_of(folder, [program, "unused", *limit, "new", "box", *words], due, status)
+
+
 def fault_of(folder, command, due, status):
     done = subprocess.run(command, cwd=folder, capture_output=True, text=True)
     lines = done.stdout + done.stderr
@@ -438,6 +524,7 @@ def main():
     with tempfile.TemporaryDirectory() as folder:
         faults = [check_case(program, folder, place) for place in range(len(CASES + NOTATED))]
         faults += [check_values(program, folder, place) for place in range(len(VALUES))]
+        faults += [check_unused(program, folder, place) for place in range(len(UNUSED))]
     print("".join(faults), end="")
     print(f"{len(faults)} cases")
     sys.exit(any(faults))

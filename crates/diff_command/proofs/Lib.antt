@@ -5,4 +5,6 @@ pub mod Counts
 pub mod Kept
 pub mod Blocks
 pub mod Valued
+pub mod UsedRows
+pub mod PrintedUnused
 pub use Rattle.answer_text.proofs.InOrder

@@ -8,6 +8,9 @@ pub mod Diff
 pub mod AskedPairs
 pub mod ValuesOutput
 pub mod Values
+pub mod UnusedOutput
+pub mod UnusedTotals
+pub mod Unused
 pub mod NameLines
 pub mod DevicesText
 pub mod ContentText

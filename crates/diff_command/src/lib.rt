@@ -1,5 +1,5 @@
-//! The commands for two stacks and a box: `diff`, what a change of layers alters, and `values`, what each resource says, which is
-//! a stack compared with nothing.
+//! The commands for layers and a box: `diff`, what a change of layers alters; `values`, what each resource says, which is a stack
+//! compared with nothing; and `unused`, which rows no device loads.
 //!
 //! For the program: `NamedDiff::diff` prints exactly the lines of what becomes of some labels, or `node limit`, and is done where
 //! nothing differs. `Diff::answer` reads the files that its words name, and prints those of the labels that
@@ -33,6 +33,17 @@
 //!   attr/padding 4dp
 //! resources 2
 //! ```
+//!
+//! `Unused::answer` tells the rows of such a stack that no device of the box loads.
+//!
+//! ```text
+//! let unused = Unused { layers: "layers.json", box_path: "box.json", locales: LocaleRule::Android, max_nodes: 100_000, words };
+//! unused.answer(alloc, &inputs, &mut out)?;
+//!
+//! overlaid layer 0 string/cancel de "Abbrechen"
+//! unused layer 0 dimen/gap v19 4dp
+//! rows 7 unused 1 overlaid 1 unmapped 0 bytes 16
+//! ```
 #![tactic(auto)]
 
 mod asked_pairs;
@@ -46,6 +57,8 @@ mod name_lines;
 mod opened;
 mod rows_text;
 mod told;
+mod unused;
+mod unused_rows;
 mod value_lines;
 mod values;
 
@@ -55,4 +68,5 @@ pub use diff::Diff;
 pub use difference_text::write_difference;
 pub use opened::{NamedDiff, OpenedDiff};
 pub use stack_diff::{ConfigBox, Label, NamePair, NamedStack, Sides};
+pub use unused::Unused;
 pub use values::Values;

@@ -111,16 +111,16 @@ impl<'a> Values<'a> {
 
 /// The bytes of layers and of a box, and the words of the argument that takes several.
 #[derive(Drop)]
-struct ValuesFiles {
-    layers: LayerFiles,
-    box_json: Vec<u8>,
-    words: Vec<String>,
+pub(crate) struct ValuesFiles {
+    pub(crate) layers: LayerFiles,
+    pub(crate) box_json: Vec<u8>,
+    pub(crate) words: Vec<String>,
 }
 
 impl ValuesFiles {
     /// Reads a list of layers with the files that it names, then a box, and the files of words.
     #[tactic(auto, unfolding(crate::specs::Values::values_files))]
-    fn read<'a, I: Inputs>(
+    pub(crate) fn read<'a, I: Inputs>(
         alloc: Global,
         inputs: &I,
         layers_path: &'a str,
@@ -143,9 +143,9 @@ impl ValuesFiles {
 
 /// The layers and the box.
 #[derive(Drop)]
-struct OpenedValues<'a> {
-    stack: Stack<'a>,
-    members: ConfigBox,
+pub(crate) struct OpenedValues<'a> {
+    pub(crate) stack: Stack<'a>,
+    pub(crate) members: ConfigBox,
     /// By which rule the locales of the box are compared.
     rule: LocaleRule,
 }
@@ -153,7 +153,7 @@ struct OpenedValues<'a> {
 impl<'a> OpenedValues<'a> {
     /// Opens the layers, and then reads the box, whose locales are read and compared by a rule.
     #[tactic(auto, unfolding(crate::specs::Values::values_inputs_by))]
-    fn read_by(
+    pub(crate) fn read_by(
         alloc: Global,
         layers: &[LayerParts<&'a [u8]>],
         box_json: &[u8],

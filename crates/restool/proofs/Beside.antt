@@ -75,6 +75,7 @@ module _ {W V : Type 0} (is_terminal : Bool) (contents : W → Option (List ℕ)
   shows (asks.Check it) = (λ _. refl, λ _. refl)
   shows (asks.Diff it) = refl
   shows (asks.Values it) = refl
+  shows (asks.Unused it) = refl
   shows (asks.Device it) = refl
 
   abbrev stopped : Result Status Stop

@@ -90,6 +90,7 @@ module _ {W V : Type 0} (is_terminal : Bool) (contents : W → Option (List ℕ)
   answers places (asks.Check it) at = λ other. inl (rw (check-stops places it.layers.now (stop_of stop) (at other) it.box_path.now it.certificate.now (texts_of it.goals)) refl)
   answers places (asks.Diff it) at = λ other. inl (rw (diff-stops places it.old.now it.new.now it.box_path.now (texts_of it.words) (stop_of stop) (at other)) refl)
   answers places (asks.Values it) at = λ other. inl (rw (values-stops places it.layers.now (stop_of stop) (at other) it.box_path.now (texts_of it.words)) refl)
+  answers places (asks.Unused it) at = λ other. inl (rw (values-stops places it.layers.now (stop_of stop) (at other) it.box_path.now (texts_of it.words)) refl)
   answers places (asks.Device it) at = λ other. absurd (at other)
 
   pub answers-unread : (known : Option Places) (request : Request) (words : LayerWordsOf) → words ≡ layer_words request

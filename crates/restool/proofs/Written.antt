@@ -35,6 +35,7 @@ use Rattle.report_commands.specs.SurveyOutput.{survey_output_by}
 use Rattle.report_commands.specs.Show.{ShowBytes, shown_output}
 use Rattle.diff_command.specs.Diff.{OpenDiffOf}
 use Rattle.diff_command.specs.DiffOutput.{IsDiffOutput}
+use Rattle.diff_command.specs.Unused.{IsUnusedOutput, OpenUnusedOf}
 use Rattle.diff_command.specs.ValuesOutput.{IsValuesOutput}
 use Rattle.restool.specs.declared.request.Request.{Request}
 use Rattle.restool.specs.declared.request.Request.TheVariants as asks
@@ -289,6 +290,8 @@ module _ {W V E : Type 0} (is_terminal : Bool) (c : W → Option (List ℕ)) (d 
       carry_any _ _ (λ (asked : OpenDiffOf). IsDiffOutput it.form asked.pairs it.max_nodes) (λ (asked : OpenDiffOf). Ok asked.opened) _ p
   answers-over from to carry carry_any carry_once carry_first carry_told carry_both places (asks.Values it) p =
       carry_any _ _ (λ (asked : OpenDiffOf). IsValuesOutput it.form asked.pairs it.max_nodes) (λ (asked : OpenDiffOf). Ok asked.opened) _ p
+  answers-over from to carry carry_any carry_once carry_first carry_told carry_both places (asks.Unused it) p =
+      carry_any _ _ (λ (asked : OpenUnusedOf). IsUnusedOutput asked.asked) (λ (asked : OpenUnusedOf). Ok asked.opened) _ p
   answers-over from to carry carry_any carry_once carry_first carry_told carry_both places (asks.Device it) p = carry _ (λ (text : List ℕ). Ok (as_output text)) _ p
 
   answers-done : (status : Status) → Passes → (places : Places) (request : Request)
@@ -401,6 +404,7 @@ module _ {T E : Type 0} (is_terminal : Bool) (contents : T → Option (List ℕ)
   shows-behind (asks.Attr it) shown = shown
   shows-behind (asks.Diff it) shown = shown
   shows-behind (asks.Values it) shown = shown
+  shows-behind (asks.Unused it) shown = shown
   shows-behind (asks.Device it) shown = shown
 
   -- Where there is no answer and no write failed, the writer behind is as it was.

@@ -16,7 +16,7 @@ use Rattle.restool.specs.declared.words_fault.WordsFault.TheVariants as faults
 use Rattle.restool.specs.declared.request.Request.{Request}
 use Rattle.restool.specs.declared.request.Request.TheVariants as requests
 use Rattle.restool.specs.declared.request.Command.{Command}
-use Rattle.restool.specs.declared.request.Command.TheVariants.{Rows, Dump, Map, Ids, Survey, Show, Query, Explain, Bag, Attr, Make, Check, Diff, Values, Device}
+use Rattle.restool.specs.declared.request.Command.TheVariants.{Rows, Dump, Map, Ids, Survey, Show, Query, Explain, Bag, Attr, Make, Check, Diff, Values, Unused, Device}
 use Rattle.restool.specs.WordsFault.{read_of_words}
 use Rattle.restool.specs.CommandLine.{android, command, device, flag, goal_number, goals, ids, layers, locales, maybe_one_word, maybe_words, names, nodes, one_word, several_words}
 use Rattle.restool.specs.Given.{IsGiven, IsFormGiven, IsGoalNumber, IsNodeLimit, ReadsAlong, ReadsByRule, rule_named, word_at, words_at}
@@ -39,6 +39,7 @@ use Rattle.resource_tool.specs.Check.{Checks}
 use Rattle.report_commands.specs.Survey.{Surveys}
 use Rattle.report_commands.specs.Show.{ShowsTrees}
 use Rattle.diff_command.specs.Diff.{Diffs}
+use Rattle.diff_command.specs.Unused.{TellsUnused}
 use Rattle.diff_command.specs.Values.{TellsValues}
 use Rattle.resource_tool.specs.command_base.CarriesOut.{IsKept}
 
@@ -72,6 +73,8 @@ commands =
     (locales ∷ flag (codes "raw") ∷ nodes (codes "max-nodes") ∷ one_word (codes "OLD") ∷ one_word (codes "NEW") ∷ one_word (codes "BOX") ∷ maybe_words (codes "NAME") ∷ [])
     ∷ command (codes "values")
     (locales ∷ flag (codes "raw") ∷ nodes (codes "max-nodes") ∷ layers ∷ one_word (codes "BOX") ∷ maybe_words (codes "NAME") ∷ [])
+    ∷ command (codes "unused")
+    (locales ∷ nodes (codes "max-nodes") ∷ layers ∷ one_word (codes "BOX") ∷ maybe_words (codes "NAME") ∷ [])
     ∷ command (codes "device") (locales ∷ flag (codes "config") ∷ device ∷ [])
     ∷ []
 
@@ -109,6 +112,7 @@ command_of name =
     else if bytes_eq name (codes "check") then Some Check
     else if bytes_eq name (codes "diff") then Some Diff
     else if bytes_eq name (codes "values") then Some Values
+    else if bytes_eq name (codes "unused") then Some Unused
     else if bytes_eq name (codes "device") then Some Device
     else None
 
@@ -217,6 +221,12 @@ IsValuesOf rule rows asked (requests.Values it) =
     × IsFormGiven rows it.form × IsNodeLimit (one_of (codes "max-nodes") rows) it.max_nodes × (asked ≡ texts_of it.words)
 IsValuesOf rule rows asked _ = ⊥
 
+abbrev pub IsUnusedOf : LocaleRule → List Row → List (List ℕ) → Request → Type 0
+IsUnusedOf rule rows asked (requests.Unused it) =
+    (it.locales ≡ rule) × (it.layers.now ≡ word_at (codes "LAYERS") rows) × (it.box_path.now ≡ word_at (codes "BOX") rows)
+    × IsNodeLimit (one_of (codes "max-nodes") rows) it.max_nodes × (asked ≡ texts_of it.words)
+IsUnusedOf rule rows asked _ = ⊥
+
 abbrev pub IsDeviceOf : LocaleRule → List Row → Request → Type 0
 IsDeviceOf rule rows (requests.Device it) =
     (it.locales ≡ rule) × (it.device.now ≡ word_at (codes "DEVICE") rows) × IsGiven (codes "config") rows it.config
@@ -238,6 +248,7 @@ ReadsCommand Make rows result = ReadsByRule (locales_at rows) (λ rule. ReadsAlo
 ReadsCommand Check rows result = ReadsByRule (locales_at rows) (λ rule. ReadsAlong (goals_at (codes "GOAL") rows) (IsCheckOf rule rows)) result
 ReadsCommand Diff rows result = ReadsByRule (locales_at rows) (λ rule. ReadsAlong (resources_at (codes "NAME") rows) (IsDiffOf rule rows)) result
 ReadsCommand Values rows result = ReadsByRule (locales_at rows) (λ rule. ReadsAlong (resources_at (codes "NAME") rows) (IsValuesOf rule rows)) result
+ReadsCommand Unused rows result = ReadsByRule (locales_at rows) (λ rule. ReadsAlong (resources_at (codes "NAME") rows) (IsUnusedOf rule rows)) result
 ReadsCommand Device rows result = ReadsByRule (locales_at rows) (λ rule read. IsOkAnd read (IsDeviceOf rule rows)) result
 
 -- Words were read, of which the first is the program's name: a fault of the command line comes first, and else it is the
@@ -270,6 +281,7 @@ layer_words (requests.Make it) = layers_in it.layers.now
 layer_words (requests.Check it) = layers_in it.layers.now
 layer_words (requests.Diff it) = both_layers it.old.now it.new.now
 layer_words (requests.Values it) = layers_in it.layers.now
+layer_words (requests.Unused it) = layers_in it.layers.now
 layer_words _ = no_layers
 
 -- A request, from what the places have: as the crate of its command says. Only `map`, `make` and `check` themselves have lines for
@@ -289,6 +301,7 @@ Answers is_terminal contents says old new before after places (requests.Make it)
 Answers is_terminal contents says old new before after places (requests.Check it) = Checks contents says old new before after places it
 Answers is_terminal contents says old new before after places (requests.Diff it) = Diffs contents old new places it
 Answers is_terminal contents says old new before after places (requests.Values it) = TellsValues contents old new places it
+Answers is_terminal contents says old new before after places (requests.Unused it) = TellsUnused contents old new places it
 Answers is_terminal contents says old new before after places (requests.Device it) = PrintsDevice contents old new places it
 
 -- What errors get of a command that may say something beside its answer; they were before and are after. Where there is no

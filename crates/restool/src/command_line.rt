@@ -24,7 +24,7 @@ Exit status:
   1  something you asked for does not exist, or has too many references or parents,
      or a certificate is rejected or cannot be made, or an id map leaves out ids or
      references of its overlay, or a survey finds what a device may read otherwise,
-     or a change alters something
+     or a change alters something, or rows are unused
   2  bad command line, or an argument that is neither a resource id nor a name,
      or a file of words that has none
   3  an input was refused

@@ -21,7 +21,7 @@ use crate::command_line::{
 };
 use crate::left::LayerWords;
 use clap::ArgMatches;
-use diff_command::{Diff, Values};
+use diff_command::{Diff, Unused, Values};
 use report_commands::{Show, Survey};
 use resource_tool::{Check, Inputs, Make, Status, Stop, Watch};
 use std::alloc::Global;
@@ -47,6 +47,7 @@ pub enum Request<'a> {
     Check(Check<'a>),
     Diff(Diff<'a>),
     Values(Values<'a>),
+    Unused(Unused<'a>),
     Device(DeviceForm<'a>),
 }
 
@@ -77,6 +78,8 @@ const CHECK: &str = "check";
 const DIFF: &str = "diff";
 
 const VALUES: &str = "values";
+
+const UNUSED: &str = "unused";
 
 const DEVICE_FORM: &str = "device";
 
@@ -164,6 +167,11 @@ pub(crate) const USAGES: &[Usage] = &[
         arguments: &[LOCALES, RAW, PARTING_NODES, LAYERS, BOX, MAYBE_NAMES],
     },
     Usage {
+        name: UNUSED,
+        about: "Prints the rows of tables that no device of a box loads",
+        arguments: &[LOCALES, PARTING_NODES, LAYERS, BOX, MAYBE_NAMES],
+    },
+    Usage {
         name: DEVICE_FORM,
         about: "Prints a device as JSON, or as Android writes it",
         arguments: &[LOCALES, CONFIG, DEVICE],
@@ -187,6 +195,7 @@ pub(crate) enum Command {
     Check,
     Diff,
     Values,
+    Unused,
     Device,
 }
 
@@ -214,6 +223,7 @@ impl Command {
             CHECK => Command::Check,
             DIFF => Command::Diff,
             VALUES => Command::Values,
+            UNUSED => Command::Unused,
             DEVICE_FORM => Command::Device,
             _ => unreachable!(),
         }
@@ -259,6 +269,7 @@ pub(crate) fn request_of<'a>(
         Command::Check => check_of(alloc, given),
         Command::Diff => diff_of(alloc, given),
         Command::Values => values_of(alloc, given),
+        Command::Unused => unused_of(alloc, given),
         Command::Device => device_of(given),
     }
 }
@@ -394,6 +405,19 @@ fn values_of<'a>(alloc: Global, given: &ArgMatches<'a>) -> Result<Request<'a>, A
     }))
 }
 
+fn unused_of<'a>(alloc: Global, given: &ArgMatches<'a>) -> Result<Request<'a>, ArgumentFault<'a>>
+    ensures { ReadsCommand Command.Unused (rows_of (found_of given.now)) result }
+{
+    let locales = given_rule(given)?;
+    Ok(Request::Unused(Unused {
+        layers: given_word(given, &LAYERS),
+        box_path: given_word(given, &BOX),
+        locales,
+        max_nodes: given_nodes(given),
+        words: given_asked(alloc, given, &MAYBE_NAMES, Asks::Resources)?,
+    }))
+}
+
 fn device_of<'a>(given: &ArgMatches<'a>) -> Result<Request<'a>, ArgumentFault<'a>>
     ensures { ReadsCommand Command.Device (rows_of (found_of given.now)) result }
 {
@@ -421,6 +445,7 @@ pub(crate) fn layer_words<'a>(request: &Request<'a>) -> LayerWords<'a>
         Request::Check(check) => LayerWords::One(check.layers),
         Request::Diff(diff) => LayerWords::Both(diff.old, diff.new),
         Request::Values(values) => LayerWords::One(values.layers),
+        Request::Unused(unused) => LayerWords::One(unused.layers),
         Request::Rows(_) | Request::Dump(_) | Request::Map(_) | Request::Device(_) => {
             LayerWords::None
         }
@@ -456,6 +481,7 @@ pub(crate) fn answer<'a, I: Inputs, C: Clock, O: Write + Drop, E: Write + Drop>(
         Request::Check(check) => check.answer(alloc, inputs, out, errors),
         Request::Diff(diff) => diff.answer(alloc, inputs, &mut watch, out),
         Request::Values(values) => values.answer(alloc, inputs, &mut watch, out),
+        Request::Unused(unused) => unused.answer(alloc, inputs, out),
         Request::Device(form) => form.answer(alloc, inputs, out),
     }
 }

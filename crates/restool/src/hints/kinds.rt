@@ -115,6 +115,7 @@ fn order_of(request: &Request<'_>) -> Option<&'static str> {
         Request::Show(_) => Some("show takes LAYERS CERT"),
         Request::Diff(_) => Some("diff takes OLD NEW BOX NAME.."),
         Request::Values(_) => Some("values takes LAYERS BOX NAME.."),
+        Request::Unused(_) => Some("unused takes LAYERS BOX NAME.."),
         Request::Survey(_) => Some("survey takes LAYERS BOX"),
         _ => None,
     }

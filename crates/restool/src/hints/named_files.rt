@@ -47,6 +47,7 @@ impl<'a> Request<'a> {
             Request::Check(check) => Some(check.box_path),
             Request::Diff(diff) => Some(diff.box_path),
             Request::Values(values) => Some(values.box_path),
+            Request::Unused(unused) => Some(unused.box_path),
             _ => None,
         }
     }
@@ -60,6 +61,7 @@ impl<'a> Request<'a> {
             Request::Check(check) => &check.goals,
             Request::Diff(diff) => &diff.words,
             Request::Values(values) => &values.words,
+            Request::Unused(unused) => &unused.words,
             _ => &[],
         }
     }
@@ -84,6 +86,7 @@ impl<'a> Request<'a> {
             Request::Check(check) => check.locales,
             Request::Diff(diff) => diff.locales,
             Request::Values(values) => values.locales,
+            Request::Unused(unused) => unused.locales,
             Request::Device(form) => form.locales,
             _ => LocaleRule::LanguageAndRegion,
         }
