@@ -35,30 +35,14 @@ const MOST_RADIX: u32 = 23;
 const FULL_SIZE: u32 = 1 << 15;
 
 /// The units of a dimension (AOSP: `COMPLEX_UNIT_PX`, `DIP`, `SP`, `PT`, `IN`, `MM`).
-const DIMENSION_UNITS: [&[u8]; 6] = [b"px", b"dp", b"sp", b"pt", b"in", b"mm"];
+pub(crate) const DIMENSION_UNITS: [&[u8]; 6] = [b"px", b"dp", b"sp", b"pt", b"in", b"mm"];
 
 /// The units of a fraction (AOSP: `COMPLEX_UNIT_FRACTION`, `COMPLEX_UNIT_FRACTION_PARENT`).
-const FRACTION_UNITS: [&[u8]; 2] = [b"%", b"%p"];
+pub(crate) const FRACTION_UNITS: [&[u8]; 2] = [b"%", b"%p"];
 
-/// Writes `34.5sp`.
-pub(crate) fn write_dimension<W: Write + Drop>(value: Value, out: &mut W) -> io::Result<()>
-    ensures { Writes W.contents out.old out.new result
-        (unwrap_or (complex_notation 1 dimension_units value.word) (exact_text value)) }
-{
-    write_complex(value, 1, &DIMENSION_UNITS, out)
-}
-
-/// Writes `37.5%`.
-pub(crate) fn write_fraction<W: Write + Drop>(value: Value, out: &mut W) -> io::Result<()>
-    ensures { Writes W.contents out.old out.new result
-        (unwrap_or (complex_notation 100 fraction_units value.word) (exact_text value)) }
-{
-    write_complex(value, 100, &FRACTION_UNITS, out)
-}
-
-// A number in one of these units, times so much.
+/// Writes a number in one of these units, times so much: `34.5sp`.
 #[tactic(auto, unfolding(crate::specs::ComplexNotation::complex_notation))]
-fn write_complex<W: Write + Drop>(
+pub(crate) fn write_complex<W: Write + Drop>(
     value: Value,
     times: u32,
     units: &[&[u8]],
@@ -68,26 +52,13 @@ fn write_complex<W: Write + Drop>(
     ensures { Writes W.contents out.old out.new result
         (unwrap_or (complex_notation times (map (λ unit. unit.now) units.entry.now) value.word) (exact_text value)) }
 {
-    let Some(unit) = units.get(unit(value.word)) else {
-        return write_exact(value, out);
-    };
-    write_with_unit(value, times, unit, out)
-}
-
-fn write_with_unit<W: Write + Drop>(
-    value: Value,
-    times: u32,
-    unit: &[u8],
-    out: &mut W,
-) -> io::Result<()>
-    requires { times ≤ 100 }
-    ensures { Writes W.contents out.old out.new result
-        (unwrap_or (with_unit times value.word (Some unit.now)) (exact_text value)) }
-{
-    if spare_bits(value.word) == 0 && has_own_radix(value.word) {
-        return write_number(value.word, times, unit, out);
+    let word = value.word;
+    match units.get(unit(word)) {
+        Some(unit) if spare_bits(word) == 0 && has_own_radix(word) => {
+            write_number(word, times, unit, out)
+        }
+        _ => write_exact(value, out),
     }
-    write_exact(value, out)
 }
 
 fn write_number<W: Write + Drop>(word: u32, times: u32, unit: &[u8], out: &mut W) -> io::Result<()>

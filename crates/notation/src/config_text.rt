@@ -36,28 +36,18 @@ pub fn write_config<W: Write + Drop>(config: &Record<'_>, out: &mut W) -> io::Re
     write_text(config, out)
 }
 
-#[tactic(auto, unfolding(crate::specs::ConfigText::config_text))]
+#[tactic(auto, unfolding(crate::specs::ConfigText::config_text, crate::specs::ConfigText::config_parts, config_words::specs::LineParts::line_order))]
 fn write_text<W: Write + Drop>(config: &Record<'_>, out: &mut W) -> io::Result<()>
     ensures { Writes W.contents out.old out.new result (config_text (record_bytes config.now)) }
 {
     let mut due = false;
-    write_parts(config, &mut due, out)?;
+    write_each(config, &PART_ORDER, &mut due, out)?;
     if due {
         return Ok(());
     }
-    out.write_all(b"(default)")?;
-    Ok(())
+    out.write_all(b"(default)")
 }
 
-#[tactic(auto, unfolding(crate::specs::ConfigText::config_parts, config_words::specs::LineParts::line_order))]
-fn write_parts<W: Write + Drop>(config: &Record<'_>, due: &mut bool, out: &mut W) -> io::Result<()>
-    ensures { OnOk result (WritesParts due.old due.new (W.contents out.old) (W.contents out.new)
-        (config_parts (record_bytes config.now))) }
-{
-    write_each(config, &PART_ORDER, due, out)
-}
-
-#[tactic(auto, using(config_record::proofs::SeparatorSteps::continues))]
 fn write_each<W: Write + Drop>(
     config: &Record<'_>,
     coords: &[Coord],
@@ -110,8 +100,7 @@ fn write_number<W: Write + Drop>(
         return Ok(());
     }
     write_separator(b'-', due, out)?;
-    write_number_word(coord, number, out)?;
-    Ok(())
+    write_number_word(coord, number, out)
 }
 
 #[tactic(auto, unfolding(config_words::specs::LineParts::size_part, config_record::specs::Separator::continued))]
@@ -145,9 +134,9 @@ fn write_version<W: Write + Drop>(
         return Ok(());
     }
     write_separator(b'-', due, out)?;
-    write!(out, "v{sdk}")?;
     if minor == 0 {
-        return Ok(());
+        write!(out, "v{sdk}")
+    } else {
+        write!(out, "v{sdk}.{minor}")
     }
-    write!(out, ".{minor}")
 }

@@ -2,7 +2,7 @@
 
 ghost use Rattle.std.specs.Prelude.{◌≡◌, ◌≤◌, ◌<◌, ◌+◌, ◌*◌, ◌^◌, OnOk};
 ghost use Rattle.contract_words.specs.Writes.{Writes};
-ghost use Rattle.notation.specs.Decimal.{nearest, distance, is_near, places_of, digits_behind, behind_point, with_point, decimal_with, decimal_text, IsSmall};
+ghost use Rattle.notation.specs.Decimal.{nearest, distance, is_near, places_of, behind_point, with_point, decimal_with, decimal_text, IsSmall};
 
 use itoa::Buffer;
 use std::io::{self, Write};
@@ -97,12 +97,14 @@ pub(crate) fn write_with<W: Write + Drop>(exact: Exact, places: u32, out: &mut W
 {
     let units = nearest(exact, places);
     let ten = ten_to(places);
-    let whole = (units / ten) as u64;
+    let whole = units / ten;
     write!(out, "{whole}")?;
-    write_behind_point(places, (units % ten) as u64, out)
+    write_behind_point(places, units % ten, out)
 }
 
-fn write_behind_point<W: Write + Drop>(places: u32, number: u64, out: &mut W) -> io::Result<()>
+// A point, and so many digits.
+#[tactic(auto, using(crate::proofs::DecimalSteps::has_first))]
+fn write_behind_point<W: Write + Drop>(places: u32, number: u128, out: &mut W) -> io::Result<()>
     requires few { places ≤ 18 }
     requires within { number < 10 ^ places }
     ensures { Writes W.contents out.old out.new result (behind_point places number) }
@@ -110,18 +112,8 @@ fn write_behind_point<W: Write + Drop>(places: u32, number: u64, out: &mut W) ->
     if places == 0 {
         return Ok(());
     }
-    out.write_all(b".")?;
-    write_digits(places, number, out)
-}
-
-// So many digits.
-#[tactic(auto, using(crate::proofs::DecimalSteps::has_first))]
-fn write_digits<W: Write + Drop>(places: u32, number: u64, out: &mut W) -> io::Result<()>
-    requires few { places ≤ 18 }
-    requires within { number < 10 ^ places }
-    ensures { Writes W.contents out.old out.new result (digits_behind places number) }
-{
-    let marked = ten_to(places) as u64 + number;
+    let marked = ten_to(places) + number;
     let mut text = Buffer::new();
+    out.write_all(b".")?;
     out.write_all(&text.format(marked).as_bytes()[1..])
 }

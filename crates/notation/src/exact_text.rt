@@ -1,9 +1,8 @@
 //! Values as they are shown with all of their bits.
 
-ghost use Rattle.std.specs.Prelude.{◌≡◌, ◌++◌, [], OnOk};
+ghost use Rattle.std.specs.Prelude.{◌≡◌, [], OnOk};
 ghost use Rattle.contract_words.specs.Writes.{Writes};
 ghost use Rattle.res_value.specs.ValueText.{text_among};
-ghost use Rattle.res_value.specs.Word.{eight_digits};
 ghost use Rattle.notation.specs.XmlText.{hides_bits, exact_text};
 
 use crate::complex::spare_bits;
@@ -33,18 +32,12 @@ fn hides_bits(value: Value) -> bool
 }
 
 // As a value of a kind that has no name.
+#[tactic(auto, unfolding(res_value::specs::Word::eight_digits))]
 fn write_unknown<W: Write + Drop>(value: Value, out: &mut W) -> io::Result<()>
     ensures { Writes W.contents out.old out.new result (text_among [] value) }
 {
     out.write_all(b"kind 0x")?;
     write_hex(&[value.kind], out)?;
-    write_word_digits(" 0x", value.word, out)
-}
-
-#[tactic(auto, unfolding(res_value::specs::Word::eight_digits))]
-fn write_word_digits<W: Write + Drop>(before: &str, word: u32, out: &mut W) -> io::Result<()>
-    ensures { Writes W.contents out.old out.new result (before.now ++ eight_digits word) }
-{
-    out.write_all(before.as_bytes())?;
-    out.write_all(&word_digits(word))
+    out.write_all(b" 0x")?;
+    out.write_all(&word_digits(value.word))
 }

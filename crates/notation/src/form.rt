@@ -1,7 +1,7 @@
 //! The two forms of an answer.
 
 /// How an answer is written.
-#[derive(Clone, Copy, Debug, PartialEq, Eq)]
+#[derive(Clone, Copy)]
 pub enum Form {
     /// In Android's notation, as people read it.
     Android,

@@ -91,21 +91,13 @@ fn is_any(bits: u32) -> bool
     bits & ANY == ANY
 }
 
+#[tactic(auto, unfolding(crate::specs::FormatsText::choices))]
 fn write_words<W: Write + Drop>(bits: u32, out: &mut W) -> io::Result<()>
     ensures { Writes W.contents out.old out.new result (join_with_byte bar (type_words bits ++ set_words choices bits)) }
 {
     let mut due = false;
-    write_all_words(bits, &mut due, out)?;
-    Ok(())
-}
-
-#[tactic(auto, unfolding(crate::specs::FormatsText::choices))]
-fn write_all_words<W: Write + Drop>(bits: u32, due: &mut bool, out: &mut W) -> io::Result<()>
-    ensures { OnOk result (WritesBetween bar due.old due.new (W.contents out.old) (W.contents out.new)
-        (type_words bits ++ set_words choices bits)) }
-{
-    write_types(bits, due, out)?;
-    write_set_words(&CHOICES, bits, due, out)?;
+    write_types(bits, &mut due, out)?;
+    write_set_words(&CHOICES, bits, &mut due, out)?;
     Ok(())
 }
 
@@ -118,8 +110,7 @@ fn write_types<W: Write + Drop>(bits: u32, due: &mut bool, out: &mut W) -> io::R
         return write_set_words(&TYPES, bits, due, out);
     }
     write_separator(b'|', due, out)?;
-    out.write_all(b"any")?;
-    Ok(())
+    out.write_all(b"any")
 }
 
 #[tactic(auto, using(config_record::proofs::SeparatorSteps::continues))]
@@ -152,8 +143,7 @@ fn write_if_set<W: Write + Drop>(
         return Ok(());
     }
     write_separator(b'|', due, out)?;
-    out.write_all(format.word)?;
-    Ok(())
+    out.write_all(format.word)
 }
 
 fn is_set(bit: u32, bits: u32) -> bool

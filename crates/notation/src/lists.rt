@@ -1,7 +1,6 @@
 //! Lists of words, with commas between them.
 
 ghost use Rattle.std.specs.Prelude.{◌≡◌, length, OnOk};
-ghost use Rattle.std.specs.List.{flat_map};
 ghost use Rattle.contract_words.specs.Writes.{Writes};
 ghost use Rattle.config_box.specs.box_answers.NumberSet.{locale_numbers};
 ghost use Rattle.config_record.specs.locales.LocaleNumber.{locale_number};
@@ -27,23 +26,8 @@ pub(crate) fn write_numbers_but<W: Write + Drop>(
     ensures { Writes W.contents out.old out.new result (listed_but (number_word coord) others.now numbers.now) }
 {
     let mut due = false;
-    write_each_number(coord, others, numbers, &mut due, out)?;
-    Ok(())
-}
-
-#[tactic(auto, using(config_record::proofs::SeparatorSteps::continues))]
-fn write_each_number<W: Write + Drop>(
-    coord: Coord,
-    others: &[u32],
-    numbers: &[u32],
-    due: &mut bool,
-    out: &mut W,
-) -> io::Result<()>
-    ensures { OnOk result (WritesBetween comma due.old due.new (W.contents out.old) (W.contents out.new)
-        (flat_map (word_unless (number_word coord) others.now) numbers.now)) }
-{
     for number in numbers {
-        write_number_unless(coord, others, *number, due, out)?;
+        write_number_unless(coord, others, *number, &mut due, out)?;
     }
     Ok(())
 }
@@ -63,8 +47,7 @@ fn write_number_unless<W: Write + Drop>(
         return Ok(());
     }
     write_separator(b',', due, out)?;
-    write_number_word(coord, number, out)?;
-    Ok(())
+    write_number_word(coord, number, out)
 }
 
 /// Writes the words of locales, without those of others.
@@ -77,21 +60,8 @@ pub(crate) fn write_locales_but<W: Write + Drop>(
         (listed_but locale_word (locale_numbers others.now) (locale_numbers locales.now)) }
 {
     let mut due = false;
-    write_each_locale(others, locales, &mut due, out)?;
-    Ok(())
-}
-
-fn write_each_locale<W: Write + Drop>(
-    others: &[Locale],
-    locales: &[Locale],
-    due: &mut bool,
-    out: &mut W,
-) -> io::Result<()>
-    ensures { OnOk result (WritesBetween comma due.old due.new (W.contents out.old) (W.contents out.new)
-        (flat_map (λ locale. word_unless locale_word (locale_numbers others.now) (locale_number locale)) locales.now)) }
-{
     for locale in locales {
-        write_locale_unless(others, *locale, due, out)?;
+        write_locale_unless(others, *locale, &mut due, out)?;
     }
     Ok(())
 }
@@ -111,6 +81,5 @@ fn write_locale_unless<W: Write + Drop>(
         return Ok(());
     }
     write_separator(b',', due, out)?;
-    write_locale_word(number, out)?;
-    Ok(())
+    write_locale_word(number, out)
 }

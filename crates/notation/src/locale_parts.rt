@@ -1,10 +1,11 @@
 //! What the text of a configuration has of its locale.
 
-ghost use Rattle.std.specs.Prelude.{◌≡◌, ◌≤◌, length, is_some, option_map, OnOk};
+ghost use Rattle.std.specs.Prelude.{◌≡◌, ◌≤◌, ◌++◌, [], codes, length, is_some, option_map, if◌then◌else◌, OnOk};
 ghost use Rattle.std.specs.List.{list_all};
 ghost use Rattle.contract_words.specs.Writes.{Writes};
 ghost use Rattle.config_record.specs.Qualifiers.{locale_qualifier, bytes_qualifier};
 ghost use Rattle.config_record.specs.Record.{record_bytes, locale_in, locale_script, locale_variant};
+ghost use Rattle.config_record.specs.locales.Zero.{is_zero};
 ghost use Rattle.config_record.specs.locales.Text.{written_script};
 ghost use Rattle.config_record.specs.locales.Locale.{dash};
 ghost use Rattle.config_words.specs.Cut.{cut_at};
@@ -23,6 +24,7 @@ use std::io::{self, Write};
 const LONGEST: usize = 9;
 
 /// Writes the locale of a record with its script and its variant: in letters where these say all, else each by its name.
+#[tactic(auto, unfolding(crate::specs::LocaleParts::locale_parts))]
 pub(crate) fn write_locale_parts<W: Write + Drop>(
     config: &Record<'_>,
     due: &mut bool,
@@ -31,30 +33,10 @@ pub(crate) fn write_locale_parts<W: Write + Drop>(
     ensures { OnOk result (WritesParts due.old due.new (W.contents out.old) (W.contents out.new)
         (locale_parts (locale_in (record_bytes config.now)) (locale_script (record_bytes config.now)) (locale_variant (record_bytes config.now)))) }
 {
-    write_its_parts(
-        config.locale(),
-        &config.script(),
-        &config.variant(),
-        due,
-        out,
-    )
-}
-
-#[tactic(auto, unfolding(crate::specs::LocaleParts::locale_parts))]
-fn write_its_parts<W: Write + Drop>(
-    locale: Locale,
-    script: &[u8],
-    variant: &[u8],
-    due: &mut bool,
-    out: &mut W,
-) -> io::Result<()>
-    requires few { (length script.now ≤ 8) × (length variant.now ≤ 8) }
-    ensures { OnOk result (WritesParts due.old due.new (W.contents out.old) (W.contents out.new)
-        (locale_parts locale script.now variant.now)) }
-{
+    let locale = config.locale();
     let mut text = ArrayVec::<u8, LONGEST>::new();
     write_locale(locale, &mut text)?;
-    write_by_text(locale, &text, script, variant, due, out)
+    write_by_text(locale, &text, &config.script(), &config.variant(), due, out)
 }
 
 // The text is that of the locale.
@@ -176,9 +158,9 @@ fn write_tag<W: Write + Drop>(
 {
     out.write_all(b"b+")?;
     out.write_all(language)?;
-    write_script(script, out)?;
+    write_unless_zero(script, script, out)?;
     write_behind(b"+", region, out)?;
-    write_variant(variant, out)
+    write_unless_zero(variant, variant_text(variant), out)
 }
 
 /// Writes a text behind a sign, where there is one.
@@ -196,24 +178,15 @@ pub(crate) fn write_behind<W: Write + Drop>(
     out.write_all(text)
 }
 
-fn write_script<W: Write + Drop>(script: &[u8], out: &mut W) -> io::Result<()>
-    ensures { Writes W.contents out.old out.new result (script_behind script.now) }
+// Writes the text of bytes behind a plus, unless they are zero.
+fn write_unless_zero<W: Write + Drop>(bytes: &[u8], text: &[u8], out: &mut W) -> io::Result<()>
+    ensures { Writes W.contents out.old out.new result (if is_zero bytes.now then [] else codes "+" ++ text.now) }
 {
-    if is_zero(script) {
+    if is_zero(bytes) {
         return Ok(());
     }
     out.write_all(b"+")?;
-    out.write_all(script)
-}
-
-fn write_variant<W: Write + Drop>(variant: &[u8], out: &mut W) -> io::Result<()>
-    ensures { Writes W.contents out.old out.new result (variant_behind variant.now) }
-{
-    if is_zero(variant) {
-        return Ok(());
-    }
-    out.write_all(b"+")?;
-    out.write_all(variant_text(variant))
+    out.write_all(text)
 }
 
 // Each by its name.

@@ -13,13 +13,9 @@ use config_box::{ConfigBox, Coord, Values};
 pub fn is_narrower_at_one(whole: &ConfigBox, part: &ConfigBox) -> bool
     ensures { result ≡ list_any (is_narrower whole.now part.now) all_coords }
 {
-    is_narrower_among(whole, part, &Coord::ALL)
-}
-
-fn is_narrower_among(whole: &ConfigBox, part: &ConfigBox, coords: &[Coord]) -> bool
-    ensures { result ≡ list_any (is_narrower whole.now part.now) coords.now }
-{
-    coords.iter().any(|coord| is_narrower(whole, part, *coord))
+    Coord::ALL
+        .iter()
+        .any(|coord| is_narrower(whole, part, *coord))
 }
 
 /// Whether the part has fewer numbers at a coordinate.

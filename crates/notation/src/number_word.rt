@@ -1,9 +1,10 @@
 //! The words of a device's numbers, and the letters of those that have none.
 
 ghost use Rattle.std.specs.Prelude.{◌≡◌, OnOk};
+ghost use Rattle.std.specs.Fmt.{decimal};
 ghost use Rattle.contract_words.specs.Writes.{Writes};
 ghost use Rattle.config_words.specs.Forms.{forms, form_for};
-ghost use Rattle.notation.specs.NumberWord.{letters_of, letters_by, letters_at, number_text, number_word};
+ghost use Rattle.notation.specs.NumberWord.{letters_of, letters_by, letters_at, in_letters, number_text, number_word};
 
 use config_record::Coord;
 use config_words::{form_for, word_for};
@@ -60,15 +61,24 @@ pub(crate) fn write_number_word<W: Write + Drop>(
 {
     match word_for(coord, number) {
         Some(word) => out.write_all(word),
-        None => write_number(letters_at(coord), number, out),
+        None => {
+            let letters = letters_at(coord);
+            write_in_letters(letters, letters.sign, u64::from(number), out)
+        }
     }
 }
 
-fn write_number<W: Write + Drop>(letters: Letters, number: u32, out: &mut W) -> io::Result<()>
-    ensures { Writes W.contents out.old out.new result (number_text (letters_of letters) number) }
+/// Writes letters around a number, with this sign before it.
+pub(crate) fn write_in_letters<W: Write + Drop>(
+    letters: Letters,
+    sign: &[u8],
+    number: u64,
+    out: &mut W,
+) -> io::Result<()>
+    ensures { Writes W.contents out.old out.new result (in_letters (letters_of letters) sign.now (decimal number)) }
 {
     out.write_all(letters.front)?;
-    out.write_all(letters.sign)?;
+    out.write_all(sign)?;
     write!(out, "{number}")?;
     out.write_all(letters.end)
 }

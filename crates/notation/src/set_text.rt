@@ -10,7 +10,7 @@ ghost use Rattle.notation.specs.LocaleWord.{locale_word};
 ghost use Rattle.notation.specs.DevicesNotation.{are_most, choice_text, numbers_in, locales_in, begins_with, ends_with, bounds_text, range_text, set_text};
 
 use crate::lists::{write_locales_but, write_numbers_but};
-use crate::number_word::{Letters, letters_at, write_number_word};
+use crate::number_word::{Letters, letters_at, write_in_letters, write_number_word};
 use config_box::{Coord, Locale, Values};
 use std::io::{self, Write};
 
@@ -29,8 +29,8 @@ pub(crate) fn write_set<W: Write + Drop>(
 {
     match part {
         Values::Range(low, high) => write_range(coord, whole, low, high, out),
-        Values::Numbers(numbers) => write_numbers(coord, whole, numbers, out),
-        Values::Locales(locales) => write_locales(whole, locales, out),
+        Values::Numbers(numbers) => write_numbers(coord, numbers_in(whole), numbers, out),
+        Values::Locales(locales) => write_locales(locales_in(whole), locales, out),
     }
 }
 
@@ -64,7 +64,7 @@ fn write_bounds<W: Write + Drop>(
     if begins_with(whole, low) {
         write_below(letters, high, out)
     } else if ends_with(whole, high) {
-        write_from(letters, low, out)
+        write_in_letters(letters, b">=", u64::from(low), out)
     } else {
         write_between(letters, low, high, out)
     }
@@ -96,18 +96,7 @@ pub(crate) fn write_below<W: Write + Drop>(
 ) -> io::Result<()>
     ensures { Writes W.contents out.old out.new result (in_letters (letters_of letters) (codes "<") (decimal (most + 1))) }
 {
-    let next = u64::from(most) + 1;
-    out.write_all(letters.front)?;
-    write!(out, "<{next}")?;
-    out.write_all(letters.end)
-}
-
-fn write_from<W: Write + Drop>(letters: Letters, least: u32, out: &mut W) -> io::Result<()>
-    ensures { Writes W.contents out.old out.new result (in_letters (letters_of letters) (codes ">=") (decimal least)) }
-{
-    out.write_all(letters.front)?;
-    write!(out, ">={least}")?;
-    out.write_all(letters.end)
+    write_in_letters(letters, b"<", u64::from(most) + 1, out)
 }
 
 fn write_between<W: Write + Drop>(
@@ -127,24 +116,26 @@ fn write_between<W: Write + Drop>(
 
 // ---- lists
 
-#[tactic(auto, unfolding(crate::specs::DevicesNotation::choice_text))]
-fn write_numbers<W: Write + Drop>(
-    coord: Coord,
-    whole: Values<'_>,
-    numbers: &[u32],
-    out: &mut W,
-) -> io::Result<()>
-    ensures { Writes W.contents out.old out.new result
-        (choice_text (number_word coord) (numbers_in (values_seen whole.entry)) numbers.now) }
+fn numbers_in(values: Values<'_>) -> &[u32]
+    ensures { result.now ≡ numbers_in (values_seen values.entry) }
 {
-    match whole {
-        Values::Numbers(all) => write_most_numbers(coord, all, numbers, out),
-        Values::Range(_, _) | Values::Locales(_) => write_numbers_but(coord, &[], numbers, out),
+    match values {
+        Values::Numbers(numbers) => numbers,
+        _ => &[],
+    }
+}
+
+fn locales_in(values: Values<'_>) -> &[Locale]
+    ensures { locale_numbers result.now ≡ locales_in (values_seen values.entry) }
+{
+    match values {
+        Values::Locales(locales) => locales,
+        _ => &[],
     }
 }
 
 #[tactic(auto, unfolding(crate::specs::DevicesNotation::choice_text))]
-fn write_most_numbers<W: Write + Drop>(
+fn write_numbers<W: Write + Drop>(
     coord: Coord,
     all: &[u32],
     numbers: &[u32],
@@ -161,26 +152,7 @@ fn write_most_numbers<W: Write + Drop>(
 }
 
 #[tactic(auto, unfolding(crate::specs::DevicesNotation::choice_text))]
-fn write_locales<W: Write + Drop>(
-    whole: Values<'_>,
-    locales: &[Locale],
-    out: &mut W,
-) -> io::Result<()>
-    ensures { Writes W.contents out.old out.new result
-        (choice_text locale_word (locales_in (values_seen whole.entry)) (locale_numbers locales.now)) }
-{
-    match whole {
-        Values::Locales(all) => write_most_locales(all, locales, out),
-        Values::Range(_, _) | Values::Numbers(_) => write_locales_but(&[], locales, out),
-    }
-}
-
-#[tactic(auto, unfolding(crate::specs::DevicesNotation::choice_text))]
-fn write_most_locales<W: Write + Drop>(
-    all: &[Locale],
-    locales: &[Locale],
-    out: &mut W,
-) -> io::Result<()>
+fn write_locales<W: Write + Drop>(all: &[Locale], locales: &[Locale], out: &mut W) -> io::Result<()>
     ensures { Writes W.contents out.old out.new result
         (choice_text locale_word (locale_numbers all.now) (locale_numbers locales.now)) }
 {

@@ -9,7 +9,7 @@ ghost use Rattle.notation.specs.Stored.{IsStored};
 ghost use Rattle.notation.specs.XmlText.{null_notation, reference_notation, boolean_notation, exact_text, xml_text};
 
 use crate::color::{write_argb4, write_argb8, write_rgb4, write_rgb8};
-use crate::complex::{write_dimension, write_fraction};
+use crate::complex::{DIMENSION_UNITS, FRACTION_UNITS, write_complex};
 use crate::exact_text::write_exact;
 use crate::float::write_float;
 use res_value::{Value, kind};
@@ -38,10 +38,10 @@ fn write_text<W: Write + Drop>(value: Value, out: &mut W) -> io::Result<()>
         kind::NULL => write_null(value, out),
         kind::REFERENCE => write_reference(value, out),
         kind::FLOAT => write_float(value, out),
-        kind::DIMENSION => write_dimension(value, out),
-        kind::FRACTION => write_fraction(value, out),
-        kind::INT_DEC => write_decimal(value.word, out),
-        kind::INT_HEX => write_hexadecimal(value.word, out),
+        kind::DIMENSION => write_complex(value, 1, &DIMENSION_UNITS, out),
+        kind::FRACTION => write_complex(value, 100, &FRACTION_UNITS, out),
+        kind::INT_DEC => write!(out, "{}", value.word.cast_signed()),
+        kind::INT_HEX => write!(out, "0x{:x}", value.word),
         kind::INT_BOOLEAN => write_boolean(value, out),
         kind::INT_COLOR_ARGB8 => write_argb8(value, out),
         kind::INT_COLOR_RGB8 => write_rgb8(value, out),
@@ -71,19 +71,6 @@ fn write_reference<W: Write + Drop>(value: Value, out: &mut W) -> io::Result<()>
         0 => out.write_all(b"@null"),
         _ => write_exact(value, out),
     }
-}
-
-fn write_decimal<W: Write + Drop>(word: u32, out: &mut W) -> io::Result<()>
-    ensures { Writes W.contents out.old out.new result (signed_decimal (signed_number 32 word)) }
-{
-    let number = word.cast_signed();
-    write!(out, "{number}")
-}
-
-fn write_hexadecimal<W: Write + Drop>(word: u32, out: &mut W) -> io::Result<()>
-    ensures { Writes W.contents out.old out.new result (codes "0x" ++ digits 16 false word) }
-{
-    write!(out, "0x{word:x}")
 }
 
 #[tactic(auto, unfolding(crate::specs::XmlText::boolean_notation))]

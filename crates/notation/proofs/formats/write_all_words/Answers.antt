@@ -1,7 +1,0 @@
-use Rattle.config_record.proofs.SeparatorSteps.{Continues-trans}
-use Rattle.notation.specs.FormatsText.{choices}
-use Rattle.notation.proofs.formats.write_all_words.Goals as goal
-
-pub returns : goal.returns
-unfolding choices
-returns g c = Continues-trans _ _ _ _ _ _ _ _ c.in_ok-write_types.ensures c.in_ok-write_set_words.ensures
