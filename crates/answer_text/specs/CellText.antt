@@ -43,23 +43,16 @@ unfoldable pub cell_text : RowFormatOf → CellOf → List ℕ
 cell_text format (PlainOf value) = value_with_string format.strings value
 cell_text format (BagOf parent rows) = bag_text parent.0 (length rows)
 
--- `NAME VALUE`
-unfoldable pub named_value_text : Option PoolOf → ℕ → Value → List ℕ
-named_value_text strings name value = id_text name ++ codes " " ++ value_with_string strings value
-
--- the line of a row of a bag, behind the indent
+-- the line `NAME VALUE` of a row of a bag, behind the indent
 unfoldable pub map_row_text : RowFormatOf → (ResId × Value) → List ℕ
-map_row_text format row = format.indent ++ named_value_text format.strings row.0.0 row.1 ++ 10 ∷ []
+map_row_text format row = format.indent ++ id_text row.0.0 ++ codes " " ++ value_with_string format.strings row.1 ++ 10 ∷ []
 
 -- the lines of a bag's rows
 unfoldable pub map_rows_text : RowFormatOf → CellOf → List ℕ
 map_rows_text format (PlainOf value) = []
 map_rows_text format (BagOf parent rows) = flat_map (map_row_text format) rows
 
--- `RECORD VALUE`
-unfoldable pub config_and_cell : RowFormatOf → RowOf → List ℕ
-config_and_cell format row = record_text row.config ++ codes " " ++ cell_text format row.cell
-
--- how the line of a row ends, and the lines of a bag
+-- how the line of a row ends, `RECORD VALUE`, and the lines of a bag
 unfoldable pub row_end_text : RowFormatOf → RowOf → List ℕ
-row_end_text format row = config_and_cell format row ++ 10 ∷ [] ++ map_rows_text format row.cell
+row_end_text format row =
+    record_text row.config ++ codes " " ++ cell_text format row.cell ++ 10 ∷ [] ++ map_rows_text format row.cell

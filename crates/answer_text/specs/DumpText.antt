@@ -16,21 +16,14 @@ use Rattle.answer_text.specs.CellText.{RowFormatOf, row_end_text}
 unfoldable pub dump_format : PoolOf → RowFormatOf
 dump_format strings = record { indent = codes "    "; strings = Some strings }
 
--- `package 0xKK`
-unfoldable pub package_id_text : ℕ → List ℕ
-package_id_text id = codes "package 0x" ++ encode_lower (id ∷ [])
-
 -- the line `package 0xKK NAME`
 unfoldable pub package_line : PackageOf → List ℕ
-package_line owner = package_id_text owner.header.id ++ codes " " ++ shown_text owner.header.name ++ 10 ∷ []
+package_line owner =
+    codes "package 0x" ++ encode_lower (owner.header.id ∷ []) ++ codes " " ++ shown_text owner.header.name ++ 10 ∷ []
 
 -- `TYPE/KEY`
 unfoldable pub names_text : TableOf → RowOf → List ℕ
 names_text table row = string_text (type_name_in table row) ++ codes "/" ++ string_text (key_name_in table row)
-
--- `  ID TYPE/KEY`
-unfoldable pub row_front_text : TableOf → RowOf → List ℕ
-row_front_text table row = codes "  " ++ id_text row.id ++ codes " " ++ names_text table row
 
 -- ` flags FLAGS`
 unfoldable pub flags_text : ℕ → List ℕ
@@ -39,7 +32,8 @@ flags_text flags = codes " flags " ++ word_text flags
 -- the line `  ID TYPE/KEY flags FLAGS RECORD VALUE`, and those of a bag
 unfoldable pub row_text : TableOf → RowOf → List ℕ
 row_text table row =
-    row_front_text table row ++ flags_text row.flags ++ codes " " ++ row_end_text (dump_format table.strings) row
+    codes "  " ++ id_text row.id ++ codes " " ++ names_text table row ++ flags_text row.flags ++ codes " "
+    ++ row_end_text (dump_format table.strings) row
 
 -- the line of a package, and those of its rows in their order
 unfoldable pub package_text : TableOf → PackageOf → List ℕ

@@ -33,27 +33,22 @@ decision_text (KeptOut rule) = codes "kept out" ++ rule_text rule
 unfoldable pub place_text : ℕ → ℕ → List ℕ
 place_text place layer = named_number (codes "candidate") place ++ codes " " ++ layer_text layer
 
--- `RECORD DECISION`
-unfoldable pub traced_text : TracedCandidateOf → List ℕ
-traced_text traced = record_text traced.candidate.row.config ++ codes " " ++ decision_text traced.decision
-
 -- the line `candidate K layer L RECORD DECISION`
 unfoldable pub candidate_line : (ℕ × TracedCandidateOf) → List ℕ
 candidate_line numbered =
-    place_text numbered.0 numbered.1.candidate.layer ++ codes " " ++ traced_text numbered.1 ++ 10 ∷ []
+    place_text numbered.0 numbered.1.candidate.layer ++ codes " "
+    ++ record_text numbered.1.candidate.row.config ++ codes " " ++ decision_text numbered.1.decision ++ 10 ∷ []
 
 -- ---- a look-up
-
--- the line `lookup ID`
-unfoldable pub look_up_line : List LayerOf → Bool → ℕ → List ℕ
-look_up_line stack names id = named_id (codes "lookup") id ++ name_beside stack id names ++ 10 ∷ []
 
 -- the lines of candidates, which are counted from 0
 unfoldable pub candidate_lines : List TracedCandidateOf → List ℕ
 candidate_lines candidates = flat_map candidate_line (enumerate_from 0 candidates)
 
+-- the line `lookup ID`, and those of its candidates
 unfoldable pub look_up_text : List LayerOf → List ℕ → Bool → ℕ → List ℕ
-look_up_text stack d names id = look_up_line stack names id ++ candidate_lines (scan_look_up traced stack d id)
+look_up_text stack d names id =
+    named_id (codes "lookup") id ++ name_beside stack id names ++ 10 ∷ [] ++ candidate_lines (scan_look_up traced stack d id)
 
 -- ---- all look-ups
 

@@ -7,7 +7,7 @@ ghost use Rattle.bags_themes.specs.string_pool.Pool.{pool_of};
 ghost use Rattle.bags_themes.specs.res_value.Cell.{cell_of};
 ghost use Rattle.bags_themes.specs.res_value.MapRows.{map_rows_of};
 ghost use Rattle.bags_themes.specs.type_chunks.Row.{row_of};
-ghost use Rattle.answer_text.specs.CellText.{format_of, string_behind, value_with_string, bag_text, cell_text, named_value_text, map_row_text, map_rows_text, config_and_cell, row_end_text};
+ghost use Rattle.answer_text.specs.CellText.{format_of, string_behind, value_with_string, bag_text, cell_text, map_row_text, map_rows_text, row_end_text};
 
 use crate::last_record::LastRecord;
 use crate::named::write_named_id;
@@ -37,23 +37,11 @@ pub(crate) fn write_row_end<'a, W: Write + Drop>(
 ) -> io::Result<()>
     ensures { Writes W.contents out.old out.new result (row_end_text (format_of format.entry) (row_of row.now)) }
 {
-    write_config_and_cell(format, row, records, out)?;
-    out.write_all(b"\n")?;
-    write_map_rows(format, row.cell, out)
-}
-
-#[tactic(auto, unfolding(crate::specs::CellText::config_and_cell))]
-fn write_config_and_cell<'a, W: Write + Drop>(
-    format: RowFormat<'_>,
-    row: &Row<'a>,
-    records: &mut LastRecord<'a>,
-    out: &mut W,
-) -> io::Result<()>
-    ensures { Writes W.contents out.old out.new result (config_and_cell (format_of format.entry) (row_of row.now)) }
-{
     records.write(row.config, out)?;
     out.write_all(b" ")?;
-    write_cell(format, row.cell, out)
+    write_cell(format, row.cell, out)?;
+    out.write_all(b"\n")?;
+    write_map_rows(format, row.cell, out)
 }
 
 #[tactic(auto, unfolding(crate::specs::CellText::cell_text))]
@@ -144,20 +132,8 @@ fn write_map_row<W: Write + Drop>(
     ensures { Writes W.contents out.old out.new result (map_row_text (format_of format.entry) (name, value)) }
 {
     out.write_all(format.indent.as_bytes())?;
-    write_named_value(format.strings, name, value, out)?;
-    out.write_all(b"\n")
-}
-
-#[tactic(auto, unfolding(crate::specs::CellText::named_value_text))]
-fn write_named_value<W: Write + Drop>(
-    strings: Option<Pool<'_>>,
-    name: ResId,
-    value: Value,
-    out: &mut W,
-) -> io::Result<()>
-    ensures { Writes W.contents out.old out.new result (named_value_text (option_map pool_of strings.entry) name.0 value) }
-{
     write_id(name, out)?;
     out.write_all(b" ")?;
-    write_value_with_string(strings, value, out)
+    write_value_with_string(format.strings, value, out)?;
+    out.write_all(b"\n")
 }

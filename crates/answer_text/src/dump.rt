@@ -5,7 +5,7 @@ ghost use Rattle.contract_words.specs.Writes.{Writes};
 ghost use Rattle.bags_themes.specs.type_chunks.Row.{row_of};
 ghost use Rattle.bags_themes.specs.resource_table.Package.{package_of};
 ghost use Rattle.answer_text.specs.LastTypeName.{KeepsNameIn};
-ghost use Rattle.answer_text.specs.DumpText.{package_id_text, package_line, names_text, row_front_text, flags_text, row_text, package_text, dump_text};
+ghost use Rattle.answer_text.specs.DumpText.{package_line, names_text, flags_text, row_text, package_text, dump_text};
 
 use crate::cell::{RowFormat, write_row_end};
 use crate::last_record::LastRecord;
@@ -53,18 +53,11 @@ fn write_package<'a, W: Write + Drop>(
 pub fn write_package_line<W: Write + Drop>(owner: &Package<'_>, out: &mut W) -> io::Result<()>
     ensures { Writes W.contents out.old out.new result (package_line (package_of owner.now)) }
 {
-    write_package_id(owner.id(), out)?;
+    out.write_all(b"package 0x")?;
+    write_hex(&[owner.id()], out)?;
     out.write_all(b" ")?;
     owner.name().write_shown(out)?;
     out.write_all(b"\n")
-}
-
-#[tactic(auto, unfolding(crate::specs::DumpText::package_id_text))]
-fn write_package_id<W: Write + Drop>(id: u8, out: &mut W) -> io::Result<()>
-    ensures { Writes W.contents out.old out.new result (package_id_text id) }
-{
-    out.write_all(b"package 0x")?;
-    write_hex(&[id], out)
 }
 
 #[tactic(auto, using(contract_words::proofs::TextSteps::puts))]
@@ -123,27 +116,13 @@ fn write_row<'a, W: Write + Drop>(
         indent: "    ",
         strings: Some(table.strings()),
     };
-    write_row_front(table, row, type_name, out)?;
-    write_flags(row.flags, out)?;
-    out.write_all(b" ")?;
-    write_row_end(format, row, records, out)
-}
-
-#[tactic(auto, unfolding(crate::specs::DumpText::row_front_text))]
-fn write_row_front<W: Write + Drop>(
-    table: &Table<'_>,
-    row: &Row<'_>,
-    type_name: &mut LastTypeName,
-    out: &mut W,
-) -> io::Result<()>
-    requires { KeepsNameIn table.now type_name.old }
-    ensures text { Writes W.contents out.old out.new result (row_front_text table.now (row_of row.now)) }
-    ensures keeps { KeepsNameIn table.now type_name.new }
-{
     out.write_all(b"  ")?;
     write_id(row.id, out)?;
     out.write_all(b" ")?;
-    write_names(table, row, type_name, out)
+    write_names(table, row, type_name, out)?;
+    write_flags(row.flags, out)?;
+    out.write_all(b" ")?;
+    write_row_end(format, row, records, out)
 }
 
 /// Writes the flags of a row, behind what stands before them.

@@ -3,7 +3,7 @@
 ghost use Rattle.std.specs.Option.{option_map};
 ghost use Rattle.contract_words.specs.Writes.{Writes};
 ghost use Rattle.bags_themes.specs.string_pool.Pool.{pool_of};
-ghost use Rattle.answer_text.specs.EndText.{value_end_text, end_with_string, end_text, end_name, end_with_name, end_line, named_end_line};
+ghost use Rattle.answer_text.specs.EndText.{value_end_text, end_with_string, end_text, end_with_name, end_line, named_end_line};
 
 use crate::cell::write_value_with_string;
 use crate::layer::write_layer;
@@ -54,7 +54,7 @@ fn write_value_end<W: Write + Drop>(
 
 /// Writes an end, and behind the id that it has its name, where names are asked for. Where strings are given, a string
 /// value is followed by its string among them.
-#[tactic(auto, unfolding(crate::specs::EndText::end_with_name))]
+#[tactic(auto, unfolding(crate::specs::EndText::end_with_name, crate::specs::EndText::end_name))]
 pub fn write_end_with_name<W: Write + Drop>(
     names: &NamesBeside<'_, '_>,
     strings: Option<Pool<'_>>,
@@ -64,17 +64,6 @@ pub fn write_end_with_name<W: Write + Drop>(
     ensures { Writes W.contents out.old out.new result (end_with_name names.now.stack (option_map pool_of strings.entry) end names.now.asked) }
 {
     write_end_with_string(strings, end, out)?;
-    write_end_name(names, end, out)
-}
-
-#[tactic(auto, unfolding(crate::specs::EndText::end_name))]
-fn write_end_name<W: Write + Drop>(
-    names: &NamesBeside<'_, '_>,
-    end: End,
-    out: &mut W,
-) -> io::Result<()>
-    ensures { Writes W.contents out.old out.new result (end_name names.now.stack end names.now.asked) }
-{
     match end {
         End::Value { .. } => Ok(()),
         End::Bag { id } | End::Absent { id } | End::TooLong { id } => names.write(id, out),

@@ -9,7 +9,7 @@ ghost use Rattle.bags_themes.specs.overlay_map.Candidates.{cand_of};
 ghost use Rattle.bags_themes.specs.reference_resolver.Selection.{selected};
 ghost use Rattle.bags_themes.specs.reference_resolver.Ends.{references_followed, end_of};
 ghost use Rattle.bags_themes.specs.reference_resolver.Trace.{look_ups_of, traced, scan_look_up, IsTraced};
-ghost use Rattle.answer_text.specs.ExplainText.{place_text, traced_text, candidate_line, look_up_line, candidate_lines, look_up_text, explain_text};
+ghost use Rattle.answer_text.specs.ExplainText.{place_text, candidate_line, candidate_lines, look_up_text, explain_text};
 
 use crate::decision::write_decision;
 use crate::end::write_named_end_line;
@@ -74,7 +74,9 @@ fn write_look_up<'a, W: Write + Drop>(
     ensures text { Writes W.contents out.old out.new result (look_up_text names.now.stack (device_numbers device.now) names.now.asked id.0) }
     ensures picked { IfOk result (λ picked. option_map cand_of picked ≡ selected names.now.stack id.0 (device_numbers device.now)) }
 {
-    write_look_up_line(names, id, out)?;
+    write_named_id("lookup", id, out)?;
+    names.write(id, out)?;
+    out.write_all(b"\n")?;
     write_candidates(names.stack(), id, device, out)
 }
 
@@ -113,22 +115,10 @@ fn write_candidate<W: Write + Drop>(
 {
     write_place(place, candidate.layer, out)?;
     out.write_all(b" ")?;
-    write_traced(candidate, decision, out)?;
-    out.write_all(b"\n")
-}
-
-#[tactic(auto, unfolding(crate::specs::ExplainText::traced_text))]
-fn write_traced<W: Write + Drop>(
-    candidate: &Cand<'_>,
-    decision: Decision,
-    out: &mut W,
-) -> io::Result<()>
-    ensures { Writes W.contents out.old out.new result
-        (traced_text (record { candidate = cand_of candidate.now; decision = decision })) }
-{
     candidate.row.config.write_qualifiers(out)?;
     out.write_all(b" ")?;
-    write_decision(decision, out)
+    write_decision(decision, out)?;
+    out.write_all(b"\n")
 }
 
 #[tactic(auto, unfolding(crate::specs::ExplainText::place_text))]
@@ -138,17 +128,4 @@ fn write_place<W: Write + Drop>(place: u128, layer: usize, out: &mut W) -> io::R
     write_named_number("candidate", place, out)?;
     out.write_all(b" ")?;
     write_layer(layer, out)
-}
-
-#[tactic(auto, unfolding(crate::specs::ExplainText::look_up_line))]
-fn write_look_up_line<W: Write + Drop>(
-    names: &NamesBeside<'_, '_>,
-    id: ResId,
-    out: &mut W,
-) -> io::Result<()>
-    ensures { Writes W.contents out.old out.new result (look_up_line names.now.stack names.now.asked id.0) }
-{
-    write_named_id("lookup", id, out)?;
-    names.write(id, out)?;
-    out.write_all(b"\n")
 }

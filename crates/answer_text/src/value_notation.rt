@@ -1,15 +1,14 @@
 //! What values and the keys of rows say, written in Android's notation.
 
-ghost use Rattle.std.specs.Prelude.{◌≡◌, ◌++◌, codes};
+ghost use Rattle.std.specs.Prelude.{◌≡◌};
 ghost use Rattle.std.specs.Option.{option_map};
 ghost use Rattle.contract_words.specs.Writes.{Writes};
 ghost use Rattle.names.specs.Label.{label_of};
-ghost use Rattle.names.specs.LabelText.{label_text};
 ghost use Rattle.answer_text.specs.ContentSeen.{value_content_of, row_key_of};
 ghost use Rattle.answer_text.specs.ValueNotation.{reference_notation, value_notation, attribute_word, word_or_id, key_notation, is_of_formats, formats_notation, row_notation};
 
 use crate::content::{RowKey, ValueContent};
-use crate::value_text::{write_row_key, write_value_content};
+use crate::value_text::{write_label_behind, write_row_key, write_value_content};
 use bags_themes::{ResId, Value};
 use names::{Label, PackageNames};
 use notation::{write_formats, write_xml_value};
@@ -59,19 +58,8 @@ fn write_reference<W: Write + Drop>(
 {
     match label {
         Label::Id(ResId(0)) => out.write_all(b"@null"),
-        Label::Id(_) | Label::Name { .. } => write_behind_at(packages, label, out),
+        Label::Id(_) | Label::Name { .. } => write_label_behind(b"@", packages, label, out),
     }
-}
-
-fn write_behind_at<W: Write + Drop>(
-    packages: &PackageNames<'_>,
-    label: &Label<'_>,
-    out: &mut W,
-) -> io::Result<()>
-    ensures { Writes W.contents out.old out.new result (codes "@" ++ label_text packages.now (label_of label.now)) }
-{
-    out.write_all(b"@")?;
-    packages.write_label(label, out)
 }
 
 /// Writes what tells a row from the others of its bag: `[PLACE]`, a quantity, what it says of an attribute, or a label.
