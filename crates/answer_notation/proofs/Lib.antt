@@ -1,3 +1,4 @@
 mod Enumerated
 mod ColumnSteps
+mod PushedItems
 pub use Rattle.answer_text.proofs as answer_text_proofs

@@ -47,5 +47,5 @@ decision_notation SetAside = codes "no match: script or variant"
 decision_notation (NoMatch coord) = named_coord (codes "no match:") coord
 decision_notation First = codes "first"
 decision_notation (TookOver rule) = by_rule (codes "took over") [] rule
-decision_notation TookOverEqual = by_rule (codes "took over") (codes ": same configuration, of an overlay") None
+decision_notation TookOverEqual = codes "took over: same configuration, of an overlay"
 decision_notation (KeptOut rule) = by_rule (codes "kept out") (codes ": not better") rule

@@ -9,7 +9,7 @@ use Rattle.names.specs.IdLabel.{label_of_id}
 use Rattle.names.specs.LabelText.{label_text}
 use Rattle.names.specs.NamedIds.{packages_of}
 use Rattle.names.specs.Quoted.{quoted_text}
-use Rattle.answer_text.specs.Content.{RowKeyOf}
+use Rattle.answer_text.specs.Content.{RowKeyOf, ValueContentOf}
 use Rattle.answer_text.specs.declared.row_key.Keys.{Keys}
 use Rattle.answer_text.specs.LayerText.{layer_text}
 use Rattle.answer_text.specs.RowKeys.{row_key}
@@ -29,17 +29,14 @@ id_notation naming id = label_text (packages_of naming.stack) (label_of_id namin
 unfoldable pub value_at : NamingOf → ℕ → Value → List ℕ
 value_at naming layer value = value_notation (packages_of naming.stack) (value_content naming.stack layer value)
 
--- what the row of a bag says that this tells from the others
-unfoldable pub row_value : NamingOf → RowKeyOf → BagRow → List ℕ
-row_value naming key row = row_notation (packages_of naming.stack) key (value_content naming.stack row.layer row.value)
-
 -- `KEY VALUE`
-unfoldable pub keyed_row : NamingOf → RowKeyOf → BagRow → List ℕ
-keyed_row naming key row = key_notation (packages_of naming.stack) key ++ codes " " ++ row_value naming key row
+unfoldable pub key_and_value : NamingOf → RowKeyOf → ValueContentOf → List ℕ
+key_and_value naming key value = key_notation (packages_of naming.stack) key ++ codes " " ++ row_notation (packages_of naming.stack) key value
 
--- the row of a bag at a place
+-- the row of a bag at a place: what tells it from the others, and what it says
 unfoldable pub row_at : NamingOf → Keys → ℕ → BagRow → List ℕ
-row_at naming keys place row = keyed_row naming (row_key naming.stack keys place row.name.0) row
+row_at naming keys place row =
+    key_and_value naming (row_key naming.stack keys place row.name.0) (value_content naming.stack row.layer row.value)
 
 -- a path of characters of ASCII that are seen, as it is; any other between quotes, as strings are
 unfoldable pub path_notation : List ℕ → List ℕ

@@ -17,72 +17,59 @@ pub(crate) fn write_decision<W: Write + Drop>(decision: Decision, out: &mut W) -
         Decision::SetAside => out.write_all(b"no match: script or variant"),
         Decision::NoMatch(coord) => write_named_coord("no match:", coord, out),
         Decision::First => out.write_all(b"first"),
-        Decision::TookOver(rule) => write_by_rule(b"took over", b"", rule, out),
-        Decision::TookOverEqual => write_by_rule(
-            b"took over",
-            b": same configuration, of an overlay",
-            None,
-            out,
-        ),
-        Decision::KeptOut(rule) => write_by_rule(b"kept out", b": not better", rule, out),
+        Decision::TookOver(rule) => write_by_rule("took over", "", rule, out),
+        Decision::TookOverEqual => out.write_all(b"took over: same configuration, of an overlay"),
+        Decision::KeptOut(rule) => write_by_rule("kept out", ": not better", rule, out),
     }
 }
 
+#[tactic(auto, unfolding(crate::specs::DecisionWords::rule_notation))]
 fn write_by_rule<W: Write + Drop>(
-    what: &[u8],
-    otherwise: &[u8],
+    what: &str,
+    otherwise: &str,
     rule: Option<u8>,
     out: &mut W,
 ) -> io::Result<()>
     ensures { Writes W.contents out.old out.new result (by_rule what.now otherwise.now rule) }
 {
-    out.write_all(what)?;
     match rule {
         Some(rule) => {
-            out.write_all(b": ")?;
-            write_rule(rule, out)
+            let words = rule_words(rule);
+            write!(out, "{what}: {words} (P{rule})")
         }
-        None => out.write_all(otherwise),
+        None => write!(out, "{what}{otherwise}"),
     }
-}
-
-#[tactic(auto, unfolding(crate::specs::DecisionWords::rule_notation))]
-fn write_rule<W: Write + Drop>(rule: u8, out: &mut W) -> io::Result<()>
-    ensures { Writes W.contents out.old out.new result (rule_notation rule) }
-{
-    out.write_all(rule_words(rule))?;
-    write!(out, " (P{rule})")
 }
 
 // What the rule of a number compares.
 #[tactic(auto, unfolding(crate::specs::DecisionWords::rule_words))]
-fn rule_words(rule: u8) -> &'static [u8]
+fn rule_words(rule: u8) -> &'static str
     ensures { result.now ≡ rule_words rule }
 {
     match rule {
-        1 => b"mobile country code",
-        2 => b"mobile network code",
-        3 => b"locale",
-        4 => b"layout direction",
-        5 => b"smallest width",
-        6 => b"available width and height",
-        7 => b"screen size",
-        8 => b"long screen",
-        9 => b"round screen",
-        10 => b"wide colors",
-        11 => b"dynamic range",
-        12 => b"orientation",
-        13 => b"UI mode",
-        14 => b"night mode",
-        15 => b"density",
-        16 => b"touchscreen",
-        17 => b"hidden keys",
-        18 => b"hidden navigation",
-        19 => b"keyboard",
-        20 => b"navigation",
-        21 => b"width and height in pixels",
-        22 => b"platform version",
-        23 => b"minor version",
-        _ => b"",
+        1 => "mobile country code",
+        2 => "mobile network code",
+        3 => "locale",
+        4 => "layout direction",
+        5 => "smallest width",
+        6 => "available width and height",
+        7 => "screen size",
+        8 => "long screen",
+        9 => "round screen",
+        10 => "wide colors",
+        11 => "dynamic range",
+        12 => "orientation",
+        13 => "UI mode",
+        14 => "night mode",
+        15 => "density",
+        16 => "touchscreen",
+        17 => "hidden keys",
+        18 => "hidden navigation",
+        19 => "keyboard",
+        20 => "navigation",
+        21 => "width and height in pixels",
+        22 => "platform version",
+        23 => "minor version",
+        _ => "",
     }
 }

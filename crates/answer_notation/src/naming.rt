@@ -7,8 +7,8 @@ ghost use Rattle.contract_words.specs.Writes.{Writes};
 ghost use Rattle.answer_notation.specs.Naming.{path_notation};
 
 use answer_text::{
-    BagRow, Keys, ResId, RowKey, Stack, Value, value_content, write_key_notation, write_layer,
-    write_row_notation, write_value_notation,
+    BagRow, Keys, ResId, RowKey, Stack, Value, ValueContent, value_content, write_key_notation,
+    write_layer, write_row_notation, write_value_notation,
 };
 use names::{NamedStack, PackageNames, write_quoted};
 use std::alloc::{AllocError, Global};
@@ -39,8 +39,8 @@ impl<'s, 'a, 'p> Model for Naming<'s, 'a, 'p> {
 impl<'s, 'a, 'p> Naming<'s, 'a, 'p> {
     ghost use Rattle.std.specs.Prelude.{◌≡◌, map, string_bytes, IfOk};
     ghost use Rattle.contract_words.specs.Writes.{Writes};
-    ghost use Rattle.answer_notation.specs.Naming.{id_notation, value_at, row_value, keyed_row, row_at, layer_notation};
-    ghost use Rattle.answer_text.specs.ContentSeen.{row_key_of};
+    ghost use Rattle.answer_notation.specs.Naming.{id_notation, value_at, key_and_value, row_at, layer_notation};
+    ghost use Rattle.answer_text.specs.ContentSeen.{row_key_of, value_content_of};
 
     /// Notes what the ids of a stack are called, whose tables lie at these paths.
     pub fn of(
@@ -107,34 +107,22 @@ impl<'s, 'a, 'p> Naming<'s, 'a, 'p> {
         ensures { Writes W.contents out.old out.new result (row_at self.now keys place row) }
     {
         let key = keys.of_row(self.alloc, &self.stack, place, row.name)?;
-        self.write_keyed_row(&key, row, out)
+        let value = value_content(self.alloc, &self.stack, row.layer, row.value)?;
+        self.write_key_and_value(&key, &value, out)
     }
 
-    #[tactic(auto, unfolding(crate::specs::Naming::keyed_row))]
-    fn write_keyed_row<W: Write + Drop>(
+    #[tactic(auto, unfolding(crate::specs::Naming::key_and_value))]
+    fn write_key_and_value<W: Write + Drop>(
         &self,
         key: &RowKey<'_>,
-        row: BagRow,
+        value: &ValueContent<'_>,
         out: &mut W,
     ) -> io::Result<()>
-        ensures { Writes W.contents out.old out.new result (keyed_row self.now (row_key_of key.now) row) }
+        ensures { Writes W.contents out.old out.new result (key_and_value self.now (row_key_of key.now) (value_content_of value.now)) }
     {
         write_key_notation(&self.packages, key, out)?;
         out.write_all(b" ")?;
-        self.write_row_value(key, row, out)
-    }
-
-    #[tactic(auto, unfolding(crate::specs::Naming::row_value))]
-    fn write_row_value<W: Write + Drop>(
-        &self,
-        key: &RowKey<'_>,
-        row: BagRow,
-        out: &mut W,
-    ) -> io::Result<()>
-        ensures { Writes W.contents out.old out.new result (row_value self.now (row_key_of key.now) row) }
-    {
-        let content = value_content(self.alloc, &self.stack, row.layer, row.value)?;
-        write_row_notation(&self.packages, key, &content, out)
+        write_row_notation(&self.packages, key, value, out)
     }
 
     /// Writes the path of the table of the layer at a place.
