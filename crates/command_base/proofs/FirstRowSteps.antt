@@ -1,7 +1,7 @@
 -- How the first row of each id is found.
-use Rattle.std.proofs.Common.{◌≡◌, ℕ, ◌==◌, Bool, true, false, cond, List, [], ◌∷◌, ◌++◌, map, get_or, Option, Some, None, is_some, refl, sym, ap, ◌∙◌}
+use Rattle.std.proofs.Common.{◌≡◌, ℕ, ◌==◌, Bool, true, false, cond, List, [], ◌∷◌, map, get_or, Option, Some, None, is_some, Result, Ok, Err, IfOk, refl, sym, ap, ◌∙◌}
+use Rattle.std.specs.Prelude.{Vec}
 use Rattle.std.proofs.lemmas.Cmp.{nat_cmp_total}
-use Rattle.std.proofs.lemmas.List.{append-nil}
 use Rattle.std.proofs.lemmas.List.Elements.{All-head, All-tail}
 use Rattle.std.proofs.lemmas.Map.Keys.{sorted_head, sorted_tail}
 use Rattle.std.proofs.lemmas.Map.Views.{All-found}
@@ -12,6 +12,7 @@ use Rattle.std.specs.List.Sorted.{IsStrictlySortedBy}
 use Rattle.std.specs.Map.{keys_of, lookup, values_of}
 use Rattle.std.specs.Option.{option_map, option_or}
 use Rattle.std.specs.Ordering.{is_eq, match_ordering, nat_cmp}
+use Rattle.std.specs.declared.alloc.Global.{Global}
 use Rattle.std.specs.declared.cmp.Ordering.{Ordering}
 use Rattle.std.specs.declared.cmp.Ordering.TheVariants.{Less, Equal, Greater}
 use Rattle.command_base.specs.answer_text.type_chunks.Row.{RowOf, row_of}
@@ -123,9 +124,9 @@ first_rows-of_values all kept ordered ids first =
     each_first all kept.entries (λ i d within. sym (first (get_or kept.entries i d).0) ∙ ap (λ (o : Option Row). option_map row_of o) (found i d within))
     ∙ ap (filter_map (first_row all)) ids
 
-pub first_rows-end : (all : List RowOf) (kept : BTreeMap ℕ Row) (left : List Row) (rows : List RowOf) → IsOrdered nat_cmp kept → AreIdsOf all kept → AreFirstOf all kept
-    → rows ++ map row_of left ≡ map row_of (values kept) → left ≡ [] → rows ≡ first_rows all
-first_rows-end all kept left rows ordered ids first before nothing =
-    sym (append-nil rows) ∙ ap (λ (t : List Row). rows ++ map row_of t) (sym nothing) ∙ before ∙ first_rows-of_values all kept ordered ids first
+pub first_rows-collected : {E : Type 0} (all : List RowOf) (kept : BTreeMap ℕ Row) (collected : Result (Vec Row Global) E) → IsOrdered nat_cmp kept → AreIdsOf all kept → AreFirstOf all kept
+    → IfOk collected (λ rows. rows.items ≡ values kept) → IfOk collected (λ rows. map row_of rows.items ≡ first_rows all)
+first_rows-collected all kept (Ok rows) ordered ids first are = ap (λ (t : List Row). map row_of t) are ∙ first_rows-of_values all kept ordered ids first
+first_rows-collected all kept (Err error) ordered ids first are = tt
 
 pub ruleset first_steps = (FindsAllBut-none, FindsAllBut-next, FindsAllBut-ids, FindsAllBut-first)

@@ -1,27 +1,17 @@
 -- What the maps leave out that are made of the overlays of a word: the lines of `map`, each behind its layer.
-use Rattle.std.specs.Prelude.{ℕ, ◌++◌, ◌&&◌, Bool, List, [], codes, length, slice_get, Option, Some, None, Result, Ok, Err, if◌then◌else◌}
+use Rattle.std.specs.Prelude.{ℕ, ◌&&◌, Bool, List, [], length, slice_get, Option, Some, None, Result, Ok, Err, if◌then◌else◌}
 use Rattle.std.specs.List.{list_any}
 use Rattle.std.specs.Option.{option_map_or}
-use Rattle.answer_text.specs.LayerText.{layer_text}
 use Rattle.contract_words.specs.Faults.{◌>>=◌}
 use Rattle.contract_words.specs.Sequences.{joined_from}
 use Rattle.command_base.specs.declared.fault.ToolFault.{ToolFault}
 use Rattle.command_base.specs.declared.side.Side.{Side}
 use Rattle.command_base.specs.Inputs.{table_at_place}
+use Rattle.command_base.specs.LayerMark.{layer_mark}
 use Rattle.command_base.specs.ListWord.{ListedLayer, is_list_word, is_plus, layers_in_word}
 use Rattle.command_base.specs.MadeMap.{made_map}
 use Rattle.command_base.specs.MapText.{lines_with}
-use Rattle.command_base.specs.SideName.{side_name}
 use Rattle.command_base.specs.StackBytes.{LayerBytes, table_of_layer}
-
--- `old ` or `new `, where two stacks are compared
-abbrev pub side_mark : Option Side → List ℕ
-side_mark None = []
-side_mark (Some side) = side_name side ++ codes " "
-
--- what stands before each line of the layer at a place: `layer L `, or `old layer L `
-unfoldable pub layer_mark : Option Side → ℕ → List ℕ
-layer_mark side place = side_mark side ++ layer_text place ++ codes " "
 
 -- the lines of an overlay over its base, which stand at these places
 unfoldable pub left_by_map : Option Side → ℕ → List ℕ → ℕ → List ℕ → Result (List ℕ) ToolFault

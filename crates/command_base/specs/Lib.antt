@@ -24,6 +24,7 @@ pub mod DeviceFaultText
 pub mod BoxFaultText
 pub mod CertFaultText
 pub mod SideName
+pub mod LayerMark
 pub mod FaultText
 pub mod ExitStatus
 pub mod OneLine

@@ -1,5 +1,6 @@
 //! Faults of an apk, written.
 
+ghost use Rattle.std.specs.Prelude.{◌≡◌};
 ghost use Rattle.answer_text.specs.contract_words.Writes.{Writes};
 ghost use Rattle.command_base.specs.ApkFaultText.{apk_fault_text};
 
@@ -10,13 +11,19 @@ use std::io::{self, Write};
 pub(crate) fn write_apk_fault<W: Write + Drop>(fault: ApkFault, out: &mut W) -> io::Result<()>
     ensures { Writes W.contents out.old out.new result (apk_fault_text fault) }
 {
+    out.write_all(name_of(fault).as_bytes())
+}
+
+fn name_of(fault: ApkFault) -> &'static str
+    ensures { result.now ≡ apk_fault_text fault }
+{
     match fault {
-        ApkFault::NotZip => out.write_all(b"NotZip"),
-        ApkFault::Directory => out.write_all(b"Directory"),
-        ApkFault::NoTable => out.write_all(b"NoTable"),
-        ApkFault::Twice => out.write_all(b"Twice"),
-        ApkFault::Encrypted => out.write_all(b"Encrypted"),
-        ApkFault::Compressed => out.write_all(b"Compressed"),
-        ApkFault::Member => out.write_all(b"Member"),
+        ApkFault::NotZip => "NotZip",
+        ApkFault::Directory => "Directory",
+        ApkFault::NoTable => "NoTable",
+        ApkFault::Twice => "Twice",
+        ApkFault::Encrypted => "Encrypted",
+        ApkFault::Compressed => "Compressed",
+        ApkFault::Member => "Member",
     }
 }

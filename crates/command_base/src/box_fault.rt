@@ -12,14 +12,15 @@ use std::io::{self, Write};
 pub(crate) fn write_box_fault<W: Write + Drop>(fault: BoxFault, out: &mut W) -> io::Result<()>
     ensures { Writes W.contents out.old out.new result (box_fault_text fault) }
 {
-    match fault {
-        BoxFault::Syntax => out.write_all(b"Syntax"),
-        BoxFault::Shape => out.write_all(b"Shape"),
-        BoxFault::Empty(coord) => write_named_coord("Empty", coord, out),
-        BoxFault::TooMany(coord) => write_named_coord("TooMany", coord, out),
-        BoxFault::FieldRange(coord) => write_named_coord("FieldRange", coord, out),
-        BoxFault::RegionAlone => out.write_all(b"RegionAlone"),
-        BoxFault::Density => out.write_all(b"Density"),
-        BoxFault::OutOfMemory => out.write_all(b"OutOfMemory"),
-    }
+    let name = match fault {
+        BoxFault::Empty(coord) => return write_named_coord("Empty", coord, out),
+        BoxFault::TooMany(coord) => return write_named_coord("TooMany", coord, out),
+        BoxFault::FieldRange(coord) => return write_named_coord("FieldRange", coord, out),
+        BoxFault::Syntax => "Syntax",
+        BoxFault::Shape => "Shape",
+        BoxFault::RegionAlone => "RegionAlone",
+        BoxFault::Density => "Density",
+        BoxFault::OutOfMemory => "OutOfMemory",
+    };
+    out.write_all(name.as_bytes())
 }

@@ -11,13 +11,14 @@ use std::io::{self, Write};
 pub(crate) fn write_cert_fault<W: Write + Drop>(fault: CertFault, out: &mut W) -> io::Result<()>
     ensures { Writes W.contents out.old out.new result (cert_fault_text fault) }
 {
-    match fault {
-        CertFault::Syntax => out.write_all(b"Syntax"),
-        CertFault::Version => out.write_all(b"Version"),
-        CertFault::Shape(goal, node) => write_node_shape(goal, node, out),
-        CertFault::TooManyNodes => out.write_all(b"TooManyNodes"),
-        CertFault::OutOfMemory => out.write_all(b"OutOfMemory"),
-    }
+    let name = match fault {
+        CertFault::Shape(goal, node) => return write_node_shape(goal, node, out),
+        CertFault::Syntax => "Syntax",
+        CertFault::Version => "Version",
+        CertFault::TooManyNodes => "TooManyNodes",
+        CertFault::OutOfMemory => "OutOfMemory",
+    };
+    out.write_all(name.as_bytes())
 }
 
 #[tactic(auto, unfolding(crate::specs::CertFaultText::node_shape_text))]

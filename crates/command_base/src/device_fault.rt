@@ -11,12 +11,13 @@ use std::io::{self, Write};
 pub(crate) fn write_device_fault<W: Write + Drop>(fault: DeviceFault, out: &mut W) -> io::Result<()>
     ensures { Writes W.contents out.old out.new result (device_fault_text fault) }
 {
-    match fault {
-        DeviceFault::Syntax => out.write_all(b"Syntax"),
-        DeviceFault::Shape => out.write_all(b"Shape"),
-        DeviceFault::FieldRange(coord) => write_named_coord("FieldRange", coord, out),
-        DeviceFault::RegionAlone => out.write_all(b"RegionAlone"),
-        DeviceFault::Density => out.write_all(b"Density"),
-        DeviceFault::OutOfMemory => out.write_all(b"OutOfMemory"),
-    }
+    let name = match fault {
+        DeviceFault::FieldRange(coord) => return write_named_coord("FieldRange", coord, out),
+        DeviceFault::Syntax => "Syntax",
+        DeviceFault::Shape => "Shape",
+        DeviceFault::RegionAlone => "RegionAlone",
+        DeviceFault::Density => "Density",
+        DeviceFault::OutOfMemory => "OutOfMemory",
+    };
+    out.write_all(name.as_bytes())
 }

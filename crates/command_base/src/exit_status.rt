@@ -4,7 +4,7 @@ use crate::fault::ToolFault;
 use crate::status::Status;
 
 /// How the program ends.
-#[derive(Clone, Copy, Debug, PartialEq, Eq)]
+#[derive(Clone, Copy)]
 pub enum ExitStatus {
     /// All was done, or help or the version was printed that was asked for.
     Done = 0,
@@ -31,21 +31,10 @@ impl ExitStatus {
         ensures { result ≡ after_fault fault.now }
     {
         match fault {
-            ToolFault::Apk(_)
-            | ToolFault::Table(_)
-            | ToolFault::Layers(_)
-            | ToolFault::LayerApk(_, _)
-            | ToolFault::LayerTable(_, _)
-            | ToolFault::LayerMap(_, _)
-            | ToolFault::SideLayers(_, _)
-            | ToolFault::SideApk(_, _, _)
-            | ToolFault::SideTable(_, _, _)
-            | ToolFault::SideMap(_, _, _)
-            | ToolFault::Device(_)
-            | ToolFault::Box(_)
-            | ToolFault::Certificate(_) => ExitStatus::Refused,
             ToolFault::OutOfMemory => ExitStatus::Memory,
             ToolFault::Write => ExitStatus::Failed,
+            // All others are of an input.
+            _ => ExitStatus::Refused,
         }
     }
 

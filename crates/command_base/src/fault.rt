@@ -1,10 +1,8 @@
 //! Why a command was not carried out, and the line that says so.
 
-ghost use Rattle.std.specs.Prelude.{◌≡◌, ◌++◌, if◌then◌else◌, codes};
+ghost use Rattle.std.specs.Prelude.{◌≡◌};
 ghost use Rattle.answer_text.specs.contract_words.Writes.{Writes};
-ghost use Rattle.answer_text.specs.LayerText.{layer_text};
-ghost use Rattle.command_base.specs.FaultText.{part_text, reason_text, fault_line};
-ghost use Rattle.command_base.specs.SideName.{side_name};
+ghost use Rattle.command_base.specs.FaultText.{mark_text, part_text, reason_text, refused_line, fault_line};
 ghost use Rattle.command_base.specs.ToolFault.{fault_of_layer_table, fault_of_layer_map, fault_on_side};
 ghost use Rattle.command_base.specs.declared.fault.ToolFault.TheVariants.{OutOfMemory, Write};
 
@@ -12,60 +10,71 @@ use crate::apk_fault::write_apk_fault;
 use crate::box_fault::write_box_fault;
 use crate::cert_fault::write_cert_fault;
 use crate::device_fault::write_device_fault;
+use crate::layer_mark::{write_layer_mark, write_side_mark};
 use crate::layers_fault::{LayersFault, write_layers_fault};
 use crate::map_fault::write_map_fault;
 use crate::side::Side;
 use crate::table_fault::write_table_fault;
-use answer_text::{DeviceFault, MapFault, StackFault, TableFault, write_layer};
+use answer_text::{DeviceFault, MapFault, StackFault, TableFault};
 use apk_member::ApkFault;
+use arrayvec::ArrayVec;
 use cert_tree::{BoxFault, CertFault};
 use std::alloc::AllocError;
+use std::error::Error;
 use std::fmt::{self, Debug, Display, Formatter};
 use std::io::{self, Write};
-use thiserror::Error;
+use std::str;
+
+/// How many bytes the line for a fault has at most.
+const LONGEST: usize = 128;
 
 /// Why a command was not carried out: the part of its input that is refused, or what failed. Layers
 /// are named by their place, from 0.
-#[derive(Clone, Copy, Error)]
+#[derive(Clone, Copy)]
 pub enum ToolFault {
     /// The apk of a command that reads one table alone.
-    #[error("refused: apk: {0}")]
     Apk(ApkFault),
     /// The table of a command that reads one alone.
-    #[error("refused: table: {0}")]
     Table(TableFault),
     /// The list of the layers' files.
-    #[error("refused: layers: {0}")]
     Layers(LayersFault),
-    #[error("refused: layer {0} apk: {1}")]
     LayerApk(usize, ApkFault),
-    #[error("refused: layer {0} table: {1}")]
     LayerTable(usize, TableFault),
     /// The id map of an overlay.
-    #[error("refused: layer {0} map: {1}")]
     LayerMap(usize, MapFault),
     /// The list of the layers' files of one of two stacks that are compared.
-    #[error("refused: {0} layers: {1}")]
     SideLayers(Side, LayersFault),
-    #[error("refused: {0} layer {1} apk: {2}")]
     SideApk(Side, usize, ApkFault),
-    #[error("refused: {0} layer {1} table: {2}")]
     SideTable(Side, usize, TableFault),
     /// The id map of an overlay in one of two stacks.
-    #[error("refused: {0} layer {1} map: {2}")]
     SideMap(Side, usize, MapFault),
-    #[error("refused: device: {0}")]
     Device(DeviceFault),
-    #[error("refused: box: {0}")]
     Box(BoxFault),
-    #[error("refused: certificate: {0}")]
     Certificate(CertFault),
-    #[error("out of memory")]
     OutOfMemory,
     /// The writer failed.
-    #[error("Write")]
     Write,
 }
+
+/// Its line without the end, which has no more bytes than `LONGEST`.
+impl Display for ToolFault {
+    fn fmt<W: fmt::Write>(&self, f: &mut Formatter<W>) -> fmt::Result {
+        if let ToolFault::Write = self {
+            return f.write_str("Write");
+        }
+        let mut line = ArrayVec::<u8, LONGEST>::new();
+        if fault_text(self, &mut line).is_err() {
+            return Err(fmt::Error);
+        }
+        line.pop();
+        match str::from_utf8(&line) {
+            Ok(text) => f.write_str(text),
+            Err(_) => Err(fmt::Error),
+        }
+    }
+}
+
+impl Error for ToolFault {}
 
 /// By its text.
 impl Debug for ToolFault {
@@ -79,16 +88,20 @@ impl ToolFault {
     pub fn of_layer_table(layer: usize, fault: TableFault) -> ToolFault
         ensures { result ≡ fault_of_layer_table layer fault }
     {
-        let ran_out = matches!(fault, TableFault::OutOfMemory);
-        or_memory(ran_out, ToolFault::LayerTable(layer, fault))
+        match fault {
+            TableFault::OutOfMemory => ToolFault::OutOfMemory,
+            fault => ToolFault::LayerTable(layer, fault),
+        }
     }
 
     /// The fault of an overlay's id map; want of memory is the command's own.
     pub fn of_layer_map(layer: usize, fault: MapFault) -> ToolFault
         ensures { result ≡ fault_of_layer_map layer fault }
     {
-        let ran_out = matches!(fault, MapFault::OutOfMemory);
-        or_memory(ran_out, ToolFault::LayerMap(layer, fault))
+        match fault {
+            MapFault::OutOfMemory => ToolFault::OutOfMemory,
+            fault => ToolFault::LayerMap(layer, fault),
+        }
     }
 
     /// The same fault in one of two stacks that are compared: that of a list of layers, or of a layer, names the side,
@@ -112,8 +125,10 @@ impl From<TableFault> for ToolFault {
     ghost from_gives = { λ fault e. e ≡ fault_of_table fault };
 
     fn from(fault: TableFault) -> ToolFault {
-        let ran_out = matches!(fault, TableFault::OutOfMemory);
-        or_memory(ran_out, ToolFault::Table(fault))
+        match fault {
+            TableFault::OutOfMemory => ToolFault::OutOfMemory,
+            fault => ToolFault::Table(fault),
+        }
     }
 }
 
@@ -123,8 +138,10 @@ impl From<LayersFault> for ToolFault {
     ghost from_gives = { λ fault e. e ≡ fault_of_layers fault };
 
     fn from(fault: LayersFault) -> ToolFault {
-        let ran_out = matches!(fault, LayersFault::OutOfMemory);
-        or_memory(ran_out, ToolFault::Layers(fault))
+        match fault {
+            LayersFault::OutOfMemory => ToolFault::OutOfMemory,
+            fault => ToolFault::Layers(fault),
+        }
     }
 }
 
@@ -134,8 +151,10 @@ impl From<DeviceFault> for ToolFault {
     ghost from_gives = { λ fault e. e ≡ fault_of_device fault };
 
     fn from(fault: DeviceFault) -> ToolFault {
-        let ran_out = matches!(fault, DeviceFault::OutOfMemory);
-        or_memory(ran_out, ToolFault::Device(fault))
+        match fault {
+            DeviceFault::OutOfMemory => ToolFault::OutOfMemory,
+            fault => ToolFault::Device(fault),
+        }
     }
 }
 
@@ -145,8 +164,10 @@ impl From<BoxFault> for ToolFault {
     ghost from_gives = { λ fault e. e ≡ fault_of_box fault };
 
     fn from(fault: BoxFault) -> ToolFault {
-        let ran_out = matches!(fault, BoxFault::OutOfMemory);
-        or_memory(ran_out, ToolFault::Box(fault))
+        match fault {
+            BoxFault::OutOfMemory => ToolFault::OutOfMemory,
+            fault => ToolFault::Box(fault),
+        }
     }
 }
 
@@ -156,8 +177,10 @@ impl From<CertFault> for ToolFault {
     ghost from_gives = { λ fault e. e ≡ fault_of_certificate fault };
 
     fn from(fault: CertFault) -> ToolFault {
-        let ran_out = matches!(fault, CertFault::OutOfMemory);
-        or_memory(ran_out, ToolFault::Certificate(fault))
+        match fault {
+            CertFault::OutOfMemory => ToolFault::OutOfMemory,
+            fault => ToolFault::Certificate(fault),
+        }
     }
 }
 
@@ -191,86 +214,61 @@ impl From<io::Error> for ToolFault {
     }
 }
 
-// The fault of a part, or the command's own where memory ran out.
-fn or_memory(ran_out: bool, fault: ToolFault) -> ToolFault
-    ensures { result ≡ (if ran_out then OutOfMemory else fault) }
-{
-    if ran_out {
-        ToolFault::OutOfMemory
-    } else {
-        fault
-    }
-}
-
 /// Writes the line for a fault: which part of the input is refused, and the names of its fault from outside
 /// in, with its place, its id, its coordinate, or its goal and node. A writer that failed has no line.
 #[tactic(auto, unfolding(crate::specs::FaultText::fault_line))]
 pub fn fault_text<W: Write + Drop>(fault: &ToolFault, out: &mut W) -> io::Result<()>
     ensures { Writes W.contents out.old out.new result (fault_line fault.now) }
 {
-    if let ToolFault::Write = fault {
-        return Ok(());
+    match fault {
+        ToolFault::Write => Ok(()),
+        ToolFault::OutOfMemory => out.write_all(b"out of memory\n"),
+        fault => write_refused(fault, out),
     }
-    write_part(fault, out)?;
+}
+
+#[tactic(auto, unfolding(crate::specs::FaultText::refused_line))]
+fn write_refused<W: Write + Drop>(fault: &ToolFault, out: &mut W) -> io::Result<()>
+    ensures { Writes W.contents out.old out.new result (refused_line fault.now) }
+{
+    out.write_all(b"refused: ")?;
+    write_mark(fault, out)?;
+    out.write_all(part_text(fault).as_bytes())?;
     write_reason(fault, out)?;
     out.write_all(b"\n")
 }
 
-// Which part of the input is refused, where one is.
-#[tactic(auto, unfolding(crate::specs::FaultText::part_text))]
-fn write_part<W: Write + Drop>(fault: &ToolFault, out: &mut W) -> io::Result<()>
-    ensures { Writes W.contents out.old out.new result (part_text fault.now) }
+// Of which layer the part is, and on which side.
+#[tactic(auto, unfolding(crate::specs::FaultText::mark_text))]
+fn write_mark<W: Write + Drop>(fault: &ToolFault, out: &mut W) -> io::Result<()>
+    ensures { Writes W.contents out.old out.new result (mark_text fault.now) }
 {
     match *fault {
-        ToolFault::Apk(_) => out.write_all(b"refused: apk: "),
-        ToolFault::Table(_) => out.write_all(b"refused: table: "),
-        ToolFault::Layers(_) => out.write_all(b"refused: layers: "),
-        ToolFault::LayerApk(layer, _) => write_layer_part(layer, " apk: ", out),
-        ToolFault::LayerTable(layer, _) => write_layer_part(layer, " table: ", out),
-        ToolFault::LayerMap(layer, _) => write_layer_part(layer, " map: ", out),
-        ToolFault::SideLayers(side, _) => {
-            write_side(side, out)?;
-            out.write_all(b"layers: ")
-        }
-        ToolFault::SideApk(side, layer, _) => write_side_layer(side, layer, " apk: ", out),
-        ToolFault::SideTable(side, layer, _) => write_side_layer(side, layer, " table: ", out),
-        ToolFault::SideMap(side, layer, _) => write_side_layer(side, layer, " map: ", out),
-        ToolFault::Device(_) => out.write_all(b"refused: device: "),
-        ToolFault::Box(_) => out.write_all(b"refused: box: "),
-        ToolFault::Certificate(_) => out.write_all(b"refused: certificate: "),
-        ToolFault::OutOfMemory | ToolFault::Write => Ok(()),
+        ToolFault::LayerApk(layer, _)
+        | ToolFault::LayerTable(layer, _)
+        | ToolFault::LayerMap(layer, _) => write_layer_mark(None, layer, out),
+        ToolFault::SideApk(side, layer, _)
+        | ToolFault::SideTable(side, layer, _)
+        | ToolFault::SideMap(side, layer, _) => write_layer_mark(Some(side), layer, out),
+        ToolFault::SideLayers(side, _) => write_side_mark(Some(side), out),
+        _ => Ok(()),
     }
 }
 
-fn write_layer_part<W: Write + Drop>(layer: usize, part: &str, out: &mut W) -> io::Result<()>
-    ensures { Writes W.contents out.old out.new result (codes "refused: " ++ layer_text layer ++ part.now) }
+// Which part it is.
+fn part_text(fault: &ToolFault) -> &'static str
+    ensures { result.now ≡ part_text fault.now }
 {
-    out.write_all(b"refused: ")?;
-    write_layer(layer, out)?;
-    out.write_all(part.as_bytes())
-}
-
-fn write_side_layer<W: Write + Drop>(
-    side: Side,
-    layer: usize,
-    part: &str,
-    out: &mut W,
-) -> io::Result<()>
-    ensures { Writes W.contents out.old out.new result
-        (codes "refused: " ++ side_name side ++ codes " " ++ layer_text layer ++ part.now) }
-{
-    write_side(side, out)?;
-    write_layer(layer, out)?;
-    out.write_all(part.as_bytes())
-}
-
-// The side of a part that is refused.
-fn write_side<W: Write + Drop>(side: Side, out: &mut W) -> io::Result<()>
-    ensures { Writes W.contents out.old out.new result (codes "refused: " ++ side_name side ++ codes " ") }
-{
-    out.write_all(b"refused: ")?;
-    out.write_all(side.name().as_bytes())?;
-    out.write_all(b" ")
+    match fault {
+        ToolFault::Apk(_) | ToolFault::LayerApk(..) | ToolFault::SideApk(..) => "apk: ",
+        ToolFault::Table(_) | ToolFault::LayerTable(..) | ToolFault::SideTable(..) => "table: ",
+        ToolFault::Layers(_) | ToolFault::SideLayers(..) => "layers: ",
+        ToolFault::LayerMap(..) | ToolFault::SideMap(..) => "map: ",
+        ToolFault::Device(_) => "device: ",
+        ToolFault::Box(_) => "box: ",
+        ToolFault::Certificate(_) => "certificate: ",
+        ToolFault::OutOfMemory | ToolFault::Write => "",
+    }
 }
 
 // The names of a fault from outside in.
@@ -293,7 +291,6 @@ fn write_reason<W: Write + Drop>(fault: &ToolFault, out: &mut W) -> io::Result<(
         ToolFault::Device(fault) => write_device_fault(fault, out),
         ToolFault::Box(fault) => write_box_fault(fault, out),
         ToolFault::Certificate(fault) => write_cert_fault(fault, out),
-        ToolFault::OutOfMemory => out.write_all(b"out of memory"),
-        ToolFault::Write => Ok(()),
+        ToolFault::OutOfMemory | ToolFault::Write => Ok(()),
     }
 }

@@ -43,11 +43,7 @@ impl<'t, 'a> FirstRows<'t, 'a> {
     pub fn in_order(&self, alloc: Global) -> Result<Vec<Row<'a>>, AllocError>
         ensures { IfOk result (λ rows. map row_of rows.items ≡ first_rows (rows_of self.now.table.now)) }
     {
-        let mut rows = Vec::with_capacity(alloc, self.rows.len())?;
-        for row in self.rows.values() {
-            rows.push(*row)?;
-        }
-        Ok(rows)
+        self.rows.values().copied().collect(alloc)
     }
 }
 

@@ -53,58 +53,26 @@ impl Stop<'_> {
 }
 
 fn hint_of_fault(fault: &ToolFault) -> Option<&'static str> {
-    match *fault {
-        ToolFault::Layers(fault) | ToolFault::SideLayers(_, fault) => hint_of_layers(fault),
-        ToolFault::Apk(fault) | ToolFault::LayerApk(_, fault) | ToolFault::SideApk(_, _, fault) => {
-            hint_of_apk(fault)
+    let hint = match *fault {
+        ToolFault::Layers(LayersFault::Syntax) | ToolFault::SideLayers(_, LayersFault::Syntax) => {
+            LAYERS
         }
-        ToolFault::Table(fault)
-        | ToolFault::LayerTable(_, fault)
-        | ToolFault::SideTable(_, _, fault) => hint_of_table(fault),
-        ToolFault::Device(fault) => hint_of_device(fault),
-        ToolFault::Box(fault) => hint_of_box(fault),
-        ToolFault::Certificate(CertFault::Syntax) => Some(CERTIFICATE),
-        _ => None,
-    }
-}
-
-fn hint_of_layers(fault: LayersFault) -> Option<&'static str> {
-    match fault {
-        LayersFault::Syntax => Some(LAYERS),
-        LayersFault::Shape => Some(LIST),
-        _ => None,
-    }
-}
-
-fn hint_of_apk(fault: ApkFault) -> Option<&'static str> {
-    match fault {
-        ApkFault::Compressed => Some(COMPRESSED),
-        _ => None,
-    }
-}
-
-fn hint_of_table(fault: TableFault) -> Option<&'static str> {
-    match fault {
-        TableFault::NotTable | TableFault::Chunk(_) => Some(TABLE),
-        _ => None,
-    }
-}
-
-fn hint_of_device(fault: DeviceFault) -> Option<&'static str> {
-    match fault {
-        DeviceFault::Syntax => Some(DEVICE),
-        DeviceFault::Shape => Some(NUMBERS),
-        DeviceFault::FieldRange(Coord::Locale) | DeviceFault::RegionAlone => Some(LOCALE),
-        DeviceFault::Density => Some(DENSITY),
-        _ => None,
-    }
-}
-
-fn hint_of_box(fault: BoxFault) -> Option<&'static str> {
-    match fault {
-        BoxFault::Syntax | BoxFault::Shape => Some(SETS),
-        BoxFault::FieldRange(Coord::Locale) | BoxFault::RegionAlone => Some(LOCALE),
-        BoxFault::Density => Some(DENSITY),
-        _ => None,
-    }
+        ToolFault::Layers(LayersFault::Shape) | ToolFault::SideLayers(_, LayersFault::Shape) =>
+            LIST,
+        ToolFault::Apk(ApkFault::Compressed)
+        | ToolFault::LayerApk(_, ApkFault::Compressed)
+        | ToolFault::SideApk(_, _, ApkFault::Compressed) => COMPRESSED,
+        ToolFault::Table(TableFault::NotTable | TableFault::Chunk(_))
+        | ToolFault::LayerTable(_, TableFault::NotTable | TableFault::Chunk(_))
+        | ToolFault::SideTable(_, _, TableFault::NotTable | TableFault::Chunk(_)) => TABLE,
+        ToolFault::Device(DeviceFault::Syntax) => DEVICE,
+        ToolFault::Device(DeviceFault::Shape) => NUMBERS,
+        ToolFault::Device(DeviceFault::FieldRange(Coord::Locale) | DeviceFault::RegionAlone)
+        | ToolFault::Box(BoxFault::FieldRange(Coord::Locale) | BoxFault::RegionAlone) => LOCALE,
+        ToolFault::Device(DeviceFault::Density) | ToolFault::Box(BoxFault::Density) => DENSITY,
+        ToolFault::Box(BoxFault::Syntax | BoxFault::Shape) => SETS,
+        ToolFault::Certificate(CertFault::Syntax) => CERTIFICATE,
+        _ => return None,
+    };
+    Some(hint)
 }

@@ -70,8 +70,8 @@ impl LayerFiles {
     {
         let layers = layers_in_word(alloc, word)?;
         check_count(layers.len())?;
-        let files = read_each_named(alloc, inputs, &layers)?;
         let paths = listed_paths(alloc, &layers)?;
+        let files = read_each_named(alloc, inputs, &layers)?;
         Ok(LayerFiles { files, paths })
     }
 

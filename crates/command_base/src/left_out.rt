@@ -1,7 +1,6 @@
 //! What the maps leave out that are made of the overlays of a word.
 
 ghost use Rattle.std.specs.Prelude.{◌≡◌, [], map, IfOk};
-ghost use Rattle.std.specs.List.{list_any};
 ghost use Rattle.answer_text.specs.OnLine.{on_line};
 ghost use Rattle.contract_words.specs.Exact.{GivesOr};
 ghost use Rattle.contract_words.specs.Sequences.{Pushes};
@@ -9,19 +8,20 @@ ghost use Rattle.contract_words.specs.Writes.{Writes};
 ghost use Rattle.command_base.specs.declared.fault.ToolFault.TheVariants.{OutOfMemory};
 ghost use Rattle.command_base.specs.FilesSeen.{bytes_of, layers_held};
 ghost use Rattle.command_base.specs.Inputs.{table_at_place};
-ghost use Rattle.command_base.specs.LeftOut.{base_of, has_overlays, layer_mark, left_at, left_by_map, left_in, left_of, side_mark};
-ghost use Rattle.command_base.specs.ListWord.{is_plus};
+ghost use Rattle.command_base.specs.LayerMark.{layer_mark};
+ghost use Rattle.command_base.specs.LeftOut.{base_of, has_overlays, left_at, left_by_map, left_in, left_of};
 ghost use Rattle.command_base.specs.ListWordSeen.{listed_of};
 ghost use Rattle.command_base.specs.StackBytesSeen.{layer_bytes};
 
 use crate::fault::ToolFault;
 use crate::layer_files::LayerFiles;
+use crate::layer_mark::write_layer_mark;
 use crate::layer_parts::LayerParts;
 use crate::list_word::{ListedLayer, is_list_word, layers_in_word};
 use crate::made_map::MadeMap;
 use crate::side::Side;
 use crate::stack::open_table;
-use answer_text::{write_layer, write_on_line};
+use answer_text::write_on_line;
 use std::alloc::{AllocError, Global};
 use std::io::{self, Write};
 
@@ -70,13 +70,7 @@ pub fn say_left<E: Write + Drop>(lines: &[u8], errors: &mut E) -> io::Result<()>
 pub fn has_overlays(word: &str) -> bool
     ensures { result ≡ has_overlays word.now }
 {
-    is_list_word(word) && has_plus(word.as_bytes())
-}
-
-fn has_plus(word: &[u8]) -> bool
-    ensures { result ≡ list_any is_plus word.now }
-{
-    word.iter().any(|byte| *byte == OVERLAY)
+    is_list_word(word) && word.as_bytes().contains(&OVERLAY)
 }
 
 #[tactic(auto, using(crate::proofs::LeftSteps::from_steps))]
@@ -157,28 +151,9 @@ fn layer_mark(alloc: Global, side: Option<Side>, place: usize) -> Result<Vec<u8>
     ensures { IfOk result (λ mark. mark.items ≡ layer_mark side place) }
 {
     let mut mark = Vec::new(alloc);
-    match write_mark(side, place, &mut mark) {
+    match write_layer_mark(side, place, &mut mark) {
         Ok(()) => Ok(mark),
         // To a `Vec` only a want of memory is a fault.
         Err(_) => Err(AllocError),
     }
-}
-
-#[tactic(auto, unfolding(crate::specs::LeftOut::layer_mark))]
-fn write_mark<W: Write + Drop>(side: Option<Side>, place: usize, out: &mut W) -> io::Result<()>
-    ensures { Writes W.contents out.old out.new result (layer_mark side place) }
-{
-    write_side(side, out)?;
-    write_layer(place, out)?;
-    out.write_all(b" ")
-}
-
-fn write_side<W: Write + Drop>(side: Option<Side>, out: &mut W) -> io::Result<()>
-    ensures { Writes W.contents out.old out.new result (side_mark side) }
-{
-    let Some(side) = side else {
-        return Ok(());
-    };
-    out.write_all(side.name().as_bytes())?;
-    out.write_all(b" ")
 }

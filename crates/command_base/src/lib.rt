@@ -44,6 +44,7 @@ mod input;
 mod inputs;
 mod layer_files;
 mod layer_list;
+mod layer_mark;
 mod layer_parts;
 mod layers_fault;
 mod left_out;
@@ -70,7 +71,7 @@ pub use answer_text::{
 pub use apk_member::{ApkFault, TableFile};
 pub use cert_tree::{
     BoxFault, Cert, CertFault, CertGoal, Choice, ConfigBox, Coord, Goal, Locale, LocaleRule, Node,
-    Progress, Test, Values, write_locale,
+    Progress, Test, Values,
 };
 pub use device_files::{AskedFiles, DeviceFiles};
 pub use device_text::DeviceText;
@@ -86,7 +87,7 @@ pub use layers_fault::LayersFault;
 pub use left_out::{has_overlays, left_of, say_left};
 pub use list_word::{ListedLayer, is_list_word, layers_in_word};
 pub use made_map::MadeMap;
-pub use names::{GoalFault, Name, Named, NamedGoal, NamedSet, NamedStack, SharedNames, file_path};
+pub use names::{GoalFault, Name, Named, NamedGoal, NamedSet, NamedStack, SharedNames};
 pub use one_line::write_in_one_line;
 pub use place::{Place, STANDARD_INPUT};
 pub use set_aside::rows_set_aside;

@@ -3,7 +3,6 @@
 ghost use Rattle.std.specs.Prelude.{map, OnOk};
 ghost use Rattle.std.specs.List.{All, flat_map};
 ghost use Rattle.contract_words.specs.Writes.{Writes};
-ghost use Rattle.command_base.specs.answer_text.DumpText.{names_text};
 ghost use Rattle.command_base.specs.overlay_map.IdMap.{pairs_of};
 ghost use Rattle.command_base.specs.answer_text.type_chunks.Row.{row_of};
 ghost use Rattle.command_base.specs.AstraySeen.{astray_of};
@@ -140,19 +139,12 @@ fn write_astray_line<W: Write + Drop>(
     out.write_all(b"\n")
 }
 
-#[tactic(auto, unfolding(crate::specs::MapText::named_text))]
+#[tactic(auto, unfolding(crate::specs::MapText::named_text, crate::specs::Unfolded::names_text))]
 fn write_named<W: Write + Drop>(table: &Table<'_>, row: &Row<'_>, out: &mut W) -> io::Result<()>
     ensures { Writes W.contents out.old out.new result (named_text table.now (row_of row.now)) }
 {
     write_id(row.id, out)?;
     out.write_all(b" ")?;
-    write_names(table, row, out)
-}
-
-#[tactic(auto, unfolding(crate::specs::Unfolded::names_text))]
-fn write_names<W: Write + Drop>(table: &Table<'_>, row: &Row<'_>, out: &mut W) -> io::Result<()>
-    ensures { Writes W.contents out.old out.new result (names_text table.now (row_of row.now)) }
-{
     write_string(table.type_name(row), out)?;
     out.write_all(b"/")?;
     write_string(table.key_name(row), out)

@@ -25,5 +25,5 @@ pub fn write_in_one_line<W: Write + Drop>(text: &[u8], out: &mut W) -> io::Resul
 fn has_control(bytes: &[u8]) -> bool
     ensures { result ≡ list_any is_control bytes.now }
 {
-    bytes.iter().any(|byte| byte.is_ascii_control())
+    bytes.iter().any(u8::is_ascii_control)
 }

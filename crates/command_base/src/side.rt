@@ -6,7 +6,7 @@ ghost use Rattle.command_base.specs.SideName.{side_name};
 use std::fmt;
 
 /// One of two stacks that are compared.
-#[derive(Clone, Copy, Debug, PartialEq, Eq)]
+#[derive(Clone, Copy)]
 pub enum Side {
     Old,
     New,

@@ -1,12 +1,10 @@
 //! Stacks of layers, opened from bytes.
 
-ghost use Rattle.std.specs.Prelude.{◌≡◌, ◌<◌, ◌≤◌, ◌∷◌, ◌++◌, [], map, length, Ok};
+ghost use Rattle.std.specs.Prelude.{◌<◌, ◌≤◌, ◌∷◌, ◌++◌, [], map, length, Ok};
 ghost use Rattle.std.specs.Option.{option_map};
 ghost use Rattle.command_base.specs.contract_words.Exact.{GivesOr};
 ghost use Rattle.command_base.specs.overlay_map.Layer.{most_layers};
 ghost use Rattle.command_base.specs.declared.fault.ToolFault.TheVariants.{OutOfMemory};
-ghost use Rattle.command_base.specs.ToolFault.{fault_of_layer_table, fault_of_layer_map};
-ghost use Rattle.command_base.specs.MapErr.{map_err};
 ghost use Rattle.command_base.specs.Output.{IsOfInput};
 ghost use Rattle.command_base.specs.StackBytes.{table_of_layer, map_of_layer, layer_in, layers_from, stack_in, stack_on_side};
 ghost use Rattle.command_base.specs.StackBytesSeen.{layer_bytes, with_layer};
@@ -15,7 +13,7 @@ use crate::fault::ToolFault;
 use crate::layer_parts::LayerParts;
 use crate::layers_fault::LayersFault;
 use crate::side::Side;
-use answer_text::{IdMap, MOST_LAYERS, MapFault, Stack, Table, TableFault};
+use answer_text::{IdMap, MOST_LAYERS, Stack, Table};
 use std::alloc::Global;
 
 /// The stack of layers of which each is the bytes of a table and, at an overlay, those of an id map. More
@@ -86,17 +84,7 @@ pub fn open_table(alloc: Global, layer: usize, bytes: &[u8]) -> Result<Table<'_>
     ensures value { GivesOr OutOfMemory (λ table. table) result (table_of_layer layer bytes.now) }
     ensures of_input { IsOfInput result }
 {
-    layer_table(layer, Table::open(alloc, bytes))
-}
-
-// The table that was read for the layer at a place.
-fn layer_table<'a>(
-    layer: usize,
-    read: Result<Table<'a>, TableFault>,
-) -> Result<Table<'a>, ToolFault>
-    ensures { result ≡ map_err (fault_of_layer_table layer) read.entry }
-{
-    match read {
+    match Table::open(alloc, bytes) {
         Ok(table) => Ok(table),
         Err(fault) => Err(ToolFault::of_layer_table(layer, fault)),
     }
@@ -110,16 +98,8 @@ fn read_map(alloc: Global, layer: usize, json: Option<&[u8]>) -> Result<Option<I
     let Some(json) = json else {
         return Ok(None);
     };
-    let map = layer_map(layer, IdMap::read(alloc, json))?;
-    Ok(Some(map))
-}
-
-// The id map that was read for the layer at a place.
-fn layer_map(layer: usize, read: Result<IdMap, MapFault>) -> Result<IdMap, ToolFault>
-    ensures { result ≡ map_err (fault_of_layer_map layer) read }
-{
-    match read {
-        Ok(map) => Ok(map),
+    match IdMap::read(alloc, json) {
+        Ok(map) => Ok(Some(map)),
         Err(fault) => Err(ToolFault::of_layer_map(layer, fault)),
     }
 }

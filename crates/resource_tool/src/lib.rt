@@ -38,7 +38,7 @@ pub use check::{Check, OpenedCert, check_bytes};
 pub use command_base::{
     ExitStatus, GoalFault, InputFault, Inputs, LayerList, LayerParts, LayersFault, LocaleRule,
     Named, NamedGoal, NamedSet, ProcessInputs, STANDARD_INPUT, Status, Stop, ToolFault, fault_text,
-    file_path, read_input,
+    read_input,
 };
 pub use goal_told::write_goal_told;
 pub use make::{Make, make_bytes, make_bytes_watched};

@@ -5,7 +5,8 @@ ghost use Rattle.json_input.specs.Each.{each};
 ghost use Rattle.restool.specs.AskedWords.{ReadsNamed, ReadsWord, ReadsWords, asked_word, named_word};
 
 use crate::argument_fault::ArgumentFault;
-use resource_tool::{GoalFault, Named, NamedGoal, NamedSet, file_path};
+use names::file_path;
+use resource_tool::{GoalFault, Named, NamedGoal, NamedSet};
 use std::alloc::Global;
 
 /// What each word is to ask for some of, where several words may stand.

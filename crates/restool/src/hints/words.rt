@@ -2,8 +2,9 @@
 
 use crate::hints::Asked;
 use crate::hints::members::is_short;
-use command_base::{Inputs, LocaleRule, Named, file_path};
+use command_base::{Inputs, LocaleRule, Named};
 use config_words::{ConfigWordFault, read_config_by};
+use names::file_path;
 use std::alloc::Global;
 use std::str;
 

@@ -1,8 +1,12 @@
+use Rattle.std.specs.BTreeMap.{values}
+use Rattle.std.proofs.lemmas.Iterator.{items_from_collect}
+use Rattle.std.proofs.lemmas.Iterator.Consumers.{YieldsList-from_copied, YieldsList-from_rest}
 use Rattle.command_base.specs.answer_text.resource_table.Table.{rows_of}
-use Rattle.command_base.proofs.FirstRowSteps.{first_rows-end}
+use Rattle.command_base.proofs.FirstRowSteps.{first_rows-collected}
 use Rattle.command_base.proofs.first_rows.FirstRows.in_order.Goals as goal
 
 pub returns : goal.returns
 returns c =
-    first_rows-end (rows_of c.args.self.now.table.now) c.args.self.now.rows _ _ c.values-row-items.ensures.ordered c.args.self.now.ids c.args.self.now.first
-    c.loop-row.invariant c.in-None.ensures.steps.0
+    let kept = c.args.self.now.rows in
+    first_rows-collected (rows_of c.args.self.now.table.now) kept c.collect.result c.values.ensures.ordered c.args.self.now.ids c.args.self.now.first
+    (items_from_collect c.collect.result c.collect.ensures.ran (YieldsList-from_copied (YieldsList-from_rest (values kept) cc)))
