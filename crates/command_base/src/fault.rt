@@ -17,64 +17,54 @@ use crate::side::Side;
 use crate::table_fault::write_table_fault;
 use answer_text::{DeviceFault, MapFault, StackFault, TableFault};
 use apk_member::ApkFault;
-use arrayvec::ArrayVec;
 use cert_tree::{BoxFault, CertFault};
 use std::alloc::AllocError;
-use std::error::Error;
 use std::fmt::{self, Debug, Display, Formatter};
 use std::io::{self, Write};
-use std::str;
-
-/// How many bytes the line for a fault has at most.
-const LONGEST: usize = 128;
+use thiserror::Error;
 
 /// Why a command was not carried out: the part of its input that is refused, or what failed. Layers
 /// are named by their place, from 0.
-#[derive(Clone, Copy)]
+#[derive(Clone, Copy, Error)]
 pub enum ToolFault {
     /// The apk of a command that reads one table alone.
+    #[error("refused: apk: {0}")]
     Apk(ApkFault),
     /// The table of a command that reads one alone.
+    #[error("refused: table: {0}")]
     Table(TableFault),
     /// The list of the layers' files.
+    #[error("refused: layers: {0}")]
     Layers(LayersFault),
+    #[error("refused: layer {0} apk: {1}")]
     LayerApk(usize, ApkFault),
+    #[error("refused: layer {0} table: {1}")]
     LayerTable(usize, TableFault),
     /// The id map of an overlay.
+    #[error("refused: layer {0} map: {1}")]
     LayerMap(usize, MapFault),
     /// The list of the layers' files of one of two stacks that are compared.
+    #[error("refused: {0} layers: {1}")]
     SideLayers(Side, LayersFault),
+    #[error("refused: {0} layer {1} apk: {2}")]
     SideApk(Side, usize, ApkFault),
+    #[error("refused: {0} layer {1} table: {2}")]
     SideTable(Side, usize, TableFault),
     /// The id map of an overlay in one of two stacks.
+    #[error("refused: {0} layer {1} map: {2}")]
     SideMap(Side, usize, MapFault),
+    #[error("refused: device: {0}")]
     Device(DeviceFault),
+    #[error("refused: box: {0}")]
     Box(BoxFault),
+    #[error("refused: certificate: {0}")]
     Certificate(CertFault),
+    #[error("out of memory")]
     OutOfMemory,
     /// The writer failed.
+    #[error("Write")]
     Write,
 }
-
-/// Its line without the end, which has no more bytes than `LONGEST`.
-impl Display for ToolFault {
-    fn fmt<W: fmt::Write>(&self, f: &mut Formatter<W>) -> fmt::Result {
-        if let ToolFault::Write = self {
-            return f.write_str("Write");
-        }
-        let mut line = ArrayVec::<u8, LONGEST>::new();
-        if fault_text(self, &mut line).is_err() {
-            return Err(fmt::Error);
-        }
-        line.pop();
-        match str::from_utf8(&line) {
-            Ok(text) => f.write_str(text),
-            Err(_) => Err(fmt::Error),
-        }
-    }
-}
-
-impl Error for ToolFault {}
 
 /// By its text.
 impl Debug for ToolFault {

@@ -5,9 +5,9 @@ ghost use Rattle.command_base.specs.Input.{ReadsWithin};
 ghost use Rattle.command_base.specs.declared.input.InputFault.TheVariants.{OutOfMemory};
 
 use std::alloc::{AllocError, Global};
-use std::error::Error;
 use std::fmt::{self, Debug, Display, Formatter};
 use std::io::{ErrorKind, Read};
+use thiserror::Error;
 
 /// How many bytes are asked for in one read.
 const PIECE_SIZE: usize = 16_384;
@@ -17,28 +17,17 @@ const PIECE_SIZE: usize = 16_384;
 const FIRST_ROOM: usize = 1_048_576;
 
 /// Why an input was not read.
-#[derive(Clone, Copy)]
+#[derive(Clone, Copy, Error)]
 pub enum InputFault {
     /// A read failed, or the end did not come within the reads that are made at most.
+    #[error("Read")]
     Read,
     /// More bytes came than the limit.
+    #[error("TooLarge")]
     TooLarge,
+    #[error("OutOfMemory")]
     OutOfMemory,
 }
-
-/// Shows the name.
-impl Display for InputFault {
-    fn fmt<W: fmt::Write>(&self, f: &mut Formatter<W>) -> fmt::Result {
-        let name = match self {
-            InputFault::Read => "Read",
-            InputFault::TooLarge => "TooLarge",
-            InputFault::OutOfMemory => "OutOfMemory",
-        };
-        f.write_str(name)
-    }
-}
-
-impl Error for InputFault {}
 
 /// By its text.
 impl Debug for InputFault {

@@ -8,46 +8,27 @@ ghost use Rattle.command_base.specs.LayersFaultText.{layers_fault_text};
 
 use json_input::JsonFault;
 use std::alloc::{AllocError, AllocFailed};
-use std::error::Error;
 use std::fmt::{self, Debug, Display, Formatter};
 use std::io::{self, Write};
+use thiserror::Error;
 
 /// What is wrong with a list of layers. A text is first read, then the shape of all its layers is
 /// looked at; their number comes last.
-#[derive(Clone, Copy)]
+#[derive(Clone, Copy, Error)]
 pub enum LayersFault {
     /// The bytes are no JSON text that `serde_json` reads.
+    #[error("Syntax")]
     Syntax,
     /// The value is no list, or an item is no object with a path at `table`, with a path or nothing at
     /// `map`, and without other members.
+    #[error("Shape")]
     Shape,
     /// There are more than 64 layers.
+    #[error("TooManyLayers")]
     TooManyLayers,
+    #[error("OutOfMemory")]
     OutOfMemory,
 }
-
-impl LayersFault {
-    #[tactic(auto, unfolding(crate::specs::LayersFaultText::layers_fault_text))]
-    fn name(self) -> &'static str
-        ensures { result.now ≡ layers_fault_text self }
-    {
-        match self {
-            LayersFault::Syntax => "Syntax",
-            LayersFault::Shape => "Shape",
-            LayersFault::TooManyLayers => "TooManyLayers",
-            LayersFault::OutOfMemory => "OutOfMemory",
-        }
-    }
-}
-
-/// Shows the name.
-impl Display for LayersFault {
-    fn fmt<W: fmt::Write>(&self, f: &mut Formatter<W>) -> fmt::Result {
-        f.write_str(self.name())
-    }
-}
-
-impl Error for LayersFault {}
 
 /// By its text.
 impl Debug for LayersFault {
@@ -87,5 +68,17 @@ impl<T: Drop> From<AllocFailed<T>> for LayersFault {
 pub(crate) fn write_layers_fault<W: Write + Drop>(fault: LayersFault, out: &mut W) -> io::Result<()>
     ensures { Writes W.contents out.old out.new result (layers_fault_text fault) }
 {
-    out.write_all(fault.name().as_bytes())
+    out.write_all(name_of(fault).as_bytes())
+}
+
+#[tactic(auto, unfolding(crate::specs::LayersFaultText::layers_fault_text))]
+fn name_of(fault: LayersFault) -> &'static str
+    ensures { result.now ≡ layers_fault_text fault }
+{
+    match fault {
+        LayersFault::Syntax => "Syntax",
+        LayersFault::Shape => "Shape",
+        LayersFault::TooManyLayers => "TooManyLayers",
+        LayersFault::OutOfMemory => "OutOfMemory",
+    }
 }
