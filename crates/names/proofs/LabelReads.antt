@@ -15,7 +15,7 @@ use Rattle.names.specs.PackageWord.{PackageWordOf, Called, Numbered, number_in, 
 use Rattle.names.specs.Packages.{PackageNameOf}
 use Rattle.names.specs.Plain.{breaks_line, is_misread, is_plain}
 use Rattle.names.specs.Quoted.{quoted_text}
-use Rattle.names.specs.WordText.{before_type, can_name, is_separator, is_told, name_text, number_text, package_told, package_word_for, package_word_text}
+use Rattle.names.specs.WordText.{before_type, can_name, is_told, name_text, number_text, package_told, package_word_for, package_word_text}
 use Rattle.names.proofs.Cuts.{Lacks, after-at, any-at, before-at, encoded-lacks, neither}
 use Rattle.names.proofs.NoIds.{no-id}
 
@@ -54,14 +54,6 @@ is-not : (b : Bool) → not b ≡ true → b ≡ false
 is-not true e = absurd cc
 is-not false e = refl
 
-no-separators : (text : List ℕ) → Lacks is_separator text → Lacks is_colon text × Lacks is_slash text
-no-separators [] lacks = (refl, refl)
-no-separators (b ∷ text) lacks =
-    let here = neither (is_separator b) (list_any is_separator text) lacks in
-    let which = neither (is_colon b) (is_slash b) here.0 in
-    let behind = no-separators text here.1 in
-    (rw which.0 behind.0, rw which.1 behind.1)
-
 is-none : {A : Type 0} (o : Option A) → is_none o ≡ true → o ≡ None
 is-none None e = refl
 is-none (Some x) e = absurd cc
@@ -73,14 +65,14 @@ plain-part name plain =
 called : (name : List ℕ) → can_name name ≡ true → IsPackageText (Called name)
 unfolding package_word_in
 called name can =
-    let both = and_parts (is_plain name && not (list_any is_separator name)) (is_none (number_in name)) can in
-    let plain = and_parts (is_plain name) (not (list_any is_separator name)) both.0 in
-    let parted = no-separators name (is-not (list_any is_separator name) plain.1) in
+    let both = and_parts (is_plain name && not (list_any is_colon name) && not (list_any is_slash name)) (is_none (number_in name)) can in
+    let parted = and_parts (is_plain name && not (list_any is_colon name)) (not (list_any is_slash name)) both.0 in
+    let plain = and_parts (is_plain name) (not (list_any is_colon name)) parted.0 in
     let word : PackageWordOf = Called name in
     record {
       part = plain-part name plain.0;
-      no_colon = parted.0;
-      no_slash = parted.1;
+      no_colon = is-not (list_any is_colon name) plain.1;
+      no_slash = is-not (list_any is_slash name) parted.1;
       back = ap (λ (o : Option ℕ). option_map_or (λ number. Numbered number) o word) (is-none (number_in name) both.1);
     }
 

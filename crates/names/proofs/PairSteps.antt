@@ -1,11 +1,11 @@
 -- Which pairs words ask for.
-use Rattle.std.proofs.Common.{◌≡◌, ◌==◌, ◌||◌, Bool, true, false, cond, List, [], ◌∷◌, ◌++◌, map, length, filter, Option, Some, None, Ok, Err, ◌⊎◌, ⊎_elim, refl, sym, ap, ◌∙◌, arith}
+use Rattle.std.proofs.Common.{◌≡◌, ◌==◌, ◌||◌, Bool, true, false, cond, List, [], ◌∷◌, ◌++◌, map, length, filter, Option, Some, None, Ok, Err, refl, sym, ap, ◌∙◌, append_assoc, arith}
 use Rattle.std.proofs.Math.Path.{fun_ext}
 use Rattle.std.proofs.lemmas.Bool.{eqb-true}
 use Rattle.std.proofs.lemmas.List.{append-nil, nil_from_length}
 use Rattle.std.specs.List.{items_where_true, list_any}
-use Rattle.std.specs.Option.{option_or}
-use Rattle.std.specs.Vec.Iter.{into_iter_items, into_iter_len}
+use Rattle.std.specs.Option.{option_or, unwrap_or}
+use Rattle.std.specs.Vec.Iter.{into_iter_items, into_iter_len, into_iter_steps}
 use Rattle.std.specs.declared.vec.IntoIter.{IntoIter}
 use Rattle.names.specs.declared.found.Found.{Found}
 use Rattle.names.specs.declared.named_set.NamedSet.{NamedSet}
@@ -78,14 +78,36 @@ where_cons false flags x xs = refl
 no_items : {X Z : Type 0} (left : IntoIter X Z) → into_iter_len left ≡ 0 → into_iter_items left ≡ []
 no_items left empty = nil_from_length left.rest.items (omega (arith, left.rest.ok.0, empty))
 
--- where the pairs or the flags end
-pub kept-end : {X Z W : Type 0} (left : IntoIter X Z) (flags : IntoIter Bool W) (kept meant : List X) → kept ++ items_where_true (into_iter_items flags) (into_iter_items left) ≡ meant
-    → (into_iter_len left ≡ 0) ⊎ (into_iter_len flags ≡ 0) → kept ≡ meant
+-- one pair more, with its flag
+pub kept-next : {X Z W : Type 0} (left others : IntoIter X Z) (flags behind : IntoIter Bool W) (told : Option Bool) (x : X) (kept more meant : List X)
+    → kept ++ items_where_true (into_iter_items flags) (into_iter_items left) ≡ meant → into_iter_items left ≡ x ∷ into_iter_items others → into_iter_steps flags told behind
+    → more ≡ kept ++ cond (unwrap_or told false) (x ∷ []) [] → more ++ items_where_true (into_iter_items behind) (into_iter_items others) ≡ meant
+kept-next {X} left others flags behind None x kept more meant before first step is =
+    ap (λ (xs : List X). xs ++ items_where_true (into_iter_items behind) (into_iter_items others)) is
+    ∙ append_assoc kept [] (items_where_true (into_iter_items behind) (into_iter_items others))
+    ∙ ap (λ (xs : List X). kept ++ xs)
+    (ap (λ (bs : List Bool). items_where_true bs (into_iter_items others)) (no_items behind step.1)
+    ∙ sym (ap (λ (bs : List Bool). items_where_true bs (into_iter_items left)) (no_items flags step.0)))
+    ∙ before
+kept-next {X} left others flags behind (Some b) x kept more meant before first step is =
+    let behind_it = items_where_true (into_iter_items behind) (into_iter_items others) in
+    ap (λ (xs : List X). xs ++ behind_it) is
+    ∙ by b behind_it
+    ∙ ap (λ (xs : List X). kept ++ xs)
+    (sym (where_cons b (into_iter_items behind) x (into_iter_items others))
+    ∙ sym (ap (λ (bs : List Bool). items_where_true bs (into_iter_items left)) step.0 ∙ ap (λ (xs : List X). items_where_true (b ∷ into_iter_items behind) xs) first))
+    ∙ before
+  where
+    by : (b : Bool) (behind_it : List X) → (kept ++ cond b (x ∷ []) []) ++ behind_it ≡ kept ++ cond b (x ∷ behind_it) behind_it
+    by true behind_it = append_assoc kept (x ∷ []) behind_it
+    by false behind_it = append_assoc kept [] behind_it
+
+-- where the pairs end
+pub kept-end : {X Z : Type 0} (left : IntoIter X Z) (flags : List Bool) (kept meant : List X) → kept ++ items_where_true flags (into_iter_items left) ≡ meant → into_iter_len left ≡ 0 → kept ≡ meant
 kept-end {X} left flags kept meant before ends =
-    let nothing : items_where_true (into_iter_items flags) (into_iter_items left) ≡ [] = ⊎_elim
-    (λ empty. ap (λ (xs : List X). items_where_true (into_iter_items flags) xs) (no_items left empty) ∙ where_nil (into_iter_items flags))
-    (λ empty. ap (λ (bs : List Bool). items_where_true bs (into_iter_items left)) (no_items flags empty)) ends in
-    sym (append-nil kept) ∙ ap (λ (others : List X). kept ++ others) (sym nothing) ∙ before
+    sym (append-nil kept)
+    ∙ ap (λ (others : List X). kept ++ others) (sym (ap (λ (xs : List X). items_where_true flags xs) (no_items left ends) ∙ where_nil flags))
+    ∙ before
 
 where-filter : (test : PairOf → Bool) (flags : List Bool) (pairs : List NamePair) → flags ≡ map test (map pair_of pairs)
     → map pair_of (items_where_true flags pairs) ≡ filter test (map pair_of pairs)

@@ -1,6 +1,7 @@
 -- What words stand for.
-use Rattle.std.proofs.Common.{Option, Some, None, subst, sym, ◌≡◌, ℕ, List, [], ◌∷◌, map, Result, Ok, Err, refl, ap, ◌∙◌}
+use Rattle.std.proofs.Common.{Option, Some, None, subst, sym, ◌≡◌, ℕ, ◌<◌, List, [], ◌∷◌, get_or, length, map, Result, Ok, Err, refl, ap, ◌∙◌, arith}
 use Rattle.contract_words.specs.Faults.{◌>>=◌}
+use Rattle.contract_words.specs.Sequences.{joined, joined_each}
 use Rattle.json_input.specs.Each.{each}
 use Rattle.res_value.specs.declared.res_id.ResId.{ResId}
 use Rattle.overlay_map.specs.Layer.{LayerOf}
@@ -14,7 +15,7 @@ use Rattle.names.specs.Packages.{PackageNameOf}
 use Rattle.names.specs.declared.fault.NameFault.{NameFault}
 use Rattle.names.specs.declared.found.Found.{Found}
 use Rattle.names.specs.NameFault.{NameFaultOf, GivesNamed}
-use Rattle.names.specs.NamedIds.{found_of_name, id_named, id_of_found, ids_in_package, ids_of_rows, ids_of_set, packages_of, some_of}
+use Rattle.names.specs.NamedIds.{found_of_name, id_named, id_of_found, ids_in_package, ids_named, ids_of_rows, ids_of_set, packages_of, some_of}
 use Rattle.names.specs.NamedGoals.{goals_of_word}
 
 pub GivesNamed-same : {X Y : Type 0} (view : X → Y) (given : Result X NameFault) (meant other : Result Y NameFaultOf) → other ≡ meant → GivesNamed view given meant → GivesNamed view given other
@@ -43,6 +44,39 @@ one-found layers named id found = ap (λ (r : Result ResId NameFaultOf). r >>= �
 pub one-missing : (layers : List LayerOf) (named : NamedOf) (fault : NameFaultOf) → id_named layers named ≡ Err fault → ids_of_set layers (SetOfOne named) ≡ Err fault
 unfolding ids_of_set
 one-missing layers named fault missing = ap (λ (r : Result ResId NameFaultOf). r >>= λ id. Ok (id ∷ [])) missing
+
+-- what the word of one resource stands for, alone
+abbrev alone : Result ResId NameFaultOf → Result (List ResId) NameFaultOf
+alone found = found >>= λ id. Ok (id ∷ [])
+
+one-alone : (layers : List LayerOf) (named : NamedOf) → ids_named layers (SetOfOne named ∷ []) ≡ alone (id_named layers named)
+unfolding ids_named ids_of_set joined_each joined
+one-alone layers named = by (id_named layers named)
+  where
+    by : (found : Result ResId NameFaultOf) → joined (alone found ∷ []) ≡ alone found
+    by (Ok id) = refl
+    by (Err fault) = refl
+
+alone-ok : (found : Result ResId NameFaultOf) (ids : List ResId) → alone found ≡ Ok ids → (0 < length ids) × ((d : ResId) → found ≡ Ok (get_or ids 0 d))
+alone-ok (Ok id) ids is =
+    let same : id ∷ [] ≡ ids = cc in
+    let wrapped : ResId → Result ResId NameFaultOf = λ one. Ok one in
+    (subst (λ (them : List ResId). 0 < length them) same (omega arith), λ d. ap (λ (them : List ResId). wrapped (get_or them 0 d)) same)
+alone-ok (Err fault) ids is = absurd cc
+
+pub alone-found : (layers : List LayerOf) (named : NamedOf) (ids : List ResId) → ids_named layers (SetOfOne named ∷ []) ≡ Ok ids
+    → (0 < length ids) × ((d : ResId) → id_named layers named ≡ Ok (get_or ids 0 d))
+alone-found layers named ids found = alone-ok (id_named layers named) ids (sym (one-alone layers named) ∙ found)
+
+alone-err : (found : Result ResId NameFaultOf) (fault : NameFaultOf) → alone found ≡ Err fault → found ≡ Err fault
+alone-err (Ok id) fault is = absurd cc
+alone-err (Err other) fault is =
+    let same : other ≡ fault = cc in
+    let wrapped : NameFaultOf → Result ResId NameFaultOf = λ f. Err f in
+    ap wrapped same
+
+pub alone-missing : (layers : List LayerOf) (named : NamedOf) (fault : NameFaultOf) → ids_named layers (SetOfOne named ∷ []) ≡ Err fault → id_named layers named ≡ Err fault
+alone-missing layers named fault missing = alone-err (id_named layers named) fault (sym (one-alone layers named) ∙ missing)
 
 pub of-type : (layers : List LayerOf) (in_package : Option PackageWordOf) (type_name : List ℕ) (ids : List ResId)
     → ids ≡ ids_in_package layers in_package (ids_of_rows layers (Some type_name)) → ids_of_set layers (SetOfType in_package type_name) ≡ some_of (SetOfType in_package type_name) ids

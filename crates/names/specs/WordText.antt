@@ -45,13 +45,9 @@ text_of_set SetOfAll = codes "*"
 
 -- ---- the package of an id
 
--- what parts a word
-abbrev pub is_separator : ℕ → Bool
-is_separator b = is_colon b || is_slash b
-
 -- a text that a word has before its `:` as the name of a package
 abbrev pub can_name : List ℕ → Bool
-can_name name = is_plain name && not (list_any is_separator name) && is_none (number_in name)
+can_name name = is_plain name && not (list_any is_colon name) && not (list_any is_slash name) && is_none (number_in name)
 
 -- a package with this number, or with another name
 abbrev pub is_told : List ℕ → ℕ → PackageNameOf → Bool

@@ -8,7 +8,6 @@ ghost use Rattle.names.specs.NamedGoal.{named_goal_of};
 ghost use Rattle.names.specs.Names.{wanted_of};
 ghost use Rattle.names.specs.AskedNames.{names_in, names_in_set, names_in_goal};
 
-use crate::name::Name;
 use crate::named::Named;
 use crate::named_goal::NamedGoal;
 use crate::named_set::NamedSet;
@@ -77,8 +76,8 @@ fn push_names<'n>(all: &[Named<'n>], names: &mut Vec<Wanted<'n>>) -> Result<(), 
     Ok(())
 }
 
-/// Pushes the name of a resource, where it is asked for by its name.
-pub(crate) fn push_name<'n>(named: Named<'n>, names: &mut Vec<Wanted<'n>>) -> Result<(), AllocError>
+// Pushes the name of a resource, where it is asked for by its name.
+fn push_name<'n>(named: Named<'n>, names: &mut Vec<Wanted<'n>>) -> Result<(), AllocError>
     ensures { OnOk result (map wanted_of names.new.items ≡ map wanted_of names.old.items ++ names_in (named_of named.entry)) }
 {
     if let Named::Name {
@@ -87,13 +86,7 @@ pub(crate) fn push_name<'n>(named: Named<'n>, names: &mut Vec<Wanted<'n>>) -> Re
         entry_name,
     } = named
     {
-        names.push(Wanted {
-            package,
-            name: Name {
-                type_name,
-                entry_name,
-            },
-        })?;
+        names.push(Wanted::of_parts(package, type_name, entry_name))?;
     }
     Ok(())
 }

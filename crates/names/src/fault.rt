@@ -3,11 +3,12 @@
 ghost use Rattle.std.specs.Prelude.{◌≡◌};
 ghost use Rattle.names.specs.declared.fault.NameFault.TheVariants.{OutOfMemory};
 
+use crate::name::Name;
 use crate::named::Named;
 use crate::named_set::{ALL, NamedSet};
 use crate::packages::PackageName;
 use crate::wanted::Wanted;
-use crate::word_text::{name_text, two_text};
+use crate::word_text::package_word_for;
 use overlay_map::ResId;
 use res_value::write_id;
 use std::alloc::{AllocError, AllocFailed, Global};
@@ -38,11 +39,11 @@ impl NameFault {
     pub(crate) fn no_name(alloc: Global, wanted: Wanted<'_>) -> NameFault
         ensures { result ≢ OutOfMemory → name_fault_of result ≡ no_resource (wanted_text (wanted_of wanted.entry)) }
     {
-        let name = wanted.name;
-        NameFault::or_memory(name_text(alloc, wanted.package, name.type_name, name.entry_name))
+        NameFault::or_memory(format!(in alloc; "{wanted}"))
     }
 
     /// Rows of two packages have this name.
+    #[tactic(auto, unfolding(crate::specs::WordText::two_text, crate::specs::WordText::both_names))]
     pub(crate) fn two(
         alloc: Global,
         packages: &[PackageName<'_>],
@@ -52,7 +53,15 @@ impl NameFault {
     ) -> NameFault
         ensures { result ≢ OutOfMemory → name_fault_of result ≡ two_resources (two_text (map package_name_of packages.now) (wanted_of wanted.entry) first other) }
     {
-        match two_text(alloc, packages, wanted, first, other) {
+        let Name {
+            type_name,
+            entry_name,
+        } = wanted.name;
+        let first = package_word_for(packages, first.package());
+        let other = package_word_for(packages, other.package());
+        match format!(in alloc;
+            "{wanted}: {first}:{type_name}/{entry_name}, {other}:{type_name}/{entry_name}"
+        ) {
             Ok(text) => NameFault::TwoResources(text),
             Err(_) => NameFault::OutOfMemory,
         }
@@ -70,9 +79,9 @@ impl NameFault {
                     type_name,
                     entry_name,
                 },
-            ) => NameFault::or_memory(name_text(alloc, package, type_name, entry_name)),
+            ) => NameFault::no_name(alloc, Wanted::of_parts(package, type_name, entry_name)),
             NamedSet::OfType { package, type_name } => {
-                NameFault::or_memory(name_text(alloc, package, type_name, ALL))
+                NameFault::no_name(alloc, Wanted::of_parts(package, type_name, ALL))
             }
             NamedSet::All => NameFault::or_memory(String::from_str(alloc, ALL)),
         }

@@ -19,7 +19,6 @@ ghost use Rattle.names.specs.Packages.{package_name_of, is_asked_in};
 use crate::fault::NameFault;
 use crate::found::Found;
 use crate::ids::ids_of_type;
-use crate::name::Name;
 use crate::named::Named;
 use crate::named_set::NamedSet;
 use crate::package_word::PackageWord;
@@ -78,13 +77,7 @@ impl<'s, 'a, 'n> Finder<'s, 'a, 'n> {
                 type_name,
                 entry_name,
             } => {
-                let wanted = Wanted {
-                    package: *package,
-                    name: Name {
-                        type_name,
-                        entry_name,
-                    },
-                };
+                let wanted = Wanted::of_parts(*package, type_name, entry_name);
                 let found = self.found.next().unwrap_or(Found::Nothing);
                 id_of_found(alloc, &self.packages, wanted, found)
             }
@@ -118,7 +111,7 @@ impl<'s, 'a, 'n> Finder<'s, 'a, 'n> {
             }
             NamedSet::OfType { package, type_name } => {
                 let ids = self.ids_of_rows(alloc, Some(*type_name))?;
-                let ids = self.in_package(alloc, *package, ids)?;
+                let ids = self.in_package(alloc, *package, &ids)?;
                 some_of(alloc, *set, ids)
             }
             NamedSet::All => {
@@ -152,31 +145,18 @@ impl<'s, 'a, 'n> Finder<'s, 'a, 'n> {
         &self,
         alloc: Global,
         word: Option<PackageWord<'n>>,
-        ids: Rc<Vec<ResId>>,
+        ids: &[ResId],
     ) -> Result<Rc<Vec<ResId>>, AllocError>
-        ensures { (layers : List LayerOf) (names : List WantedOf) → Tells layers names self.now → IfOk result (λ kept. kept.value.items ≡ ids_in_package layers (option_map package_word_of word.entry) ids.value.items) }
+        ensures { (layers : List LayerOf) (names : List WantedOf) → Tells layers names self.now → IfOk result (λ kept. kept.value.items ≡ ids_in_package layers (option_map package_word_of word.entry) ids.now) }
     {
-        let kept = ids_asked_in(alloc, &self.packages, word, &ids)?;
+        let mut kept = Vec::new(alloc);
+        for id in ids {
+            if is_asked_in(&self.packages, word, id.package()) {
+                kept.push(*id)?;
+            }
+        }
         Ok(Rc::new(alloc, kept)?)
     }
-}
-
-// Those of these ids that are of a package, where one is named.
-fn ids_asked_in(
-    alloc: Global,
-    packages: &[PackageName<'_>],
-    word: Option<PackageWord<'_>>,
-    ids: &[ResId],
-) -> Result<Vec<ResId>, AllocError>
-    ensures { IfOk result (λ kept. kept.items ≡ filter (λ id. is_asked_in (map package_name_of packages.now) (option_map package_word_of word.entry) (package_of id)) ids.now) }
-{
-    let mut kept = Vec::new(alloc);
-    for id in ids {
-        if is_asked_in(packages, word, id.package()) {
-            kept.push(*id)?;
-        }
-    }
-    Ok(kept)
 }
 
 // The id of a name, of which this was found.

@@ -29,8 +29,7 @@ pub fn ids_of_type(
     for table in tables {
         put_numbers(alloc, table, type_name, &mut numbers)?;
     }
-    let ids = ids_in(alloc, &numbers)?;
-    Ok(ids)
+    ids_in(alloc, &numbers)
 }
 
 // The ids of these numbers.

@@ -1,22 +1,22 @@
 //! What resources are called, written.
 
 ghost use Rattle.std.specs.Prelude.{◌≡◌, map};
-ghost use Rattle.std.specs.List.{list_all, list_any};
+ghost use Rattle.std.specs.List.{list_all};
 ghost use Rattle.std.specs.Option.{option_map};
 ghost use Rattle.contract_words.specs.Writes.{Writes};
-ghost use Rattle.names.specs.LabelText.{package_before, is_apps, is_bare_type, bare_or_quoted, parts_text, full_name_text, label_text};
-ghost use Rattle.names.specs.Named.{is_colon, is_slash};
+ghost use Rattle.names.specs.LabelText.{package_before, is_apps, is_bare_type, bare_or_quoted, full_name_text, label_text};
 ghost use Rattle.names.specs.PackageWord.{package_word_of};
 ghost use Rattle.names.specs.Packages.{package_name_of};
-ghost use Rattle.names.specs.WordText.{before_type, number_text, package_word_text};
+ghost use Rattle.names.specs.WordText.{before_type};
 
 use crate::label::Label;
+use crate::name_parts::{has_colon, has_slash};
 use crate::package_word::PackageWord;
 use crate::packages::{PackageName, PackageNames};
 use crate::plain::is_plain;
 use crate::quoted::write_quoted;
 use crate::word_text::package_word_for;
-use res_value::{write_hex, write_id};
+use res_value::write_id;
 use std::io::{self, Write};
 
 /// The number of an app's own package.
@@ -54,7 +54,7 @@ impl PackageNames<'_> {
     }
 }
 
-#[tactic(auto, unfolding(crate::specs::LabelText::full_name_text))]
+#[tactic(auto, unfolding(crate::specs::LabelText::full_name_text, crate::specs::LabelText::parts_text))]
 fn write_name<W: Write + Drop>(
     packages: &[PackageName<'_>],
     number: u8,
@@ -67,7 +67,9 @@ fn write_name<W: Write + Drop>(
 {
     let word = package_before(packages, number);
     write_before_type(word, out)?;
-    write_parts(word, type_name, entry_name, out)
+    write_part(is_bare_type(word, type_name), type_name, out)?;
+    out.write_all(b"/")?;
+    write_part(is_plain(entry_name), entry_name, out)
 }
 
 // The word for a package, where its resources are not told without one.
@@ -96,41 +98,10 @@ fn are_apps(packages: &[PackageName<'_>]) -> bool
 fn write_before_type<W: Write + Drop>(word: Option<PackageWord<'_>>, out: &mut W) -> io::Result<()>
     ensures { Writes W.contents out.old out.new result (before_type (option_map package_word_of word.entry)) }
 {
-    let Some(word) = word else {
-        return Ok(());
-    };
-    write_package_word(word, out)?;
-    out.write_all(b":")
-}
-
-fn write_package_word<W: Write + Drop>(word: PackageWord<'_>, out: &mut W) -> io::Result<()>
-    ensures { Writes W.contents out.old out.new result (package_word_text (package_word_of word.entry)) }
-{
     match word {
-        PackageWord::Number(number) => write_number(number, out),
-        PackageWord::Name(name) => out.write_all(name.as_bytes()),
+        Some(word) => write!(out, "{word}:"),
+        None => Ok(()),
     }
-}
-
-fn write_number<W: Write + Drop>(number: u8, out: &mut W) -> io::Result<()>
-    ensures { Writes W.contents out.old out.new result (number_text number) }
-{
-    out.write_all(b"0x")?;
-    write_hex(&[number], out)
-}
-
-#[tactic(auto, unfolding(crate::specs::LabelText::parts_text))]
-fn write_parts<W: Write + Drop>(
-    word: Option<PackageWord<'_>>,
-    type_name: &str,
-    entry_name: &str,
-    out: &mut W,
-) -> io::Result<()>
-    ensures { Writes W.contents out.old out.new result (parts_text (option_map package_word_of word.entry) type_name.now entry_name.now) }
-{
-    write_part(is_bare_type(word, type_name), type_name, out)?;
-    out.write_all(b"/")?;
-    write_part(is_plain(entry_name), entry_name, out)
 }
 
 #[tactic(auto, unfolding(crate::specs::LabelText::bare_or_quoted))]
@@ -148,16 +119,4 @@ fn is_bare_type(word: Option<PackageWord<'_>>, type_name: &str) -> bool
     ensures { result ≡ is_bare_type (option_map package_word_of word.entry) type_name.now }
 {
     is_plain(type_name) && !has_slash(type_name) && (word.is_some() || !has_colon(type_name))
-}
-
-fn has_slash(text: &str) -> bool
-    ensures { result ≡ list_any is_slash text.now }
-{
-    text.as_bytes().contains(&b'/')
-}
-
-fn has_colon(text: &str) -> bool
-    ensures { result ≡ list_any is_colon text.now }
-{
-    text.as_bytes().contains(&b':')
 }

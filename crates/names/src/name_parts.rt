@@ -3,7 +3,7 @@
 ghost use Rattle.std.specs.Prelude.{◌≡◌};
 ghost use Rattle.std.specs.List.{list_any, before_first, after_first};
 ghost use Rattle.std.specs.Option.{option_map};
-ghost use Rattle.names.specs.Named.{behind_sign, is_slash, is_of_no_name, is_part};
+ghost use Rattle.names.specs.Named.{behind_sign, is_colon, is_slash, is_of_no_name, is_part};
 
 /// Stands between the type and the entry of a name.
 const SLASH: char = '/';
@@ -27,6 +27,20 @@ pub(crate) fn parts_at_slash(word: &str) -> (&str, &str)
         Some(parts) => parts,
         None => (word, ""),
     }
+}
+
+/// Whether there is a `/`, which parts a type and an entry.
+pub(crate) fn has_slash(text: &str) -> bool
+    ensures { result ≡ list_any is_slash text.now }
+{
+    text.as_bytes().contains(&b'/')
+}
+
+/// Whether there is a `:`, which parts a package and a type.
+pub(crate) fn has_colon(text: &str) -> bool
+    ensures { result ≡ list_any is_colon text.now }
+{
+    text.as_bytes().contains(&b':')
 }
 
 /// Whether a text can be a part of a name: it is not empty and has no `*`, `,` or `@`.

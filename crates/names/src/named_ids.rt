@@ -6,7 +6,7 @@ ghost use Rattle.names.specs.NamedSet.{named_set_of};
 ghost use Rattle.names.specs.NameFault.{GivesNamed};
 ghost use Rattle.names.specs.NamedIds.{id_named, ids_named};
 
-use crate::asked_names::{names_in_sets, push_name};
+use crate::asked_names::names_in_sets;
 use crate::fault::NameFault;
 use crate::finder::Finder;
 use crate::named::Named;
@@ -23,11 +23,8 @@ use std::alloc::Global;
 pub fn id_named(alloc: Global, stack: &Stack<'_>, named: Named<'_>) -> Result<ResId, NameFault>
     ensures { GivesNamed (λ id. id) result (id_named stack.now (named_of named.entry)) }
 {
-    let mut names = Vec::new(alloc);
-    push_name(named, &mut names)?;
-    let mut finder = Finder::new(alloc, stack, &names)?;
-    let id = finder.id(alloc, &named)?;
-    Ok(id)
+    let ids = ids_named(alloc, stack, &[NamedSet::One(named)])?;
+    Ok(ids[0])
 }
 
 /// The ids that words ask for, one word after the other. All names are looked up in one walk over the rows of the base

@@ -114,8 +114,7 @@ impl<'s, 'a> NamedStack<'s, 'a> {
     pub(crate) fn labels(&self, alloc: Global) -> Result<Vec<Labelled<'_, 'a>>, AllocError>
         ensures { IfOk result (λ labels. AreLabels (first_with (labelled self.now)) (map labelled_of labels.items)) }
     {
-        let labels = labels_in(alloc, &self.labels)?;
-        Ok(labels)
+        labels_in(alloc, &self.labels)
     }
 }
 

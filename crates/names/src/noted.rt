@@ -57,8 +57,7 @@ impl<'a> Noted<'a> {
         let first = add_label(&mut self.labels, label, id)?;
         put(&mut self.ids, id.0)?;
         put(&mut self.named, first.0)?;
-        put_shared(&mut self.shared, first, id)?;
-        Ok(())
+        put_shared(&mut self.shared, first, id)
     }
 
     /// What each label stands for: the names, and the ids for which no name stands.

@@ -4,6 +4,7 @@ ghost use Rattle.std.specs.Prelude.{◌≡◌};
 ghost use Rattle.names.specs.PackageWord.{number_in};
 
 use hex::FromHex;
+use std::fmt;
 
 /// Begins the number of a package.
 const NUMBER_MARK: &[u8] = b"0x";
@@ -29,6 +30,22 @@ impl<'a> PackageWord<'a> {
         match number_in(text) {
             Some(number) => PackageWord::Number(number),
             None => PackageWord::Name(text),
+        }
+    }
+}
+
+/// Shows it as a word has it.
+impl fmt::Display for PackageWord<'_> {
+    ghost use Rattle.std.specs.Prelude.{Some};
+    ghost use Rattle.names.specs.PackageWord.{package_word_of};
+    ghost use Rattle.names.specs.WordText.{package_word_text};
+
+    ghost output = { λ word. Some (package_word_text (package_word_of word)) };
+
+    fn fmt<W: fmt::Write>(&self, f: &mut fmt::Formatter<W>) -> fmt::Result {
+        match *self {
+            PackageWord::Number(number) => write!(f, "0x{number:02x}"),
+            PackageWord::Name(name) => f.write_str(name),
         }
     }
 }

@@ -43,8 +43,7 @@ pub fn name_pairs<'a>(
 {
     let olds = old.labels(alloc)?;
     let news = new.labels(alloc)?;
-    let pairs = merge(alloc, &olds, &news)?;
-    Ok(pairs)
+    merge(alloc, &olds, &news)
 }
 
 // The labels of both, in one pass over them.

@@ -12,7 +12,6 @@ ghost use Rattle.names.specs.declared.found.Found.TheVariants.{Two};
 
 use crate::fault::NameFault;
 use crate::found::Found;
-use crate::name::Name;
 use crate::named::Named;
 use crate::named_set::NamedSet;
 use crate::named_stack::NamedStack;
@@ -124,11 +123,8 @@ fn check_two(
                 entry_name,
             },
         ) => {
-            let name = Name {
-                type_name,
-                entry_name,
-            };
-            Err(NameFault::two(alloc, packages, Wanted { package, name }, first, other))
+            let wanted = Wanted::of_parts(package, type_name, entry_name);
+            Err(NameFault::two(alloc, packages, wanted, first, other))
         }
         NamedSet::One(Named::Id(_)) | NamedSet::OfType { .. } | NamedSet::All => Ok(()),
     }
@@ -160,9 +156,10 @@ fn keep<'a>(
 ) -> Result<Vec<NamePair<'a>>, AllocError>
     ensures { IfOk result (λ kept. kept.items ≡ items_where_true asked.items pairs.entry.items) }
 {
+    let mut flags = asked.into_iter();
     let mut kept = Vec::new(alloc);
-    for (pair, is_asked) in pairs.into_iter().zip(asked) {
-        if is_asked {
+    for pair in pairs {
+        if flags.next().unwrap_or(false) {
             kept.push(pair)?;
         } else {
             drop(pair);

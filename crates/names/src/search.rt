@@ -39,8 +39,7 @@ pub fn find_names(
 {
     let wanted = in_any_package(alloc, names)?;
     let found = find_each(alloc, Packages { all: &[] }, tables, &wanted)?;
-    let first = first_of_each(alloc, &found)?;
-    Ok(first)
+    first_of_each(alloc, &found)
 }
 
 fn in_any_package<'n>(alloc: Global, names: &[Name<'n>]) -> Result<Vec<Wanted<'n>>, AllocError>
@@ -77,8 +76,7 @@ pub(crate) fn find_each<'n>(
     let places = places_of(alloc, wanted)?;
     let mut sought = unfound(alloc, packages, wanted)?;
     look_in_each(alloc, tables, &places, &mut sought)?;
-    let found = found(alloc, &sought)?;
-    Ok(found)
+    found(alloc, &sought)
 }
 
 // The names, before a table was looked at.
@@ -173,8 +171,7 @@ fn pass_row(
     };
     let at = places.get(entry_name.as_str().as_bytes());
     note_at(alloc, table, row, at, sought)?;
-    passed.put(row)?;
-    Ok(())
+    passed.put(row)
 }
 
 // Notes a row for the names of these places that it has.

@@ -1,15 +1,14 @@
 //! A name that is looked for.
 
-ghost use Rattle.std.specs.Prelude.{◌≡◌, IfOk, OnOk, map};
+ghost use Rattle.std.specs.Prelude.{◌≡◌, IfOk, OnOk};
 ghost use Rattle.overlay_map.specs.type_chunks.Row.{row_of};
 ghost use Rattle.string_pool.specs.Text.{seen_text};
-ghost use Rattle.names.specs.Names.{name_of, wanted_of, is_name, is_wanted, has_names};
-ghost use Rattle.names.specs.Packages.{package_name_of};
+ghost use Rattle.names.specs.Names.{name_of, is_name, has_names};
 ghost use Rattle.names.specs.Sought.{noted};
 
 use crate::found::Found;
 use crate::name::Name;
-use crate::packages::{PackageName, Packages, is_asked_in};
+use crate::packages::{Packages, is_asked_in};
 use crate::text::name_text;
 use crate::wanted::Wanted;
 use overlay_map::{Row, Table};
@@ -34,25 +33,13 @@ impl<'n> Sought<'n> {
     ) -> Result<(), AllocError>
         ensures { OnOk result (self.new ≡ noted table.now (row_of row.now) self.old) }
     {
-        if is_wanted(alloc, self.packages.all, table, row, self.wanted)? {
+        let Wanted { package, name } = self.wanted;
+        let named = is_named(alloc, table, row, name)?;
+        if named && is_asked_in(self.packages.all, package, row.id.package()) {
             self.found = self.found.also(row.id);
         }
         Ok(())
     }
-}
-
-// Whether a row is of a package that is asked for, and has the names.
-fn is_wanted(
-    alloc: Global,
-    packages: &[PackageName<'_>],
-    table: &Table<'_>,
-    row: &Row<'_>,
-    wanted: Wanted<'_>,
-) -> Result<bool, AllocError>
-    ensures { IfOk result (λ is. is ≡ is_wanted (map package_name_of packages.now) (wanted_of wanted.entry) table.now (row_of row.now)) }
-{
-    let named = is_named(alloc, table, row, wanted.name)?;
-    Ok(named && is_asked_in(packages, wanted.package, row.id.package()))
 }
 
 // Whether a row has a name.

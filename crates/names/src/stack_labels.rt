@@ -59,12 +59,10 @@ fn pass_row<'a>(
         return Ok(());
     }
     let Some(label) = name_of_row(alloc, table, row)? else {
-        noted.note_id(row.id)?;
-        return Ok(());
+        return noted.note_id(row.id);
     };
     noted.note(label, row.id)?;
-    passed.put(row)?;
-    Ok(())
+    passed.put(row)
 }
 
 /// The name of a row of a table, where both its parts are text. What is UTF-8 in the table is lent, and not copied.

@@ -20,7 +20,7 @@ pub(crate) struct TypeWord<'a> {
 impl<'a> TypeWord<'a> {
     ghost use Rattle.std.specs.Prelude.{◌≡◌};
     ghost use Rattle.std.specs.Option.{option_map};
-    ghost use Rattle.names.specs.Named.{type_word_of, type_word_in, type_in_package, type_alone};
+    ghost use Rattle.names.specs.Named.{type_word_of, type_word_in};
 
     /// The type that a text names: `TYPE`, or `PACKAGE:TYPE`.
     #[tactic(auto, unfolding(crate::specs::Named::type_word_in))]
@@ -28,34 +28,17 @@ impl<'a> TypeWord<'a> {
         ensures { option_map type_word_of result ≡ type_word_in text.entry.now }
     {
         match cut_at_colon(text) {
-            Some((package, type_name)) => TypeWord::in_package(package, type_name),
-            None => TypeWord::alone(text),
-        }
-    }
-
-    fn in_package(before: &'a str, type_name: &'a str) -> Option<TypeWord<'a>>
-        ensures { option_map type_word_of result ≡ type_in_package before.entry.now type_name.entry.now }
-    {
-        if is_part(before) && is_part(type_name) {
-            Some(TypeWord {
-                package: Some(PackageWord::read(before)),
-                type_name,
-            })
-        } else {
-            None
-        }
-    }
-
-    fn alone(type_name: &'a str) -> Option<TypeWord<'a>>
-        ensures { option_map type_word_of result ≡ type_alone type_name.entry.now }
-    {
-        if is_part(type_name) {
-            Some(TypeWord {
+            Some((package, type_name)) if is_part(package) && is_part(type_name) => Some(
+                TypeWord {
+                    package: Some(PackageWord::read(package)),
+                    type_name,
+                },
+            ),
+            None if is_part(text) => Some(TypeWord {
                 package: None,
-                type_name,
-            })
-        } else {
-            None
+                type_name: text,
+            }),
+            _ => None,
         }
     }
 }

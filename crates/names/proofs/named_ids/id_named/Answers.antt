@@ -1,20 +1,23 @@
-use Rattle.std.proofs.Common.{◌++◌, [], List, map, sym, ap, subst, ◌∙◌}
-use Rattle.std.proofs.lemmas.List.{append-nil}
+use Rattle.std.proofs.Common.{Result, Ok, sym, ap, ◌∙◌, arith}
 use Rattle.std.proofs.lemmas.Result.{err_from_is_err_and}
-use Rattle.names.specs.declared.wanted.Wanted.{Wanted}
-use Rattle.names.specs.Names.{WantedOf, wanted_of}
+use Rattle.res_value.specs.declared.res_id.ResId.{ResId}
 use Rattle.names.specs.Named.{named_of}
-use Rattle.names.specs.AskedNames.{names_in}
-use Rattle.names.specs.Finder.{Tells}
+use Rattle.names.specs.NameFault.{NameFaultOf}
+use Rattle.names.proofs.WordSteps.{alone-found, alone-missing}
 use Rattle.names.proofs.named_ids.id_named.Goals as goal
 
-pub returns-in_err-id : goal.returns-in_err-id
-returns-in_err-id c =
-    let asked = names_in (named_of c.args.named) in
-    let told = subst (λ (names : List WantedOf). Tells c.args.stack.now names c.in_ok-finder.finder)
-    (ap (λ (names : List Wanted). map wanted_of names) c.deref.ensures.value
-    ∙ c.in_ok-push_name.ensures
-    ∙ ap (λ (names : List Wanted). map wanted_of names ++ asked) c.new-names.ensures.items
-    ∙ sym (append-nil asked)) c.in_ok-finder.ensures in
-    let p = err_from_is_err_and c.from_residual-in_err-id.result c.from_residual-in_err-id.ensures.1 in
-    rw (p.1, p.2) (λ other. c.in_err-id.ensures.found c.args.stack.now [] told other)
+pub index-requires : goal.index-requires
+index-requires c =
+    let some = (alone-found c.args.stack.now (named_of c.args.named) c.in_ok-ids.ids.items c.in_ok-ids.ensures).0 in
+    omega (arith, some, c.in_ok-ids.ids.ok.0)
+
+pub returns-in_err-ids : goal.returns-in_err-ids
+returns-in_err-ids c =
+    let p = err_from_is_err_and c.from_residual.result c.from_residual.ensures.1 in
+    rw (p.1, p.2) (λ other. alone-missing c.args.stack.now (named_of c.args.named) _ (c.in_err-ids.ensures other))
+
+pub returns : goal.returns
+returns c =
+    let found = (alone-found c.args.stack.now (named_of c.args.named) c.in_ok-ids.ids.items c.in_ok-ids.ensures).1 in
+    let wrapped : ResId → Result ResId NameFaultOf = λ id. Ok id in
+    found c.index.result.now ∙ ap wrapped (sym c.index.ensures)

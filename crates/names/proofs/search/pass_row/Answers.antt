@@ -1,4 +1,5 @@
 use Rattle.std.proofs.Common.{ℕ, List, Some, Result, subst, sym, ap, ◌∙◌}
+use Rattle.std.proofs.lemmas.Result.{on_ok_weaker}
 use Rattle.std.specs.Cow.{cow_str_bytes}
 use Rattle.std.specs.Option.{option_map}
 use Rattle.overlay_map.specs.type_chunks.Row.{row_of}
@@ -20,15 +21,19 @@ returns-in_default-clause-noted c =
 pub returns-clause-noted : goal.returns-clause-noted
 returns-clause-noted c =
     let name = ap (λ (read : Result TextOf StringFault). name_text read) c.key_name.ensures in
+    on_ok_weaker c.put.result (λ _.
     is_noted c.args.table.now (row_of c.args.row.now) c.args.places.now c.as_bytes.result.now c.get-at.result.now c.args.sought.now c.note_at.new.sought
     (sym (c.in_ok-entry_name.ensures ∙ name) ∙ ap (λ found. option_map cow_str_bytes found) c.in-Some.is ∙ ap (λ (text : List ℕ). Some text) (sym (c.as_bytes.ensures.value ∙ c.as_str.ensures.value)))
-    c.requires.places c.get-at.ensures c.in_ok-note_at.ensures
+    c.requires.places c.get-at.ensures c.in_ok-note_at.ensures)
+    c.put.ensures
 
 pub returns-clause-passed : goal.returns-clause-passed
 returns-clause-passed c =
     let name = ap (λ (read : Result TextOf StringFault). name_text read) c.key_name.ensures in
+    on_ok_weaker c.put.result (λ put.
     subst (λ (sought : List Sought). AreSought c.args.table.now c.put.new.self sought)
     (sym (is_noted c.args.table.now (row_of c.args.row.now) c.args.places.now c.as_bytes.result.now c.get-at.result.now c.args.sought.now c.note_at.new.sought
     (sym (c.in_ok-entry_name.ensures ∙ name) ∙ ap (λ found. option_map cow_str_bytes found) c.in-Some.is ∙ ap (λ (text : List ℕ). Some text) (sym (c.as_bytes.ensures.value ∙ c.as_str.ensures.value)))
     c.requires.places c.get-at.ensures c.in_ok-note_at.ensures))
-    (AreSought-next c.args.table.now (row_of c.args.row.now) c.args.passed.now c.put.new.self c.args.sought.now c.requires.passed c.in_ok-put.ensures)
+    (AreSought-next c.args.table.now (row_of c.args.row.now) c.args.passed.now c.put.new.self c.args.sought.now c.requires.passed put))
+    c.put.ensures

@@ -28,7 +28,8 @@ pub returns-in_ok-ids-in-OfType-2-clause-found : goal.returns-in_ok-ids-in-OfTyp
 returns-in_ok-ids-in-OfType-2-clause-found c = λ layers names told.
     let of_type = subst (λ (set : NamedSet). Tells layers (names_in_set (named_set_of set) ++ names) c.args.self.now) c.in-OfType.is told in
     let kept = c.in_ok-ids-in-OfType-2.ensures layers names (c.in_ok-ids-in-OfType.ensures.left layers names of_type)
-    ∙ ap (ids_in_package layers (option_map package_word_of c.in-OfType.package)) (c.in_ok-ids-in-OfType.ensures.found layers names of_type) in
+    ∙ ap (ids_in_package layers (option_map package_word_of c.in-OfType.package))
+    (c.deref-in-OfType.ensures.value ∙ ap (λ ids. ids.items) c.deref.ensures ∙ c.in_ok-ids-in-OfType.ensures.found layers names of_type) in
     let ids = c.in_ok-ids-in-OfType-2.ids.value.items in
     GivesNamed-same _ _ _ _
     (ap (λ (set : NamedSet). ids_of_set layers (named_set_of set)) c.in-OfType.is ∙ of-type layers _ _ ids kept ∙ sym (ap (λ (set : NamedSet). some_of (named_set_of set) ids) c.in-OfType.is))
