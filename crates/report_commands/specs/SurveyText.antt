@@ -4,6 +4,7 @@ use Rattle.std.specs.List.{flat_map}
 use Rattle.std.specs.Fmt.{decimal}
 use Rattle.command_base.specs.cert_tree.config_box.config_record.declared.coord.Coord as coord
 use Rattle.command_base.specs.cert_tree.config_box.config_record.declared.coord.Coord.TheVariants as coords
+use Rattle.command_base.specs.cert_tree.config_box.config_record.Coord.{name_of as name_of_coord}
 use Rattle.command_base.specs.cert_tree.config_box.config_record.locales.LocaleNumber.{locale_of_number}
 use Rattle.command_base.specs.cert_tree.config_box.config_record.locales.Text.{locale_text}
 use Rattle.command_base.specs.overlay_map.res_value.ResId.{id_text}
@@ -60,13 +61,9 @@ unfoldable pub qualifier_line : coord.Coord → Spread → List ℕ
 qualifier_line c spread =
     if spread.count == 0 then [] else named_coord (codes "qualifier") c ++ codes " " ++ named_number (codes "rows") spread.count ++ range_text c spread ++ 10 ∷ []
 
--- `box lacks NAME`
-unfoldable pub gap_text : coord.Coord → List ℕ
-gap_text c = codes "box " ++ named_coord (codes "lacks") c
-
 -- the line `warning box lacks NAME`
 unfoldable pub lacks_line : coord.Coord → List ℕ
-lacks_line c = codes "warning " ++ gap_text c ++ 10 ∷ []
+lacks_line c = codes "warning box lacks " ++ name_of_coord c ++ 10 ∷ []
 
 -- that line, where it does
 unfoldable pub lacking_line : Bool → coord.Coord → List ℕ

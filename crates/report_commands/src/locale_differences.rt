@@ -47,7 +47,7 @@ fn region_in(locale: u64) -> u64
 fn is_one_of(languages: &[u64], language: u64) -> bool
     ensures { result ≡ is_one_of languages.now language }
 {
-    languages.iter().any(|other| *other == language)
+    languages.contains(&language)
 }
 
 #[tactic(auto, unfolding(crate::specs::Locales::is_filipino))]

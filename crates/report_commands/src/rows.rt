@@ -10,7 +10,7 @@ ghost use Rattle.command_base.specs.overlay_map.type_chunks.Row.{row_of};
 ghost use Rattle.command_base.specs.overlay_map.resource_table.Table.{rows_of};
 ghost use Rattle.report_commands.specs.Findings.{noted};
 ghost use Rattle.report_commands.specs.Locales.{differs_at};
-ghost use Rattle.report_commands.specs.RowNotes.{dynamic_attribute, dynamic_reference, has_broken, has_kind, is_bag_row_of_kind, is_broken, is_broken_bag_row, row_locale, is_for_other_locales, is_for_one_of, notes_of_values, notes_of_locale, notes_of_row};
+ghost use Rattle.report_commands.specs.RowNotes.{dynamic_attribute, dynamic_reference, has_broken, has_kind, is_bag_row_of_kind, is_broken, is_broken_bag_row, is_for_other_locales, is_for_one_of, notes_of_values, notes_of_locale, notes_of_row};
 
 use crate::finding::Finding;
 use crate::findings::Findings;
@@ -95,24 +95,22 @@ fn is_broken(strings: &Pool<'_>, value: Value) -> bool
     value.kind == kind::STRING && strings.get(value.word as usize).is_err()
 }
 
-fn row_locale(row: &Row<'_>) -> u64
-    ensures { result ≡ row_locale (row_of row.now) }
-{
-    number_said(row, Coord::Locale)
-}
-
 #[tactic(auto, unfolding(crate::specs::RowNotes::is_for_other_locales))]
 fn is_for_other_locales(row: &Row<'_>) -> bool
     ensures { result ≡ is_for_other_locales (row_of row.now) }
 {
-    differs_somewhere(row_locale(row), row.config.set_aside())
+    differs_somewhere(number_said(row, Coord::Locale), row.config.set_aside())
 }
 
 #[tactic(auto, unfolding(crate::specs::RowNotes::is_for_one_of))]
 fn is_for_one_of(locales: &[Locale], row: &Row<'_>) -> bool
     ensures { result ≡ is_for_one_of (locale_numbers locales.now) (row_of row.now) }
 {
-    differs_at_one(row_locale(row), row.config.set_aside(), locales)
+    differs_at_one(
+        number_said(row, Coord::Locale),
+        row.config.set_aside(),
+        locales,
+    )
 }
 
 fn differs_at_one(row_locale: u64, set_aside: bool, locales: &[Locale]) -> bool

@@ -232,6 +232,7 @@ fn certificate_text(
     }
 }
 
+#[tactic(auto, unfolding(crate::specs::TreeText::goals_line))]
 fn write_certificate<W: Write + Drop>(
     form: Form,
     stack: &StackNames<'_, '_>,
@@ -242,7 +243,7 @@ fn write_certificate<W: Write + Drop>(
     ensures { Writes W.contents out.old out.new result (flat_map (goal_text form stack.now) (map numbered_of goals.now) ++ goals_line count) }
 {
     write_goals(form, stack, goals, out)?;
-    write_count(count, out)
+    writeln!(out, "goals {count}")
 }
 
 #[tactic(auto, using(contract_words::proofs::TextSteps::puts_slice))]
@@ -272,11 +273,4 @@ fn write_goal<W: Write + Drop>(
     let asked = goal.goal;
     write_goal_line(stack, goal.number, &asked.goal, asked.nodes.len(), out)?;
     write_lines(form, stack, goal.lines.as_slice(), out)
-}
-
-#[tactic(auto, unfolding(crate::specs::TreeText::goals_line))]
-fn write_count<W: Write + Drop>(count: usize, out: &mut W) -> io::Result<()>
-    ensures { Writes W.contents out.old out.new result (goals_line count) }
-{
-    writeln!(out, "goals {count}")
 }

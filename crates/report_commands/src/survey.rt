@@ -172,15 +172,9 @@ fn write_each_line<W: Write + Drop>(
     ensures { Writes W.contents out.old out.new result (flat_map (λ c. qualifier_line c (spread_in qualifiers.now c)) coords.now) }
 {
     for coord in coords {
-        write_line(qualifiers, *coord, out)?;
+        write_qualifier(*coord, qualifiers.spread(*coord), out)?;
     }
     Ok(())
-}
-
-fn write_line<W: Write + Drop>(qualifiers: &Qualifiers, at: Coord, out: &mut W) -> io::Result<()>
-    ensures { Writes W.contents out.old out.new result (qualifier_line at (spread_in qualifiers.now at)) }
-{
-    write_qualifier(at, qualifiers.spread(at), out)
 }
 
 // Writes the qualifiers that the box lacks, and says whether there are some.

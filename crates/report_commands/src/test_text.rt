@@ -28,13 +28,9 @@ fn write_test<W: Write + Drop>(test: &Test, out: &mut W) -> io::Result<()>
     ensures { Writes W.contents out.old out.new result (test_text (test_of test.now)) }
 {
     match test {
-        Test::AtMost(coord, most) => {
-            out.write_all(coord.name().as_bytes())?;
-            write!(out, " at most {most}")
-        }
+        Test::AtMost(coord, most) => write!(out, "{coord} at most {most}"),
         Test::Among(coord, choice) => {
-            out.write_all(coord.name().as_bytes())?;
-            out.write_all(b" one of")?;
+            write!(out, "{coord} one of")?;
             write_choice(choice, out)
         }
     }

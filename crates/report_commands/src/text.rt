@@ -4,7 +4,7 @@ ghost use Rattle.std.specs.List.{flat_map};
 ghost use Rattle.contract_words.specs.Writes.{Writes};
 ghost use Rattle.report_commands.specs.Finding.{all_findings};
 ghost use Rattle.report_commands.specs.Findings.{tally_in};
-ghost use Rattle.report_commands.specs.SurveyText.{site_text, weight_text, tally_text, found_line, shared_line, range_text, number_text, qualifier_line, gap_text, lacks_line};
+ghost use Rattle.report_commands.specs.SurveyText.{site_text, weight_text, tally_text, found_line, shared_line, range_text, number_text, qualifier_line, lacks_line};
 
 use crate::finding::Finding;
 use crate::findings::Findings;
@@ -157,15 +157,5 @@ fn write_number<W: Write + Drop>(coord: Coord, number: u64, out: &mut W) -> io::
 pub(crate) fn write_lacks<W: Write + Drop>(coord: Coord, out: &mut W) -> io::Result<()>
     ensures { Writes W.contents out.old out.new result (lacks_line coord) }
 {
-    out.write_all(b"warning ")?;
-    write_gap(coord, out)?;
-    out.write_all(b"\n")
-}
-
-#[tactic(auto, unfolding(crate::specs::SurveyText::gap_text))]
-fn write_gap<W: Write + Drop>(coord: Coord, out: &mut W) -> io::Result<()>
-    ensures { Writes W.contents out.old out.new result (gap_text coord) }
-{
-    out.write_all(b"box ")?;
-    write_named_coord("lacks", coord, out)
+    writeln!(out, "warning box lacks {coord}")
 }
