@@ -291,7 +291,7 @@ module _ {W V E : Type 0} (is_terminal : Bool) (c : W → Option (List ℕ)) (d 
   answers-over from to carry carry_any carry_once carry_first carry_told carry_both places (asks.Values it) p =
       carry_any _ _ (λ (asked : OpenDiffOf). IsValuesOutput it.form asked.pairs it.max_nodes) (λ (asked : OpenDiffOf). Ok asked.opened) _ p
   answers-over from to carry carry_any carry_once carry_first carry_told carry_both places (asks.Unused it) p =
-      carry_any _ _ (λ (asked : OpenUnusedOf). IsUnusedOutput asked.asked) (λ (asked : OpenUnusedOf). Ok asked.opened) _ p
+      carry_any _ _ (λ (asked : OpenUnusedOf). IsUnusedOutput asked.asked it.max_nodes) (λ (asked : OpenUnusedOf). Ok asked.opened) _ p
   answers-over from to carry carry_any carry_once carry_first carry_told carry_both places (asks.Device it) p = carry _ (λ (text : List ℕ). Ok (as_output text)) _ p
 
   answers-done : (status : Status) → Passes → (places : Places) (request : Request)
