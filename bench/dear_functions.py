@@ -1,46 +1,32 @@
 #!/usr/bin/env python3
-"""Names the functions of a crate whose proofs took long: dear_functions.py FOLDER CRATE SECONDS [LIMIT]
+"""Names the functions whose proofs are large, and with that dear: dear_functions.py [LIMIT [CRATE..]]
 
-FOLDER is the out/incremental of a check from nothing with one job, which keeps a file for each module once it is
-checked: what lies between one file and the next is what a module took, and all modules of a function count for it.
-What lies before the first file is the start of the prover and is left out. SECONDS is the processor time of the whole
-check: where it is less than the time between the first file and the last, the prover had to wait for a processor,
-and each module's time is cut down alike. LIMIT is the least that is named, in seconds; 20 if it is left out.
-"""
-import collections
-import re
+Read is what a check left in out/incremental of each crate, of all crates if none is named. The compiled code of a function has a
+module of its own, and its size goes with the time: some two to four seconds for a million bytes, with what else the function's proof
+takes. So it counts how large it is, however much ran beside the check. LIMIT is the least that is named, in millions of bytes; 3 if
+it is left out. The last line says how much all functions have, and how much of it those that are named."""
 import sys
-from itertools import pairwise
 from pathlib import Path
 
-# What the names of modules begin with, before the function, and end with, after it.
-BEFORE = re.compile(r"^(proofs|specs\.contracts|specs\.declared|specs)(\.|$)")
-AFTER = re.compile(r"(\.(decls|[A-Z]\w*|[0-9]+))+$")
+CRATES = Path(__file__).resolve().parent.parent / "crates"
+MILLION = 1_000_000
 
 
-def function_of(module):
-    return AFTER.sub("", BEFORE.sub("", module))
+def functions(crate):
+    """The functions of a crate, each with the size of its compiled code as a proof has it."""
+    before, behind = f"Rattle-{crate}-proofs.", ".Lts"
+    for module in (CRATES / crate / "out" / "incremental").rglob(f"{before}*{behind}.oantt"):
+        yield module.stem.removeprefix(before).removesuffix(behind), module.stat().st_size
 
 
-def taken(folder, crate):
-    """What each function took, in seconds by the clock."""
-    start = f"Rattle-{crate}-"
-    files = sorted((it.stat().st_mtime_ns, it.stem) for it in Path(folder).rglob(f"{start}*.oantt"))
-    found = collections.Counter()
-    for (before, _), (after, name) in pairwise(files):
-        found[function_of(name[len(start):])] += (after - before) / 1e9
-    return found
+def main(limit="3", *crates):
+    names = crates or sorted(it.name for it in CRATES.iterdir())
+    found = sorted(((size, crate, function) for crate in names for function, size in functions(crate)), reverse=True)
+    named = [it for it in found if it[0] >= float(limit) * MILLION]
+    for size, crate, function in named:
+        print(f"{size / MILLION:.1f} {crate}: {function}")
+    whole, part = (sum(size for size, _, _ in them) / MILLION for them in (found, named))
+    print(f"{len(found)} functions: {whole:.0f}; these {len(named)}: {part:.0f}")
 
 
-def main(folder, crate, seconds, limit="20"):
-    found = taken(folder, crate)
-    share = min(1, float(seconds) / max(sum(found.values()), 1e-9))
-    for function, time in found.most_common():
-        if time * share >= float(limit):
-            print(f"{crate}: {function or '(what its proofs share)'}: {time * share:.0f} s")
-
-
-if __name__ == "__main__":
-    if len(sys.argv) not in (4, 5):
-        sys.exit(__doc__)
-    main(*sys.argv[1:])
+main(*sys.argv[1:])
