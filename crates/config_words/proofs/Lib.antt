@@ -10,3 +10,4 @@ pub mod JsonBack
 pub mod OrderSteps
 pub mod RuleSteps
 pub mod LineRule
+pub mod MemberSteps
