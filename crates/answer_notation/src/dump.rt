@@ -1,6 +1,6 @@
 //! The packages of a table and their rows.
 
-ghost use Rattle.std.specs.Prelude.{◌≡◌, IfOk};
+ghost use Rattle.std.specs.Prelude.{◌≡◌, [], IfOk};
 ghost use Rattle.std.specs.List.{flat_map};
 ghost use Rattle.contract_words.specs.Writes.{Writes};
 ghost use Rattle.answer_text.specs.type_chunks.Row.{row_of};
@@ -11,7 +11,7 @@ use crate::lone_table::{lone_table, stack_of};
 use crate::naming::Naming;
 use crate::table_row::write_row_end;
 use answer_text::{
-    Row, StackNames, Table, write_flags, write_id, write_its_name, write_package_line,
+    Row, Stack, StackNames, Table, write_flags, write_id, write_its_name, write_package_line,
 };
 use bags_themes::{Package, PackageRows};
 use std::alloc::{AllocError, Global};
@@ -23,10 +23,40 @@ pub fn dump_text(alloc: Global, table: Table<'_>) -> Result<Vec<u8>, AllocError>
     ensures { IfOk result (λ text. text.items ≡ dump_notation table.entry) }
 {
     let stack = stack_of(alloc, table)?;
-    let naming = Naming::of(alloc, &stack, &[])?;
-    let names = StackNames::of(alloc, &stack)?;
-    let mut text = Vec::new(alloc);
-    match write_packages(&naming, &names, lone_table(&stack), &mut text) {
+    let text = text_in(alloc, &stack, lone_table(&stack));
+    drop(stack);
+    text
+}
+
+// The text of a table in a stack.
+fn text_in(alloc: Global, stack: &Stack<'_>, table: &Table<'_>) -> Result<Vec<u8>, AllocError>
+    ensures { IfOk result (λ text. text.items ≡ dump_in (record { stack = stack.now; paths = [] }) table.now) }
+{
+    let naming = Naming::of(alloc, stack, &[])?;
+    let text = named_text(&naming, table);
+    drop(naming);
+    text
+}
+
+fn named_text(naming: &Naming<'_, '_, '_>, table: &Table<'_>) -> Result<Vec<u8>, AllocError>
+    ensures { IfOk result (λ text. text.items ≡ dump_in naming.now table.now) }
+{
+    let names = StackNames::of(naming.alloc(), naming.stack())?;
+    let text = text_with(naming, &names, table);
+    drop(names);
+    text
+}
+
+fn text_with(
+    naming: &Naming<'_, '_, '_>,
+    names: &StackNames<'_, '_>,
+    table: &Table<'_>,
+) -> Result<Vec<u8>, AllocError>
+    requires { names.now ≡ naming.now.stack }
+    ensures { IfOk result (λ text. text.items ≡ dump_in naming.now table.now) }
+{
+    let mut text = Vec::new(naming.alloc());
+    match write_packages(naming, names, table, &mut text) {
         Ok(()) => Ok(text),
         // To a `Vec` only a want of memory is a fault.
         Err(_) => Err(AllocError),

@@ -7,8 +7,8 @@ ghost use Rattle.contract_words.specs.Writes.{Writes};
 ghost use Rattle.answer_notation.specs.Naming.{path_notation};
 
 use answer_text::{
-    BagRow, Keys, ResId, RowKey, Stack, Value, ValueContent, value_content, write_key_notation,
-    write_layer, write_row_notation, write_value_notation,
+    BagRow, Keys, ResId, RowKey, Stack, Value, value_content, write_key_notation, write_layer,
+    write_row_notation, write_value_notation,
 };
 use names::{NamedStack, PackageNames, write_quoted};
 use std::alloc::{AllocError, Global};
@@ -40,7 +40,8 @@ impl<'s, 'a, 'p> Naming<'s, 'a, 'p> {
     ghost use Rattle.std.specs.Prelude.{◌≡◌, map, string_bytes, IfOk};
     ghost use Rattle.contract_words.specs.Writes.{Writes};
     ghost use Rattle.answer_notation.specs.Naming.{id_notation, value_at, key_and_value, row_at, layer_notation};
-    ghost use Rattle.answer_text.specs.ContentSeen.{row_key_of, value_content_of};
+    ghost use Rattle.answer_text.specs.ContentSeen.{row_key_of};
+    ghost use Rattle.answer_text.specs.ValueContent.{value_content};
 
     /// Notes what the ids of a stack are called, whose tables lie at these paths.
     pub fn of(
@@ -78,7 +79,9 @@ impl<'s, 'a, 'p> Naming<'s, 'a, 'p> {
         ensures { Writes W.contents out.old out.new result (id_notation self.now id.0) }
     {
         let label = self.stack.label_of_id(self.alloc, id)?;
-        self.packages.write_label(&label, out)
+        let written = self.packages.write_label(&label, out);
+        drop(label);
+        written
     }
 
     /// Writes what a value says that a row of the layer at a place holds.
@@ -92,7 +95,9 @@ impl<'s, 'a, 'p> Naming<'s, 'a, 'p> {
         ensures { Writes W.contents out.old out.new result (value_at self.now layer value) }
     {
         let content = value_content(self.alloc, &self.stack, layer, value)?;
-        write_value_notation(&self.packages, &content, out)
+        let written = write_value_notation(&self.packages, &content, out);
+        drop(content);
+        written
     }
 
     /// Writes the row of a bag at a place: what tells it from the others, and what it says.
@@ -107,22 +112,26 @@ impl<'s, 'a, 'p> Naming<'s, 'a, 'p> {
         ensures { Writes W.contents out.old out.new result (row_at self.now keys place row) }
     {
         let key = keys.of_row(self.alloc, &self.stack, place, row.name)?;
-        let value = value_content(self.alloc, &self.stack, row.layer, row.value)?;
-        self.write_key_and_value(&key, &value, out)
+        let written = self.write_key_and_value(&key, row, out);
+        drop(key);
+        written
     }
 
     #[tactic(auto, unfolding(crate::specs::Naming::key_and_value))]
     fn write_key_and_value<W: Write + Drop>(
         &self,
         key: &RowKey<'_>,
-        value: &ValueContent<'_>,
+        row: BagRow,
         out: &mut W,
     ) -> io::Result<()>
-        ensures { Writes W.contents out.old out.new result (key_and_value self.now (row_key_of key.now) (value_content_of value.now)) }
+        ensures { Writes W.contents out.old out.new result (key_and_value self.now (row_key_of key.now) (value_content self.now.stack row.layer row.value)) }
     {
         write_key_notation(&self.packages, key, out)?;
         out.write_all(b" ")?;
-        write_row_notation(&self.packages, key, value, out)
+        let value = value_content(self.alloc, &self.stack, row.layer, row.value)?;
+        let written = write_row_notation(&self.packages, key, &value, out);
+        drop(value);
+        written
     }
 
     /// Writes the path of the table of the layer at a place.

@@ -1,6 +1,6 @@
 //! The rows of a table.
 
-ghost use Rattle.std.specs.Prelude.{◌≡◌, IfOk};
+ghost use Rattle.std.specs.Prelude.{◌≡◌, [], IfOk};
 ghost use Rattle.contract_words.specs.Writes.{Writes};
 ghost use Rattle.answer_text.specs.type_chunks.Row.{row_of};
 ghost use Rattle.answer_notation.specs.TableNotation.{row_notation, rows_in, rows_notation};
@@ -8,7 +8,7 @@ ghost use Rattle.answer_notation.specs.TableNotation.{row_notation, rows_in, row
 use crate::lone_table::{lone_table, stack_of};
 use crate::naming::Naming;
 use crate::table_row::write_row_end;
-use answer_text::{Row, Table, write_id, write_totals};
+use answer_text::{Row, Stack, Table, write_id, write_totals};
 use std::alloc::{AllocError, Global};
 use std::io::{self, Write};
 
@@ -18,9 +18,26 @@ pub fn rows_text(alloc: Global, table: Table<'_>) -> Result<Vec<u8>, AllocError>
     ensures { IfOk result (λ text. text.items ≡ rows_notation table.entry) }
 {
     let stack = stack_of(alloc, table)?;
-    let naming = Naming::of(alloc, &stack, &[])?;
-    let mut text = Vec::new(alloc);
-    match write_rows(&naming, lone_table(&stack), &mut text) {
+    let text = text_in(alloc, &stack, lone_table(&stack));
+    drop(stack);
+    text
+}
+
+// The text of a table in a stack.
+fn text_in(alloc: Global, stack: &Stack<'_>, table: &Table<'_>) -> Result<Vec<u8>, AllocError>
+    ensures { IfOk result (λ text. text.items ≡ rows_in (record { stack = stack.now; paths = [] }) table.now) }
+{
+    let naming = Naming::of(alloc, stack, &[])?;
+    let text = named_text(&naming, table);
+    drop(naming);
+    text
+}
+
+fn named_text(naming: &Naming<'_, '_, '_>, table: &Table<'_>) -> Result<Vec<u8>, AllocError>
+    ensures { IfOk result (λ text. text.items ≡ rows_in naming.now table.now) }
+{
+    let mut text = Vec::new(naming.alloc());
+    match write_rows(naming, table, &mut text) {
         Ok(()) => Ok(text),
         // To a `Vec` only a want of memory is a fault.
         Err(_) => Err(AllocError),

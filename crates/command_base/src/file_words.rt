@@ -86,7 +86,7 @@ fn push_each(alloc: Global, words: &[&str], asked: &mut Vec<String>) -> Result<(
 pub fn asked_sets(alloc: Global, words: &[String]) -> Result<Vec<NamedSet<'_>>, Stop<'static>>
     ensures { GivesOrStops sets_held result (each set_asked (map string_bytes words.now)) }
 {
-    let mut sets = Vec::with_capacity(alloc, words.len())?;
+    let mut sets = Vec::new(alloc);
     for word in words {
         let set = set_asked(alloc, word)?;
         sets.push(set)?;
@@ -108,7 +108,7 @@ fn set_asked(alloc: Global, word: &String) -> Result<NamedSet<'_>, Stop<'static>
 pub fn asked_goals(alloc: Global, words: &[String]) -> Result<Vec<NamedGoal<'_>>, Stop<'static>>
     ensures { GivesOrStops goals_held result (each goal_asked (map string_bytes words.now)) }
 {
-    let mut goals = Vec::with_capacity(alloc, words.len())?;
+    let mut goals = Vec::new(alloc);
     for word in words {
         let goal = goal_asked(alloc, word)?;
         goals.push(goal)?;

@@ -1,5 +1,5 @@
 -- Which pairs words ask for.
-use Rattle.std.proofs.Common.{◌≡◌, ◌==◌, ◌||◌, Bool, true, false, cond, List, [], ◌∷◌, ◌++◌, map, length, filter, Option, Some, None, Ok, Err, refl, sym, ap, ◌∙◌, append_assoc, arith}
+use Rattle.std.proofs.Common.{◌≡◌, ◌==◌, ◌||◌, Bool, true, false, cond, List, [], ◌∷◌, ◌++◌, map, length, filter, Option, Some, None, Result, Ok, Err, refl, sym, ap, ◌∙◌, append_assoc, arith}
 use Rattle.std.proofs.Math.Path.{fun_ext}
 use Rattle.std.proofs.lemmas.Bool.{eqb-true}
 use Rattle.std.proofs.lemmas.List.{append-nil, nil_from_length}
@@ -14,7 +14,8 @@ use Rattle.names.specs.NamedSet.{NamedSetOf, named_set_of}
 use Rattle.names.specs.declared.pair.NamePair.{NamePair}
 use Rattle.names.specs.Packages.{PackageNameOf}
 use Rattle.names.specs.Pairs.{PairOf, pair_of}
-use Rattle.names.specs.PairWords.{unless, words_for}
+use Rattle.contract_words.specs.Faults.{◌>>=◌}
+use Rattle.names.specs.PairWords.{asked_in, unless, words_for}
 use Rattle.names.specs.declared.word_set.WordSet.{WordSet}
 use Rattle.names.specs.NamedPairs.{fault_of_found, first_fault, found_of_pairs, is_asked, pairs_in, unless_fault}
 use Rattle.names.specs.WordSet.{has_word, is_same}
@@ -181,3 +182,35 @@ named-kept packages [] pairs some none = absurd cc
 named-kept packages (first ∷ sets) pairs some none =
     let all = map named_set_of (first ∷ sets) in
     ap (λ (found : Option NameFaultOf). unless_fault found (filter (is_asked packages all) pairs)) (unless-none (first_fault packages pairs all) none)
+
+-- ---- which pairs are asked for
+
+pub asked-stops : (packages : List PackageNameOf) (sets : List NamedSetOf) (pairs : List PairOf) (fault : NameFaultOf) → unless (first_fault packages pairs sets) ≡ Err fault → asked_in packages sets pairs ≡ Err fault
+asked-stops packages sets pairs fault some = ap (λ (r : Result (Unit {0}) NameFaultOf). r >>= λ _. Ok (map (is_asked packages sets) pairs)) some
+
+pub asked-all : (packages : List PackageNameOf) (words : WordSet) (sets : List NamedSetOf) (pairs : List NamePair) → unless (first_fault packages (map pair_of pairs) sets) ≡ Ok tt
+    → ((one : NamedSetOf) → has_word words one ≡ list_any (is_same one) sets)
+    → asked_in packages sets (map pair_of pairs) ≡ Ok (map (λ pair. list_any (has_word words) (words_for packages (pair_of pair))) pairs)
+asked-all packages words sets pairs none are =
+    let wrapped : List Bool → Result (List Bool) NameFaultOf = λ asked. Ok asked in
+    ap (λ (r : Result (Unit {0}) NameFaultOf). r >>= λ _. Ok (map (is_asked packages sets) (map pair_of pairs))) none ∙ ap wrapped (sym (each-asked packages words sets pairs are))
+
+asked-cases : (given : Result (Unit {0}) NameFaultOf) (asked : List Bool) (fault : NameFaultOf) → (given >>= λ _. Ok asked) ≡ Err fault → given ≡ Err fault
+asked-cases (Ok none) asked fault is = absurd cc
+asked-cases (Err other) asked fault is = let same : other ≡ fault = cc in ap (λ (f : NameFaultOf). Err f) same
+
+asked-given : (given : Result (Unit {0}) NameFaultOf) (asked told : List Bool) → (given >>= λ _. Ok asked) ≡ Ok told → (given ≡ Ok tt) × (told ≡ asked)
+asked-given (Ok none) asked told is = let same : asked ≡ told = cc in (refl, sym same)
+asked-given (Err other) asked told is = absurd cc
+
+pub asked-fault : (packages : List PackageNameOf) (sets : List NamedSetOf) (pairs : List PairOf) (fault : NameFaultOf) → asked_in packages sets pairs ≡ Err fault → pairs_in packages sets pairs ≡ Err fault
+asked-fault packages sets pairs fault is = named-fault packages sets pairs fault (asked-cases (unless (first_fault packages pairs sets)) (map (is_asked packages sets) pairs) fault is)
+
+-- those that are kept
+pub asked-kept : (packages : List PackageNameOf) (sets : List NamedSet) (pairs : List NamePair) (asked : List Bool) → (length sets == 0) ≡ false
+    → asked_in packages (map named_set_of sets) (map pair_of pairs) ≡ Ok asked → pairs_in packages (map named_set_of sets) (map pair_of pairs) ≡ Ok (map pair_of (items_where_true asked pairs))
+asked-kept packages sets pairs asked some is =
+    let all = map named_set_of sets in
+    let told = asked-given (unless (first_fault packages (map pair_of pairs) all)) (map (is_asked packages all) (map pair_of pairs)) asked is in
+    let kept : List PairOf → Result (List PairOf) NameFaultOf = λ pairs. Ok pairs in
+    named-kept packages sets (map pair_of pairs) some told.0 ∙ ap kept (sym (kept-seen packages all asked pairs (items_where_true asked pairs) told.1 refl))

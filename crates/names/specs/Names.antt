@@ -1,5 +1,5 @@
 -- Names of resources, and the first resource of a name.
-use Rattle.std.specs.Prelude.{ℕ, Bool, false, ◌&&◌, List, [], ◌∷◌, find, filter, map, Option, None, Result}
+use Rattle.std.specs.Prelude.{ℕ, Bool, false, ◌&&◌, List, [], ◌∷◌, find, filter, map, Option, Some, None, Result}
 use Rattle.std.specs.List.{flat_map}
 use Rattle.std.specs.Option.{option_map, option_map_or, option_or}
 use Rattle.std.specs.Str.{bytes_eq}
@@ -39,6 +39,9 @@ in_any_package name = record { «package» = None; name = name }
 
 abbrev pub wanted_name : Option PackageWordOf → List ℕ → List ℕ → WantedOf
 wanted_name in_package type_name entry_name = record { in_package = in_package; name = record { type_name = type_name; entry_name = entry_name } }
+
+abbrev pub wanted_in_package : WantedOf → PackageWordOf → WantedOf
+wanted_in_package wanted word = record { in_package = Some word; name = wanted.name }
 
 -- a name that can be read and is this text
 abbrev pub is_name : Result TextOf StringFault → List ℕ → Bool

@@ -1,13 +1,14 @@
 -- The words that ask for a pair, and for which pairs words ask. Contracts within the crate alone speak of this.
-use Rattle.std.specs.Prelude.{◌≡◌, ◌==◌, ℕ, List, [], ◌∷◌, ◌++◌, Option, Some, None, Result, Ok, Err, if◌then◌else◌}
+use Rattle.std.specs.Prelude.{◌≡◌, ◌==◌, ℕ, Bool, List, [], ◌∷◌, ◌++◌, map, Option, Some, None, Result, Ok, Err, if◌then◌else◌}
 use Rattle.std.specs.List.{flat_map, list_any}
 use Rattle.std.specs.Map.{lookup}
 use Rattle.std.specs.Option.{option_map_or}
+use Rattle.contract_words.specs.Faults.{◌>>=◌}
 use Rattle.res_value.specs.ResId.{package_of}
 use Rattle.res_value.specs.declared.res_id.ResId.{ResId}
 use Rattle.names.specs.Named as word
 use Rattle.names.specs.NameFault.{NameFaultOf}
-use Rattle.names.specs.NamedPairs.{found_of_pairs, id_of_pair}
+use Rattle.names.specs.NamedPairs.{first_fault, found_of_pairs, id_of_pair, is_asked}
 use Rattle.names.specs.NamedSet.{NamedSetOf, SetOfOne, SetOfType, SetOfAll, named_set_of}
 use Rattle.names.specs.PackageWord.{PackageWordOf, Numbered, Called}
 use Rattle.names.specs.Packages.{PackageNameOf}
@@ -66,6 +67,10 @@ AreWordsFor packages pairs words = (one : NamedSetOf) → found_for words one �
 abbrev pub unless : Option NameFaultOf → Result (Unit {0}) NameFaultOf
 unless (Some fault) = Err fault
 unless None = Ok tt
+
+-- of each pair whether some word asks for it, where each word asks for some
+abbrev pub asked_in : List PackageNameOf → List NamedSetOf → List PairOf → Result (List Bool) NameFaultOf
+asked_in packages sets pairs = unless (first_fault packages pairs sets) >>= λ _. Ok (map (is_asked packages sets) pairs)
 
 -- these words ask for an id too
 pub record PutsFor (words : List NamedSetOf) (id : ResId) (old new : PairWords) : Type 0 where

@@ -3,7 +3,6 @@
 ghost use Rattle.std.specs.Prelude.{◌≡◌};
 ghost use Rattle.names.specs.declared.fault.NameFault.TheVariants.{OutOfMemory};
 
-use crate::name::Name;
 use crate::named::Named;
 use crate::named_set::{ALL, NamedSet};
 use crate::packages::PackageName;
@@ -53,15 +52,9 @@ impl NameFault {
     ) -> NameFault
         ensures { result ≢ OutOfMemory → name_fault_of result ≡ two_resources (two_text (map package_name_of packages.now) (wanted_of wanted.entry) first other) }
     {
-        let Name {
-            type_name,
-            entry_name,
-        } = wanted.name;
-        let first = package_word_for(packages, first.package());
-        let other = package_word_for(packages, other.package());
-        match format!(in alloc;
-            "{wanted}: {first}:{type_name}/{entry_name}, {other}:{type_name}/{entry_name}"
-        ) {
+        let first = wanted.in_package(package_word_for(packages, first.package()));
+        let other = wanted.in_package(package_word_for(packages, other.package()));
+        match format!(in alloc; "{wanted}: {first}, {other}") {
             Ok(text) => NameFault::TwoResources(text),
             Err(_) => NameFault::OutOfMemory,
         }

@@ -1,6 +1,7 @@
 //! The goals of words.
 
-ghost use Rattle.std.specs.Prelude.{◌≡◌, ℕ, ◌++◌, ◌∷◌, [], List, map, take, IfOk, OnOk};
+ghost use Rattle.std.specs.Prelude.{◌≡◌, ◌++◌, ◌∷◌, [], List, map, IfOk, OnOk};
+ghost use Rattle.std.specs.List.{flat_map};
 ghost use Rattle.overlay_map.specs.Layer.{LayerOf};
 ghost use Rattle.res_value.specs.Goal.{goal_seen, IdGoal};
 ghost use Rattle.names.specs.Names.{WantedOf};
@@ -18,7 +19,6 @@ use crate::named_goal::NamedGoal;
 use overlay_map::{ResId, Stack};
 use res_value::Goal;
 use std::alloc::{AllocError, Global};
-use std::rc::Rc;
 
 /// The goals that words ask for, one word after the other: one for each id of a set, or for an attribute under styles; of all
 /// these the first, at most so many. What is not there is told wherever it stands. All names are looked up in one walk over the
@@ -33,9 +33,23 @@ pub fn first_goals(
 {
     let names = names_in_goals(alloc, goals)?;
     let mut finder = Finder::new(alloc, stack, &names)?;
+    let first = first_found(alloc, &mut finder, goals, most);
+    drop(finder);
+    first
+}
+
+// The first of them, where their names are looked up.
+fn first_found<'n>(
+    alloc: Global,
+    finder: &mut Finder<'_, '_, 'n>,
+    goals: &[NamedGoal<'n>],
+    most: usize,
+) -> Result<Vec<Goal>, NameFault>
+    ensures { (layers : List LayerOf) → Tells layers (flat_map (λ goal. names_in_goal (named_goal_of goal)) goals.now) finder.old → GivesNamed (λ first. map goal_seen first.items) result (first_goals layers (map named_goal_of goals.now) most) }
+{
     let mut first = Vec::new(alloc);
     for goal in goals {
-        let found = goals_of_word(alloc, &mut finder, goal)?;
+        let found = goals_of_word(alloc, finder, goal)?;
         found.push_first(most, &mut first)?;
     }
     Ok(first)
@@ -46,7 +60,7 @@ pub fn first_goals(
 enum WordGoals {
     One(Goal),
     /// One for each of these ids.
-    Each(Rc<Vec<ResId>>),
+    Each(Vec<ResId>),
 }
 
 impl WordGoals {

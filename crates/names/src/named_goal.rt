@@ -69,7 +69,7 @@ fn attr_of_parts<'a>(alloc: Global, word: GoalWord<'a>) -> Result<NamedGoal<'a>,
 fn each_named<'a>(alloc: Global, texts: &[&'a str]) -> Result<Vec<Named<'a>>, GoalFault>
     ensures { GivesOr OutOfMemory (λ named. map named_of named.items) result (each style_in (map (λ text. text.now) texts.now)) }
 {
-    let mut all = Vec::with_capacity(alloc, texts.len())?;
+    let mut all = Vec::new(alloc);
     for text in texts {
         let named = style_in(*text)?;
         all.push(named)?;

@@ -96,6 +96,7 @@ impl<'s, 'a> NamedStack<'s, 'a> {
         if self.id_of_name(&label) == Some(id) {
             Ok(label)
         } else {
+            drop(label);
             Ok(Label::Id(id))
         }
     }

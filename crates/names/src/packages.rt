@@ -4,6 +4,7 @@ ghost use Rattle.std.specs.Prelude.{◌≡◌, ◌++◌, map, Ok, IfOk, OnOk};
 ghost use Rattle.std.specs.List.{list_any};
 ghost use Rattle.std.specs.Option.{option_map};
 ghost use Rattle.overlay_map.specs.resource_table.Package.{packages_of};
+ghost use Rattle.names.specs.NamedIds as of_layers;
 ghost use Rattle.names.specs.PackageWord.{package_word_of};
 ghost use Rattle.names.specs.Packages.{package_name_of, name_of_package, packages_in, is_called, is_asked_in};
 
@@ -58,12 +59,23 @@ impl<'a> PackageNames<'a> {
     ) -> Result<PackageNames<'a>, AllocError>
         ensures { IfOk result (λ packages. packages ≡ of_layers.packages_of old.now ++ of_layers.packages_of new.now) }
     {
-        let old_tables = old.base_tables(alloc)?;
-        let new_tables = new.base_tables(alloc)?;
-        let mut all = packages_in(alloc, &old_tables)?;
-        push_packages_in(alloc, &new_tables, &mut all)?;
+        let mut all = Vec::new(alloc);
+        push_packages_of(alloc, old, &mut all)?;
+        push_packages_of(alloc, new, &mut all)?;
         Ok(PackageNames { all })
     }
+}
+
+// Pushes those of the base layers of a stack behind others.
+fn push_packages_of<'a>(
+    alloc: Global,
+    stack: &Stack<'a>,
+    all: &mut Vec<PackageName<'a>>,
+) -> Result<(), AllocError>
+    ensures { OnOk result (map package_name_of all.new.items ≡ map package_name_of all.old.items ++ of_layers.packages_of stack.now) }
+{
+    let tables = stack.base_tables(alloc)?;
+    push_packages_in(alloc, &tables, all)
 }
 
 /// The packages of all tables that are looked at.
@@ -99,8 +111,8 @@ pub(crate) fn packages_in<'a>(
     Ok(all)
 }
 
-/// Pushes them behind others.
-pub(crate) fn push_packages_in<'a>(
+// Pushes them behind others.
+fn push_packages_in<'a>(
     alloc: Global,
     tables: &[&Table<'a>],
     all: &mut Vec<PackageName<'a>>,

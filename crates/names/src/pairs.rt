@@ -1,13 +1,15 @@
 //! The pairs of words.
 
-ghost use Rattle.std.specs.Prelude.{◌≡◌, ◌++◌, List, map, IfOk};
-ghost use Rattle.std.specs.List.{items_where_true};
+ghost use Rattle.std.specs.Prelude.{◌++◌, List, map, Ok};
+ghost use Rattle.std.specs.List.{items_where_true, list_any};
 ghost use Rattle.names.specs.NamedSet.{named_set_of};
 ghost use Rattle.names.specs.Pairs.{PairOf, pair_of};
 ghost use Rattle.names.specs.NameFault.{GivesNamed};
-ghost use Rattle.names.specs.NamedPairs.{fault_of_found, first_fault, is_asked, pairs_in, pairs_named};
+ghost use Rattle.names.specs.NamedPairs.{fault_of_found, first_fault, pairs_named};
+ghost use Rattle.names.specs.NamedIds.{packages_of};
 ghost use Rattle.names.specs.Packages.{package_name_of};
-ghost use Rattle.names.specs.PairWords.{unless, AreWordsFor};
+ghost use Rattle.names.specs.WordSet.{has_word};
+ghost use Rattle.names.specs.PairWords.{asked_in, unless, words_for, AreWordsFor};
 ghost use Rattle.names.specs.declared.found.Found.TheVariants.{Two};
 
 use crate::fault::NameFault;
@@ -22,7 +24,7 @@ use crate::wanted::Wanted;
 use crate::word_set::WordSet;
 use crate::words_for::words_for;
 use overlay_map::ResId;
-use std::alloc::{AllocError, Global};
+use std::alloc::Global;
 
 /// Those pairs of two stacks for which some word asks, in their order; all of them without words. An id asks for a pair
 /// that it stands for in either stack, and a name for the pair that has it: in the package that it names, or in any, as long as
@@ -41,25 +43,40 @@ pub fn pairs_named<'a>(
 ) -> Result<Vec<NamePair<'a>>, NameFault>
     ensures { GivesNamed (λ named. map pair_of named.items) result (pairs_named old.now new.now (map named_set_of sets.now) (map pair_of pairs.entry.items)) }
 {
-    let packages = PackageNames::of_both(alloc, old.stack(), new.stack())?;
-    pairs_in(alloc, &packages.all, pairs, &*sets)
-}
-
-fn pairs_in<'a>(
-    alloc: Global,
-    packages: &[PackageName<'_>],
-    pairs: Vec<NamePair<'a>>,
-    sets: &[NamedSet<'_>],
-) -> Result<Vec<NamePair<'a>>, NameFault>
-    ensures { GivesNamed (λ named. map pair_of named.items) result (pairs_in (map package_name_of packages.now) (map named_set_of sets.now) (map pair_of pairs.entry.items)) }
-{
     if sets.is_empty() {
         return Ok(pairs);
     }
-    check_words(alloc, &*packages, &pairs, &*sets)?;
-    let asked = are_asked(alloc, &*packages, &pairs, &*sets)?;
-    let kept = keep(alloc, pairs, asked)?;
-    Ok(kept)
+    let asked = asked_pairs(alloc, old, new, &pairs, &*sets)?;
+    keep(alloc, pairs, asked)
+}
+
+// Of each pair whether some word asks for it, where each word asks for some.
+fn asked_pairs<'a>(
+    alloc: Global,
+    old: &NamedStack<'_, 'a>,
+    new: &NamedStack<'_, 'a>,
+    pairs: &[NamePair<'a>],
+    sets: &[NamedSet<'_>],
+) -> Result<Vec<bool>, NameFault>
+    ensures { GivesNamed (λ asked. asked.items) result (asked_in (packages_of old.now ++ packages_of new.now) (map named_set_of sets.now) (map pair_of pairs.now)) }
+{
+    let packages = PackageNames::of_both(alloc, old.stack(), new.stack())?;
+    let asked = asked_in(alloc, &packages.all, &*pairs, &*sets);
+    drop(packages);
+    asked
+}
+
+fn asked_in<'n>(
+    alloc: Global,
+    packages: &'n [PackageName<'_>],
+    pairs: &'n [NamePair<'_>],
+    sets: &[NamedSet<'n>],
+) -> Result<Vec<bool>, NameFault>
+    ensures { GivesNamed (λ asked. asked.items) result (asked_in (map package_name_of packages.entry.now) (map named_set_of sets.now) (map pair_of pairs.entry.now)) }
+{
+    check_words(alloc, packages, pairs, sets)?;
+    let words = WordSet::of_sets(alloc, sets)?;
+    are_asked(alloc, packages, &words, pairs)
 }
 
 // The fault of the first word that has one.
@@ -130,17 +147,16 @@ fn check_two(
     }
 }
 
-// Of each pair whether some word asks for it.
+// Of each pair whether one of these words asks for it.
 fn are_asked<'n>(
     alloc: Global,
     packages: &'n [PackageName<'_>],
+    words: &WordSet<'n>,
     pairs: &'n [NamePair<'_>],
-    sets: &[NamedSet<'n>],
-) -> Result<Vec<bool>, AllocError>
-    ensures { IfOk result (λ asked. asked.items ≡ map (is_asked (map package_name_of packages.entry.now) (map named_set_of sets.now)) (map pair_of pairs.entry.now)) }
+) -> Result<Vec<bool>, NameFault>
+    ensures { GivesNamed (λ asked. asked.items) result (Ok (map (λ pair. list_any (has_word words.now) (words_for (map package_name_of packages.entry.now) (pair_of pair))) pairs.entry.now)) }
 {
-    let words = WordSet::of_sets(alloc, sets)?;
-    let mut asked = Vec::with_capacity(alloc, pairs.len())?;
+    let mut asked = Vec::new(alloc);
     for pair in pairs {
         let for_pair = words_for(alloc, packages, pair)?;
         asked.push(words.has_any(&for_pair))?;
@@ -153,8 +169,8 @@ fn keep<'a>(
     alloc: Global,
     pairs: Vec<NamePair<'a>>,
     asked: Vec<bool>,
-) -> Result<Vec<NamePair<'a>>, AllocError>
-    ensures { IfOk result (λ kept. kept.items ≡ items_where_true asked.items pairs.entry.items) }
+) -> Result<Vec<NamePair<'a>>, NameFault>
+    ensures { GivesNamed (λ kept. map pair_of kept.items) result (Ok (map pair_of (items_where_true asked.items pairs.entry.items))) }
 {
     let mut flags = asked.into_iter();
     let mut kept = Vec::new(alloc);

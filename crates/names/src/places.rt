@@ -27,13 +27,8 @@ impl<'n> Places<'n> {
     pub fn push(&mut self, alloc: Global, entry: &'n [u8], place: usize) -> Result<(), AllocError>
         ensures { OnOk result ((bytes : List ℕ) → places_at self.new bytes ≡ (if bytes_eq entry.now bytes then places_at self.old entry.now ++ place ∷ [] else places_at self.old bytes)) }
     {
-        if let Some(places) = self.by_entry.get_mut(entry) {
-            places.push(place)?;
-            return Ok(());
-        }
-        let mut places = Vec::new(alloc);
+        let places = self.by_entry.entry(entry)?.or_insert(Vec::new(alloc));
         places.push(place)?;
-        self.by_entry.insert(entry, places)?;
         Ok(())
     }
 

@@ -65,7 +65,11 @@ pub(crate) fn is_text(
     ensures { IfOk result (λ same. same ≡ is_name (seen_text name.entry) text.now) }
 {
     match name_text(alloc, name)? {
-        Some(own) => Ok(own.as_str() == text),
+        Some(own) => {
+            let same = own.as_str() == text;
+            drop(own);
+            Ok(same)
+        }
         None => Ok(false),
     }
 }

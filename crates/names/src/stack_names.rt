@@ -116,8 +116,9 @@ fn word_among(
     let Some(label) = first_name(alloc, stack, id)? else {
         return Ok(None);
     };
-    let word = label_word(alloc, packages, &label)?;
-    Ok(Some(word))
+    let word = label_word(alloc, packages, &label);
+    drop(label);
+    Ok(Some(word?))
 }
 
 fn label_word(

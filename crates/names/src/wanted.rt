@@ -2,7 +2,7 @@
 
 ghost use Rattle.std.specs.Prelude.{◌≡◌, Some};
 ghost use Rattle.std.specs.Option.{option_map};
-ghost use Rattle.names.specs.Names.{wanted_name, wanted_of};
+ghost use Rattle.names.specs.Names.{wanted_in_package, wanted_name, wanted_of};
 ghost use Rattle.names.specs.PackageWord.{package_word_of};
 ghost use Rattle.names.specs.WordText.{wanted_text};
 
@@ -34,6 +34,16 @@ impl<'n> Wanted<'n> {
             },
         }
     }
+
+    /// The same name in a package.
+    pub fn in_package(self, word: PackageWord<'n>) -> Wanted<'n>
+        ensures { wanted_of result ≡ wanted_in_package (wanted_of self.entry) (package_word_of word.entry) }
+    {
+        Wanted {
+            package: Some(word),
+            name: self.name,
+        }
+    }
 }
 
 /// Shows the word that asks for it.
@@ -41,13 +51,13 @@ impl fmt::Display for Wanted<'_> {
     ghost output = { λ wanted. Some (wanted_text (wanted_of wanted)) };
 
     fn fmt<W: fmt::Write>(&self, f: &mut fmt::Formatter<W>) -> fmt::Result {
-        if let Some(package) = self.package {
-            write!(f, "{package}:")?;
-        }
         let Name {
             type_name,
             entry_name,
         } = self.name;
-        write!(f, "{type_name}/{entry_name}")
+        match self.package {
+            Some(package) => write!(f, "{package}:{type_name}/{entry_name}"),
+            None => write!(f, "{type_name}/{entry_name}"),
+        }
     }
 }

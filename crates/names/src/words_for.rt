@@ -50,19 +50,17 @@ fn push_ids(sides: Sides, words: &mut Vec<NamedSet<'_>>) -> Result<(), AllocErro
     ensures { OnOk result (map named_set_of words.new.items ≡ map named_set_of words.old.items ++ words_for_sides sides) }
 {
     match sides {
-        Sides::Removed { old: id } | Sides::Added { new: id } => push_id(id, words),
-        Sides::Both { old, new } => {
-            push_id(old, words)?;
-            push_id(new, words)
+        Sides::Removed { old: id } | Sides::Added { new: id } => {
+            words.extend_from_slice(&[by_id(id)])
         }
+        Sides::Both { old, new } => words.extend_from_slice(&[by_id(old), by_id(new)]),
     }
 }
 
-fn push_id(id: ResId, words: &mut Vec<NamedSet<'_>>) -> Result<(), AllocError>
-    ensures { OnOk result (map named_set_of words.new.items ≡ map named_set_of words.old.items ++ by_id id ∷ []) }
+fn by_id(id: ResId) -> NamedSet<'static>
+    ensures { named_set_of result ≡ by_id id }
 {
-    words.push(NamedSet::One(Named::Id(id)))?;
-    Ok(())
+    NamedSet::One(Named::Id(id))
 }
 
 fn push_names<'n>(
@@ -141,14 +139,15 @@ fn push_name<'n>(
 ) -> Result<(), AllocError>
     ensures { OnOk result (map named_set_of words.new.items ≡ map named_set_of words.old.items ++ words_with type_name.entry.now entry_name.entry.now (option_map package_word_of word.entry)) }
 {
-    words.push(NamedSet::OfType {
-        package: word,
-        type_name,
-    })?;
-    words.push(NamedSet::One(Named::Name {
-        package: word,
-        type_name,
-        entry_name,
-    }))?;
-    Ok(())
+    words.extend_from_slice(&[
+        NamedSet::OfType {
+            package: word,
+            type_name,
+        },
+        NamedSet::One(Named::Name {
+            package: word,
+            type_name,
+            entry_name,
+        }),
+    ])
 }

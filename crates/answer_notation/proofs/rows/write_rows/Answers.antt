@@ -35,3 +35,14 @@ loop-row-preserved-then-set_aside g c = record {
   small = omega (arith, ap length c.in-Some.ensures.steps);
   fewer = omega arith;
 }
+
+pub loop-row-preserved : goal.loop-row-preserved
+loop-row-preserved g c = record {
+  can = tt;
+  ends = tt;
+  texts = PutsAllBut-next _ _ _ _ _ _ _ _ c.loop-row.invariant.texts c.in-Some.ensures.steps c.in_ok-write_row.ensures;
+  counted = omega (arith, ap length c.in-Some.ensures.steps);
+  of_them = grind (arith, common_steps);
+  small = omega (arith, ap length c.in-Some.ensures.steps);
+  fewer = omega arith;
+}

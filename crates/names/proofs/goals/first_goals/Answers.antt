@@ -1,62 +1,10 @@
-use Rattle.std.proofs.Common.{List, [], map, ap, subst, sym, ◌∙◌}
-use Rattle.std.proofs.lemmas.List.{drop_all}
-use Rattle.std.proofs.lemmas.Result.{err_from_is_err_and}
-use Rattle.contract_words.specs.Sequences.{joined_each}
-use Rattle.contract_words.proofs.SequenceSteps.{with_front_nil}
-use Rattle.res_value.specs.Goal.{goal_seen}
-use Rattle.res_value.specs.declared.goal.Goal.{Goal}
+use Rattle.std.proofs.Common.{List, map, ap, subst, ◌∙◌}
 use Rattle.names.specs.declared.wanted.Wanted.{Wanted}
 use Rattle.names.specs.Names.{WantedOf, wanted_of}
-use Rattle.names.specs.declared.named_goal.NamedGoal.{NamedGoal}
-use Rattle.names.specs.NamedGoal.{named_goal_of}
-use Rattle.names.specs.AskedNames.{names_in_goal}
 use Rattle.names.specs.Finder.{Tells}
-use Rattle.names.specs.NamedGoals.{goals_of_word, goals_named}
-use Rattle.names.proofs.AskedSteps.{split_at}
-use Rattle.names.proofs.FirstSteps.{FirstBut-next, FirstBut-stops, FirstBut-end, first-missing, take-none}
-use Rattle.names.proofs.TellsSteps.{Tells-first}
 use Rattle.names.proofs.goals.first_goals.Goals as goal
-
-pub loop-goal-init : goal.loop-goal-init
-unfolding goals_named
-loop-goal-init c =
-    let stack = c.args.stack.now in
-    record {
-      tells = subst (λ (names : List WantedOf). Tells stack names c.in_ok-finder.finder) (ap (λ (names : List Wanted). map wanted_of names) c.deref.ensures.value ∙ c.in_ok-names.ensures) c.in_ok-finder.ensures;
-      read = record {
-        so_far = [];
-        are = ap (λ (goals : List Goal). map goal_seen goals) c.new-first.ensures.items ∙ sym (take-none c.args.most);
-        read = record { others = with_front_nil (joined_each (goals_of_word stack) (map named_goal_of c.args.goals.now)) };
-      };
-    }
-
-pub loop-goal-preserved : goal.loop-goal-preserved
-loop-goal-preserved c =
-    let so_far = c.loop-goal.invariant in
-    let stack = c.args.stack.now in
-    let word = c.goal-item.result in
-    let split = split_at c.args.goals.now c.loop-goal.goal-index word c.loop-goal-test.true c.goal-item.is in
-    let first = Tells-first (λ (goal : NamedGoal). names_in_goal (named_goal_of goal)) stack _ _ _ word so_far.tells split in
-    record {
-      tells = c.in_ok-found.ensures.left stack _ first;
-      read = FirstBut-next (goals_of_word stack) c.args.most _ _ _ _ _ (named_goal_of word) _ so_far.read (ap (λ (left : List NamedGoal). map named_goal_of left) split)
-          (c.in_ok-found.ensures.found stack _ first) c.in_ok-push_first.ensures;
-    }
-
-pub returns-in_err-found : goal.returns-in_err-found
-returns-in_err-found c =
-    let so_far = c.loop-goal.invariant in
-    let stack = c.args.stack.now in
-    let word = c.goal-item.result in
-    let split = split_at c.args.goals.now c.loop-goal.goal-index word c.loop-goal-test.true c.goal-item.is in
-    let first = Tells-first (λ (goal : NamedGoal). names_in_goal (named_goal_of goal)) stack _ _ _ word so_far.tells split in
-    let p = err_from_is_err_and c.from_residual-in_err-found.result c.from_residual-in_err-found.ensures.1 in
-    rw (p.1, p.2) (λ other.
-    first-missing stack (map named_goal_of c.args.goals.now) c.args.most _
-    (FirstBut-stops (goals_of_word stack) c.args.most _ _ _ (named_goal_of word) _ _ so_far.read (ap (λ (left : List NamedGoal). map named_goal_of left) split)
-    (c.in_err-found.ensures.found stack _ first other)))
 
 pub returns : goal.returns
 returns c =
-    FirstBut-end (goals_of_word c.args.stack.now) c.args.stack.now (map named_goal_of c.args.goals.now) c.args.most _ _ c.loop-goal.invariant.read
-    (ap (λ (left : List NamedGoal). map named_goal_of left) (drop_all c.loop-goal.goal-index c.args.goals.now c.loop-goal-test.false))
+    c.first_found-first.ensures c.args.stack.now
+    (subst (λ (names : List WantedOf). Tells c.args.stack.now names c.in_ok-finder.finder) (ap (λ (names : List Wanted). map wanted_of names) c.deref.ensures.value ∙ c.in_ok-names.ensures) c.in_ok-finder.ensures)

@@ -1,0 +1,10 @@
+use Rattle.std.proofs.Common.{◌≡◌, filter, map, take}
+use Rattle.std.specs.Option.{option_map}
+use Rattle.res_value.specs.ResId.{package_of}
+use Rattle.names.specs.PackageWord.{package_word_of}
+use Rattle.names.specs.Finder.{known_at}
+use Rattle.names.specs.Packages.{is_asked_in, package_name_of}
+use Rattle.names.proofs.finder.Finder.known_ids.Given as goal
+
+abbrev pub invariant-loop-id : goal.invariant-loop-id
+invariant-loop-id l = l.kept.items ≡ filter (λ id. is_asked_in (map package_name_of l.self.packages.items) (option_map package_word_of l.word) (package_of id)) (take l.id-index (known_at l.self.known l.type_name))
