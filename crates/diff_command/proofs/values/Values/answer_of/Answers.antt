@@ -1,0 +1,18 @@
+use Rattle.std.proofs.Common.{◌≡◌, map, sym, ap, ◌∙◌}
+use Rattle.command_base.specs.FileWords.{sets_held}
+use Rattle.command_base.specs.names.NamedSet.{named_set_of}
+use Rattle.diff_command.specs.AskedPairs.{asked_of}
+use Rattle.diff_command.specs.Diff.{opened_asked}
+use Rattle.diff_command.specs.Values.{opened_values, values_held, values_inputs_by}
+use Rattle.diff_command.proofs.Asked.{opened-with}
+use Rattle.diff_command.proofs.values.Values.answer_of.Goals as goal
+
+pub returns-clause-answers : goal.returns-clause-answers
+returns-clause-answers g c =
+    let held = values_held c.args.files.now in
+    let opened = opened_values c.in_ok-opened.opened in
+    let read = values_inputs_by c.args.self.now.locales held.layers held.box_json in
+    let words = rw c.deref.ensures.value at c.in_ok-sets.ensures in
+    let meant : opened_asked held.words read ≡ asked_of opened (map named_set_of c.deref-2.result.now) =
+    opened-with held.words (sets_held c.in_ok-sets.sets) read opened words c.in_ok-opened.ensures.value ∙ ap (λ sets. asked_of opened (map named_set_of sets)) (sym c.deref-2.ensures.value) in
+    rw meant c.values_asked.ensures.answers
