@@ -8,7 +8,7 @@ use Rattle.command_base.specs.StackBytes.{LayerBytes}
 use Rattle.command_base.specs.json_input.Each.{each}
 use Rattle.stack_diff.specs.config_box.config_record.locales.declared.locale_rule.LocaleRule.{LocaleRule}
 use Rattle.stack_diff.specs.names.NamedSet.{NamedSetOf}
-use Rattle.command_base.specs.Output.{Output, Prints, PrintsOneOf, negative_if}
+use Rattle.command_base.specs.Output.{Prints, PrintsOneOf, negative_if}
 use Rattle.command_base.specs.overlay_map.Layer.{LayerOf}
 use Rattle.command_base.specs.declared.fault.ToolFault.{ToolFault}
 use Rattle.command_base.specs.declared.fault.ToolFault.TheVariants.{OutOfMemory, Write}

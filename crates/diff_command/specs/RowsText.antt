@@ -5,18 +5,18 @@ use Rattle.answer_text.specs.Content.{RowContentOf}
 use Rattle.answer_text.specs.InForm.{key_in, row_value_in}
 use Rattle.stack_diff.specs.names.Packages.{PackageNameOf}
 
--- `KEY VALUE`
-unfoldable pub row_text : Form → List PackageNameOf → RowContentOf → List ℕ
-row_text form packages row = key_in form packages row.key ++ codes " " ++ row_value_in form packages row.key row.value ++ 10 ∷ []
+-- the line `KEY VALUE` of a row, behind these words
+unfoldable pub row_behind : List ℕ → Form → List PackageNameOf → RowContentOf → List ℕ
+row_behind words form packages row = words ++ key_in form packages row.key ++ codes " " ++ row_value_in form packages row.key row.value ++ 10 ∷ []
 
 -- the line `  removed KEY VALUE`
-unfoldable pub removed_row : Form → List PackageNameOf → RowContentOf → List ℕ
-removed_row form packages row = codes "  removed " ++ row_text form packages row
+abbrev pub removed_row : Form → List PackageNameOf → RowContentOf → List ℕ
+removed_row = row_behind (codes "  removed ")
 
 -- the line `  added KEY VALUE`
-unfoldable pub added_row : Form → List PackageNameOf → RowContentOf → List ℕ
-added_row form packages row = codes "  added " ++ row_text form packages row
+abbrev pub added_row : Form → List PackageNameOf → RowContentOf → List ℕ
+added_row = row_behind (codes "  added ")
 
 -- the line `  KEY VALUE`
-unfoldable pub value_row : Form → List PackageNameOf → RowContentOf → List ℕ
-value_row form packages row = codes "  " ++ row_text form packages row
+abbrev pub value_row : Form → List PackageNameOf → RowContentOf → List ℕ
+value_row = row_behind (codes "  ")

@@ -1,11 +1,11 @@
 -- What the command `unused` prints.
-use Rattle.std.specs.Prelude.{◌≡◌, ℕ, ◌+◌, ◌*◌, List, [], ◌∷◌, ◌++◌, fold, length, Option, Some, None, codes, nat_lt}
+use Rattle.std.specs.Prelude.{ℕ, ◌+◌, ◌*◌, List, [], ◌∷◌, ◌++◌, fold, length, Option, Some, None, codes, nat_lt}
 use Rattle.std.specs.Fmt.{decimal}
 use Rattle.std.specs.List.{enumerate_from, flat_map, zip}
 use Rattle.answer_notation.specs.Naming.{NamingOf, id_notation}
 use Rattle.answer_notation.specs.TableNotation.{alone, row_end_notation}
 use Rattle.answer_text.specs.LayerText.{layer_text}
-use Rattle.answer_text.specs.resource_table.Table.{TableOf, rows_of}
+use Rattle.answer_text.specs.resource_table.Table.{rows_of}
 use Rattle.answer_text.specs.type_chunks.Row.{RowOf}
 use Rattle.command_base.specs.Output.{Output, negative_if}
 use Rattle.command_base.specs.overlay_map.Layer.{LayerOf}

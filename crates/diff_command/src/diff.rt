@@ -20,7 +20,7 @@ use crate::opened::{NamedDiff, OpenedDiff};
 use crate::told::Told;
 use answer_text::Form;
 use command_base::{
-    Inputs, LayerFiles, LayerParts, LocaleRule, Progress, Side, Status, Stop, ToolFault,
+    Inputs, LayerFiles, LayerParts, LocaleRule, NamedSet, Progress, Side, Status, Stop, ToolFault,
     asked_sets, asked_words, file_bytes,
 };
 use stack_diff::{NamePair, Stacks};
@@ -111,9 +111,31 @@ impl<'a> Diff<'a> {
     {
         let sets = asked_sets(alloc, words)?;
         let opened = OpenedDiff::read_by(alloc, old, new, box_json, self.locales)?;
-        let named = opened.named(alloc)?;
-        let pairs = asked_pairs(alloc, named.stacks(), &sets)?;
-        Ok(named.diff(alloc, self.form, &pairs, self.max_nodes, progress, out)?)
+        opened.diff_asked(alloc, self, &sets, progress, out)
+    }
+}
+
+impl OpenedDiff<'_> {
+    ghost use Rattle.diff_command.specs.AskedPairs.{asked_of};
+    ghost use Rattle.diff_command.specs.OpenedSeen.{opened_diff};
+    ghost use Rattle.stack_diff.specs.names.NamedSet.{named_set_of};
+
+    // Finds what words ask for, and then prints what becomes of it.
+    fn diff_asked<P: Progress, W: Write + Drop>(
+        &self,
+        alloc: Global,
+        asked: &Diff<'_>,
+        sets: &[NamedSet<'_>],
+        progress: &mut P,
+        out: &mut W,
+    ) -> Result<Status, Stop<'static>>
+        ensures answers { DiffsOpened W.contents out.old out.new asked.now.form asked.now.max_nodes
+            (asked_of (opened_diff self.now) (map named_set_of sets.now)) result }
+        ensures unwritten { IsKept out.old out.new result }
+    {
+        let named = self.named(alloc)?;
+        let pairs = asked_pairs(alloc, named.stacks(), sets)?;
+        Ok(named.diff(alloc, asked.form, &pairs, asked.max_nodes, progress, out)?)
     }
 }
 

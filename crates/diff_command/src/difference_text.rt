@@ -9,9 +9,7 @@ ghost use Rattle.diff_command.specs.DifferenceText.{row_line, rows_in, before_an
 
 use crate::content_text::{write_content, write_content_behind};
 use crate::devices_text::write_devices_in;
-use crate::rows_text::{
-    write_added_row, write_added_rows, write_removed_row, write_removed_rows, write_value_rows,
-};
+use crate::rows_text::{write_row_behind, write_rows_behind};
 use answer_text::{Content, Form, RowContent, write_key_in, write_row_value_in};
 use stack_diff::{ConfigBox, Difference, PackageNames, RowDifference};
 use std::io::{self, Write};
@@ -73,11 +71,11 @@ fn write_row_lines<W: Write + Drop>(
     match difference {
         Difference::Rows(rows) => write_rows(form, packages, rows, out),
         Difference::Contents { before, after } => {
-            write_removed_rows(form, packages, rows_in(before), out)?;
-            write_added_rows(form, packages, rows_in(after), out)
+            write_rows_behind(b"  removed ", form, packages, rows_in(before), out)?;
+            write_rows_behind(b"  added ", form, packages, rows_in(after), out)
         }
         Difference::FromNothing(content) => {
-            write_value_rows(form, packages, rows_in(content), out)
+            write_rows_behind(b"  ", form, packages, rows_in(content), out)
         }
     }
 }
@@ -107,8 +105,8 @@ fn write_row<W: Write + Drop>(
     ensures { Writes W.contents out.old out.new result (row_line form packages.now (row_difference_of row.now)) }
 {
     match row {
-        RowDifference::Removed(row) => write_removed_row(form, packages, row, out),
-        RowDifference::Added(row) => write_added_row(form, packages, row, out),
+        RowDifference::Removed(row) => write_row_behind(b"  removed ", form, packages, row, out),
+        RowDifference::Added(row) => write_row_behind(b"  added ", form, packages, row, out),
         RowDifference::Changed { key, before, after } => {
             out.write_all(b"  ")?;
             write_key_in(form, packages, key, out)?;

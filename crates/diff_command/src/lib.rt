@@ -53,7 +53,6 @@ mod diff;
 mod difference_text;
 mod judged;
 mod lines;
-mod name_lines;
 mod opened;
 mod rows_text;
 mod told;

@@ -8,9 +8,9 @@ ghost use Rattle.stack_diff.specs.names.Pairs.{pair_of};
 ghost use Rattle.stack_diff.specs.names.Shared.{shared_ids};
 ghost use Rattle.stack_diff.specs.Stacks.{stacks_of};
 ghost use Rattle.diff_command.specs.Judged.{told_of};
+ghost use Rattle.diff_command.specs.NameLines.{same_line};
 ghost use Rattle.diff_command.specs.DiffLines.{block_lines, told_lines, label_lines, says_same, same_count, some_differ, counts_line, shared_names_line, set_aside_line, diff_lines};
 
-use crate::name_lines::{write_added, write_removed, write_same};
 use crate::told::Told;
 use command_base::{LocaleRule, rows_set_aside};
 use stack_diff::{Label, NamePair, NamedStack, PackageNames, Stacks};
@@ -52,7 +52,7 @@ pub(crate) fn write_labels<W: Write + Drop>(
     Ok(())
 }
 
-#[tactic(auto, unfolding(crate::specs::DiffLines::told_lines))]
+#[tactic(auto, unfolding(crate::specs::DiffLines::told_lines, crate::specs::DiffLines::block_lines, crate::specs::NameLines::added_line, crate::specs::NameLines::removed_line))]
 fn write_told<W: Write + Drop>(
     before: &[u8],
     packages: &PackageNames<'_>,
@@ -63,8 +63,8 @@ fn write_told<W: Write + Drop>(
     ensures { Writes W.contents out.old out.new result (told_lines before.now packages.now (label_of label.now) (told_of told.now)) }
 {
     match told {
-        Told::Removed => write_removed(packages, label, out),
-        Told::Added => write_added(packages, label, out),
+        Told::Removed => write_block(b"removed ", packages, label, b"\n", out),
+        Told::Added => write_block(b"added ", packages, label, b"\n", out),
         Told::Same => Ok(()),
         Told::Changed(blocks) => write_blocks(before, packages, label, blocks, out),
     }
@@ -160,6 +160,14 @@ fn same_count(told: &[Told]) -> usize
         }
     }
     count
+}
+
+// Writes the line that says how many there are.
+#[tactic(auto, unfolding(crate::specs::NameLines::same_line))]
+fn write_same<W: Write + Drop>(count: usize, out: &mut W) -> io::Result<()>
+    ensures { Writes W.contents out.old out.new result (same_line count) }
+{
+    writeln!(out, "same {count}")
 }
 
 /// Whether some label says something else, or stands in one stack alone.

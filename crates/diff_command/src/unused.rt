@@ -1,19 +1,18 @@
 //! The command `unused`.
 
-ghost use Rattle.std.specs.Prelude.{◌≡◌, map, option_map, string_bytes, Ok, IfSome};
+ghost use Rattle.std.specs.Prelude.{◌≡◌, map, option_map, Ok, IfSome};
 ghost use Rattle.command_base.specs.CarriesOut.{IsKept};
 ghost use Rattle.command_base.specs.Output.{Prints, PrintsOneOf};
-ghost use Rattle.command_base.specs.StackBytesSeen.{layer_bytes};
 ghost use Rattle.command_base.specs.declared.fault.ToolFault.TheVariants.{OutOfMemory, Write};
 ghost use Rattle.stack_diff.specs.names.NameFault.{GivesNamed};
 ghost use Rattle.stack_diff.specs.names.NamedSet.{named_set_of};
-ghost use Rattle.diff_command.specs.Unused.{IsUnusedOutput, TellsUnused, TellsUnusedOf, UnusedOpened, ids_asked, unused_opened};
+ghost use Rattle.diff_command.specs.Unused.{IsUnusedOutput, TellsUnused, TellsUnusedOf, ids_asked};
 ghost use Rattle.diff_command.specs.UnusedOutput.{unused_output};
 ghost use Rattle.diff_command.specs.Values.{opened_values, values_held};
 
 use crate::unused_rows::push_layers;
 use crate::values::{OpenedValues, ValuesFiles};
-use command_base::{Inputs, LayerParts, LocaleRule, NamedSet, Status, Stop, ToolFault, asked_sets};
+use command_base::{Inputs, LocaleRule, NamedSet, Status, Stop, ToolFault, asked_sets};
 use names::{NameFault, ids_named};
 use row_use::{RowUse, row_uses};
 use stack_diff::{ResId, Stack};
@@ -50,6 +49,8 @@ impl<'a> Unused<'a> {
         self.answer_of(alloc, &files, out)
     }
 
+    // Reads the words, opens the layers, reads the box, finds what the words ask for, and then prints which rows no device loads.
+    #[tactic(auto, unfolding(crate::specs::Unused::unused_opened))]
     fn answer_of<W: Write + Drop>(
         &self,
         alloc: Global,
@@ -59,26 +60,8 @@ impl<'a> Unused<'a> {
         ensures answers { TellsUnusedOf W.contents out.old out.new self.now (Ok (values_held files.now)) result }
         ensures unwritten { IsKept out.old out.new result }
     {
-        let layers = files.layers.layers(alloc)?;
-        self.unused_of(alloc, &layers, &files.box_json, &files.words, out)
-    }
-
-    // Reads the words, opens the layers, reads the box, finds what the words ask for, and then prints which rows no device loads.
-    #[tactic(auto, unfolding(crate::specs::Unused::unused_opened))]
-    fn unused_of<W: Write + Drop>(
-        &self,
-        alloc: Global,
-        layers: &[LayerParts<&[u8]>],
-        box_json: &[u8],
-        words: &[String],
-        out: &mut W,
-    ) -> Result<Status, Stop<'static>>
-        ensures answers { UnusedOpened W.contents out.old out.new self.now.max_nodes
-            (unused_opened self.now.locales (map layer_bytes layers.now) box_json.now (map string_bytes words.now)) result }
-        ensures unwritten { IsKept out.old out.new result }
-    {
-        let sets = asked_sets(alloc, words)?;
-        let opened = OpenedValues::read_by(alloc, layers, box_json, self.locales)?;
+        let sets = asked_sets(alloc, &files.words)?;
+        let opened = OpenedValues::read(alloc, files, self.locales)?;
         let asked = asked_ids(alloc, &opened.stack, &sets)?;
         Ok(tell_unused(alloc, opened, asked, self.max_nodes, out)?)
     }

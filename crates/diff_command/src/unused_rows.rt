@@ -191,25 +191,26 @@ fn write_use<W: Write + Drop>(
 ) -> io::Result<()>
     ensures { Writes W.contents out.old out.new result (use_line naming.now place (row_of row.now, row_use)) }
 {
-    match row_use {
-        Some(RowUse::Overlaid) => write_row(naming, place, b"overlaid", row, out),
-        Some(RowUse::Unused) => write_row(naming, place, b"unused", row, out),
-        Some(RowUse::Unmapped) => write_row(naming, place, b"unmapped", row, out),
-        Some(RowUse::Loaded) | None => Ok(()),
-    }
+    let word = match row_use {
+        Some(RowUse::Overlaid) => "overlaid",
+        Some(RowUse::Unused) => "unused",
+        Some(RowUse::Unmapped) => "unmapped",
+        Some(RowUse::Loaded) | None => return Ok(()),
+    };
+    write_row(naming, place, word, row, out)
 }
 
 #[tactic(auto, unfolding(crate::specs::UnusedOutput::row_line))]
 fn write_row<W: Write + Drop>(
     naming: &Naming<'_, '_, '_>,
     place: usize,
-    word: &[u8],
+    word: &str,
     row: &Row<'_>,
     out: &mut W,
 ) -> io::Result<()>
     ensures { Writes W.contents out.old out.new result (row_line naming.now place word.now (row_of row.now)) }
 {
-    out.write_all(word)?;
+    out.write_all(word.as_bytes())?;
     out.write_all(b" ")?;
     write_layer(place, out)?;
     out.write_all(b" ")?;

@@ -1,18 +1,18 @@
 //! The command `values`.
 
-ghost use Rattle.std.specs.Prelude.{◌≡◌, map, option_map, string_bytes, Ok, IfOk, IfSome};
+ghost use Rattle.std.specs.Prelude.{◌≡◌, map, option_map, Ok, IfOk, IfSome};
 ghost use Rattle.contract_words.specs.Exact.{GivesOr};
 ghost use Rattle.command_base.specs.CarriesOut.{IsKept};
 ghost use Rattle.command_base.specs.Output.{IsOfInput, Prints, PrintsOneOf};
-ghost use Rattle.command_base.specs.StackBytesSeen.{layer_bytes};
 ghost use Rattle.command_base.specs.Stop.{GivesOrStops};
 ghost use Rattle.command_base.specs.declared.fault.ToolFault.TheVariants.{OutOfMemory, Write};
 ghost use Rattle.stack_diff.specs.names.NamedIds.{packages_of};
+ghost use Rattle.stack_diff.specs.names.NamedSet.{named_set_of};
 ghost use Rattle.stack_diff.specs.names.Pairs.{pair_of};
 ghost use Rattle.stack_diff.specs.Stacks.{stacks_of};
-ghost use Rattle.diff_command.specs.AskedPairs.{AreOfStacks};
+ghost use Rattle.diff_command.specs.AskedPairs.{AreOfStacks, asked_of};
 ghost use Rattle.diff_command.specs.Judged.{told_of};
-ghost use Rattle.diff_command.specs.Values.{TellsValues, TellsValuesOf, ValuesOpened, alone, opened_values, values_files, values_held, values_inputs_by, values_opened};
+ghost use Rattle.diff_command.specs.Values.{TellsValues, TellsValuesOf, ValuesOpened, alone, opened_values, values_files, values_held, values_inputs_by};
 ghost use Rattle.diff_command.specs.ValuesOutput.{values_output, IsValuesOutput};
 
 use crate::asked_pairs::asked_pairs;
@@ -21,7 +21,7 @@ use crate::told::Told;
 use crate::value_lines::write_value_lines;
 use answer_text::Form;
 use command_base::{
-    Inputs, LayerFiles, LayerParts, LocaleRule, Progress, Status, Stop, ToolFault, asked_sets,
+    Inputs, LayerFiles, LocaleRule, NamedSet, Progress, Status, Stop, ToolFault, asked_sets,
     asked_words, file_bytes, open_stack,
 };
 use stack_diff::{ConfigBox, NamePair, NamedStack, PackageNames, Stack, Stacks};
@@ -62,6 +62,8 @@ impl<'a> Values<'a> {
         self.answer_of(alloc, &files, progress, out)
     }
 
+    // Reads the words, opens the layers, reads the box, finds what the words ask for, and then prints what that says.
+    #[tactic(auto, unfolding(crate::specs::Diff::opened_asked))]
     fn answer_of<P: Progress, W: Write + Drop>(
         &self,
         alloc: Global,
@@ -72,40 +74,9 @@ impl<'a> Values<'a> {
         ensures answers { TellsValuesOf W.contents out.old out.new self.now (Ok (values_held files.now)) result }
         ensures unwritten { IsKept out.old out.new result }
     {
-        let layers = files.layers.layers(alloc)?;
-        self.values_of(alloc, &layers, &files.box_json, &files.words, progress, out)
-    }
-
-    // Reads the words, opens the layers, reads the box, finds what the words ask for, and then prints what that says.
-    #[tactic(auto, unfolding(crate::specs::Diff::opened_asked))]
-    fn values_of<P: Progress, W: Write + Drop>(
-        &self,
-        alloc: Global,
-        layers: &[LayerParts<&[u8]>],
-        box_json: &[u8],
-        words: &[String],
-        progress: &mut P,
-        out: &mut W,
-    ) -> Result<Status, Stop<'static>>
-        ensures answers { ValuesOpened W.contents out.old out.new self.now.form self.now.max_nodes
-            (values_opened self.now.locales (map layer_bytes layers.now) box_json.now (map string_bytes words.now)) result }
-        ensures unwritten { IsKept out.old out.new result }
-    {
-        let sets = asked_sets(alloc, words)?;
-        let opened = OpenedValues::read_by(alloc, layers, box_json, self.locales)?;
-        let stack = NamedStack::of(alloc, &opened.stack)?;
-        let packages = packages_of(alloc, &opened.stack)?;
-        let stacks = Stacks::beside_nothing(&stack, &packages);
-        let pairs = asked_pairs(alloc, stacks, &sets)?;
-        Ok(opened.values(
-            alloc,
-            self.form,
-            stacks,
-            &pairs,
-            self.max_nodes,
-            progress,
-            out,
-        )?)
+        let sets = asked_sets(alloc, &files.words)?;
+        let opened = OpenedValues::read(alloc, files, self.locales)?;
+        opened.values_asked(alloc, self, &sets, progress, out)
     }
 }
 
@@ -153,22 +124,68 @@ pub(crate) struct OpenedValues<'a> {
 impl<'a> OpenedValues<'a> {
     /// Opens the layers, and then reads the box, whose locales are read and compared by a rule.
     #[tactic(auto, unfolding(crate::specs::Values::values_inputs_by))]
-    pub(crate) fn read_by(
+    pub(crate) fn read(
         alloc: Global,
-        layers: &[LayerParts<&'a [u8]>],
-        box_json: &[u8],
+        files: &'a ValuesFiles,
         rule: LocaleRule,
     ) -> Result<OpenedValues<'a>, ToolFault>
-        ensures value { GivesOr OutOfMemory opened_values result (values_inputs_by rule (map layer_bytes layers.now) box_json.now) }
+        ensures value { GivesOr OutOfMemory opened_values result (values_inputs_by rule (values_held files.now).layers (values_held files.now).box_json) }
         ensures of_input { IsOfInput result }
     {
-        let stack = open_stack(alloc, layers)?;
-        let members = ConfigBox::read_by(alloc, box_json, rule)?;
+        let layers = files.layers.layers(alloc)?;
+        let stack = open_stack(alloc, &layers)?;
+        let members = ConfigBox::read_by(alloc, &files.box_json, rule)?;
         Ok(OpenedValues {
             stack,
             members,
             rule,
         })
+    }
+
+    // Finds what words ask for, and then prints what that says.
+    fn values_asked<P: Progress, W: Write + Drop>(
+        &self,
+        alloc: Global,
+        asked: &Values<'_>,
+        sets: &[NamedSet<'_>],
+        progress: &mut P,
+        out: &mut W,
+    ) -> Result<Status, Stop<'static>>
+        ensures answers { ValuesOpened W.contents out.old out.new asked.now.form asked.now.max_nodes
+            (asked_of (opened_values self.now) (map named_set_of sets.now)) result }
+        ensures unwritten { IsKept out.old out.new result }
+    {
+        let stack = NamedStack::of(alloc, &self.stack)?;
+        let packages = packages_of(alloc, &self.stack)?;
+        let stacks = Stacks::beside_nothing(&stack, &packages);
+        self.values_of(alloc, asked, stacks, sets, progress, out)
+    }
+
+    // The same, where this is the stack with its names.
+    fn values_of<P: Progress, W: Write + Drop>(
+        &self,
+        alloc: Global,
+        asked: &Values<'_>,
+        stacks: Stacks<'_, 'a>,
+        sets: &[NamedSet<'_>],
+        progress: &mut P,
+        out: &mut W,
+    ) -> Result<Status, Stop<'static>>
+        requires { stacks_of stacks ≡ alone self.now.stack }
+        ensures answers { ValuesOpened W.contents out.old out.new asked.now.form asked.now.max_nodes
+            (asked_of (opened_values self.now) (map named_set_of sets.now)) result }
+        ensures unwritten { IsKept out.old out.new result }
+    {
+        let pairs = asked_pairs(alloc, stacks, sets)?;
+        Ok(self.values(
+            alloc,
+            asked.form,
+            stacks,
+            &pairs,
+            asked.max_nodes,
+            progress,
+            out,
+        )?)
     }
 
     /// Prints what the resources of some labels say, on which devices of the box; or `node limit`, where the trees that part the

@@ -1,4 +1,4 @@
-use Rattle.std.proofs.Common.{◌≡◌, ℕ, List, Option, map, option_map, subst, ap, ◌∙◌, IfSome}
+use Rattle.std.proofs.Common.{ℕ, List, Option, map, option_map, subst, ap, ◌∙◌, IfSome}
 use Rattle.row_use.specs.Parting.{IsWithin}
 use Rattle.row_use.specs.RowUses.{AreUses}
 use Rattle.diff_command.specs.Unused.{numbers_of}

@@ -1,23 +1,19 @@
-use Rattle.std.proofs.Common.{◌≡◌, Ok, map, string_bytes, sym, ap, ◌∙◌}
+use Rattle.std.proofs.Common.{◌≡◌, map, string_bytes, sym, ap, ◌∙◌}
 use Rattle.command_base.specs.FileWords.{sets_held}
 use Rattle.command_base.specs.StackBytesSeen.{layer_bytes}
 use Rattle.command_base.specs.names.NamedSet.{named_set_of}
-use Rattle.stack_diff.specs.Stacks.{stacks_of}
-use Rattle.stack_diff.specs.names.Pairs.{pair_of}
-use Rattle.diff_command.specs.AskedPairs.{asked_pairs}
-use Rattle.diff_command.specs.DiffInputs.{DiffInputs, diff_inputs_by}
-use Rattle.diff_command.specs.OpenedSeen.{named_diff}
+use Rattle.diff_command.specs.AskedPairs.{asked_of}
+use Rattle.diff_command.specs.Diff.{opened_asked}
+use Rattle.diff_command.specs.DiffInputs.{diff_inputs_by}
+use Rattle.diff_command.specs.OpenedSeen.{opened_diff}
 use Rattle.diff_command.proofs.Asked.{opened-with}
 use Rattle.diff_command.proofs.diff.Diff.diff_of.Goals as goal
 
 pub returns-clause-answers : goal.returns-clause-answers
 returns-clause-answers g c =
-    let stacks = stacks_of c.stacks.result in
-    let pairs = map pair_of c.deref-2.result.now in
-    let found : asked_pairs stacks (sets_held c.in_ok-sets.sets) ≡ Ok pairs =
-    sym (ap (λ sets. asked_pairs stacks (map named_set_of sets)) c.deref.ensures.value) ∙ c.in_ok-pairs.ensures.asked ∙ ap (λ items. Ok (map pair_of items)) (sym c.deref-2.ensures.value) in (
-      record { opened = named_diff c.in_ok-named.named; pairs = pairs },
-      opened-with (map string_bytes c.args.words.now) (sets_held c.in_ok-sets.sets) (diff_inputs_by c.args.self.now.locales (map layer_bytes c.args.old.now) (map layer_bytes c.args.new.now) c.args.box_json.now)
-          (named_diff c.in_ok-named.named) stacks pairs c.in_ok-sets.ensures (c.in_ok-opened.ensures.value ∙ ap (λ (inputs : DiffInputs). Ok inputs) (sym c.in_ok-named.ensures)) c.stacks.ensures found,
-      c.in_ok-diff.ensures,
-    )
+    let words = map string_bytes c.args.words.now in
+    let opened = opened_diff c.in_ok-opened.opened in
+    let read = diff_inputs_by c.args.self.now.locales (map layer_bytes c.args.old.now) (map layer_bytes c.args.new.now) c.args.box_json.now in
+    let meant : opened_asked words read ≡ asked_of opened (map named_set_of c.deref.result.now) =
+    opened-with words (sets_held c.in_ok-sets.sets) read opened c.in_ok-sets.ensures c.in_ok-opened.ensures.value ∙ ap (λ sets. asked_of opened (map named_set_of sets)) (sym c.deref.ensures.value) in
+    rw meant c.diff_asked.ensures.answers

@@ -1,5 +1,5 @@
-use Rattle.std.proofs.Common.{List, map, option_map, sym, subst}
-use Rattle.stack_diff.specs.Stacks.{StacksOf, stacks_of}
+use Rattle.std.proofs.Common.{map, option_map, subst}
+use Rattle.stack_diff.specs.Stacks.{StacksOf}
 use Rattle.stack_diff.specs.names.NamedIds.{packages_of}
 use Rattle.stack_diff.specs.names.Pairs.{pair_of}
 use Rattle.diff_command.specs.AskedPairs.{AreOfStacks}
