@@ -1,6 +1,6 @@
 -- What is made for the first goals of a list, one more than there may be nodes, is made for the whole list: the tree of each
 -- goal has one node at least.
-use Rattle.std.proofs.Common.{◌≡◌, ℕ, ◌+◌, ◌<◌, ◌≤◌, inl, inr, arith, zero, suc, false, Bool, List, [], ◌∷◌, length, map, take, Option, Some, Result, Ok, Err, refl, ap, subst, sym, ◌∙◌, length-take}
+use Rattle.std.proofs.Common.{◌≡◌, ℕ, ◌+◌, ◌<◌, ◌≤◌, inl, inr, arith, zero, suc, true, false, Bool, List, [], ◌∷◌, length, map, take, Option, Some, Result, Ok, Err, refl, ap, subst, sym, ◌∙◌, length-take}
 use Rattle.std.specs.Prelude.{slice_get}
 use Rattle.std.specs.List.{All}
 use Rattle.std.proofs.lemmas.Bool.{cases_lt}
@@ -26,7 +26,7 @@ use Rattle.resource_text.specs.cert_maker.declared.made.Made.TheVariants.{Cert, 
 use Rattle.resource_text.specs.cert_maker.Needed.{IsNeeded}
 use Rattle.resource_text.specs.cert_maker.Made.{IsMade}
 use Rattle.resource_tool.specs.GoalTold.{goal_told, line_about}
-use Rattle.resource_tool.specs.Make.{OpenMakeOf, PrintsMade, first_opened, with_first}
+use Rattle.resource_tool.specs.Make.{OpenMakeOf, PrintsMade, first_opened, looked_at, most_goals, with_first}
 use Rattle.resource_tool.specs.MakeOutput.{MakeInputs, IsReadAccepted, IsMakeAnswer, goal_of_made, made_output}
 use Rattle.resource_tool.proofs.FirstOf.{carried-on-all, first-at, place-within, take-fewer, told-of-first}
 use Rattle.resource_tool.proofs.MakeSteps.{not_done}
@@ -140,19 +140,10 @@ made-of-all is_terminal names most contents says old new before after make done 
       (λ inputs output lines is answer. first-decide make.goals most names inputs output lines answer) told,
 )
 
-pub carried-by-first : {W V : Type 0} (is_terminal omit names : Bool) (most : ℕ) (contents : W → Option (List ℕ)) (says : V → Option (List ℕ)) (old new : W) (before after : V) (meant : Result OpenMakeOf StopOf)
-    (result : Result Status Stop) → omit ≡ false → CarriesOut (PrintsMade is_terminal false names most contents says old new before after) (first_opened (most + 1) meant) result
-    → CarriesOut (PrintsMade is_terminal omit names most contents says old new before after) meant result
-carried-by-first is_terminal omit names most contents says old new before after meant result not_omitting carried =
-    subst (λ (o : Bool). CarriesOut (PrintsMade is_terminal o names most contents says old new before after) meant result) (sym not_omitting) (
-    carried-on-all (with_first (most + 1)) (PrintsMade is_terminal false names most contents says old new before after) meant result
-    (made-of-all is_terminal names most contents says old new before after) carried
-    )
-
 -- ---- all goals
 
 -- where there is room for more, the first goals are all
-pub all-opened : (meant : Result OpenMakeOf StopOf) (n : ℕ) (make : OpenMakeOf) → (meant >>= λ all. Ok (with_first n all)) ≡ Ok make → length make.goals < n → meant ≡ Ok make
+all-opened : (meant : Result OpenMakeOf StopOf) (n : ℕ) (make : OpenMakeOf) → (meant >>= λ all. Ok (with_first n all)) ≡ Ok make → length make.goals < n → meant ≡ Ok make
 all-opened (Ok all) n make is few =
     let same : with_first n all ≡ make = cc in
     let count = ap (λ (m : OpenMakeOf). length m.goals) same in
@@ -162,6 +153,25 @@ all-opened (Ok all) n make is few =
     ap wrapped (sym (ap with_goals goals) ∙ same)
 all-opened (Err stop) n make is few = absurd cc
 
-pub none-opened : (meant : Result OpenMakeOf StopOf) (n : ℕ) (stop : StopOf) → (meant >>= λ all. Ok (with_first n all)) ≡ Err stop → meant ≡ Err stop
+none-opened : (meant : Result OpenMakeOf StopOf) (n : ℕ) (stop : StopOf) → (meant >>= λ all. Ok (with_first n all)) ≡ Err stop → meant ≡ Err stop
 none-opened (Ok all) n stop is = absurd cc
 none-opened (Err other) n stop is = is
+
+-- ---- the goals that are looked at
+
+pub opened-looked_at : (omit : Bool) (most : ℕ) (meant : Result OpenMakeOf StopOf) (make : OpenMakeOf) → first_opened (most_goals omit most) meant ≡ Ok make → length make.goals < 18446744073709551615
+    → looked_at omit most meant ≡ Ok make
+opened-looked_at true most meant make is few = all-opened meant 18446744073709551615 make is few
+opened-looked_at false most meant make is few = is
+
+pub none-looked_at : (omit : Bool) (most : ℕ) (meant : Result OpenMakeOf StopOf) (stop : StopOf) → first_opened (most_goals omit most) meant ≡ Err stop → looked_at omit most meant ≡ Err stop
+none-looked_at true most meant stop is = none-opened meant 18446744073709551615 stop is
+none-looked_at false most meant stop is = is
+
+pub carried-looked_at : {W V : Type 0} (is_terminal omit names : Bool) (most : ℕ) (contents : W → Option (List ℕ)) (says : V → Option (List ℕ)) (old new : W) (before after : V) (meant : Result OpenMakeOf StopOf)
+    (result : Result Status Stop) → CarriesOut (PrintsMade is_terminal omit names most contents says old new before after) (looked_at omit most meant) result
+    → CarriesOut (PrintsMade is_terminal omit names most contents says old new before after) meant result
+carried-looked_at is_terminal true names most contents says old new before after meant result carried = carried
+carried-looked_at is_terminal false names most contents says old new before after meant result carried =
+    carried-on-all (with_first (most + 1)) (PrintsMade is_terminal false names most contents says old new before after) meant result
+    (made-of-all is_terminal names most contents says old new before after) carried

@@ -1,6 +1,6 @@
 -- What the words of `make` ask, from what the places have to the answer. First come the words of files, then the faults of
 -- inputs, and then the first word that asks for no resource.
-use Rattle.std.specs.Prelude.{◌≡◌, ℕ, Bool, true, false, List, map, take, Option, Result, Ok}
+use Rattle.std.specs.Prelude.{◌≡◌, ℕ, ◌+◌, Bool, true, false, List, map, take, Option, Result, Ok}
 use Rattle.contract_words.specs.Faults.{◌>>=◌}
 use Rattle.json_input.specs.Each.{each}
 use Rattle.table_commands.specs.command_base.declared.fault.ToolFault.{ToolFault}
@@ -45,6 +45,17 @@ with_first most make = record { opened = make.opened; goals = take most make.goa
 -- what was opened, with the first goals alone
 abbrev pub first_opened : ℕ → Result OpenMakeOf StopOf → Result OpenMakeOf StopOf
 first_opened most meant = meant >>= λ make. Ok (with_first most make)
+
+-- how many goals are looked at
+abbrev pub most_goals : Bool → ℕ → ℕ
+most_goals true most = 18446744073709551615
+most_goals false most = most + 1
+
+-- What was opened, with the goals that are looked at. Where goals without a value are left out all are; else one more than there may
+-- be nodes, since the tree of each goal has one at least.
+abbrev pub looked_at : Bool → ℕ → Result OpenMakeOf StopOf → Result OpenMakeOf StopOf
+looked_at true most opened = opened
+looked_at false most opened = first_opened (most + 1) opened
 
 -- ---- the answer, with what errors get beside it
 

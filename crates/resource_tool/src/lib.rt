@@ -14,8 +14,8 @@
 //!                                                                        // set-aside 0
 //!
 //! let opened = OpenedBox::read(alloc, &layers, &box_json)?; // to look into the stack first
-//! opened.make(alloc, &goals, 100_000, true, &mut Unwatched, &mut out, &mut errors)?; // as `make_bytes`, and to `errors`
-//!                                                                                    // goal 0 0x7f010000 s/k
+//! let answered = opened.make(alloc, &goals, 100_000, &mut Unwatched, &mut out)?; // as `make_bytes`
+//! write_goal_told(&names, &goals, answered.about, &mut errors)?; // goal 0 0x7f010000 s/k
 //!
 //! let omitting = opened.make_omitting(alloc, &goals, 100_000, &mut Unwatched)?; // goals without a value are left out
 //! opened.print_omitting(alloc, &goals, &omitting, &mut out, &mut errors)?; // to `errors` omitted goal 1 0x7f010001 ..

@@ -14,7 +14,8 @@ ghost use Rattle.resource_text.specs.cert_maker.cert_tree.WrittenJson.{cert_data
 ghost use Rattle.table_commands.specs.config_record.DeviceSeen.{device_numbers};
 ghost use Rattle.resource_tool.specs.Answered.{PrintsBothOneOf, status_in, goal_in};
 ghost use Rattle.resource_tool.specs.BoxFiles.{goals_held};
-ghost use Rattle.resource_tool.specs.Make.{Makes, MakesFiles, PrintsTold, PrintsToldFirst, first_opened, make_opened, make_seen};
+ghost use Rattle.resource_tool.specs.Make.{Makes, MakesFiles, PrintsMade, PrintsTold, PrintsToldFirst, looked_at, make_opened, make_seen, most_goals};
+ghost use Rattle.resource_text.specs.cert_maker.Omitting.{IsOmitting};
 ghost use Rattle.resource_tool.specs.MakeOutput.{IsMakeOutput, IsMakeOutputAbout, IsMakeAnswer, make_inputs, make_inputs_by, counterexample_line, counterexample_text, status_of_made, goal_of_made, made_output};
 ghost use Rattle.resource_tool.specs.OmitOutput.{IsOmitOutput};
 ghost use Rattle.resource_tool.specs.LineReadsBack.{LineReadsBack, TreesReadBack};
@@ -33,9 +34,9 @@ use command_base::{
     open_stack,
 };
 use names::first_goals;
-use resource_text::{Cert, ConfigBox, Goal, Made, Progress, Unwatched, device_with_end};
+use resource_text::{Cert, ConfigBox, Goal, Made, Omitting, Progress, Unwatched, device_with_end};
 use std::alloc::{AllocError, Global};
-use std::io::{self, Write, sink};
+use std::io::{self, Write};
 use std::time::Clock;
 
 /// What the words of `make` ask: a certificate of some goals for a box of devices.
@@ -93,21 +94,19 @@ impl<'a> Make<'a> {
         ensures unsaid { watch.entry.is_terminal ≡ false → IsKept errors.old errors.new result }
     {
         let layers = files.layers.layers(alloc)?;
+        let make = OpenMake::open(alloc, &layers, &files.box_json, &files.words, self)?;
+        Ok(make.answer(alloc, self, watch, out, errors)?)
+    }
+
+    // How many goals are looked at. Where goals without a value are left out all are, else as many as decide: the tree of each
+    // has one node at least.
+    fn most_goals(&self) -> usize
+        ensures { result ≡ most_goals self.now.omit self.now.max_nodes }
+    {
         if self.omit {
-            let make = OpenMake::open(alloc, &layers, &files.box_json, self.locales, &files.words)?;
-            Ok(make.make_omitting(alloc, self.max_nodes, watch, out, errors)?)
+            usize::MAX
         } else {
-            // The tree of each goal has one node at least, so these decide.
-            let most = self.max_nodes as usize + 1;
-            let make = OpenMake::open_first(
-                alloc,
-                &layers,
-                &files.box_json,
-                self.locales,
-                &files.words,
-                most,
-            )?;
-            Ok(make.make(alloc, self.names, self.max_nodes, watch, out, errors)?)
+            self.max_nodes as usize + 1
         }
     }
 }
@@ -120,37 +119,44 @@ pub(crate) struct OpenMake<'a> {
 }
 
 impl<'a> OpenMake<'a> {
-    /// Reads the words, opens the layers, reads the box, and then finds what the words ask for.
+    /// Reads the words, opens the layers, reads the box, and then finds what the words ask for: the first goals, as many as are
+    /// looked at.
+    #[tactic(auto, unfolding(crate::specs::Make::make_opened))]
     fn open(
         alloc: Global,
         layers: &[LayerParts<&'a [u8]>],
         box_json: &[u8],
-        rule: LocaleRule,
         words: &[String],
+        asked: &Make<'_>,
     ) -> Result<OpenMake<'a>, Stop<'static>>
-        ensures { GivesOrStops make_seen result (make_opened rule (map layer_bytes layers.now) box_json.now (map string_bytes words.now)) }
-    {
-        let make = OpenMake::open_first(alloc, layers, box_json, rule, words, usize::MAX)?;
-        Ok(make)
-    }
-
-    /// The same, but keeps only the first goals, at most so many.
-    #[tactic(auto, unfolding(crate::specs::Make::make_opened))]
-    fn open_first(
-        alloc: Global,
-        layers: &[LayerParts<&'a [u8]>],
-        box_json: &[u8],
-        rule: LocaleRule,
-        words: &[String],
-        most: usize,
-    ) -> Result<OpenMake<'a>, Stop<'static>>
-        ensures { GivesOrStops make_seen result
-            (first_opened most (make_opened rule (map layer_bytes layers.now) box_json.now (map string_bytes words.now))) }
+        ensures { GivesOrStops make_seen result (looked_at asked.now.omit asked.now.max_nodes
+            (make_opened asked.now.locales (map layer_bytes layers.now) box_json.now (map string_bytes words.now))) }
     {
         let named = asked_goals(alloc, words)?;
-        let opened = OpenedBox::read_by(alloc, layers, box_json, rule)?;
+        let opened = OpenedBox::read_by(alloc, layers, box_json, asked.locales)?;
+        let most = asked.most_goals();
         let goals = first_goals(alloc, &opened.stack, &named, most)?;
         Ok(OpenMake { opened, goals })
+    }
+
+    /// Makes a certificate of all goals, or one of those that have a value.
+    fn answer<C: Clock, W: Write + Drop, E: Write + Drop>(
+        &self,
+        alloc: Global,
+        asked: &Make<'_>,
+        watch: Watch<'_, C>,
+        out: &mut W,
+        errors: &mut E,
+    ) -> Result<Status, ToolFault>
+        ensures made { PrintsMade watch.entry.is_terminal asked.now.omit asked.now.names asked.now.max_nodes W.contents E.contents
+            out.old out.new errors.old errors.new (make_seen self.now) result }
+        ensures quiet { watch.entry.is_terminal ≡ false → (asked.now.names || asked.now.omit) ≡ false → errors.new ≡ errors.old }
+    {
+        if asked.omit {
+            self.make_omitting(alloc, asked.max_nodes, watch, out, errors)
+        } else {
+            self.make(alloc, asked.names, asked.max_nodes, watch, out, errors)
+        }
     }
 
     /// Makes a certificate. On a terminal a line says how far that is, and is gone before anything else is said.
@@ -167,20 +173,34 @@ impl<'a> OpenMake<'a> {
             W.contents E.contents out.old out.new errors.old errors.new result (Ok (make_seen self.now).opened) }
         ensures quiet { watch.entry.is_terminal ≡ false → names ≡ false → errors.new ≡ errors.old }
     {
-        let opened = &self.opened;
-        let goals = self.goals.as_slice();
-        let beside = NamesBeside::of(alloc, &opened.stack, names)?;
-        let answered = if watch.is_terminal {
-            let mut line = ProgressLine::new(errors, watch);
-            line.goals_done(0, goals.len());
-            let answered = opened.make_telling(alloc, goals, max_nodes, &mut line, out);
-            line.clear();
-            answered?
-        } else {
-            opened.make_telling(alloc, goals, max_nodes, &mut Unwatched, out)?
-        };
-        write_goal_told(&beside, goals, answered.about, errors)?;
+        let names = NamesBeside::of(alloc, &self.opened.stack, names)?;
+        let answered = self.make_shown(alloc, max_nodes, watch, out, errors)?;
+        write_goal_told(&names, &self.goals, answered.about, errors)?;
         Ok(answered.status)
+    }
+
+    // The same but for what is said of the goal that the answer is about.
+    fn make_shown<C: Clock, W: Write + Drop, E: Write + Drop>(
+        &self,
+        alloc: Global,
+        max_nodes: u32,
+        watch: Watch<'_, C>,
+        out: &mut W,
+        errors: &mut E,
+    ) -> Result<Answered, ToolFault>
+        ensures about { PrintsOneOf (IsMakeOutputAbout (make_seen self.now).goals max_nodes (goal_in result)) W.contents out.old out.new
+            (status_in result) (Ok (make_seen self.now).opened) }
+        ensures quiet { watch.entry.is_terminal ≡ false → errors.new ≡ errors.old }
+    {
+        let (opened, goals) = (&self.opened, self.goals.as_slice());
+        if !watch.is_terminal {
+            return opened.make(alloc, goals, max_nodes, &mut Unwatched, out);
+        }
+        let mut line = ProgressLine::new(errors, watch);
+        line.goals_done(0, goals.len());
+        let answered = opened.make(alloc, goals, max_nodes, &mut line, out);
+        line.clear();
+        answered
     }
 
     /// The same, where goals without a value are left out.
@@ -195,18 +215,31 @@ impl<'a> OpenMake<'a> {
         ensures { PrintsToldFirst watch.entry.is_terminal (IsOmitOutput (make_seen self.now).goals max_nodes)
             W.contents E.contents out.old out.new errors.old errors.new result (Ok (make_seen self.now).opened) }
     {
-        let opened = &self.opened;
-        let goals = self.goals.as_slice();
-        let omitting = if watch.is_terminal {
-            let mut line = ProgressLine::new(errors, watch);
-            line.goals_done(0, goals.len());
-            let omitting = opened.make_omitting(alloc, goals, max_nodes, &mut line);
-            line.clear();
-            omitting?
-        } else {
-            opened.make_omitting(alloc, goals, max_nodes, &mut Unwatched)?
-        };
-        opened.print_omitting(alloc, goals, &omitting, out, errors)
+        let omitting = self.omit_shown(alloc, max_nodes, watch, errors)?;
+        self.opened
+            .print_omitting(alloc, &self.goals, &omitting, out, errors)
+    }
+
+    // What is made of the goals, and which are left out.
+    fn omit_shown<C: Clock, E: Write + Drop>(
+        &self,
+        alloc: Global,
+        max_nodes: u32,
+        watch: Watch<'_, C>,
+        errors: &mut E,
+    ) -> Result<Omitting, AllocError>
+        ensures made { IfOk result (IsOmitting (make_seen self.now).opened.stack (make_seen self.now).opened.sets (make_seen self.now).goals max_nodes) }
+        ensures quiet { watch.entry.is_terminal ≡ false → errors.new ≡ errors.old }
+    {
+        let (opened, goals) = (&self.opened, self.goals.as_slice());
+        if !watch.is_terminal {
+            return opened.make_omitting(alloc, goals, max_nodes, &mut Unwatched);
+        }
+        let mut line = ProgressLine::new(errors, watch);
+        line.goals_done(0, goals.len());
+        let omitting = opened.make_omitting(alloc, goals, max_nodes, &mut line);
+        line.clear();
+        omitting
     }
 }
 
@@ -251,7 +284,8 @@ pub fn make_bytes_watched<W: Write + Drop, P: Progress>(
         (make_inputs (map layer_bytes layers.now) box_json.now) }
 {
     let opened = OpenedBox::read(alloc, layers, box_json)?;
-    opened.make(alloc, goals, max_nodes, false, progress, out, &mut sink())
+    let answered = opened.make(alloc, goals, max_nodes, progress, out)?;
+    Ok(answered.status)
 }
 
 impl<'a> OpenedBox<'a> {
@@ -287,31 +321,9 @@ impl<'a> OpenedBox<'a> {
         })
     }
 
-    /// What `make_bytes_watched` prints of the same layers and box. Where names are asked for, and a device without a
-    /// value is printed, a line with the goal and its names goes to `errors`, after all else was written.
-    pub fn make<W: Write + Drop, E: Write + Drop, P: Progress>(
-        &self,
-        alloc: Global,
-        goals: &[Goal],
-        max_nodes: u32,
-        names: bool,
-        progress: &mut P,
-        out: &mut W,
-        errors: &mut E,
-    ) -> Result<Status, ToolFault>
-        ensures both { PrintsBothOneOf (IsMakeAnswer (map goal_seen goals.now) max_nodes names) W.contents E.contents
-            out.old out.new errors.old errors.new result (Ok (opened_box self.now)) }
-        ensures prints { PrintsOneOf (IsMakeOutput (map goal_seen goals.now) max_nodes) W.contents out.old out.new result (Ok (opened_box self.now)) }
-        ensures quiet { names ≡ false → errors.new ≡ errors.old }
-    {
-        let names = NamesBeside::of(alloc, &self.stack, names)?;
-        let answered = self.make_telling(alloc, goals, max_nodes, progress, out)?;
-        write_goal_told(&names, goals, answered.about, errors)?;
-        Ok(answered.status)
-    }
-
-    /// The same but for that line: `write_goal_told` writes it, of the goal that the answer is about.
-    fn make_telling<W: Write + Drop, P: Progress>(
+    /// What `make_bytes_watched` prints of the same layers and box, and which goal that is about: `write_goal_told` writes its
+    /// names.
+    pub fn make<W: Write + Drop, P: Progress>(
         &self,
         alloc: Global,
         goals: &[Goal],

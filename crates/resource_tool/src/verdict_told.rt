@@ -47,14 +47,8 @@ impl OpenedCert<'_> {
             verdict (goes_on asked.now.all verdict) told.text.items told.lines.items) }
     {
         match goes_on(asked.all, &verdict) {
-            Some(goal) => {
-                let told = self.all_told(alloc, goals, asked, paths, verdict, goal)?;
-                Ok(told)
-            }
-            None => {
-                let told = self.verdict_told(alloc, goals, asked, paths, &verdict)?;
-                Ok(told)
-            }
+            Some(goal) => self.all_told(alloc, goals, asked, paths, verdict, goal),
+            None => self.verdict_told(alloc, goals, asked, paths, &verdict),
         }
     }
 
@@ -81,25 +75,14 @@ impl OpenedCert<'_> {
         } = self;
         let trees = certificate.goals;
         let of = trees.len();
-        let rejections = all_rejections(alloc, &stack, &members, trees, goal, first)?;
-        let names = NamesBeside::of(alloc, &stack, asked.names)?;
-        let naming = naming_of(alloc, &stack, asked, paths)?;
-        let set_aside = rows_set_aside(&stack, rule);
-        let mut text = Vec::new(alloc);
-        write_rejections(
-            naming.as_ref(),
-            goals,
-            &rejections,
+        let rejections = Rejections {
+            all: all_rejections(alloc, &stack, &members, trees, goal, first)?,
             of,
-            set_aside,
-            &mut text,
-        )?;
-        let mut lines = Vec::new(alloc);
-        write_goals_told(&names, goals, &rejections, &mut lines)?;
-        Ok(Told { text, lines })
+            set_aside: rows_set_aside(&stack, rule),
+        };
+        rejections.told(alloc, &stack, goals, asked, paths)
     }
 
-    #[tactic(auto, unfolding(crate::specs::CheckOutput::told_text))]
     fn verdict_told(
         &self,
         alloc: Global,
@@ -111,7 +94,22 @@ impl OpenedCert<'_> {
         ensures { IfOk result (λ told. Tells (map goal_seen goals.now) (telling_of asked.now (map string_bytes paths.now)) (opened_cert self.now)
             verdict.now None told.text.items told.lines.items) }
     {
-        let names = NamesBeside::of(alloc, &self.stack, asked.names)?;
+        let text = self.verdict_text(alloc, goals, asked, paths, verdict)?;
+        let lines = lines_of_verdict(alloc, &self.stack, goals, asked.names, verdict)?;
+        Ok(Told { text, lines })
+    }
+
+    #[tactic(auto, unfolding(crate::specs::CheckOutput::told_text))]
+    fn verdict_text(
+        &self,
+        alloc: Global,
+        goals: &[Goal],
+        asked: &Check<'_>,
+        paths: &[String],
+        verdict: &Verdict,
+    ) -> io::Result<Vec<u8>>
+        ensures { IfOk result (λ text. text.items ≡ told_text (telling_of asked.now (map string_bytes paths.now)) (map goal_seen goals.now) (opened_cert self.now) verdict.now) }
+    {
         let naming = naming_of(alloc, &self.stack, asked, paths)?;
         let mut text = Vec::new(alloc);
         write_verdict_in(
@@ -122,9 +120,86 @@ impl OpenedCert<'_> {
             &mut text,
         )?;
         set_aside_line(rows_set_aside(&self.stack, self.rule), &mut text)?;
-        let mut lines = Vec::new(alloc);
-        write_goal_of(&names, goals, verdict, &mut lines)?;
+        Ok(text)
+    }
+}
+
+fn lines_of_verdict(
+    alloc: Global,
+    stack: &Stack<'_>,
+    goals: &[Goal],
+    names: bool,
+    verdict: &Verdict,
+) -> io::Result<Vec<u8>>
+    ensures { IfOk result (λ lines. lines.items ≡ goal_told_of stack.now (map goal_seen goals.now) names verdict.now) }
+{
+    let names = NamesBeside::of(alloc, stack, names)?;
+    let mut lines = Vec::new(alloc);
+    write_goal_of(&names, goals, verdict, &mut lines)?;
+    Ok(lines)
+}
+
+/// The rejections of goals.
+#[derive(Drop)]
+struct Rejections {
+    all: Vec<Rejection>,
+    /// How many goals the certificate has.
+    of: usize,
+    /// How many rows of the layers are set aside.
+    set_aside: u128,
+}
+
+impl Rejections {
+    fn told(
+        &self,
+        alloc: Global,
+        stack: &Stack<'_>,
+        goals: &[Goal],
+        asked: &Check<'_>,
+        paths: &[String],
+    ) -> io::Result<Told>
+        ensures printed { IfOk result (λ told. told.text.items ≡ rejections_in (naming_of (telling_of asked.now (map string_bytes paths.now)) stack.now)
+            (map goal_seen goals.now) self.now.all.items self.now.of ++ set_aside_line self.now.set_aside) }
+        ensures said { IfOk result (λ told. told.lines.items ≡ flat_map
+            (λ rejection. goal_told_of stack.now (map goal_seen goals.now) asked.now.names rejection.verdict) self.now.all.items) }
+    {
+        let text = self.text(alloc, stack, goals, asked, paths)?;
+        let lines = self.lines(alloc, stack, goals, asked.names)?;
         Ok(Told { text, lines })
+    }
+
+    fn text(
+        &self,
+        alloc: Global,
+        stack: &Stack<'_>,
+        goals: &[Goal],
+        asked: &Check<'_>,
+        paths: &[String],
+    ) -> io::Result<Vec<u8>>
+        ensures { IfOk result (λ text. text.items ≡ rejections_in (naming_of (telling_of asked.now (map string_bytes paths.now)) stack.now)
+            (map goal_seen goals.now) self.now.all.items self.now.of ++ set_aside_line self.now.set_aside) }
+    {
+        let naming = naming_of(alloc, stack, asked, paths)?;
+        let mut text = Vec::new(alloc);
+        write_rejections_in(naming.as_ref(), goals, &self.all, self.of, &mut text)?;
+        set_aside_line(self.set_aside, &mut text)?;
+        Ok(text)
+    }
+
+    fn lines(
+        &self,
+        alloc: Global,
+        stack: &Stack<'_>,
+        goals: &[Goal],
+        names: bool,
+    ) -> io::Result<Vec<u8>>
+        ensures { IfOk result (λ lines. lines.items ≡ flat_map
+            (λ rejection. goal_told_of stack.now (map goal_seen goals.now) names rejection.verdict) self.now.all.items) }
+    {
+        let names = NamesBeside::of(alloc, stack, names)?;
+        let mut lines = Vec::new(alloc);
+        write_goals_told(&names, goals, &self.all, &mut lines)?;
+        Ok(lines)
     }
 }
 
@@ -155,21 +230,6 @@ pub(crate) fn write_verdict<W: Write + Drop>(
 {
     verdict_text(verdict, &checked.certificate, out)?;
     set_aside_line(rows_set_aside(&checked.stack, checked.rule), out)
-}
-
-fn write_rejections<W: Write + Drop>(
-    naming: Option<&Naming<'_, '_, '_>>,
-    goals: &[Goal],
-    rejections: &[Rejection],
-    of: usize,
-    set_aside: u128,
-    out: &mut W,
-) -> io::Result<()>
-    ensures { Writes W.contents out.old out.new result
-        (rejections_in (option_copied naming.entry) (map goal_seen goals.now) rejections.now of ++ set_aside_line set_aside) }
-{
-    write_rejections_in(naming, goals, rejections, of, out)?;
-    set_aside_line(set_aside, out)
 }
 
 #[tactic(auto, using(contract_words::proofs::TextSteps::puts))]

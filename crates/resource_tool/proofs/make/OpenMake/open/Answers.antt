@@ -1,22 +1,42 @@
-use Rattle.std.proofs.Common.{arith, map, string_bytes}
+use Rattle.std.proofs.Common.{List, map, string_bytes, refl, arith}
 use Rattle.std.proofs.lemmas.List.{length-map}
 use Rattle.std.proofs.lemmas.Result.{err_from_is_err_and}
+use Rattle.table_commands.specs.overlay_map.Layer.{LayerOf}
 use Rattle.table_commands.specs.command_base.StackBytesSeen.{layer_bytes}
-use Rattle.resource_text.specs.cert_maker.res_value.Goal.{goal_seen}
-use Rattle.resource_tool.specs.Make.{make_opened, make_seen}
-use Rattle.resource_tool.proofs.FirstGoals.{all-opened, none-opened}
+use Rattle.resource_text.specs.cert_maker.res_value.Goal.{GoalSeen, goal_seen}
+use Rattle.resource_tool.specs.Make.{OpenMakeOf, make_opened, most_goals, with_first}
+use Rattle.resource_tool.specs.MakeOutput.{MakeInputs}
+use Rattle.resource_tool.proofs.FirstGoals.{none-looked_at, opened-looked_at}
+use Rattle.resource_tool.proofs.FirstOf.{none-stops, opened-first, opened-none}
 use Rattle.resource_tool.proofs.make.OpenMake.open.Goals as goal
 
-pub returns-in_err-make : goal.returns-in_err-make
-returns-in_err-make c =
-    let p = err_from_is_err_and c.from_residual.result c.from_residual.ensures.1 in
+abbrev made : MakeInputs → List GoalSeen → OpenMakeOf
+made inputs goals = record { opened = inputs; goals = goals }
+
+abbrev stack_of : MakeInputs → List LayerOf
+stack_of inputs = inputs.stack
+
+pub returns-in_err-goals : goal.returns-in_err-goals
+unfolding make_opened
+returns-in_err-goals c =
+    let asked = c.args.asked.now in
+    let most = most_goals asked.omit asked.max_nodes in
+    let p = err_from_is_err_and c.from_residual-in_err-goals.result c.from_residual-in_err-goals.ensures.1 in
     rw (p.1, p.2) (
-    λ other. none-opened (make_opened c.args.rule (map layer_bytes c.args.layers.now) c.args.box_json.now (map string_bytes c.args.words.now)) 18446744073709551615 _ (c.in_err-make.ensures other)
+    none-stops _ c.in_err-goals.field-0.0
+    (λ other.
+    let none = rw (c.deref.ensures.value, c.most_goals-most.ensures) at (c.in_err-goals.ensures other) in
+    none-looked_at asked.omit asked.max_nodes (make_opened asked.locales (map layer_bytes c.args.layers.now) c.args.box_json.now (map string_bytes c.args.words.now)) _
+    (opened-none _ _ _ _ stack_of made (with_first most) most _ c.in_ok-named.ensures c.in_ok-opened.ensures.value none))
     )
 
 pub returns : goal.returns
+unfolding make_opened
 returns c =
-    let goals = c.in_ok-make.make.goals in
+    let asked = c.args.asked.now in
+    let most = most_goals asked.omit asked.max_nodes in
+    let goals = c.in_ok-goals.goals in
     let count = length-map goals.items goal_seen in
-    all-opened (make_opened c.args.rule (map layer_bytes c.args.layers.now) c.args.box_json.now (map string_bytes c.args.words.now)) 18446744073709551615 (make_seen c.in_ok-make.make)
-    c.in_ok-make.ensures (omega (arith, count, goals.ok, goals.small))
+    let found = rw (c.deref.ensures.value, c.most_goals-most.ensures) at c.in_ok-goals.ensures in
+    opened-looked_at asked.omit asked.max_nodes (make_opened asked.locales (map layer_bytes c.args.layers.now) c.args.box_json.now (map string_bytes c.args.words.now)) _
+    (opened-first _ _ _ _ stack_of made (with_first most) most _ (λ all. refl) c.in_ok-named.ensures c.in_ok-opened.ensures.value found) (omega (arith, count, goals.ok, goals.small))
