@@ -1,5 +1,5 @@
 -- Walks of all members of a box.
-use Rattle.std.proofs.Common.{◌≡◌, ℕ, List, [], ◌∷◌, Option, sym, ◌∙◌, ap, subst}
+use Rattle.std.proofs.Common.{◌≡◌, ℕ, List, [], ◌∷◌, Option, None, Result, Ok, Err, IfOk, sym, ◌∙◌, ap, subst}
 use Rattle.bags_themes.specs.res_value.declared.res_id.ResId.{ResId}
 use Rattle.bags_themes.specs.overlay_map.Layer.{LayerOf}
 use Rattle.bags_themes.specs.overlay_map.Candidates.{CandOf}
@@ -90,3 +90,22 @@ pub walk_next : (stack : List LayerOf) (members : List ℕ → Type 0) (trace : 
 walk_next stack members trace walk next step due none same is passed walked =
     walk_over stack members trace (trace_from stack due) next
     (come_same members trace (after_walk stack walk (best_at walk)) (trace_from stack due) (λ d. sym (same d) ∙ ap (λ (s : CourseStep). trace_from stack s d) is) (walk_past_all stack members trace walk none passed)) walked
+
+-- ---- the first candidate of a list
+
+-- of any trace in which these candidates are ahead
+abbrev StandsFirst : ResId → Course → List LiveOf → Walk → Type 0
+StandsFirst id course live walk =
+    (stack : List LayerOf) (sets : List SetOf) (trace : List ℕ → Trace) (ahead : List CandOf) → ((d : List ℕ) → trace d ≡ rest_at (after_course stack course id.0) None ahead d) → LeavesOut (IsMember sets) ahead (candidates_in live)
+    → HaveWalked stack (IsMember sets) trace walk
+
+pub walk_first : {E : Type 0} (result : Result Walk E) (id : ResId) (course : Course) (live : List LiveOf) (stack : List LayerOf) (sets : List SetOf) (trace : List ℕ → Trace) (ahead : List CandOf) → IfOk result (StandsFirst id course live)
+    → ((d : List ℕ) → trace d ≡ rest_at (after_course stack course id.0) None ahead d) → LeavesOut (IsMember sets) ahead (candidates_in live) → IfOk result (HaveWalked stack (IsMember sets) trace)
+walk_first (Ok walk) id course live stack sets trace ahead first same left_out = first stack sets trace ahead same left_out
+walk_first (Err error) id course live stack sets trace ahead first same left_out = tt
+
+-- the same in each stack
+pub walk_among : {E : Type 0} (result : Result Walk E) (id : ResId) (course : Course) (live : List LiveOf) (sets : List SetOf) (trace : List ℕ → Trace) (ahead : List CandOf) → IfOk result (StandsFirst id course live)
+    → ((stack : List LayerOf) (d : List ℕ) → trace d ≡ rest_at (after_course stack course id.0) None ahead d) → LeavesOut (IsMember sets) ahead (candidates_in live) → IfOk result (λ walk. (stack : List LayerOf) → HaveWalked stack (IsMember sets) trace walk)
+walk_among (Ok walk) id course live sets trace ahead first same left_out = λ stack. first stack sets trace ahead (same stack) left_out
+walk_among (Err error) id course live sets trace ahead first same left_out = tt

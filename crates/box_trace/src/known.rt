@@ -52,7 +52,10 @@ fn are_of_one_coordinate(waiting: &[Waiting]) -> bool {
     let Some(first) = waiting.first() else {
         return true;
     };
-    waiting
-        .iter()
-        .all(|condition| condition.coord == first.coord)
+    for condition in waiting {
+        if condition.coord != first.coord {
+            return false;
+        }
+    }
+    true
 }

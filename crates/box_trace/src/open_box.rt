@@ -138,7 +138,7 @@ impl<'a, 's> OpenBox<'a, 's> {
         ensures common { IfOk result (λ common. (trace : List ℕ → Trace) → IsReached stack.now trace self.old → IsCommonTrace common self.old.members trace) }
     {
         if self.is_stale {
-            self.walk = self.walk.judged(alloc, &self.members)?;
+            self.walk.judge(alloc, &self.members)?;
             self.is_stale = false;
         }
         self.walk.go_on(alloc, stack, &self.members)

@@ -8,7 +8,7 @@ use crate::live::Live;
 use crate::parting::{Parting, parting_at};
 use crate::step::best_after;
 use crate::waiting::{Part, Waiting, open_conditions, still_open};
-use crate::weight::weightiest;
+use crate::weight::{Weighed, weightiest};
 use bags_themes::{Cand, Course, CourseStep, End, ResId, Stack};
 use config_box::{ConfigBox, Coord, OutOfMemory};
 use std::alloc::Global;
@@ -32,16 +32,16 @@ pub(crate) struct Walk<'a, 's> {
 }
 
 impl<'a, 's> Walk<'a, 's> {
-    ghost use Rattle.std.specs.Prelude.{◌≡◌, ℕ, List, IfOk, IfSome, IfNone, [], length, map};
+    ghost use Rattle.std.specs.Prelude.{◌≡◌, ℕ, List, IfOk, IfSome, IfNone, None, [], length, map};
     ghost use Rattle.config_box.specs.box_answers.NumberSet.{SetOf};
     ghost use Rattle.config_box.specs.box_answers.Members.{IsMember};
-    ghost use Rattle.bags_themes.specs.overlay_map.Candidates.{cand_of};
+    ghost use Rattle.bags_themes.specs.overlay_map.Candidates.{CandOf, cand_of};
     ghost use Rattle.bags_themes.specs.overlay_map.Layer.{LayerOf};
     ghost use Rattle.bags_themes.specs.reference_resolver.Trace.{Trace};
-    ghost use Rattle.bags_themes.specs.Course.{trace_from};
+    ghost use Rattle.bags_themes.specs.Course.{trace_from, after_course};
     ghost use Rattle.bags_themes.specs.declared.course.CourseStep.TheVariants.{LookUp};
-    ghost use Rattle.box_trace.specs.Live.{live_of, MarkedMatchAll};
-    ghost use Rattle.box_trace.specs.Walk.{live_ahead, HaveWalked, TellsMatches};
+    ghost use Rattle.box_trace.specs.Live.{live_of, candidates_in, LeavesOut, MarkedMatchAll};
+    ghost use Rattle.box_trace.specs.Walk.{rest_at, live_ahead, HaveWalked, TellsMatches};
     ghost use Rattle.box_trace.specs.Parting.{IsToldApart, IsParting};
     ghost use Rattle.box_trace.specs.CommonTrace.{IsCommonTrace};
     ghost use Rattle.box_trace.specs.TraceAmong.{trace_among};
@@ -60,14 +60,7 @@ impl<'a, 's> Walk<'a, 's> {
             CourseStep::LookUp(id, course) => Walk::at_look_up(alloc, stack, id, course, members),
             CourseStep::EndsAt(end) => {
                 let none = Live::of(alloc, &[], members)?;
-                Ok(Walk {
-                    id: ResId(0),
-                    course: Course::Ended(end),
-                    live: Rc::new(alloc, none)?,
-                    passed: 0,
-                    best: None,
-                    known: Known::Nothing,
-                })
+                Walk::at_first(alloc, ResId(0), Course::Ended(end), none)
             }
         }
     }
@@ -85,10 +78,28 @@ impl<'a, 's> Walk<'a, 's> {
         ensures course { IfOk result (λ walk. walk.course ≡ course.entry) }
     {
         let live = Live::new(alloc, stack, id, members)?;
+        Walk::at_first(alloc, id, course, live)
+    }
+
+    /// Before the first candidate of a list.
+    fn at_first(
+        alloc: Global,
+        id: ResId,
+        course: Course<'a, 's>,
+        live: Live<'a>,
+    ) -> Result<Walk<'a, 's>, OutOfMemory>
+        ensures walked { IfOk result (λ walk. (stack : List LayerOf) (sets : List SetOf) (trace : List ℕ → Trace) (ahead : List CandOf)
+            → ((d : List ℕ) → trace d ≡ rest_at (after_course stack course.entry id.0) None ahead d)
+            → LeavesOut (IsMember sets) ahead (candidates_in live.entry)
+            → HaveWalked stack (IsMember sets) trace walk) }
+        ensures live { IfOk result (λ walk. walk.live.value ≡ live.entry) }
+        ensures course { IfOk result (λ walk. walk.course ≡ course.entry) }
+    {
+        let live = Rc::new(alloc, live)?;
         Ok(Walk {
             id,
             course,
-            live: Rc::new(alloc, live)?,
+            live,
             passed: 0,
             best: None,
             known: Known::Nothing,
@@ -106,14 +117,7 @@ impl<'a, 's> Walk<'a, 's> {
     {
         let live = Live::among(alloc, candidates, members)?;
         let id = ResId(0);
-        Ok(Walk {
-            id,
-            course: Course::Ended(End::Absent { id }),
-            live: Rc::new(alloc, live)?,
-            passed: 0,
-            best: None,
-            known: Known::Nothing,
-        })
+        Walk::at_first(alloc, id, Course::Ended(End::Absent { id }), live)
     }
 
     /// The same walk for a part of the members by a test of a coordinate, before it is judged where that is due. Its list is
@@ -132,25 +136,18 @@ impl<'a, 's> Walk<'a, 's> {
         })
     }
 
-    /// The same walk with a list of the candidates ahead that members of a smaller box match.
-    pub(crate) fn judged(
-        &self,
-        alloc: Global,
-        members: &ConfigBox,
-    ) -> Result<Walk<'a, 's>, OutOfMemory>
-        requires { MarkedMatchAll (IsMember members.now) self.now.live.value }
-        ensures walked { IfOk result (λ walk. (stack : List LayerOf) (trace : List ℕ → Trace) → HaveWalked stack (IsMember members.now) trace self.now → HaveWalked stack (IsMember members.now) trace walk) }
-        ensures marked { IfOk result (λ walk. MarkedMatchAll (IsMember members.now) walk.live.value) }
+    /// Keeps of the candidates ahead those that members of a smaller box match.
+    pub(crate) fn judge(&mut self, alloc: Global, members: &ConfigBox) -> Result<(), OutOfMemory>
+        requires { MarkedMatchAll (IsMember members.now) self.old.live.value }
+        ensures walked { (stack : List LayerOf) (trace : List ℕ → Trace) → HaveWalked stack (IsMember members.now) trace self.old → HaveWalked stack (IsMember members.now) trace self.new }
+        ensures marked { MarkedMatchAll (IsMember members.now) self.new.live.value }
     {
         let live = Live::of(alloc, self.ahead(), members)?;
-        Ok(Walk {
-            id: self.id,
-            course: self.course.shared()?,
-            live: Rc::new(alloc, live)?,
-            passed: 0,
-            best: self.best,
-            known: self.known.moved(),
-        })
+        let judged = Rc::new(alloc, live)?;
+        self.passed = 0;
+        self.live = judged;
+        self.known = self.known.moved();
+        Ok(())
     }
 
     /// The candidates of the id that lie ahead.
@@ -199,26 +196,31 @@ impl<'a, 's> Walk<'a, 's> {
         ensures walked { (stack : List LayerOf) (trace : List ℕ → Trace) → HaveWalked stack (IsMember members.now) trace self.old → HaveWalked stack (IsMember members.now) trace self.new }
         ensures told { IfOk result (λ parting. (stack : List LayerOf) (trace : List ℕ → Trace) → HaveWalked stack (IsMember members.now) trace self.old → IsToldApart first.entry members.now trace → IsToldApart parting members.now trace) }
     {
-        let waiting = match &self.known {
-            Known::OfOneCoordinate => return Ok(first),
-            Known::Were(known, at) => {
-                let part = Part { members, at: *at };
-                still_open(alloc, known.as_ref(), self.ahead(), self.passed, part)?
-            }
-            Known::Nothing | Known::Are(_) => {
-                open_conditions(alloc, self.ahead(), self.passed, members)?
-            }
-        };
+        if let Known::OfOneCoordinate = self.known {
+            return Ok(first);
+        }
+        let waiting = self.waiting(alloc, members)?;
         let parting = self.parting_of(weightiest(alloc, &waiting)?, members);
         self.known = Known::are(alloc, waiting)?;
         Ok(parting.unwrap_or(first))
     }
 
+    /// The open conditions of the candidates ahead.
+    fn waiting(&self, alloc: Global, members: &ConfigBox) -> Result<Vec<Waiting>, OutOfMemory> {
+        match &self.known {
+            Known::Were(known, at) => {
+                let part = Part { members, at: *at };
+                still_open(alloc, known.as_ref(), self.ahead(), self.passed, part)
+            }
+            _ => open_conditions(alloc, self.ahead(), self.passed, members),
+        }
+    }
+
     /// Where a condition of one of the candidates ahead parts the members.
-    fn parting_of(&self, condition: Option<Waiting>, members: &ConfigBox) -> Option<Parting<'a>>
+    fn parting_of(&self, weighed: Option<Weighed>, members: &ConfigBox) -> Option<Parting<'a>>
         ensures { IfSome result (λ parting. (stack : List LayerOf) (trace : List ℕ → Trace) → HaveWalked stack (IsMember members.now) trace self.now → IsToldApart parting members.now trace) }
     {
-        let condition = condition?;
+        let condition = weighed?.condition;
         let place = condition.place.checked_sub(self.passed)?;
         let live = self.ahead().get(place)?;
         parting_at(members, &live.0, condition.coord)

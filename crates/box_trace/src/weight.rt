@@ -6,7 +6,7 @@ use std::alloc::Global;
 use std::cmp::Reverse;
 
 /// What speaks for a condition, the weightiest first. No two have the same.
-#[derive(Clone, Copy, PartialEq, Eq, PartialOrd, Ord)]
+#[derive(Clone, Copy, PartialEq, PartialOrd)]
 struct Weight {
     /// How many conditions ask its coordinate, and how many of those alike are the only ones of their candidates.
     askers: usize,
@@ -20,16 +20,16 @@ struct Weight {
 }
 
 #[derive(Clone, Copy)]
-struct Weighed {
+pub(crate) struct Weighed {
     weight: Weight,
-    condition: Waiting,
+    pub(crate) condition: Waiting,
 }
 
 /// The weightiest of some conditions. They are sorted, so that those stand together that ask for the same.
 pub(crate) fn weightiest(
     alloc: Global,
     waiting: &[Waiting],
-) -> Result<Option<Waiting>, OutOfMemory> {
+) -> Result<Option<Weighed>, OutOfMemory> {
     let mut sorted = Vec::from_slice(alloc, waiting)?;
     sorted.sort_unstable_by_key(|condition| (condition.coord.place(), condition.number));
     let mut chosen = None;
@@ -38,14 +38,17 @@ pub(crate) fn weightiest(
             chosen = weightier(chosen, alike, of_coord.len());
         }
     }
-    Ok(chosen.map(|weighed: Weighed| weighed.condition))
+    Ok(chosen)
 }
 
 /// The one that was chosen before, or a weightier one of those that ask for the same. So many ask their coordinate.
 fn weightier(before: Option<Weighed>, alike: &[Waiting], askers: usize) -> Option<Weighed> {
-    let askers = alike.iter().fold(askers, |sum: usize, condition| {
-        sum.saturating_add(usize::from(condition.is_only))
-    });
+    let mut askers = askers;
+    for condition in alike {
+        if condition.is_only {
+            askers = askers.saturating_add(1);
+        }
+    }
     let mut chosen = before;
     for condition in alike {
         let weight = Weight {
@@ -55,11 +58,14 @@ fn weightier(before: Option<Weighed>, alike: &[Waiting], askers: usize) -> Optio
             place: Reverse(condition.place),
             coord: Reverse(condition.coord.place()),
         };
-        if chosen.is_none_or(|best: Weighed| weight > best.weight) {
-            chosen = Some(Weighed {
-                weight,
-                condition: *condition,
-            });
+        match chosen {
+            Some(best) if best.weight >= weight => {}
+            _ => {
+                chosen = Some(Weighed {
+                    weight,
+                    condition: *condition,
+                });
+            }
         }
     }
     chosen

@@ -64,7 +64,6 @@ fn write_members<W: Write + Drop>(device: &Device, out: &mut W) -> io::Result<()
     Ok(())
 }
 
-#[tactic(auto, using(config_record::proofs::SeparatorSteps::continues))]
 fn write_each<W: Write + Drop>(
     device: &Device,
     coords: &[Coord],

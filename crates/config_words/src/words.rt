@@ -68,12 +68,18 @@ const WORDS: [Word; 50] = [
     Word { text: b"wheel", coord: Coord::Navigation, number: 4 },
 ];
 
-/// The word that a text is.
 #[tactic(auto, unfolding(crate::specs::Words::words))]
+fn all_words() -> &'static [Word]
+    ensures { map word_of result.now ≡ words }
+{
+    &WORDS
+}
+
+/// The word that a text is.
 pub(crate) fn find_word(text: &[u8]) -> Option<Word>
     ensures { option_map word_of result ≡ find_word words text.now }
 {
-    word_among(&WORDS, text)
+    word_among(all_words(), text)
 }
 
 #[tactic(auto, unfolding(crate::specs::Words::find_word))]
@@ -96,11 +102,10 @@ pub fn is_word(text: &[u8]) -> bool
 }
 
 /// The text of the word that is a number at a coordinate.
-#[tactic(auto, unfolding(crate::specs::Words::words))]
 pub fn word_for(coord: Coord, number: u32) -> Option<&'static [u8]>
     ensures { option_map (λ text. text.now) result ≡ word_for words coord number }
 {
-    text_among(&WORDS, coord, number)
+    text_among(all_words(), coord, number)
 }
 
 #[tactic(auto, unfolding(crate::specs::Words::word_for))]

@@ -135,7 +135,6 @@ fn written_script(text: &[u8]) -> Option<[u8; 4]>
     }
 }
 
-#[tactic(auto, using(crate::proofs::TextLemmas::no_dash_before, crate::proofs::TextLemmas::behind_script))]
 fn with_script(text: &[u8], script: [u8; 4]) -> Result<Locale, LocaleFault>
     requires { written_script (language_part (behind_language text.now)) ≡ Some script }
     ensures { result ≡ with_script text.now script }
@@ -159,7 +158,6 @@ fn with_likely_script(text: &str) -> Result<Locale, LocaleFault>
 }
 
 // The locale of two pieces of a text, of which the second begins with its first dash, or is empty.
-#[tactic(auto, using(crate::proofs::TextLemmas::language_alone_is, crate::proofs::TextLemmas::language_and_region_is))]
 fn read_pieces(language: &[u8], region: &[u8]) -> Result<Locale, LocaleFault>
     requires no_dash { position_or_len is_dash language.now ≡ length language.now }
     requires dash { position_or_len is_dash region.now ≡ 0 }

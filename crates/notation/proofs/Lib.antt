@@ -22,3 +22,4 @@ pub mod NumberWords
 pub mod LocaleWords
 pub mod DevicesNamed
 pub mod SetLaw
+pub mod WrittenSteps

@@ -115,7 +115,7 @@ fn raise_overlaid<'a>(
     if !uses.has_open(&look_up.rows) {
         return Ok(Some(left));
     }
-    let raised = raise_loaded(
+    raise_loaded(
         alloc,
         stack,
         &look_up,
@@ -123,6 +123,5 @@ fn raise_overlaid<'a>(
         RowUse::Overlaid,
         left,
         uses,
-    )?;
-    Ok(raised)
+    )
 }

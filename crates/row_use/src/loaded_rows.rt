@@ -92,8 +92,7 @@ fn look_at<'a, 's>(
         CommonTrace::Mixed(first) => {
             let parting = part.weightiest_parting(alloc, first)?;
             let test = parting_test(alloc, &part.members, &parting)?;
-            open_halves(alloc, part, &test, open_boxes)?;
-            Ok(())
+            open_halves(alloc, part, &test, open_boxes)
         }
     }
 }

@@ -23,23 +23,15 @@ use Rattle.stack_diff.proofs.DifferenceTells.{removed_first, added_first, both_f
 abbrev pub seen : List RowContent → List RowContentOf
 seen rows = map row_content_of rows
 
--- what was told of two bags, and what is left of them
-pub record RowsAllBut (done : List RowDifference) (left left_after before after : List RowContent) : Type 0 where
-  pub told : map row_difference_of done ++ row_differences (seen left) (seen left_after) ≡ row_differences (seen before) (seen after)
-
--- nothing was told yet
-pub rows-none : (done : List RowDifference) (left left_after before after : List RowContent) → done ≡ [] → left ≡ before → left_after ≡ after → RowsAllBut done left left_after before after
-rows-none done left left_after before after none is is_after = record {
-  told = ap (λ (rows : List RowDifference). map row_difference_of rows ++ row_differences (seen left) (seen left_after)) none
-      ∙ ap (λ (rows : List RowContent). row_differences (seen rows) (seen left_after)) is
-      ∙ ap (λ (rows : List RowContent). row_differences (seen before) (seen rows)) is_after;
-}
+-- what was told of two bags, and what is left of them, make the whole
+pub record RowsAllBut (done : List RowDifference) (left left_after : List RowContent) (whole : List RowDifferenceOf) : Type 0 where
+  pub told : map row_difference_of done ++ row_differences (seen left) (seen left_after) ≡ whole
 
 -- all was told
-pub rows-done : (done : List RowDifference) (left left_after before after : List RowContent) → left ≡ [] → left_after ≡ [] → RowsAllBut done left left_after before after
-    → map row_difference_of done ≡ row_differences (seen before) (seen after)
+pub rows-done : (done : List RowDifference) (left left_after : List RowContent) (whole : List RowDifferenceOf) → left ≡ [] → left_after ≡ [] → RowsAllBut done left left_after whole
+    → map row_difference_of done ≡ whole
 unfolding row_differences
-rows-done done left left_after before after none none_after so_far =
+rows-done done left left_after whole none none_after so_far =
     sym (append-nil (map row_difference_of done))
     ∙ ap (λ (rows : List RowContent). map row_difference_of done ++ row_differences (seen rows) []) (sym none)
     ∙ ap (λ (rows : List RowContent). map row_difference_of done ++ row_differences (seen left) (seen rows)) (sym none_after)
@@ -71,10 +63,10 @@ first-is row (first ∷ left) n is some e = ap (λ (r : RowContent). r ∷ left)
 -- ---- one row more
 
 -- where this stands first of what is left
-rows-next : (done more : List RowDifference) (front : List RowDifferenceOf) (left left_after rest rest_after before after : List RowContent)
+rows-next : (done more : List RowDifference) (front : List RowDifferenceOf) (left left_after rest rest_after : List RowContent) (whole : List RowDifferenceOf)
     → row_differences (seen left) (seen left_after) ≡ front ++ row_differences (seen rest) (seen rest_after) → map row_difference_of more ≡ map row_difference_of done ++ front
-    → RowsAllBut done left left_after before after → RowsAllBut more rest rest_after before after
-rows-next done more front left left_after rest rest_after before after split pushed so_far =
+    → RowsAllBut done left left_after whole → RowsAllBut more rest rest_after whole
+rows-next done more front left left_after rest rest_after whole split pushed so_far =
     let behind = row_differences (seen rest) (seen rest_after) in
     record {
       told = ap (λ (rows : List RowDifferenceOf). rows ++ behind) pushed
@@ -101,11 +93,11 @@ unfolding row_differences
 added_alone row rows = refl
 
 -- the bag after has no more rows
-pub row-removed_alone : (done more : List RowDifference) (row : RowContent) (taken : Option RowContent) (left left_after rest before after : List RowContent) → TakesFirst row taken left rest → left_after ≡ []
-    → more ≡ done ++ map of_row.Removed (option_to_list taken) → RowsAllBut done left left_after before after → RowsAllBut more rest left_after before after
-row-removed_alone done more row taken left left_after rest before after takes none e so_far =
+pub row-removed_alone : (done more : List RowDifference) (row : RowContent) (taken : Option RowContent) (left left_after rest : List RowContent) (whole : List RowDifferenceOf) → TakesFirst row taken left rest → left_after ≡ []
+    → more ≡ done ++ map of_row.Removed (option_to_list taken) → RowsAllBut done left left_after whole → RowsAllBut more rest left_after whole
+row-removed_alone done more row taken left left_after rest whole takes none e so_far =
     let seen_none : seen left_after ≡ [] = ap seen none in
-    rows-next done more (RowRemoved (row_content_of row) ∷ []) left left_after rest left_after before after
+    rows-next done more (RowRemoved (row_content_of row) ∷ []) left left_after rest left_after whole
     (ap (λ (rows : List RowContent). row_differences (seen rows) (seen left_after)) takes.left_is
     ∙ ap (λ (others : List RowContentOf). row_differences (row_content_of row ∷ seen rest) others) seen_none
     ∙ removed_alone (row_content_of row) (seen rest)
@@ -113,18 +105,18 @@ row-removed_alone done more row taken left left_after rest before after takes no
     (pushed_one done more of_row.Removed row taken e takes.is) so_far
 
 -- the bag before has no more rows
-pub row-added_alone : (done more : List RowDifference) (other : RowContent) (taken : Option RowContent) (left left_after rest_after before after : List RowContent) → TakesFirst other taken left_after rest_after → left ≡ []
-    → more ≡ done ++ map of_row.Added (option_to_list taken) → RowsAllBut done left left_after before after → RowsAllBut more left rest_after before after
-row-added_alone done more other taken left left_after rest_after before after takes none e so_far =
+pub row-added_alone : (done more : List RowDifference) (other : RowContent) (taken : Option RowContent) (left left_after rest_after : List RowContent) (whole : List RowDifferenceOf) → TakesFirst other taken left_after rest_after → left ≡ []
+    → more ≡ done ++ map of_row.Added (option_to_list taken) → RowsAllBut done left left_after whole → RowsAllBut more left rest_after whole
+row-added_alone done more other taken left left_after rest_after whole takes none e so_far =
     let seen_none : seen left ≡ [] = ap seen none in
-    rows-next done more (RowAdded (row_content_of other) ∷ []) left left_after left rest_after before after
+    rows-next done more (RowAdded (row_content_of other) ∷ []) left left_after left rest_after whole
     (ap (λ (rows : List RowContent). row_differences (seen left) (seen rows)) takes.left_is
     ∙ ap (λ (others : List RowContentOf). row_differences others (row_content_of other ∷ seen rest_after)) seen_none
     ∙ added_alone (row_content_of other) (seen rest_after)
     ∙ ap (λ (others : List RowContentOf). RowAdded (row_content_of other) ∷ row_differences others (seen rest_after)) (sym seen_none))
     (pushed_one done more of_row.Added other taken e takes.is) so_far
 
-module _ (done more : List RowDifference) (row other : RowContent) (taken taken_after : Option RowContent) (left left_after rest rest_after before after : List RowContent) where
+module _ (done more : List RowDifference) (row other : RowContent) (taken taken_after : Option RowContent) (left left_after rest rest_after : List RowContent) (whole : List RowDifferenceOf) where
   abbrev Order : Ordering
   Order = cmp-value.it row.key other.key
 
@@ -138,20 +130,20 @@ module _ (done more : List RowDifference) (row other : RowContent) (taken taken_
   firsts is is_after = ap (λ (rows : List RowContent). row_differences (seen rows) (seen left_after)) is ∙ ap (λ (rows : List RowContent). row_differences (row_content_of row ∷ seen rest) (seen rows)) is_after
 
   -- a row that the bag after does not have
-  pub row-removed : Order ≡ Less → TakesFirst row taken left rest → left_after ≡ other ∷ rest_after → more ≡ done ++ map of_row.Removed (option_to_list taken) → RowsAllBut done left left_after before after
-      → RowsAllBut more rest left_after before after
+  pub row-removed : Order ≡ Less → TakesFirst row taken left rest → left_after ≡ other ∷ rest_after → more ≡ done ++ map of_row.Removed (option_to_list taken) → RowsAllBut done left left_after whole
+      → RowsAllBut more rest left_after whole
   row-removed less takes is_after e so_far =
-      rows-next done more (RowRemoved (row_content_of row) ∷ []) left left_after rest left_after before after
+      rows-next done more (RowRemoved (row_content_of row) ∷ []) left left_after rest left_after whole
       (firsts takes.left_is is_after
       ∙ removed_first (row_content_of row) (row_content_of other) (seen rest) (seen rest_after) (ordered Less less)
       ∙ ap (λ (rows : List RowContent). RowRemoved (row_content_of row) ∷ row_differences (seen rest) (seen rows)) (sym is_after))
       (pushed_one done more of_row.Removed row taken e takes.is) so_far
 
   -- a row that the bag before does not have
-  pub row-added : Order ≡ Greater → left ≡ row ∷ rest → TakesFirst other taken_after left_after rest_after → more ≡ done ++ map of_row.Added (option_to_list taken_after) → RowsAllBut done left left_after before after
-      → RowsAllBut more left rest_after before after
+  pub row-added : Order ≡ Greater → left ≡ row ∷ rest → TakesFirst other taken_after left_after rest_after → more ≡ done ++ map of_row.Added (option_to_list taken_after) → RowsAllBut done left left_after whole
+      → RowsAllBut more left rest_after whole
   row-added greater is takes e so_far =
-      rows-next done more (RowAdded (row_content_of other) ∷ []) left left_after left rest_after before after
+      rows-next done more (RowAdded (row_content_of other) ∷ []) left left_after left rest_after whole
       (firsts is takes.left_is
       ∙ added_first (row_content_of row) (row_content_of other) (seen rest) (seen rest_after) (ordered Greater greater) (turned Greater greater)
       ∙ ap (λ (rows : List RowContent). RowAdded (row_content_of other) ∷ row_differences (seen rows) (seen rest_after)) (sym is))
@@ -159,9 +151,9 @@ module _ (done more : List RowDifference) (row other : RowContent) (taken taken_
 
   -- two rows of one key
   pub row-both : Order ≡ Equal → TakesFirst row taken left rest → TakesFirst other taken_after left_after rest_after
-      → map row_difference_of more ≡ map row_difference_of done ++ changed_rows (option_zip taken taken_after) → RowsAllBut done left left_after before after → RowsAllBut more rest rest_after before after
+      → map row_difference_of more ≡ map row_difference_of done ++ changed_rows (option_zip taken taken_after) → RowsAllBut done left left_after whole → RowsAllBut more rest rest_after whole
   row-both equal takes takes_after pushed so_far =
-      rows-next done more (changed_row (row_content_of row) (row_content_of other)) left left_after rest rest_after before after
+      rows-next done more (changed_row (row_content_of row) (row_content_of other)) left left_after rest rest_after whole
       (firsts takes.left_is takes_after.left_is
       ∙ both_first (row_content_of row) (row_content_of other) (seen rest) (seen rest_after) (ordered Equal equal) (turned Equal equal))
       (pushed

@@ -165,25 +165,27 @@ fn row_differences<'a>(
     let mut rows = Vec::new(alloc);
     let mut before = VecDeque::from(before);
     let mut after = VecDeque::from(after);
+    push_differences(&mut rows, &mut before, &mut after)?;
+    Ok(rows)
+}
+
+// The same, where both are lent: so they are dropped in one place.
+fn push_differences<'a>(
+    rows: &mut Vec<RowDifference<'a>>,
+    before: &mut VecDeque<RowContent<'a>>,
+    after: &mut VecDeque<RowContent<'a>>,
+) -> Result<(), AllocError>
+    ensures { OnOk result (map row_difference_of rows.new.items ≡ map row_difference_of rows.old.items ++ row_differences (map row_content_of before.old.items) (map row_content_of after.old.items)) }
+{
     'rows: loop {
         match (before.front(), after.front()) {
-            (None, None) => return Ok(rows),
-            (Some(_), None) => {
-                push_removed(&mut rows, before.pop_front())?;
-            }
-            (None, Some(_)) => {
-                push_added(&mut rows, after.pop_front())?;
-            }
+            (None, None) => return Ok(()),
+            (Some(_), None) => push_removed(rows, before.pop_front())?,
+            (None, Some(_)) => push_added(rows, after.pop_front())?,
             (Some(row), Some(other)) => match row.key.cmp(&other.key) {
-                Ordering::Less => {
-                    push_removed(&mut rows, before.pop_front())?;
-                }
-                Ordering::Greater => {
-                    push_added(&mut rows, after.pop_front())?;
-                }
-                Ordering::Equal => {
-                    push_changed(&mut rows, before.pop_front().zip(after.pop_front()))?;
-                }
+                Ordering::Less => push_removed(rows, before.pop_front())?,
+                Ordering::Greater => push_added(rows, after.pop_front())?,
+                Ordering::Equal => push_changed(rows, before.pop_front().zip(after.pop_front()))?,
             },
         }
     }

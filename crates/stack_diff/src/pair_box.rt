@@ -9,8 +9,9 @@ ghost use Rattle.cert_maker.specs.cert_checker.box_trace.OpenBox.{IsReached};
 ghost use Rattle.cert_maker.specs.config_box.Tests.{test_of};
 ghost use Rattle.cert_maker.specs.Growth.{CanBeAsked};
 ghost use Rattle.stack_diff.specs.PairBox.{members_of, IsTraceOf, IsOpen, IsPairTrace, OpensHalves};
+ghost use Rattle.stack_diff.specs.Sides.{trace_in};
 
-use crate::pair::Pair;
+use crate::pair::{Pair, Resource};
 use answer_text::End;
 use cert_maker::{CommonTrace, ConfigBox, OpenBox, OutOfMemory, Parting, Split, Stack, Test};
 use std::alloc::Global;
@@ -41,21 +42,9 @@ impl<'a, 's> PairBox<'a, 's> {
         ensures open { IfOk result (IsOpen pair.entry) }
         ensures sets { IfOk result (λ _. IsBox members.now) }
     {
-        let of_before = members.shared(alloc)?;
-        let of_after = members.shared(alloc)?;
         Ok(PairBox {
-            before: OpenBox::whole_of_content(
-                alloc,
-                pair.before.stack.stack(),
-                pair.before.id,
-                of_before,
-            )?,
-            after: OpenBox::whole_of_content(
-                alloc,
-                pair.after.stack.stack(),
-                pair.after.id,
-                of_after,
-            )?,
+            before: whole_of(alloc, pair.before, members)?,
+            after: whole_of(alloc, pair.after, members)?,
         })
     }
 
@@ -157,6 +146,20 @@ impl<'a, 's> PairBox<'a, 's> {
 }
 
 ghost use Rattle.stack_diff.specs.declared.pair.Pair.{Pair};
+
+// A whole box, where nothing of a resource is asked yet.
+fn whole_of<'a, 's>(
+    alloc: Global,
+    resource: Resource<'_, 'a>,
+    members: &ConfigBox,
+) -> Result<OpenBox<'a, 's>, OutOfMemory>
+    ensures members { IfOk result (λ part. part.members ≡ members.now) }
+    ensures reached { IfOk result (IsReached resource.entry.stack.now (trace_in resource.entry)) }
+    ensures sets { IfOk result (λ _. IsBox members.now) }
+{
+    let members = members.shared(alloc)?;
+    OpenBox::whole_of_content(alloc, resource.stack.stack(), resource.id, members)
+}
 
 // The same of one stack; where they part, at the weightiest question.
 fn trace_in<'a, 's>(

@@ -49,32 +49,19 @@ pub(crate) fn grow_tree<'a>(
         if nodes as u128 + open_boxes.len() as u128 > most as u128 {
             return Ok(None);
         }
-        let Some(part) = open_boxes.pop() else {
+        let Some(mut part) = open_boxes.pop() else {
             return Ok(Some(Leaves { told, nodes }));
         };
-        add_node(alloc, pair, part, &mut open_boxes, &mut told)?;
+        let added = add_node(alloc, pair, &mut part, &mut open_boxes, &mut told);
+        drop(part);
+        added?;
         nodes += 1;
     }
 }
 
 /// Adds the node to which the members of an open box come: a test, which opens its halves, or a leaf, which tells how
-/// the stacks differ for them.
+/// the stacks differ for them. The box is lent, so that it is dropped in one place.
 fn add_node<'a, 's>(
-    alloc: Global,
-    pair: Pair<'_, 'a>,
-    part: PairBox<'a, 's>,
-    open_boxes: &mut Vec<PairBox<'a, 's>>,
-    told: &mut Vec<Leaf<'a>>,
-) -> Result<(), OutOfMemory>
-    requires { IsOpen pair part }
-    ensures { IfOk result (λ _. AddsNode pair.entry part.entry open_boxes.old.items open_boxes.new.items told.old.items told.new.items) }
-{
-    let mut part = part;
-    add_node_of(alloc, pair, &mut part, open_boxes, told)
-}
-
-// The same, where the box is lent: so it is dropped in one place.
-fn add_node_of<'a, 's>(
     alloc: Global,
     pair: Pair<'_, 'a>,
     part: &mut PairBox<'a, 's>,
@@ -87,13 +74,11 @@ fn add_node_of<'a, 's>(
     let parting = match part.trace(alloc, pair)? {
         PairTrace::Parted(parting) => parting,
         PairTrace::One { before, after } => {
-            tell_leaf(alloc, pair, before, after, part.members(), told)?;
-            return Ok(());
+            return tell_leaf(alloc, pair, before, after, part.members(), told);
         }
     };
     let test = parting_test(alloc, part.members(), &parting)?;
-    part.open_halves(alloc, &test, open_boxes)?;
-    Ok(())
+    part.open_halves(alloc, &test, open_boxes)
 }
 
 // Tells how the stacks differ for these members, which come to these ends, if they do.

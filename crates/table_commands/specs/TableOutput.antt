@@ -55,11 +55,15 @@ id_line stack id = id_text id.0 ++ its_name stack id.0 ++ 10 ∷ []
 abbrev pub ids_text : List LayerOf → List ResId → List ℕ
 ids_text stack ids = flat_map (id_line stack) ids
 
--- what `ids` prints of these layers: a line for each id that base layers have rows of, in rising order
+-- a line for each id that base layers have rows of, in rising order
+abbrev pub listed_ids : List LayerOf → Output
+listed_ids stack = record { status = Done; text = ids_text stack (ids_of_type None (base_tables stack)) }
+
+-- what `ids` prints of these layers
 unfoldable pub ids_output : List LayerBytes → Result Output ToolFault
 ids_output layers = do
   stack ← stack_in layers
-  Ok (record { status = Done; text = ids_text stack (ids_of_type None (base_tables stack)) })
+  Ok (listed_ids stack)
 
 -- ---- what their words ask, from what the places have
 

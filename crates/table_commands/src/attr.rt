@@ -3,7 +3,7 @@
 ghost use Rattle.std.specs.Prelude.{◌≡◌, map, string_bytes, Ok, IfSome};
 ghost use Rattle.contract_words.specs.Writes.{Writes};
 ghost use Rattle.command_base.specs.DeviceText.{device_text_of};
-ghost use Rattle.command_base.specs.FilesSeen.{asked_held};
+ghost use Rattle.command_base.specs.FilesSeen.{asked_held, layers_held};
 ghost use Rattle.command_base.specs.Output.{Prints};
 ghost use Rattle.command_base.specs.StackBytesSeen.{layer_bytes};
 ghost use Rattle.command_base.specs.Stop.{GivesOrStops};
@@ -19,8 +19,8 @@ use crate::opened::Opened;
 use answer_notation::{Naming, attr_text};
 use answer_text::{NamesBeside, write_end_with_name, write_id};
 use command_base::{
-    AskedFiles, DeviceText, End, Inputs, LayerParts, LocaleRule, Named, ResId, Status, Stop, Theme,
-    ToolFault, asked_sets,
+    AskedFiles, DeviceText, End, Inputs, LayerFiles, LayerParts, LocaleRule, Named, ResId, Status,
+    Stop, Theme, ToolFault, asked_sets,
 };
 use names::{id_named, ids_named};
 use std::alloc::Global;
@@ -71,10 +71,9 @@ impl<'a> Attr<'a> {
         ensures answers { PrintsAttrFiles W.contents out.old out.new self.now (Ok (asked_held files.now)) result }
         ensures unwritten { IsKept out.old out.new result }
     {
-        let layers = files.layers.layers(alloc)?;
         let asked = OpenAttr::open(
             alloc,
-            &layers,
+            &files.layers,
             &files.device,
             self.locales,
             self.attr,
@@ -104,17 +103,17 @@ impl<'a> OpenAttr<'a> {
     #[tactic(auto, unfolding(crate::specs::AttrOutput::attr_opened))]
     fn open<'t>(
         alloc: Global,
-        layers: &[LayerParts<&'a [u8]>],
+        files: &'a LayerFiles,
         device: &DeviceText<'t>,
         rule: LocaleRule,
         attr: Named<'_>,
         words: &[String],
     ) -> Result<OpenAttr<'a>, Stop<'t>>
         ensures { GivesOrStops attr_seen result
-            (attr_opened rule (map layer_bytes layers.now) (device_text_of device.now) (named_of attr.entry) (map string_bytes words.now)) }
+            (attr_opened rule (layers_held files.now) (device_text_of device.now) (named_of attr.entry) (map string_bytes words.now)) }
     {
         let sets = asked_sets(alloc, words)?;
-        let opened = Opened::read_by(alloc, layers, device, rule)?;
+        let opened = Opened::read_by(alloc, files, device, rule)?;
         let attr = id_named(alloc, &opened.stack, attr)?;
         let styles = ids_named(alloc, &opened.stack, &sets)?;
         Ok(OpenAttr {
@@ -184,6 +183,7 @@ impl Opened<'_> {
         match Theme::of_styles(alloc, &self.stack, styles, force, &self.device) {
             Ok(theme) => {
                 let end = theme.attribute(&self.stack, attr, &self.device);
+                drop(theme);
                 write_attribute(&names, attr, end, out)?;
                 Ok(status_of_end(end))
             }
@@ -203,13 +203,16 @@ impl Opened<'_> {
     ) -> Result<Status, ToolFault>
         ensures { Prints W.contents out.old out.new result (Ok (attr_in_notation (opened_of self.now) (map string_bytes paths.now) attr.0 styles.now force)) }
     {
-        let naming = Naming::of(alloc, &self.stack, paths)?;
         match Theme::of_styles(alloc, &self.stack, styles, force, &self.device) {
             Ok(theme) => {
                 let slot = theme.slot(attr);
+                let status = status_of_end(theme.attribute(&self.stack, attr, &self.device));
+                drop(theme);
+                let naming = Naming::of(alloc, &self.stack, paths)?;
                 let text = attr_text(&naming, &self.device, force, attr, styles, slot)?;
+                drop(naming);
                 out.write_all(&text)?;
-                Ok(status_of_end(theme.attribute(&self.stack, attr, &self.device)))
+                Ok(status)
             }
             Err(fault) => print_no_bag(fault, out),
         }

@@ -63,8 +63,13 @@ impl<'a> Bag<'a> {
         ensures answers { PrintsBagFiles W.contents out.old out.new self.now (Ok (device_held files.now)) result }
         ensures unwritten { IsKept out.old out.new result }
     {
-        let layers = files.layers.layers(alloc)?;
-        let asked = OpenId::open(alloc, &layers, &files.device, self.locales, self.resource)?;
+        let asked = OpenId::open(
+            alloc,
+            &files.layers,
+            &files.device,
+            self.locales,
+            self.resource,
+        )?;
         Ok(asked.bag(alloc, self, files.layers.paths(), out)?)
     }
 }
@@ -135,9 +140,9 @@ impl Opened<'_> {
     ) -> Result<Status, ToolFault>
         ensures { Prints W.contents out.old out.new result (Ok (bag_in_notation (opened_of self.now) (map string_bytes paths.now) id.0)) }
     {
-        let naming = Naming::of(alloc, &self.stack, paths)?;
         match bag(alloc, &self.stack, id, &self.device) {
             Ok(rows) => {
+                let naming = Naming::of(alloc, &self.stack, paths)?;
                 let text = bag_text(&naming, id, rows.as_slice())?;
                 print_text(&text, out)
             }

@@ -4,12 +4,12 @@ ghost use Rattle.std.specs.Prelude.{◌≡◌, Ok, IfSome};
 ghost use Rattle.command_base.specs.answer_text.config_record.DeviceSeen.{device_numbers};
 ghost use Rattle.command_base.specs.CarriesOut.{IsKept};
 ghost use Rattle.command_base.specs.FilesSeen.{bytes_of};
-ghost use Rattle.command_base.specs.Output.{Prints};
 ghost use Rattle.command_base.specs.Stop.{GivesOrStops};
 ghost use Rattle.command_base.specs.declared.fault.ToolFault.TheVariants.{Write};
 ghost use Rattle.config_words.specs.JsonText.{device_json};
-ghost use Rattle.table_commands.specs.DeviceOutput.{PrintsDevice, as_output, config_of, device_form};
+ghost use Rattle.table_commands.specs.DeviceOutput.{PrintsDevice, config_of, device_form};
 
+use crate::text::print_text;
 use command_base::{Device, DeviceText, Inputs, LocaleRule, Status, Stop, ToolFault};
 use config_words::{NoLine, print_config_by, write_device_json};
 use std::alloc::Global;
@@ -77,11 +77,4 @@ fn json_text(alloc: Global, device: &Device) -> Result<Vec<u8>, Stop<'static>>
         // To a `Vec` only a want of memory is a fault.
         Err(_) => Err(Stop::Tool(ToolFault::OutOfMemory)),
     }
-}
-
-fn print_text<W: Write + Drop>(text: &[u8], out: &mut W) -> Result<Status, ToolFault>
-    ensures { Prints W.contents out.old out.new result (Ok (as_output text.now)) }
-{
-    out.write_all(text)?;
-    Ok(Status::Done)
 }

@@ -62,8 +62,13 @@ impl<'a> Explain<'a> {
         ensures answers { ExplainsFiles W.contents out.old out.new self.now (Ok (device_held files.now)) result }
         ensures unwritten { IsKept out.old out.new result }
     {
-        let layers = files.layers.layers(alloc)?;
-        let asked = OpenId::open(alloc, &layers, &files.device, self.locales, self.resource)?;
+        let asked = OpenId::open(
+            alloc,
+            &files.layers,
+            &files.device,
+            self.locales,
+            self.resource,
+        )?;
         Ok(asked.explain(alloc, self, files.layers.paths(), out)?)
     }
 }
@@ -136,6 +141,7 @@ impl Opened<'_> {
     {
         let naming = Naming::of(alloc, &self.stack, paths)?;
         let text = explain_text(&naming, all, &self.device, id)?;
+        drop(naming);
         out.write_all(&text)?;
         Ok(status_of_end(resolve(&self.stack, id, &self.device)))
     }

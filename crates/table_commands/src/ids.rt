@@ -1,18 +1,22 @@
 //! The command `ids`.
 
-ghost use Rattle.std.specs.Prelude.{◌≡◌, ◌++◌, ◌∷◌, [], map, IfSome};
+ghost use Rattle.std.specs.Prelude.{◌≡◌, map, None, Ok, IfOk, IfSome};
 ghost use Rattle.contract_words.specs.Writes.{Writes};
 ghost use Rattle.command_base.specs.FilesSeen.{layers_held};
 ghost use Rattle.command_base.specs.Output.{Prints};
 ghost use Rattle.command_base.specs.StackBytesSeen.{layer_bytes};
+ghost use Rattle.command_base.specs.names.IdsOfType.{ids_of_type};
+ghost use Rattle.command_base.specs.overlay_map.Layer.{base_tables};
 ghost use Rattle.command_base.specs.declared.fault.ToolFault.TheVariants.{Write};
-ghost use Rattle.table_commands.specs.TableOutput.{ListsIds, id_line, ids_output, ids_text};
+ghost use Rattle.table_commands.specs.TableOutput.{ListsIds, id_line, ids_output, ids_text, listed_ids};
 ghost use Rattle.command_base.specs.CarriesOut.{IsKept};
 
 use answer_text::{write_id, write_its_name};
-use command_base::{Inputs, LayerFiles, LayerParts, ResId, Status, Stop, ToolFault, open_stack};
+use command_base::{
+    Inputs, LayerFiles, LayerParts, ResId, Stack, Status, Stop, ToolFault, open_stack,
+};
 use names::{StackNames, ids_of_type};
-use std::alloc::Global;
+use std::alloc::{AllocError, Global};
 use std::io::{self, Write};
 
 /// What the words of `ids` ask: the ids of the base layers.
@@ -60,11 +64,27 @@ pub fn ids_bytes<W: Write + Drop>(
     ensures { Prints W.contents out.old out.new result (ids_output (map layer_bytes layers.now)) }
 {
     let stack = open_stack(alloc, layers)?;
-    let tables = stack.base_tables(alloc)?;
-    let ids = ids_of_type(alloc, &tables, None)?;
-    let names = StackNames::of(alloc, &stack)?;
+    print_ids(alloc, &stack, out)
+}
+
+fn print_ids<W: Write + Drop>(
+    alloc: Global,
+    stack: &Stack<'_>,
+    out: &mut W,
+) -> Result<Status, ToolFault>
+    ensures { Prints W.contents out.old out.new result (Ok (listed_ids stack.now)) }
+{
+    let ids = base_ids(alloc, stack)?;
+    let names = StackNames::of(alloc, stack)?;
     write_ids(&names, &ids, out)?;
     Ok(Status::Done)
+}
+
+fn base_ids(alloc: Global, stack: &Stack<'_>) -> Result<Vec<ResId>, AllocError>
+    ensures { IfOk result (λ ids. ids.items ≡ ids_of_type None (base_tables stack.now)) }
+{
+    let tables = stack.base_tables(alloc)?;
+    ids_of_type(alloc, &tables, None)
 }
 
 #[tactic(auto, using(crate::proofs::Cited::item_steps))]

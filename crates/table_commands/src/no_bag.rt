@@ -20,12 +20,13 @@ pub(crate) fn print_no_bag<W: Write + Drop>(
     ensures has_memory { fault ≢ of_bag.OutOfMemory → result ≢ Err OutOfMemory }
     ensures memory { fault ≡ of_bag.OutOfMemory → (result ≡ Err OutOfMemory) × (out.new ≡ out.old) }
 {
-    match fault {
-        BagFault::Absent => write_no_bag("Absent", out)?,
-        BagFault::Plain => write_no_bag("Plain", out)?,
-        BagFault::BagDepth => write_no_bag("BagDepth", out)?,
+    let name = match fault {
+        BagFault::Absent => "Absent",
+        BagFault::Plain => "Plain",
+        BagFault::BagDepth => "BagDepth",
         BagFault::OutOfMemory => return Err(ToolFault::OutOfMemory),
-    }
+    };
+    write_no_bag(name, out)?;
     Ok(Status::Negative)
 }
 

@@ -4,6 +4,7 @@ ghost use Rattle.std.specs.Prelude.{map};
 ghost use Rattle.contract_words.specs.Exact.{GivesOr};
 ghost use Rattle.command_base.specs.declared.fault.ToolFault.TheVariants.{OutOfMemory};
 ghost use Rattle.command_base.specs.DeviceText.{device_text_of};
+ghost use Rattle.command_base.specs.FilesSeen.{layers_held};
 ghost use Rattle.command_base.specs.Output.{IsOfInput};
 ghost use Rattle.command_base.specs.StackBytesSeen.{layer_bytes};
 ghost use Rattle.command_base.specs.Stop.{GivesOrStops};
@@ -11,7 +12,8 @@ ghost use Rattle.command_base.specs.names.Named.{named_of};
 ghost use Rattle.table_commands.specs.Opened.{opened_in, opened_by, id_opened};
 
 use command_base::{
-    Device, DeviceText, LayerParts, LocaleRule, Named, ResId, Stack, Stop, ToolFault, open_stack,
+    Device, DeviceText, LayerFiles, LayerParts, LocaleRule, Named, ResId, Stack, Stop, ToolFault,
+    open_stack,
 };
 use names::id_named;
 use std::alloc::Global;
@@ -42,17 +44,18 @@ impl<'a> Opened<'a> {
         Ok(Opened { stack, device })
     }
 
-    /// The same of the text of a device, whose locale is read by a rule, by which it is then compared.
+    /// The same of the files of layers and the text of a device, whose locale is read by a rule, by which it is then compared.
     #[tactic(auto, unfolding(crate::specs::Opened::opened_by))]
-    pub fn read_by<'t>(
+    pub(crate) fn read_by<'t>(
         alloc: Global,
-        layers: &[LayerParts<&'a [u8]>],
+        files: &'a LayerFiles,
         device: &DeviceText<'t>,
         rule: LocaleRule,
     ) -> Result<Opened<'a>, Stop<'t>>
-        ensures { GivesOrStops opened_of result (opened_by rule (map layer_bytes layers.now) (device_text_of device.now)) }
+        ensures { GivesOrStops opened_of result (opened_by rule (layers_held files.now) (device_text_of device.now)) }
     {
-        let stack = open_stack(alloc, layers)?;
+        let layers = files.layers(alloc)?;
+        let stack = open_stack(alloc, &layers)?;
         let device = device.device(alloc, rule)?;
         Ok(Opened { stack, device })
     }
@@ -72,15 +75,15 @@ impl<'a> OpenId<'a> {
     #[tactic(auto, unfolding(crate::specs::Opened::id_opened))]
     pub fn open<'t>(
         alloc: Global,
-        layers: &[LayerParts<&'a [u8]>],
+        files: &'a LayerFiles,
         device: &DeviceText<'t>,
         rule: LocaleRule,
         resource: Named<'_>,
     ) -> Result<OpenId<'a>, Stop<'t>>
         ensures { GivesOrStops id_seen result
-            (id_opened rule (map layer_bytes layers.now) (device_text_of device.now) (named_of resource.entry)) }
+            (id_opened rule (layers_held files.now) (device_text_of device.now) (named_of resource.entry)) }
     {
-        let opened = Opened::read_by(alloc, layers, device, rule)?;
+        let opened = Opened::read_by(alloc, files, device, rule)?;
         let id = id_named(alloc, &opened.stack, resource)?;
         Ok(OpenId { opened, id })
     }

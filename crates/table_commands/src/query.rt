@@ -9,7 +9,7 @@ ghost use Rattle.command_base.specs.answer_text.QueryText.{set_aside_line};
 ghost use Rattle.command_base.specs.answer_text.config_record.Device.{device_locale};
 ghost use Rattle.command_base.specs.answer_text.config_record.locales.LocaleRule.{rule_of};
 ghost use Rattle.command_base.specs.DeviceText.{device_text_of};
-ghost use Rattle.command_base.specs.FilesSeen.{asked_held};
+ghost use Rattle.command_base.specs.FilesSeen.{asked_held, layers_held};
 ghost use Rattle.command_base.specs.Output.{Prints};
 ghost use Rattle.command_base.specs.StackBytesSeen.{layer_bytes};
 ghost use Rattle.command_base.specs.Stop.{GivesOrStops};
@@ -23,8 +23,8 @@ use crate::opened::Opened;
 use answer_notation::{Naming, ends_text};
 use answer_text::{NamesBeside, query_line, resolve, set_aside_line};
 use command_base::{
-    AskedFiles, Device, DeviceText, End, Inputs, LayerParts, LocaleRule, ResId, Stack, Status,
-    Stop, ToolFault, asked_sets, rows_set_aside,
+    AskedFiles, Device, DeviceText, End, Inputs, LayerFiles, LayerParts, LocaleRule, ResId, Stack,
+    Status, Stop, ToolFault, asked_sets, rows_set_aside,
 };
 use names::ids_named;
 use std::alloc::Global;
@@ -71,8 +71,13 @@ impl<'a> Query<'a> {
         ensures answers { QueriesFiles W.contents out.old out.new self.now (Ok (asked_held files.now)) result }
         ensures unwritten { IsKept out.old out.new result }
     {
-        let layers = files.layers.layers(alloc)?;
-        let asked = OpenQuery::open(alloc, &layers, &files.device, self.locales, &files.words)?;
+        let asked = OpenQuery::open(
+            alloc,
+            &files.layers,
+            &files.device,
+            self.locales,
+            &files.words,
+        )?;
         Ok(asked.print(alloc, self.android, self.names, files.layers.paths(), out)?)
     }
 }
@@ -89,16 +94,16 @@ impl<'a> OpenQuery<'a> {
     #[tactic(auto, unfolding(crate::specs::QueryOutput::query_opened))]
     fn open<'t>(
         alloc: Global,
-        layers: &[LayerParts<&'a [u8]>],
+        files: &'a LayerFiles,
         device: &DeviceText<'t>,
         rule: LocaleRule,
         words: &[String],
     ) -> Result<OpenQuery<'a>, Stop<'t>>
         ensures { GivesOrStops query_seen result
-            (query_opened rule (map layer_bytes layers.now) (device_text_of device.now) (map string_bytes words.now)) }
+            (query_opened rule (layers_held files.now) (device_text_of device.now) (map string_bytes words.now)) }
     {
         let sets = asked_sets(alloc, words)?;
-        let opened = Opened::read_by(alloc, layers, device, rule)?;
+        let opened = Opened::read_by(alloc, files, device, rule)?;
         let ids = ids_named(alloc, &opened.stack, &sets)?;
         Ok(OpenQuery { opened, ids })
     }
@@ -168,7 +173,8 @@ impl Opened<'_> {
         let naming = Naming::of(alloc, &self.stack, paths)?;
         let text = ends_text(&naming, &self.device, ids)?;
         write_notation(&self.stack, &self.device, &text, out)?;
-        Ok(status_of_ids(&self.stack, &self.device, ids))
+        let unresolved = has_unresolved(&self.stack, &self.device, ids);
+        Ok(Status::negative_if(unresolved))
     }
 }
 
@@ -185,16 +191,6 @@ fn write_notation<W: Write + Drop>(
     out.write_all(lines)?;
     let rule = LocaleRule::of(device.locale());
     set_aside_line(rows_set_aside(stack, rule), out)
-}
-
-fn status_of_ids(stack: &Stack<'_>, device: &Device, ids: &[ResId]) -> Status
-    ensures { result ≡ query_status stack.now (device_numbers device.now) ids.now }
-{
-    if has_unresolved(stack, device, ids) {
-        Status::Negative
-    } else {
-        Status::Done
-    }
 }
 
 fn has_unresolved(stack: &Stack<'_>, device: &Device, ids: &[ResId]) -> bool

@@ -3,9 +3,7 @@
 ghost use Rattle.std.specs.Prelude.{◌≡◌, IfSome};
 ghost use Rattle.command_base.specs.Output.{Prints};
 ghost use Rattle.command_base.specs.declared.fault.ToolFault.TheVariants.{Write};
-ghost use Rattle.table_commands.specs.TableOutput.{output_of, rows_output, rows_printed, PrintsRows};
-ghost use Rattle.answer_notation.specs.TableNotation.{rows_notation};
-ghost use Rattle.command_base.specs.answer_text.resource_table.Table.{table_in};
+ghost use Rattle.table_commands.specs.TableOutput.{rows_output, rows_printed, PrintsRows};
 ghost use Rattle.command_base.specs.CarriesOut.{IsKept};
 
 use crate::text::print_text;
@@ -48,9 +46,7 @@ pub fn rows_bytes<W: Write + Drop>(
 ) -> Result<Status, ToolFault>
     ensures { Prints W.contents out.old out.new result (rows_output table.now) }
 {
-    let table = Table::open(alloc, table)?;
-    rows_text(&table, out)?;
-    Ok(Status::Done)
+    rows_printed(alloc, false, table, out)
 }
 
 fn rows_printed<W: Write + Drop>(
@@ -61,22 +57,11 @@ fn rows_printed<W: Write + Drop>(
 ) -> Result<Status, ToolFault>
     ensures { Prints W.contents out.old out.new result (rows_printed android table.now) }
 {
+    let table = Table::open(alloc, table)?;
     if android {
-        rows_in_notation(alloc, table, out)
-    } else {
-        rows_bytes(alloc, table, out)
+        let text = answer_notation::rows_text(alloc, table)?;
+        return print_text(&text, out);
     }
-}
-
-// Prints the same in Android's notation.
-fn rows_in_notation<W: Write + Drop>(
-    alloc: Global,
-    table: &[u8],
-    out: &mut W,
-) -> Result<Status, ToolFault>
-    ensures { Prints W.contents out.old out.new result (output_of rows_notation (table_in table.now)) }
-{
-    let opened = Table::open(alloc, table)?;
-    let text = answer_notation::rows_text(alloc, opened)?;
-    print_text(&text, out)
+    rows_text(&table, out)?;
+    Ok(Status::Done)
 }

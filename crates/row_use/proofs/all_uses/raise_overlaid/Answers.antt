@@ -1,5 +1,6 @@
 use Rattle.std.proofs.Common.{sym, ◌∙◌}
 use Rattle.std.proofs.lemmas.Option.{IfSome_then}
+use Rattle.std.proofs.lemmas.Result.{IfOk-weaker}
 use Rattle.row_use.specs.Loading.{without_overlays}
 use Rattle.row_use.specs.Raising.{cells_of}
 use Rattle.row_use.proofs.RowSteps.{none-open, bare-raised}
@@ -12,8 +13,8 @@ returns-then-not-has_open-clause-keeps c =
 
 pub returns-clause-keeps : goal.returns-clause-keeps
 returns-clause-keeps c =
-    IfSome_then c.in_ok-raised.raised c.in_ok-raised.ensures.keeps (λ left step.
-    bare-raised c.args.stack.now c.args.members.now c.args.id.0 c.in_ok-look_up.look_up (cells_of c.args.uses.now) (cells_of c.raise_loaded.new.uses) c.in_ok-look_up.ensures step)
+    IfOk-weaker c.raise_loaded.result _ _ (λ found given. IfSome_then found given (λ left step.
+    bare-raised c.args.stack.now c.args.members.now c.args.id.0 c.in_ok-look_up.look_up (cells_of c.args.uses.now) (cells_of c.raise_loaded.new.uses) c.in_ok-look_up.ensures step)) c.raise_loaded.ensures.keeps
 
 pub returns-then-not-has_open-clause-tree : goal.returns-then-not-has_open-clause-tree
 returns-then-not-has_open-clause-tree c = bare-passed c.args.stack.now c.args.members.now c.args.id.0 c.args.left
@@ -22,5 +23,5 @@ pub returns-clause-tree : goal.returns-clause-tree
 returns-clause-tree c =
     let stack = c.args.stack.now in
     let sets = c.args.members.now in
-    bare-parted stack sets c.args.id.0 c.args.left c.in_ok-raised.raised
-    (look-up-parted stack sets c.args.id.0 (without_overlays stack) c.in_ok-look_up.look_up c.args.left c.in_ok-raised.raised c.in_ok-look_up.ensures c.in_ok-raised.ensures.tree)
+    IfOk-weaker c.raise_loaded.result _ _ (λ found parted.
+    bare-parted stack sets c.args.id.0 c.args.left found (look-up-parted stack sets c.args.id.0 (without_overlays stack) c.in_ok-look_up.look_up c.args.left found c.in_ok-look_up.ensures parted)) c.raise_loaded.ensures.tree

@@ -1,4 +1,5 @@
 use Rattle.std.proofs.Common.{ℕ, List, ◌∷◌, ◌++◌, [], inl, inr, refl, sym, ◌∙◌, subst}
+use Rattle.std.proofs.lemmas.Result.{IfOk-weaker}
 use Rattle.config_box.specs.box_answers.NumberSet.{SetOf}
 use Rattle.config_box.specs.box_answers.Members.{IsMember}
 use Rattle.config_box.specs.Tests.{test_of}
@@ -47,32 +48,33 @@ parting_test-requires c =
 pub open_halves-requires : goal.open_halves-requires
 open_halves-requires c = c.in_ok-test-in-Mixed.ensures.needed.passes
 
-pub returns-in_ok-open_halves-in-Mixed-clause-keeps : goal.returns-in_ok-open_halves-in-Mixed-clause-keeps
-returns-in_ok-open_halves-in-Mixed-clause-keeps c =
+pub returns-in_ok-test-in-Mixed-clause-keeps : goal.returns-in_ok-test-in-Mixed-clause-keeps
+returns-in_ok-test-in-Mixed-clause-keeps c =
     let loads = loads_of c.args.look_up.now in
     let boxes = boxes_of c.args.open_boxes.now in
     let cells = cells_of c.args.uses.now in
     let to = level_of c.args.to in
-    let opens = c.in_ok-open_halves-in-Mixed.ensures in
     let same = c.in_ok-parting-in-Mixed.ensures.members ∙ c.in_ok-common.ensures.members in
+    IfOk-weaker c.open_halves.result _ _ (λ _ opens.
     subst (λ (opened : List (List SetOf)). KeepsReach cells (loaded_more loads to (boxes ++ c.args.part.now.members ∷ [])) cells (loaded_more loads to opened)) (sym (boxes-opened _ _ _ _ opens))
     (subst (λ (sets : List SetOf). KeepsReach cells (loaded_more loads to (boxes ++ sets ∷ [])) cells (loaded_more loads to (boxes ++ opens.no_half.members ∷ opens.yes_half.members ∷ []))) same
-    (test-opened cells loads to boxes _ opens.yes_half.members opens.no_half.members (test_of c.in_ok-test-in-Mixed.test) opens.yes_members opens.no_members))
+    (test-opened cells loads to boxes _ opens.yes_half.members opens.no_half.members (test_of c.in_ok-test-in-Mixed.test) opens.yes_members opens.no_members))) c.open_halves.ensures
 
-pub returns-in_ok-open_halves-in-Mixed-clause-open : goal.returns-in_ok-open_halves-in-Mixed-clause-open
-returns-in_ok-open_halves-in-Mixed-clause-open c = λ all.
+pub returns-in_ok-test-in-Mixed-clause-open : goal.returns-in_ok-test-in-Mixed-clause-open
+returns-in_ok-test-in-Mixed-clause-open c =
     let stack = c.args.stack.now in
     let trace = trace_of_look_up c.args.look_up.now in
-    all-opened stack c.args.look_up.now _ _ _ _ c.in_ok-open_halves-in-Mixed.ensures (c.in_ok-parting-in-Mixed.ensures.reached stack trace (c.in_ok-common.ensures.reached trace c.requires)) all
+    IfOk-weaker c.open_halves.result _ _ (λ _ opens all.
+    all-opened stack c.args.look_up.now _ _ _ _ opens (c.in_ok-parting-in-Mixed.ensures.reached stack trace (c.in_ok-common.ensures.reached trace c.requires)) all) c.open_halves.ensures
 
-pub returns-in_ok-open_halves-in-Mixed-clause-node : goal.returns-in_ok-open_halves-in-Mixed-clause-node
-returns-in_ok-open_halves-in-Mixed-clause-node c =
+pub returns-in_ok-test-in-Mixed-clause-node : goal.returns-in_ok-test-in-Mixed-clause-node
+returns-in_ok-test-in-Mixed-clause-node c =
     let trace = trace_of_look_up c.args.look_up.now in
     let boxes = boxes_of c.args.open_boxes.now in
-    let opens = c.in_ok-open_halves-in-Mixed.ensures in
     let told =
     told_in_place trace _ c.in-Mixed.first _ c.args.part.now.members _ _ c.in-Mixed.is c.in_ok-common.ensures.members c.in_ok-parting-in-Mixed.ensures.members (c.in_ok-common.ensures.common trace c.requires)
     (c.in_ok-parting-in-Mixed.ensures.told c.args.stack.now trace (c.in_ok-common.ensures.reached trace c.requires)) in
+    IfOk-weaker c.open_halves.result _ _ (λ _ opens.
     inl (subst (λ (sets : List SetOf). AddsTest trace sets boxes (boxes_of c.open_halves.new.open_boxes)) (c.in_ok-parting-in-Mixed.ensures.members ∙ c.in_ok-common.ensures.members) (record {
       test = test_of c.in_ok-test-in-Mixed.test;
       needed = needed-by-trace trace _ _ _ told.trace_tells c.in_ok-test-in-Mixed.ensures.needed;
@@ -81,4 +83,4 @@ returns-in_ok-open_halves-in-Mixed-clause-node c =
       opened = boxes-opened _ _ _ _ opens;
       yes_members = opens.yes_members;
       no_members = opens.no_members;
-    }))
+    }))) c.open_halves.ensures

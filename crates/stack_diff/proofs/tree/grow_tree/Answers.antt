@@ -23,14 +23,14 @@ returns-in_default c =
     let all = done c.args.pair c.args.members.now c.boxes.open_boxes.items c.boxes.told.items c.boxes.nodes none c.boxes.invariant.going in
     (all.0, all.1, omega arith)
 
-pub add_node-requires : goal.add_node-requires
-add_node-requires c =
+pub add_node-added-requires : goal.add_node-added-requires
+add_node-added-requires c =
     (All-pop (IsOpen c.args.pair) c.boxes.open_boxes.items c.pop.new.self.items (Some c.in-Some.part) c.in-Some.ensures.items c.boxes.invariant.going.each).1
 
 pub boxes-preserved : goal.boxes-preserved
 boxes-preserved c =
     let taken = All-pop (IsOpen c.args.pair) c.boxes.open_boxes.items c.pop.new.self.items (Some c.in-Some.part) c.in-Some.ensures.items c.boxes.invariant.going.each in
     record {
-      going = goes-on c.args.pair c.args.members.now c.boxes.open_boxes.items c.pop.new.self.items c.add_node.new.open_boxes.items c.boxes.told.items c.add_node.new.told.items c.boxes.nodes c.in-Some.part
-          c.boxes.invariant.going c.in-Some.ensures.items taken.0 taken.1 c.in_ok-add_node.ensures;
+      going = goes-on c.args.pair c.args.members.now c.boxes.open_boxes.items c.pop.new.self.items c.add_node-added.new.open_boxes.items c.boxes.told.items c.add_node-added.new.told.items c.boxes.nodes c.in-Some.part
+          c.boxes.invariant.going c.in-Some.ensures.items taken.0 taken.1 c.in_ok-added.ensures;
     }

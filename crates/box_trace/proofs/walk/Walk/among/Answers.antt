@@ -1,18 +1,12 @@
-use Rattle.std.proofs.Common.{List, map, refl, sym, subst}
-use Rattle.config_box.specs.box_answers.Members.{IsMember}
+use Rattle.std.proofs.Common.{map, refl}
 use Rattle.bags_themes.specs.Course.{after_course}
+use Rattle.bags_themes.specs.declared.course.Course.TheVariants.{Ended}
+use Rattle.bags_themes.specs.reference_resolver.declared.end.End.TheVariants.{Absent}
 use Rattle.bags_themes.specs.overlay_map.Candidates.{cand_of}
-use Rattle.box_trace.specs.Live.{LiveOf, candidates_in, LeavesOut}
 use Rattle.box_trace.specs.TraceAmong.{trace_among}
-use Rattle.box_trace.proofs.Rests.{come_nowhere}
+use Rattle.box_trace.proofs.Walks.{walk_among}
 use Rattle.box_trace.proofs.walk.Walk.among.Goals as goal
 
 pub returns-clause-walked : goal.returns-clause-walked
 unfolding trace_among after_course
-returns-clause-walked c = λ stack.
-    let all = map cand_of c.args.candidates.now in
-    record {
-      ahead = all;
-      come = come_nowhere _ _ _ (λ d. refl);
-      left_out = subst (λ (live : List LiveOf). LeavesOut (IsMember c.args.members.now) all (candidates_in live)) (sym c.in_ok-new.ensures.ok) c.in_ok-live.ensures.others;
-    }
+returns-clause-walked c = walk_among c.at_first.result (record { 0 = 0 }) (Ended (Absent (record { 0 = 0 }))) _ c.args.members.now _ (map cand_of c.args.candidates.now) c.at_first.ensures.walked (λ stack d. refl) c.in_ok-live.ensures.others

@@ -1,4 +1,5 @@
 use Rattle.std.proofs.Common.{List, inl, subst}
+use Rattle.std.proofs.lemmas.Result.{IfOk-weaker}
 use Rattle.cert_maker.specs.box_answers.NumberSet.{SetOf}
 use Rattle.cert_maker.specs.box_answers.Members.{IsMember}
 use Rattle.cert_maker.specs.cert_checker.box_trace.Parting.{answer_of}
@@ -7,11 +8,12 @@ use Rattle.cert_maker.specs.config_box.Tests.{test_of}
 use Rattle.stack_diff.specs.declared.pair_box.PairTrace.{PairTrace}
 use Rattle.stack_diff.specs.PairBox.{members_of, IsPairTrace}
 use Rattle.stack_diff.proofs.Both.{adds-test}
-use Rattle.stack_diff.proofs.tree.add_node_of.Goals as goal
+use Rattle.stack_diff.proofs.tree.add_node.Goals as goal
 
 pub returns : goal.returns
 returns c =
     let parts = subst (λ (trace : PairTrace). IsPairTrace c.args.pair (members_of c.args.part.now) trace) c.in-Parted.is c.in_ok-parting.ensures.trace in
+    let needed = subst (λ (sets : List SetOf). IsNeededTest (answer_of c.in-Parted.parting) sets (IsMember sets) (test_of c.in_ok-test.test)) c.members-2.ensures c.in_ok-test.ensures.needed in
+    IfOk-weaker c.open_halves.result _ _ (λ _ opens.
     inl (adds-test c.args.pair c.args.part.now c.trace.new.self c.in-Parted.parting (test_of c.in_ok-test.test) c.args.open_boxes.now.items c.open_halves.new.open_boxes.items c.args.told.now.items c.in_ok-parting.ensures.members
-    c.in_ok-parting.ensures.open parts
-    (subst (λ (sets : List SetOf). IsNeededTest (answer_of c.in-Parted.parting) sets (IsMember sets) (test_of c.in_ok-test.test)) c.members-2.ensures c.in_ok-test.ensures.needed) c.in_ok-open_halves.ensures)
+    c.in_ok-parting.ensures.open parts needed opens)) c.open_halves.ensures
