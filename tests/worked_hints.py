@@ -267,6 +267,7 @@ def of_answers():
     old = {"old0": TABLE_A, "old": [{"table": "old0"}]}
     done = f"0 of 1 names were done with at most 1 nodes; {more.format('names')}"
     yield Hinted(f"diff --max-nodes 1 old layers box {ID}", done, **split, **old)
+    yield Hinted(f"unused --max-nodes 1 layers box {ID}", more.format("names"), **split)
     yield asked("make layers box 0x7f010001", "--omit leaves out goals without a value on some device, and tells them")
     # Of an absent id and of what differs nothing is said, nor where --omit leaves no goal.
     yield asked("make --omit layers box 0x7f010001")

@@ -33,6 +33,9 @@ impl<I: Inputs> Asked<'_, '_, I> {
             Request::Values(values) if said == NODE_LIMIT => {
                 hint_of_limit(alloc, values.max_nodes, reached, "names")
             }
+            Request::Unused(unused) if said == NODE_LIMIT => {
+                more_nodes(alloc, unused.max_nodes, "names")
+            }
             Request::Make(_) if said.starts_with(COUNTEREXAMPLE) => format!(in alloc;
                 "--omit leaves out goals without a value on some device, and tells them"
             ).ok(),
@@ -48,14 +51,18 @@ impl<I: Inputs> Asked<'_, '_, I> {
 // How far it came over goals or names, and what allows more.
 fn hint_of_limit(alloc: Global, most: u32, reached: Reached, what: &str) -> Option<String> {
     let came = came_so_far(alloc, most, reached, what)?;
+    let more = more_nodes(alloc, most, what)?;
+    format!(in alloc; "{came}; {more}").ok()
+}
+
+// What allows more nodes than these, or needs fewer.
+fn more_nodes(alloc: Global, most: u32, what: &str) -> Option<String> {
     if most >= MOST_NODES {
-        return format!(in alloc;
-            "{came}; ask for fewer {what} at a time, or make the box smaller"
-        ).ok();
+        return format!(in alloc; "ask for fewer {what} at a time, or make the box smaller").ok();
     }
     let more = most.saturating_mul(MORE).min(MOST_NODES);
     format!(in alloc;
-        "{came}; --max-nodes {more} allows more, fewer {what} or a smaller box need less"
+        "--max-nodes {more} allows more, fewer {what} or a smaller box need less"
     ).ok()
 }
 
