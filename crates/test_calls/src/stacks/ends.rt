@@ -2,7 +2,7 @@
 
 use crate::layers::{Malformed, device_of};
 use crate::marked::{begin, end, tell, tell_end};
-use cert_checker::{Goal, ResId, Stack, goal_end};
+use cert_checker::{Goal, OutOfMemory, ResId, Stack, goal_end};
 use stack_diff::{Difference, NamedStack, RowDifference, difference_at};
 use std::test::Fail;
 
@@ -32,12 +32,17 @@ pub fn difference(rt: &HostRuntime, stack: &Stack<'_>) -> Result<(), Fail> {
     begin(rt);
     let found = difference_at(rt.alloc(), &named, FIRST, &named, SECOND, &device);
     end(rt);
+    tell_found(rt, &found);
+    drop(found);
+    Ok(())
+}
+
+fn tell_found(rt: &HostRuntime, found: &Result<Option<Difference<'_>>, OutOfMemory>) {
     match found {
-        Ok(Some(difference)) => tell_difference(rt, &difference),
+        Ok(Some(difference)) => tell_difference(rt, difference),
         Ok(None) => tell(rt, "none"),
         Err(fault) => tell(rt, fault),
     }
-    Ok(())
 }
 
 fn tell_difference(rt: &HostRuntime, difference: &Difference<'_>) {
