@@ -51,7 +51,7 @@ mod values;
 
 pub use bags_themes::{
     BagFault, BagRow, Cell, Device, DeviceFault, End, IdMap, MOST_LAYERS, MapFault, MapRows, Pool,
-    PoolFault, ResId, Row, Stack, StackFault, Table, TableFault, Theme, Value, bag, kind, resolve,
+    PoolFault, ResId, Row, Stack, StackFault, Table, TableFault, Theme, Value, bag, kind,
 };
 pub use content::{BrokenString, Content, Quantity, RowContent, RowKey, ValueContent};
 pub use device_content::{content_at, content_of_end, end_of};
@@ -68,6 +68,7 @@ pub use notation::Form;
 pub use on_line::write_on_line;
 pub use query::{query_line, set_aside_line, strings_of_layer};
 pub use read_alike::is_same_label;
+pub use reference_resolver::resolve;
 pub use res_value::{write_id, write_value};
 pub use row_key::Keys;
 pub use rows::{rows_text, write_totals};

@@ -45,7 +45,7 @@ pub use course::{Course, CourseStep, attribute_under};
 pub use reference_resolver::{
     Cand, Cell, Coord, Decision, Device, DeviceFault, End, IdMap, MOST_LAYERS, MapFault, MapRows,
     Next, Package, PackageRows, Pool, PoolFault, REFERENCES_FOLLOWED, Record, ResId, Row, Stack,
-    StackFault, Step, Table, TableFault, Value, kind, resolve, same,
+    StackFault, Step, Table, TableFault, Value, kind,
 };
 pub use slot::Slot;
 pub use style_course::StyleCourse;

@@ -30,9 +30,7 @@ mod sameness;
 mod search;
 mod tried_numbers;
 
-pub use config_precedence::{
-    Coord, Device, Locale, LocaleFault, LocaleRule, Record, read_locale, write_locale,
-};
+pub use config_precedence::{Coord, Device, Locale, LocaleFault, LocaleRule, Record};
 pub use member_pair::MemberPair;
 pub use members::{corner, is_member, set_at};
 pub use number_set::{NumberSet, has_locale, has_number};

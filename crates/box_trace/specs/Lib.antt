@@ -7,6 +7,7 @@ pub mod CommonTrace
 pub mod CommonStep
 pub mod OpenCondition
 pub mod OpenBox
+pub mod Halving
 pub mod Unfolded
 pub use Rattle.bags_themes.specs as bags_themes
 pub use Rattle.config_box.specs as config_box

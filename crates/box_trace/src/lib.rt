@@ -18,6 +18,7 @@
 #![tactic(auto)]
 
 mod common;
+mod halving;
 mod known;
 mod live;
 mod open_box;
@@ -29,9 +30,10 @@ mod waiting;
 mod walk;
 mod weight;
 
-pub use bags_themes::{Cand, Device, End, MOST_LAYERS, ResId, Stack, attribute_under, resolve};
+pub use bags_themes::{Cand, Device, End, MOST_LAYERS, ResId, Stack};
 pub use common::CommonTrace;
 pub use config_box::{ConfigBox, Coord, Locale, MemberPair, OutOfMemory, Values};
+pub use halving::Halving;
 pub use live::Live;
 pub use open_box::OpenBox;
 pub use open_boxes::OpenBoxes;

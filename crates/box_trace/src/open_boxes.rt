@@ -1,7 +1,8 @@
 //! The list of the boxes of open paths.
 
+use crate::halving::Halving;
 use crate::open_box::OpenBox;
-use config_box::OutOfMemory;
+use config_box::{ConfigBox, Coord, OutOfMemory, Split, Test};
 use smallvec::SmallVec;
 use std::alloc::Global;
 use std::marker::Model;
@@ -28,8 +29,15 @@ impl<'a, 's> Model for OpenBoxes<'a, 's> {
 }
 
 impl<'a, 's> OpenBoxes<'a, 's> {
-    ghost use Rattle.std.specs.Prelude.{◌≡◌, [], ◌∷◌, ◌++◌, length, IfOk, OnOk, OnErr, IfNone};
+    ghost use Rattle.std.specs.Prelude.{◌≡◌, ℕ, List, [], ◌∷◌, ◌++◌, length, IfOk, OnOk, OnErr, IfNone};
+    ghost use Rattle.std.specs.List.{All};
     ghost use Rattle.std.specs.Option.{option_to_list};
+    ghost use Rattle.config_box.specs.box_answers.Members.{IsMember};
+    ghost use Rattle.config_box.specs.Tests.{test_of};
+    ghost use Rattle.bags_themes.specs.overlay_map.Layer.{LayerOf};
+    ghost use Rattle.bags_themes.specs.reference_resolver.Trace.{Trace};
+    ghost use Rattle.box_trace.specs.Halving.{IsHalving};
+    ghost use Rattle.box_trace.specs.OpenBox.{boxes_of, IsReached};
 
     /// One box, and no other.
     pub fn of(alloc: Global, part: OpenBox<'a, 's>) -> Result<OpenBoxes<'a, 's>, OutOfMemory>
@@ -54,6 +62,42 @@ impl<'a, 's> OpenBoxes<'a, 's> {
     {
         self.places.push(Some(part))?;
         Ok(())
+    }
+
+    /// The halves of a box by a test, which go on where the whole stopped, the one with yes last.
+    pub fn push_halves(
+        &mut self,
+        alloc: Global,
+        whole: &OpenBox<'a, 's>,
+        test: &Test,
+    ) -> Result<Halving, OutOfMemory>
+        ensures halved { IfOk result (IsHalving whole.now.members (test_of test.now) (boxes_of self.old) (boxes_of self.new)) }
+        ensures reached { OnOk result ((stack : List LayerOf) (trace : List ℕ → Trace) → IsReached stack trace whole.now → All (IsReached stack trace) self.old → All (IsReached stack trace) self.new) }
+    {
+        match whole.members.split(alloc, test)? {
+            Split::Halves(yes, no) => {
+                self.push_part(whole, no, test.coord())?;
+                self.push_part(whole, yes, test.coord())?;
+                Ok(Halving::Opened)
+            }
+            Split::WrongKind => Ok(Halving::WrongKind),
+            Split::EmptyHalf => Ok(Halving::EmptyHalf),
+        }
+    }
+
+    /// A part of a box, smaller at this coordinate.
+    fn push_part(
+        &mut self,
+        whole: &OpenBox<'a, 's>,
+        members: ConfigBox,
+        at: Coord,
+    ) -> Result<(), OutOfMemory>
+        requires { (d : List ℕ) → IsMember members d → IsMember whole.now.members d }
+        ensures boxes { OnOk result (boxes_of self.new ≡ boxes_of self.old ++ members ∷ []) }
+        ensures reached { OnOk result ((stack : List LayerOf) (trace : List ℕ → Trace) → IsReached stack trace whole.now → All (IsReached stack trace) self.old → All (IsReached stack trace) self.new) }
+    {
+        let part = whole.narrowed(members, at)?;
+        self.push(part)
     }
 
     /// Takes the last one away.

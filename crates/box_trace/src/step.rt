@@ -12,8 +12,9 @@ ghost use Rattle.box_trace.specs.CommonStep.{IsCommonStep};
 
 use crate::common::CommonStep;
 use crate::parting::{Asked, Parting};
-use bags_themes::{Cand, same};
+use bags_themes::Cand;
 use config_box::{ConfigBox, MemberPair, Sameness};
+use config_precedence::same;
 
 /// The best after the next candidate, for all members. Whether the candidate matches is asked first; of
 /// a marked one it is known. Whether it takes over is asked where it matches all.

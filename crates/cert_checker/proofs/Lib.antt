@@ -5,6 +5,7 @@ pub mod LeafSteps
 pub mod NodeSteps
 pub mod TreeSteps
 pub mod GoalSteps
+pub mod StandsSteps
 pub mod HeadlineSteps
 pub use Rattle.box_trace.proofs.bags_themes
 pub use Rattle.box_trace.proofs as box_trace

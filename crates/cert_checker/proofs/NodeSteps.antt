@@ -3,6 +3,7 @@ use Rattle.std.proofs.Common.{◌≡◌, ◌≢◌, ℕ, ◌<◌, ◌⊎◌, inl
 use Rattle.std.specs.Prelude.{IfNone}
 use Rattle.box_trace.specs.reference_resolver.declared.end.End.TheVariants as ends
 use Rattle.box_trace.specs.reference_resolver.Trace.{Trace}
+use Rattle.box_trace.specs.Halving.{OpensHalves}
 use Rattle.cert_tree.specs.res_value.declared.res_id.ResId.{ResId}
 use Rattle.cert_tree.specs.res_value.declared.value.Value.{Value}
 use Rattle.cert_tree.specs.box_answers.NumberSet.{SetOf}
@@ -21,7 +22,7 @@ use Rattle.cert_checker.specs.Paths.{Path, IsAt}
 use Rattle.cert_checker.specs.Fails.{FailsAtTest}
 use Rattle.cert_checker.specs.OpenBoxes.{IsBoxAt, Stand, TakesNode, TakesTest, TakesLeaf}
 use Rattle.cert_checker.proofs.MarkSteps.{alike-kind}
-use Rattle.cert_checker.proofs.BoxSteps.{half, popped}
+use Rattle.cert_checker.proofs.BoxSteps.{half, popped, pushed}
 
 -- ---- a test
 
@@ -80,6 +81,10 @@ halves part yes_half no_half test before after right y n e trace sets path paths
     split : FailsAtTest sets (IsAt sets path) test EmptyHalf → ⊥
     split (inl h) = not_all sets path part no_half test false true (λ f. cc) b n h
     split (inr h) = not_all sets path part yes_half test true false (λ f. cc) b y h
+
+pub opened : (part : List SetOf) (test : TestOf) (before after : List (List SetOf)) → OpensHalves part test before after → TakesTest test part before after None
+opened part test before after opens =
+    halves part opens.yes_half opens.no_half test before after opens.right_kind opens.yes opens.no (pushed before (before ++ opens.no_half ∷ []) after opens.yes_half opens.no_half refl opens.opened)
 
 -- ---- a node
 

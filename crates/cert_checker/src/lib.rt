@@ -27,8 +27,8 @@ mod verdict;
 mod whole_box;
 
 pub use box_trace::{
-    Cand, CommonTrace, Coord, Device, End, Live, Locale, MOST_LAYERS, OpenBox, OpenBoxes, Parting,
-    Stack,
+    Cand, CommonTrace, Coord, Device, End, Halving, Live, Locale, MOST_LAYERS, OpenBox, OpenBoxes,
+    Parting, Stack,
 };
 pub use cert_tree::{
     Cert, CertGoal, Choice, ConfigBox, Goal, Node, OutOfMemory, Progress, ResId, Split, Test,

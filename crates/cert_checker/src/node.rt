@@ -11,8 +11,8 @@ ghost use Rattle.cert_checker.specs.OpenBoxes.{TakesNode, TakesTest};
 use crate::failure::Failure;
 use crate::leaf::take_leaf;
 use crate::rule::Rule;
-use box_trace::{End, OpenBox, OpenBoxes, Stack};
-use cert_tree::{Node, OutOfMemory, Split, Test};
+use box_trace::{End, Halving, OpenBox, OpenBoxes, Stack};
+use cert_tree::{Node, OutOfMemory, Test};
 use std::alloc::Global;
 
 /// Takes the next node, to which the members of the last open box come: why it fails, if it does. Else the boxes
@@ -56,14 +56,11 @@ fn take_test<'a, 's>(
     ensures outcome { IfOk result (λ outcome. TakesTest (test_of test.now) whole.old.members (boxes_of open_boxes.old) (boxes_of open_boxes.new) outcome) }
     ensures reached { IfOk result (λ _. (trace : List ℕ → Trace) → IsReached stack.now trace whole.old → All (IsReached stack.now trace) open_boxes.old → All (IsReached stack.now trace) open_boxes.new) }
 {
-    match whole.members.split(alloc, test)? {
-        Split::Halves(yes, no) => {
-            let _ = whole.common_trace(alloc, stack)?;
-            open_boxes.push(whole.narrowed(no, test.coord())?)?;
-            open_boxes.push(whole.narrowed(yes, test.coord())?)?;
-            Ok(None)
-        }
-        Split::WrongKind => Ok(Some(Failure::of(Rule::TestKind))),
-        Split::EmptyHalf => Ok(Some(Failure::of(Rule::EmptyHalf))),
+    let _ = whole.common_trace(alloc, stack)?;
+    let halving = open_boxes.push_halves(alloc, whole, test)?;
+    match halving {
+        Halving::Opened => Ok(None),
+        Halving::WrongKind => Ok(Some(Failure::of(Rule::TestKind))),
+        Halving::EmptyHalf => Ok(Some(Failure::of(Rule::EmptyHalf))),
     }
 }

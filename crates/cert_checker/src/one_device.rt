@@ -5,8 +5,10 @@ ghost use Rattle.box_trace.specs.config_record.DeviceSeen.{device_numbers};
 ghost use Rattle.cert_tree.specs.res_value.Goal.{goal_seen};
 ghost use Rattle.cert_checker.specs.Headline.{RulesEndAt};
 
-use box_trace::{Device, End, Stack, attribute_under, resolve};
+use bags_themes::attribute_under;
+use box_trace::{Device, End, Stack};
 use cert_tree::{Goal, OutOfMemory};
+use reference_resolver::resolve;
 use std::alloc::Global;
 
 /// Where a goal ends at a device. No box is asked.

@@ -17,6 +17,7 @@ pub mod GoalSteps
 pub mod Least
 pub mod Without
 pub mod JudgedSteps
+pub mod Filtered
 pub mod Listings
 pub use Rattle.cert_checker.proofs.cert_tree
 pub use Rattle.cert_checker.proofs as cert_checker

@@ -20,6 +20,8 @@ use Rattle.cert_checker.specs.declared.rule.Rule.TheVariants.{TestKind, EmptyHal
 use Rattle.cert_checker.specs.Paths.{Path, IsAt, leaf_end}
 use Rattle.cert_checker.specs.Fails.{FailsAtTest}
 use Rattle.cert_checker.specs.OpenBoxes.{IsBoxAt}
+use Rattle.cert_checker.specs.box_trace.Halving.{OpensHalves}
+use Rattle.cert_checker.proofs.BoxSteps.{pushed}
 use Rattle.cert_checker.proofs.MarkSteps.{alike-kind, alike-range}
 use Rattle.cert_checker.proofs.LeafSteps.{as_claimed}
 use Rattle.cert_checker.proofs.NodeSteps.{halves}
@@ -104,7 +106,7 @@ grows-leaf trace part t (BagAt id) old new boxes e shared says low =
 
 -- ---- tests
 
-pub grows-test : (trace : List ℕ → Trace) (part yes_half no_half : List SetOf) (test : TestOf) (old new : List NodeOf) (before after_it : List (List SetOf)) → new ≡ old ++ TestAt test ∷ []
+grows-test : (trace : List ℕ → Trace) (part yes_half no_half : List SetOf) (test : TestOf) (old new : List NodeOf) (before after_it : List (List SetOf)) → new ≡ old ++ TestAt test ∷ []
     → reverse after_it ≡ yes_half ∷ no_half ∷ reverse before → has_wrong_kind part test ≡ false → IsHalf part test true yes_half → IsHalf part test false no_half
     → IsNeededTest trace part (IsMember part) test → FitsBox part (TestAt test) → Grows trace part old new before after_it
 grows-test trace part yes_half no_half test old new before after_it e f right is isnt s fits sets path paths b stand =
@@ -115,6 +117,11 @@ grows-test trace part yes_half no_half test old new before after_it e f right is
       good = record { passes = taken.0; needed = moved trace sets part path test b s; fits = λ rule by. fits rule (λ d is. by d ((b.members d).0 is).0) };
       stand = taken.1;
     }
+
+pub grows-halved : (trace : List ℕ → Trace) (part : List SetOf) (test : TestOf) (old new : List NodeOf) (before after_it : List (List SetOf)) → new ≡ old ++ TestAt test ∷ [] → OpensHalves part test before after_it
+    → IsNeededTest trace part (IsMember part) test → FitsBox part (TestAt test) → Grows trace part old new before after_it
+grows-halved trace part test old new before after_it e opens s fits =
+    grows-test trace part opens.yes_half opens.no_half test old new before after_it e (pushed before (before ++ opens.no_half ∷ []) after_it opens.yes_half opens.no_half refl opens.opened) opens.right_kind opens.yes opens.no s fits
 
 -- what is pushed, as contracts see it
 pub map-push : {A B : Type 0} (f : A → B) (xs ys : List A) (x : A) → ys ≡ xs ++ x ∷ [] → map f ys ≡ map f xs ++ f x ∷ []

@@ -31,9 +31,7 @@ mod write;
 
 pub use cert::{Cert, CertGoal, OutOfMemory};
 pub use cert_fault::CertFault;
-pub use config_box::{
-    BoxFault, Choice, ConfigBox, Coord, Locale, LocaleRule, Split, Test, Values, write_locale,
-};
+pub use config_box::{BoxFault, Choice, ConfigBox, Coord, Locale, LocaleRule, Split, Test, Values};
 pub use node::Node;
 pub use progress::{Progress, Unwatched};
 pub use res_value::{ChunkFault, Goal, GoalFault, MOST_STYLES, ResId};

@@ -14,8 +14,9 @@ ghost use Rattle.cert_tree.specs.CertJson.{number_item, locale_item, choice_in, 
 use crate::cert_fault::CertFault;
 use crate::members::{COORD, coord_at, id_at, list_at, number_at, number_within};
 use crate::node::Node;
-use config_box::{Choice, Coord, Locale, LocaleRule, Test, read_locale};
+use config_box::{Choice, Coord, Locale, LocaleRule, Test};
 use json_input::has_only;
+use locales::read_locale;
 use serde_json::Value;
 use std::alloc::Global;
 

@@ -7,7 +7,8 @@ ghost use Rattle.serde_json.specs.View.{view};
 ghost use Rattle.res_value.specs.ResId.{id_of, id_text};
 ghost use Rattle.cert_tree.specs.WrittenJson.{id_data, locale_data};
 
-use config_box::{Locale, write_locale};
+use config_box::Locale;
+use locales::write_locale;
 use res_value::{ResId, write_id};
 use serde_json::Value;
 use std::alloc::{AllocError, Global};

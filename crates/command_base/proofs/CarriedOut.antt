@@ -21,3 +21,10 @@ pub read_stops : {X Y : Type 0} (Command : X → Result Status ToolFault → Typ
     → IfSome known (λ places. CarriesOut Command (read places >>= f) (Err stop))
 read_stops Command f None read stop given = tt
 read_stops {X} {Y} Command f (Some places) read stop given = λ told. inl (ap (λ (r : Result Y StopOf). r >>= f) (given told))
+
+-- the files are not read, and nothing is done
+pub unread_stops : {X : Type 0} (Command : X → Result Status ToolFault → Type 0) (known : Option Places) (read : Places → Result X StopOf) (stop : Stop)
+    → IfSome known (λ places. stop_of stop ≢ tool OutOfMemory → read places ≡ Err (stop_of stop))
+    → IfSome known (λ places. CarriesOut Command (read places) (Err stop))
+unread_stops Command None read stop is = tt
+unread_stops Command (Some places) read stop is = λ told. inl (is told)

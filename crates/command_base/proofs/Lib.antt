@@ -17,3 +17,5 @@ pub mod LeftSteps
 pub use Rattle.answer_text.proofs as answer_text_proofs
 pub use Rattle.cert_tree.proofs.json_input_proofs
 pub mod StopSteps
+pub mod ReadInTurn
+pub mod ReadSteps

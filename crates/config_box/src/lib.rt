@@ -36,7 +36,7 @@ mod test;
 mod values;
 mod written;
 
-pub use box_answers::{Coord, Locale, LocaleRule, MemberPair, Sameness, read_locale, write_locale};
+pub use box_answers::{Coord, Locale, LocaleRule, MemberPair, Sameness};
 pub use box_fault::BoxFault;
 pub use config_box::ConfigBox;
 pub use joined_boxes::join_boxes;

@@ -1,6 +1,7 @@
 pub mod TableLemmas
 pub mod ReadsLemmas
 pub mod LocaleLemmas
+pub mod AnswerSteps
 pub mod RegionAlone
 pub mod NoMismatch
 pub mod OtherLocale

@@ -1,8 +1,9 @@
 -- No rule of a table decides exactly where all pass, and the one that decides stands at its place.
-use Rattle.std.proofs.Common.{◌≡◌, ℕ, ◌+◌, Bool, true, false, nat_lt, not, cond, List, [], ◌∷◌, length, Option, Some, None, is_none, ◌<◌, slice_index_or, refl, sym, ap, ◌∙◌}
+use Rattle.std.proofs.Common.{◌≡◌, ℕ, suc, ◌+◌, add-one, Bool, true, false, nat_lt, not, cond, List, [], ◌∷◌, length, get_or, drop, drop-cons, Option, Some, None, is_none, ◌<◌, ◌≤◌, slice_index_or, refl, sym, ap, ◌∙◌}
 use Rattle.std.specs.Prelude.{option_and_then, slice_get, position, find}
 use Rattle.std.proofs.lemmas.Bool.{ltb-false}
 use Rattle.std.proofs.lemmas.Iterator.Adapters.{position_from-zero}
+use Rattle.std.proofs.lemmas.List.{drop_all}
 use Rattle.std.proofs.lemmas.List.Folds.{find_at}
 use Rattle.std.proofs.lemmas.Option.{slice_get_past, slice_get-get_or}
 use Rattle.std.specs.List.{position_from, position_or_len}
@@ -46,3 +47,25 @@ pub rule_at_place : (rules : List Rule) (a b d : Coord → ℕ) (place : ℕ) (o
     → Some (slice_index_or rules place otherwise) ≡ rule_of_table rules a b d
 rule_at_place rules a b d place otherwise e within =
     sym (slice_get-get_or rules place otherwise within) ∙ ap (option_and_then (slice_get rules)) e ∙ sym (rule_there rules a b d)
+
+-- ---- the place, rule by rule
+
+from-here : (test : Rule → Bool) (table : List Rule) (place : ℕ) (otherwise : Rule) (says : Bool) → place < length table → test (get_or table place otherwise) ≡ says
+    → position_from test place (drop place table) ≡ position_from test 0 table → cond says (Some place) (position_from test (place + 1) (drop (suc place) table)) ≡ position_from test 0 table
+from-here test table place otherwise says within tells so_far =
+    sym (ap (position_from test place) (drop-cons table place otherwise within) ∙ ap (λ (b : Bool). cond b (Some place) (position_from test (place + 1) (drop (suc place) table))) tells) ∙ so_far
+
+pub stands-here : (test : Rule → Bool) (table : List Rule) (place : ℕ) (otherwise : Rule) → place < length table → test (get_or table place otherwise) ≡ true
+    → position_from test place (drop place table) ≡ position_from test 0 table → Some place ≡ position test table
+stands-here test table place otherwise within tells so_far = from-here test table place otherwise true within tells so_far ∙ sym (position_from-zero test table)
+
+pub stands-behind : (test : Rule → Bool) (table : List Rule) (place : ℕ) (otherwise : Rule) → place < length table → test (get_or table place otherwise) ≡ false
+    → position_from test place (drop place table) ≡ position_from test 0 table → position_from test (place + 1) (drop (place + 1) table) ≡ position_from test 0 table
+stands-behind test table place otherwise within tells so_far =
+    ap (λ (n : ℕ). position_from test (place + 1) (drop n table)) (add-one place) ∙ from-here test table place otherwise false within tells so_far
+
+pub stands-nowhere : (test : Rule → Bool) (table : List Rule) (place : ℕ) → length table ≤ place → position_from test place (drop place table) ≡ position_from test 0 table → None ≡ position test table
+stands-nowhere test table place end so_far = sym (ap (position_from test place) (drop_all place table end)) ∙ so_far ∙ sym (position_from-zero test table)
+
+pub answers : (x found : Answer) (passes says : Bool) → found ≡ x → passes ≡ is_pass found → passes ≡ says → not (is_pass x) ≡ not says
+answers x found passes says is tells e = ap not (ap is_pass (sym is) ∙ sym tells ∙ e)

@@ -35,9 +35,7 @@ mod table;
 
 pub use answer::Answer;
 pub use condition::{SOFT_KEYS, is_compared_plainly};
-pub use config_record::{
-    COORD_COUNT, Coord, Device, Locale, LocaleFault, LocaleRule, Record, read_locale, write_locale,
-};
+pub use config_record::{COORD_COUNT, Coord, Device, Locale, LocaleFault, LocaleRule, Record};
 pub use kind::{Kind, Numbers};
 pub use match_table::conditions;
 pub use matching::{matches, mismatch};

@@ -8,7 +8,7 @@ ghost use Rattle.config_match.specs.Matching.{is_match, is_set_aside_at, mismatc
 use crate::condition::{is_compared_plainly, suits_locale};
 use crate::match_table::conditions;
 use crate::reason::Mismatch;
-use crate::table::{deciding_rule, table_answer};
+use crate::table::{deciding_place, table_answer};
 use config_record::{Device, Record};
 
 /// Whether a record matches a device (AOSP: `ResTable_config::match`). One with a region and no language matches
@@ -36,8 +36,9 @@ pub fn mismatch(stored: &Record, device: &Device) -> Option<Mismatch>
     if is_set_aside_at(stored, device) {
         return Some(Mismatch::SetAside);
     }
-    let rule = deciding_rule(conditions(), stored, stored, device)?;
-    Some(Mismatch::At(rule.coord))
+    let rules = conditions();
+    let place = deciding_place(rules, stored, stored, device)?;
+    Some(Mismatch::At(rules[place].coord))
 }
 
 // By language and region a script or a variant sets a record aside.

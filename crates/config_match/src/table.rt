@@ -5,7 +5,7 @@ ghost use Rattle.config_record.specs.Record.{record_bytes};
 ghost use Rattle.config_record.specs.ComparedNumber.{record_number, device_number};
 ghost use Rattle.config_record.specs.DeviceSeen.{device_numbers};
 ghost use Rattle.config_match.specs.Answer.{is_pass};
-ghost use Rattle.config_match.specs.Table.{answer_of_table, rule_of_table, place_of_table, place_keeping_out};
+ghost use Rattle.config_match.specs.Table.{answer_of_table, place_of_table, place_keeping_out};
 
 use crate::answer::Answer;
 use crate::rule::Rule;
@@ -25,26 +25,7 @@ pub fn table_answer<'a>(rules: &[Rule], a: &Record<'a>, b: &Record<'a>, device: 
     Answer::Pass
 }
 
-/// The rule that decides.
-#[tactic(auto, using(crate::proofs::TableLemmas::rule_there))]
-pub fn deciding_rule<'a>(
-    rules: &[Rule],
-    a: &Record<'a>,
-    b: &Record<'a>,
-    device: &Device,
-) -> Option<Rule>
-    ensures value { result ≡ rule_of_table rules.now (record_number (record_bytes a.now))
-        (record_number (record_bytes b.now)) (device_number (device_numbers device.now)) }
-    ensures none { is_none result ≡ is_pass (answer_of_table rules.now
-        (record_number (record_bytes a.now)) (record_number (record_bytes b.now))
-        (device_number (device_numbers device.now))) }
-{
-    let place = deciding_place(rules, a, b, device)?;
-    Some(rules[place])
-}
-
 /// The place of the rule that decides.
-#[tactic(auto, using(crate::proofs::TableLemmas::no_place))]
 pub fn deciding_place<'a>(
     rules: &[Rule],
     a: &Record<'a>,
@@ -58,17 +39,12 @@ pub fn deciding_place<'a>(
         (device_number (device_numbers device.now))) }
     ensures within { IfSome result (λ place. place < length rules.now) }
 {
-    first_place(rules, a, b, device)
-}
-
-fn first_place(rules: &[Rule], a: &Record, b: &Record, device: &Device) -> Option<usize>
-    ensures value { result ≡ place_of_table rules.now (record_number (record_bytes a.now))
-        (record_number (record_bytes b.now)) (device_number (device_numbers device.now)) }
-    ensures within { IfSome result (λ place. place < length rules.now) }
-{
-    rules
-        .iter()
-        .position(|rule| !rule.answer(a, b, device).is_pass())
+    for (place, rule) in rules.iter().enumerate() {
+        if !rule.answer(a, b, device).is_pass() {
+            return Some(place);
+        }
+    }
+    None
 }
 
 /// The place of the rule that keeps the first record out, where it is not better: the first that decides, or by which the second
@@ -83,7 +59,10 @@ pub fn place_keeping_out<'a>(
         (record_number (record_bytes b.now)) (device_number (device_numbers device.now)) }
     ensures within { IfSome result (λ place. place < length rules.now) }
 {
-    rules.iter().position(|rule| {
-        !rule.answer(a, b, device).is_pass() || rule.answer(b, a, device).is_yes()
-    })
+    for (place, rule) in rules.iter().enumerate() {
+        if !rule.answer(a, b, device).is_pass() || rule.answer(b, a, device).is_yes() {
+            return Some(place);
+        }
+    }
+    None
 }

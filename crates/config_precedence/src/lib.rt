@@ -17,8 +17,7 @@ mod table;
 
 pub use config_match::{
     Answer, COORD_COUNT, Coord, Device, Kind, Locale, LocaleFault, LocaleRule, Mismatch, Numbers,
-    Record, Rule, SOFT_KEYS, conditions, is_compared_plainly, matches, mismatch, read_locale,
-    table_answer, write_locale,
+    Record, Rule, SOFT_KEYS, conditions, matches, mismatch, table_answer,
 };
 pub use equal_record::same;
 pub use precedence::{better, deciding, keeping_out};

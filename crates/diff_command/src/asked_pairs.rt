@@ -8,8 +8,8 @@ ghost use Rattle.stack_diff.specs.Stacks.{stacks_of};
 ghost use Rattle.diff_command.specs.AskedPairs.{asked_pairs, AreOfStacks};
 
 use command_base::NamedSet;
-use names::{NameFault, pairs_named};
-use stack_diff::{NamePair, Stacks, name_pairs};
+use names::{NameFault, name_pairs, pairs_named};
+use stack_diff::{NamePair, Stacks};
 use std::alloc::Global;
 
 /// The labels of both stacks for which some word asks, in rising order; all of them without words.

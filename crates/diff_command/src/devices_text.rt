@@ -11,8 +11,9 @@ ghost use Rattle.stack_diff.specs.config_box.config_record.locales.LocaleNumber.
 ghost use Rattle.diff_command.specs.DevicesText.{range_text, locale_value, next_value, listed, values_text, coord_text, narrower_text, devices_text, devices_in};
 
 use answer_text::Form;
+use locales::write_locale;
 use notation::{is_narrower, is_narrower_at_one};
-use stack_diff::{ConfigBox, Coord, Locale, Values, write_locale};
+use stack_diff::{ConfigBox, Coord, Locale, Values};
 use std::io::{self, Write};
 
 /// Writes which devices a part of a box has, behind ` on`: what it has at the coordinates at which it has fewer numbers than the

@@ -1,5 +1,5 @@
 -- What names stand for, told name by name.
-use Rattle.std.proofs.Common.{◌≡◌, ℕ, ◌≤◌, Bool, true, cond, inl, inr, List, [], ◌∷◌, ◌++◌, Bor, map, length, drop, Option, Some, None, refl, sym, ap, subst, ◌∙◌, append_assoc, arith}
+use Rattle.std.proofs.Common.{◌≡◌, ℕ, ◌≤◌, Bool, true, cond, inl, inr, List, ◌∷◌, ◌++◌, Bor, map, length, drop, Option, Some, None, refl, sym, ap, subst, ◌∙◌, append_assoc, arith}
 use Rattle.std.proofs.lemmas.Bool.{cases_Bool}
 use Rattle.std.proofs.lemmas.List.{drop_all}
 use Rattle.std.proofs.lemmas.Simd.{map-map}
@@ -9,7 +9,7 @@ use Rattle.std.proofs.lemmas.Slice.Eq.{bytes_eq-Decides}
 use Rattle.std.specs.BTreeMap.{IsEmpty, get, is_at}
 use Rattle.std.specs.List.{flat_map}
 use Rattle.std.specs.Map.{lookup}
-use Rattle.std.specs.Option.{is_some, option_map, option_map_or, unwrap_or}
+use Rattle.std.specs.Option.{option_map, unwrap_or}
 use Rattle.std.specs.Vec.Iter.{into_iter_items, into_iter_steps}
 use Rattle.overlay_map.specs.resource_table.Table.{TableOf}
 use Rattle.overlay_map.specs.Layer.{LayerOf, base_tables}
@@ -22,7 +22,7 @@ use Rattle.names.specs.declared.named.Named.{Named}
 use Rattle.names.specs.Named.{named_of}
 use Rattle.names.specs.declared.finder.Finder.{Finder}
 use Rattle.names.specs.AskedNames.{names_in}
-use Rattle.names.specs.Finder.{Ids, Known, AreKnown, Tells, known_at, type_cmp}
+use Rattle.names.specs.Finder.{Ids, Known, AreKnown, Tells, type_cmp}
 use Rattle.names.specs.NamedIds.{found_of_name, ids_of_rows, packages_of}
 use Rattle.names.specs.Packages.{PackageNameOf, package_name_of}
 
@@ -90,24 +90,14 @@ known-none layers known none = λ type_name ids found.
 -- one type more
 pub known-more : (layers : List LayerOf) (old new : Known) (type_name : Option (Bor (List ℕ))) (ids : Ids) → AreKnown layers old
     → ((name : Option (Bor (List ℕ))) → get type_cmp new name ≡ cond (is_at (type_cmp type_name) name) (Some ids) (get type_cmp old name))
-    → ids_of_rows layers (option_map (λ name. name.now) type_name) ≡ ids.items → AreKnown layers new
+    → ids_of_rows layers (option_map (λ name. name.now) type_name) ≡ ids.value.items → AreKnown layers new
 known-more layers old new type_name ids before update are = λ name found_ids found.
     elim (cases_Bool (is_at (type_cmp type_name) name)) [
       | inl is ↦ (let same : Some ids ≡ Some found_ids = sym (update name ∙ ap (λ (here : Bool). cond here (Some ids) (get type_cmp old name)) is) ∙ found in
           let it : ids ≡ found_ids = cc in
-          ap (ids_of_rows layers) (sym (one-type type_name name is)) ∙ are ∙ ap (λ (given : Ids). given.items) it)
+          ap (ids_of_rows layers) (sym (one-type type_name name is)) ∙ are ∙ ap (λ (given : Ids). given.value.items) it)
       | inr not ↦ before name found_ids (sym (update name ∙ ap (λ (here : Bool). cond here (Some ids) (get type_cmp old name)) not) ∙ found)
     ]
-
--- what is there is all of it
-pub known-there : (layers : List LayerOf) (known : Known) (type_name : Option (Bor (List ℕ))) → AreKnown layers known → is_some (get type_cmp known type_name) ≡ true
-    → known_at known type_name ≡ ids_of_rows layers (option_map (λ name. name.now) type_name)
-known-there layers known type_name before there = by (get type_cmp known type_name) refl there
-  where
-    by : (found : Option Ids) → get type_cmp known type_name ≡ found → is_some found ≡ true
-        → option_map_or (λ ids. ids.items) found [] ≡ ids_of_rows layers (option_map (λ name. name.now) type_name)
-    by None is some = absurd cc
-    by (Some ids) is some = sym (before type_name ids is)
 
 -- ---- what was found of names
 

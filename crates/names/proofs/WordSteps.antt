@@ -83,11 +83,6 @@ pub of-type : (layers : List LayerOf) (in_package : Option PackageWordOf) (type_
 unfolding ids_of_set
 of-type layers in_package type_name ids are = ap (some_of (SetOfType in_package type_name)) (sym are)
 
--- in any package are all
-pub in-any-package : (layers : List LayerOf) (ids : List ResId) → ids_in_package layers None ids ≡ ids
-in-any-package layers [] = refl
-in-any-package layers (id ∷ ids) = ap (λ (others : List ResId). id ∷ others) (in-any-package layers ids)
-
 pub of-all : (layers : List LayerOf) (ids : List ResId) → ids ≡ ids_of_rows layers None → ids_of_set layers SetOfAll ≡ some_of SetOfAll ids
 unfolding ids_of_set
 of-all layers ids are = ap (some_of SetOfAll) (sym are)

@@ -1,12 +1,13 @@
 -- What names stand for, told name by name. Contracts within the crate alone speak of this.
-use Rattle.std.specs.Prelude.{◌≡◌, ℕ, List, [], map, Option, Some, Vec}
+use Rattle.std.specs.Prelude.{◌≡◌, ℕ, List, map, Option, Some, Vec}
 use Rattle.std.specs.Borrow.{Bor}
 use Rattle.std.specs.BTreeMap.{BTreeMap, get}
 use Rattle.std.specs.Cmp.Lexicographic.{slice_cmp}
-use Rattle.std.specs.Option.{option_cmp, option_map, option_map_or}
+use Rattle.std.specs.Option.{option_cmp, option_map}
 use Rattle.std.specs.Ordering.{nat_cmp}
 use Rattle.std.specs.declared.alloc.Global.{Global}
 use Rattle.std.specs.declared.cmp.Ordering.{Ordering}
+use Rattle.std.specs.declared.rc.Rc.{Rc}
 use Rattle.std.specs.Vec.Iter.{into_iter_items}
 use Rattle.overlay_map.specs.Layer.{LayerOf, base_tables}
 use Rattle.res_value.specs.declared.res_id.ResId.{ResId}
@@ -20,7 +21,7 @@ abbrev pub type_cmp : Option (Bor (List ℕ)) → Option (Bor (List ℕ)) → Or
 type_cmp = option_cmp (λ a b. slice_cmp nat_cmp a.now b.now)
 
 abbrev pub Ids : Type 0
-Ids = Vec ResId Global
+Ids = Rc (Vec ResId Global) Global
 
 abbrev pub Known : Type 0
 Known = BTreeMap (Option (Bor (List ℕ))) Ids
@@ -29,11 +30,7 @@ Known = BTreeMap (Option (Bor (List ℕ))) Ids
 abbrev pub AreKnown : List LayerOf → Known → Type 0
 AreKnown layers known =
     (type_name : Option (Bor (List ℕ))) (ids : Ids) → get type_cmp known type_name ≡ Some ids
-    → ids_of_rows layers (option_map (λ name. name.now) type_name) ≡ ids.items
-
--- the ids that are known of a type
-abbrev pub known_at : Known → Option (Bor (List ℕ)) → List ResId
-known_at known type_name = option_map_or (λ ids. ids.items) (get type_cmp known type_name) []
+    → ids_of_rows layers (option_map (λ name. name.now) type_name) ≡ ids.value.items
 
 -- over these layers, what these names stand for is still to be told
 pub record Tells (layers : List LayerOf) (names : List WantedOf) (finder : Finder) : Type 0 where

@@ -12,7 +12,7 @@ ghost use Rattle.names.specs.Names.{WantedOf, wanted_of};
 ghost use Rattle.names.specs.NameFault.{GivesNamed};
 ghost use Rattle.names.specs.NamedIds.{id_named, id_of_found, ids_in_package, ids_of_rows, ids_of_set, some_of};
 ghost use Rattle.names.specs.AskedNames.{names_in, names_in_set};
-ghost use Rattle.names.specs.Finder.{Tells, known_at};
+ghost use Rattle.names.specs.Finder.{Tells};
 ghost use Rattle.names.specs.PackageWord.{package_word_of};
 ghost use Rattle.names.specs.Packages.{package_name_of, is_asked_in};
 
@@ -28,6 +28,7 @@ use crate::wanted::Wanted;
 use overlay_map::{ResId, Stack, Table};
 use std::alloc::{AllocError, Global};
 use std::collections::BTreeMap;
+use std::rc::Rc;
 use std::vec::IntoIter;
 
 /// The ids of words, which are asked in the order in which their names were looked up.
@@ -40,7 +41,7 @@ pub(crate) struct Finder<'s, 'a, 'n> {
     /// What the names that are left stand for.
     found: IntoIter<Found>,
     /// The ids of types, or of all rows, that were asked for before.
-    known: BTreeMap<Option<&'n str>, Vec<ResId>>,
+    known: BTreeMap<Option<&'n str>, Rc<Vec<ResId>>>,
 }
 
 impl<'s, 'a, 'n> Finder<'s, 'a, 'n> {
@@ -97,66 +98,64 @@ impl<'s, 'a, 'n> Finder<'s, 'a, 'n> {
     }
 
     /// The ids of a set of resources.
-    pub fn ids(&mut self, alloc: Global, set: &NamedSet<'n>) -> Result<Vec<ResId>, NameFault>
+    pub fn ids(&mut self, alloc: Global, set: &NamedSet<'n>) -> Result<Rc<Vec<ResId>>, NameFault>
         ensures left { (layers : List LayerOf) (names : List WantedOf) → Tells layers (names_in_set (named_set_of set.now) ++ names) self.old → OnOk result (Tells layers names self.new) }
-        ensures found { (layers : List LayerOf) (names : List WantedOf) → Tells layers (names_in_set (named_set_of set.now) ++ names) self.old → GivesNamed (λ ids. ids.items) result (ids_of_set layers (named_set_of set.now)) }
+        ensures found { (layers : List LayerOf) (names : List WantedOf) → Tells layers (names_in_set (named_set_of set.now) ++ names) self.old → GivesNamed (λ ids. ids.value.items) result (ids_of_set layers (named_set_of set.now)) }
     {
         match set {
             NamedSet::One(named) => {
                 let id = self.id(alloc, named)?;
                 let ids = vec![in alloc; id]?;
-                Ok(ids)
+                let shared = Rc::new(alloc, ids)?;
+                Ok(shared)
             }
             NamedSet::OfType { package, type_name } => {
-                self.find_rows(alloc, Some(*type_name))?;
-                let ids = self.known_ids(alloc, Some(*type_name), *package)?;
+                let ids = self.ids_of_rows(alloc, Some(*type_name))?;
+                let ids = self.in_package(alloc, *package, &ids)?;
                 some_of(alloc, *set, ids)
             }
             NamedSet::All => {
-                self.find_rows(alloc, None)?;
-                let ids = self.known_ids(alloc, None, None)?;
+                let ids = self.ids_of_rows(alloc, None)?;
                 some_of(alloc, *set, ids)
             }
         }
     }
 
-    // Finds the ids of all rows whose type has a name; those of all rows where none is named. However often they are asked for,
+    // The ids of all rows whose type has a name; those of all rows where none is named. However often they are asked for,
     // one walk over the rows finds them.
-    fn find_rows(&mut self, alloc: Global, type_name: Option<&'n str>) -> Result<(), AllocError>
-        ensures { (layers : List LayerOf) (names : List WantedOf) → Tells layers names self.old → OnOk result (Tells layers names self.new × (known_at self.new.known type_name.entry ≡ ids_of_rows layers (option_map (λ name. name.now) type_name.entry))) }
-    {
-        if !self.known.contains_key(&type_name) {
-            let ids = ids_of_type(alloc, &self.tables, type_name)?;
-            self.known.insert(type_name, ids)?;
-        }
-        Ok(())
-    }
-
-    // Those of the ids that were found which are of a package, where one is named.
-    fn known_ids(
-        &self,
+    fn ids_of_rows(
+        &mut self,
         alloc: Global,
         type_name: Option<&'n str>,
+    ) -> Result<Rc<Vec<ResId>>, AllocError>
+        ensures left { (layers : List LayerOf) (names : List WantedOf) → Tells layers names self.old → OnOk result (Tells layers names self.new) }
+        ensures found { (layers : List LayerOf) (names : List WantedOf) → Tells layers names self.old → IfOk result (λ ids. ids.value.items ≡ ids_of_rows layers (option_map (λ name. name.now) type_name.entry)) }
+    {
+        if let Some(ids) = self.known.get(&type_name) {
+            return Ok(ids.clone()?);
+        }
+        let ids = ids_of_type(alloc, &self.tables, type_name)?;
+        let ids = Rc::new(alloc, ids)?;
+        self.known.insert(type_name, ids.clone()?)?;
+        Ok(ids)
+    }
+
+    // Those of these ids that are of a package, where one is named.
+    fn in_package(
+        &self,
+        alloc: Global,
         word: Option<PackageWord<'n>>,
-    ) -> Result<Vec<ResId>, AllocError>
-        ensures { (layers : List LayerOf) (names : List WantedOf) → Tells layers names self.now → IfOk result (λ kept. kept.items ≡ ids_in_package layers (option_map package_word_of word.entry) (known_at self.now.known type_name.entry)) }
+        ids: &[ResId],
+    ) -> Result<Rc<Vec<ResId>>, AllocError>
+        ensures { (layers : List LayerOf) (names : List WantedOf) → Tells layers names self.now → IfOk result (λ kept. kept.value.items ≡ ids_in_package layers (option_map package_word_of word.entry) ids.now) }
     {
         let mut kept = Vec::new(alloc);
-        for id in self.known_rows(type_name) {
+        for id in ids {
             if is_asked_in(&self.packages, word, id.package()) {
                 kept.push(*id)?;
             }
         }
-        Ok(kept)
-    }
-
-    fn known_rows(&self, type_name: Option<&'n str>) -> &[ResId]
-        ensures { result.now ≡ known_at self.now.known type_name.entry }
-    {
-        match self.known.get(&type_name) {
-            Some(ids) => ids,
-            None => &[],
-        }
+        Ok(Rc::new(alloc, kept)?)
     }
 }
 
@@ -177,8 +176,12 @@ fn id_of_found(
 }
 
 // These ids; none are a fault.
-fn some_of(alloc: Global, set: NamedSet<'_>, ids: Vec<ResId>) -> Result<Vec<ResId>, NameFault>
-    ensures { GivesNamed (λ ids. ids.items) result (some_of (named_set_of set.entry) ids.items) }
+fn some_of(
+    alloc: Global,
+    set: NamedSet<'_>,
+    ids: Rc<Vec<ResId>>,
+) -> Result<Rc<Vec<ResId>>, NameFault>
+    ensures { GivesNamed (λ ids. ids.value.items) result (some_of (named_set_of set.entry) ids.value.items) }
 {
     if ids.is_empty() {
         return Err(NameFault::no_set(alloc, set));

@@ -19,6 +19,7 @@ use crate::named_goal::NamedGoal;
 use overlay_map::{ResId, Stack};
 use res_value::Goal;
 use std::alloc::{AllocError, Global};
+use std::rc::Rc;
 
 /// The goals that words ask for, one word after the other: one for each id of a set, or for an attribute under styles; of all
 /// these the first, at most so many. What is not there is told wherever it stands. All names are looked up in one walk over the
@@ -60,7 +61,7 @@ fn first_found<'n>(
 enum WordGoals {
     One(Goal),
     /// One for each of these ids.
-    Each(Vec<ResId>),
+    Each(Rc<Vec<ResId>>),
 }
 
 impl WordGoals {

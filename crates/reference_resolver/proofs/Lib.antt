@@ -1,6 +1,7 @@
 pub mod Places
 pub mod Reordering
 pub mod Best
+pub mod BeatsSteps
 pub mod AnyOrder
 pub mod Chains
 pub mod Traces

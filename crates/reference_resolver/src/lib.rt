@@ -21,7 +21,7 @@ mod references;
 mod selection;
 mod step;
 
-pub use config_precedence::{Coord, Device, Locale, Record, same};
+pub use config_precedence::{Coord, Device, Locale, Record};
 pub use decision::Decision;
 pub use end::End;
 pub use next::{Next, is_reference};

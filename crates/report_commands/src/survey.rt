@@ -6,6 +6,8 @@ ghost use Rattle.std.specs.Option.{option_map};
 ghost use Rattle.contract_words.specs.Writes.{Writes};
 ghost use Rattle.command_base.specs.cert_tree.config_box.config_record.declared.coord.Coord as coord;
 ghost use Rattle.command_base.specs.cert_tree.config_box.config_record.Coord.{all_coords};
+ghost use Rattle.command_base.specs.FilesSeen.{bytes_of};
+ghost use Rattle.command_base.specs.Inputs.{file_of, where_given};
 ghost use Rattle.command_base.specs.Output.{Prints};
 ghost use Rattle.command_base.specs.StackBytesSeen.{layer_bytes};
 ghost use Rattle.command_base.specs.Stop.{GivesOrStops};
@@ -92,16 +94,22 @@ impl SurveyFiles {
             (survey_files places layers_path.entry.now (option_map (λ path. path.now) box_path.entry))) }
     {
         let layers = LayerFiles::read(alloc, inputs, layers_path)?;
-        match box_path {
-            Some(path) => {
-                let box_json = Some(file_bytes(inputs, path)?);
-                Ok(SurveyFiles { layers, box_json })
-            }
-            None => Ok(SurveyFiles {
-                layers,
-                box_json: None,
-            }),
-        }
+        let box_json = box_bytes(inputs, box_path)?;
+        Ok(SurveyFiles { layers, box_json })
+    }
+}
+
+// The bytes of a box, where its path is given.
+fn box_bytes<'a, I: Inputs>(
+    inputs: &I,
+    box_path: Option<&'a str>,
+) -> Result<Option<Vec<u8>>, Stop<'a>>
+    ensures { IfSome (I.places inputs.now) (λ places. GivesOrStops (option_map bytes_of) result
+        (where_given (file_of places) (option_map (λ path. path.now) box_path.entry))) }
+{
+    match box_path {
+        Some(path) => Ok(Some(file_bytes(inputs, path)?)),
+        None => Ok(None),
     }
 }
 

@@ -7,8 +7,8 @@ ghost use Rattle.report_commands.specs.TreeText.{number_item, locale_item, choic
 
 use crate::locale_differences::says_nothing;
 use answer_text::Form;
-use cert_tree::write_locale;
 use command_base::{Choice, Locale, Test};
+use locales::write_locale;
 use std::io::{self, Write};
 
 /// Writes a test: `<198dpi`, `de-rAT,de-rDE`.

@@ -11,8 +11,8 @@ use crate::findings::Findings;
 use crate::qualifiers::Spread;
 use crate::site::Site;
 use answer_text::{write_id, write_layer, write_named_coord, write_named_number};
-use cert_tree::write_locale;
 use command_base::{Coord, Locale, SharedNames};
+use locales::write_locale;
 use std::io::{self, Write};
 
 /// Writes a line for each finding that a layer has.

@@ -2,13 +2,14 @@
 
 ghost use Rattle.std.specs.Prelude.{◌≡◌, [], map, Err, string_bytes};
 ghost use Rattle.std.specs.Io.Buffered.{writer_buffer, writer_inner};
-ghost use Rattle.restool.specs.Run.{CarriesOutRequest, Runs};
+ghost use Rattle.restool.specs.Run.{CarriesOutRequest, Runs, TellsFault, Works};
 
-use crate::ending::{Reported, end, said_beside, written_out};
+use crate::ending::{end, said_beside, written_out};
 use crate::hints::{CommandEnd, hint_of, hint_of_words};
 use crate::left::left_lines;
 use crate::request::{Request, answer, layer_words};
 use crate::words::read_words;
+use crate::words_fault::WordsFault;
 use resource_tool::{ExitStatus, Inputs, Status, Stop, Watch};
 use std::alloc::Global;
 use std::io::{BufWriter, Write};
@@ -39,38 +40,65 @@ pub fn run_words<I: Inputs, C: Clock, O: Write + Drop, E: Write + Drop>(
 {
     match read_words(alloc, words) {
         Ok(request) => {
-            let is_terminal = watch.is_terminal;
-            let Carried { outcome, hint, out } = carry_out(
-                alloc, inputs, watch, &request, out, errors,
-            );
-            let Reported {
-                status,
-                was_written,
-            } = end(outcome, hint.as_deref(), is_terminal, errors);
-            Ended {
-                status,
-                was_written,
-                out,
-            }
+            let ended = run_request(alloc, inputs, watch, &request, out, errors);
+            drop(request);
+            ended
         }
         Err(fault) => {
             let is_terminal = watch.is_terminal;
-            let hint = if is_terminal {
-                hint_of_words(alloc, inputs, words, &fault)
-            } else {
-                None
-            };
-            let (mut out, _nothing) = out.into_parts();
-            let Reported {
-                status,
-                was_written,
-            } = fault.report(hint.as_deref(), is_terminal, &mut out, errors);
-            Ended {
-                status,
-                was_written,
-                out,
-            }
+            let ended = tell_fault(alloc, inputs, is_terminal, words, &fault, out, errors);
+            drop(fault);
+            ended
         }
+    }
+}
+
+fn run_request<I: Inputs, C: Clock, O: Write + Drop, E: Write + Drop>(
+    alloc: Global,
+    inputs: &I,
+    watch: Watch<'_, C>,
+    request: &Request<'_>,
+    out: BufWriter<O>,
+    errors: &mut E,
+) -> Ended<O>
+    requires { writer_buffer out ≡ [] }
+    ensures { Works O.contents E.contents (I.places inputs.now) watch.entry.is_terminal
+        (record { out = writer_inner out; errors = errors.old }) (record { out = result.out; errors = errors.new }) request.now result.was_written result.status }
+{
+    let is_terminal = watch.is_terminal;
+    let Carried { outcome, hint, out } = carry_out(alloc, inputs, watch, request, out, errors);
+    let reported = end(outcome, hint.as_deref(), is_terminal, errors);
+    Ended {
+        status: reported.status,
+        was_written: reported.was_written,
+        out,
+    }
+}
+
+// Says why words ask for nothing.
+fn tell_fault<I: Inputs, O: Write + Drop, E: Write + Drop>(
+    alloc: Global,
+    inputs: &I,
+    is_terminal: bool,
+    words: &[String],
+    fault: &WordsFault<'_>,
+    out: BufWriter<O>,
+    errors: &mut E,
+) -> Ended<O>
+    ensures { TellsFault E.contents is_terminal
+        (record { out = writer_inner out; errors = errors.old }) (record { out = result.out; errors = errors.new }) fault.now result.was_written result.status }
+{
+    let (mut out, _nothing) = out.into_parts();
+    let hint = if is_terminal {
+        hint_of_words(alloc, inputs, words, fault)
+    } else {
+        None
+    };
+    let reported = fault.report(hint.as_deref(), is_terminal, &mut out, errors);
+    Ended {
+        status: reported.status,
+        was_written: reported.was_written,
+        out,
     }
 }
 

@@ -1,18 +1,19 @@
 -- How the text of bytes that are read as UTF-8 goes on.
 use Rattle.std.proofs.Common.{◌≡◌, ℕ, zero, suc, ◌+◌, ◌-◌, ◌<◌, ◌≤◌, Bool, true, false, ◌||◌, slice_index, inl, inr, List, [], ◌∷◌, ◌++◌, length, take, drop, Some, None, refl, sym, ap, ◌∙◌, arith, subst, append_assoc, length-drop, drop-drop}
-use Rattle.std.specs.Prelude.{◌&&◌, not}
+use Rattle.std.specs.Prelude.{◌&&◌, not, MatchOption}
 use Rattle.std.proofs.lemmas.Bool.{cases_lt, cases_Bool}
 use Rattle.std.proofs.lemmas.Bool.Decides.{nat_tests}
 use Rattle.std.proofs.lemmas.List.{nil_from_length}
 use Rattle.std.proofs.lemmas.Str.{encode_ascii, byte_from_char}
 use Rattle.std.proofs.Math.Seq.{take-append_seam, take-add}
+use Rattle.std.specs.Bool.{then_some}
 use Rattle.std.specs.Char.{encode_utf8, is_ascii}
 use Rattle.std.specs.List.{slice_get}
 use Rattle.bstr.specs.Utf8.{Decoded, good, decoded}
 use Rattle.bstr.proofs.lemmas.PieceLemmas.{piece-bounds, value-1}
 use Rattle.bstr.proofs.lemmas.SoundLemmas.{SpellsChar-decoded}
 use Rattle.string_pool.specs.Shown.{takes_backslash, is_control, byte_escape, character_text, front_text, bytes_behind, bytes_text_after, bytes_text}
-use Rattle.string_pool.specs.Escapes.{escape_text, is_plain_byte, IsPlain, BeginsEscape}
+use Rattle.string_pool.specs.Escapes.{escape_text, is_plain_byte, IsPlain, BeginsPlain, BeginsEscape}
 
 bytes_text_after-drop : (n : ℕ) (bytes : List ℕ) → bytes_text_after n bytes ≡ bytes_text (drop n bytes)
 unfolding bytes_text_after
@@ -154,6 +155,17 @@ IsPlain-some (b ∷ others) byte c width first wide found e =
       text = bytes_text-some left c found some ∙ ap (λ (t : List ℕ). t ++ bytes_text (drop size left)) (plain_character c (wide_character c past) ∙ sym front);
     } in
     (subst (λ (n : ℕ). IsPlain left n) (sym e) plain, subst (λ (n : ℕ). 0 < n) (sym e) bounds.0)
+
+-- nothing stands at the front
+pub BeginsEscape-nothing : (left : List ℕ) → None ≡ slice_get left 0 → BeginsEscape left
+BeginsEscape-nothing [] nothing = record { text = λ b bytes same. absurd cc }
+BeginsEscape-nothing (b ∷ others) nothing = absurd cc
+
+-- characters of ASCII, unless the first takes an escape
+pub ascii-first : (left : List ℕ) (byte width : ℕ) (escaped : Bool) → Some byte ≡ slice_get left 0 → is_ascii byte ≡ true → escaped ≡ (takes_backslash byte || is_control byte)
+    → IsPlain left width → (BeginsPlain left → 0 < width) → MatchOption (then_some (not escaped) width) (BeginsEscape left) (λ n. IsPlain left n × (0 < n))
+ascii-first left byte width true first ascii escaped plain some = BeginsEscape-ascii left byte first ascii escaped
+ascii-first left byte width false first ascii escaped plain some = (plain, some (byte, sym first, rw (ascii, ← escaped) refl))
 
 pub ruleset plain_steps = (BeginsEscape-ascii, BeginsEscape-none, IsPlain-ascii)
 

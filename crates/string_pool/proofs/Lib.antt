@@ -6,3 +6,4 @@ pub mod PlainTexts
 pub mod WriteSteps
 pub mod UnitTexts
 pub mod Ranges
+pub mod ClosingSteps

@@ -1,5 +1,6 @@
 -- How a loop writes a text piece by piece.
-use Rattle.std.proofs.Common.{◌≡◌, ℕ, List, [], ◌++◌, Option, refl, sym, ap, subst, ◌∙◌, append_assoc}
+use Rattle.std.proofs.Common.{◌≡◌, ℕ, List, [], ◌++◌, Option, Result, Ok, Err, refl, sym, ap, subst, ◌∙◌, append_assoc}
+use Rattle.std.specs.Prelude.{OnOk}
 use Rattle.std.specs.Io.KnownBytes.{Appends}
 use Rattle.std.proofs.lemmas.List.{append-nil}
 use Rattle.std.proofs.KnownBytes.{Appends-nil, Appends-trans}
@@ -40,5 +41,14 @@ pub WroteAllBut-last : (old mid new : Option (List ℕ)) (left front behind text
     → Appends old new text
 WroteAllBut-last old mid new left front behind text before split put nothing =
     WroteAllBut-done old new behind text (WroteAllBut-next old mid new left front behind text before split put) nothing
+
+-- ---- a text between two others
+
+pub three_pieces : {X E : Type 0} (old mid next new : Option (List ℕ)) (result : Result X E) (front text behind whole : List ℕ) → Appends old mid front → Appends mid next text
+    → OnOk result (Appends next new behind) → whole ≡ front ++ (text ++ behind) → OnOk result (Appends old new whole)
+three_pieces old mid next new (Ok x) front text behind whole first then last is =
+    subst (λ (t : List ℕ). Appends old new t) (append_assoc front text behind ∙ sym is)
+    (Appends-trans old next new (front ++ text) behind (Appends-trans old mid next front text first then) last)
+three_pieces old mid next new (Err e) front text behind whole first then last is = tt
 
 pub ruleset writes = (WroteAllBut-none, WroteAllBut-next, WroteAllBut-done)

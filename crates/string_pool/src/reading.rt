@@ -47,14 +47,18 @@ pub(crate) fn utf16_text(left: &[u8]) -> Result<Text<'_>, StringFault>
 fn byte_length(left: &[u8]) -> Result<Front<'_>, StringFault>
     ensures { seen_front result ≡ length_in 1 left.now }
 {
-    let (first, behind) = left.split_first().ok_or(StringFault::Cut)?;
+    let Some((first, behind)) = left.split_first() else {
+        return Err(StringFault::Cut);
+    };
     if *first < LONG_BYTE {
         return Ok(Front {
             number: u32::from(*first),
             behind,
         });
     }
-    let (second, behind) = behind.split_first().ok_or(StringFault::Cut)?;
+    let Some((second, behind)) = behind.split_first() else {
+        return Err(StringFault::Cut);
+    };
     Ok(Front {
         number: u32::from(*first & !LONG_BYTE) << 8 | u32::from(*second),
         behind,
@@ -66,14 +70,18 @@ fn byte_length(left: &[u8]) -> Result<Front<'_>, StringFault>
 fn unit_length(left: &[u8]) -> Result<Front<'_>, StringFault>
     ensures { seen_front result ≡ length_in 2 left.now }
 {
-    let (first, behind) = first_unit(left).ok_or(StringFault::Cut)?;
+    let Some((first, behind)) = first_unit(left) else {
+        return Err(StringFault::Cut);
+    };
     if first < LONG_UNIT {
         return Ok(Front {
             number: u32::from(first),
             behind,
         });
     }
-    let (second, behind) = first_unit(behind).ok_or(StringFault::Cut)?;
+    let Some((second, behind)) = first_unit(behind) else {
+        return Err(StringFault::Cut);
+    };
     Ok(Front {
         number: u32::from(first & !LONG_UNIT) << 16 | u32::from(second),
         behind,

@@ -1,5 +1,5 @@
 -- What is known of an entry that has no fault.
-use Rattle.std.proofs.Common.{◌≡◌, ℕ, ◌+◌, ◌*◌, ◌≤◌, Bool, true, false, List, [], ◌∷◌, length, drop, Option, Some, None, Result, Ok, Err, refl, sym, subst, ◌∙◌, arith}
+use Rattle.std.proofs.Common.{◌≡◌, ◌≢◌, ℕ, ◌+◌, ◌*◌, ◌<◌, ◌≤◌, Bool, true, false, List, [], ◌∷◌, length, drop, Option, Some, None, Result, Ok, Err, refl, sym, subst, ◌∙◌, arith}
 use Rattle.std.specs.Prelude.{IsOk, find, nat_lt, not, ◌==◌, ◌%◌, if◌then◌else◌}
 use Rattle.std.specs.List.{range_with_len}
 use Rattle.std.proofs.lemmas.Bool.Decides.{nat_tests}
@@ -101,6 +101,36 @@ rows-checked chunk index at result aligned fields least fits checked =
     (nat_lt (number 2 chunk.whole at) (least_entry_size (is_complex chunk at))) (faults.Entry (chunk.place + at)) (nat_lt (length chunk.whole) (at + number 2 chunk.whole at)) (faults.Entry (chunk.place + at))
     (rows_with chunk index at (held_at chunk at)) (grind (arith, nat_tests, aligned)) (grind (arith, nat_tests, fields)) (grind (arith, nat_tests, least)) (grind (arith, nat_tests, fits)) in
     subst (λ (r : Result (List RowOf) TableFault). Checks result r) (sym passed) (with-checked chunk index at result (held_at chunk at) checked)
+
+-- ---- entries that are refused
+
+module _ (chunk : TypeChunkOf) (index at : ℕ) where
+  pub entry-unaligned : at % 4 ≢ 0 → rows_of_entry_at chunk index at ≡ Err (faults.Entry (chunk.place + at))
+  unfolding rows_of_entry_at
+  entry-unaligned unaligned = let aligned : (at % 4 == 0) ≡ false = grind (arith, nat_tests) in rw aligned refl
+
+  module _ (aligned : at % 4 ≡ 0) where
+    pub entry-cut : length chunk.whole < at + least_entry → rows_of_entry_at chunk index at ≡ Err (faults.Entry (chunk.place + at))
+    unfolding rows_of_entry_at
+    entry-cut cut = let fields : nat_lt (length chunk.whole) (at + least_entry) ≡ true = grind (arith, nat_tests) in rw (aligned, fields) refl
+
+    module _ (fields : at + least_entry ≤ length chunk.whole) where
+      has_fields : nat_lt (length chunk.whole) (at + least_entry) ≡ false
+      has_fields = grind (arith, nat_tests)
+
+      pub entry-small : number 2 chunk.whole at < least_entry_size (is_complex chunk at) → rows_of_entry_at chunk index at ≡ Err (faults.Entry (chunk.place + at))
+      unfolding rows_of_entry_at
+      entry-small small =
+          let size : nat_lt (number 2 chunk.whole at) (least_entry_size (is_complex chunk at)) ≡ true = grind (arith, nat_tests) in
+          rw (aligned, has_fields, size) refl
+
+      pub entry-long : least_entry_size (is_complex chunk at) ≤ number 2 chunk.whole at → length chunk.whole < at + number 2 chunk.whole at
+          → rows_of_entry_at chunk index at ≡ Err (faults.Entry (chunk.place + at))
+      unfolding rows_of_entry_at
+      entry-long least long =
+          let size : nat_lt (number 2 chunk.whole at) (least_entry_size (is_complex chunk at)) ≡ false = grind (arith, nat_tests) in
+          let fits : nat_lt (length chunk.whole) (at + number 2 chunk.whole at) ≡ true = grind (arith, nat_tests) in
+          rw (aligned, has_fields, size, fits) refl
 
 -- ---- bags
 

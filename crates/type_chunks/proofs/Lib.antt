@@ -1,3 +1,4 @@
+pub mod TypeSteps
 pub mod KnownSteps
 pub mod EntryOffsetSteps
 pub mod EntrySteps

@@ -1,11 +1,12 @@
 -- How the types of a package are kept by their places.
-use Rattle.std.proofs.Common.{◌≡◌, ℕ, ◌-◌, ◌<◌, ◌≤◌, List, [], ◌∷◌, ◌++◌, map, length, length-append, Option, Some, None, Result, Ok, Err, Bor, Iter, refl, sym, ap, subst, ◌∙◌, arith}
+use Rattle.std.proofs.Common.{◌≡◌, ◌≢◌, ℕ, ◌-◌, ◌<◌, ◌≤◌, List, [], ◌∷◌, ◌++◌, map, length, length-append, Option, Some, None, Result, Ok, Err, Bor, Iter, refl, sym, ap, subst, ◌∙◌, arith}
 use Rattle.std.specs.Prelude.{◌*◌, ◌^◌, ◌==◌, Bool, true, false, IsOk, IfSome, All, slice_index, if◌then◌else◌}
 use Rattle.std.specs.Result.{ForOk}
 use Rattle.std.specs.List.{flat_map}
 use Rattle.std.specs.Option.{option_map}
 use Rattle.std.specs.Slice.Iter.{iter_rest, iter_steps}
 use Rattle.std.proofs.lemmas.List.{append-nil}
+use Rattle.std.proofs.lemmas.Bool.Decides.{nat_tests}
 use Rattle.std.proofs.lemmas.List.Concat.{flat_map-append}
 use Rattle.std.proofs.lemmas.List.Elements.{All-head, All-tail, All-rest, All-same, All-push}
 use Rattle.contract_words.specs.Faults.{◌>>=◌}
@@ -14,6 +15,7 @@ use Rattle.string_pool.specs.chunk_walk.Chunk.{ChunkOf, chunk_of, chunk_within}
 use Rattle.string_pool.specs.chunk_walk.Chunks.{StandsAt}
 use Rattle.string_pool.specs.chunk_walk.declared.chunk.ChunkFault.{ChunkFault}
 use Rattle.type_chunks.specs.declared.fault.TableFault.{TableFault}
+use Rattle.type_chunks.specs.declared.fault.TableFault.TheVariants as faults
 use Rattle.type_chunks.specs.declared.known_specs.KnownSpecs.{KnownSpecs}
 use Rattle.type_chunks.specs.declared.owner.Owner.{Owner}
 use Rattle.type_chunks.specs.declared.package_types.PackageTypes.{PackageTypes}
@@ -166,3 +168,25 @@ module _ (owner : Owner) (specs : KnownSpecs) (before : List (Result ChunkOf Chu
       → with_front (rows_of_places owner within places) (rows_of_child owner (before, Ok chunk)) ≡ Ok (rows_of_places owner within (places ++ place ∷ []))
   type-pushed within places place read e at all =
       ap (λ (r : Result (List RowOf) TableFault). with_front (rows_of_places owner within places) r) (child-rows (Ok read) e) ∙ pushes-place owner within places place read at all
+
+-- ---- the rows of other chunks
+
+module _ (owner : Owner) (before : List (Result ChunkOf ChunkFault)) (rows : List RowOf) where
+  pub chunk-fault : (fault : ChunkFault) → with_front rows (rows_of_child owner (before, Err fault)) ≡ Err (faults.Chunk fault)
+  unfolding rows_of_child
+  chunk-fault fault = refl
+
+  pub spec-fault : (chunk : ChunkOf) (fault : TableFault) → chunk.kind ≡ 0x0202 → Err fault ≡ type_spec_in chunk → with_front rows (rows_of_child owner (before, Ok chunk)) ≡ Err fault
+  unfolding rows_of_child type_spec_in
+  spec-fault chunk fault kind read = rw (kind, ← read) refl
+
+  pub spec-rows : (chunk : ChunkOf) (spec : TypeSpecOf) → chunk.kind ≡ 0x0202 → Ok spec ≡ type_spec_in chunk → with_front rows (rows_of_child owner (before, Ok chunk)) ≡ Ok rows
+  unfolding rows_of_child type_spec_in
+  spec-rows chunk spec kind read = rw (kind, ← read, append-nil rows) refl
+
+  pub other-rows : (chunk : ChunkOf) → chunk.kind ≢ 0x0202 → chunk.kind ≢ 0x0201 → with_front rows (rows_of_child owner (before, Ok chunk)) ≡ Ok rows
+  unfolding rows_of_child
+  other-rows chunk spec type =
+      let spec : (chunk.kind == type_spec_kind) ≡ false = grind (arith, nat_tests) in
+      let type : (chunk.kind == type_kind) ≡ false = grind (arith, nat_tests) in
+      rw (spec, type, append-nil rows) refl

@@ -22,37 +22,34 @@ const MORE: u32 = 10;
 impl<I: Inputs> Asked<'_, '_, I> {
     /// A hint behind what a command wrote to its output, which came so far.
     pub(crate) fn hint_of_answer(&self, said: &[u8], reached: Reached) -> Option<String> {
-        let alloc = self.alloc;
+        if said == NODE_LIMIT {
+            return self.hint_of_limit(reached);
+        }
         match self.request {
-            Request::Make(make) if said == NODE_LIMIT => {
-                hint_of_limit(alloc, make.max_nodes, reached, "goals")
-            }
-            Request::Diff(diff) if said == NODE_LIMIT => {
-                hint_of_limit(alloc, diff.max_nodes, reached, "names")
-            }
-            Request::Values(values) if said == NODE_LIMIT => {
-                hint_of_limit(alloc, values.max_nodes, reached, "names")
-            }
-            Request::Unused(unused) if said == NODE_LIMIT => {
-                more_nodes(alloc, unused.max_nodes, "names")
-            }
-            Request::Make(_) if said.starts_with(COUNTEREXAMPLE) => format!(in alloc;
+            Request::Make(_) if said.starts_with(COUNTEREXAMPLE) => format!(in self.alloc;
                 "--omit leaves out goals without a value on some device, and tells them"
             ).ok(),
-            Request::Map(_) if said == NOTHING_MAPS => format!(in alloc;
+            Request::Map(_) if said == NOTHING_MAPS => format!(in self.alloc;
                 "nothing of the overlay maps: is it made for this target?"
             ).ok(),
             Request::Check(check) => self.hint_of_verdict(check, said),
             _ => None,
         }
     }
-}
 
-// How far it came over goals or names, and what allows more.
-fn hint_of_limit(alloc: Global, most: u32, reached: Reached, what: &str) -> Option<String> {
-    let came = came_so_far(alloc, most, reached, what)?;
-    let more = more_nodes(alloc, most, what)?;
-    format!(in alloc; "{came}; {more}").ok()
+    // How far it came over goals or names, where that is known, and what allows more.
+    fn hint_of_limit(&self, reached: Reached) -> Option<String> {
+        let (most, what) = match self.request {
+            Request::Make(make) => (make.max_nodes, "goals"),
+            Request::Diff(diff) => (diff.max_nodes, "names"),
+            Request::Values(values) => (values.max_nodes, "names"),
+            Request::Unused(unused) => return more_nodes(self.alloc, unused.max_nodes, "names"),
+            _ => return None,
+        };
+        let came = came_so_far(self.alloc, most, reached, what)?;
+        let more = more_nodes(self.alloc, most, what)?;
+        format!(in self.alloc; "{came}; {more}").ok()
+    }
 }
 
 // What allows more nodes than these, or needs fewer.

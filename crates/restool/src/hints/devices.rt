@@ -17,8 +17,17 @@ pub(crate) fn hint_of_device(
     fault: DeviceFault,
 ) -> Option<String> {
     let device = read_value(alloc, json).ok()?;
+    hint_of_members(alloc, &device, rule, fault)
+}
+
+fn hint_of_members(
+    alloc: Global,
+    device: &Value,
+    rule: LocaleRule,
+    fault: DeviceFault,
+) -> Option<String> {
     match fault {
-        DeviceFault::Shape => hint_of_shape(alloc, &device),
+        DeviceFault::Shape => hint_of_shape(alloc, device),
         DeviceFault::FieldRange(Coord::Locale) => {
             let text = device.get(Coord::Locale.name())?.as_str()?;
             if is_short(text) {
@@ -27,8 +36,8 @@ pub(crate) fn hint_of_device(
                 None
             }
         }
-        DeviceFault::FieldRange(coord) => hint_of_range(alloc, &device, coord),
-        DeviceFault::Density => hint_of_range(alloc, &device, Coord::Density),
+        DeviceFault::FieldRange(coord) => hint_of_range(alloc, device, coord),
+        DeviceFault::Density => hint_of_range(alloc, device, Coord::Density),
         _ => None,
     }
 }

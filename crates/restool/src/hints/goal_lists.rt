@@ -3,7 +3,9 @@
 use crate::hints::Asked;
 use crate::hints::again::Again;
 use answer_text::{StackNames, write_goal_words};
-use command_base::{Cert, Goal, Inputs, LayerFiles, Stack, asked_goals, asked_words, open_stack};
+use command_base::{
+    Cert, Goal, Inputs, LayerFiles, LayerParts, asked_goals, asked_words, open_stack,
+};
 use names::first_goals;
 use resource_tool::Check;
 use std::alloc::Global;
@@ -70,12 +72,29 @@ fn texts_of_both<I: Inputs>(
 ) -> Option<GoalTexts> {
     let files = LayerFiles::read(alloc, inputs, check.layers).ok()?;
     let layers = files.layers(alloc).ok()?;
-    let stack = open_stack(alloc, &layers).ok()?;
+    texts_over_layers(alloc, inputs, check, &layers)
+}
+
+fn texts_over_layers<I: Inputs>(
+    alloc: Global,
+    inputs: &Again<'_, I>,
+    check: &Check<'_>,
+    layers: &[LayerParts<&[u8]>],
+) -> Option<GoalTexts> {
+    let stack = open_stack(alloc, layers).ok()?;
     let names = StackNames::of(alloc, &stack).ok()?;
-    Some(GoalTexts {
-        asked: texts_asked(alloc, inputs, check, &names)?,
-        certified: texts_certified(alloc, inputs, check, &names)?,
-    })
+    texts_by_names(alloc, inputs, check, &names)
+}
+
+fn texts_by_names<I: Inputs>(
+    alloc: Global,
+    inputs: &Again<'_, I>,
+    check: &Check<'_>,
+    names: &StackNames<'_, '_>,
+) -> Option<GoalTexts> {
+    let asked = texts_asked(alloc, inputs, check, names)?;
+    let certified = texts_certified(alloc, inputs, check, names)?;
+    Some(GoalTexts { asked, certified })
 }
 
 fn texts_asked<I: Inputs>(

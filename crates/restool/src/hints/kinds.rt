@@ -51,9 +51,7 @@ impl Kind {
 impl<I: Inputs> Asked<'_, '_, I> {
     /// What is said of a file that is of another kind.
     pub(crate) fn hint_of_kind(&self, expected: Kind, path: &str) -> Option<String> {
-        let json = self.inputs.read_again(path)?;
-        let value = read_value(self.alloc, &json).ok()?;
-        let kind = kind_of(&value)?;
+        let kind = self.kind_at(path)?;
         if kind == expected {
             return None;
         }
@@ -68,6 +66,12 @@ impl<I: Inputs> Asked<'_, '_, I> {
             }
             None => format!(in self.alloc; "{path} is {name}, and no {other}{behind}").ok(),
         }
+    }
+
+    fn kind_at(&self, path: &str) -> Option<Kind> {
+        let json = self.inputs.read_again(path)?;
+        let value = read_value(self.alloc, &json).ok()?;
+        kind_of(&value)
     }
 }
 

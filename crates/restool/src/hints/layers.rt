@@ -47,11 +47,9 @@ impl<I: Inputs> Asked<'_, '_, I> {
     pub(crate) fn hint_of_unread(&self, path: &str) -> Option<String> {
         let alloc = self.alloc;
         let list = self.list_with(path)?;
-        let folder = match self.inputs.folder() {
-            Some(folder) => folder,
-            None => format!(in alloc; "the folder where restool runs").ok()?,
-        };
-        match self.beside(list.as_str(), path) {
+        let folder = self.inputs.folder();
+        let folder = folder.as_deref().unwrap_or("the folder where restool runs");
+        match self.beside(list, path) {
             Some(there) => format!(in alloc;
                 "{list} names it, where paths begin in {folder}: write {there}"
             ).ok(),
@@ -60,12 +58,11 @@ impl<I: Inputs> Asked<'_, '_, I> {
     }
 
     // The list of layers that has a path.
-    fn list_with(&self, path: &str) -> Option<String> {
+    fn list_with(&self, path: &str) -> Option<&str> {
         for side in [Side::Old, Side::New] {
             let list = self.request.layers(side)?;
-            let paths = self.listed_paths(list)?;
-            if paths.iter().any(|layer| has_path(layer, path)) {
-                return String::from_str(self.alloc, list).ok();
+            if have_path(&self.listed_paths(list)?, path) {
+                return Some(list);
             }
         }
         None
@@ -83,13 +80,18 @@ impl<I: Inputs> Asked<'_, '_, I> {
     pub(crate) fn hint_of_list(&self, word: &str) -> Option<String> {
         let json = self.inputs.read_again(word)?;
         let list = read_value(self.alloc, &json).ok()?;
-        for (place, item) in list_of(&list)?.iter().enumerate() {
-            if let Some(hint) = hint_of_item(self.alloc, place, item) {
-                return Some(hint);
-            }
-        }
-        None
+        hint_of_items(self.alloc, &list)
     }
+}
+
+fn hint_of_items(alloc: Global, list: &Value) -> Option<String> {
+    for (place, item) in list_of(list)?.iter().enumerate() {
+        let hint = hint_of_item(alloc, place, item);
+        if hint.is_some() {
+            return hint;
+        }
+    }
+    None
 }
 
 fn paths_in_word(alloc: Global, word: &str) -> Option<Vec<LayerParts<String>>> {
@@ -110,12 +112,13 @@ fn own_table(alloc: Global, word: &str) -> Option<String> {
     }
 }
 
-fn has_path(layer: &LayerParts<String>, path: &str) -> bool {
-    let (table, map) = layer;
-    match map {
-        Some(map) => table.as_str() == path || map.as_str() == path,
-        None => table.as_str() == path,
+fn have_path(layers: &[LayerParts<String>], path: &str) -> bool {
+    for (table, map) in layers {
+        if table.as_str() == path || map.as_deref() == Some(path) {
+            return true;
+        }
     }
+    false
 }
 
 fn hint_of_item(alloc: Global, place: usize, item: &Value) -> Option<String> {

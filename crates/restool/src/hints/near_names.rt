@@ -59,19 +59,29 @@ impl<I: Inputs> Asked<'_, '_, I> {
         if !is_short(text.as_str()) {
             return None;
         }
+        let found = self.nearest_name(wanted, text.as_str())?;
+        format!(in alloc; "did you mean {found}?").ok()
+    }
+
+    fn nearest_name(&self, wanted: Parts<'_>, text: &str) -> Option<String> {
         let mut near = NearNames {
             wanted,
-            own: Nearest::new(text.as_str()),
-            others: Nearest::new(text.as_str()),
+            own: Nearest::new(text),
+            others: Nearest::new(text),
         };
+        self.offer_all(&mut near)?;
+        near.found()
+    }
+
+    // Offers the names of all base layers.
+    fn offer_all(&self, near: &mut NearNames<'_>) -> Option<()> {
         let old = self.request.layers(Side::Old)?;
-        near.offer_names(alloc, &self.again(), old)?;
+        near.offer_names(self.alloc, &self.again(), old)?;
         let new = self.request.layers(Side::New)?;
-        if new != old {
-            near.offer_names(alloc, &self.again(), new)?;
+        if new == old {
+            return Some(());
         }
-        let found = near.found()?;
-        format!(in alloc; "did you mean {found}?").ok()
+        near.offer_names(self.alloc, &self.again(), new)
     }
 }
 
@@ -83,7 +93,11 @@ impl NearNames<'_> {
         layers: &str,
     ) -> Option<()> {
         let printed = ids_of(alloc, inputs, layers)?;
-        for line in str::from_utf8(&printed).ok()?.lines() {
+        self.offer_lines(alloc, &printed)
+    }
+
+    fn offer_lines(&mut self, alloc: Global, printed: &[u8]) -> Option<()> {
+        for line in str::from_utf8(printed).ok()?.lines() {
             self.offer_line(alloc, line)?;
         }
         Some(())
@@ -134,9 +148,10 @@ impl NearNames<'_> {
     fn found(self) -> Option<String> {
         let own_first = self.wanted.package.is_some() || self.own.is_as_near_as(&self.others);
         let NearNames { own, others, .. } = self;
-        match (own.found(), others.found()) {
-            (Some(own), Some(other)) => Some(if own_first { own } else { other }),
-            (own, other) => own.or(other),
+        if own_first {
+            own.found().or(others.found())
+        } else {
+            others.found().or(own.found())
         }
     }
 }
@@ -162,14 +177,18 @@ pub(crate) fn hint_of_bare<I: Inputs>(
 
 fn hint_of_entry(alloc: Global, printed: &[u8], word: &str) -> Option<String> {
     let mut nearest = Nearest::new(word);
-    for line in str::from_utf8(printed).ok()?.lines() {
-        if let Some((_id, name)) = named_in(line) {
-            let parts = Parts::of(name)?;
-            nearest.offer_as(alloc, parts.entry_name, name)?;
-        }
-    }
+    offer_entries(alloc, printed, &mut nearest)?;
     let found = nearest.found()?;
     format!(in alloc; "a name has its type before it: did you mean {found}?").ok()
+}
+
+fn offer_entries(alloc: Global, printed: &[u8], nearest: &mut Nearest<'_>) -> Option<()> {
+    for line in str::from_utf8(printed).ok()?.lines() {
+        if let Some((_id, name)) = named_in(line) {
+            nearest.offer_as(alloc, Parts::of(name)?.entry_name, name)?;
+        }
+    }
+    Some(())
 }
 
 // What `restool ids` prints of layers.

@@ -22,46 +22,31 @@ impl<I: Inputs> Asked<'_, '_, I> {
     }
 
     fn hint_of_side(&self, side: Side) -> Option<String> {
-        let alloc = self.alloc;
         let word = self.request.layers(side)?;
         if !has_overlays(word) {
             return None;
         }
-        let files = LayerFiles::read(alloc, &self.again(), word).ok()?;
-        let layers = files.layers(alloc).ok()?;
-        let listed = layers_in_word(alloc, word).ok()?;
-        for place in 0..listed.len() {
-            if let Some(base) = base_of_nothing(&listed, &layers, place) {
-                return hint_of_nothing(alloc, &listed, place, base);
-            }
+        let listed = layers_in_word(self.alloc, word).ok()?;
+        let files = LayerFiles::read(self.alloc, &self.again(), word).ok()?;
+        hint_of_files(self.alloc, &listed, &files)
+    }
+}
+
+fn hint_of_files(alloc: Global, listed: &[ListedLayer<'_>], files: &LayerFiles) -> Option<String> {
+    for (place, (_table, map)) in files.layers(alloc).ok()?.iter().enumerate() {
+        if *map == Some(NOTHING) {
+            return hint_of_nothing(alloc, listed, place);
         }
-        None
     }
+    None
 }
 
-// The place of an overlay's base, where nothing of the overlay maps.
-fn base_of_nothing(
-    listed: &[ListedLayer<'_>],
-    layers: &[LayerParts<&[u8]>],
-    place: usize,
-) -> Option<usize> {
-    let base = listed.get(place)?.base?;
-    let (_table, map) = layers.get(place)?;
-    match map {
-        Some(map) if *map == NOTHING => Some(base),
-        _ => None,
-    }
-}
-
-fn hint_of_nothing(
-    alloc: Global,
-    listed: &[ListedLayer<'_>],
-    place: usize,
-    base: usize,
-) -> Option<String> {
-    let overlay = listed.get(place)?.path;
-    let target = listed.get(base)?.path;
+fn hint_of_nothing(alloc: Global, listed: &[ListedLayer<'_>], place: usize) -> Option<String> {
+    let overlay = listed.get(place)?;
+    let target = listed.get(overlay.base?)?;
     format!(in alloc;
-        "nothing of layer {place}, {overlay}, maps to {target}: does it stand behind the right base?"
-    ).ok()
+        "nothing of layer {place}, {}, maps to {}: does it stand behind the right base?",
+        overlay.path, target.path
+    )
+    .ok()
 }

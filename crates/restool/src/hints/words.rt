@@ -73,9 +73,12 @@ fn name_in_reference(word: &str) -> Option<&str> {
 impl<I: Inputs> Asked<'_, '_, I> {
     /// Where a word stands that asks for nothing that is there, if that is in a file, and a hint for it.
     pub(crate) fn hint_of_word(&self, word: &str, hint: Option<String>) -> Option<String> {
-        match (self.place_of_word(word), hint) {
-            (Some(at), Some(hint)) => format!(in self.alloc; "{at}: {hint}").ok(),
-            (at, hint) => at.or(hint),
+        let Some(at) = self.place_of_word(word) else {
+            return hint;
+        };
+        match hint {
+            Some(hint) => format!(in self.alloc; "{at}: {hint}").ok(),
+            None => Some(at),
         }
     }
 
@@ -102,15 +105,8 @@ impl<I: Inputs> Asked<'_, '_, I> {
     fn place_in(&self, asked: &str, word: &str) -> Option<String> {
         let path = file_path(asked)?;
         let bytes = self.inputs.read_again(path)?;
-        let text = str::from_utf8(&bytes).ok()?;
-        let text = text.strip_prefix(BYTE_ORDER_MARK).unwrap_or(text);
-        for (place, line) in text.split('\n').enumerate() {
-            if line.trim() == word {
-                let number = place.saturating_add(1);
-                return format!(in self.alloc; "{path}, line {number}").ok();
-            }
-        }
-        None
+        let number = line_with(&bytes, word)?;
+        format!(in self.alloc; "{path}, line {number}").ok()
     }
 
     /// What a path may have been meant for, where no file lies.
@@ -135,6 +131,18 @@ impl<I: Inputs> Asked<'_, '_, I> {
             None => None,
         }
     }
+}
+
+// The number of the line that is a word.
+fn line_with(bytes: &[u8], word: &str) -> Option<usize> {
+    let text = str::from_utf8(bytes).ok()?;
+    let text = text.strip_prefix(BYTE_ORDER_MARK).unwrap_or(text);
+    for (place, line) in text.split('\n').enumerate() {
+        if line.trim() == word {
+            return Some(place.saturating_add(1));
+        }
+    }
+    None
 }
 
 // A device as Android writes it, without what stands before it.

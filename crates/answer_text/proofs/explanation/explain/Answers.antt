@@ -4,6 +4,7 @@ use Rattle.std.specs.Io.KnownBytes.{Appends}
 use Rattle.bags_themes.specs.reference_resolver.declared.end.End.{End}
 use Rattle.answer_text.specs.EndText.{named_end_line}
 use Rattle.answer_text.specs.ExplainText.{explain_text}
+use Rattle.answer_text.proofs.Cited.{is_traced}
 use Rattle.answer_text.proofs.explanation.explain.Goals as goal
 
 pub returns-clause-text : goal.returns-clause-text
@@ -12,3 +13,12 @@ returns-clause-text g c =
     let contents = g.W.Write.contents in
     Appends-trans _ _ _ _ _ c.in_ok-end.ensures.text
     (subst (λ (end : End). Appends (contents c.write_look_ups.new.out) (contents c.write_named_end_line.new.out) (named_end_line c.args.names.now.stack end c.args.names.now.asked)) c.in_ok-end.ensures.end c.in_ok-write_named_end_line.ensures)
+
+pub returns-in_err-end-clause-trace : goal.returns-in_err-end-clause-trace
+returns-in_err-end-clause-trace g c = is_traced _ _ _ _
+
+pub returns-in_err-write_named_end_line-clause-trace : goal.returns-in_err-write_named_end_line-clause-trace
+returns-in_err-write_named_end_line-clause-trace g c = is_traced _ _ _ _
+
+pub returns-clause-trace : goal.returns-clause-trace
+returns-clause-trace g c = is_traced _ _ _ _

@@ -6,14 +6,17 @@ use Rattle.cert_checker.specs.box_answers.NumberSet.{SetOf}
 use Rattle.cert_checker.specs.box_answers.Members.{IsCorner}
 use Rattle.cert_checker.specs.box_trace.declared.common.CommonTrace.{CommonTrace}
 use Rattle.cert_checker.specs.box_trace.CommonTrace.{IsCommonTrace}
+use Rattle.cert_checker.specs.box_trace.Halving.{IsHalving}
 use Rattle.cert_checker.specs.box_trace.OpenBox.{boxes_of}
-use Rattle.cert_checker.specs.cert_tree.Certificate.{node_of}
+use Rattle.cert_checker.specs.cert_tree.Certificate.{NodeOf, node_of}
+use Rattle.cert_checker.specs.cert_tree.declared.node.Node.TheVariants as code
+use Rattle.cert_checker.specs.declared.rule.Rule.TheVariants.{TestKind, EmptyHalf}
 use Rattle.cert_checker.specs.FirstFault.{goal_trace}
 use Rattle.cert_checker.proofs.box_trace.OpenBoxSteps.{rest_of, reached_there, told_in_place}
 use Rattle.cert_maker.specs.Growth.{Grows}
 use Rattle.cert_maker.proofs.GoalLayers.{goal-below}
 use Rattle.cert_maker.proofs.Cut.{needed-by-trace}
-use Rattle.cert_maker.proofs.Steps.{grows-leaf, map-push}
+use Rattle.cert_maker.proofs.Steps.{grows-leaf, grows-halved, map-push}
 use Rattle.cert_maker.proofs.growth.add_node.Goals as goal
 
 pub returns-in_ok-push-in-Some-clause-grows : goal.returns-in_ok-push-in-Some-clause-grows
@@ -50,19 +53,28 @@ parting_test-requires c =
     (told_in_place rest _ c.in-Mixed.first _ c.args.part.now.members _ _ c.in-Mixed.is c.in_ok-end.ensures.members c.in_ok-parting-in-Mixed.ensures.members (c.in_ok-end.ensures.common rest reached)
     (c.in_ok-parting-in-Mixed.ensures.told stack rest (c.in_ok-end.ensures.reached rest reached))).separates
 
-pub add_test-requires-clause-asked : goal.add_test-requires-clause-asked
-add_test-requires-clause-asked c = c.in_ok-test-in-Mixed.ensures.needed.passes
+pub unreachable-requires : goal.unreachable-requires
+unreachable-requires c = c.in_ok-test-in-Mixed.ensures.needed.passes TestKind (subst (IsHalving _ _ _ _) c.in-WrongKind.is c.in_ok-halving-in-Mixed.ensures.halved)
 
-pub returns-in_ok-add_test-in-Mixed-clause-grows : goal.returns-in_ok-add_test-in-Mixed-clause-grows
-returns-in_ok-add_test-in-Mixed-clause-grows c = λ goal reached all.
+pub unreachable-requires-in-EmptyHalf : goal.unreachable-requires-in-EmptyHalf
+unreachable-requires-in-EmptyHalf c =
+    let empty = subst (IsHalving _ _ _ _) c.in-EmptyHalf.is c.in_ok-halving-in-Mixed.ensures.halved in
+    c.in_ok-test-in-Mixed.ensures.needed.passes EmptyHalf empty.1
+
+pub returns-in_ok-push-in-Opened-clause-grows : goal.returns-in_ok-push-in-Opened-clause-grows
+returns-in_ok-push-in-Opened-clause-grows c = λ goal reached all.
     let stack = c.args.stack.now in
     let trace : List ℕ → Trace = goal_trace stack goal in
     let further = c.in_ok-end.ensures.reached trace reached in
     let told =
     told_in_place trace _ c.in-Mixed.first _ c.args.part.now.members _ _ c.in-Mixed.is c.in_ok-end.ensures.members c.in_ok-parting-in-Mixed.ensures.members (c.in_ok-end.ensures.common trace reached)
     (c.in_ok-parting-in-Mixed.ensures.told stack trace further) in
-    let grows = c.in_ok-add_test-in-Mixed.ensures.grows trace (needed-by-trace trace _ _ _ told.trace_tells c.in_ok-test-in-Mixed.ensures.needed) in (
-      subst (λ (sets : List SetOf). Grows trace sets (map node_of c.args.nodes.now.items) (map node_of c.add_test.new.nodes.items) (boxes_of c.args.open_boxes.now) (boxes_of c.add_test.new.open_boxes))
-          (c.in_ok-parting-in-Mixed.ensures.members ∙ c.in_ok-end.ensures.members) grows,
-      c.in_ok-add_test-in-Mixed.ensures.reached stack trace (c.in_ok-parting-in-Mixed.ensures.reached stack trace further) all,
+    let needed = needed-by-trace trace _ _ _ told.trace_tells c.in_ok-test-in-Mixed.ensures.needed in
+    let opens = subst (IsHalving _ _ _ _) c.in-Opened.is c.in_ok-halving-in-Mixed.ensures.halved in
+    let old : List NodeOf = map node_of c.args.nodes.now.items in
+    let new : List NodeOf = map node_of c.push-in-Opened.new.self.items in
+    let grows = grows-halved trace _ _ old new (boxes_of c.args.open_boxes.now) (boxes_of c.push_halves.new.self)
+    (map-push node_of c.args.nodes.now.items c.push-in-Opened.new.self.items (code.Test c.in_ok-test-in-Mixed.test) c.in_ok-push-in-Opened.ensures.items) opens needed c.in_ok-test-in-Mixed.ensures.fits in (
+      subst (λ (sets : List SetOf). Grows trace sets old new (boxes_of c.args.open_boxes.now) (boxes_of c.push_halves.new.self)) (c.in_ok-parting-in-Mixed.ensures.members ∙ c.in_ok-end.ensures.members) grows,
+      c.in_ok-halving-in-Mixed.ensures.reached stack trace (c.in_ok-parting-in-Mixed.ensures.reached stack trace further) all,
     )

@@ -31,7 +31,7 @@ loop-set-preserved c = λ layers told.
     let wrapped : List ResId → Result (List ResId) NameFaultOf = λ ids. Ok ids in
     let split = drop_more sets place _ c.loop-set-test.true in
     let first = Tells-first (λ (set : NamedSet). names_in_set (named_set_of set)) layers _ _ _ _ so_far.0 split in
-    let put = c.in_ok-extend_from_slice.ensures.items ∙ ap (λ (ids : List ResId). all ++ ids) c.deref.ensures.value in (
+    let put = c.in_ok-extend_from_slice.ensures.items ∙ ap (λ (ids : List ResId). all ++ ids) (c.deref-in-loop-set.ensures.value ∙ ap (λ ids. ids.items) c.deref.ensures) in (
       c.in_ok-ids.ensures.left layers behind first,
       ReadsAllBut-next (ids_of_set layers) all _ _ _ _ _ so_far.1 (ap (λ (left : List NamedSet). map named_set_of left) split)
           (ap (λ (r : Result (List ResId) NameFaultOf). with_front all r) (c.in_ok-ids.ensures.found layers behind first) ∙ ap wrapped (sym put)),

@@ -1,4 +1,4 @@
-use Rattle.std.proofs.Common.{◌≡◌, sym, ◌∙◌}
+use Rattle.std.proofs.Common.{◌≡◌, refl, sym, ◌∙◌}
 use Rattle.config_precedence.specs.config_record.DeviceSeen.{device_numbers}
 use Rattle.reference_resolver.specs.Ends.{end_of}
 use Rattle.reference_resolver.proofs.Chains.{ends_within, goes_on_within, is_the_end}
@@ -12,6 +12,9 @@ returns-in-EndsAt-clause-value c = ended c
 
 pub returns-in-EndsAt-clause-chain : goal.returns-in-EndsAt-clause-chain
 returns-in-EndsAt-clause-chain c = is_the_end _ _ _ _ _ (ended c)
+
+pub chain-init : goal.chain-init
+chain-init c = refl
 
 pub chain-preserved : goal.chain-preserved
 chain-preserved c = sym (goes_on_within _ _ _ _ _ (sym c.next_within.ensures ∙ c.in-LookUp.is)).1 ∙ c.chain.invariant

@@ -1,4 +1,4 @@
-use Rattle.std.proofs.Common.{◌++◌, List, Result, Ok, None, sym, ap, subst, ◌∙◌}
+use Rattle.std.proofs.Common.{◌++◌, List, Result, Ok, sym, ap, subst, ◌∙◌}
 use Rattle.std.proofs.lemmas.Result.{err_from_is_err_and}
 use Rattle.std.specs.Option.{option_map}
 use Rattle.res_value.specs.declared.res_id.ResId.{ResId}
@@ -7,9 +7,9 @@ use Rattle.names.specs.NamedSet.{named_set_of}
 use Rattle.names.specs.AskedNames.{names_in_set}
 use Rattle.names.specs.Finder.{Tells}
 use Rattle.names.specs.NameFault.{NameFaultOf}
-use Rattle.names.specs.NamedIds.{ids_in_package, ids_of_rows, ids_of_set, some_of}
+use Rattle.names.specs.NamedIds.{ids_in_package, ids_of_set, some_of}
 use Rattle.names.specs.PackageWord.{package_word_of}
-use Rattle.names.proofs.WordSteps.{GivesNamed-same, in-any-package, one-found, one-missing, of-type, of-all}
+use Rattle.names.proofs.WordSteps.{GivesNamed-same, one-found, one-missing, of-type, of-all}
 use Rattle.names.proofs.finder.Finder.ids.Goals as goal
 
 pub returns-in_err-id-in-One-clause-found : goal.returns-in_err-id-in-One-clause-found
@@ -18,18 +18,19 @@ returns-in_err-id-in-One-clause-found c = λ layers names told.
     let p = err_from_is_err_and c.from_residual.result c.from_residual.ensures.1 in
     rw (p.1, p.2) (λ other. ap (λ (set : NamedSet). ids_of_set layers (named_set_of set)) c.in-One.is ∙ one-missing layers _ _ (c.in_err-id-in-One.ensures.found layers names of_one other))
 
-pub returns-in_ok-ids-in-One-clause-found : goal.returns-in_ok-ids-in-One-clause-found
-returns-in_ok-ids-in-One-clause-found c = λ layers names told.
+pub returns-in_ok-shared-in-One-clause-found : goal.returns-in_ok-shared-in-One-clause-found
+returns-in_ok-shared-in-One-clause-found c = λ layers names told.
     let of_one = subst (λ (set : NamedSet). Tells layers (names_in_set (named_set_of set) ++ names) c.args.self.now) c.in-One.is told in
     let wrapped : List ResId → Result (List ResId) NameFaultOf = λ ids. Ok ids in
-    ap (λ (set : NamedSet). ids_of_set layers (named_set_of set)) c.in-One.is ∙ one-found layers _ _ (c.in_ok-id-in-One.ensures.found layers names of_one) ∙ ap wrapped (sym c.in_ok-ids-in-One.ensures.items)
+    ap (λ (set : NamedSet). ids_of_set layers (named_set_of set)) c.in-One.is ∙ one-found layers _ _ (c.in_ok-id-in-One.ensures.found layers names of_one) ∙ ap wrapped (sym (ap (λ ids. ids.items) c.in_ok-shared-in-One.ensures.ok ∙ c.in_ok-ids-in-One.ensures.items))
 
-pub returns-in_ok-ids-in-OfType-clause-found : goal.returns-in_ok-ids-in-OfType-clause-found
-returns-in_ok-ids-in-OfType-clause-found c = λ layers names told.
+pub returns-in_ok-ids-in-OfType-2-clause-found : goal.returns-in_ok-ids-in-OfType-2-clause-found
+returns-in_ok-ids-in-OfType-2-clause-found c = λ layers names told.
     let of_type = subst (λ (set : NamedSet). Tells layers (names_in_set (named_set_of set) ++ names) c.args.self.now) c.in-OfType.is told in
-    let there = c.in_ok-find_rows-in-OfType.ensures layers names of_type in
-    let kept = c.in_ok-ids-in-OfType.ensures layers names there.0 ∙ ap (ids_in_package layers (option_map package_word_of c.in-OfType.package)) there.1 in
-    let ids = c.in_ok-ids-in-OfType.ids.items in
+    let kept = c.in_ok-ids-in-OfType-2.ensures layers names (c.in_ok-ids-in-OfType.ensures.left layers names of_type)
+    ∙ ap (ids_in_package layers (option_map package_word_of c.in-OfType.package))
+    (c.deref-in-OfType.ensures.value ∙ ap (λ ids. ids.items) c.deref.ensures ∙ c.in_ok-ids-in-OfType.ensures.found layers names of_type) in
+    let ids = c.in_ok-ids-in-OfType-2.ids.value.items in
     GivesNamed-same _ _ _ _
     (ap (λ (set : NamedSet). ids_of_set layers (named_set_of set)) c.in-OfType.is ∙ of-type layers _ _ ids kept ∙ sym (ap (λ (set : NamedSet). some_of (named_set_of set) ids) c.in-OfType.is))
     c.some_of.ensures
@@ -37,9 +38,8 @@ returns-in_ok-ids-in-OfType-clause-found c = λ layers names told.
 pub returns-in_ok-ids-in-All-clause-found : goal.returns-in_ok-ids-in-All-clause-found
 returns-in_ok-ids-in-All-clause-found c = λ layers names told.
     let of_all = subst (λ (set : NamedSet). Tells layers (names_in_set (named_set_of set) ++ names) c.args.self.now) c.in-All.is told in
-    let there = c.in_ok-find_rows-in-All.ensures layers names of_all in
-    let kept = c.in_ok-ids-in-All.ensures layers names there.0 ∙ ap (ids_in_package layers None) there.1 ∙ in-any-package layers (ids_of_rows layers None) in
-    let ids = c.in_ok-ids-in-All.ids.items in
+    let ids = c.in_ok-ids-in-All.ids.value.items in
     GivesNamed-same _ _ _ _
-    (ap (λ (set : NamedSet). ids_of_set layers (named_set_of set)) c.in-All.is ∙ of-all layers ids kept ∙ sym (ap (λ (set : NamedSet). some_of (named_set_of set) ids) c.in-All.is))
+    (ap (λ (set : NamedSet). ids_of_set layers (named_set_of set)) c.in-All.is ∙ of-all layers ids (c.in_ok-ids-in-All.ensures.found layers names of_all)
+    ∙ sym (ap (λ (set : NamedSet). some_of (named_set_of set) ids) c.in-All.is))
     c.some_of-in-All.ensures
