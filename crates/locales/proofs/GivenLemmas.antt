@@ -1,5 +1,5 @@
 -- What is known of a locale that a text gives, by either rule.
-use Rattle.std.proofs.Common.{◌≡◌, ℕ, ◌+◌, ◌*◌, ◌/◌, ◌%◌, ◌^◌, ◌<◌, ◌≤◌, Bool, true, false, List, [], ◌∷◌, length, drop, Option, Some, None, Result, Ok, Err, IfOk, refl, sym, ap, subst, ◌∙◌, arith, eqb-true}
+use Rattle.std.proofs.Common.{◌≡◌, ℕ, ◌+◌, ◌*◌, ◌/◌, ◌%◌, ◌^◌, ◌<◌, ◌≤◌, true, false, List, [], ◌∷◌, length, drop, Option, Some, None, Result, Ok, Err, IfOk, refl, sym, ap, subst, ◌∙◌, arith, eqb-true}
 use Rattle.std.specs.Option.{option_map_or}
 use Rattle.std.specs.Int.{w32, to_be_bytes}
 use Rattle.std.proofs.lemmas.Bool.{and_parts}
@@ -71,6 +71,9 @@ likely_silent l (Ok m) text bare read e =
     record { region = zero; script = rw (← script, number) (omega arith) }
 likely_silent l (Err fault) text bare read e = absurd cc
 
+no_part_is_zero : (part : List ℕ) → part ≡ no_part → is_zero part ≡ false → ⊥
+no_part_is_zero part none some = let zero = rw none at some in cc
+
 scripted_silent : (text : List ℕ) (l : Locale) → NoLanguage l → scripted_locale_of text ≡ Ok l → IsSilent l
 unfolding scripted_locale_of
 scripted_silent text l bare e = by_script (written_script (language_part (behind_language text))) refl e
@@ -82,7 +85,7 @@ scripted_silent text l bare e = by_script (written_script (language_part (behind
         let read = language_in (language_part text) (drop 4 (behind_language text)) found.plain found.given (no_dash_before text) (behind_script (behind_language text) script is) found.rest in
         let some = (part_of-stands _ _ _ of_languages (language_part text) found.plain.language read).not_zero in
         let none : found.plain.language ≡ no_part = ap (λ (k : Locale). k.language) found.made ∙ bare.none in
-        absurd (let zero = rw none at some in cc)
+        absurd (no_part_is_zero found.plain.language none some)
 
 silent_by_rule : (rule : LocaleRule) (l : Locale) → NoLanguage l → IsGivenBy rule l → IsSilent l
 unfolding locale_by

@@ -13,7 +13,7 @@ use Rattle.locales.specs.Parents.{parents}
 use Rattle.locales.specs.Representatives.{representatives}
 use Rattle.locales.specs.Lines.{script_in, parent_in, has_line, key_of, rises_from, IsRising, AllFit}
 use Rattle.locales.proofs.Rising.{list_any-find}
-use Rattle.locales.proofs.InOrder.{insert, in_order, find-in_order}
+use Rattle.locales.proofs.InOrder.{insert, in_order, by_bits, find-ordered}
 
 abbrev script_key : ScriptLine → ℕ
 script_key line = key_of line.script line.locale
@@ -21,12 +21,10 @@ script_key line = key_of line.script line.locale
 abbrev parent_key : ParentLine → ℕ
 parent_key line = key_of line.script line.locale
 
--- two lines that have the script and the locale have one key
-one_key : (script locale a b c d : ℕ) → (a == script && b == locale) ≡ true → (c == script && d == locale) ≡ true → key_of a b ≡ key_of c d
-one_key script locale a b c d first second =
-    let x = and_parts (a == script) (b == locale) first in
-    let y = and_parts (c == script) (d == locale) second in
-    ap₂ key_of (eqb-true a script x.0 ∙ sym (eqb-true c script y.0)) (eqb-true b locale x.1 ∙ sym (eqb-true d locale y.1))
+-- a line that has the script and the locale has their key
+keyed : (script locale a b : ℕ) → (a == script && b == locale) ≡ true → key_of a b ≡ key_of script locale
+keyed script locale a b both =
+    let parts = and_parts (a == script) (b == locale) both in ap₂ key_of (eqb-true a script parts.0) (eqb-true b locale parts.1)
 
 -- ---- likely scripts
 
@@ -49,14 +47,18 @@ named_in (line ∷ lines) locale all =
 pub named-LIKELY_SCRIPTS : (locale : ℕ) → IfSome (script_in LIKELY_SCRIPTS locale) (λ script. 1 < script)
 named-LIKELY_SCRIPTS locale = named_in LIKELY_SCRIPTS locale AreNamed-LIKELY_SCRIPTS
 
-same_likely_scripts : in_order (λ line. line.locale) likely_scripts ≡ LIKELY_SCRIPTS
-unfolding insert in_order number_of likely_scripts
+-- two letters before three, and three by the last and the second
+abbrev letter_bits : List ℕ
+letter_bits = 31 ∷ 30 ∷ 29 ∷ 28 ∷ 27 ∷ 26 ∷ 25 ∷ []
+
+same_likely_scripts : in_order (λ line. line.locale) (by_bits (λ line. line.locale) letter_bits likely_scripts) ≡ LIKELY_SCRIPTS
+unfolding by_bits insert in_order number_of likely_scripts
 same_likely_scripts = refl
 
 pub script_in-LIKELY_SCRIPTS : (locale : ℕ) → script_in LIKELY_SCRIPTS locale ≡ script_in likely_scripts locale
 script_in-LIKELY_SCRIPTS locale =
     ap (λ lines. script_in lines locale) (sym same_likely_scripts)
-    ∙ ap (option_map (λ line. line.script)) (find-in_order (λ line. line.locale) (λ line. line.locale == locale) (λ x y first second. eqb-true _ _ first ∙ sym (eqb-true _ _ second)) likely_scripts)
+    ∙ ap (option_map (λ line. line.script)) (find-ordered (λ line. line.locale) (λ line. line.locale == locale) locale (λ line is. eqb-true _ _ is) letter_bits likely_scripts)
 
 -- ---- parents
 
@@ -67,14 +69,14 @@ IsRising-PARENTS = refl
 pub AllFit-PARENTS : AllFit (λ line. line.locale) PARENTS
 AllFit-PARENTS = refl
 
-same_parents : in_order parent_key parents ≡ PARENTS
-unfolding insert in_order number_of parents
+same_parents : in_order parent_key (by_bits parent_key [] parents) ≡ PARENTS
+unfolding by_bits insert in_order number_of parents
 same_parents = refl
 
 pub parent_in-PARENTS : (locale script : ℕ) → parent_in PARENTS locale script ≡ parent_in parents locale script
 parent_in-PARENTS locale script =
     ap (λ lines. parent_in lines locale script) (sym same_parents)
-    ∙ ap (option_map (λ line. line.parent)) (find-in_order parent_key (λ line. line.script == script && line.locale == locale) (λ x y. one_key script locale _ _ _ _) parents)
+    ∙ ap (option_map (λ line. line.parent)) (find-ordered parent_key (λ line. line.script == script && line.locale == locale) (key_of script locale) (λ line. keyed script locale _ _) [] parents)
 
 -- ---- representatives
 
@@ -85,14 +87,18 @@ IsRising-REPRESENTATIVES = refl
 pub AllFit-REPRESENTATIVES : AllFit (λ line. line.locale) REPRESENTATIVES
 AllFit-REPRESENTATIVES = refl
 
-same_representatives : in_order script_key representatives ≡ REPRESENTATIVES
-unfolding insert in_order number_of representatives
+-- the first letter of the script, and of the locale as above
+abbrev script_bits : List ℕ
+script_bits = 60 ∷ 59 ∷ 58 ∷ 57 ∷ 56 ∷ 31 ∷ 30 ∷ 29 ∷ 28 ∷ 27 ∷ []
+
+same_representatives : in_order script_key (by_bits script_key script_bits representatives) ≡ REPRESENTATIVES
+unfolding by_bits insert in_order number_of representatives
 same_representatives = refl
 
 pub has_line-REPRESENTATIVES : (locale script : ℕ) → has_line REPRESENTATIVES locale script ≡ has_line representatives locale script
 has_line-REPRESENTATIVES locale script =
     let asked = λ (line : ScriptLine). line.script == script && line.locale == locale in
     ap (list_any asked) (sym same_representatives)
-    ∙ list_any-find asked (in_order script_key representatives)
-    ∙ ap is_some (find-in_order script_key asked (λ x y. one_key script locale _ _ _ _) representatives)
+    ∙ list_any-find asked (in_order script_key (by_bits script_key script_bits representatives))
+    ∙ ap is_some (find-ordered script_key asked (key_of script locale) (λ line. keyed script locale _ _) script_bits representatives)
     ∙ sym (list_any-find asked representatives)

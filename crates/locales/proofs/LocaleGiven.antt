@@ -1,5 +1,5 @@
 -- A locale whose bytes pass the check is given by the text that is printed of it.
-use Rattle.std.proofs.Common.{◌≡◌, ℕ, zero, suc, ◌+◌, ◌-◌, ◌*◌, ◌/◌, ◌%◌, ◌<◌, ◌≤◌, Bool, true, false, ◌&&◌, ◌||◌, cond, if◌then◌else◌, nat_lt, List, [], ◌∷◌, ◌++◌, length, get_or, take, drop, position, ◌==◌, Option, Some, None, Result, Ok, is_some, not, refl, sym, ap, subst, ◌∙◌, ◌^◌, arith, length-append}
+use Rattle.std.proofs.Common.{◌≡◌, ℕ, zero, suc, ◌+◌, ◌-◌, ◌*◌, ◌/◌, ◌%◌, ◌<◌, ◌≤◌, Bool, true, false, ◌&&◌, ◌||◌, cond, if◌then◌else◌, nat_lt, List, [], ◌∷◌, ◌++◌, length, get_or, take, drop, position, ◌==◌, Option, Some, None, Result, Ok, is_some, not, refl, sym, ap, subst, ◌∙◌, arith, length-append}
 use Rattle.std.specs.List.{position_or_len}
 use Rattle.std.proofs.lemmas.List.{append-nil}
 use Rattle.std.proofs.Math.Seq.{take-append_seam, drop-append-add}
@@ -172,12 +172,15 @@ made p q = Ok (without_script p q)
 in_script : (l : Locale) → l.script ≡ no_script → made l.language l.region ≡ Ok l
 in_script l plain = let with_script : List ℕ → Result Locale LocaleFault = λ s. Ok (record { language = l.language; region = l.region; script = s }) in ap with_script (sym plain)
 
+not_false : true ≡ false → ⊥
+not_false e = cc
+
 whole : (l : Locale) (z y : Bool) → is_zero l.language ≡ z → is_zero l.region ≡ y → TwoBytes l.language → TwoBytes l.region → l.script ≡ no_script
     → (z || is_some (language_of (unpacked first_letter l.language))) ≡ true → (y || is_some (region_of (unpacked first_digit l.region))) ≡ true → (z && not y) ≡ false
     → locale_of ((if z then [] else unpacked first_letter l.language) ++ (if y then [] else dash ∷ unpacked first_digit l.region)) ≡ Ok l
 whole l true true no_language no_region a b plain c d e =
     ap (λ (p : List ℕ). made p no_part) (sym (zero-back l.language a no_language)) ∙ ap (made l.language) (sym (zero-back l.region b no_region)) ∙ in_script l plain
-whole l true false no_language some_region a b plain c d e = absurd cc
+whole l true false no_language some_region a b plain c d e = absurd (not_false e)
 whole l false true some_language no_region a b plain c d e =
     language-alone (unpacked first_letter l.language) l.language (part-back _ _ _ of_languages l.language a c) ∙ ap (made l.language) (sym (zero-back l.region b no_region)) ∙ in_script l plain
 whole l false false some_language some_region a b plain c d e =
@@ -225,6 +228,12 @@ numbered l a b s =
     ∙ ap (λ (p : List ℕ). made p (b.first ∷ b.second ∷ []) (s.first ∷ s.second ∷ s.third ∷ s.fourth ∷ [])) (sym a.same)
     ∙ ap (λ (p : List ℕ). made l.language p (s.first ∷ s.second ∷ s.third ∷ s.fourth ∷ [])) (sym b.same)
     ∙ ap (made l.language l.region) (sym s.same)
+
+-- its bytes, one after the other, have its number
+pub number_of_bytes : (l : Locale) → TwoBytes l.language → TwoBytes l.region → FourBytes l.script
+    → from_be_bytes w64 (get_or l.language 0 0 ∷ get_or l.language 1 0 ∷ get_or l.region 0 0 ∷ get_or l.region 1 0 ∷ get_or l.script 0 0 ∷ get_or l.script 1 0 ∷ get_or l.script 2 0 ∷ get_or l.script 3 0 ∷ []) ≡ locale_number l
+unfolding locale_number
+number_of_bytes l a b s = rw (a.same, b.same, s.same) refl
 
 pub two_bytes : (part : List ℕ) → length part ≡ 2 → ((i : ℕ) → get_or part i 0 < 256) → TwoBytes part
 two_bytes [] e fits = absurd (omega arith)

@@ -13,14 +13,13 @@ use Rattle.locales.specs.declared.locale.Locale.{Locale}
 use Rattle.locales.specs.declared.locale.LocaleFault.{LocaleFault}
 use Rattle.locales.specs.declared.locale.LocaleFault.TheVariants.{Malformed}
 use Rattle.locales.specs.Zero.{is_zero}
-use Rattle.locales.specs.Locale.{dash, is_small_letter, is_capital_letter, is_digit, first_letter, first_digit, part_of, language_of, region_of, no_part, no_script, without_script, unpacked, without_region, with_region, with_region_faults, cut_at, locale_of, is_spelled, locale_faults, checked_locale, plain_text, language_text, region_text}
+use Rattle.locales.specs.Locale.{dash, is_small_letter, is_capital_letter, is_digit, first_letter, first_digit, part_of, language_of, region_of, no_part, without_script, unpacked, without_region, with_region, with_region_faults, cut_at, locale_of, is_spelled, locale_faults, checked_locale, plain_text, language_text, region_text}
 use Rattle.locales.proofs.LocaleLemmas.{locale_of-gives}
 use Rattle.locales.specs.TextNumber.{number_of}
-use Rattle.locales.specs.declared.locale_rule.LocaleRule.{LocaleRule}
 use Rattle.locales.specs.declared.locale_rule.LocaleRule.TheVariants.{LanguageAndRegion, Android}
 use Rattle.locales.specs.LocaleRule.{rule_of}
 use Rattle.locales.specs.Words.{number_of_script}
-use Rattle.locales.specs.Text.{written_script, likely_number, in_script, in_likely_script, is_dash, language_part, behind_language, text_without_script, with_script, scripted_locale_of, locale_by, language_alone, region_alone, text_with_script, shows_script, locale_text, IsGivenBy}
+use Rattle.locales.specs.Text.{written_script, likely_number, in_script, in_likely_script, is_dash, language_part, behind_language, text_without_script, with_script, scripted_locale_of, locale_by, language_alone, region_alone, text_with_script, locale_text, IsGivenBy}
 use Rattle.locales.proofs.TextLemmas.{position_or_len-le, no_dash_before, language_alone_is, language_and_region_is, written_script-four, behind_script}
 
 -- ---- a text that gives a locale has no script
@@ -204,11 +203,17 @@ pub record Found (text script : List ℕ) (s : Locale) : Type 0 where
   pub rest : locale_of (text_without_script text) ≡ Ok plain
   pub made : in_script script plain ≡ s
 
+one_locale : (l s : Locale) → ◌≡◌ {A = Result Locale LocaleFault} (Ok l) (Ok s) → l ≡ s
+one_locale l s e = cc
+
+no_fault : (fault : LocaleFault) (s : Locale) → ◌≡◌ {A = Result Locale LocaleFault} (Err fault) (Ok s) → ⊥
+no_fault fault s e = cc
+
 found_by : (text script : List ℕ) (s : Locale) (none : Bool) (read : Result Locale LocaleFault) → (length (language_part text) == 0) ≡ none → locale_of (text_without_script text) ≡ read
     → (refuse none Malformed >>= λ _. read >>= λ l. Ok (in_script script l)) ≡ Ok s → Found text script s
-found_by text script s true read none is e = absurd cc
-found_by text script s false (Err fault) none is e = absurd cc
-found_by text script s false (Ok l) none is e = let same : in_script script l ≡ s = cc in record { given = none; plain = l; rest = is; made = same }
+found_by text script s true read none is e = absurd (no_fault Malformed s e)
+found_by text script s false (Err fault) none is e = absurd (no_fault fault s e)
+found_by text script s false (Ok l) none is e = record { given = none; plain = l; rest = is; made = one_locale (in_script script l) s e }
 
 pub found_in : (text script : List ℕ) (s : Locale) → with_script text script ≡ Ok s → Found text script s
 found_in text script s e = found_by text script s (length (language_part text) == 0) (locale_of (text_without_script text)) refl refl e
