@@ -124,6 +124,12 @@ gap-cannot a b c up other gap at can =
 pub self-joined : (c : Coord) (boxes : List (List SetOf)) → AreRanges c boxes → HaveGaps c boxes → AreJoinedRanges c boxes boxes
 self-joined c boxes r gaps = record { alike = λ k ne set h. h; ranges = r.ranges; gaps = gaps; below = λ n h. h }
 
+-- it is put into an empty list
+pub first-joined : (c : Coord) (old new : List (List SetOf)) (next : List SetOf) → old ≡ [] → new ≡ old ++ next ∷ [] → AreRanges c (old ++ next ∷ []) → AreJoinedRanges c (old ++ next ∷ []) new
+first-joined c old new next gone is r =
+    subst (λ (l : List (List SetOf)). AreJoinedRanges c (old ++ next ∷ []) l) (sym is)
+    (self-joined c (old ++ next ∷ []) r (subst (λ (l : List (List SetOf)). HaveGaps c (l ++ next ∷ [])) (sym gone) (λ i j d lt q. absurd (omega arith))))
+
 pub put-behind : (c : Coord) (front : List (List SetOf)) (last next : List SetOf) → AreRanges c ((front ++ last ∷ []) ++ next ∷ []) → HaveGaps c (front ++ last ∷ [])
     → EndBelow c (low_at c next) (front ++ last ∷ []) → CannotJoin last next → AreJoinedRanges c ((front ++ last ∷ []) ++ next ∷ []) ((front ++ last ∷ []) ++ next ∷ [])
 put-behind c front last next r gaps below cannot =

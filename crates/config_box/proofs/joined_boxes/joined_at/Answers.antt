@@ -1,12 +1,13 @@
-use Rattle.std.proofs.Common.{rules, ◌≡◌, List, sym, subst}
+use Rattle.std.proofs.Common.{rules, ◌≡◌, ℕ, ◌<◌, ◌≤◌, List, length, sym, subst, ◌∙◌}
 use Rattle.std.specs.Ordering.{is_lt}
 use Rattle.std.specs.List.Sorted.{IsSortedBy}
 use Rattle.std.proofs.lemmas.Fn.{always_returns_same}
-use Rattle.std.proofs.lemmas.List.Sorted.{IsPermutation-refl}
+use Rattle.std.proofs.lemmas.List.Sorted.{IsPermutation-refl, length_permutation, sum_by-IsPermutation}
 use Rattle.std.proofs.lemmas.Result.{IfOk-weaker}
 use Rattle.config_box.specs.config_record.declared.coord.Coord.{Coord}
 use Rattle.config_box.specs.box_answers.NumberSet.{SetOf}
 use Rattle.config_box.specs.Order.{order_but}
+use Rattle.config_box.specs.Counts.{counted, HaveSameCounts}
 use Rattle.config_box.specs.Least.{HasOneSet, DifferByRanges, DifferByChoices}
 use Rattle.config_box.specs.Ranges.{AreRanges, AreInOrder, AreJoinedRanges}
 use Rattle.config_box.specs.OneChoice.{AreChoices, IsOneChoice}
@@ -58,3 +59,25 @@ returns-clause-choices c =
     IfOk-weaker c.joined_in_order.result (λ joined. (k : Coord) → AreChoices k ys → IsOneChoice k ys joined.items) (λ joined. DifferByChoices at boxes → IsOneChoice at boxes joined.items)
     (λ joined h differ. choice-of-sorted at boxes ys joined.items c.sort_by.ensures.permutation (h at (sorted-choices at boxes ys differ c.sort_by.ensures.permutation)))
     c.joined_in_order.ensures.choices
+
+pub returns-clause-counts : goal.returns-clause-counts
+returns-clause-counts c =
+    let ys : List (List SetOf) = c.sort_by.new.self.items in
+    IfOk-weaker c.joined_in_order.result (λ joined. HaveSameCounts ys joined.items) (λ joined. HaveSameCounts c.args.boxes.items joined.items)
+    (λ joined same d. same d ∙ sum_by-IsPermutation (counted d) c.args.boxes.items ys c.sort_by.ensures.permutation) c.joined_in_order.ensures.counts
+
+pub returns-clause-no_more : goal.returns-clause-no_more
+returns-clause-no_more c =
+    let boxes : List (List SetOf) = c.args.boxes.items in
+    let ys : List (List SetOf) = c.sort_by.new.self.items in
+    let same : length ys ≡ length boxes = length_permutation boxes ys c.sort_by.ensures.permutation in
+    IfOk-weaker c.joined_in_order.result (λ joined. length joined.items ≤ length ys) (λ joined. length joined.items ≤ length boxes)
+    (λ joined h. subst (λ (n : ℕ). length joined.items ≤ n) same h) c.joined_in_order.ensures.no_more
+
+pub returns-clause-some : goal.returns-clause-some
+returns-clause-some c =
+    let boxes : List (List SetOf) = c.args.boxes.items in
+    let ys : List (List SetOf) = c.sort_by.new.self.items in
+    let same : length ys ≡ length boxes = length_permutation boxes ys c.sort_by.ensures.permutation in
+    IfOk-weaker c.joined_in_order.result (λ joined. 0 < length ys → 0 < length joined.items) (λ joined. 0 < length boxes → 0 < length joined.items)
+    (λ joined h some. h (subst (λ (n : ℕ). 0 < n) (sym same) some)) c.joined_in_order.ensures.some

@@ -1,6 +1,6 @@
-use Rattle.std.proofs.Common.{ℕ, ◌<◌, List, length, set, arith, sym, ap, subst, ◌∙◌}
+use Rattle.std.proofs.Common.{◌≡◌, ℕ, ◌<◌, List, length, set, arith, sym, ap, subst, ◌∙◌}
 use Rattle.std.specs.Prelude.{Some}
-use Rattle.std.proofs.lemmas.List.{length-map, map-set}
+use Rattle.std.proofs.lemmas.List.{length-map, map-set, length-set}
 use Rattle.box_answers.specs.NumberSet.{SetOf, set_of, IsProper}
 use Rattle.box_answers.specs.Members.{sets_of}
 use Rattle.config_box.specs.Joined.{MakeOneSet, IsOneSet, HasJoinedSets}
@@ -59,3 +59,26 @@ returns-clause-sets c =
     subst (HasJoinedSets (sets_of c.args.sets.now) (sets_of c.args.others.now))
     (sym (map-set set_of c.in_ok-joined.joined.items p c.in-Some.set ∙ ap (λ (l : List SetOf). set l p s) c.in_ok-joined.ensures))
     (joined-at (sets_of c.args.sets.now) (sets_of c.args.others.now) p s long (omega arith) c.difference_from-place.ensures.same (λ k from q. c.difference_from.ensures.same k from (omega (arith, c.if-difference_from-sets.false))) there.0 there.1)
+
+pub returns-clause-count : goal.returns-clause-count
+returns-clause-count c =
+    length-map (set c.in_ok-joined.joined.items c.difference_from-place.result c.in-Some.set) set_of
+    ∙ length-set c.in_ok-joined.joined.items c.difference_from-place.result c.in-Some.set
+    ∙ sym (length-map c.in_ok-joined.joined.items set_of)
+    ∙ ap (λ (sets : List SetOf). length sets) c.in_ok-joined.ensures
+    ∙ c.requires.sets.count
+
+pub difference_from-requires-clause-count : goal.difference_from-requires-clause-count
+difference_from-requires-clause-count c = sym (length-map c.args.others.now set_of) ∙ c.requires.others.count ∙ sym c.requires.sets.count ∙ length-map c.args.sets.now set_of
+
+pub bounds-others-place : goal.bounds-others-place
+bounds-others-place c =
+    let same : length c.args.others.now ≡ length c.args.sets.now =
+    sym (length-map c.args.others.now set_of) ∙ c.requires.others.count ∙ sym c.requires.sets.count ∙ length-map c.args.sets.now set_of in
+    omega (arith, same, c.difference_from-place.ensures.within, c.if-place-sets.false)
+
+pub index_mut-requires : goal.index_mut-requires
+index_mut-requires c =
+    let same : length c.in_ok-joined.joined.items ≡ length c.args.sets.now =
+    sym (length-map c.in_ok-joined.joined.items set_of) ∙ ap (λ (sets : List SetOf). length sets) c.in_ok-joined.ensures ∙ length-map c.args.sets.now set_of in
+    omega (arith, same, c.difference_from-place.ensures.within, c.if-place-sets.false)

@@ -1,6 +1,6 @@
 use Rattle.std.proofs.Common.{◌+◌, List, map, sym, ap, ◌∙◌, subst}
 use Rattle.std.proofs.lemmas.Result.{err_from_is_err_and}
-use Rattle.json_input.proofs.EachSteps.{EachAllBut, EachAllBut-next_item_seen, EachAllBut-stops_item}
+use Rattle.json_input.proofs.EachSteps.{EachAllBut, EachAllBut-next_item_seen, EachAllBut-stops_item, EachAllBut-end_item}
 use Rattle.box_answers.specs.declared.number_set.NumberSet.{NumberSet}
 use Rattle.box_answers.specs.NumberSet.{set_of}
 use Rattle.box_answers.specs.Members.{sets_of}
@@ -32,3 +32,6 @@ returns-clause-sets c =
 
 pub returns-clause-by_rule : goal.returns-clause-by_rule
 returns-clause-by_rule c = SetsSoFar-by_rule c.args.rule c.loop-coord.sets.items c.args.written.now c.loop-coord.coord-index c.loop-coord.invariant.sets c.requires c.loop-coord-test.false
+
+pub returns-clause-value : goal.returns-clause-value
+returns-clause-value c = EachAllBut-end_item (set_in c.args.rule) pair_seen _ _ c.args.written.now c.loop-coord.invariant.read c.loop-coord-test.false
