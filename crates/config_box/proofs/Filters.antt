@@ -1,9 +1,10 @@
 -- What a filter keeps.
-use Rattle.std.proofs.Common.{◌≡◌, ℕ, ◌<◌, ◌⊎◌, inl, inr, arith, zero, suc, List, [], ◌∷◌, length, map, get_or, Bool, true, false, eqb, filter, sym, ◌∙◌, ap, refl}
-use Rattle.std.specs.Prelude.{Contains, if◌then◌else◌}
+use Rattle.std.proofs.Common.{◌≡◌, ℕ, ◌+◌, ◌<◌, ◌≤◌, ◌⊎◌, inl, inr, arith, zero, suc, List, [], ◌∷◌, ◌++◌, length, take, drop, map, get_or, Bool, true, false, eqb, filter, sym, ◌∙◌, ap, refl}
+use Rattle.std.specs.Prelude.{◌||◌, cond, Contains, if◌then◌else◌}
 use Rattle.std.specs.List.{list_any}
 use Rattle.std.proofs.lemmas.Bool.{eq-eqb, eqb-true}
-use Rattle.std.proofs.lemmas.List.Elements.{All-contains, All-filter, All-contains_itself, filter_passes}
+use Rattle.std.proofs.lemmas.List.{append-nil, at_drop_more, at_drop_all}
+use Rattle.std.proofs.lemmas.List.Elements.{All-contains, All-filter, All-contains_itself, filter_passes, filter_more}
 use Rattle.std.proofs.lemmas.List.Folds.{list_any_at}
 use Rattle.std.proofs.lemmas.Map.Views.{Contains-from_any, any-filter_same}
 
@@ -48,3 +49,34 @@ map-cond false f x xs ys e = e
 pub map-filter : {X : Type 0} (f : X → ℕ) (p : ℕ → Bool) (xs : List X) → map f (filter (λ x. p (f x)) xs) ≡ filter p (map f xs)
 map-filter f p [] = refl
 map-filter f p (x ∷ xs) = map-cond (p (f x)) f x (filter (λ y. p (f y)) xs) (filter p (map f xs)) (map-filter f p xs)
+
+-- ---- a loop that keeps what passes
+
+pub kept-next : {X : Type 0} (p : X → Bool) (xs kept new : List X) (i : ℕ) (d : X) → kept ≡ filter p (take i xs) → i < length xs → p (get_or xs i d) ≡ true → new ≡ kept ++ get_or xs i d ∷ []
+    → new ≡ filter p (take (i + 1) xs)
+kept-next {X} p xs kept new i d so_far on passes is =
+    is
+    ∙ ap (λ (l : List X). l ++ get_or xs i d ∷ []) so_far
+    ∙ ap (λ (b : Bool). filter p (take i xs) ++ cond b (get_or xs i d ∷ []) []) (sym passes)
+    ∙ sym (filter_more p xs i d on)
+
+pub left-next : {X : Type 0} (p : X → Bool) (xs kept : List X) (i : ℕ) (d : X) → kept ≡ filter p (take i xs) → i < length xs → p (get_or xs i d) ≡ false → kept ≡ filter p (take (i + 1) xs)
+left-next {X} p xs kept i d so_far on passes =
+    so_far
+    ∙ sym (append-nil (filter p (take i xs)))
+    ∙ ap (λ (b : Bool). filter p (take i xs) ++ cond b (get_or xs i d ∷ []) []) (sym passes)
+    ∙ sym (filter_more p xs i d on)
+
+-- ---- a loop that looks for one that passes: F is the answer for what is left
+
+pub any-here : {X : Type 0} (q : X → Bool) (F : List X → Bool) (xs : List X) (i : ℕ) (d : X) → ((x : X) (rest : List X) → F (x ∷ rest) ≡ q x || F rest) → F (drop i xs) ≡ F xs → i < length xs → q (get_or xs i d) ≡ true → true ≡ F xs
+any-here {X} q F xs i d step so_far on passes =
+    ap (λ (b : Bool). b || F (drop (i + 1) xs)) (sym passes) ∙ sym (step (get_or xs i d) (drop (i + 1) xs)) ∙ sym (at_drop_more F xs i d on) ∙ so_far
+
+pub any-next : {X : Type 0} (q : X → Bool) (F : List X → Bool) (xs : List X) (i : ℕ) (d : X) → ((x : X) (rest : List X) → F (x ∷ rest) ≡ q x || F rest) → F (drop i xs) ≡ F xs → i < length xs → q (get_or xs i d) ≡ false
+    → F (drop (i + 1) xs) ≡ F xs
+any-next {X} q F xs i d step so_far on passes =
+    ap (λ (b : Bool). b || F (drop (i + 1) xs)) (sym passes) ∙ sym (step (get_or xs i d) (drop (i + 1) xs)) ∙ sym (at_drop_more F xs i d on) ∙ so_far
+
+pub any-end : {X : Type 0} (F : List X → Bool) (xs : List X) (i : ℕ) → F [] ≡ false → F (drop i xs) ≡ F xs → length xs ≤ i → false ≡ F xs
+any-end F xs i none so_far past = sym none ∙ sym (at_drop_all F xs i past) ∙ so_far

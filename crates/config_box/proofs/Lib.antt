@@ -1,4 +1,5 @@
 pub mod Filters
+pub mod Lent
 pub mod HalfSteps
 pub mod ChoiceSteps
 pub mod ReadSteps
@@ -11,6 +12,7 @@ pub mod SortSteps
 pub mod AlongSteps
 pub mod OneChoiceSteps
 pub mod KindSteps
+pub mod AddSteps
 pub mod PairSteps
 pub mod LineSteps
 pub mod FewestSteps

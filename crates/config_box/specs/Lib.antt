@@ -16,5 +16,6 @@ pub mod Counts
 pub mod Least
 pub mod Ranges
 pub mod OneChoice
+pub mod ListsJoined
 pub use Rattle.box_answers.specs as box_answers
 pub use Rattle.box_answers.specs.config_record

@@ -69,11 +69,13 @@ fn kept_numbers(
 ) -> Result<Vec<u32>, AllocError>
     ensures { IfOk result (λ kept. kept.items ≡ filter (λ n. gives (test_of test.now) answer n) numbers.now) }
 {
-    numbers
-        .iter()
-        .copied()
-        .filter(|number| is_kept(test, answer, u64::from(*number)))
-        .collect(alloc)
+    let mut kept = Vec::new(alloc);
+    for number in numbers {
+        if is_kept(test, answer, u64::from(*number)) {
+            kept.push(*number)?;
+        }
+    }
+    Ok(kept)
 }
 
 fn kept_locales(
@@ -84,11 +86,13 @@ fn kept_locales(
 ) -> Result<Vec<Locale>, AllocError>
     ensures { IfOk result (λ kept. kept.items ≡ filter (λ locale. gives (test_of test.now) answer (locale_number locale)) locales.now) }
 {
-    locales
-        .iter()
-        .copied()
-        .filter(|locale| is_kept(test, answer, locale.number()))
-        .collect(alloc)
+    let mut kept = Vec::new(alloc);
+    for locale in locales {
+        if is_kept(test, answer, locale.number()) {
+            kept.push(*locale)?;
+        }
+    }
+    Ok(kept)
 }
 
 // Whether a number gives this answer.

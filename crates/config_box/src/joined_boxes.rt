@@ -1,14 +1,11 @@
 //! Lists of boxes that are joined.
 
-ghost use Rattle.std.specs.Prelude.{◌≡◌, ◌+◌, ◌<◌, ◌≤◌, ◌++◌, ◌∷◌, [], length, IfOk, OnOk, MatchBool};
-ghost use Rattle.config_box.specs.config_record.declared.coord.Coord as coord;
+ghost use Rattle.std.specs.Prelude.{◌≡◌, ◌<◌, ◌≤◌, length, IfOk, OnOk, MatchBool};
 ghost use Rattle.config_box.specs.config_record.Coord.{all_coords};
 ghost use Rattle.config_box.specs.Devices.{KeepDevices};
 ghost use Rattle.config_box.specs.Kinds.{KeepKinds};
-ghost use Rattle.config_box.specs.Counts.{HaveSameCounts};
-ghost use Rattle.config_box.specs.Least.{HasOneSet, DifferByRanges, DifferByChoices, IsLeast};
-ghost use Rattle.config_box.specs.Ranges.{low_at, AreRanges, AreInOrder, HaveGaps, EndBelow, AreJoinedRanges};
-ghost use Rattle.config_box.specs.OneChoice.{AreChoices, IsOneChoice};
+ghost use Rattle.config_box.specs.Least.{HasOneSet, IsLeast};
+ghost use Rattle.config_box.specs.ListsJoined.{IsAdded, AreJoinedInOrder, AreJoinedAt};
 
 use crate::config_box::ConfigBox;
 use crate::split::OutOfMemory;
@@ -53,13 +50,7 @@ fn joined_at(
     mut boxes: Vec<ConfigBox>,
     at: Coord,
 ) -> Result<Vec<ConfigBox>, OutOfMemory>
-    ensures counts { IfOk result (λ joined. HaveSameCounts boxes.items joined.items) }
-    ensures no_more { IfOk result (λ joined. length joined.items ≤ length boxes.items) }
-    ensures some { IfOk result (λ joined. 0 < length boxes.items → 0 < length joined.items) }
-    ensures kinds { IfOk result (λ joined. KeepKinds boxes.items joined.items) }
-    ensures stay { IfOk result (λ joined. HasOneSet at boxes.items → joined.items ≡ boxes.items) }
-    ensures ranges { IfOk result (λ joined. DifferByRanges at boxes.items → AreJoinedRanges at boxes.items joined.items) }
-    ensures choices { IfOk result (λ joined. DifferByChoices at boxes.items → IsOneChoice at boxes.items joined.items) }
+    ensures { IfOk result (λ joined. AreJoinedAt at boxes.items joined.items) }
 {
     if !vary(boxes.as_slice(), at) {
         return Ok(boxes);
@@ -84,12 +75,7 @@ fn vary(boxes: &[ConfigBox], at: Coord) -> bool
 }
 
 fn joined_in_order(alloc: Global, boxes: Vec<ConfigBox>) -> Result<Vec<ConfigBox>, OutOfMemory>
-    ensures counts { IfOk result (λ joined. HaveSameCounts boxes.items joined.items) }
-    ensures no_more { IfOk result (λ joined. length joined.items ≤ length boxes.items) }
-    ensures some { IfOk result (λ joined. 0 < length boxes.items → 0 < length joined.items) }
-    ensures kinds { IfOk result (λ joined. KeepKinds boxes.items joined.items) }
-    ensures ranges { IfOk result (λ joined. (c : coord.Coord) → AreRanges c boxes.items → AreInOrder c boxes.items → AreJoinedRanges c boxes.items joined.items) }
-    ensures choices { IfOk result (λ joined. (c : coord.Coord) → AreChoices c boxes.items → IsOneChoice c boxes.items joined.items) }
+    ensures { IfOk result (λ joined. AreJoinedInOrder boxes.items joined.items) }
 {
     let mut joined = Vec::with_capacity(alloc, boxes.len())?;
     for next in boxes {
@@ -100,12 +86,7 @@ fn joined_in_order(alloc: Global, boxes: Vec<ConfigBox>) -> Result<Vec<ConfigBox
 
 // Joins the box with the last of the list, or puts it behind.
 fn add(alloc: Global, boxes: &mut Vec<ConfigBox>, next: ConfigBox) -> Result<(), OutOfMemory>
-    ensures counts { OnOk result (HaveSameCounts (boxes.old.items ++ next ∷ []) boxes.new.items) }
-    ensures no_more { OnOk result (length boxes.new.items ≤ length boxes.old.items + 1) }
-    ensures some { OnOk result (0 < length boxes.new.items) }
-    ensures kinds { OnOk result (KeepKinds (boxes.old.items ++ next ∷ []) boxes.new.items) }
-    ensures ranges { OnOk result ((c : coord.Coord) → AreRanges c (boxes.old.items ++ next ∷ []) → HaveGaps c boxes.old.items → EndBelow c (low_at c next) boxes.old.items → AreJoinedRanges c (boxes.old.items ++ next ∷ []) boxes.new.items) }
-    ensures choices { OnOk result ((c : coord.Coord) → AreChoices c (boxes.old.items ++ next ∷ []) → length boxes.old.items ≤ 1 → IsOneChoice c (boxes.old.items ++ next ∷ []) boxes.new.items) }
+    ensures { OnOk result (IsAdded boxes.old.items next boxes.new.items) }
 {
     let Some(last) = boxes.pop() else {
         boxes.push(next)?;

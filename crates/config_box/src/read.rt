@@ -86,7 +86,12 @@ fn set_in(
 fn any_outside(at: Coord, numbers: &[u64]) -> bool
     ensures { result ≡ list_any (is_outside at) numbers.now }
 {
-    numbers.iter().any(|number| at.is_outside(*number))
+    for number in numbers {
+        if at.is_outside(*number) {
+            return true;
+        }
+    }
+    false
 }
 
 #[tactic(auto, unfolding(crate::specs::BoxJson::outside_fault))]

@@ -1,6 +1,4 @@
-use Rattle.std.proofs.Common.{◌≡◌, ◌⊎◌, inl, inr, length, true, false, List, sym, ◌∙◌, ap, subst}
-use Rattle.std.proofs.lemmas.List.{length-map}
-use Rattle.box_answers.specs.declared.number_set.NumberSet.{NumberSet}
+use Rattle.std.proofs.Common.{◌≡◌, ◌⊎◌, inl, inr, true, false, List, sym, ◌∙◌, ap, subst}
 use Rattle.box_answers.specs.NumberSet.{SetOf, set_of, IsProper}
 use Rattle.box_answers.specs.Members.{sets_of, set_at, IsMember, IsBox}
 use Rattle.box_answers.specs.MemberAnswers.{AllAnswer}
@@ -8,6 +6,7 @@ use Rattle.box_answers.specs.config_record.declared.coord.Coord.{Coord}
 use Rattle.config_box.specs.Tests.{test_of, coord_of, answers, has_wrong_kind}
 use Rattle.config_box.specs.HalfSets.{IsAskable, NoneAnswers, IsHalfSet}
 use Rattle.config_box.specs.Halves.{IsHalf, KeepsAnswers}
+use Rattle.config_box.proofs.Lent.{lent-box, lent-count}
 use Rattle.config_box.proofs.HalfSteps.{askable, all-answer_yes, all-answer_no}
 use Rattle.config_box.proofs.config_box.ConfigBox.split.Goals as goal
 
@@ -45,23 +44,23 @@ returns-clause-answers c =
 
 pub set_at-set-requires : goal.set_at-set-requires
 set_at-set-requires c =
-    sym (length-map c.as_slice-sets.result.now set_of) ∙ ap (λ (sets : List NumberSet). length (sets_of sets)) c.as_slice-sets.ensures.value ∙ c.self.invariant.count
+    lent-count c.as_slice-sets.result.now c.self.inside.sets.items c.as_slice-sets.ensures.value c.self.invariant
 
 pub half_of-requires-clause-proper : goal.half_of-requires-clause-proper
 half_of-requires-clause-proper c =
-    let box : IsBox (sets_of c.as_slice-sets.result.now) = subst (λ (sets : List NumberSet). IsBox (sets_of sets)) (sym c.as_slice-sets.ensures.value) c.self.invariant in
+    let box : IsBox (sets_of c.as_slice-sets.result.now) = lent-box c.as_slice-sets.result.now c.self.inside.sets.items c.as_slice-sets.ensures.value c.self.invariant in
     subst IsProper (sym c.set_at-set.ensures) (box.each c.coord.result).proper
 
 pub half_of-requires-2-clause-proper : goal.half_of-requires-2-clause-proper
 half_of-requires-2-clause-proper c =
-    let box : IsBox (sets_of c.as_slice-sets.result.now) = subst (λ (sets : List NumberSet). IsBox (sets_of sets)) (sym c.as_slice-sets.ensures.value) c.self.invariant in
+    let box : IsBox (sets_of c.as_slice-sets.result.now) = lent-box c.as_slice-sets.result.now c.self.inside.sets.items c.as_slice-sets.ensures.value c.self.invariant in
     subst IsProper (sym c.set_at-set.ensures) (box.each c.coord.result).proper
 
 pub half_box-requires-clause-sets : goal.half_box-requires-clause-sets
-half_box-requires-clause-sets c = subst (λ (sets : List NumberSet). IsBox (sets_of sets)) (sym c.as_slice-sets.ensures.value) c.self.invariant
+half_box-requires-clause-sets c = lent-box c.as_slice-sets.result.now c.self.inside.sets.items c.as_slice-sets.ensures.value c.self.invariant
 
 pub half_box-requires-2-clause-sets : goal.half_box-requires-2-clause-sets
-half_box-requires-2-clause-sets c = subst (λ (sets : List NumberSet). IsBox (sets_of sets)) (sym c.as_slice-sets.ensures.value) c.self.invariant
+half_box-requires-2-clause-sets c = lent-box c.as_slice-sets.result.now c.self.inside.sets.items c.as_slice-sets.ensures.value c.self.invariant
 
 pub half_box-requires-clause-half : goal.half_box-requires-clause-half
 half_box-requires-clause-half c =
