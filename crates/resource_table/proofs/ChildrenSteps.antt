@@ -1,22 +1,26 @@
 -- How the chunks of a table come to be known.
-use Rattle.std.proofs.Common.{◌≡◌, ◌≢◌, ℕ, zero, suc, ◌+◌, Bool, true, false, cond, List, [], ◌∷◌, ◌++◌, reverse, find, Option, Some, None, Result, Ok, Err, refl, sym, ap, subst, ◌∙◌, arith}
+use Rattle.std.proofs.Common.{◌≡◌, ◌≢◌, ℕ, zero, suc, ◌+◌, ◌≤◌, ◌==◌, Bool, true, false, cond, List, [], ◌∷◌, ◌++◌, reverse, find, Option, Some, None, Result, Ok, Err, refl, sym, ap, subst, ◌∙◌, arith}
 use Rattle.std.specs.Prelude.{count_by, is_some, is_none}
 use Rattle.std.proofs.lemmas.Bool.Decides.{nat_tests}
-use Rattle.std.proofs.lemmas.List.{reverse-append, reverse-reverse}
+use Rattle.std.proofs.lemmas.List.{append-nil, reverse-append, reverse-reverse}
 use Rattle.std.proofs.lemmas.List.Sums.{sum_by-cons}
+use Rattle.contract_words.specs.Faults.{◌>>=◌}
 use Rattle.contract_words.specs.Sequences.{with_front}
 use Rattle.contract_words.proofs.SequenceSteps.{with_front_nil}
 use Rattle.type_chunks.specs.chunk_walk.Chunk.{ChunkOf}
 use Rattle.type_chunks.specs.chunk_walk.Chunks.{children_of}
 use Rattle.type_chunks.specs.chunk_walk.declared.chunk.ChunkFault.{ChunkFault}
-use Rattle.type_chunks.specs.string_pool.Pool.{pool_of}
+use Rattle.type_chunks.specs.string_pool.Pool.{PoolOf, pool_of}
 use Rattle.type_chunks.specs.string_pool.declared.pool.Pool.{Pool}
 use Rattle.type_chunks.specs.declared.fault.TableFault.{TableFault}
+use Rattle.type_chunks.specs.declared.fault.TableFault.TheVariants.{OutOfMemory}
+use Rattle.type_chunks.specs.declared.fault.TableFault.TheVariants as faults
 use Rattle.resource_table.specs.declared.known_children.KnownChildren.{KnownChildren}
 use Rattle.resource_table.specs.TablePools.{pool_of_chunk}
-use Rattle.resource_table.specs.Package.{PackageOf}
-use Rattle.resource_table.specs.Table.{is_package, is_pool, first_pool, strings_in, packages_of_children, table_of_children}
-use Rattle.resource_table.specs.KnownChildren.{IsPoolOf, KnowsChildren, or_empty}
+use Rattle.resource_table.specs.Package.{PackageOf, package_in}
+use Rattle.resource_table.specs.Layout.{pool_kind, package_kind}
+use Rattle.resource_table.specs.Table.{is_package, is_pool, first_pool, strings_in, packages_of_child, packages_of_children, table_of_children}
+use Rattle.resource_table.specs.KnownChildren.{IsPoolOf, KnowsChildren, IsChildRead, or_empty}
 
 -- ---- the first pool among chunks and one more
 
@@ -119,6 +123,110 @@ Knows-other-child known chunk before no_pool no_package knows = record {
   packages = knows.packages ∙ sym (count-other chunk before no_package);
   strings = rw (first_pool-other chunk before no_pool) knows.strings;
 }
+
+-- ---- one child more is read
+
+abbrev wrapped : List PackageOf → Result (List PackageOf) TableFault
+wrapped list = Ok list
+
+-- a fault
+pub child-fails : {X : Type 0} (old new : KnownChildren) (count new_count : ℕ) (list new_list : List PackageOf) (fault : TableFault) (child : Result ChunkOf ChunkFault)
+    → ((before : List (Result ChunkOf ChunkFault)) → KnowsChildren old before → fault ≢ OutOfMemory → packages_of_child (before, child) ≡ Err fault)
+    → IsChildRead {X = X} old new count new_count list new_list (Err fault) child
+child-fails old new count new_count list new_list fault child stops = record {
+  one = tt;
+  one_package = tt;
+  known = λ before knows. tt;
+  packages = λ before knows other. ap (with_front list) (stops before knows other);
+}
+
+-- a package
+package-child : (old : KnownChildren) (chunk : ChunkOf) (before : List (Result ChunkOf ChunkFault)) (read : Result PackageOf TableFault) → chunk.kind ≡ 0x0200 → package_in old.packages chunk ≡ read → KnowsChildren old before
+    → packages_of_child (before, Ok chunk) ≡ (read >>= λ one. Ok (one ∷ []))
+unfolding packages_of_child
+package-child old chunk before read kind opened knows =
+    let test : (chunk.kind == package_kind) ≡ true = rw kind refl in
+    rw (test, sym knows.packages, opened) refl
+
+pub child-package : {X : Type 0} (old new : KnownChildren) (count new_count : ℕ) (list new_list : List PackageOf) (chunk : ChunkOf) (read : PackageOf) (x : X) → chunk.kind ≡ 0x0200
+    → new.packages ≡ old.packages + 1 → new.strings ≡ old.strings → new_count ≤ count + 1 → package_in old.packages chunk ≡ Ok read → new_list ≡ list ++ read ∷ [] → IsChildRead old new count new_count list new_list (Ok x) (Ok chunk)
+child-package old new count new_count list new_list chunk read x kind more same one opened pushed = record {
+  one = omega (arith, more);
+  one_package = one;
+  known = λ before knows. Knows-package old new chunk before kind more same knows;
+  packages = λ before knows. ap (with_front list) (package-child old chunk before (Ok read) kind opened knows) ∙ ap wrapped (sym pushed);
+}
+
+pub package-fails : (old : KnownChildren) (chunk : ChunkOf) (before : List (Result ChunkOf ChunkFault)) (fault : TableFault) → chunk.kind ≡ 0x0200 → package_in old.packages chunk ≡ Err fault → KnowsChildren old before
+    → packages_of_child (before, Ok chunk) ≡ Err fault
+package-fails old chunk before fault kind opened knows = package-child old chunk before (Err fault) kind opened knows
+
+-- the first pool
+pool-child : (old : KnownChildren) (chunk : ChunkOf) (before : List (Result ChunkOf ChunkFault)) → chunk.kind ≡ 0x0001 → is_some old.strings ≡ false → KnowsChildren old before
+    → packages_of_child (before, Ok chunk) ≡ (pool_of_chunk chunk >>= λ pool. Ok [])
+unfolding packages_of_child
+pool-child old chunk before kind none knows =
+    let no : (chunk.kind == package_kind) ≡ false = rw kind refl in
+    let yes : (chunk.kind == pool_kind) ≡ true = rw kind refl in
+    rw (no, yes, none-kept (first_pool (reverse before)) old.strings knows.strings none) refl
+
+pub child-pool : {X : Type 0} (old new : KnownChildren) (count : ℕ) (list : List PackageOf) (chunk : ChunkOf) (pool : Pool) (x : X) → chunk.kind ≡ 0x0001 → is_some old.strings ≡ false
+    → new.packages ≡ old.packages → new.strings ≡ Some pool → Ok (pool_of pool) ≡ pool_of_chunk chunk → IsChildRead old new count count list list (Ok x) (Ok chunk)
+child-pool old new count list chunk pool x kind none same first opened = record {
+  one = omega (arith, same);
+  one_package = omega arith;
+  known = λ before knows. Knows-first-pool old new chunk pool before kind none same first opened knows;
+  packages = λ before knows.
+      ap (with_front list) (pool-child old chunk before kind none knows ∙ ap (λ (r : Result PoolOf TableFault). r >>= λ pool. Ok []) (sym opened))
+      ∙ ap wrapped (append-nil list);
+}
+
+pub pool-fails : (old : KnownChildren) (chunk : ChunkOf) (before : List (Result ChunkOf ChunkFault)) (fault : TableFault) → chunk.kind ≡ 0x0001 → is_some old.strings ≡ false → Err fault ≡ pool_of_chunk chunk → KnowsChildren old before
+    → packages_of_child (before, Ok chunk) ≡ Err fault
+pool-fails old chunk before fault kind none opened knows =
+    pool-child old chunk before kind none knows ∙ ap (λ (r : Result PoolOf TableFault). r >>= λ pool. Ok []) (sym opened)
+
+-- another pool
+kept-none : (kept : Option Pool) → is_some kept ≡ true → is_none kept ≡ false
+kept-none (Some pool) some = refl
+kept-none None some = absurd cc
+
+later-child : (old : KnownChildren) (chunk : ChunkOf) (before : List (Result ChunkOf ChunkFault)) → chunk.kind ≡ 0x0001 → is_some old.strings ≡ true → KnowsChildren old before → packages_of_child (before, Ok chunk) ≡ Ok []
+unfolding packages_of_child
+later-child old chunk before kind later knows =
+    let no : (chunk.kind == package_kind) ≡ false = rw kind refl in
+    let yes : (chunk.kind == pool_kind) ≡ true = rw kind refl in
+    let found : is_none (first_pool (reverse before)) ≡ false = none-found (first_pool (reverse before)) old.strings knows.strings ∙ kept-none old.strings later in
+    rw (no, yes, found) refl
+
+pub child-later : {X : Type 0} (old : KnownChildren) (count : ℕ) (list : List PackageOf) (chunk : ChunkOf) (x : X) → chunk.kind ≡ 0x0001 → is_some old.strings ≡ true → IsChildRead old old count count list list (Ok x) (Ok chunk)
+child-later old count list chunk x kind later = record {
+  one = omega arith;
+  one_package = omega arith;
+  known = λ before knows. Knows-later-pool old chunk before kind later knows;
+  packages = λ before knows. ap (with_front list) (later-child old chunk before kind later knows) ∙ ap wrapped (append-nil list);
+}
+
+-- a chunk of another kind
+other-child : (chunk : ChunkOf) (before : List (Result ChunkOf ChunkFault)) → chunk.kind ≢ 0x0001 → chunk.kind ≢ 0x0200 → packages_of_child (before, Ok chunk) ≡ Ok []
+unfolding packages_of_child
+other-child chunk before no_pool no_package =
+    let no : (chunk.kind == package_kind) ≡ false = grind (arith, nat_tests) in
+    let neither : (chunk.kind == pool_kind) ≡ false = grind (arith, nat_tests) in
+    rw (no, neither) refl
+
+pub child-other : {X : Type 0} (old : KnownChildren) (count : ℕ) (list : List PackageOf) (chunk : ChunkOf) (x : X) → chunk.kind ≢ 0x0001 → chunk.kind ≢ 0x0200 → IsChildRead old old count count list list (Ok x) (Ok chunk)
+child-other old count list chunk x no_pool no_package = record {
+  one = omega arith;
+  one_package = omega arith;
+  known = λ before knows. Knows-other-child old chunk before no_pool no_package knows;
+  packages = λ before knows. ap (with_front list) (other-child chunk before no_pool no_package) ∙ ap wrapped (append-nil list);
+}
+
+-- a chunk that can't be read
+pub child-without_chunk : (fault : ChunkFault) (before : List (Result ChunkOf ChunkFault)) → packages_of_child (before, Err fault) ≡ Err (faults.Chunk fault)
+unfolding packages_of_child
+child-without_chunk fault before = refl
 
 -- ---- at the end of the chunks
 

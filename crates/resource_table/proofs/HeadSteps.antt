@@ -1,8 +1,14 @@
 -- Heads that are set.
-use Rattle.std.proofs.Common.{◌≡◌, ℕ, zero, suc, ◌<◌, ◌^◌, Bool, true, false, List, [], ◌∷◌, ◌++◌, length, replicate, set, get_or, slice_get, refl, sym, ap, subst, ◌∙◌, arith}
+use Rattle.std.proofs.Common.{◌≡◌, ℕ, zero, suc, ◌<◌, ◌≤◌, ◌^◌, Bool, true, false, List, [], ◌∷◌, ◌++◌, length, take, replicate, Option, Result, Ok, Err, OnOk, set, get_or, slice_get, refl, sym, ap, subst, ◌∙◌, arith}
 use Rattle.std.specs.Prelude.{◌==◌, ◌&&◌, ◌/◌, ◌%◌, if◌then◌else◌}
 use Rattle.std.specs.Option.{option_map_or}
+use Rattle.std.proofs.lemmas.List.{take_all}
+use Rattle.std.proofs.lemmas.Option.{slice_get_past}
 use Rattle.std.proofs.lemmas.Bool.Decides.{nat_tests}
+
+pub on-ok : {T E P : Type 0} (r : Result T E) → P → OnOk r P
+on-ok (Ok x) p = p
+on-ok (Err e) p = tt
 
 module _ {X : Type 0} (h : X → ℕ) where
   -- the number of the item of an index; 0 past the end
@@ -37,6 +43,34 @@ module _ {X : Type 0} (h : X → ℕ) where
   number_at-read [] i x within is = absurd (omega arith)
   number_at-read (y ∷ xs) zero x within is = ap h (sym is)
   number_at-read (y ∷ xs) (suc i) x within is = number_at-read xs i x (omega arith) is
+
+  -- a list that is made longer
+  pub number_at-longer : (xs ys : List X) (n m : ℕ) (x : X) (i : ℕ) → ys ≡ take n xs ++ replicate m x → length xs ≤ n → h x ≡ 0 → number_at ys i ≡ number_at xs i
+  number_at-longer xs ys n m x i is few none =
+      ap (λ (l : List X). number_at l i) is ∙ ap (λ (l : List X). number_at (l ++ replicate m x) i) (take_all n xs few) ∙ number_at-padded xs m x i none
+
+  pub number_at-past : (xs : List X) (i : ℕ) → length xs ≤ i → number_at xs i ≡ 0
+  number_at-past xs i past = ap (λ (found : Option X). option_map_or h found 0) (slice_get_past xs i past)
+
+  -- an item is put in the place of another
+  pub number_at-put : (xs : List X) (i j : ℕ) (y : X) → i < length xs → number_at (set xs i y) j ≡ (if i == j then h y else number_at xs j)
+  number_at-put xs i j y within = by (i == j) refl
+    where
+      by : (b : Bool) → (i == j) ≡ b → number_at (set xs i y) j ≡ (if b then h y else number_at xs j)
+      by true e =
+          let here : i ≡ j = grind (arith, nat_tests) in
+          subst (λ (n : ℕ). number_at (set xs i y) n ≡ h y) here (number_at-set_same xs i y within)
+      by false e = number_at-set_other xs i j y e
+
+  -- and has the same number
+  pub number_at-kept : (xs : List X) (i j : ℕ) (x y : X) → i < length xs → x ≡ get_or xs i x → h y ≡ h x → number_at (set xs i y) j ≡ number_at xs j
+  number_at-kept xs i j x y within is same = by (i == j) refl
+    where
+      by : (b : Bool) → (i == j) ≡ b → number_at (set xs i y) j ≡ number_at xs j
+      by true e =
+          let here : i ≡ j = grind (arith, nat_tests) in
+          subst (λ (n : ℕ). number_at (set xs i y) n ≡ number_at xs n) here (number_at-set_same xs i y within ∙ same ∙ sym (number_at-read xs i x within is))
+      by false e = number_at-set_other xs i j y e
 
 -- an item that is changed at one key, by h at a key
 pub number_at-changed : {X K : Type 0} (h : K → X → ℕ) (same : K → Bool) (xs : List X) (i : ℕ) (x y : X) (v : ℕ) → i < length xs → x ≡ get_or xs i x

@@ -2,6 +2,7 @@ pub mod ChildrenSteps
 pub mod ZeroSteps
 pub mod RowsSteps
 pub mod PackagesSteps
+pub mod NameSteps
 pub mod HeadSteps
 pub mod LinkSteps
 pub mod StandSteps

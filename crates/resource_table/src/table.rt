@@ -1,16 +1,14 @@
 //! Tables.
 
-ghost use Rattle.std.specs.Prelude.{◌≡◌, ℕ, ◌+◌, ◌<◌, ◌≤◌, ◌^◌, ◌∷◌, List, Result, OnOk, length};
-ghost use Rattle.type_chunks.specs.chunk_walk.Chunk.{ChunkOf, chunk_of, seen};
-ghost use Rattle.type_chunks.specs.chunk_walk.declared.chunk.ChunkFault.{ChunkFault};
+ghost use Rattle.std.specs.Prelude.{◌≡◌, ◌<◌, ◌^◌, length};
+ghost use Rattle.type_chunks.specs.chunk_walk.Chunk.{chunk_of, seen};
 ghost use Rattle.contract_words.specs.Exact.{GivesOr};
-ghost use Rattle.contract_words.specs.Sequences.{Pushes};
 ghost use Rattle.type_chunks.specs.string_pool.Pool.{pool_of};
 ghost use Rattle.type_chunks.specs.declared.fault.TableFault.TheVariants.{OutOfMemory};
 ghost use Rattle.type_chunks.specs.Row.{with_id};
 ghost use Rattle.resource_table.specs.Package.{packages_of};
-ghost use Rattle.resource_table.specs.Table.{packages_of_child, table_of_children, table_in, rows_of};
-ghost use Rattle.resource_table.specs.KnownChildren.{KnowsChildren};
+ghost use Rattle.resource_table.specs.Table.{table_of_children, table_in, rows_of};
+ghost use Rattle.resource_table.specs.KnownChildren.{IsChildRead};
 
 use crate::known_children::KnownChildren;
 use crate::layout::{kind, table_header};
@@ -109,7 +107,6 @@ impl<'a> Table<'a> {
 }
 
 // Pushes a chunk in a table, where it is a package; `known` says what the chunks before it are.
-#[tactic(auto, unfolding(crate::specs::Table::packages_of_child))]
 fn push_child<'a>(
     alloc: Global,
     found: Result<Chunk<'a>, ChunkFault>,
@@ -117,12 +114,7 @@ fn push_child<'a>(
     packages: &mut Vec<Package<'a>>,
 ) -> Result<(), TableFault>
     requires { known.old.packages < 2 ^ 60 }
-    ensures known { (before : List (Result ChunkOf ChunkFault)) → KnowsChildren known.old before
-        → OnOk result (KnowsChildren known.new (seen found.entry ∷ before)) }
-    ensures one { known.new.packages ≤ known.old.packages + 1 }
-    ensures one_package { length packages.new.items ≤ length packages.old.items + 1 }
-    ensures packages { (before : List (Result ChunkOf ChunkFault)) → KnowsChildren known.old before
-        → Pushes OutOfMemory (packages_of packages.old.items) (packages_of packages.new.items) result (packages_of_child (before, seen found.entry)) }
+    ensures { IsChildRead known.old known.new (length packages.old.items) (length packages.new.items) (packages_of packages.old.items) (packages_of packages.new.items) result (seen found.entry) }
 {
     let chunk = found?;
     match chunk.kind {

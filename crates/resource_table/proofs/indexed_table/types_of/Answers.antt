@@ -1,7 +1,7 @@
-use Rattle.std.proofs.Common.{refl, sym}
-use Rattle.resource_table.specs.Package.{package_of, packages_of}
+use Rattle.std.proofs.Common.{refl, sym, ap, ◌∙◌}
+use Rattle.resource_table.specs.Package.{package_of, packages_of, rows_of_packages}
 use Rattle.resource_table.proofs.type_chunks.TypeRowsSteps.{rows_of_types-none}
-use Rattle.resource_table.proofs.PackagesSteps.{rows_of_packages-none, rows_of_packages-next, package_at}
+use Rattle.resource_table.proofs.PackagesSteps.{rows_of_packages-none, rows_of_packages-next, package_at, take-packages}
 use Rattle.resource_table.proofs.indexed_table.types_of.Goals as goal
 
 pub loop-package-init : goal.loop-package-init
@@ -14,3 +14,6 @@ loop-package-preserved c =
     let found = package_at c.args.packages.now c.loop-package.package-index item.result c.loop-package-test.true item.is in
     rw (c.in_ok-push_types.ensures, c.loop-package.invariant)
     (sym (rows_of_packages-next packages c.loop-package.package-index (package_of item.result) found))
+
+pub returns : goal.returns
+returns c = c.loop-package.invariant ∙ ap rows_of_packages (take-packages c.args.packages.now c.loop-package.package-index c.loop-package-test.false)

@@ -1,4 +1,4 @@
-use Rattle.std.proofs.Common.{List, ◌≡◌, ◌++◌, replicate, subst, ◌∙◌}
+use Rattle.std.proofs.Common.{ℕ, List, ◌≡◌, ◌++◌, replicate, ap, subst, ◌∙◌, arith}
 use Rattle.resource_table.specs.type_chunks.Row.{RowOf, row_of}
 use Rattle.resource_table.specs.type_chunks.TypeRows.{rows_of_type}
 use Rattle.resource_table.specs.Places.{numbers_for}
@@ -18,3 +18,12 @@ loop-row-preserved c =
           ∙ subst (λ (left : List RowOf). replicate (count_of id left) c.in-Ok.number ++ numbers_for c.loop-row.self id ≡ replicate (count_of id (rows_of_type c.args.of.now)) c.in-Ok.number ++ numbers_for c.args.self.now id)
           steps (so_far.added given id);
     }
+
+pub returns-clause-linked : goal.returns-clause-linked
+returns-clause-linked c linked = c.loop-row.invariant.linked linked
+
+pub returns-clause-added : goal.returns-clause-added
+returns-clause-added c linked id =
+    subst (λ (left : List RowOf). replicate (count_of id left) c.in-Ok.number ++ numbers_for c.loop-row.self id ≡ replicate (count_of id (rows_of_type c.args.of.now)) c.in-Ok.number ++ numbers_for c.args.self.now id)
+    c.in-None.ensures.steps.0 (c.loop-row.invariant.added linked id)
+    ∙ ap (λ (n : ℕ). replicate (count_of id (rows_of_type c.args.of.now)) n ++ numbers_for c.args.self.now id) (omega (arith, c.in-Ok.ensures))
