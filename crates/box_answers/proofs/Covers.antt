@@ -1,5 +1,5 @@
 -- A rule that says something anywhere in a set says it at one of the numbers that are tried.
-use Rattle.std.proofs.Common.{◌≡◌, ℕ, ◌+◌, ◌*◌, ◌/◌, ◌%◌, ◌<◌, ◌≤◌, ◌≢◌, true, false, arith, nat_lt, nat_le, ◌==◌, refl, Bool, ◌⊎◌, inl, inr, sym, ◌∙◌, ap, not, ◌&&◌, ◌||◌, List, length, get_or, lit<}
+use Rattle.std.proofs.Common.{◌≡◌, ℕ, ◌+◌, ◌<◌, ◌≤◌, ◌≢◌, true, false, arith, nat_lt, nat_le, ◌==◌, refl, Bool, ◌⊎◌, inl, inr, sym, ◌∙◌, ap, not, ◌&&◌, ◌||◌, List, length, get_or, lit<}
 use Rattle.std.proofs.lemmas.Bool.Decides.{nat_tests}
 use Rattle.std.proofs.lemmas.Bool.{cases_eq}
 use Rattle.std.specs.Prelude.{if◌then◌else◌}

@@ -14,7 +14,7 @@ use Rattle.config_precedence.specs.config_match.declared.kind.Numbers.{Numbers}
 use Rattle.config_precedence.specs.config_match.declared.rule.Rule.{Rule}
 use Rattle.config_precedence.specs.config_match.Answer.{is_pass, or_else}
 use Rattle.config_precedence.specs.config_match.Rule.{numbers_at, rule_answer}
-use Rattle.config_precedence.specs.config_match.Reads.{reads, reads_of, places_read, rises_from, AreReadInOrder}
+use Rattle.config_precedence.specs.config_match.Reads.{reads_of, places_read, rises_from, AreReadInOrder}
 use Rattle.config_precedence.specs.config_match.Table.{answer_of_table}
 use Rattle.box_answers.specs.declared.matching.Parted.{Parted}
 use Rattle.box_answers.specs.NumberSet.{SetOf, IsIn}

@@ -1,5 +1,5 @@
 -- The search along a table of rules.
-use Rattle.std.proofs.Common.{◌≡◌, ℕ, ◌+◌, ◌<◌, ◌≤◌, ◌≢◌, ◌==◌, inl, inr, List, [], ◌∷◌, ◌++◌, length, get_or, map, refl, sym, ap, subst, ◌∙◌, arith, true, false, Option, Some, None, IfSome, IfNone}
+use Rattle.std.proofs.Common.{◌≡◌, ◌↔◌, ℕ, ◌+◌, ◌<◌, ◌≤◌, ◌≢◌, ◌==◌, inl, inr, Bool, IsTrue, List, [], ◌∷◌, ◌++◌, length, get_or, map, refl, sym, ap, subst, ◌∙◌, arith, true, false, Option, Some, None, IfSome, IfNone}
 use Rattle.std.specs.List.{flat_map}
 use Rattle.std.proofs.lemmas.Bool.{and_parts, leb-true}
 use Rattle.std.proofs.lemmas.Bool.Decides.{nat_tests}
@@ -322,9 +322,17 @@ both-none sets rule second a b want low high two least greatest at_low at_high d
 
 -- ---- what was found, or not
 
+-- what a test says that failed is not so
+pub not_so : {P : Type 0} (passed : Bool) → (IsTrue passed ↔ P) → passed ≡ false → P → ⊥
+not_so passed tells failed is = let same = tells.1 is in cc
+
 pub some_by : {T : Type 0} {P Q : T → Type 0} (r : Option T) → IfSome r P → ((x : T) → P x → Q x) → IfSome r Q
 some_by None p f = tt
 some_by (Some x) p f = f x p
+
+pub none_so : {T P : Type 0} (r : Option T) → P → IfNone r P
+none_so None p = p
+none_so (Some x) p = tt
 
 pub none_by : {T P Q : Type 0} (r : Option T) → IfNone r P → (P → Q) → IfNone r Q
 none_by None p f = f p

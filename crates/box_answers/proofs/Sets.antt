@@ -3,7 +3,7 @@ use Rattle.std.proofs.Common.{◌≡◌, ℕ, zero, suc, ◌+◌, ◌-◌, ◌<�
 use Rattle.std.specs.Prelude.{◌↔◌, ◌==◌, true, Contains}
 use Rattle.std.specs.List.{list_any}
 use Rattle.std.specs.List.Sorted.{IsStrictlyIncreasing}
-use Rattle.std.proofs.lemmas.List.{get_or_default, get_or-map}
+use Rattle.std.proofs.lemmas.List.{get_or_default, get_or-map, length-map}
 use Rattle.std.proofs.lemmas.Bool.{eq-eqb, eqb-true}
 use Rattle.std.proofs.lemmas.List.Elements.{Contains-get_or}
 use Rattle.std.proofs.lemmas.List.Folds.{list_any_at}
@@ -18,7 +18,7 @@ use Rattle.config_precedence.specs.config_match.Rule.{rule_answer}
 use Rattle.box_answers.specs.declared.number_set.NumberSet.{NumberSet}
 use Rattle.box_answers.specs.NumberSet.{SetOf, RangeOf, NumbersOf, LocalesOf, set_of, named_numbers, IsIn, IsProper, IsLeastIn}
 use Rattle.box_answers.specs.SearchedSet.{IsGreatestIn}
-use Rattle.box_answers.specs.Members.{sets_of, set_at, IsMember}
+use Rattle.box_answers.specs.Members.{sets_of, set_at, IsMember, IsBox}
 use Rattle.box_answers.specs.TriedNumbers.{clamped, tried_numbers}
 use Rattle.box_answers.specs.Changes.{ChangesTo}
 use Rattle.box_answers.proofs.Coords.{next-coord}
@@ -102,6 +102,12 @@ set-found sets c set q is = ap set_of is ∙ sym (get_or-map set_of sets (place_
 -- ---- members
 
 -- a member with another number of the set is a member
+pub set_count : (sets : List NumberSet) → IsBox (sets_of sets) → length sets ≡ 25
+set_count sets box = sym (length-map sets set_of) ∙ box.count
+
+pub proper-there : (sets : List SetOf) (set : SetOf) (c : Coord) → IsBox sets → set ≡ set_at sets c → IsProper set
+proper-there sets set c box at = subst (λ (s : SetOf). IsProper s) (sym at) (box.each c).proper
+
 pub member-changed : (sets : List SetOf) (d e : List ℕ) (c : Coord) (n : ℕ) → IsMember sets d → IsIn (set_at sets c) n → device_number e c ≡ n
     → ((k : Coord) → k ≢ c → device_number e k ≡ device_number d k) → IsMember sets e
 member-changed sets d e c n member is same others k =
@@ -109,7 +115,7 @@ member-changed sets d e c n member is same others k =
     (λ here. subst (λ (j : Coord). IsIn (set_at sets j) (device_number e j)) (sym here) (subst (λ (m : ℕ). IsIn (set_at sets c) m) (sym same) is))
     (λ other. subst (λ (m : ℕ). IsIn (set_at sets k) m) (sym (others k other)) (member k))
 
-before-other : (c k : Coord) → place_of k < place_of c → k ≢ c
+pub before-other : (c k : Coord) → place_of k < place_of c → k ≢ c
 before-other c k q e = let same = ap place_of e in omega arith
 
 pub change-found : (sets : List SetOf) (rule : Rule) (a b : Coord → ℕ) (from d : List ℕ) (c : Coord) (n : ℕ) (want : Answer) → IsMember sets from

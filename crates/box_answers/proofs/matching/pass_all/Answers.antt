@@ -6,7 +6,11 @@ use Rattle.box_answers.specs.NumberSet.{SetOf}
 use Rattle.box_answers.specs.Sameness.{AreNeighbours}
 use Rattle.box_answers.proofs.OnePass.{one-there, place-there, nothing-passes, always-there, never-there, parts-there, HasPassed-pass, HasPassed-parts, HasPassed-parted, parted-pair, one-decides, none-nowhere}
 use Rattle.box_answers.proofs.SearchSteps.{one-fails, tried-there}
+use Rattle.box_answers.proofs.Sets.{set_count}
 use Rattle.box_answers.proofs.matching.pass_all.Goals as goal
+
+pub set_at-requires : goal.set_at-requires
+set_at-requires c = set_count c.args.sets.now c.requires.sets
 
 pub loop-rule-preserved-then-number-eq0 : goal.loop-rule-preserved-then-number-eq0
 loop-rule-preserved-then-number-eq0 c =

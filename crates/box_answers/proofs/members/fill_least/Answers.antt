@@ -3,8 +3,11 @@ use Rattle.config_precedence.specs.config_record.Coord.{number_at}
 use Rattle.box_answers.specs.NumberSet.{set_of, IsLeastIn}
 use Rattle.box_answers.specs.Members.{sets_of, set_at}
 use Rattle.box_answers.proofs.Coords.{every-coord}
-use Rattle.box_answers.proofs.Sets.{fill-next}
+use Rattle.box_answers.proofs.Sets.{fill-next, set_count}
 use Rattle.box_answers.proofs.members.fill_least.Goals as goal
+
+pub set_at-requires : goal.set_at-requires
+set_at-requires c = set_count c.args.sets.now c.requires.sets
 
 pub loop-coord-preserved : goal.loop-coord-preserved
 loop-coord-preserved c =

@@ -8,9 +8,12 @@ use Rattle.box_answers.specs.NumberSet.{SetOf, set_of, IsIn, IsProper}
 use Rattle.box_answers.specs.Members.{sets_of, set_at}
 use Rattle.box_answers.specs.TriedNumbers.{tried_numbers}
 use Rattle.box_answers.specs.Changes.{answer_at}
-use Rattle.box_answers.proofs.Sets.{tried-in, change-found}
-use Rattle.box_answers.proofs.SearchSteps.{one_answer, one-none, tried-there}
+use Rattle.box_answers.proofs.Sets.{tried-in, change-found, set_count}
+use Rattle.box_answers.proofs.SearchSteps.{one_answer, one-none, tried-there, not_so}
 use Rattle.box_answers.proofs.rule_search.RuleSearch.find_by_one.Goals as goal
+
+pub set_at-set-requires : goal.set_at-set-requires
+set_at-set-requires c = set_count c.args.self.now.sets.now c.requires.search.sets
 
 pub returns-then-says-clause-found : goal.returns-then-says-clause-found
 returns-then-says-clause-found c =
@@ -35,7 +38,7 @@ loop-place-preserved c =
     one_answer rule a b d c.requires.one ∙ ap (λ (n : ℕ). answer_at rule a b n 0) (c.changed-device.ensures.same ∙ c.tried_number.ensures) in
     below_more (λ k. answer_at rule a b (get_or (tried_numbers (set_of c.set_at-set.result.now) c.compared_number-a.result c.compared_number-b.result) k 0) 0 ≢ c.args.want)
     c.loop-place.place c.loop-place.invariant
-    (λ e. let f = c.says.ensures.1 (here ∙ e) in let x = c.if-says.false in cc)
+    (λ e. not_so c.says.result c.says.ensures c.if-says.false (here ∙ e))
 
 pub returns-clause-none : goal.returns-clause-none
 returns-clause-none c =

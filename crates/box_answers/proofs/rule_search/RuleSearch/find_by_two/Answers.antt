@@ -6,9 +6,18 @@ use Rattle.box_answers.specs.NumberSet.{SetOf, IsIn, IsLeastIn}
 use Rattle.box_answers.specs.SearchedSet.{IsGreatestIn}
 use Rattle.box_answers.specs.Members.{sets_of}
 use Rattle.box_answers.specs.Changes.{answer_at}
-use Rattle.box_answers.proofs.Sets.{member-changed, change-twice}
+use Rattle.box_answers.proofs.Sets.{member-changed, change-twice, set_count, proper-there}
 use Rattle.box_answers.proofs.SearchSteps.{both-none, none_by, some_by}
 use Rattle.box_answers.proofs.rule_search.RuleSearch.find_by_two.Goals as goal
+
+pub set_at-set-requires : goal.set_at-set-requires
+set_at-set-requires c = set_count c.args.self.now.sets.now c.requires.search.sets
+
+pub least-requires : goal.least-requires
+least-requires c = proper-there (sets_of c.args.self.now.sets.now) _ c.args.self.now.rule.coord c.requires.search.sets c.set_at-set.ensures
+
+pub greatest-requires : goal.greatest-requires
+greatest-requires c = proper-there (sets_of c.args.self.now.sets.now) _ c.args.self.now.rule.coord c.requires.search.sets c.set_at-set.ensures
 
 pub find_by_second-requires-clause-search : goal.find_by_second-requires-clause-search
 find_by_second-requires-clause-search c = record {
