@@ -151,6 +151,12 @@ no_region_alone rest l e =
     let no = met.0.1.0 in
     absurd cc
 
+no_fault : (fault : LocaleFault) (l : Locale) → ◌≡◌ {A = Result Locale LocaleFault} (Err fault) (Ok l) → ⊥
+no_fault fault l e = cc
+
+not_false : true ≡ false → ⊥
+not_false e = cc
+
 no_locale : (rule : LocaleRule) (rest : List ℕ) (l : Locale) → locale_by rule (dash ∷ rest) ≡ Ok l → ⊥
 unfolding locale_by scripted_locale_of
 no_locale LanguageAndRegion rest l e = no_region_alone rest l e
@@ -158,11 +164,11 @@ no_locale Android rest l e = by_script (written_script (language_part (behind_la
   where
     likely : (r : Result Locale LocaleFault) → locale_of (dash ∷ rest) ≡ r → (r >>= λ m. Ok (in_likely_script m)) ≡ Ok l → ⊥
     likely (Ok m) read f = no_region_alone rest m read
-    likely (Err fault) read f = absurd cc
+    likely (Err fault) read f = absurd (no_fault fault l f)
 
     by_script : (o : Option (List ℕ)) → option_map_or (with_script (dash ∷ rest)) o (with_likely_script (dash ∷ rest)) ≡ Ok l → ⊥
     by_script None f = likely (locale_of (dash ∷ rest)) refl f
-    by_script (Some script) f = let some = (found_in (dash ∷ rest) script l f).given in absurd cc
+    by_script (Some script) f = absurd (not_false (found_in (dash ∷ rest) script l f).given)
 
 -- what has no language and no region has an empty text
 shown_is : (l : Locale) (shown : Bool) → shows_script l ≡ shown → locale_text l ≡ (if shown then text_with_script l else plain_text l)

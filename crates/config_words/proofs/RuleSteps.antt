@@ -196,13 +196,19 @@ given_read script m of letters = record {
   some = letters.some;
 }
 
+one_locale : (m l : Locale) → ◌≡◌ {A = Result Locale LocaleFault} (Ok m) (Ok l) → m ≡ l
+one_locale m l e = cc
+
+no_fault : (fault : LocaleFault) (l : Locale) → ◌≡◌ {A = Result Locale LocaleFault} (Err fault) (Ok l) → ⊥
+no_fault fault l e = cc
+
 pub of_phone : (text : List ℕ) (l : Locale) → scripted_locale_of text ≡ Ok l → OfPhone l
 unfolding scripted_locale_of
 of_phone text l e = by (written_script (language_part (behind_language text))) refl e
   where
     likely : (r : Result Locale LocaleFault) → locale_of text ≡ r → (r >>= λ m. Ok (in_likely_script m)) ≡ Ok l → OfPhone l
-    likely (Ok m) read f = let same : in_likely_script m ≡ l = cc in subst (λ (k : Locale). OfPhone k) same (likely_read m (of_text text m read))
-    likely (Err fault) read f = absurd cc
+    likely (Ok m) read f = subst (λ (k : Locale). OfPhone k) (one_locale (in_likely_script m) l f) (likely_read m (of_text text m read))
+    likely (Err fault) read f = absurd (no_fault fault l f)
 
     by : (o : Option (List ℕ)) → written_script (language_part (behind_language text)) ≡ o → option_map_or (with_script text) o (with_likely_script text) ≡ Ok l → OfPhone l
     by None is f = likely (locale_of text) refl f
