@@ -413,17 +413,22 @@ padded (x ∷ v) (y ∷ w) long same p q = elim (cases_Bool (x == 0)) [
   ]
 ]
 
+no_tag : (tag : List ℕ) → ◌≡◌ {A = List (List ℕ)} [] (tag ∷ []) → ⊥
+no_tag tag same = cc
+
+one_tag : (tag other : List ℕ) → ◌≡◌ {A = List (List ℕ)} (tag ∷ []) (other ∷ []) → tag ≡ other
+one_tag tag other same = cc
+
 variant_tags-same : (v w : List ℕ) → length v ≡ length w → is_variant v ≡ true → is_variant w ≡ true → variant_tags v ≡ variant_tags w → v ≡ w
 variant_tags-same v w long p q e = elim (cases_Bool (is_zero v)) [
   | inl none ↦ elim (cases_Bool (is_zero w)) [
     | inl also ↦ zeros-same v w long none also
-    | inr some ↦ absurd (let other = rw (none, some) at e in cc)
+    | inr some ↦ absurd (no_tag (variant_text w) (rw (none, some) at e))
   ]
   | inr some ↦ elim (cases_Bool (is_zero w)) [
-    | inl none ↦ absurd (let other = rw (some, none) at e in cc)
+    | inl none ↦ absurd (no_tag (variant_text v) (sym (rw (some, none) at e)))
     | inr also ↦ (
-        let tags = rw (some, also) at e in
-        let texts : variant_text v ≡ variant_text w = cc in
+        let texts = one_tag (variant_text v) (variant_text w) (rw (some, also) at e) in
         let first = variant_letters v (second_of (is_zero v) (is_written_variant v) p some) in
         let second = variant_letters w (second_of (is_zero w) (is_written_variant w) q also) in
         padded v w long texts first.2 second.2

@@ -61,24 +61,33 @@ module _ (mark : ℕ) where
 
 -- ---- the letters of two bytes
 
+not_true : false ≡ true → ⊥
+not_true same = cc
+
+two_or_three : (a b x y z : ℕ) → a ∷ b ∷ [] ≡ x ∷ y ∷ z ∷ [] → ⊥
+two_or_three a b x y z same = cc
+
+three_same : (a b c x y z : ℕ) → a ∷ b ∷ c ∷ [] ≡ x ∷ y ∷ z ∷ [] → (a ≡ x) × (b ≡ y) × (c ≡ z)
+three_same a b c x y z same = (cc, cc, cc)
+
 pub unpacked-same : (base a b c d : ℕ) → a < 256 → b < 256 → c < 256 → d < 256 → unpacked base (a ∷ b ∷ []) ≡ unpacked base (c ∷ d ∷ []) → a ∷ b ∷ [] ≡ c ∷ d ∷ []
 unpacked-same base a b c d p q r s e = elim (cases_Bool (nat_lt a 128)) [
   | inl two ↦ elim (cases_Bool (nat_lt c 128)) [
     | inl also ↦ rw (two, also) at e
-    | inr three ↦ absurd (let other = rw (two, three) at e in cc)
+    | inr three ↦ absurd (two_or_three _ _ _ _ _ (rw (two, three) at e))
   ]
   | inr three ↦ elim (cases_Bool (nat_lt c 128)) [
-    | inl two ↦ absurd (let other = rw (three, two) at e in cc)
+    | inl two ↦ absurd (two_or_three _ _ _ _ _ (sym (rw (three, two) at e)))
     | inr also ↦ (
-        let same = rw (three, also) at e in
-        let first : base + b % 32 ≡ base + d % 32 = cc in
-        let second : base + (b / 32 + a % 4 * 8) ≡ base + (d / 32 + c % 4 * 8) = cc in
-        let third : base + a / 4 % 32 ≡ base + c / 4 % 32 = cc in
+        let all = three_same _ _ _ _ _ _ (rw (three, also) at e) in
+        let first : base + b % 32 ≡ base + d % 32 = all.0 in
+        let second : base + (b / 32 + a % 4 * 8) ≡ base + (d / 32 + c % 4 * 8) = all.1 in
+        let third : base + a / 4 % 32 ≡ base + c / 4 % 32 = all.2 in
         let high : 128 ≤ a = ltb-false a 128 three in
         let higher : 128 ≤ c = ltb-false c 128 also in
         let left : a ≡ c = omega (arith, first, second, third, high, higher, p, q, r, s) in
         let right : b ≡ d = omega (arith, first, second, third, p, q, r, s) in
-        cc
+        rw (left, right) refl
         )
   ]
 ]
@@ -105,30 +114,30 @@ region_letters text (inl capitals) = widened is_capital_letter is_region_letter 
 region_letters text (inr digits) = widened is_digit is_region_letter text (λ x is. rw (is, or-true) refl) digits.all
 
 pub language-letters : (text : List ℕ) → is_some (language_of text) ≡ true → IsText is_small_letter text
-language-letters [] e = absurd cc
-language-letters (a ∷ []) e = absurd cc
+language-letters [] e = absurd (not_true e)
+language-letters (a ∷ []) e = absurd (not_true e)
 language-letters (a ∷ b ∷ []) e = elim (cases_Bool (is_small_letter a && is_small_letter b)) [
   | inl are ↦ (let both = and_parts (is_small_letter a) (is_small_letter b) are in record { all = rw (both.0, both.1) refl; some = omega arith; few = omega arith })
-  | inr other ↦ absurd (let none = rw other at e in cc)
+  | inr other ↦ absurd (not_true (rw other at e))
 ]
 language-letters (a ∷ b ∷ c ∷ []) e = elim (cases_Bool (is_small_letter a && is_small_letter b && is_small_letter c)) [
   | inl are ↦ (let both = and_parts (is_small_letter a && is_small_letter b) (is_small_letter c) are in let two = and_parts (is_small_letter a) (is_small_letter b) both.0 in record { all = rw (two.0, two.1, both.1) refl; some = omega arith; few = omega arith })
-  | inr other ↦ absurd (let none = rw other at e in cc)
+  | inr other ↦ absurd (not_true (rw other at e))
 ]
-language-letters (a ∷ b ∷ c ∷ d ∷ text) e = absurd cc
+language-letters (a ∷ b ∷ c ∷ d ∷ text) e = absurd (not_true e)
 
 pub region-letters : (text : List ℕ) → is_some (region_of text) ≡ true → IsRegion text
-region-letters [] e = absurd cc
-region-letters (a ∷ []) e = absurd cc
+region-letters [] e = absurd (not_true e)
+region-letters (a ∷ []) e = absurd (not_true e)
 region-letters (a ∷ b ∷ []) e = elim (cases_Bool (is_capital_letter a && is_capital_letter b)) [
   | inl are ↦ (let both = and_parts (is_capital_letter a) (is_capital_letter b) are in inl (record { all = rw (both.0, both.1) refl; some = omega arith; few = omega arith }))
-  | inr other ↦ absurd (let none = rw other at e in cc)
+  | inr other ↦ absurd (not_true (rw other at e))
 ]
 region-letters (a ∷ b ∷ c ∷ []) e = elim (cases_Bool (is_digit a && is_digit b && is_digit c)) [
   | inl are ↦ (let both = and_parts (is_digit a && is_digit b) (is_digit c) are in let two = and_parts (is_digit a) (is_digit b) both.0 in inr (record { all = rw (two.0, two.1, both.1) refl; some = omega arith; few = omega arith }))
-  | inr other ↦ absurd (let none = rw other at e in cc)
+  | inr other ↦ absurd (not_true (rw other at e))
 ]
-region-letters (a ∷ b ∷ c ∷ d ∷ text) e = absurd cc
+region-letters (a ∷ b ∷ c ∷ d ∷ text) e = absurd (not_true e)
 
 -- ---- a language and a region of two bytes each
 
@@ -332,8 +341,8 @@ said_by a b c d is said = elim (cases_Bool (is_spelled (locale_of_bytes a b c d)
   | inl spelled ↦
       let letters = spelled_of (locale_of_bytes a b c d) spelled in
       elim (cases_Bool (is_zero (a ∷ b ∷ []))) [
-        | inl none ↦ absurd (let other = rw (spelled-cut a b c d spelled, none) at said in cc)
+        | inl none ↦ absurd (not_true (rw (spelled-cut a b c d spelled, none) at said))
         | inr some ↦ rw (spelled-cut a b c d spelled, some) (record { language = refl; letters = letters.language_letters some; region = region_is (c ∷ d ∷ []) letters.region_letters })
       ]
-  | inr digits ↦ absurd (let other = rw (digits-cut a b c d is digits, nine a b c d) at said in cc)
+  | inr digits ↦ absurd (not_true (rw (digits-cut a b c d is digits, nine a b c d) at said))
 ]

@@ -1,10 +1,10 @@
 -- The text of a value determines it.
-use Rattle.std.proofs.Common.{◌≡◌, ℕ, zero, suc, ◌+◌, ◌-◌, ◌/◌, ◌%◌, ◌^◌, ◌<◌, ◌≤◌, ◌==◌, nat_lt, Bool, true, false, ℤ, pos, negsuc, int_lt, unsigned_abs, List, [], ◌∷◌, ◌++◌, codes, take, drop, Some, refl, sym, ap, subst, ◌∙◌, inl, inr, arith, append_assoc}
+use Rattle.std.proofs.Common.{◌≡◌, ℕ, zero, suc, ◌+◌, ◌-◌, ◌/◌, ◌%◌, ◌^◌, ◌<◌, ◌≤◌, ◌==◌, nat_lt, if◌then◌else◌, Bool, true, false, ℤ, pos, negsuc, int_lt, unsigned_abs, List, [], ◌∷◌, ◌++◌, codes, take, drop, Some, refl, sym, ap, subst, ◌∙◌, inl, inr, arith, append_assoc}
 use lib.Signed.{mag}
 use Rattle.std.specs.List.{list_any, list_all, range_with_len}
 use Rattle.std.specs.Fmt.{decimal, signed_decimal, digits}
 use Rattle.std.specs.Str.Parse.{digits_value}
-use Rattle.std.proofs.lemmas.Bool.{cases_Bool, and_parts, eqb-true, lt-ltb}
+use Rattle.std.proofs.lemmas.Bool.{cases_Bool, and_parts, eqb-true, eq-eqb, lt-ltb, le-ltb}
 use Rattle.std.proofs.lemmas.Fmt.{decimal_injective, signed_decimal_injective, digits_is_IsNumeral}
 use Rattle.std.proofs.lemmas.List.{append-nil, take-append-drop}
 use Rattle.std.proofs.lemmas.List.Folds.{list_any-append}
@@ -79,6 +79,52 @@ way (argb8 k same) = 109
 way (rgb8 k opaque same) = 107
 way (argb4 k twice same) = 105
 way (rgb4 k twice opaque same) = 104
+
+-- those of all kinds that have a number are one
+abbrev class_of : ℕ → ℕ
+class_of n = if nat_lt n 30000 then n else 30000
+
+abbrev class : {k w : ℕ} {t : List ℕ} → Form k w t → ℕ
+class (undefined a b same) = 13
+class (no_value a b same) = 3
+class (empty a b same) = 4
+class (tagged same at) = 30000
+class (unknown same) = 12
+class (string k same) = 9
+class (a_dimension k spare same) = 11
+class (a_fraction k spare same) = 10
+class (whole k same) = 0
+class (hexadecimal k same) = 2
+class (a_float places units k some is number) = 1
+class (dimension places units unit k spare own is at number) = 5
+class (fraction places units unit k spare own is at number) = 6
+class (all_bits k w same) = 7
+class (no_bits k w same) = 8
+class (argb8 k same) = 109
+class (rgb8 k opaque same) = 107
+class (argb4 k twice same) = 105
+class (rgb4 k twice opaque same) = 104
+
+class_is : (k w : ℕ) (t : List ℕ) (f : Form k w t) → class_of (way f) ≡ class f
+class_is k w t (undefined a b same) = refl
+class_is k w t (no_value a b same) = refl
+class_is k w t (empty a b same) = refl
+class_is k w t (tagged same at) = rw (le-ltb (30000 + k) 30000 (omega arith)) refl
+class_is k w t (unknown same) = refl
+class_is k w t (string is same) = refl
+class_is k w t (a_dimension is spare same) = refl
+class_is k w t (a_fraction is spare same) = refl
+class_is k w t (whole is same) = refl
+class_is k w t (hexadecimal is same) = refl
+class_is k w t (a_float places units is some shown number) = refl
+class_is k w t (dimension places units unit is spare own shown at number) = refl
+class_is k w t (fraction places units unit is spare own shown at number) = refl
+class_is k w t (all_bits is all same) = refl
+class_is k w t (no_bits is none same) = refl
+class_is k w t (argb8 is same) = refl
+class_is k w t (rgb8 is opaque same) = refl
+class_is k w t (argb4 is twice same) = refl
+class_is k w t (rgb4 is twice opaque same) = refl
 
 told_way : (k w : ℕ) (t : List ℕ) → w < 2 ^ 32 → (f : Form k w t) → way_of t ≡ way f
 unfolding eight_digits encode_with
@@ -330,6 +376,15 @@ tagged-same j k v w t p q one other kinds =
     let two : t ≡ prefix_of j ++ eight_digits w = subst (λ (n : ℕ). t ≡ prefix_of n ++ eight_digits w) (sym kinds) other in
     eight-same v w p q (append-same (prefix_of j) (eight_digits v) (eight_digits w) (sym one ∙ two))
 
+-- one text is told in one way
+one_class : (j k v w : ℕ) (t : List ℕ) → v < 2 ^ 32 → w < 2 ^ 32 → (one : Form j v t) (other : Form k w t) → (class one == class other) ≡ true
+one_class j k v w t p q one other =
+    eq-eqb (class one) (class other)
+    (sym (class_is j v t one) ∙ ap class_of (sym (told_way j v t p one) ∙ told_way k w t q other) ∙ class_is k w t other)
+
+not_true : false ≡ true → ⊥
+not_true same = cc
+
 forms-same : (j k v w : ℕ) (t : List ℕ) → j < 2 ^ 8 → k < 2 ^ 8 → v < 2 ^ 32 → w < 2 ^ 32 → Form j v t → Form k w t → value j v ≡ value k w
 forms-same j k v w t a b p q (undefined kind word same) (undefined other also equal) = alike j k v w 0 kind other (word ∙ sym also)
 forms-same j k v w t a b p q (no_value kind word same) (no_value other also equal) = alike j k v w 1 kind other (word ∙ sym also)
@@ -368,7 +423,7 @@ forms-same j k v w t a b p q (argb4 is twice same) (argb4 also twices equal) =
     (eight-same v w p q (firsts-same (eight_digits v) (eight_digits w) twice twices (append-same (codes "#") (first_digits (eight_digits v)) (first_digits (eight_digits w)) (sym same ∙ equal))))
 forms-same j k v w t a b p q (rgb4 is twice opaque same) (rgb4 also twices opaques equal) =
     alike j k v w 31 is also (eight-same v w p q (short-same (eight_digits v) (eight_digits w) twice twices opaque opaques (sym same ∙ equal)))
-forms-same j k v w t a b p q one other = absurd (let ways = sym (told_way j v t p one) ∙ told_way k w t q other in omega (arith, ways))
+forms-same j k v w t a b p q one other = absurd (not_true (one_class j k v w t p q one other))
 
 pub told : (one other : Value) → IsStored one → IsStored other → xml_text one ≡ xml_text other → one ≡ other
 told one other is also same =
