@@ -1,6 +1,5 @@
 use Rattle.std.proofs.Common.{ℕ, ◌≢◌, ◌<◌, arith, sym, ◌∙◌}
 use Rattle.string_pool.proofs.SpanSteps.{listed_spans-next}
-use Rattle.std.proofs.Common.{arith}
 use Rattle.string_pool.proofs.spans.SpansIterator.next.Goals as goal
 
 pub invariant_of-self : goal.invariant_of-self
