@@ -184,17 +184,23 @@ likely_back text l s read is =
 
 -- ---- in a script of its own
 
+no_script_there : (script : List ℕ) → ◌≡◌ {A = Option (List ℕ)} None (Some script) → ⊥
+no_script_there script e = cc
+
+one_script : (bytes script : List ℕ) → ◌≡◌ {A = Option (List ℕ)} (Some bytes) (Some script) → bytes ≡ script
+one_script bytes script e = cc
+
 script_is : (bytes script : List ℕ) → written_script bytes ≡ Some script → bytes ≡ script
-script_is [] script e = absurd cc
-script_is (a ∷ []) script e = absurd cc
-script_is (a ∷ b ∷ []) script e = absurd cc
-script_is (a ∷ b ∷ c ∷ []) script e = absurd cc
+script_is [] script e = absurd (no_script_there script e)
+script_is (a ∷ []) script e = absurd (no_script_there script e)
+script_is (a ∷ b ∷ []) script e = absurd (no_script_there script e)
+script_is (a ∷ b ∷ c ∷ []) script e = absurd (no_script_there script e)
 script_is (a ∷ b ∷ c ∷ d ∷ []) script e =
     elim (cases_Bool (is_capital_letter a && is_small_letter b && is_small_letter c && is_small_letter d)) [
-      | inl is ↦ let found = rw is at e in cc
-      | inr other ↦ let none = rw other at e in absurd cc
+      | inl is ↦ one_script _ script (rw is at e)
+      | inr other ↦ absurd (no_script_there script (rw other at e))
     ]
-script_is (a ∷ b ∷ c ∷ d ∷ f ∷ bytes) script e = absurd cc
+script_is (a ∷ b ∷ c ∷ d ∷ f ∷ bytes) script e = absurd (no_script_there script e)
 
 -- what reading has found of a text with a script
 pub record Found (text script : List ℕ) (s : Locale) : Type 0 where
@@ -323,15 +329,15 @@ own_given text script s written four fit read =
 
 -- a script that is written has no zero in front
 written_is_not_zero : (bytes script : List ℕ) → written_script bytes ≡ Some script → is_zero bytes ≡ false
-written_is_not_zero [] script e = absurd cc
-written_is_not_zero (a ∷ []) script e = absurd cc
-written_is_not_zero (a ∷ b ∷ []) script e = absurd cc
-written_is_not_zero (a ∷ b ∷ c ∷ []) script e = absurd cc
+written_is_not_zero [] script e = absurd (no_script_there script e)
+written_is_not_zero (a ∷ []) script e = absurd (no_script_there script e)
+written_is_not_zero (a ∷ b ∷ []) script e = absurd (no_script_there script e)
+written_is_not_zero (a ∷ b ∷ c ∷ []) script e = absurd (no_script_there script e)
 written_is_not_zero (a ∷ b ∷ c ∷ d ∷ []) script e = elim (cases_Bool (a == 0)) [
-  | inl none ↦ let first = eqb-true a 0 none in let no = rw first at e in absurd cc
+  | inl none ↦ let first = eqb-true a 0 none in absurd (no_script_there script (rw first at e))
   | inr some ↦ rw some refl
 ]
-written_is_not_zero (a ∷ b ∷ c ∷ d ∷ f ∷ bytes) script e = absurd cc
+written_is_not_zero (a ∷ b ∷ c ∷ d ∷ f ∷ bytes) script e = absurd (no_script_there script e)
 
 pub own_by_rule : (text script : List ℕ) (r : Result Locale LocaleFault) → written_script (language_part (behind_language text)) ≡ Some script → r ≡ with_script text script → IfOk r (λ s. rule_of s ≡ Android)
 own_by_rule text script (Err fault) written read = tt
