@@ -1,5 +1,6 @@
 -- What is known of an entry that has no fault.
-use Rattle.std.proofs.Common.{◌≡◌, ◌≢◌, ℕ, ◌+◌, ◌*◌, ◌<◌, ◌≤◌, Bool, true, false, List, [], ◌∷◌, length, drop, Option, Some, None, Result, Ok, Err, refl, sym, subst, ◌∙◌, arith}
+use Rattle.std.proofs.Common.{◌≡◌, ◌≢◌, ℕ, ◌+◌, ◌*◌, ◌<◌, ◌≤◌, Bool, true, false, List, [], ◌∷◌, length, drop, Option, Some, None, Result, Ok, Err, refl, sym, subst, ◌∙◌, arith, ◌-◌, take, ap, length-drop}
+use Rattle.std.proofs.lemmas.List.{take_all}
 use Rattle.std.specs.Prelude.{IsOk, find, nat_lt, not, ◌==◌, ◌%◌, if◌then◌else◌}
 use Rattle.std.specs.List.{range_with_len}
 use Rattle.std.proofs.lemmas.Bool.Decides.{nat_tests}
@@ -175,3 +176,16 @@ module _ (chunk : TypeChunkOf) (at behind : ℕ) (is : IsOk (bag_of_entry chunk 
   bag-rows = rw read-all refl
 
 pub ruleset bag_steps = (bag-fits, bag-rows)
+
+-- ---- a bag whose rows are read
+
+behind_all : (bytes : List ℕ) (behind : ℕ) → take (length bytes - behind) (drop behind bytes) ≡ drop behind bytes
+behind_all bytes behind = take_all (length bytes - behind) (drop behind bytes) (omega (arith, length-drop behind bytes))
+
+pub bag-read : (chunk : TypeChunkOf) (at behind count : ℕ) (rows : Result (List (ResId × Value)) MapRowsFault) → count ≡ number 4 chunk.whole (at + 12)
+    → rows ≡ map_rows_in count (take (length chunk.whole - behind) (drop behind chunk.whole)) → bag_of_entry chunk at behind ≡ bag_of_rows chunk at behind rows
+unfolding bag_of_entry
+bag-read chunk at behind count rows counted read =
+    ap (λ (n : ℕ). bag_of_rows chunk at behind (map_rows_in n (drop behind chunk.whole))) (sym counted)
+    ∙ ap (λ (bytes : List ℕ). bag_of_rows chunk at behind (map_rows_in count bytes)) (sym (behind_all chunk.whole behind))
+    ∙ ap (bag_of_rows chunk at behind) (sym read)

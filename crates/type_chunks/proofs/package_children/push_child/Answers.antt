@@ -43,3 +43,6 @@ returns-in-513-clause-rows c = λ before known. rw c.in_ok-chunk.was (c.push_typ
 pub returns-in_default-clause-rows : goal.returns-in_default-clause-rows
 returns-in_default-clause-rows c = λ before known.
     rw c.in_ok-chunk.was (other-rows c.args.owner before _ (chunk_of c.in_ok-chunk.chunk) (λ e. omega arith) (λ e. omega arith))
+
+pub returns-in-513-clause-specs : goal.returns-in-513-clause-specs
+returns-in-513-clause-specs c = on_ok _ c.push_type.result c.requires.specs

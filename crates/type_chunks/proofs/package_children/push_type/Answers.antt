@@ -1,4 +1,5 @@
-use Rattle.std.proofs.Common.{◌≡◌, Option, Some, Ok, sym, ap, ◌∙◌}
+use Rattle.std.proofs.Common.{ℕ, ◌+◌, ◌≤◌, List, [], ◌∷◌, ◌++◌, length, arith, ◌≡◌, Option, Some, Ok, sym, ap, ◌∙◌}
+use Rattle.std.proofs.lemmas.List.{length-append}
 use Rattle.std.specs.Option.{option_map}
 use Rattle.std.proofs.lemmas.Result.{err_from_is_err_and}
 use Rattle.string_pool.specs.chunk_walk.Chunk.{chunk_of}
@@ -8,6 +9,9 @@ use Rattle.type_chunks.specs.TypeChunk.{type_chunk_of}
 use Rattle.type_chunks.specs.TypePlaces.{type_at}
 use Rattle.type_chunks.proofs.PlacesSteps.{type_at-found, keeps, kept-stands, type-fault, entries-fault, type-pushed}
 use Rattle.type_chunks.proofs.package_children.push_type.Goals as goal
+
+one_more : {X : Type 0} (old new : List X) (x : X) → new ≡ old ++ x ∷ [] → length new ≤ length old + 1
+one_more {X} old new x pushed = omega (arith, ap (λ (xs : List X). length xs) pushed, length-append old (x ∷ []))
 
 pub of-requires-clause-spec : goal.of-requires-clause-spec
 of-requires-clause-spec c = kept-stands (chunk_of c.args.container.now) c.args.specs.now _ _ c.requires.specs c.of_type.ensures.within (sym c.of_type.ensures.value ∙ c.in_ok-read.ensures.spec)
@@ -39,3 +43,6 @@ returns-clause-rows c = λ before known.
     rw c.in_ok-push.ensures.items
     (type-pushed c.args.owner c.args.specs.now before (chunk_of c.args.chunk.now) c.of_type.result known c.requires.kind c.of_type.ensures.within c.of_type.ensures.value (chunk_of c.args.container.now) _ c.of.result
     (type_chunk_of c.in_ok-read.read) c.in_ok-read.ensures.value is c.in_ok-check_entries.ensures.checked)
+
+pub returns-clause-one : goal.returns-clause-one
+returns-clause-one c = one_more c.args.places.now.items c.push.new.self.items _ c.in_ok-push.ensures.items

@@ -1,4 +1,5 @@
-use Rattle.std.proofs.Common.{◌≡◌, ℕ, ◌+◌, ◌%◌, true, false, Result, sym, ap, subst, ◌∙◌, arith}
+use Rattle.std.proofs.Common.{Bool, ◌≤◌, ◌≡◌, ℕ, ◌+◌, ◌%◌, true, false, Result, sym, ap, subst, ◌∙◌, arith}
+use Rattle.type_chunks.specs.Layout.{least_bag, least_entry_size}
 use Rattle.string_pool.specs.chunk_walk.Number.{number}
 use Rattle.res_value.specs.Cell.{CellOf}
 use Rattle.type_chunks.specs.declared.fault.TableFault.{TableFault}
@@ -8,6 +9,9 @@ use Rattle.type_chunks.specs.Entry.{is_complex, bag_of_entry, value_of_entry}
 use Rattle.type_chunks.proofs.EntrySteps.{held-bag, held-value, rows-checked, entry-unaligned, entry-cut, entry-small, entry-long}
 use Rattle.type_chunks.proofs.type_chunk.TypeChunk.check_entry_at.Goals as goal
 use Rattle.type_chunks.proofs.type_chunk.TypeChunk.check_entry_at.Goals.{then-at-ne0-via-then-at-ne0, then-at-ne0-via-else-at-ne0+then-whole-at, then-size-least_entry_size-via-then-size-least_entry_size, then-size-least_entry_size-via-else-size-least_entry_size+then-whole-at-2}
+
+bag_header : (at size least : ℕ) (complex : Bool) → least ≤ size → least ≡ least_entry_size complex → complex ≡ true → at + least_bag ≤ at + size
+bag_header at size least complex fits is so = let same : least ≡ least_bag = is ∙ ap least_entry_size so in omega (arith, same, fits)
 
 pub returns-then-is_complex-clause-checked : goal.returns-then-is_complex-clause-checked
 returns-then-is_complex-clause-checked c =
@@ -53,3 +57,7 @@ returns-then-size-least_entry_size-clause-checked c =
           let least = rw (c.least_entry_size.ensures, c.is_complex-is_complex.ensures, c.from_bits_retain-flags.ensures, c.u16_within.ensures, size) at w.if-size-least_entry_size.false in
           entry-long chunk c.args.index c.args.at aligned c.if-whole-at.false least (rw size at w.if-whole-at-2.true)
     ]
+
+pub check_bag-requires-clause-header : goal.check_bag-requires-clause-header
+check_bag-requires-clause-header c =
+    bag_header c.args.at c.u16_within-size.result c.least_entry_size.result c.is_complex-is_complex.result c.if-size-least_entry_size.false c.least_entry_size.ensures c.if-is_complex.true
