@@ -1,6 +1,6 @@
 -- The first goals of words.
-use Rattle.std.proofs.Common.{◌≡◌, ℕ, zero, suc, ◌<◌, ◌≤◌, List, [], ◌∷◌, ◌++◌, length, map, take, drop, take-append-drop, append_assoc, Result, Ok, Err, refl, sym, ap, ◌∙◌, arith}
-use Rattle.std.proofs.lemmas.List.{map-append}
+use Rattle.std.proofs.Common.{◌≡◌, ℕ, zero, suc, ◌<◌, ◌≤◌, ◌+◌, List, [], ◌∷◌, ◌++◌, length, map, take, drop, get_or, take-append-drop, append_assoc, Result, Ok, Err, refl, sym, ap, ◌∙◌, arith}
+use Rattle.std.proofs.lemmas.List.{map-append, map_more}
 use Rattle.contract_words.specs.Faults.{◌>>=◌}
 use Rattle.contract_words.specs.Sequences.{with_front}
 use Rattle.contract_words.proofs.SequenceSteps.{ReadsAllBut, ReadsAllBut-next, ReadsAllBut-stops, ReadsAllBut-end}
@@ -55,6 +55,18 @@ take-full_of {X} {Y} f n before now items place full are few =
     ∙ sym (take-full n so_far (map f (drop place items)) (omega (arith, full, count)))
     ∙ ap (take n) (append_assoc before (map f (take place items)) (map f (drop place items))
     ∙ ap (λ (others : List Y). before ++ others) (sym (map-append f (take place items) (drop place items)) ∙ ap (map f) (take-append-drop place items)))
+
+-- one more was taken, for which there was room
+pub take-more_of : {X Y : Type 0} (f : X → Y) (n : ℕ) (before now more : List Y) (items : List X) (place : ℕ) (d : X) → length now < n → place < length items
+    → (length before ≤ n → now ≡ take n (before ++ map f (take place items))) → more ≡ now ++ f (get_or items place d) ∷ []
+    → length before ≤ n → more ≡ take n (before ++ map f (take (place + 1) items))
+take-more_of {X} {Y} f n before now more items place d room on are put few =
+    let so_far = before ++ map f (take place items) in
+    let count = ap length (are few) in
+    put
+    ∙ ap (λ (ys : List Y). ys ++ f (get_or items place d) ∷ []) (are few)
+    ∙ sym (take-room n so_far (f (get_or items place d)) (omega (arith, room, count)))
+    ∙ ap (take n) (append_assoc before (map f (take place items)) (f (get_or items place d) ∷ []) ∙ ap (λ (others : List Y). before ++ others) (sym (map_more f items place d on)))
 
 -- ---- a loop
 

@@ -28,3 +28,5 @@ pub mod Cuts
 pub mod NoIds
 pub mod LabelReads
 pub mod IdWordSteps
+pub mod Pushed
+pub mod LabelWritten

@@ -1,8 +1,9 @@
 -- For which pairs words ask.
-use Rattle.std.proofs.Common.{◌≡◌, ℕ, ◌==◌, ◌&&◌, ◌||◌, Bool, true, false, cond, List, [], ◌∷◌, ◌++◌, map, filter, Option, Some, None, refl, sym, ap, ◌∙◌}
+use Rattle.std.proofs.Common.{◌≡◌, ℕ, ◌+◌, ◌<◌, ◌==◌, ◌&&◌, ◌||◌, Bool, true, false, cond, List, [], ◌∷◌, ◌++◌, length, map, filter, take, get_or, append_assoc, Option, Some, None, refl, sym, ap, ◌∙◌}
 use Rattle.std.proofs.Math.Bool.{or-false}
 use Rattle.std.proofs.Math.Path.{fun_ext}
-use Rattle.std.proofs.lemmas.List.{append-nil, map-append}
+use Rattle.std.proofs.lemmas.Grind.{flat_map-append}
+use Rattle.std.proofs.lemmas.List.{append-nil, map-append, map_more}
 use Rattle.std.proofs.lemmas.List.Folds.{list_any-append}
 use Rattle.std.specs.BTreeMap.{get, is_at}
 use Rattle.std.specs.List.{flat_map, list_any}
@@ -14,6 +15,7 @@ use Rattle.res_value.specs.declared.res_id.ResId.{ResId}
 use Rattle.names.specs.declared.found.Found.{Found}
 use Rattle.names.specs.declared.found.Found.TheVariants.{Nothing}
 use Rattle.names.specs.declared.named_set.NamedSet.{NamedSet}
+use Rattle.names.specs.declared.packages.PackageName.{PackageName}
 use Rattle.names.specs.declared.pair.Sides.{Sides}
 use Rattle.names.specs.declared.pair.Sides.TheVariants.{Removed, Added, Both}
 use Rattle.names.specs.declared.pair_words.PairWords.{PairWords}
@@ -24,7 +26,7 @@ use Rattle.names.specs.Named as word
 use Rattle.names.specs.NamedPairs.{asks_for, id_of_pair, is_named, is_of_type, is_on_a_side}
 use Rattle.names.specs.NamedSet.{NamedSetOf, SetOfOne, SetOfType, SetOfAll, named_set_of}
 use Rattle.names.specs.PackageWord.{PackageWordOf, Numbered, Called}
-use Rattle.names.specs.Packages.{PackageNameOf, is_asked_in, is_called}
+use Rattle.names.specs.Packages.{PackageNameOf, is_asked_in, is_called, package_name_of}
 use Rattle.names.specs.Pairs.{PairOf}
 use Rattle.names.specs.PairWords.{by_id, found_for, word_of_name, word_of_package, words_for, words_for_label, words_for_sides, words_of_package, words_with, AreWordsFor, PutsFor}
 use Rattle.names.specs.WordSet.{is_same, is_same_package}
@@ -239,3 +241,22 @@ words-more packages pairs pair old new before put = λ one.
     by : (ids : List ResId) (asked : Bool) → cond asked (also (found_among ids) (id_of_pair pair)) (found_among ids) ≡ found_among (ids ++ map id_of_pair (cond asked (pair ∷ []) []))
     by ids true = sym (among-more ids (id_of_pair pair))
     by ids false = ap found_among (sym (append-nil ids))
+
+-- ---- the names of packages
+
+-- the words for one package more
+pub called-more : {V : Type 0} (before old new : List V) (g : Option PackageWordOf → List V) (number : ℕ) (packages : List PackageName) (place : ℕ) (found : PackageName) → place < length packages
+    → found ≡ get_or packages place found → old ≡ before ++ flat_map g (flat_map (word_of_package number) (map package_name_of (take place packages)))
+    → new ≡ old ++ flat_map g (word_of_package number (package_name_of found))
+    → new ≡ before ++ flat_map g (flat_map (word_of_package number) (map package_name_of (take (place + 1) packages)))
+called-more {V} before old new g number packages place found on is so_far put =
+    let words = word_of_package number in
+    let seen = map package_name_of (take place packages) in
+    let here = words (package_name_of found) in
+    let one_more : flat_map words (map package_name_of (take (place + 1) packages)) ≡ flat_map words seen ++ here =
+    ap (flat_map words) (map_more package_name_of packages place found on ∙ ap (λ (p : PackageName). seen ++ package_name_of p ∷ []) (sym is))
+    ∙ flat_map-append words seen (package_name_of found ∷ []) ∙ ap (λ (more : List (Option PackageWordOf)). flat_map words seen ++ more) (append-nil here) in
+    put
+    ∙ ap (λ (vs : List V). vs ++ flat_map g here) so_far
+    ∙ append_assoc before (flat_map g (flat_map words seen)) (flat_map g here)
+    ∙ ap (λ (vs : List V). before ++ vs) (sym (ap (flat_map g) one_more ∙ flat_map-append g (flat_map words seen) here))

@@ -36,7 +36,11 @@ pub fn ids_of_type(
 fn ids_in(alloc: Global, numbers: &BTreeSet<u32>) -> Result<Vec<ResId>, AllocError>
     ensures { IfOk result (λ ids. ids.items ≡ map id_of_number numbers.now.keys) }
 {
-    numbers.iter().map(|number| ResId(*number)).collect(alloc)
+    let mut ids = Vec::with_capacity(alloc, numbers.len())?;
+    for number in numbers {
+        ids.push(ResId(*number))?;
+    }
+    Ok(ids)
 }
 
 // Puts the ids of the rows of a table among others.

@@ -60,11 +60,8 @@ fn merge<'a>(
         place = merge_label(&mut pairs, old, place, one)?;
     }
     for left in place..old.len() {
-        push_pair(
-            &mut pairs,
-            old[left].label,
-            Sides::Removed { old: old[left].id },
-        )?;
+        let first = &old[left];
+        push_pair(&mut pairs, first.label, Sides::Removed { old: first.id })?;
     }
     Ok(pairs)
 }

@@ -45,19 +45,24 @@ pub fn find_names(
 fn in_any_package<'n>(alloc: Global, names: &[Name<'n>]) -> Result<Vec<Wanted<'n>>, AllocError>
     ensures { IfOk result (λ wanted. wanted.items ≡ map in_any_package names.now) }
 {
-    names
-        .iter()
-        .map(|name| Wanted {
+    let mut wanted = Vec::with_capacity(alloc, names.len())?;
+    for name in names {
+        wanted.push(Wanted {
             package: None,
             name: *name,
-        })
-        .collect(alloc)
+        })?;
+    }
+    Ok(wanted)
 }
 
 fn first_of_each(alloc: Global, found: &[Found]) -> Result<Vec<Option<ResId>>, AllocError>
     ensures { IfOk result (λ first. first.items ≡ map first_of found.now) }
 {
-    found.iter().map(|one| one.first()).collect(alloc)
+    let mut first = Vec::with_capacity(alloc, found.len())?;
+    for one in found {
+        first.push(one.first())?;
+    }
+    Ok(first)
 }
 
 /// What each name stands for: of the rows that have it, in the order of the tables, the first, and the first behind it that is
@@ -102,7 +107,11 @@ fn unfound<'n>(
 fn found(alloc: Global, sought: &[Sought<'_>]) -> Result<Vec<Found>, AllocError>
     ensures { IfOk result (λ found. found.items ≡ map (λ one. one.found) sought.now) }
 {
-    sought.iter().map(|one| one.found).collect(alloc)
+    let mut found = Vec::with_capacity(alloc, sought.len())?;
+    for one in sought {
+        found.push(one.found)?;
+    }
+    Ok(found)
 }
 
 // The places of names, by their entries' names.

@@ -9,7 +9,7 @@ ghost use Rattle.names.specs.NamedPairs.{id_of_sides};
 ghost use Rattle.names.specs.PackageWord.{package_word_of};
 ghost use Rattle.names.specs.Packages.{package_name_of};
 ghost use Rattle.names.specs.Pairs.{pair_of};
-ghost use Rattle.names.specs.PairWords.{by_id, words_for, words_for_sides, words_for_label, words_with, word_of_package, word_of_name};
+ghost use Rattle.names.specs.PairWords.{by_id, words_for, words_for_sides, words_for_label, words_with, word_of_package};
 
 use crate::label::Label;
 use crate::named::Named;
@@ -103,30 +103,29 @@ fn push_called<'n>(
     ensures { OnOk result (map named_set_of words.new.items ≡ map named_set_of words.old.items ++ flat_map (words_with type_name.entry.now entry_name.entry.now) (flat_map (word_of_package number) (map package_name_of packages.entry.now))) }
 {
     for package in packages {
-        if package.number == number {
-            push_by_name(package, type_name, entry_name, words)?;
-        }
+        push_by_name(package, number, type_name, entry_name, words)?;
     }
     Ok(())
 }
 
-// By the name of a package, where it has one.
+// By the name of a package, where it has one and this number.
 fn push_by_name<'n>(
     found: &'n PackageName<'_>,
+    number: u8,
     type_name: &'n str,
     entry_name: &'n str,
     words: &mut Vec<NamedSet<'n>>,
 ) -> Result<(), AllocError>
-    ensures { OnOk result (map named_set_of words.new.items ≡ map named_set_of words.old.items ++ flat_map (words_with type_name.entry.now entry_name.entry.now) (word_of_name (package_name_of found.entry.now).name)) }
+    ensures { OnOk result (map named_set_of words.new.items ≡ map named_set_of words.old.items ++ flat_map (words_with type_name.entry.now entry_name.entry.now) (word_of_package number (package_name_of found.entry.now))) }
 {
     match &found.name {
-        Some(name) => push_name(
+        Some(name) if found.number == number => push_name(
             Some(PackageWord::Name(name.as_str())),
             type_name,
             entry_name,
             words,
         ),
-        None => Ok(()),
+        _ => Ok(()),
     }
 }
 

@@ -6,6 +6,7 @@ use Rattle.names.specs.Label.{LabelOf, label_of}
 use Rattle.names.specs.Noted.{Notes}
 use Rattle.names.specs.StackLabels.{named}
 use Rattle.names.proofs.NotesSteps.{AreNoted-next, Notes-kept}
+use Rattle.names.proofs.Pushed.{on-ok}
 use Rattle.names.proofs.stack_labels.pass_row.Goals as goal
 
 pub returns-then-has-clause-noted : goal.returns-then-has-clause-noted
@@ -22,3 +23,9 @@ returns-clause-passed c =
     (subst (λ (name : Option LabelOf). Notes (row.id ∷ []) (named row name) c.args.noted.now c.note.new.self)
     (sym (ap (λ found. option_map label_of found) c.in-Some.is) ∙ c.in_ok-label.ensures) c.in_ok-note.ensures))
     c.put.ensures
+
+pub returns-clause-noted : goal.returns-clause-noted
+returns-clause-noted c =
+    let name = sym (ap (option_map label_of) c.in-Some.is) ∙ c.in_ok-label.ensures in
+    on-ok c.put.result
+    (subst (λ (found : Option LabelOf). Notes (c.args.row.now.id.0 ∷ []) (named (row_of c.args.row.now) found) c.args.noted.now c.note.new.self) name c.in_ok-note.ensures)

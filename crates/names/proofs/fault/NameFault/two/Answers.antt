@@ -1,16 +1,25 @@
-use Rattle.std.proofs.Common.{ℕ, List, ap, append_assoc}
+use Rattle.std.proofs.Common.{ℕ, List, ◌++◌, map, ap, sym, ◌∙◌, append_assoc}
+use Rattle.std.specs.Prelude.{codes}
+use Rattle.res_value.specs.declared.res_id.ResId.{ResId}
+use Rattle.res_value.specs.ResId.{package_of}
 use Rattle.names.specs.NameFault.{two_resources}
-use Rattle.names.specs.Names.{WantedOf}
-use Rattle.names.specs.WordText.{both_names, two_text}
+use Rattle.names.specs.Names.{WantedOf, wanted_in_package, wanted_of}
+use Rattle.names.specs.Packages.{package_name_of}
+use Rattle.names.specs.WordText.{both_names, package_word_for, two_text, wanted_text}
 use Rattle.names.proofs.fault.NameFault.two.Goals as goal
 
 pub returns-in-Ok : goal.returns-in-Ok
 unfolding two_text both_names
 returns-in-Ok c = λ _.
-    let in_package = λ (wanted : WantedOf). wanted.in_package in
-    let type_name = λ (wanted : WantedOf). wanted.name.type_name in
-    let entry_name = λ (wanted : WantedOf). wanted.name.entry_name in
-    let first = c.in_package-first.ensures in
-    let other = c.in_package-other.ensures in
+    let packages = map package_name_of c.args.packages.now in
+    let wanted = wanted_of c.args.wanted in
+    let called = λ (id : ResId). wanted_text (wanted_in_package wanted (package_word_for packages (package_of id))) in
+    let told = λ (name other : List ℕ). wanted_text wanted ++ (codes ": " ++ (name ++ (codes ", " ++ other))) in
+    let first = ap (λ (name : WantedOf). wanted_text name) (c.in_package-first.ensures ∙ ap (wanted_in_package wanted) (c.package_word_for.ensures ∙ ap (package_word_for packages) c.package.ensures)) in
+    let other = ap (λ (name : WantedOf). wanted_text name) (c.in_package-other.ensures ∙ ap (wanted_in_package wanted) (c.package_word_for-2.ensures ∙ ap (package_word_for packages) c.package-2.ensures)) in
     ap (λ (t : List ℕ). two_resources t)
-    (simp append_assoc (simp (append_assoc, ap in_package first, ap type_name first, ap entry_name first, ap in_package other, ap type_name other, ap entry_name other, c.package_word_for.ensures, c.package_word_for-2.ensures, c.package.ensures, c.package-2.ensures) at c.in-Ok.ensures.ok))
+    (c.in-Ok.ensures.ok
+    ∙ ap (λ (name : List ℕ). told name (wanted_text (wanted_of c.in_package-other.result))) first
+    ∙ ap (told (called c.args.first)) other
+    ∙ ap (λ (names : List ℕ). wanted_text wanted ++ (codes ": " ++ names)) (sym (append_assoc (called c.args.first) (codes ", ") (called c.args.other)))
+    ∙ sym (append_assoc (wanted_text wanted) (codes ": ") ((called c.args.first ++ codes ", ") ++ called c.args.other)))

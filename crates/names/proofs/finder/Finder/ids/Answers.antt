@@ -9,6 +9,7 @@ use Rattle.names.specs.Finder.{Tells}
 use Rattle.names.specs.NameFault.{NameFaultOf}
 use Rattle.names.specs.NamedIds.{ids_in_package, ids_of_set, some_of}
 use Rattle.names.specs.PackageWord.{package_word_of}
+use Rattle.names.proofs.Pushed.{on-ok}
 use Rattle.names.proofs.WordSteps.{GivesNamed-same, one-found, one-missing, of-type, of-all}
 use Rattle.names.proofs.finder.Finder.ids.Goals as goal
 
@@ -43,3 +44,17 @@ returns-in_ok-ids-in-All-clause-found c = λ layers names told.
     (ap (λ (set : NamedSet). ids_of_set layers (named_set_of set)) c.in-All.is ∙ of-all layers ids (c.in_ok-ids-in-All.ensures.found layers names of_all)
     ∙ sym (ap (λ (set : NamedSet). some_of (named_set_of set) ids) c.in-All.is))
     c.some_of-in-All.ensures
+
+pub returns-in_ok-shared-in-One-clause-left : goal.returns-in_ok-shared-in-One-clause-left
+returns-in_ok-shared-in-One-clause-left c = λ layers names told.
+    c.in_ok-id-in-One.ensures.left layers names (subst (λ (set : NamedSet). Tells layers (names_in_set (named_set_of set) ++ names) c.args.self.now) c.in-One.is told)
+
+pub returns-in_ok-ids-in-OfType-2-clause-left : goal.returns-in_ok-ids-in-OfType-2-clause-left
+returns-in_ok-ids-in-OfType-2-clause-left c = λ layers names told.
+    let of_type = subst (λ (set : NamedSet). Tells layers (names_in_set (named_set_of set) ++ names) c.args.self.now) c.in-OfType.is told in
+    on-ok c.some_of.result (c.in_ok-ids-in-OfType.ensures.left layers names of_type)
+
+pub returns-in_ok-ids-in-All-clause-left : goal.returns-in_ok-ids-in-All-clause-left
+returns-in_ok-ids-in-All-clause-left c = λ layers names told.
+    let of_all = subst (λ (set : NamedSet). Tells layers (names_in_set (named_set_of set) ++ names) c.args.self.now) c.in-All.is told in
+    on-ok c.some_of-in-All.result (c.in_ok-ids-in-All.ensures.left layers names of_all)
