@@ -128,11 +128,10 @@ impl<'s, 'a, 'n> Finder<'s, 'a, 'n> {
         alloc: Global,
         type_name: Option<&'n str>,
     ) -> Result<Rc<Vec<ResId>>, AllocError>
-        ensures left { (layers : List LayerOf) (names : List WantedOf) → Tells layers names self.old → OnOk result (Tells layers names self.new) }
-        ensures found { (layers : List LayerOf) (names : List WantedOf) → Tells layers names self.old → IfOk result (λ ids. ids.value.items ≡ ids_of_rows layers (option_map (λ name. name.now) type_name.entry)) }
+        ensures { (layers : List LayerOf) (names : List WantedOf) → Tells layers names self.old → IfOk result (λ ids. Tells layers names self.new × (ids.value.items ≡ ids_of_rows layers (option_map (λ name. name.now) type_name.entry))) }
     {
         if let Some(ids) = self.known.get(&type_name) {
-            return Ok(ids.clone()?);
+            return ids.clone();
         }
         let ids = ids_of_type(alloc, &self.tables, type_name)?;
         let ids = Rc::new(alloc, ids)?;

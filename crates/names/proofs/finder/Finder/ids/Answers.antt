@@ -28,9 +28,9 @@ returns-in_ok-shared-in-One-clause-found c = λ layers names told.
 pub returns-in_ok-ids-in-OfType-2-clause-found : goal.returns-in_ok-ids-in-OfType-2-clause-found
 returns-in_ok-ids-in-OfType-2-clause-found c = λ layers names told.
     let of_type = subst (λ (set : NamedSet). Tells layers (names_in_set (named_set_of set) ++ names) c.args.self.now) c.in-OfType.is told in
-    let kept = c.in_ok-ids-in-OfType-2.ensures layers names (c.in_ok-ids-in-OfType.ensures.left layers names of_type)
+    let kept = c.in_ok-ids-in-OfType-2.ensures layers names (c.in_ok-ids-in-OfType.ensures layers names of_type).0
     ∙ ap (ids_in_package layers (option_map package_word_of c.in-OfType.package))
-    (c.deref-in-OfType.ensures.value ∙ ap (λ ids. ids.items) c.deref.ensures ∙ c.in_ok-ids-in-OfType.ensures.found layers names of_type) in
+    (c.deref-in-OfType.ensures.value ∙ ap (λ ids. ids.items) c.deref.ensures ∙ (c.in_ok-ids-in-OfType.ensures layers names of_type).1) in
     let ids = c.in_ok-ids-in-OfType-2.ids.value.items in
     GivesNamed-same _ _ _ _
     (ap (λ (set : NamedSet). ids_of_set layers (named_set_of set)) c.in-OfType.is ∙ of-type layers _ _ ids kept ∙ sym (ap (λ (set : NamedSet). some_of (named_set_of set) ids) c.in-OfType.is))
@@ -41,7 +41,7 @@ returns-in_ok-ids-in-All-clause-found c = λ layers names told.
     let of_all = subst (λ (set : NamedSet). Tells layers (names_in_set (named_set_of set) ++ names) c.args.self.now) c.in-All.is told in
     let ids = c.in_ok-ids-in-All.ids.value.items in
     GivesNamed-same _ _ _ _
-    (ap (λ (set : NamedSet). ids_of_set layers (named_set_of set)) c.in-All.is ∙ of-all layers ids (c.in_ok-ids-in-All.ensures.found layers names of_all)
+    (ap (λ (set : NamedSet). ids_of_set layers (named_set_of set)) c.in-All.is ∙ of-all layers ids (c.in_ok-ids-in-All.ensures layers names of_all).1
     ∙ sym (ap (λ (set : NamedSet). some_of (named_set_of set) ids) c.in-All.is))
     c.some_of-in-All.ensures
 
@@ -52,9 +52,9 @@ returns-in_ok-shared-in-One-clause-left c = λ layers names told.
 pub returns-in_ok-ids-in-OfType-2-clause-left : goal.returns-in_ok-ids-in-OfType-2-clause-left
 returns-in_ok-ids-in-OfType-2-clause-left c = λ layers names told.
     let of_type = subst (λ (set : NamedSet). Tells layers (names_in_set (named_set_of set) ++ names) c.args.self.now) c.in-OfType.is told in
-    on-ok c.some_of.result (c.in_ok-ids-in-OfType.ensures.left layers names of_type)
+    on-ok c.some_of.result (c.in_ok-ids-in-OfType.ensures layers names of_type).0
 
 pub returns-in_ok-ids-in-All-clause-left : goal.returns-in_ok-ids-in-All-clause-left
 returns-in_ok-ids-in-All-clause-left c = λ layers names told.
     let of_all = subst (λ (set : NamedSet). Tells layers (names_in_set (named_set_of set) ++ names) c.args.self.now) c.in-All.is told in
-    on-ok c.some_of-in-All.result (c.in_ok-ids-in-All.ensures.left layers names of_all)
+    on-ok c.some_of-in-All.result (c.in_ok-ids-in-All.ensures layers names of_all).0
