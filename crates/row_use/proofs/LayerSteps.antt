@@ -1,5 +1,5 @@
 -- The layers of a stack, one after the other, and the ids of their rows.
-use Rattle.std.proofs.Common.{◌≡◌, ◌≢◌, ◌⊎◌, inl, inr, ℕ, zero, suc, ◌+◌, ◌==◌, Bool, true, false, List, [], ◌∷◌, ◌++◌, take, map, Option, Some, None, arith, refl, sym, ap, ◌∙◌, subst}
+use Rattle.std.proofs.Common.{◌≡◌, ◌≢◌, ◌⊎◌, inl, inr, ℕ, zero, suc, ◌+◌, ◌<◌, ◌==◌, Bool, true, false, List, [], ◌∷◌, ◌++◌, append_assoc, length, take, drop, get_or, map, Option, Some, None, arith, refl, sym, ap, ◌∙◌, subst}
 use Rattle.std.specs.Prelude.{slice_get, option_and_then, IsTrue, ◌||◌, if◌then◌else◌, cond, nat_lt, Contains}
 use Rattle.std.specs.Option.{option_map}
 use Rattle.std.specs.BTreeSet.{BTreeSet, contains}
@@ -10,15 +10,17 @@ use Rattle.std.proofs.lemmas.Cmp.{nat_cmp_total}
 use Rattle.std.proofs.lemmas.Map.Lookups.{exact_unsigned}
 use Rattle.std.proofs.lemmas.Map.Views.{btree_set_contains_iff, exact_unsigned_eq}
 use Rattle.std.proofs.lemmas.Bool.{le-ltb, eq-eqb}
-use Rattle.std.proofs.lemmas.List.{map-append}
+use Rattle.std.proofs.lemmas.List.{map-append, drop_more}
 use Rattle.reference_resolver.specs.res_value.declared.res_id.ResId.{ResId}
 use Rattle.reference_resolver.specs.resource_table.Table.{TableOf}
 use Rattle.reference_resolver.specs.overlay_map.IdMap.{MapOf, look_of, targets_in}
 use Rattle.reference_resolver.specs.overlay_map.Layer.{LayerOf}
 use Rattle.row_use.specs.declared.layer_rows.LayerRows.{LayerRows}
+use Rattle.row_use.specs.declared.look_up.Among.{Among}
+use Rattle.row_use.specs.declared.row_place.RowPlace.{RowPlace}
 use Rattle.row_use.specs.PlacesSeen.{is_among, id_of}
 use Rattle.row_use.specs.RowPlaces.{places_by, places_for, row_places_at, row_places_from}
-use Rattle.row_use.specs.Indexed.{layer_of, layers_of}
+use Rattle.row_use.specs.Indexed.{layer_among, layer_of, layers_of, stack_among}
 
 -- ---- layers
 
@@ -39,6 +41,25 @@ pub next-layer : (stack : List LayerOf) (k : ℕ) (old new : List LayerRows) (la
 next-layer stack k old new layer pushed before is_table is_map =
     ap layers_of pushed ∙ map-append layer_of old (layer ∷ []) ∙ ap (λ (ls : List LayerOf). ls ++ layer_of layer ∷ []) before
     ∙ sym (next-of stack k (layer_of layer).table (layer_of layer).map is_table is_map)
+
+-- each layer has a table
+pub layer-there : (stack : List LayerOf) (k : ℕ) → k < length stack → None ≡ option_map (λ (layer : LayerOf). layer.table) (slice_get stack k) → ⊥
+layer-there [] k within none = absurd (omega (arith, within))
+layer-there (layer ∷ stack) zero within none = cc
+layer-there (layer ∷ stack) (suc k) within none = layer-there stack k (omega (arith, within)) none
+
+-- the rows of one layer more
+pub rows-next : (among : Among) (layers : List LayerRows) (index : ℕ) (layer : LayerRows) (id : ℕ) (old more all : List RowPlace) → index < length layers → layer ≡ get_or layers index layer
+    → old ++ row_places_from index (stack_among among (layers_of (drop index layers))) id ≡ all → more ≡ old ++ row_places_at index (places_for (layer_among among (layer_of layer)) id)
+    → more ++ row_places_from (index + 1) (stack_among among (layers_of (drop (index + 1) layers))) id ≡ all
+rows-next among layers index layer id old more all on is before put =
+    let left = drop (index + 1) layers in
+    let others = row_places_from (index + 1) (stack_among among (layers_of left)) id in
+    let here = row_places_at index (places_for (layer_among among (layer_of layer)) id) in
+    ap (λ (rows : List RowPlace). rows ++ others) put
+    ∙ append_assoc old here others
+    ∙ ap (λ (ls : List LayerRows). old ++ row_places_from index (stack_among among (layers_of ls)) id) (sym (drop_more layers index layer on ∙ ap (λ (l : LayerRows). l ∷ left) (sym is)))
+    ∙ before
 
 -- ---- ids
 

@@ -10,3 +10,4 @@ pub mod RowSteps
 pub mod FinalSteps
 pub mod LimitSteps
 pub use Rattle.cert_maker.proofs as cert_maker
+pub mod Pushed

@@ -22,16 +22,6 @@ trace_of_look_up look_up = trace_among (map cand_of look_up.candidates.items)
 abbrev pub IsOpenFor : List LayerOf → LookUp → OpenBox → Type 0
 IsOpenFor stack look_up part = IsReached stack (trace_of_look_up look_up) part
 
--- a test opens two boxes; both go on where the whole stopped
-pub record OpensHalves (whole : OpenBox) (test : TestOf) (old new : List OpenBox) : Type 0 where
-  pub yes_half : OpenBox
-  pub no_half : OpenBox
-  pub opened : new ≡ old ++ no_half ∷ yes_half ∷ []
-  pub yes_members : IsHalf whole.members test true yes_half.members
-  pub no_members : IsHalf whole.members test false no_half.members
-  pub yes_reached : (stack : List LayerOf) (trace : List ℕ → Trace) → IsReached stack trace whole → IsReached stack trace yes_half
-  pub no_reached : (stack : List LayerOf) (trace : List ℕ → Trace) → IsReached stack trace whole → IsReached stack trace no_half
-
 -- ---- a node of the tree that parts them
 
 -- a needed test, whose halves are opened

@@ -3,19 +3,23 @@
 ghost use Rattle.std.specs.Prelude.{◌≡◌, ◌++◌, ◌∷◌, [], ℕ, List, All, IfOk, IfSome};
 ghost use Rattle.config_box.specs.box_answers.NumberSet.{SetOf};
 ghost use Rattle.config_box.specs.box_answers.Members.{IsMember, IsBox};
+ghost use Rattle.cert_maker.specs.cert_checker.box_trace.Halving.{OpensHalves};
 ghost use Rattle.cert_maker.specs.cert_checker.box_trace.OpenBox.{boxes_of};
+ghost use Rattle.reference_resolver.specs.overlay_map.Layer.{LayerOf};
+ghost use Rattle.row_use.specs.declared.look_up.LookUp.{LookUp};
 ghost use Rattle.config_box.specs.Tests.{test_of};
 ghost use Rattle.cert_maker.specs.Growth.{CanBeAsked};
 ghost use Rattle.row_use.specs.Indexed.{loads_of};
 ghost use Rattle.row_use.specs.Raising.{level_of, cells_of, KeepsReach, no_more, loaded_more};
 ghost use Rattle.row_use.specs.Parting.{IsParted};
-ghost use Rattle.row_use.specs.OpenBoxes.{trace_of_look_up, IsOpenFor, OpensHalves, AddsNode};
+ghost use Rattle.row_use.specs.OpenBoxes.{trace_of_look_up, IsOpenFor, AddsNode};
 
 use crate::look_up::LookUp;
 use crate::row_use::RowUse;
 use crate::uses::Uses;
+use box_trace::Halving;
 use cert_maker::{
-    CommonTrace, ConfigBox, OpenBox, OpenBoxes, OutOfMemory, Split, Stack, Test, parting_test,
+    CommonTrace, ConfigBox, OpenBox, OpenBoxes, OutOfMemory, Stack, Test, parting_test,
 };
 use std::alloc::Global;
 
@@ -116,16 +120,14 @@ fn open_halves<'a, 's>(
     open_boxes: &mut OpenBoxes<'a, 's>,
 ) -> Result<(), OutOfMemory>
     requires { CanBeAsked whole.now.members (test_of test.now) }
-    ensures { IfOk result (λ _. OpensHalves whole.now (test_of test.now) open_boxes.old open_boxes.new) }
+    ensures halves { IfOk result (λ _. OpensHalves whole.now.members (test_of test.now) (boxes_of open_boxes.old) (boxes_of open_boxes.new)) }
+    ensures open { IfOk result (λ _. (stack : List LayerOf) (look_up : LookUp) → IsOpenFor stack look_up whole.now → All (IsOpenFor stack look_up) open_boxes.old → All (IsOpenFor stack look_up) open_boxes.new) }
 {
-    match whole.members.split(alloc, test)? {
-        Split::Halves(yes, no) => {
-            open_boxes.push(whole.narrowed(no, test.coord())?)?;
-            open_boxes.push(whole.narrowed(yes, test.coord())?)?;
-            Ok(())
-        }
+    let halving = open_boxes.push_halves(alloc, whole, test)?;
+    match halving {
+        Halving::Opened => Ok(()),
         // The test is one that can be asked of these members, and parts two of them.
-        Split::WrongKind => unreachable!(),
-        Split::EmptyHalf => unreachable!(),
+        Halving::WrongKind => unreachable!(),
+        Halving::EmptyHalf => unreachable!(),
     }
 }

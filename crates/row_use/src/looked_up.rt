@@ -33,7 +33,11 @@ fn ids_in(alloc: Global, numbers: &BTreeSet<u32>) -> Result<Vec<ResId>, AllocErr
     ensures ids { IfOk result (λ ids. ids.items ≡ map id_of numbers.now.keys) }
     ensures once { IsStrictlySortedBy nat_cmp numbers.now.keys }
 {
-    numbers.iter().map(|number| ResId(*number)).collect(alloc)
+    let mut ids = Vec::with_capacity(alloc, numbers.len())?;
+    for number in numbers {
+        ids.push(ResId(*number))?;
+    }
+    Ok(ids)
 }
 
 // Puts the ids for which rows of a layer may stand among others.

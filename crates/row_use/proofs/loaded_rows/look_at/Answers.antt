@@ -1,4 +1,4 @@
-use Rattle.std.proofs.Common.{ℕ, List, ◌∷◌, ◌++◌, [], inl, inr, refl, sym, ◌∙◌, subst}
+use Rattle.std.proofs.Common.{ℕ, List, ◌∷◌, ◌++◌, [], inl, inr, refl, sym, ◌∙◌, subst, append_assoc}
 use Rattle.std.proofs.lemmas.Result.{IfOk-weaker}
 use Rattle.config_box.specs.box_answers.NumberSet.{SetOf}
 use Rattle.config_box.specs.box_answers.Members.{IsMember}
@@ -13,7 +13,7 @@ use Rattle.row_use.specs.OpenBoxes.{trace_of_look_up, AddsTest}
 use Rattle.row_use.specs.Raising.{level_of, cells_of, KeepsReach, loaded_more}
 use Rattle.cert_maker.proofs.Cut.{needed-by-trace}
 use Rattle.row_use.proofs.LoadedSteps.{test-opened}
-use Rattle.row_use.proofs.OpenSteps.{same-loads, all-opened, boxes-opened}
+use Rattle.row_use.proofs.OpenSteps.{same-loads}
 use Rattle.row_use.proofs.loaded_rows.look_at.Goals as goal
 
 pub raise_row-requires : goal.raise_row-requires
@@ -56,16 +56,15 @@ returns-in_ok-test-in-Mixed-clause-keeps c =
     let to = level_of c.args.to in
     let same = c.in_ok-parting-in-Mixed.ensures.members ∙ c.in_ok-common.ensures.members in
     IfOk-weaker c.open_halves.result _ _ (λ _ opens.
-    subst (λ (opened : List (List SetOf)). KeepsReach cells (loaded_more loads to (boxes ++ c.args.part.now.members ∷ [])) cells (loaded_more loads to opened)) (sym (boxes-opened _ _ _ _ opens))
-    (subst (λ (sets : List SetOf). KeepsReach cells (loaded_more loads to (boxes ++ sets ∷ [])) cells (loaded_more loads to (boxes ++ opens.no_half.members ∷ opens.yes_half.members ∷ []))) same
-    (test-opened cells loads to boxes _ opens.yes_half.members opens.no_half.members (test_of c.in_ok-test-in-Mixed.test) opens.yes_members opens.no_members))) c.open_halves.ensures
+    subst (λ (opened : List (List SetOf)). KeepsReach cells (loaded_more loads to (boxes ++ c.args.part.now.members ∷ [])) cells (loaded_more loads to opened)) (sym (opens.opened ∙ append_assoc boxes (opens.no_half ∷ []) (opens.yes_half ∷ [])))
+    (subst (λ (sets : List SetOf). KeepsReach cells (loaded_more loads to (boxes ++ sets ∷ [])) cells (loaded_more loads to (boxes ++ opens.no_half ∷ opens.yes_half ∷ []))) same
+    (test-opened cells loads to boxes _ opens.yes_half opens.no_half (test_of c.in_ok-test-in-Mixed.test) opens.yes opens.no))) c.open_halves.ensures.halves
 
 pub returns-in_ok-test-in-Mixed-clause-open : goal.returns-in_ok-test-in-Mixed-clause-open
 returns-in_ok-test-in-Mixed-clause-open c =
-    let stack = c.args.stack.now in
     let trace = trace_of_look_up c.args.look_up.now in
-    IfOk-weaker c.open_halves.result _ _ (λ _ opens all.
-    all-opened stack c.args.look_up.now _ _ _ _ opens (c.in_ok-parting-in-Mixed.ensures.reached stack trace (c.in_ok-common.ensures.reached trace c.requires)) all) c.open_halves.ensures
+    IfOk-weaker c.open_halves.result _ _ (λ _ goes_on.
+    goes_on c.args.stack.now c.args.look_up.now (c.in_ok-parting-in-Mixed.ensures.reached c.args.stack.now trace (c.in_ok-common.ensures.reached trace c.requires))) c.open_halves.ensures.open
 
 pub returns-in_ok-test-in-Mixed-clause-node : goal.returns-in_ok-test-in-Mixed-clause-node
 returns-in_ok-test-in-Mixed-clause-node c =
@@ -78,9 +77,9 @@ returns-in_ok-test-in-Mixed-clause-node c =
     inl (subst (λ (sets : List SetOf). AddsTest trace sets boxes (boxes_of c.open_halves.new.open_boxes)) (c.in_ok-parting-in-Mixed.ensures.members ∙ c.in_ok-common.ensures.members) (record {
       test = test_of c.in_ok-test-in-Mixed.test;
       needed = needed-by-trace trace _ _ _ told.trace_tells c.in_ok-test-in-Mixed.ensures.needed;
-      yes_half = opens.yes_half.members;
-      no_half = opens.no_half.members;
-      opened = boxes-opened _ _ _ _ opens;
-      yes_members = opens.yes_members;
-      no_members = opens.no_members;
-    }))) c.open_halves.ensures
+      yes_half = opens.yes_half;
+      no_half = opens.no_half;
+      opened = opens.opened ∙ append_assoc boxes (opens.no_half ∷ []) (opens.yes_half ∷ []);
+      yes_members = opens.yes;
+      no_members = opens.no;
+    }))) c.open_halves.ensures.halves

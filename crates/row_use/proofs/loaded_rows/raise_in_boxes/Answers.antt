@@ -55,3 +55,7 @@ returns-clause-tree c = λ sets is_box alone.
     let tree = done (trace_of_look_up c.args.look_up.now) sets _ _ (ap boxes_of c.in_default.ensures.none) (c.boxes.invariant.going sets is_box alone) in
     let count = tree.2 in
     (tree.0, tree.1, omega (arith, within, count))
+
+pub look_at-looked-requires : goal.look_at-looked-requires
+look_at-looked-requires c =
+    (All-pop (IsOpenFor c.args.stack.now c.args.look_up.now) c.boxes.open_boxes c.pop.new.self (Some c.in-Some.part) c.in-Some.ensures.items c.boxes.invariant.open_for).1

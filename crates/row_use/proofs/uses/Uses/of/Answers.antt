@@ -1,6 +1,10 @@
+use Rattle.std.proofs.Common.{Bor, List, Option, Some, map, sym, subst}
+use Rattle.std.proofs.lemmas.List.{take_all}
 use Rattle.std.proofs.lemmas.Result.{IfOk-weaker}
+use Rattle.std.specs.Option.{option_map}
+use Rattle.reference_resolver.specs.res_value.declared.res_id.ResId.{ResId}
 use Rattle.row_use.specs.Indexed.{layers_of}
-use Rattle.row_use.specs.Raising.{cells_of}
+use Rattle.row_use.specs.Raising.{cells_of, IsBegun}
 use Rattle.row_use.proofs.AskSteps.{begun-all, begun-none, asked-more}
 use Rattle.row_use.proofs.uses.Uses.of.Goals as goal
 
@@ -15,3 +19,10 @@ pub loop-id-preserved : goal.loop-id-preserved
 loop-id-preserved c =
     asked-more (layers_of c.args.layers.now) c.in-Some.ids.now c.loop-id.id-index _ c.deref.result.now c.in_ok-rows.rows.items (cells_of c.loop-id.uses) (cells_of c.ask_each.new.self) c.loop-id-test.true c.loop-id.invariant
     c.deref.ensures.value c.in_ok-rows.ensures c.ask_each.ensures
+
+pub returns : goal.returns
+returns c =
+    let layers = layers_of c.args.layers.now in
+    let ids = c.in-Some.ids.now in
+    subst (λ (asked : Option (Bor (List ResId))). IsBegun layers (option_map (λ ids. map (λ id. id.0) ids.now) asked) (cells_of c.loop-id.uses)) (sym c.in-Some.is)
+    (subst (λ (some : List ResId). IsBegun layers (Some (map (λ id. id.0) some)) (cells_of c.loop-id.uses)) (take_all c.loop-id.id-index ids c.loop-id-test.false) c.loop-id.invariant)
