@@ -1,7 +1,10 @@
 -- What members do alike in two stacks.
-use Rattle.std.proofs.Common.{◌≡◌, ℕ, List, true, false, ap, refl, subst}
+use Rattle.std.proofs.Common.{◌≡◌, ℕ, List, true, false, ap, refl, sym, subst, ◌∙◌}
 use Rattle.cert_maker.specs.box_answers.NumberSet.{SetOf}
 use Rattle.cert_maker.specs.box_answers.Members.{IsMember}
+use Rattle.cert_maker.specs.cert_checker.overlay_map.Layer.{LayerOf}
+use Rattle.cert_maker.specs.cert_checker.box_trace.OpenBox.{IsReached}
+use Rattle.cert_maker.specs.cert_checker.box_trace.declared.open_box.OpenBox.{OpenBox}
 use Rattle.cert_maker.specs.cert_checker.box_trace.Parting.{answer_of, IsToldApart}
 use Rattle.cert_maker.specs.cert_checker.box_trace.declared.parting.Parting.{Parting}
 use Rattle.cert_maker.specs.cert_checker.box_trace.declared.common.CommonTrace.TheVariants.{One}
@@ -44,6 +47,20 @@ one-alone pair sets end alone trace =
     let both = pair.alone alone in
     let same : trace_in pair.after ≡ trace_in pair.before = λ i d. content_trace (both.0 i) (both.1 i) d in
     one-in-both pair sets end end (subst (λ (of : List ℕ → Trace). IsTraceOf of sets (One end)) same trace) trace
+
+-- ---- a walk that goes on
+
+-- by the same members, in either stack
+pub goes-further : (pair : Pair) (part : PairBox) (before after : OpenBox) (olds news : List LayerOf) → olds ≡ pair.before.stack.now → news ≡ pair.after.stack.now → before.members ≡ part.before.members
+    → after.members ≡ part.after.members → ((trace : List ℕ → Trace) → IsReached olds trace part.before → IsReached olds trace before)
+    → ((trace : List ℕ → Trace) → IsReached news trace part.after → IsReached news trace after) → IsOpen pair part → IsOpen pair (record { before = before; after = after })
+goes-further pair part before after olds news old_is new_is old_members new_members goes_before goes_after is_open = record {
+  same = new_members ∙ is_open.same ∙ sym old_members;
+  before_reached = subst (λ (layers : List LayerOf). IsReached layers (trace_in pair.before) before) old_is
+      (goes_before (trace_in pair.before) (subst (λ (layers : List LayerOf). IsReached layers (trace_in pair.before) part.before) (sym old_is) is_open.before_reached));
+  after_reached = subst (λ (layers : List LayerOf). IsReached layers (trace_in pair.after) after) new_is
+      (goes_after (trace_in pair.after) (subst (λ (layers : List LayerOf). IsReached layers (trace_in pair.after) part.after) (sym new_is) is_open.after_reached));
+}
 
 -- ---- a test
 

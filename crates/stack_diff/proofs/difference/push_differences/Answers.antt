@@ -1,5 +1,5 @@
 use Rattle.stack_diff.proofs.RowSteps.{rows-done, no-rows, first-is, takes-first, row-removed_alone, row-added_alone, row-removed, row-added, row-both}
-use Rattle.std.proofs.Common.{◌++◌, map, Option, None, refl, sym, ◌∙◌, ap}
+use Rattle.std.proofs.Common.{◌++◌, arith, length, map, Option, None, refl, sym, ◌∙◌, ap}
 use Rattle.answer_text.specs.declared.content.RowContent.{RowContent}
 use Rattle.stack_diff.specs.DifferenceSeen.{row_difference_of, changed_rows}
 use Rattle.stack_diff.proofs.difference.push_differences.Goals as goal
@@ -52,3 +52,29 @@ rows-preserved c =
     (takes-first row _ _ _ first.lookup (c.pop_front-in-Equal.ensures.value row (first.variant.0 refl)) c.pop_front-in-Equal.ensures.items)
     (takes-first other _ _ _ first_after.lookup (c.pop_front-in-Equal-2.ensures.value other (first_after.variant.0 refl)) c.pop_front-in-Equal-2.ensures.items)
     (c.in_ok-push_changed-in-Equal.ensures ∙ ap (λ (both : Option (RowContent × RowContent)). map row_difference_of c.rows.rows.items ++ changed_rows both) c.zip.ensures) c.rows.invariant
+
+pub rows-smaller-in-Continue-1 : goal.rows-smaller-in-Continue-1
+rows-smaller-in-Continue-1 c =
+    let count = ap length (takes-first _ _ _ _ c.in-None-Some.ensures'.lookup (c.pop_front.ensures.value _ (c.in-None-Some.ensures'.variant.0 refl)) c.pop_front.ensures.items).left_is in
+    omega (arith, count)
+
+pub rows-smaller-in-Continue-branch-2 : goal.rows-smaller-in-Continue-branch-2
+rows-smaller-in-Continue-branch-2 c =
+    let count = ap length (takes-first _ _ _ _ c.in-Some-None.ensures.lookup (c.pop_front-in-Some-None.ensures.value _ (c.in-Some-None.ensures.variant.0 refl)) c.pop_front-in-Some-None.ensures.items).left_is in
+    omega (arith, count)
+
+pub rows-smaller-in-Continue-branch-3 : goal.rows-smaller-in-Continue-branch-3
+rows-smaller-in-Continue-branch-3 c =
+    let count = ap length (takes-first _ _ _ _ c.in-Some-Some.ensures.lookup (c.pop_front-in-Less.ensures.value _ (c.in-Some-Some.ensures.variant.0 refl)) c.pop_front-in-Less.ensures.items).left_is in
+    omega (arith, count)
+
+pub rows-smaller-in-Continue-branch-4 : goal.rows-smaller-in-Continue-branch-4
+rows-smaller-in-Continue-branch-4 c =
+    let count = ap length (takes-first _ _ _ _ c.in-Some-Some.ensures'.lookup (c.pop_front-in-Greater.ensures.value _ (c.in-Some-Some.ensures'.variant.0 refl)) c.pop_front-in-Greater.ensures.items).left_is in
+    omega (arith, count)
+
+pub rows-smaller : goal.rows-smaller
+rows-smaller c =
+    let count = ap length (takes-first _ _ _ _ c.in-Some-Some.ensures.lookup (c.pop_front-in-Equal.ensures.value _ (c.in-Some-Some.ensures.variant.0 refl)) c.pop_front-in-Equal.ensures.items).left_is in
+    let others = ap length (takes-first _ _ _ _ c.in-Some-Some.ensures'.lookup (c.pop_front-in-Equal-2.ensures.value _ (c.in-Some-Some.ensures'.variant.0 refl)) c.pop_front-in-Equal-2.ensures.items).left_is in
+    omega (arith, count, others)

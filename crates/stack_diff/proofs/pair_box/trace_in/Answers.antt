@@ -15,3 +15,15 @@ returns-in_ok-parting-in-Mixed-clause-trace c = λ trace reached.
     let members = c.in_ok-end.ensures.members in
     told_in_place trace _ c.in-Mixed.first _ c.args.part.now.members _ c.args.part.now.members c.in-Mixed.is members (sym members) (c.in_ok-end.ensures.common trace reached)
     (c.in_ok-parting-in-Mixed.ensures.told c.args.stack.now trace (c.in_ok-end.ensures.reached trace reached))
+
+pub returns-in_ok-parting-in-Mixed-clause-reached : goal.returns-in_ok-parting-in-Mixed-clause-reached
+returns-in_ok-parting-in-Mixed-clause-reached c = λ trace reached. c.in_ok-parting-in-Mixed.ensures.reached c.args.stack.now trace (c.in_ok-end.ensures.reached trace reached)
+
+pub returns-in_err-parting-in-Mixed-clause-reached : goal.returns-in_err-parting-in-Mixed-clause-reached
+returns-in_err-parting-in-Mixed-clause-reached c = λ trace reached. c.in_err-parting-in-Mixed.ensures.reached c.args.stack.now trace (c.in_ok-end.ensures.reached trace reached)
+
+pub returns-in_ok-parting-in-Mixed-clause-members : goal.returns-in_ok-parting-in-Mixed-clause-members
+returns-in_ok-parting-in-Mixed-clause-members c = c.in_ok-parting-in-Mixed.ensures.members ∙ c.in_ok-end.ensures.members
+
+pub returns-in_err-parting-in-Mixed-clause-members : goal.returns-in_err-parting-in-Mixed-clause-members
+returns-in_err-parting-in-Mixed-clause-members c = c.in_err-parting-in-Mixed.ensures.members ∙ c.in_ok-end.ensures.members
