@@ -7,7 +7,7 @@ ghost use Rattle.reference_resolver.specs.config_precedence.config_record.Device
 ghost use Rattle.res_value.specs.Cell.{cell_of};
 ghost use Rattle.reference_resolver.specs.Trace.{look_ups_of, traced, scan_look_up};
 ghost use Rattle.answer_notation.specs.ColumnsSeen.{line_of};
-ghost use Rattle.answer_notation.specs.ExplainNotation.{held_notation, traced_line, matches, shown_lines, hidden_line, candidates_notation, look_up_notation, explain_notation};
+ghost use Rattle.answer_notation.specs.ExplainNotation.{held_notation, traced_line, matches, is_shown, shown_lines, hidden_line, candidates_notation, look_up_notation, explain_notation};
 ghost use Rattle.answer_notation.specs.TracedSeen.{traced_of};
 
 use crate::columns::{Line, write_columns};
@@ -153,12 +153,19 @@ fn shown_lines(
 {
     let mut lines = Vec::new(naming.alloc());
     for traced in candidates {
-        if all || matches(traced.decision) {
+        if is_shown(all, traced) {
             let line = line_of(naming, traced)?;
             lines.push(line)?;
         }
     }
     Ok(lines)
+}
+
+// Whether a candidate has a line.
+fn is_shown(all: bool, traced: &Traced<'_>) -> bool
+    ensures { result ≡ is_shown all (traced_of traced.now) }
+{
+    all || matches(traced.decision)
 }
 
 // Whether a candidate matches that does this.
