@@ -8,3 +8,4 @@ pub mod KeyOrder
 pub mod RowContents
 pub use Rattle.bags_themes.proofs as bags_themes_proofs
 pub use Rattle.bags_themes.proofs.reference_resolver_proofs as reference_resolver
+pub mod RowCounts

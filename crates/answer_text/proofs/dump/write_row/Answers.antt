@@ -21,3 +21,24 @@ returns-clause-text g c =
     let to_flags = Appends-trans _ _ _ _ _ to_names c.in_ok-write_flags.ensures in
     let to_end = Appends-trans _ _ _ _ _ to_flags c.in_ok-write_all-3.ensures.bytes in
     on_ok_weaker c.write_row_end.result (λ last. Appends-trans _ _ _ _ _ to_end last) end
+
+pub returns-clause-keeps : goal.returns-clause-keeps
+returns-clause-keeps g c = c.in_ok-write_names.ensures.keeps
+
+pub returns-in_err-write_all-3-clause-keeps : goal.returns-in_err-write_all-3-clause-keeps
+returns-in_err-write_all-3-clause-keeps g c = c.in_ok-write_names.ensures.keeps
+
+pub returns-in_err-write_flags-clause-keeps : goal.returns-in_err-write_flags-clause-keeps
+returns-in_err-write_flags-clause-keeps g c = c.in_ok-write_names.ensures.keeps
+
+pub returns-in_err-write_names-clause-keeps : goal.returns-in_err-write_names-clause-keeps
+returns-in_err-write_names-clause-keeps g c = c.in_err-write_names.ensures.keeps
+
+pub returns-in_err-write_all-2-clause-keeps : goal.returns-in_err-write_all-2-clause-keeps
+returns-in_err-write_all-2-clause-keeps g c = c.requires
+
+pub returns-in_err-write_id-clause-keeps : goal.returns-in_err-write_id-clause-keeps
+returns-in_err-write_id-clause-keeps g c = c.requires
+
+pub returns-in_err-write_all-clause-keeps : goal.returns-in_err-write_all-clause-keeps
+returns-in_err-write_all-clause-keeps g c = c.requires

@@ -1,4 +1,4 @@
-use Rattle.std.proofs.Common.{◌≡◌, ℕ, ◌+◌, List, ◌∷◌, Option, length, rules, sym, ap, subst, ◌∙◌, arith}
+use Rattle.std.proofs.Common.{◌≡◌, ℕ, ◌+◌, List, ◌∷◌, Option, length, sym, ap, subst, ◌∙◌, arith}
 use Rattle.std.specs.Io.KnownBytes.{Appends}
 use Rattle.std.specs.List.{enumerate_from}
 use Rattle.std.specs.Option.{option_map}
@@ -33,8 +33,8 @@ loop-candidate-preserved g c =
     let after : option_map cand_of c.best_after-best.result ≡ best_after (step_of best seen d) best seen =
     c.best_after-best.ensures ∙ ap (λ (step : Step). best_after step best seen) (c.step.ensures ∙ c.of-decision.ensures.step) in
     record {
-      can = search rules;
-      ends = search rules;
+      can = tt;
+      ends = tt;
       texts =
           PutsAllBut-next candidate_line _ _ _ _ _ _ _ l.invariant.texts (next-lines d l.place best _ _ _ seen c.in-Some.ensures.steps after)
           (subst (λ (decision : Decision). Appends (contents l.out) (contents c.write_candidate.new.out) (candidate_line (l.place, record { candidate = seen; decision = decision })))
