@@ -1,6 +1,8 @@
 -- How the rows of two bags are compared, one after the other.
-use Rattle.std.proofs.Common.{◌≡◌, ◌<◌, ℕ, slice_index_or, drop, true, false, List, [], ◌∷◌, ◌++◌, Option, Some, refl, sym, ap, ◌∙◌, map, length, arith, append_assoc}
-use Rattle.std.specs.Option.{option_to_list, option_zip}
+use Rattle.std.proofs.Common.{◌≡◌, ◌<◌, ℕ, slice_index_or, drop, Bool, true, false, not, List, [], ◌∷◌, ◌++◌, Option, None, Some, refl, sym, ap, ◌∙◌, map, length, arith, append_assoc}
+use Rattle.std.specs.Bool.{then_some}
+use Rattle.std.specs.Option.{option_map, option_to_list, option_zip}
+use Rattle.std.specs.Prelude.{if◌then◌else◌}
 use Rattle.std.specs.Ordering.{is_lt, ordering_reverse}
 use Rattle.std.specs.declared.cmp.Ordering.{Ordering}
 use Rattle.std.specs.declared.cmp.Ordering.TheVariants.{Less, Equal, Greater}
@@ -160,3 +162,13 @@ module _ (done more : List RowDifference) (row other : RowContent) (taken taken_
       ∙ ap (λ (first : Option RowContent). map row_difference_of done ++ changed_rows (option_zip first taken_after)) takes.is
       ∙ ap (λ (first : Option RowContent). map row_difference_of done ++ changed_rows (option_zip (Some row) first)) takes_after.is)
       so_far
+
+-- ---- what is told unless two are alike
+
+pub told-unless : {X Y : Type 0} (view : X → Y) (x : X) (alike : Bool) → map view (option_to_list (then_some (not alike) x)) ≡ (if alike then [] else view x ∷ [])
+told-unless view x true = refl
+told-unless view x false = refl
+
+pub some-unless : {X Y : Type 0} (view : X → Y) (x : X) (alike : Bool) → option_map view (then_some (not alike) x) ≡ (if alike then None else Some (view x))
+some-unless view x true = refl
+some-unless view x false = refl
