@@ -1,6 +1,8 @@
--- How lines are put one behind the other.
-use Rattle.std.proofs.Common.{◌≡◌, ℕ, ◌+◌, ◌<◌, Bool, true, false, List, [], ◌∷◌, ◌++◌, length, map, filter, drop, get_or, Option, None, sym, ap, ◌∙◌, append_assoc}
+-- How lines are put one behind the other, and rows counted.
+use Rattle.std.proofs.Common.{◌≡◌, ℕ, ◌+◌, ◌<◌, Bool, true, false, cond, List, [], ◌∷◌, ◌++◌, length, map, filter, drop, get_or, Option, None, sym, ap, ◌∙◌, append_assoc, arith}
 use Rattle.std.proofs.lemmas.List.{drop_more}
+use Rattle.std.proofs.lemmas.List.Sums.{sum_by-cons}
+use Rattle.std.specs.List.{count_by}
 use Rattle.std.specs.Prelude.{if◌then◌else◌}
 use Rattle.res_value.specs.declared.res_id.ResId.{ResId}
 use Rattle.answer_text.specs.bags_themes.declared.bag_row.BagRow.{BagRow}
@@ -65,3 +67,15 @@ style-next naming force attr d set after own styles place e rows line old more a
     ∙ ap (λ (s : Option BagRow). old ++ first ∷ style_lines naming force attr d s left) (after_is ∙ ap (set_after_rows force attr set) rows_is)
     ∙ ap (λ (ss : List ResId). old ++ style_lines naming force attr d set ss) (sym (drop_more styles place e on))
     ∙ before
+
+-- ---- those of some rows that pass a test, counted
+
+pub counted-one : {X : Type 0} (test : X → Bool) (n total : ℕ) (left others : List X) (x : X) → n + count_by test left ≡ total → left ≡ x ∷ others → test x ≡ true → (n + 1) + count_by test others ≡ total
+counted-one {X} test n total left others x before is says =
+    let here : count_by test left ≡ 1 + count_by test others = ap (count_by test) is ∙ sum_by-cons (λ (y : X). cond (test y) 1 0) x others ∙ ap (λ (b : Bool). cond b 1 0 + count_by test others) says in
+    omega (arith, here, before)
+
+pub counted-none : {X : Type 0} (test : X → Bool) (n total : ℕ) (left others : List X) (x : X) → n + count_by test left ≡ total → left ≡ x ∷ others → test x ≡ false → n + count_by test others ≡ total
+counted-none {X} test n total left others x before is says =
+    let here : count_by test left ≡ 0 + count_by test others = ap (count_by test) is ∙ sum_by-cons (λ (y : X). cond (test y) 1 0) x others ∙ ap (λ (b : Bool). cond b 1 0 + count_by test others) says in
+    omega (arith, here, before)

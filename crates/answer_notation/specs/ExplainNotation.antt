@@ -1,6 +1,6 @@
 -- How an id comes to its end at a device, which is the list of its numbers, in Android's notation: of each look-up the candidates
 -- that match, and what each does there; and the end.
-use Rattle.std.specs.Prelude.{ℕ, ◌-◌, ◌==◌, ◌||◌, not, Bool, true, false, List, [], ◌∷◌, ◌++◌, codes, filter, length, map, if◌then◌else◌}
+use Rattle.std.specs.Prelude.{ℕ, ◌-◌, ◌==◌, ◌||◌, Bool, true, false, List, [], ◌∷◌, ◌++◌, codes, filter, length, map, if◌then◌else◌}
 use Rattle.std.specs.List.{flat_map}
 use Rattle.std.specs.Fmt.{decimal}
 use Rattle.notation.specs.ConfigText.{config_text}

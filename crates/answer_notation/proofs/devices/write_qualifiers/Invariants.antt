@@ -1,4 +1,4 @@
-use Rattle.std.proofs.Common.{drop, map, ℕ}
+use Rattle.std.proofs.Common.{drop, map}
 use Rattle.contract_words.proofs.TextSteps.{PutsAllBut}
 use Rattle.res_value.specs.declared.res_id.ResId.{ResId}
 use Rattle.reference_resolver.specs.config_precedence.config_record.DeviceSeen.{device_numbers}

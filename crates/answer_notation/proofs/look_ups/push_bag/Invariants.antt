@@ -1,4 +1,4 @@
-use Rattle.std.proofs.Common.{◌≡◌, ◌++◌, ℕ, map}
+use Rattle.std.proofs.Common.{◌≡◌, ◌++◌, map}
 use Rattle.res_value.specs.declared.res_id.ResId.{ResId}
 use Rattle.reference_resolver.specs.config_precedence.config_record.DeviceSeen.{device_numbers}
 use Rattle.answer_text.specs.bags_themes.BagIds.{bag_ids}

@@ -1,7 +1,5 @@
-use Rattle.std.proofs.Common.{◌≡◌, ◌+◌, ◌++◌, ℕ, List, [], ◌∷◌, map, drop, arith, Ok, Err, Result, refl, ap, sym, ◌∙◌, append_assoc, rules}
+use Rattle.std.proofs.Common.{◌≡◌, ◌++◌, ℕ, List, [], ◌∷◌, arith, Ok, Err, refl, ap, sym, ◌∙◌, append_assoc}
 use Rattle.std.proofs.lemmas.List.{append-nil, drop_more, drop_all}
-use Rattle.std.proofs.lemmas.Grind.{common_steps}
-use Rattle.std.specs.Prelude.{is_ok, if◌then◌else◌}
 use Rattle.res_value.specs.declared.res_id.ResId.{ResId}
 use Rattle.answer_text.specs.overlay_map.Layer.{LayerOf}
 use Rattle.answer_text.specs.bags_themes.declared.bag_fault.BagFault.{BagFault}

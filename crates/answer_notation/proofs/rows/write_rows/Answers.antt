@@ -1,12 +1,12 @@
-use Rattle.std.proofs.Common.{◌≡◌, ℕ, length, ap, subst, arith}
+use Rattle.std.proofs.Common.{◌≡◌, ℕ, length, sym, ap, subst, arith}
 use Rattle.std.proofs.lemmas.Result.{on_ok_weaker}
-use Rattle.std.proofs.lemmas.Grind.{common_steps}
 use Rattle.std.specs.Io.KnownBytes.{Appends}
 use Rattle.contract_words.proofs.TextSteps.{PutsAllBut-next, PutsAllBut-end}
 use Rattle.answer_text.specs.resource_table.Table.{rows_of}
 use Rattle.answer_text.specs.type_chunks.Row.{set_aside_count}
 use Rattle.answer_text.specs.RowsText.{totals_text}
 use Rattle.answer_notation.specs.TableNotation.{rows_in}
+use Rattle.answer_notation.proofs.LineSteps.{counted-one, counted-none}
 use Rattle.answer_notation.proofs.rows.write_rows.Goals as goal
 
 pub returns : goal.returns
@@ -31,7 +31,7 @@ loop-row-preserved-then-set_aside g c = record {
   ends = tt;
   texts = PutsAllBut-next _ _ _ _ _ _ _ _ c.loop-row.invariant.texts c.in-Some.ensures.steps c.in_ok-write_row.ensures;
   counted = omega (arith, ap length c.in-Some.ensures.steps);
-  of_them = grind (arith, common_steps);
+  of_them = counted-one _ _ _ _ _ _ c.loop-row.invariant.of_them c.in-Some.ensures.steps (sym c.if-set_aside.ensures.value);
   small = omega (arith, ap length c.in-Some.ensures.steps);
   fewer = omega arith;
 }
@@ -42,7 +42,7 @@ loop-row-preserved g c = record {
   ends = tt;
   texts = PutsAllBut-next _ _ _ _ _ _ _ _ c.loop-row.invariant.texts c.in-Some.ensures.steps c.in_ok-write_row.ensures;
   counted = omega (arith, ap length c.in-Some.ensures.steps);
-  of_them = grind (arith, common_steps);
+  of_them = counted-none _ _ _ _ _ _ c.loop-row.invariant.of_them c.in-Some.ensures.steps (sym c.if-set_aside.ensures.value);
   small = omega (arith, ap length c.in-Some.ensures.steps);
   fewer = omega arith;
 }
