@@ -9,17 +9,18 @@ use Rattle.std.specs.BTreeMap.{is_at}
 use Rattle.std.proofs.lemmas.Cmp.{nat_cmp_total}
 use Rattle.std.proofs.lemmas.Map.Lookups.{exact_unsigned}
 use Rattle.std.proofs.lemmas.Map.Views.{btree_set_contains_iff, exact_unsigned_eq}
-use Rattle.std.proofs.lemmas.Bool.{le-ltb, eq-eqb}
+use Rattle.std.proofs.lemmas.Bool.{le-ltb, eq-eqb, eqb-true}
 use Rattle.std.proofs.lemmas.List.{map-append, drop_more}
 use Rattle.reference_resolver.specs.res_value.declared.res_id.ResId.{ResId}
 use Rattle.reference_resolver.specs.resource_table.Table.{TableOf}
+use Rattle.reference_resolver.specs.type_chunks.Row.{RowOf}
 use Rattle.reference_resolver.specs.overlay_map.IdMap.{MapOf, look_of, targets_in}
 use Rattle.reference_resolver.specs.overlay_map.Layer.{LayerOf}
 use Rattle.row_use.specs.declared.layer_rows.LayerRows.{LayerRows}
 use Rattle.row_use.specs.declared.look_up.Among.{Among}
 use Rattle.row_use.specs.declared.row_place.RowPlace.{RowPlace}
 use Rattle.row_use.specs.PlacesSeen.{is_among, id_of}
-use Rattle.row_use.specs.RowPlaces.{places_by, places_for, row_places_at, row_places_from}
+use Rattle.row_use.specs.RowPlaces.{places_by, places_for, places_with_id, row_places_at, row_places_from}
 use Rattle.row_use.specs.Indexed.{layer_among, layer_of, layers_of, stack_among}
 
 -- ---- layers
@@ -60,6 +61,21 @@ rows-next among layers index layer id old more all on is before put =
     ∙ append_assoc old here others
     ∙ ap (λ (ls : List LayerRows). old ++ row_places_from index (stack_among among (layers_of ls)) id) (sym (drop_more layers index layer on ∙ ap (λ (l : LayerRows). l ∷ left) (sym is)))
     ∙ before
+
+-- the places of an id after one row more
+pub places-next : (id n m : ℕ) (row : RowOf) (left others : List RowOf) (at_row at_id now all : List ℕ) → left ≡ row ∷ others → m ≡ n + 1 → now ≡ (if row.id == id then at_row ++ n ∷ [] else at_id) → (row.id ≡ id → at_row ≡ at_id)
+    → at_id ++ places_with_id id n left ≡ all → now ++ places_with_id id m others ≡ all
+places-next id n m row left others at_row at_id now all split more put same before =
+    let behind = places_with_id id (n + 1) others in
+    ap (λ (k : ℕ). now ++ places_with_id id k others) more
+    ∙ ap (λ (places : List ℕ). places ++ behind) put
+    ∙ by (row.id == id) refl
+    ∙ ap (λ (rows : List RowOf). at_id ++ places_with_id id n rows) (sym split)
+    ∙ before
+  where
+    by : (b : Bool) → (row.id == id) ≡ b → (if b then at_row ++ n ∷ [] else at_id) ++ places_with_id id (n + 1) others ≡ at_id ++ (if b then n ∷ places_with_id id (n + 1) others else places_with_id id (n + 1) others)
+    by true e = append_assoc at_row (n ∷ []) (places_with_id id (n + 1) others) ∙ ap (λ (places : List ℕ). places ++ n ∷ places_with_id id (n + 1) others) (same (eqb-true row.id id e))
+    by false e = refl
 
 -- ---- ids
 
