@@ -138,12 +138,6 @@ def candidate_rows():
     yield over("Live::half", f"{LOCALES}\n0 [locale=de,sdk=21] 3", [both_levels], f"{two}true)", f"{three}false)")
 
 
-def use_rows():
-    """No device has the language of the last row."""
-    yield over("row_uses", f"{LOCALES}\n0 [locale=en] 3", [BOTH_LOCALES], *(f'"{word}"' for word in ("loaded", "loaded", "unused")))
-    yield over("Stack::apart", LOCALES, [], "1")
-
-
 # ---- certificates
 
 
@@ -270,7 +264,6 @@ def rows():
     yield from theme_rows()
     yield from goal_rows()
     yield from candidate_rows()
-    yield from use_rows()
     yield from certificate_rows()
     for some in (device_rows, box_rows, unasked_rows):
         yield from some()

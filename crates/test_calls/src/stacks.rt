@@ -3,7 +3,6 @@
 mod boxes;
 mod ends;
 mod themes;
-mod uses;
 
 use crate::layers::{Malformed, stack_of_base};
 use crate::marked::{bytes_of, word};
@@ -19,11 +18,6 @@ pub fn call(rt: &HostRuntime, words: &[String]) -> Result<(), Fail> {
         "goal_end" => ends::goal(rt, &stack, asked, word(words, 3)),
         "Live::new" => boxes::whole(rt, &stack, asked),
         "Live::half" => boxes::half(rt, &stack, asked),
-        "Stack::apart" => {
-            uses::layers_apart(rt, stack);
-            Ok(())
-        }
-        "row_uses" => uses::of_rows(rt, &stack, asked),
         _ => themes::applied(rt, &stack, asked, word(words, 3)),
     }
 }
