@@ -1,4 +1,5 @@
 pub mod PairSteps
+pub mod MapSteps
 pub mod CheckSteps
 pub mod FewRows
 pub mod SetAsideSteps

@@ -4,7 +4,7 @@ ghost use Rattle.std.specs.Prelude.{◌≡◌, ◌≤◌, ◌<◌, ◌^◌, [], 
 ghost use Rattle.resource_table.specs.Table.{rows_of};
 ghost use Rattle.std.specs.Option.{option_map};
 ghost use Rattle.overlay_map.specs.Layer.{by_itself, most_layers, base_tables, HasFewRows};
-ghost use Rattle.overlay_map.specs.Pushing.{RefusesLayer, PushesLayer, base_of, overlay_of};
+ghost use Rattle.overlay_map.specs.Pushing.{PushesLayer, IsIndexed, IsHandedBack, base_of, overlay_of};
 ghost use Rattle.overlay_map.specs.SetAside.{set_aside_in_stack};
 ghost use Rattle.overlay_map.specs.Candidates.{candidates_of};
 ghost use Rattle.overlay_map.specs.BaseRow.{base_row_of, first_base_row};
@@ -189,12 +189,8 @@ fn indexed_with_room<'a>(
 ) -> Result<IndexedTable<'a>, (StackFault, Table<'a>)>
     requires { length layers.old.items ≤ most_layers }
     ensures same { layers.new.items ≡ layers.old.items }
-    ensures room { OnOk result (vec_len layers.new < vec_capacity layers.new) }
-    ensures below { OnOk result (length layers.old.items < most_layers) }
-    ensures indexed { IfOk result (λ indexed. indexed ≡ table.entry) }
-    ensures few_rows { IfOk result (λ indexed. length (rows_of indexed) < 2 ^ 92) }
-    ensures refused { IfErr result (λ refused. RefusesLayer layers.old.items layers.new.items refused.0) }
-    ensures back { IfErr result (λ refused. refused.1 ≡ table.entry) }
+    ensures given { IfOk result (λ indexed. IsIndexed layers.old.items (vec_len layers.new) (vec_capacity layers.new) table.entry indexed) }
+    ensures refused { IfErr result (λ refused. IsHandedBack layers.old.items layers.new.items refused.0 table.entry refused.1) }
 {
     if layers.len() == MOST_LAYERS {
         return Err((StackFault::TooManyLayers, table));

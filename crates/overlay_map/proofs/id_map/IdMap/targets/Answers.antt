@@ -1,4 +1,5 @@
-use Rattle.std.proofs.Common.{◌≡◌, List, [], ◌∷◌, ◌++◌, ℕ, map, refl, ap, ◌∙◌}
+use Rattle.std.proofs.Common.{◌≡◌, List, [], ◌∷◌, ◌++◌, ℕ, map, refl, sym, ap, ◌∙◌, append_assoc}
+use Rattle.std.proofs.lemmas.List.{map-append}
 use Rattle.std.specs.Map.{keys_of}
 use Rattle.overlay_map.specs.resource_table.res_value.declared.res_id.ResId.{ResId}
 use Rattle.overlay_map.specs.IdMap.{IdPair, pairs_of, targets_in}
@@ -18,3 +19,20 @@ loop-target-init c = record {
       ∙ of_keys c.self.inside.pairs.entries
       ∙ ap targets_in c.self.view_is;
 }
+
+pub loop-target-preserved : goal.loop-target-preserved
+loop-target-preserved c =
+    let number : ResId → ℕ = λ target. target.0 in
+    let before : List ResId = c.loop-target.targets.items in
+    let left : List ResId = c.next.new.self in
+    let target : ResId = c.in-Some.target.now in
+    let pushed : c.push.new.self.items ≡ before ++ target ∷ [] = c.in_ok-push.ensures.items in record {
+      can = tt;
+      ends = tt;
+      left =
+          ap (λ (done : List ResId). map number done ++ map number left) pushed
+          ∙ ap (λ (done : List ℕ). done ++ map number left) (map-append number before (target ∷ []))
+          ∙ append_assoc (map number before) (number target ∷ []) (map number left)
+          ∙ ap (λ (rest : List ResId). map number before ++ map number rest) (sym c.in-Some.ensures.steps)
+          ∙ c.loop-target.invariant.left;
+    }

@@ -3,4 +3,4 @@ use Rattle.overlay_map.proofs.stack.Stack.push_base.Goals as goal
 
 pub invariant_of-self-inside-2 : goal.invariant_of-self-inside-2
 invariant_of-self-inside-2 c =
-    few-layers _ _ _ _ c.indexed_with_room.ensures.same c.push_layer.ensures c.in_ok-table.ensures.below c.self.inside.few_rows c.in_ok-table.ensures.few_rows
+    few-layers _ _ _ _ c.indexed_with_room.ensures.same c.push_layer.ensures c.in_ok-table.ensures.given.below c.self.inside.few_rows c.in_ok-table.ensures.given.few_rows
