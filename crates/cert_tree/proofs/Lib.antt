@@ -1,5 +1,6 @@
 pub mod ReadOnSteps
 pub mod ReadSteps
+pub mod GoalSteps
 pub mod TextLemmas
 pub mod LineLemmas
 pub mod ReadsBackLemmas

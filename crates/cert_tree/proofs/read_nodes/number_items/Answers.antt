@@ -1,7 +1,7 @@
-use Rattle.std.proofs.Common.{sym, ap, ◌∙◌}
+use Rattle.std.proofs.Common.{ℕ, ◌+◌, List, map, sym, ap, subst, ◌∙◌}
 use Rattle.std.proofs.lemmas.Result.{err_from_is_err_and}
 use Rattle.serde_json.specs.View.{view}
-use Rattle.json_input.proofs.EachSteps.{EachAllBut-stops_item, EachAllBut-end_item}
+use Rattle.json_input.proofs.EachSteps.{EachAllBut, EachAllBut-next_item, EachAllBut-stops_item, EachAllBut-end_item}
 use Rattle.cert_tree.specs.CertJson.{number_item}
 use Rattle.cert_tree.proofs.read_nodes.number_items.Goals as goal
 
@@ -13,3 +13,9 @@ returns-in_err-number c =
 
 pub returns : goal.returns
 returns c = EachAllBut-end_item (number_item c.args.shape) view c.loop-item.numbers.items c.loop-item.item-index c.args.items.now c.loop-item.invariant c.loop-item-test.false
+
+pub loop-item-preserved : goal.loop-item-preserved
+loop-item-preserved c =
+    let is = ap (λ v. number_item c.args.shape (view v)) (sym c.item-item.is) ∙ sym c.number_within.ensures.value ∙ c.in_ok-number.was in
+    subst (λ (numbers : List ℕ). EachAllBut (number_item c.args.shape) numbers (c.loop-item.item-index + 1) (map view c.args.items.now)) (sym c.in_ok-push.ensures.items)
+    (EachAllBut-next_item (number_item c.args.shape) view c.loop-item.numbers.items c.loop-item.item-index c.args.items.now _ c.in_ok-number.number c.loop-item.invariant c.loop-item-test.true is)
