@@ -2,11 +2,12 @@ use Rattle.std.proofs.Common.{sym, ◌∙◌, subst}
 use Rattle.config_precedence.specs.config_record.Record.{record_bytes}
 use Rattle.config_precedence.specs.config_record.ComparedNumber.{record_number}
 use Rattle.std.proofs.lemmas.List.{drop_more, drop_all}
-use Rattle.box_answers.specs.NumberSet.{SetOf}
+use Rattle.box_answers.specs.NumberSet.{SetOf, IsIn}
+use Rattle.box_answers.specs.Members.{sets_of}
 use Rattle.box_answers.specs.Sameness.{AreNeighbours}
 use Rattle.box_answers.proofs.OnePass.{one-there, place-there, nothing-passes, always-there, never-there, parts-there, HasPassed-pass, HasPassed-parts, HasPassed-parted, parted-pair, one-decides, none-nowhere}
 use Rattle.box_answers.proofs.SearchSteps.{one-fails, tried-there}
-use Rattle.box_answers.proofs.Sets.{set_count}
+use Rattle.box_answers.proofs.Sets.{set_count, proper-there}
 use Rattle.box_answers.proofs.matching.pass_all.Goals as goal
 
 pub set_at-requires : goal.set_at-requires
@@ -49,3 +50,9 @@ returns-in-Some-clause-value c =
 pub suiting-requires-clause-tried : goal.suiting-requires-clause-tried
 suiting-requires-clause-tried c =
     tried-there _ _ _ c.requires.sets (place-there c.args.conditions.now c.loop-rule.rule-index _ c.requires.in_place c.loop-rule-test.true) c.set_at.ensures
+
+pub parted_by-requires-clause-passing : goal.parted_by-requires-clause-passing
+parted_by-requires-clause-passing c = subst (λ (s : SetOf). IsIn s c.in-Mixed.passing) c.set_at.ensures c.in-Mixed.ensures.0.x_in
+
+pub suiting-requires-clause-set : goal.suiting-requires-clause-set
+suiting-requires-clause-set c = proper-there (sets_of c.args.sets.now) _ _ c.requires.sets c.set_at.ensures
