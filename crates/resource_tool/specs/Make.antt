@@ -46,13 +46,13 @@ with_first most make = record { opened = make.opened; goals = take most make.goa
 abbrev pub first_opened : ℕ → Result OpenMakeOf StopOf → Result OpenMakeOf StopOf
 first_opened most meant = meant >>= λ make. Ok (with_first most make)
 
--- how many goals are looked at
+-- how many goals are looked at (cited by contracts of this crate alone)
 abbrev pub most_goals : Bool → ℕ → ℕ
 most_goals true most = 18446744073709551615
 most_goals false most = most + 1
 
 -- What was opened, with the goals that are looked at. Where goals without a value are left out all are; else one more than there may
--- be nodes, since the tree of each goal has one at least.
+-- be nodes, since the tree of each goal has one at least (cited by contracts of this crate alone).
 abbrev pub looked_at : Bool → ℕ → Result OpenMakeOf StopOf → Result OpenMakeOf StopOf
 looked_at true most opened = opened
 looked_at false most opened = first_opened (most + 1) opened
