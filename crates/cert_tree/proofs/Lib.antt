@@ -1,6 +1,7 @@
 pub mod ReadOnSteps
 pub mod ReadSteps
 pub mod GoalSteps
+pub mod DataSteps
 pub mod TextLemmas
 pub mod LineLemmas
 pub mod ReadsBackLemmas
