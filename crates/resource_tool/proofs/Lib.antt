@@ -6,4 +6,5 @@ pub mod FirstChecked
 pub mod MakeSteps
 pub mod OmitSteps
 pub mod Told
+pub mod KeptStreams
 pub use Rattle.names.proofs as names_proofs

@@ -1,9 +1,12 @@
-use Rattle.std.proofs.Common.{Ok, rules, arith}
+use Rattle.std.proofs.Common.{Ok, Err, inr, refl, rules, arith}
 use Rattle.std.proofs.lemmas.Grind.{common_steps}
+use Rattle.std.proofs.lemmas.Result.{err_from_is_err_and}
 use Rattle.table_commands.specs.command_base.FilesSeen.{layers_held}
 use Rattle.table_commands.specs.command_base.FileWords.{strings_held}
-use Rattle.resource_tool.specs.Make.{make_opened}
+use Rattle.table_commands.specs.command_base.declared.stop.Stop.TheVariants.{Tool}
+use Rattle.resource_tool.specs.Make.{make_opened, make_seen}
 use Rattle.resource_tool.proofs.FirstGoals.{carried-looked_at}
+use Rattle.resource_tool.proofs.KeptStreams.{kept-made}
 use Rattle.resource_tool.proofs.make.Make.answer_of.Goals as goal
 
 pub returns-clause-answers : goal.returns-clause-answers
@@ -13,3 +16,33 @@ returns-clause-answers g c =
     carried-looked_at c.args.watch.is_terminal make.omit make.names make.max_nodes g.O.Write.contents g.E.Write.contents c.args.out.now c.answer.new.out c.args.errors.now c.answer.new.errors
     (make_opened make.locales (layers_held files.layers) files.box_json.items (strings_held files.words)) (Ok c.in_ok-answer.field-0)
     (first_of (search rules, grind (arith, common_steps)))
+
+pub returns-in_err-answer-clause-answers : goal.returns-in_err-answer-clause-answers
+returns-in_err-answer-clause-answers g c =
+    let make = c.args.self.now in
+    let files = c.args.files.now in
+    let fault = c.in_err-answer.field-0.0 in
+    let p = err_from_is_err_and c.from_residual-in_err-answer.result c.from_residual-in_err-answer.ensures.1 in
+    rw (p.1, p.2) (
+    carried-looked_at c.args.watch.is_terminal make.omit make.names make.max_nodes g.O.Write.contents g.E.Write.contents c.args.out.now c.answer.new.out c.args.errors.now c.answer.new.errors
+    (make_opened make.locales (layers_held files.layers) files.box_json.items (strings_held files.words)) (Err (Tool fault))
+    (λ told. inr (make_seen c.in_ok-make.make, fault, first_of (search rules, grind (arith, common_steps)), refl, c.in_err-answer.ensures.made))
+    )
+
+pub returns-in_err-answer-clause-unwritten : goal.returns-in_err-answer-clause-unwritten
+returns-in_err-answer-clause-unwritten g c =
+    let make = c.args.self.now in
+    let p = err_from_is_err_and c.from_residual-in_err-answer.result c.from_residual-in_err-answer.ensures.1 in
+    rw (p.1, p.2) (λ told. (
+    kept-made c.args.watch.is_terminal make.omit make.names make.max_nodes g.O.Write.contents g.E.Write.contents c.args.out.now c.answer.new.out c.args.errors.now c.answer.new.errors
+    (make_seen c.in_ok-make.make) c.in_err-answer.field-0.0 c.in_err-answer.ensures.made told
+    ).0)
+
+pub returns-in_err-answer-clause-unsaid : goal.returns-in_err-answer-clause-unsaid
+returns-in_err-answer-clause-unsaid g c =
+    let make = c.args.self.now in
+    let p = err_from_is_err_and c.from_residual-in_err-answer.result c.from_residual-in_err-answer.ensures.1 in
+    λ no_terminal. rw (p.1, p.2) (λ told. (
+    kept-made c.args.watch.is_terminal make.omit make.names make.max_nodes g.O.Write.contents g.E.Write.contents c.args.out.now c.answer.new.out c.args.errors.now c.answer.new.errors
+    (make_seen c.in_ok-make.make) c.in_err-answer.field-0.0 c.in_err-answer.ensures.made told
+    ).1 no_terminal)
